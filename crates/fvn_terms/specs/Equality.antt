@@ -1,0 +1,49 @@
+-- Equality modulo the axioms.
+use Rattle.std.specs.Prelude.{◌≡◌, ◌⊎◌}
+use Rattle.fvn_terms.specs.declared.plain.OpId.{OpId}
+use Rattle.fvn_terms.specs.declared.plain.SortId.{SortId}
+use Rattle.fvn_terms.specs.declared.declarations.Axioms.{Axioms}
+use Rattle.fvn_terms.specs.declared.declarations.Axioms.TheVariants.{Free, Comm, AssocComm, AssocCommId}
+use Rattle.fvn_terms.specs.declared.declarations.Declarations.{Declarations}
+use Rattle.fvn_terms.specs.Term.{Term, app, none, more}
+use Rattle.fvn_terms.specs.Signature.{axioms, HasKind}
+use Rattle.fvn_terms.specs.Places.{AtOnePlace, Leads}
+
+-- f(t, u), and the constant e
+abbrev pub two : OpId → Term → Term → Term
+two f t u = app f (more t (more u none))
+
+abbrev pub constant : OpId → Term
+constant e = app e none
+
+abbrev pub IsCommutative : Axioms → Type 0
+IsCommutative Free = ⊥
+IsCommutative Comm = Unit {0}
+IsCommutative AssocComm = Unit {0}
+IsCommutative (AssocCommId e) = Unit {0}
+
+abbrev pub IsAssociative : Axioms → Type 0
+IsAssociative Free = ⊥
+IsAssociative Comm = ⊥
+IsAssociative AssocComm = Unit {0}
+IsAssociative (AssocCommId e) = Unit {0}
+
+module _ (d : Declarations) where
+  -- The second term is an instance of the right side of an axiom whose left side has the first as its instance.
+  -- An identity is put beside a term only where the operator takes terms of its kind.
+  pub data IsAxiom : Term → Term → Type 0 where
+    swap : {f : OpId} {t u : Term} → IsCommutative (axioms d f) → IsAxiom (two f t u) (two f u t)
+    shift : {f : OpId} {t u v : Term} → IsAssociative (axioms d f) → IsAxiom (two f (two f t u) v) (two f t (two f u v))
+    right_identity : {f e : OpId} {t : Term} {k : SortId} → axioms d f ≡ AssocCommId e → HasKind d t k → HasKind d (two f t (constant e)) k → IsAxiom (two f t (constant e)) t
+    left_identity : {f e : OpId} {t : Term} {k : SortId} → axioms d f ≡ AssocCommId e → HasKind d t k → HasKind d (two f (constant e) t) k → IsAxiom (two f (constant e) t) t
+
+  -- an axiom in either direction
+  abbrev pub IsAxiomEitherWay : Term → Term → Type 0
+  IsAxiomEitherWay t u = IsAxiom t u ⊎ IsAxiom u t
+
+  abbrev pub AxiomStep : Term → Term → Type 0
+  AxiomStep = AtOnePlace IsAxiomEitherWay
+
+  -- equal modulo the axioms
+  abbrev pub BEqual : Term → Term → Type 0
+  BEqual = Leads AxiomStep

@@ -1,0 +1,12 @@
+pub mod Term
+pub mod Plain
+pub mod Substitution
+pub mod Signature
+pub mod Places
+pub mod Equality
+pub mod Sorts
+pub mod Unifiers
+pub mod Theory
+pub mod Laws
+pub mod Code
+pub mod Falls

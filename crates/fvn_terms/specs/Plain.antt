@@ -1,0 +1,13 @@
+-- The term that a plain term of the program stands for.
+use Rattle.std.specs.Prelude.{List, [], ◌∷◌}
+use Rattle.fvn_terms.specs.Term.{Term, Terms, var, app, none, more}
+use Rattle.fvn_terms.specs.declared.plain.Plain.{Plain}
+use Rattle.fvn_terms.specs.declared.plain.Plain.TheVariants.{Var, App}
+
+abbrev pub term : Plain → Term
+term (Var x) = var x
+term (App f us) = app f us
+
+abbrev pub terms : List Plain → Terms
+terms [] = none
+terms (t ∷ ts) = more (term t) (terms ts)

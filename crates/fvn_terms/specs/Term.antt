@@ -1,0 +1,29 @@
+-- Plain terms.
+use Rattle.std.specs.Prelude.{ℕ, ◌+◌, List, [], ◌∷◌}
+use Rattle.fvn_terms.specs.declared.plain.Var.{Var}
+use Rattle.fvn_terms.specs.declared.plain.OpId.{OpId}
+
+-- a term is a variable, or an operator over a list of terms
+mutual
+  pub data Term : Type 0 where
+    var : Var → Term
+    app : OpId → Terms → Term
+
+  pub data Terms : Type 0 where
+    none : Terms
+    more : Term → Terms → Terms
+
+-- the number of nodes
+abbrev mutual
+  pub nodes : Term → ℕ
+  nodes (var x) = 1
+  nodes (app f ts) = nodes_all ts + 1
+
+  pub nodes_all : Terms → ℕ
+  nodes_all none = 0
+  nodes_all (more t ts) = nodes t + nodes_all ts
+
+-- a list of terms as arguments
+abbrev pub pack : List Term → Terms
+pack [] = none
+pack (t ∷ ts) = more t (pack ts)

@@ -1,0 +1,18 @@
+//! Plain terms, what a module declares, and the definitions that every contract above speaks in.
+#![tactic(auto)]
+
+mod declarations;
+mod laws;
+mod plain;
+mod substitution;
+#[cfg(test)]
+mod tests;
+
+pub use declarations::{Axioms, Declarations, OpDecl, Rank};
+pub use laws::{
+    all_shared, equality_is_a_congruence, equality_is_an_equivalence,
+    equality_is_kept_by_substitution, free_terms_are_equal, theory_equality_is_lawful,
+    what_follows_a_unifier_is_a_unifier,
+};
+pub use plain::{Args, NoMemory, OpId, Plain, SortId, Var};
+pub use substitution::PlainSubst;
