@@ -1,0 +1,21 @@
+-- What equality modulo the axioms asks of the kinds in a signature.
+use Rattle.std.specs.Prelude.{◌≡◌, [], ◌∷◌, map, Contains}
+use Rattle.fvn_terms.specs.declared.plain.OpId.{OpId}
+use Rattle.fvn_terms.specs.declared.plain.SortId.{SortId}
+use Rattle.fvn_terms.specs.declared.declarations.Axioms.TheVariants.{AssocCommId}
+use Rattle.fvn_terms.specs.declared.declarations.Rank.{Rank}
+use Rattle.fvn_terms.specs.declared.declarations.Declarations.{Declarations}
+use Rattle.fvn_terms.specs.Signature.{kind, declared, axioms, HasKind}
+use Rattle.fvn_terms.specs.Equality.{IsCommutative, IsAssociative, constant}
+
+module _ (d : Declarations) where
+  -- what equality modulo the axioms asks of a signature
+  pub record FitsKinds : Type 0 where
+    -- the declarations of an operator agree in their kinds
+    pub agree : (f : OpId) (r q : Rank) → Contains (declared d f).ranks r → Contains (declared d f).ranks q → (map (kind d) r.args ≡ map (kind d) q.args) × (kind d r.result ≡ kind d q.result)
+    -- a commutative operator takes two arguments of one kind
+    pub commutative : (f : OpId) (r : Rank) → IsCommutative (axioms d f) → Contains (declared d f).ranks r → (k : SortId) × (map (kind d) r.args ≡ k ∷ k ∷ [])
+    -- an associative one takes two arguments of the kind that it gives
+    pub associative : (f : OpId) (r : Rank) → IsAssociative (axioms d f) → Contains (declared d f).ranks r → map (kind d) r.args ≡ kind d r.result ∷ kind d r.result ∷ []
+    -- an identity is a constant of the operator's kind
+    pub identity : (f e : OpId) (r : Rank) → axioms d f ≡ AssocCommId e → Contains (declared d f).ranks r → HasKind d (constant e) (kind d r.result)

@@ -1,0 +1,12 @@
+pub mod Flat
+pub mod FlatCode
+pub mod Order
+pub mod InOrder
+pub mod Canon
+pub mod Settled
+pub mod FitsKinds
+pub mod SortOrder
+pub mod Ranks
+pub mod Good
+pub mod LeastSort
+pub mod Laws
