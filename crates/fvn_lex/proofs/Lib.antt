@@ -1,0 +1,10 @@
+pub mod ByteLemmas
+pub mod CutLemmas
+pub mod JoinLemmas
+pub mod Reading
+pub mod RowReading
+pub mod Rows
+pub mod SpaceLemmas
+pub mod SpanLemmas
+pub mod TrailLemmas
+pub mod WordLemmas
