@@ -1,0 +1,4 @@
+-- Lemmas on what is taken, added and counted.
+pub mod SourceLemmas
+pub mod SinkLemmas
+pub mod ResultLemmas
