@@ -1,0 +1,18 @@
+-- A vector with no other below it is put in.
+use Rattle.std.proofs.Common.{◌≡◌, ◌↔◌, ◌⊎◌, List, ℕ, subst, ◌∙◌}
+use Rattle.std.specs.List.{Contains}
+use Rattle.fvn_lindio.specs.Generators.{vectors_in}
+use Rattle.fvn_lindio.specs.Least.{HasOther}
+use Rattle.fvn_lindio.proofs.LeastLemmas.{consider_kept, not_false}
+use Rattle.fvn_lindio.proofs.least.consider.Goals as goal
+
+pub returns-clause-exact : goal.returns-clause-exact
+returns-clause-exact c =
+    let list = c.args.list.now.items in
+    let new = c.insert.new.list.items in
+    let points = c.args.points.now in
+    let parts = c.args.p.now.parts.items in
+    let none = not_false c.has_other_below.result c.if-has_other_below.false c.has_other_below.ensures.1 in
+    let alone = subst (λ z. HasOther points z → ⊥) c.as_slice.ensures none in
+    let exact = subst (λ z. (w : List ℕ) → Contains (vectors_in new) w ↔ Contains (vectors_in list) w ⊎ (z ≡ w)) (c.in_ok-v.ensures.ok ∙ c.as_slice-2.ensures) c.in_ok-insert.ensures.exact in
+    consider_kept list new points parts exact alone

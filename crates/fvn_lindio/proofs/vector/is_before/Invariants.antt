@@ -1,0 +1,7 @@
+-- What is left of both decides.
+use Rattle.std.proofs.Common.{◌↔◌, drop}
+use Rattle.fvn_lindio.specs.Vectors.{IsBefore}
+use Rattle.fvn_lindio.proofs.vector.is_before.Given as goal
+
+abbrev pub invariant-loop-i : goal.invariant-loop-i
+invariant-loop-i l = IsBefore l.x l.y ↔ IsBefore (drop l.i l.x) (drop l.i l.y)

@@ -1,0 +1,8 @@
+pub mod Vectors
+pub mod Systems
+pub mod Refusals
+pub mod Sums
+pub mod Search
+pub mod Levels
+pub mod Generators
+pub mod Least
