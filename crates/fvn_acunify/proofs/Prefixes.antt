@@ -1,0 +1,183 @@
+-- What the highest bits of a number tell of every number that begins with them.
+use Rattle.std.proofs.Common.{◌≡◌, ◌≢◌, ℕ, zero, suc, ◌+◌, ◌-◌, ◌*◌, ◌/◌, ◌%◌, ◌^◌, ◌<◌, ◌≤◌, Bool, true, false, cond, eqb, List, [], ◌∷◌, ◌++◌, length, take, drop, get_or, replicate, slice_index, slice_index_or, All, refl, ap, sym, ◌∙◌, inl, inr, arith}
+use Rattle.std.proofs.lemmas.Bool.{cond-true, cond-false, eq-eqb, ne_eqb, cases_lt}
+use Rattle.std.proofs.lemmas.Nat.{shr-shr, pow_pos, div-add-mod', le-div}
+use Rattle.std.proofs.lemmas.List.{drop_more, drop_all, get_or_past, get_or-replicate, length-map, length-replicate}
+use Rattle.std.proofs.lemmas.List.Elements.{All-head, All-tail, All-cons, All-same, All-nil}
+use Rattle.std.proofs.lemmas.List.Sums.{sum_by-append}
+use Rattle.fvn_lindio.specs.Systems.{vectors_of}
+use Rattle.fvn_lindio.specs.declared.system.Solution.{Solution}
+use Rattle.fvn_acunify.specs.ValidChoice.{IsValid, chosen, column_sum, touched}
+use Rattle.fvn_acunify.specs.Prefix.{IsBounded, IsDead, IsOpen}
+use Rattle.fvn_acunify.proofs.ColumnSums.{column_sum-cons}
+
+-- ---- a number's bits from a place on
+
+half-shr : (b i : ℕ) → b / 2 / 2 ^ i ≡ b / 2 ^ suc i
+half-shr b i = let e : 1 + i ≡ suc i = omega arith in shr-shr b 1 i ∙ ap (λ n. b / 2 ^ n) e
+
+shr-half : (b i : ℕ) → b / 2 ^ i / 2 ≡ b / 2 ^ (i + 1)
+shr-half b i = shr-shr b i 1
+
+-- between a number whose lower bits are cleared and the number itself all have its higher bits
+same_quotient : (a n m : ℕ) → 0 < m → n - n % m ≤ a → a ≤ n → a / m ≡ n / m
+same_quotient a n m positive low high =
+    let parts : n / m * m + n % m ≡ n = div-add-mod' n m in
+    let up : n / m ≤ a / m = le-div (n / m) a m positive (omega arith) in
+    let parts_a : a / m * m + a % m ≡ a = div-add-mod' a m in
+    let down : a / m ≤ n / m = le-div (a / m) n m positive (omega arith) in
+    omega arith
+
+-- ---- what is chosen
+
+cond_cons-append : (t : Bool) (v : List ℕ) (x a b : List (List ℕ)) → x ≡ a ++ b → cond t (v ∷ x) x ≡ cond t (v ∷ a) a ++ b
+cond_cons-append true v x a b e = ap (λ l. v ∷ l) e
+cond_cons-append false v x a b e = e
+
+-- the solutions that a number's bits from a place on choose
+abbrev pub higher : ℕ → ℕ → List Solution → List (List ℕ)
+higher b place basis = chosen (b / 2 ^ place) (vectors_of (drop place basis))
+
+-- a choice is what its lower bits choose, and then what its higher bits choose
+pub chosen-split : (place b : ℕ) (basis : List Solution) → chosen b (vectors_of basis) ≡ chosen b (vectors_of (take place basis)) ++ higher b place basis
+chosen-split zero b basis = let e : b ≡ b / 1 = omega arith in ap (λ n. chosen n (vectors_of basis)) e
+chosen-split (suc i) b [] = refl
+chosen-split (suc i) b (v ∷ basis) =
+    cond_cons-append (eqb (b % 2) 1) v.parts (chosen (b / 2) (vectors_of basis)) (chosen (b / 2) (vectors_of (take i basis))) (chosen (b / 2 ^ suc i) (vectors_of (drop i basis)))
+    (chosen-split i (b / 2) basis ∙ ap (λ n. chosen (b / 2) (vectors_of (take i basis)) ++ chosen n (vectors_of (drop i basis))) (half-shr b i))
+
+higher-at : (b p : ℕ) (basis : List Solution) (d : Solution) → p < length basis → higher b p basis ≡ cond (eqb (b / 2 ^ p % 2) 1) ((get_or basis p d).parts ∷ higher b (p + 1) basis) (higher b (p + 1) basis)
+higher-at b p basis d h =
+    ap (λ l. chosen (b / 2 ^ p) (vectors_of l)) (drop_more basis p d h) ∙ ap (λ n. cond (eqb (b / 2 ^ p % 2) 1) ((get_or basis p d).parts ∷ chosen n (vectors_of (drop (p + 1) basis))) (chosen n (vectors_of (drop (p + 1) basis)))) (shr-half b p)
+
+higher-taken : (b p : ℕ) (basis : List Solution) (d : Solution) → p < length basis → b / 2 ^ p % 2 ≡ 1 → higher b p basis ≡ (get_or basis p d).parts ∷ higher b (p + 1) basis
+higher-taken b p basis d h bit = higher-at b p basis d h ∙ cond-true _ _ _ (eq-eqb _ 1 bit)
+
+higher-skipped : (b p : ℕ) (basis : List Solution) → p < length basis → b / 2 ^ p % 2 ≢ 1 → higher b p basis ≡ higher b (p + 1) basis
+higher-skipped b p basis h bit = higher-at b p basis (record { parts = [] }) h ∙ cond-false _ _ _ (ne_eqb _ 1 bit)
+
+higher-all : (b place : ℕ) (basis : List Solution) → length basis ≤ place → higher b place basis ≡ []
+higher-all b place basis h = ap (λ l. chosen (b / 2 ^ place) (vectors_of l)) (drop_all place basis h)
+
+cond_cons-column_sum-le : (t : Bool) (j : ℕ) (v : List ℕ) (x y : List (List ℕ)) → column_sum j x ≤ column_sum j y → column_sum j (cond t (v ∷ x) x) ≤ column_sum j (v ∷ y)
+cond_cons-column_sum-le true j v x y h = omega (arith, column_sum-cons j v x, column_sum-cons j v y)
+cond_cons-column_sum-le false j v x y h = omega (arith, column_sum-cons j v y)
+
+-- what is chosen has no more in a column than all together
+column_sum-chosen-le : (j b : ℕ) (list : List (List ℕ)) → column_sum j (chosen b list) ≤ column_sum j list
+column_sum-chosen-le j b [] = omega arith
+column_sum-chosen-le j b (v ∷ list) = cond_cons-column_sum-le (eqb (b % 2) 1) j v (chosen (b / 2) list) list (column_sum-chosen-le j (b / 2) list)
+
+le_from_not_lt : (m n : ℕ) → (m < n → ⊥) → n ≤ m
+le_from_not_lt m n never = elim (cases_lt m n) [ inl h ↦ absurd (never h) | inr h ↦ h ]
+
+-- no component of a solution is over 65,535
+pub part-le : (columns : ℕ) (constants : List ℕ) (basis : List Solution) → IsBounded columns constants basis → (p : ℕ) (d : Solution) (parts : List ℕ) → p < length basis → parts ≡ (get_or basis p d).parts → (j : ℕ) → slice_index parts j ≤ 65535
+part-le columns constants basis bounded p d parts h is j =
+    elim (cases_lt j (length parts)) [
+      | inl within ↦ All-same (λ a. a ≤ 65535) parts (get_or basis p d).parts is (bounded.narrow p d h) j 0 within
+      | inr past ↦ omega (arith, get_or_past parts j 0 past)
+    ]
+
+pub get_or-zeros : (n j : ℕ) → slice_index (replicate n 0) j ≡ 0
+get_or-zeros n j =
+    elim (cases_lt j n) [
+      | inl h ↦ get_or-replicate n j 0 0 h
+      | inr h ↦ get_or_past (replicate n 0) j 0 (omega (arith, length-replicate {A = ℕ} n 0))
+    ]
+
+All-middle : {X : Type 0} (P : X → Type 0) (xs ys : List X) (y : X) → All P (xs ++ y ∷ ys) → P y
+All-middle P [] ys y all = All-head P y ys all
+All-middle P (x ∷ xs) ys y all = All-middle P xs ys y (All-tail P x (xs ++ y ∷ ys) all)
+
+-- ---- walking down from the highest bit
+
+-- the sums are those of what the bits from a place on choose, of which each touches at most one constant
+pub record IsWalked (constants : List ℕ) (basis : List Solution) (number place : ℕ) (sums : List ℕ) : Type 0 where
+  pub inside : place ≤ length basis
+  pub summed : (j : ℕ) → slice_index sums j ≡ column_sum j (higher number place basis)
+  pub small : (j : ℕ) → slice_index sums j + 65535 * place ≤ 65535 * 24
+  pub apart : All (λ v. touched constants v ≤ 1) (higher number place basis)
+
+pub IsWalked-start : (constants : List ℕ) (basis : List Solution) (number : ℕ) (sums : List ℕ) → length basis ≤ 24 → ((j : ℕ) → slice_index sums j ≡ 0) → IsWalked constants basis number (length basis) sums
+IsWalked-start constants basis number sums few zeros =
+    let none : higher number (length basis) basis ≡ [] = higher-all number (length basis) basis (omega arith) in
+    record {
+      inside = omega arith;
+      summed = λ j. zeros j ∙ ap (column_sum j) (sym none);
+      small = λ j. omega (arith, zeros j);
+      apart = All-same (λ v. touched constants v ≤ 1) (higher number (length basis) basis) [] none (All-nil (λ v. touched constants v ≤ 1));
+    }
+
+pub IsWalked-skipped : (constants : List ℕ) (basis : List Solution) (number place p : ℕ) (sums : List ℕ) → p + 1 ≡ place → number / 2 ^ p % 2 ≢ 1 → IsWalked constants basis number place sums → IsWalked constants basis number p sums
+IsWalked-skipped constants basis number place p sums e bit walked =
+    let within : p < length basis = omega arith in
+    let same : higher number p basis ≡ higher number place basis = higher-skipped number p basis within bit ∙ ap (λ n. higher number n basis) e in
+    record {
+      inside = omega arith;
+      summed = λ j. walked.summed j ∙ ap (column_sum j) (sym same);
+      small = λ j. omega (arith, walked.small j);
+      apart = All-same (λ v. touched constants v ≤ 1) (higher number p basis) (higher number place basis) same walked.apart;
+    }
+
+pub IsWalked-taken : (constants : List ℕ) (basis : List Solution) (number place p : ℕ) (sums added parts : List ℕ) (d : Solution) → p + 1 ≡ place → number / 2 ^ p % 2 ≡ 1 → parts ≡ (get_or basis p d).parts → (1 < touched constants parts → ⊥) → ((j : ℕ) → slice_index parts j ≤ 65535) → ((j : ℕ) → slice_index added j ≡ slice_index sums j + slice_index parts j) → IsWalked constants basis number place sums → IsWalked constants basis number p added
+IsWalked-taken constants basis number place p sums added parts d e bit is touches narrow sum walked =
+    let within : p < length basis = omega arith in
+    let same : higher number p basis ≡ parts ∷ higher number place basis = higher-taken number p basis d within bit ∙ ap (λ v. v ∷ higher number (p + 1) basis) (sym is) ∙ ap (λ n. parts ∷ higher number n basis) e in
+    let one : touched constants parts ≤ 1 = le_from_not_lt 1 (touched constants parts) touches in
+    record {
+      inside = omega arith;
+      summed = λ j. omega (arith, sum j, walked.summed j, column_sum-cons j parts (higher number place basis), ap (column_sum j) same);
+      small = λ j. omega (arith, walked.small j, sum j, narrow j);
+      apart = All-same (λ v. touched constants v ≤ 1) (higher number p basis) (parts ∷ higher number place basis) same
+          (All-cons (λ v. touched constants v ≤ 1) parts (higher number place basis) one walked.apart);
+    }
+
+-- ---- what the walk tells
+
+-- every number with these higher bits has the sums and what its lower bits choose
+column_sum-at : (constants : List ℕ) (basis : List Solution) (number place : ℕ) (sums : List ℕ) → IsWalked constants basis number place sums → (b : ℕ) → b / 2 ^ place ≡ number / 2 ^ place → (j : ℕ) → column_sum j (chosen b (vectors_of basis)) ≤ slice_index sums j + column_sum j (vectors_of (take place basis)) × (slice_index sums j ≤ column_sum j (chosen b (vectors_of basis)))
+column_sum-at constants basis number place sums walked b same j =
+    let lower = chosen b (vectors_of (take place basis)) in
+    let split : column_sum j (chosen b (vectors_of basis)) ≡ column_sum j lower + column_sum j (higher b place basis) = ap (column_sum j) (chosen-split place b basis) ∙ sum_by-append (λ v. slice_index v j) lower (higher b place basis) in
+    let top : column_sum j (higher b place basis) ≡ slice_index sums j = ap (λ n. column_sum j (chosen n (vectors_of (drop place basis)))) same ∙ sym (walked.summed j) in
+    let few : column_sum j lower ≤ column_sum j (vectors_of (take place basis)) = column_sum-chosen-le j b (vectors_of (take place basis)) in
+    (omega arith, omega arith)
+
+-- where the sums leave a column without what is asked, all numbers with these higher bits are out
+pub dead-from_closed : (constants : List ℕ) (may_be_zero : List Bool) (basis : List Solution) (number place : ℕ) (sums : List ℕ) → IsWalked constants basis number place sums → (IsOpen constants may_be_zero (take place basis) sums → ⊥) → IsDead constants may_be_zero basis number place
+dead-from_closed constants may_be_zero basis number place sums walked closed b same valid =
+    let at = column_sum-at constants basis number place sums walked b same in
+    closed (record {
+      filled = λ j asked. omega (arith, at j, valid.filled j asked);
+      once = λ k d h. (omega (arith, at (slice_index_or constants k d), valid.once k d h), omega (arith, at (slice_index_or constants k d), valid.once k d h));
+    })
+
+-- where the solution at a place touches two constants, all numbers with its bit and these higher bits are out
+pub dead-from_touched : (constants : List ℕ) (may_be_zero : List Bool) (basis : List Solution) (number p : ℕ) (parts : List ℕ) (d : Solution) → p < length basis → number / 2 ^ p % 2 ≡ 1 → parts ≡ (get_or basis p d).parts → 1 < touched constants parts → IsDead constants may_be_zero basis number p
+dead-from_touched constants may_be_zero basis number p parts d within bit is touches b same valid =
+    let bit_b : b / 2 ^ p % 2 ≡ 1 = ap (λ n. n % 2) same ∙ bit in
+    let lower = chosen b (vectors_of (take p basis)) in
+    let split : chosen b (vectors_of basis) ≡ lower ++ parts ∷ higher b (p + 1) basis = chosen-split p b basis ∙ ap (λ l. lower ++ l) (higher-taken b p basis d within bit_b) ∙ ap (λ v. lower ++ v ∷ higher b (p + 1) basis) (sym is) in
+    let one : touched constants parts ≤ 1 = All-middle (λ v. touched constants v ≤ 1) lower (higher b (p + 1) basis) parts (All-same (λ v. touched constants v ≤ 1) (lower ++ parts ∷ higher b (p + 1) basis) (chosen b (vectors_of basis)) (sym split) valid.apart) in
+    omega arith
+
+-- a number that was walked to its last bit, with every column as asked, is a valid choice
+pub valid-from_open : (constants : List ℕ) (may_be_zero : List Bool) (basis : List Solution) (number : ℕ) (sums : List ℕ) → IsWalked constants basis number 0 sums → IsOpen constants may_be_zero (take 0 basis) sums → number < 2 ^ length basis → IsValid constants may_be_zero (vectors_of basis) number
+valid-from_open constants may_be_zero basis number sums walked all_open within =
+    let same : number / 1 ≡ number = omega arith in
+    let whole : higher number 0 basis ≡ chosen number (vectors_of basis) = ap (λ n. chosen n (vectors_of basis)) same in
+    record {
+      within = rw length-map within;
+      filled = λ j asked. omega (arith, all_open.filled j asked, walked.summed j, ap (column_sum j) whole);
+      once = λ k d h. omega (arith, all_open.once k d h, walked.summed (slice_index_or constants k d), ap (column_sum (slice_index_or constants k d)) whole);
+      apart = All-same (λ v. touched constants v ≤ 1) (chosen number (vectors_of basis)) (higher number 0 basis) (sym whole) walked.apart;
+    }
+
+-- a jump below all numbers with the same higher bits passes no valid choice
+pub jump_skips_none : (constants : List ℕ) (may_be_zero : List Bool) (basis : List Solution) (number place : ℕ) → IsDead constants may_be_zero basis number place → (a : ℕ) → a ≤ number → IsValid constants may_be_zero (vectors_of basis) a → a < number - number % 2 ^ place
+jump_skips_none constants may_be_zero basis number place dead a upto valid =
+    elim (cases_lt a (number - number % 2 ^ place)) [
+      | inl below ↦ below
+      | inr above ↦ absurd (dead a (same_quotient a number (2 ^ place) (pow_pos place) above upto) valid)
+    ]

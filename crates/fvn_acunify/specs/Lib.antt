@@ -1,0 +1,4 @@
+pub mod Theory
+pub mod ValidChoice
+pub mod Cursor
+pub mod Prefix

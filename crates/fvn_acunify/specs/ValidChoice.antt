@@ -1,0 +1,31 @@
+-- Which choices of solutions are valid: a choice is a number whose bit i says that solution i is chosen.
+use Rattle.std.specs.Prelude.{◌≡◌, ℕ, ◌/◌, ◌%◌, ◌^◌, ◌<◌, ◌≤◌, ◌==◌, Bool, true, false, if◌then◌else◌, List, [], ◌∷◌, length, sum_by, count_by, nat_lt, slice_index, slice_index_or, All, map, filter}
+use Rattle.std.specs.List.{enumerate_from}
+use Rattle.std.specs.Int.{bit_at}
+
+-- the solutions that a number chooses
+abbrev pub chosen : ℕ → List (List ℕ) → List (List ℕ)
+chosen b [] = []
+chosen b (v ∷ basis) = if b % 2 == 1 then v ∷ chosen (b / 2) basis else chosen (b / 2) basis
+
+-- in their order, they are those at the places of the bits that are set
+abbrev pub ChosenByBits : Type 0
+ChosenByBits =
+    (b : ℕ) (basis : List (List ℕ))
+    → chosen b basis ≡ map (λ p. p.1) (filter (λ p. bit_at b p.0 == 1) (enumerate_from 0 basis))
+
+-- what these vectors have in a column, all together
+abbrev pub column_sum : ℕ → List (List ℕ) → ℕ
+column_sum j list = sum_by (λ v. slice_index v j) list
+
+-- in how many of the constant columns a vector is other than zero
+abbrev pub touched : List ℕ → List ℕ → ℕ
+touched constants v = count_by (λ c. nat_lt 0 (slice_index v c)) constants
+
+-- the sum of the solutions chosen is above zero in every column that may not be zero, and 1 in every
+-- constant column, and none of them is other than zero in two constant columns
+pub record IsValid (constants : List ℕ) (may_be_zero : List Bool) (basis : List (List ℕ)) (b : ℕ) : Type 0 where
+  pub within : b < 2 ^ length basis
+  pub filled : (j : ℕ) → slice_index_or may_be_zero j true ≡ false → 0 < column_sum j (chosen b basis)
+  pub once : All (λ c. column_sum c (chosen b basis) ≡ 1) constants
+  pub apart : All (λ v. touched constants v ≤ 1) (chosen b basis)

@@ -1,0 +1,122 @@
+//! The valid choices of a theory, from the greatest number down.
+ghost use Rattle.std.specs.Prelude.{◌≡◌, ◌↔◌, ℕ, ◌≤◌, ◌^◌, length, IfOk, IfErr, IfSome, unwrap_or};
+ghost use Rattle.fvn_lindio.specs.Systems.{vectors_of};
+
+use crate::prefix::dead_place;
+use crate::theory::{OneFault, OneTheory};
+use fvn_lindio::Solution;
+use fvn_seq::Seq;
+use std::alloc::Global;
+use std::marker::Model;
+
+/// The minimal solutions of a theory's system, and the valid choices among them that are still to
+/// come. Its calls take no memory.
+#[derive(Drop)]
+pub struct Choices {
+    constants: Vec<usize>,
+    may_be_zero: Vec<bool>,
+    basis: Seq<Solution>,
+    sums: Vec<u64>,
+    below: u32,
+}
+
+impl Model for Choices {
+    ghost use Rattle.std.specs.Prelude.{◌≡◌, ◌≤◌, ◌^◌, length};
+    ghost use Rattle.fvn_acunify.specs.Cursor.{Cursor};
+    ghost use Rattle.fvn_acunify.specs.Prefix.{IsBounded};
+
+    ghost Value = { Cursor };
+
+    ghost view = { λ c. record {
+      constants = c.constants.items;
+      may_be_zero = c.may_be_zero.items;
+      basis = c.basis;
+      below = c.below;
+    } };
+
+    ghost invariant = { λ c. IsBounded (length c.may_be_zero.items) c.constants.items c.basis
+        × (length c.sums.items ≡ length c.may_be_zero.items)
+        × (c.below ≤ 2 ^ length c.basis) };
+}
+
+impl Choices {
+    ghost use Rattle.fvn_acunify.specs.Cursor.{Pending};
+    ghost use Rattle.fvn_acunify.specs.Prefix.{IsBounded};
+    ghost use Rattle.fvn_acunify.specs.ValidChoice.{IsValid};
+
+    /// The choices among these solutions, none of them given yet.
+    pub(crate) fn over(
+        alloc: Global,
+        theory: &OneTheory,
+        basis: Seq<Solution>,
+    ) -> Result<Choices, OneFault>
+        requires bounded { IsBounded (length theory.now.may_be_zero) theory.now.constants basis }
+
+        ensures ok { IfOk result (λ c. c ≡ record {
+          constants = theory.now.constants;
+          may_be_zero = theory.now.may_be_zero;
+          basis = basis;
+          below = 2 ^ length basis;
+        }) }
+        ensures only_memory { IfErr result (λ fault. fault ≡ OneFault.NoMemory) }
+    {
+        let constants = Vec::from_slice(alloc, theory.constants.as_slice())?;
+        let may_be_zero = Vec::from_slice(alloc, theory.may_be_zero.as_slice())?;
+        let sums = vec![in alloc; 0u64; may_be_zero.len()]?;
+        let below = 1 << basis.len();
+        Ok(Choices {
+            constants,
+            may_be_zero,
+            basis,
+            sums,
+            below,
+        })
+    }
+
+    /// The minimal solutions of the theory's system, in lexicographic order.
+    pub fn basis(&self) -> &[Solution]
+        ensures { result.now ≡ self.now.basis }
+    {
+        self.basis.as_slice()
+    }
+
+    /// The greatest valid choice that is still to come; bit i says that solution i is chosen.
+    ///
+    /// No branch of numbers with the same highest bits is entered where these bits already leave no
+    /// valid choice; it is passed in one step.
+    pub fn next(&mut self) -> Option<u32>
+        ensures greatest { IfSome result (λ b.
+            Pending self.old b × ((a : ℕ) → Pending self.old a → a ≤ b)) }
+        ensures exhausted { (result ≡ None) ↔ ((a : ℕ) → ¬ Pending self.old a) }
+        ensures taken { self.new ≡ record self.old { below = unwrap_or result 0 } }
+    {
+        while self.below > 0 {
+            let number = self.below - 1;
+            let found = dead_place(
+                self.constants.as_slice(),
+                self.may_be_zero.as_slice(),
+                self.basis.as_slice(),
+                number,
+                self.sums.as_mut_slice(),
+            );
+            match found {
+                None => {
+                    self.below = number;
+                    return Some(number);
+                }
+                Some(place) => self.below = number - number % (1 << place),
+            }
+        }
+        None
+    }
+
+    /// Goes back to the start: every valid choice is still to come.
+    pub fn again(&mut self)
+        ensures restarted { self.new ≡ record self.old { below = 2 ^ length self.old.basis } }
+        ensures all_pending { (b : ℕ) →
+            IsValid self.new.constants self.new.may_be_zero (vectors_of self.new.basis) b
+            → Pending self.new b }
+    {
+        self.below = 1 << self.basis.len();
+    }
+}

@@ -1,0 +1,15 @@
+//! Every valid choice of the minimal solutions of one sum system, once.
+#![tactic(auto)]
+
+mod choices;
+mod laws;
+mod prefix;
+mod solve;
+#[cfg(test)]
+mod tests;
+mod theory;
+
+pub use choices::Choices;
+pub use laws::chosen_by_bits;
+pub use solve::solve_one;
+pub use theory::{OneFault, OneTheory};

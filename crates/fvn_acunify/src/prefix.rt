@@ -1,0 +1,120 @@
+//! The highest bits of a number that already rule out every choice which begins with them.
+ghost use Rattle.std.specs.Prelude.{◌≡◌, ◌↔◌, ℕ, ◌+◌, ◌^◌, ◌<◌, ◌≤◌, length, slice_index, slice_index_or, true, false, All, IsTrue, IfSome, IfNone};
+ghost use Rattle.fvn_lindio.specs.Systems.{vectors_of};
+ghost use Rattle.fvn_acunify.specs.ValidChoice.{IsValid, touched};
+ghost use Rattle.fvn_acunify.specs.Prefix.{CanBeFilled, CanBeOne, IsBounded, IsDead, IsOpen};
+
+use fvn_lindio::Solution;
+
+/// The highest place from which on the bits of the number rule out every choice, or None where the
+/// number is a valid choice. `sums` is room for a sum a column.
+pub fn dead_place(
+    constants: &[usize],
+    may_be_zero: &[bool],
+    basis: &[Solution],
+    number: u32,
+    sums: &mut [u64],
+) -> Option<usize>
+    requires bounded { IsBounded (length may_be_zero.now) constants.now basis.now }
+    requires room { length sums.old ≡ length may_be_zero.now }
+    requires within { number < 2 ^ length basis.now }
+
+    ensures place { IfSome result (λ place. place ≤ length basis.now) }
+    ensures dead { IfSome result (IsDead constants.now may_be_zero.now basis.now number) }
+    ensures valid { IfNone result (IsValid constants.now may_be_zero.now (vectors_of basis.now) number) }
+{
+    sums.fill(0);
+    let mut place = basis.len();
+    if !is_open(constants, may_be_zero, basis, sums) {
+        return Some(place);
+    }
+    while place > 0 {
+        place -= 1;
+        if (number >> place) % 2 == 1 {
+            let parts = basis[place].parts.as_slice();
+            if touches_two(constants, parts) {
+                return Some(place);
+            }
+            add(sums, parts);
+        }
+        if !is_open(constants, may_be_zero, &basis[..place], sums) {
+            return Some(place);
+        }
+    }
+    None
+}
+
+/// Whether a solution is other than zero in two constant columns.
+fn touches_two(constants: &[usize], parts: &[u32]) -> bool
+    requires { All (λ c. c < length parts.now) constants.now }
+    ensures { IsTrue result ↔ (1 < touched constants.now parts.now) }
+{
+    constants.iter().filter(|c| parts[**c] > 0).count() > 1
+}
+
+/// Adds a solution to the column sums.
+fn add(sums: &mut [u64], parts: &[u32])
+    requires sized { length parts.now ≡ length sums.old }
+    requires fits { (j : ℕ) → slice_index sums.old j + slice_index parts.now j < 2 ^ 64 }
+    ensures { (j : ℕ) → slice_index sums.new j ≡ slice_index sums.old j + slice_index parts.now j }
+{
+    for (j, part) in parts.iter().enumerate() {
+        sums[j] += u64::from(*part);
+    }
+}
+
+/// Whether every column can still get what is asked, with any of the lower solutions.
+fn is_open(constants: &[usize], may_be_zero: &[bool], lower: &[Solution], sums: &[u64]) -> bool
+    requires bounded { IsBounded (length may_be_zero.now) constants.now lower.now }
+    requires room { length sums.now ≡ length may_be_zero.now }
+    ensures { IsTrue result ↔ IsOpen constants.now may_be_zero.now lower.now sums.now }
+{
+    are_constants_open(constants, lower, sums) && are_columns_open(may_be_zero, lower, sums)
+}
+
+/// Whether every constant column has at most 1, and has or can get it.
+fn are_constants_open(constants: &[usize], lower: &[Solution], sums: &[u64]) -> bool
+    requires among { All (λ c. c < length sums.now) constants.now }
+    requires sized { All (λ v. length v.parts ≡ length sums.now) lower.now }
+    ensures { IsTrue result ↔ All (CanBeOne lower.now sums.now) constants.now }
+{
+    for c in constants {
+        let sum = sums[*c];
+        if sum > 1 || !is_fillable(lower, sums, *c) {
+            return false;
+        }
+    }
+    true
+}
+
+/// Whether every column that may not be zero is above zero, or can be.
+fn are_columns_open(may_be_zero: &[bool], lower: &[Solution], sums: &[u64]) -> bool
+    requires room { length sums.now ≡ length may_be_zero.now }
+    requires sized { All (λ v. length v.parts ≡ length sums.now) lower.now }
+    ensures { IsTrue result ↔ ((j : ℕ) → slice_index_or may_be_zero.now j true ≡ false
+        → CanBeFilled lower.now sums.now j) }
+{
+    for (j, may) in may_be_zero.iter().enumerate() {
+        if !*may && !is_fillable(lower, sums, j) {
+            return false;
+        }
+    }
+    true
+}
+
+/// Whether a column is above zero, or can be with one of the lower solutions.
+fn is_fillable(lower: &[Solution], sums: &[u64], j: usize) -> bool
+    requires column { j < length sums.now }
+    requires sized { All (λ v. length v.parts ≡ length sums.now) lower.now }
+    ensures { IsTrue result ↔ CanBeFilled lower.now sums.now j }
+{
+    if sums[j] > 0 {
+        return true;
+    }
+    for solution in lower {
+        if solution.parts.as_slice()[j] > 0 {
+            return true;
+        }
+    }
+    false
+}

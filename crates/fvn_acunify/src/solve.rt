@@ -1,0 +1,37 @@
+//! The choices of a theory, from its system.
+ghost use Rattle.std.specs.Prelude.{◌≡◌, ◌≢◌, ◌↔◌, ◌≤◌, ℕ, List, IfOk, length, All, AllPairs, Contains};
+ghost use Rattle.fvn_lindio.specs.Vectors.{IsBefore};
+ghost use Rattle.fvn_lindio.specs.Systems.{IsMinimal, rows_of, vectors_of};
+ghost use Rattle.fvn_lindio.specs.declared.system.LinFault.{LinFault as Refusal};
+ghost use Rattle.fvn_acunify.specs.Theory.{IsOneTheory, IsRefusal};
+ghost use Rattle.fvn_acunify.specs.ValidChoice.{IsValid};
+ghost use Rattle.fvn_acunify.specs.Cursor.{Pending};
+
+use crate::choices::Choices;
+use crate::theory::{OneFault, OneTheory};
+use fvn_lindio::basis;
+use std::alloc::Global;
+
+/// The valid choices among the minimal solutions of the theory's system, of which there may be at
+/// most 24.
+pub fn solve_one(alloc: Global, theory: &OneTheory) -> Result<Choices, OneFault>
+    requires { IsOneTheory theory.now }
+
+    ensures exact { IfOk result (λ c. (v : List ℕ) → Contains (vectors_of c.basis) v
+        ↔ IsMinimal theory.now.system.columns (rows_of theory.now.system) v) }
+    ensures ordered { IfOk result (λ c. AllPairs IsBefore (vectors_of c.basis)) }
+    ensures few { IfOk result (λ c. length c.basis ≤ 24) }
+    ensures narrow { IfOk result (λ c. All (All (λ a. a ≤ 65535)) (vectors_of c.basis)) }
+    ensures constants { IfOk result (λ c. c.constants ≡ theory.now.constants) }
+    ensures may_be_zero { IfOk result (λ c. c.may_be_zero ≡ theory.now.may_be_zero) }
+    ensures all_pending { IfOk result (λ c. (b : ℕ) →
+        IsValid theory.now.constants theory.now.may_be_zero (vectors_of c.basis) b → Pending c b) }
+
+    // Where memory does not run out, the system's refusal is handed on, and nothing else is an error.
+    ensures refused { result ≢ Err OneFault.NoMemory → (fault : Refusal) →
+        (result ≡ Err (OneFault.Basis fault))
+        ↔ IsRefusal theory.now.system.columns (rows_of theory.now.system) 24 fault }
+{
+    let solutions = basis(alloc, &theory.system, 24)?;
+    Choices::over(alloc, theory, solutions)
+}

@@ -1,0 +1,248 @@
+//! The choices of worked theories, and of random ones against a plain count-down.
+ghost use Rattle.std.specs.Prelude.{◌≡◌, ◌≢◌, ◌<◌, ◌≤◌, length, All, AllPairs, IsTrue, unsigned_abs};
+ghost use Rattle.fvn_acunify.specs.Theory.{IsOneTheory};
+
+use crate::solve::solve_one;
+use crate::theory::{OneFault, OneTheory};
+use fvn_lindio::{LinFault, Row, Solution, System};
+use fvn_seq::Seq;
+use std::alloc::{AllocError, Global};
+use std::test::Fail;
+
+fn one_row(alloc: Global, row: &[i32], constants: &[usize]) -> Result<OneTheory, AllocError> {
+    let coefficients = Seq::from_vec(Vec::from_slice(alloc, row)?);
+    let mut rows = Vec::new(alloc);
+    rows.push(Row { coefficients })?;
+    Ok(OneTheory {
+        system: System {
+            columns: row.len(),
+            rows: Seq::from_vec(rows),
+        },
+        constants: Seq::from_vec(Vec::from_slice(alloc, constants)?),
+        may_be_zero: Seq::from_vec(vec![in alloc; false; row.len()]?),
+    })
+}
+
+/// Whether the theory keeps to what `solve_one` asks.
+fn keeps(theory: &OneTheory) -> bool
+    ensures { IsTrue result → IsOneTheory theory.now }
+{
+    let columns = theory.system.columns;
+    if columns > 1000 || theory.may_be_zero.len() != columns {
+        return false;
+    }
+    let constants = theory.constants.as_slice();
+    if !is_below(constants, columns) || !is_distinct(constants) {
+        return false;
+    }
+    are_rows(theory.system.rows.as_slice(), columns)
+}
+
+fn is_below(list: &[usize], columns: usize) -> bool
+    ensures { IsTrue result → All (λ c. c < columns) list.now }
+{
+    list.iter().all(|c| *c < columns)
+}
+
+fn is_distinct(list: &[usize]) -> bool
+    ensures { IsTrue result → AllPairs ◌≢◌ list.now }
+{
+    for (k, c) in list.iter().enumerate() {
+        if list[..k].contains(c) {
+            return false;
+        }
+    }
+    true
+}
+
+fn are_rows(rows: &[Row], columns: usize) -> bool
+    ensures { IsTrue result → All (λ row. (length row.coefficients ≡ columns)
+        × All (λ c. unsigned_abs c ≤ 65535) row.coefficients) rows.now }
+{
+    rows.iter().all(|row| is_row(row, columns))
+}
+
+fn is_row(row: &Row, columns: usize) -> bool
+    ensures { IsTrue result → (length row.now.coefficients ≡ columns)
+        × All (λ c. unsigned_abs c ≤ 65535) row.now.coefficients }
+{
+    row.coefficients.len() == columns
+        && row
+            .coefficients
+            .as_slice()
+            .iter()
+            .all(|c| c.unsigned_abs() <= 65_535)
+}
+
+#[test]
+fn worked_choices_come_from_the_greatest_down(rt: HostRuntime) -> Result<(), Fail> {
+    let alloc = rt.alloc();
+    for (constants, want) in [
+        ([].as_slice(), [15u32, 14, 13, 11, 9, 7, 6].as_slice()),
+        ([1, 3].as_slice(), [14, 6].as_slice()),
+    ] {
+        let theory = one_row(alloc, &[1, 1, -1, -1], constants)?;
+        assert!(rt; keeps(&theory));
+        let mut choices = solve_one(alloc, &theory)?;
+        assert_eq!(rt; choices.basis().len(), 4);
+        for number in want {
+            assert_eq!(rt; choices.next(), Some(*number));
+        }
+        assert_eq!(rt; choices.next(), None);
+        assert_eq!(rt; choices.next(), None);
+        choices.again();
+        assert_eq!(rt; choices.next(), Some(want[0]));
+    }
+    Ok(())
+}
+
+#[test]
+fn a_refusal_is_handed_on(rt: HostRuntime) -> Result<(), Fail> {
+    let alloc = rt.alloc();
+    let theory = one_row(alloc, &[1, 1, 1, 1, 1, -1, -1, -1, -1, -1], &[])?;
+    assert!(rt; keeps(&theory));
+    assert!(rt;
+        matches!(
+            solve_one(alloc, &theory),
+            Err(OneFault::Basis(LinFault::TooMany(1)))
+        )
+    );
+    Ok(())
+}
+
+#[test]
+fn the_greatest_of_many_choices_comes_at_once(rt: HostRuntime) -> Result<(), Fail> {
+    let alloc = rt.alloc();
+    let mut row = [-1i32; 25];
+    row[0] = 1;
+    let theory = one_row(alloc, &row, &[])?;
+    assert!(rt; keeps(&theory));
+    let mut choices = solve_one(alloc, &theory)?;
+    assert_eq!(rt; choices.next(), Some(16_777_215));
+    assert_eq!(rt; choices.next(), None);
+    Ok(())
+}
+
+/// A generator of numbers that look random.
+#[derive(Drop)]
+struct Numbers(u64);
+
+impl Numbers {
+    fn below(&mut self, end: u32) -> u32
+        requires { 0 < end }
+        ensures { result < end }
+    {
+        self.0 = self
+            .0
+            .wrapping_mul(6_364_136_223_846_793_005)
+            .wrapping_add(1_442_695_040_888_963_407);
+        ((self.0 >> 33) % u64::from(end)) as u32
+    }
+}
+
+fn random_row(alloc: Global, numbers: &mut Numbers, columns: usize) -> Result<Row, AllocError> {
+    let mut row = Vec::new(alloc);
+    for _ in 0..columns {
+        row.push(numbers.below(5) as i32 - 2)?;
+    }
+    Ok(Row {
+        coefficients: Seq::from_vec(row),
+    })
+}
+
+fn random_theory(alloc: Global, numbers: &mut Numbers) -> Result<OneTheory, AllocError> {
+    let columns = 2 + numbers.below(4) as usize;
+    let mut rows = Vec::new(alloc);
+    for _ in 0..1 + numbers.below(2) {
+        rows.push(random_row(alloc, numbers, columns)?)?;
+    }
+    let mut constants = Vec::new(alloc);
+    let mut may_be_zero = Vec::new(alloc);
+    for column in 0..columns {
+        if numbers.below(4) == 0 {
+            constants.push(column)?;
+        }
+        may_be_zero.push(numbers.below(2) == 0)?;
+    }
+    Ok(OneTheory {
+        system: System {
+            columns,
+            rows: Seq::from_vec(rows),
+        },
+        constants: Seq::from_vec(constants),
+        may_be_zero: Seq::from_vec(may_be_zero),
+    })
+}
+
+fn part(solution: &Solution, column: usize) -> u64 {
+    u64::from(solution.parts.as_slice().get(column).copied().unwrap_or(0))
+}
+
+/// The sum in a column of the solutions that a number chooses.
+fn plain_sum(basis: &[Solution], number: u32, column: usize) -> u64 {
+    let mut sum = 0u64;
+    let mut bits = number;
+    for solution in basis {
+        if bits % 2 == 1 {
+            sum = sum.saturating_add(part(solution, column));
+        }
+        bits /= 2;
+    }
+    sum
+}
+
+/// Whether one of the solutions that a number chooses is other than zero in two constant columns.
+fn is_shared(basis: &[Solution], number: u32, constants: &[usize]) -> bool {
+    let mut bits = number;
+    for solution in basis {
+        if bits % 2 == 1 && constants.iter().filter(|c| part(solution, **c) > 0).count() > 1 {
+            return true;
+        }
+        bits /= 2;
+    }
+    false
+}
+
+fn is_plainly_valid(theory: &OneTheory, basis: &[Solution], number: u32) -> bool {
+    for (column, may) in theory.may_be_zero.as_slice().iter().enumerate() {
+        if !*may && plain_sum(basis, number, column) == 0 {
+            return false;
+        }
+    }
+    for column in theory.constants.as_slice() {
+        if plain_sum(basis, number, *column) != 1 {
+            return false;
+        }
+    }
+    !is_shared(basis, number, theory.constants.as_slice())
+}
+
+#[test]
+fn random_choices_are_those_of_a_count_down(rt: HostRuntime) -> Result<(), Fail> {
+    let alloc = rt.alloc();
+    let mut numbers = Numbers(7);
+    let mut given = 0u64;
+    for _ in 0..300 {
+        let theory = random_theory(alloc, &mut numbers)?;
+        assert!(rt; keeps(&theory));
+        let solved = solve_one(alloc, &theory);
+        if matches!(solved, Err(OneFault::Basis(_))) {
+            continue;
+        }
+        let mut choices = solved?;
+        let many = choices.basis().len();
+        if many > 10 {
+            continue;
+        }
+        for down in 0..1u32 << many {
+            let number = (1 << many) - 1 - down;
+            if is_plainly_valid(&theory, choices.basis(), number) {
+                assert_eq!(rt; choices.next(), Some(number));
+                given = given.wrapping_add(1);
+            }
+        }
+        assert_eq!(rt; choices.next(), None);
+    }
+    assert!(rt; given > 300);
+    Ok(())
+}
