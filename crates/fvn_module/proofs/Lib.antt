@@ -1,0 +1,15 @@
+pub mod TextLemmas
+pub mod PieceLemmas
+pub mod TermReading
+pub mod ModuleSteps
+pub mod TermSound
+pub mod Dots
+pub mod Places
+pub mod Denoting
+pub mod ProblemExact
+pub mod StatementExact
+pub mod BodyExact
+pub mod DeclaredExact
+pub mod ModuleExact
+pub mod Results
+pub mod FactLemmas

@@ -1,0 +1,5 @@
+use Rattle.fvn_module.proofs.FactLemmas.{module_facts}
+use Rattle.fvn_module.proofs.first.laws.modules_are_first.Goals as goal
+
+pub returns : goal.returns
+returns c = module_facts

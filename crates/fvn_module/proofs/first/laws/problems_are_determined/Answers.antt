@@ -1,0 +1,5 @@
+use Rattle.fvn_module.proofs.ProblemExact.{determined}
+use Rattle.fvn_module.proofs.first.laws.problems_are_determined.Goals as goal
+
+pub returns : goal.returns
+returns c = determined

@@ -1,0 +1,12 @@
+use Rattle.std.proofs.Common.{◌≡◌, ◌≤◌, [], drop}
+use Rattle.std.specs.Prelude.{slice_range}
+use Rattle.fvn_module.specs.ModuleReading.{read_body, nothing}
+use Rattle.fvn_module.proofs.first.module_text.read_statements.Given as goal
+
+-- the pieces behind the last dot stand before what is left
+abbrev pub invariant-loop-i : goal.invariant-loop-i
+invariant-loop-i l = record {
+  start : l.start ≤ l.i;
+  rest : read_body l.sort nothing [] l.body
+      ≡ read_body l.sort (record { operators = l.declared.operators.items; variables = l.declared.variables.items }) (slice_range l.body l.start l.i) (drop l.i l.body);
+}

@@ -1,0 +1,52 @@
+-- What holds of every module and problem that was read.
+use Rattle.std.specs.Prelude.{ℕ, ◌≡◌, ◌≢◌, ◌≤◌, [], ◌∷◌, length, All, AllPairs, Contains}
+use Rattle.fvn_terms.specs.declared.plain.Var.{Var}
+use Rattle.fvn_terms.specs.declared.declarations.OpDecl.{OpDecl}
+use Rattle.fvn_terms.specs.declared.declarations.Declarations.{Declarations}
+use Rattle.fvn_terms.specs.Plain.{term}
+use Rattle.fvn_terms.specs.Substitution.{Occurs}
+use Rattle.fvn_terms.specs.Signature.{HasKind}
+use Rattle.fvn_module.specs.declared.first.module_text.FirstModule.{FirstModule}
+use Rattle.fvn_module.specs.declared.first.problem_text.FirstProblem.{FirstProblem}
+use Rattle.fvn_module.specs.Pieces.{Text}
+use Rattle.fvn_module.specs.ModuleText.{the_kind, free_operator, IsModuleText}
+use Rattle.fvn_module.specs.ProblemText.{numbered, IsProblemText}
+
+-- an operator without axioms, of one rank
+abbrev pub IsFreeOperator : OpDecl → Type 0
+IsFreeOperator o = (n : ℕ) × (o ≡ free_operator n)
+
+-- one sort and its kind, and free operators over them
+pub record IsFirstForm (d : Declarations) : Type 0 where
+  pub sorts : d.sorts ≡ 1
+  pub kinds : d.kinds ≡ the_kind ∷ the_kind ∷ []
+  pub below : d.below ≡ []
+  pub operators : All IsFreeOperator d.ops
+
+pub record IsFirstModule (m : FirstModule) : Type 0 where
+  pub form : IsFirstForm m.declarations
+  pub sort_names : length m.names.sorts ≡ 1
+  pub op_names : length m.names.ops ≡ length m.declarations.ops
+  pub few : length m.names.ops ≤ 256
+  pub distinct : AllPairs (λ f g. f ≢ g) m.names.ops
+
+pub record IsFirstProblem (m : FirstModule) (p : FirstProblem) : Type 0 where
+  pub left : HasKind m.declarations (term p.left) the_kind
+  pub right : HasKind m.declarations (term p.right) the_kind
+  pub left_variables : (x : Var) → Occurs x (term p.left) → Contains p.vars x
+  pub right_variables : (x : Var) → Occurs x (term p.right) → Contains p.vars x
+  pub vars : p.vars ≡ numbered 0 p.names.texts
+  pub distinct : AllPairs (λ x y. x ≢ y) p.names.texts
+
+abbrev pub ModulesAreDetermined : Type 0
+ModulesAreDetermined = (bytes : Text) (m n : FirstModule) → IsModuleText bytes m → IsModuleText bytes n → m ≡ n
+
+abbrev pub ModulesAreFirst : Type 0
+ModulesAreFirst = (bytes : Text) (m : FirstModule) → IsModuleText bytes m → IsFirstModule m
+
+abbrev pub ProblemsAreDetermined : Type 0
+ProblemsAreDetermined = (m : FirstModule) (bytes : Text) (p q : FirstProblem) → IsProblemText m bytes p → IsProblemText m bytes q → p ≡ q
+
+abbrev pub ProblemsAreFirst : Type 0
+ProblemsAreFirst =
+    (text : Text) (m : FirstModule) → IsModuleText text m → (bytes : Text) (p : FirstProblem) → IsProblemText m bytes p → IsFirstProblem m p

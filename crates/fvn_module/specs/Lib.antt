@@ -1,0 +1,9 @@
+pub mod Pieces
+pub mod Spelling
+pub mod Tests
+pub mod ModuleText
+pub mod ModuleReading
+pub mod Meaning
+pub mod ProblemText
+pub mod ProblemReading
+pub mod Facts

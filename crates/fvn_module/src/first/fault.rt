@@ -1,0 +1,38 @@
+//! Why a text was not read.
+ghost use Rattle.std.specs.Prelude.{◌≡◌};
+ghost use Rattle.fvn_module.specs.declared.first.fault.FirstFault.TheVariants.{NoMemory as OutOfMemory};
+
+use fvn_terms::NoMemory;
+use std::alloc::{AllocError, AllocFailed};
+
+/// Why a text was not read.
+#[derive(Clone, Copy, Debug, PartialEq, Eq)]
+pub enum FirstFault {
+    /// It is no text of the form.
+    NotOfForm,
+    NoMemory,
+}
+
+impl From<AllocError> for FirstFault {
+    ghost from_gives = { λ _ fault. fault ≡ OutOfMemory };
+
+    fn from(_error: AllocError) -> FirstFault {
+        FirstFault::NoMemory
+    }
+}
+
+impl<T: Drop> From<AllocFailed<T>> for FirstFault {
+    ghost from_gives = { λ _ fault. fault ≡ OutOfMemory };
+
+    fn from(_error: AllocFailed<T>) -> FirstFault {
+        FirstFault::NoMemory
+    }
+}
+
+impl From<NoMemory> for FirstFault {
+    ghost from_gives = { λ _ fault. fault ≡ OutOfMemory };
+
+    fn from(_error: NoMemory) -> FirstFault {
+        FirstFault::NoMemory
+    }
+}

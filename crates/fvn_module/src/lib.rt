@@ -1,0 +1,4 @@
+//! The readers of module and problem texts.
+#![tactic(auto)]
+
+pub mod first;
