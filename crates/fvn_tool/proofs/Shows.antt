@@ -1,0 +1,82 @@
+-- What an answer shows of its problem.
+use Rattle.std.proofs.Common.{◌≡◌, ◌≤◌, ℕ, List, [], ◌∷◌, Contains, refl, sym, arith}
+use Rattle.std.proofs.lemmas.List.Elements.{All-from_recursion, All-contains}
+use Rattle.fvn_terms.specs.declared.plain.Var.{Var}
+use Rattle.fvn_terms.specs.Term.{nodes}
+use Rattle.fvn_terms.specs.Plain.{term}
+use Rattle.fvn_terms.specs.Substitution.{Substitution}
+use Rattle.fvn_module.specs.declared.first.module_text.FirstModule.{FirstModule}
+use Rattle.fvn_module.specs.declared.first.problem_text.FirstProblem.{FirstProblem}
+use Rattle.fvn_tool.specs.declared.status.Status.{Status}
+use Rattle.fvn_tool.specs.Free.{IsMostGeneral}
+use Rattle.fvn_tool.specs.Replies.{End, complete, bound_size, Unifies, ExceedsSize, size_limit, IsPrintable, IsAnswer, unified, not_unified, too_large}
+use Rattle.fvn_tool.specs.Claims.{Shows, IsRight, EndsComplete}
+
+complete-injective : (n m : ℕ) → complete n ≡ complete m → n ≡ m
+complete-injective n m e = cc
+
+not_bound : (n : ℕ) → complete n ≡ bound_size → ⊥
+not_bound n e = cc
+
+module _ (scope : FirstModule) (problem : FirstProblem) where
+  -- a claim in other words
+  pub Shows-weaker : (Claim Other : Status → List Substitution → End → Type 0) → ((u : Status) (values : List Substitution) (end : End) → Claim u values end → Other u values end) → (u : Status) (t : List ℕ) → Shows scope problem Claim u t → Shows scope problem Other u t
+  Shows-weaker Claim Other w u t h = record { answering = h.answering; values = h.values; end = h.end; text_is = h.text_is; claim = w u h.values h.end h.claim }
+
+  -- the size that a printed unifier keeps to is exceeded by no other most general one
+  module _ (same_sizes : (a b : Substitution) → IsMostGeneral scope.declarations problem.vars (term problem.left) (term problem.right) a → IsMostGeneral scope.declarations problem.vars (term problem.left) (term problem.right) b → (x : Var) → Contains problem.vars x → nodes (a x) ≤ nodes (b x)) where
+    not_exceeded : (s : Substitution) → IsPrintable scope problem s → ExceedsSize scope problem → ⊥
+    not_exceeded s p h =
+        let fits = All-contains (λ x. nodes (s x) ≤ size_limit) problem.vars h.variable p.within h.listed in
+        let less = same_sizes h.by s h.most_general p.most_general h.variable h.listed in
+        let more = h.large in
+        omega (arith, fits, less, more)
+
+    pub shows_right : (u : Status) (t : List ℕ) → IsAnswer scope problem u t → Shows scope problem (IsRight scope problem) u t
+    shows_right u t (unified s p is) = record {
+      answering = tt;
+      values = s ∷ [];
+      end = complete 1;
+      text_is = is;
+      claim = record {
+        sound = All-from_recursion (Unifies scope problem) (s ∷ []) (p.most_general.unifier, tt);
+        apart = λ i j d l m. absurd (omega (arith, l, m));
+        complete = λ n e. (sym (complete-injective 1 n e), λ v h. (0, s, omega arith, refl, p.most_general.general v h));
+        nothing = record { only = λ e. cc; always = λ h. absurd (h s p.most_general.unifier); end_is = (λ e. cc, λ e. absurd (let n = complete-injective 1 0 e in omega (arith, n))) };
+        bound_size = record { only = λ e. cc; always = λ h. absurd (not_exceeded s p h); end_is = (λ e. cc, λ e. absurd (not_bound 1 e)); no_line = λ e. cc };
+        shortest = λ n e others sound all. let n_is = complete-injective 1 n e in let a = all s p.most_general.unifier in let l = a.2 in omega (arith, n_is, l);
+      };
+    }
+    shows_right u t (not_unified h is) = record {
+      answering = tt;
+      values = [];
+      end = complete 0;
+      text_is = is;
+      claim = record {
+        sound = All-from_recursion (Unifies scope problem) [] tt;
+        apart = λ i j d l m. absurd (omega (arith, l, m));
+        complete = λ n e. (sym (complete-injective 0 n e), λ v k. absurd (h v k));
+        nothing = record { only = λ e. h; always = λ k. refl; end_is = (λ e. refl, λ e. refl) };
+        bound_size = record { only = λ e. cc; always = λ k. absurd (h k.by k.most_general.unifier); end_is = (λ e. cc, λ e. absurd (not_bound 0 e)); no_line = λ e. refl };
+        shortest = λ n e others sound all. let n_is = complete-injective 0 n e in omega (arith, n_is);
+      };
+    }
+    shows_right u t (too_large h is) = record {
+      answering = tt;
+      values = [];
+      end = bound_size;
+      text_is = is;
+      claim = record {
+        sound = All-from_recursion (Unifies scope problem) [] tt;
+        apart = λ i j d l m. absurd (omega (arith, l, m));
+        complete = λ n e. absurd (not_bound n (sym e));
+        nothing = record { only = λ e. cc; always = λ k. absurd (k h.by h.most_general.unifier); end_is = (λ e. cc, λ e. absurd (not_bound 0 (sym e))) };
+        bound_size = record { only = λ e. h; always = λ k. refl; end_is = (λ e. refl, λ e. refl); no_line = λ e. refl };
+        shortest = λ n e others sound all. absurd (not_bound n (sym e));
+      };
+    }
+
+  pub shows_end : (ExceedsSize scope problem → ⊥) → (u : Status) (t : List ℕ) → IsAnswer scope problem u t → Shows scope problem (EndsComplete scope problem) u t
+  shows_end small u t (unified s p is) = record { answering = tt; values = s ∷ []; end = complete 1; text_is = is; claim = refl }
+  shows_end small u t (not_unified h is) = record { answering = tt; values = []; end = complete 0; text_is = is; claim = refl }
+  shows_end small u t (too_large h is) = absurd (small h)

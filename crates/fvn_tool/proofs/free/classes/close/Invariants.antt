@@ -1,0 +1,15 @@
+use Rattle.std.proofs.Common.{sum}
+use Rattle.fvn_terms.specs.Substitution.{Substitution}
+use Rattle.fvn_tool.specs.FreeClasses.{IsPartition, IsCoarser, MakesEqual}
+use Rattle.fvn_tool.proofs.free.classes.close.Given as goal
+
+abbrev pub invariant-rounds : goal.invariant-rounds
+invariant-rounds l = record {
+  partition : IsPartition l.table l.classes.items;
+  coarser : IsCoarser l.table l.initial.classes.items l.classes.items;
+  valid : (u : Substitution) → MakesEqual l.table l.initial.classes.items u → MakesEqual l.table l.classes.items u;
+}
+
+-- each round gives some subterms a lower class
+abbrev pub decreases-rounds : goal.decreases-rounds
+decreases-rounds l = sum l.classes.items

@@ -1,0 +1,9 @@
+use Rattle.std.proofs.Common.{◌≡◌, drop}
+use Rattle.fvn_terms.specs.Plain.{terms}
+use Rattle.fvn_tool.specs.Free.{variables_among}
+use Rattle.fvn_tool.specs.FreeNumbering.{noted}
+use Rattle.fvn_tool.proofs.free.numbering.+note.Given as goal
+
+-- the terms that are left add the rest
+abbrev pub invariant-note_all-loop-u : goal.invariant-note_all-loop-u
+invariant-note_all-loop-u l = noted l.seen.items (variables_among (terms (drop l.u-index l.u-items))) ≡ noted l.initial.seen.items (variables_among (terms l.u-items))

@@ -1,0 +1,9 @@
+use Rattle.std.proofs.Common.{◌≡◌, [], map, drop}
+use Rattle.fvn_terms.specs.Plain.{terms}
+use Rattle.fvn_tool.specs.Free.{variables_among}
+use Rattle.fvn_tool.specs.FreeNumbering.{noted}
+use Rattle.fvn_tool.proofs.free.numbering.seen_in.Given as goal
+
+-- the terms that are left add the rest
+abbrev pub invariant-loop-t : goal.invariant-loop-t
+invariant-loop-t l = noted l.seen.items (variables_among (terms (map (λ p. p.1) (drop l.t-index l.pairs)))) ≡ noted [] (variables_among (terms (map (λ p. p.1) l.pairs)))

@@ -1,0 +1,11 @@
+use Rattle.std.proofs.Common.{◌≡◌, length, count_by}
+use Rattle.fvn_tool.specs.FreeTable.{count}
+use Rattle.fvn_tool.specs.FreeValues.{AreRight, is_unknown}
+use Rattle.fvn_tool.proofs.free.values.Unfolding.entries.Given as goal
+
+abbrev pub invariant-rounds : goal.invariant-rounds
+invariant-rounds l = record { all : length l.entries.items ≡ count l.self.table.now; right : AreRight l.self.table.now l.self.classes.now l.self.limit l.entries.items }
+
+-- each round notes one class more
+abbrev pub decreases-rounds : goal.decreases-rounds
+decreases-rounds l = count_by is_unknown l.entries.items

@@ -1,0 +1,16 @@
+use Rattle.std.proofs.Common.{length, arith, ap, ◌∙◌, subst, sym}
+use Rattle.std.proofs.lemmas.List.{length-replicate}
+use Rattle.fvn_tool.specs.declared.free.values.Entry.TheVariants.{Unknown}
+use Rattle.fvn_tool.specs.FreeValues.{IsUnknown}
+use Rattle.fvn_tool.proofs.FreeValues.{entry_of-replicate}
+use Rattle.fvn_tool.proofs.free.values.all_unknown.Goals as goal
+
+pub returns-clause-all : goal.returns-clause-all
+returns-clause-all c =
+    let n = ap length c.loop-i.invariant ∙ length-replicate c.loop-i._i Unknown in
+    let a = c.loop-i-test.false in
+    let b = c.loop-i.auto._i-end in
+    omega (arith, n, a, b)
+
+pub returns-clause-unknown : goal.returns-clause-unknown
+returns-clause-unknown c k = subst (λ entries. IsUnknown entries k) (sym c.loop-i.invariant) (entry_of-replicate c.loop-i._i k)

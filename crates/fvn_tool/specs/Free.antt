@@ -1,0 +1,81 @@
+-- Unification of two terms over one sort and free operators.
+use Rattle.std.specs.Prelude.{◌≡◌, ◌≢◌, ◌⊎◌, ◌<◌, ◌≤◌, ◌+◌, ℕ, false, true, List, [], ◌∷◌, ◌++◌, All, AllPairs, Contains}
+use Rattle.fvn_terms.specs.declared.plain.Var.{Var}
+use Rattle.fvn_terms.specs.declared.plain.SortId.{SortId}
+use Rattle.fvn_terms.specs.declared.declarations.Axioms.TheVariants.{Free}
+use Rattle.fvn_terms.specs.declared.declarations.Rank.{Rank}
+use Rattle.fvn_terms.specs.declared.declarations.OpDecl.{OpDecl}
+use Rattle.fvn_terms.specs.declared.declarations.Declarations.{Declarations}
+use Rattle.fvn_terms.specs.Term.{Term, Terms, var, app, none, more, nodes}
+use Rattle.fvn_terms.specs.Substitution.{Substitution, Occurs}
+use Rattle.fvn_terms.specs.Unifiers.{IsUnifier, IsInstance}
+
+-- the sort, and its kind
+abbrev pub the_sort : SortId
+the_sort = record { 0 = 0 }
+
+abbrev pub the_kind : SortId
+the_kind = record { 0 = 1 }
+
+-- without axioms, and declared once, on the sort alone
+pub record IsPlainOperator (o : OpDecl) : Type 0 where
+  pub axioms : o.axioms ≡ Free
+  pub rank : Rank
+  pub once : o.ranks ≡ rank ∷ []
+  pub args : All (λ s. s ≡ the_sort) rank.args
+  pub result : rank.result ≡ the_sort
+
+-- one sort, and plain operators
+pub record IsFirstForm (d : Declarations) : Type 0 where
+  pub sorts : d.sorts ≡ 1
+  pub kinds : d.kinds ≡ the_kind ∷ the_kind ∷ []
+  pub below : d.below ≡ []
+  pub operators : All IsPlainOperator d.ops
+
+-- vars has each variable of the two terms once, and no other
+pub record ListsVariables (vars : List Var) (left right : Term) : Type 0 where
+  pub each_once : AllPairs ◌≢◌ vars
+  pub complete : (x : Var) → Occurs x left ⊎ Occurs x right → Contains vars x
+  pub occurring : (x : Var) → Contains vars x → Occurs x left ⊎ Occurs x right
+  pub sorts : All (λ x. x.sort ≡ the_sort) vars
+  pub named : All (λ x. x.fresh ≡ false) vars
+
+-- s makes the two terms equal, and every substitution that does is on vars an instance of s
+pub record IsMostGeneral (d : Declarations) (vars : List Var) (left right : Term) (s : Substitution) : Type 0 where
+  pub unifier : IsUnifier d ((left, right) ∷ []) s
+  pub general : (u : Substitution) → IsUnifier d ((left, right) ∷ []) u → IsInstance d vars u s
+
+abbrev pub HasNoUnifier : Declarations → Term → Term → Type 0
+HasNoUnifier d left right = (u : Substitution) → IsUnifier d ((left, right) ∷ []) u → ⊥
+
+-- some most general unifier gives some variable of vars a term of more than limit nodes
+pub record IsTooLarge (d : Declarations) (vars : List Var) (left right : Term) (limit : ℕ) : Type 0 where
+  pub by : Substitution
+  pub most_general : IsMostGeneral d vars left right by
+  pub variable : Var
+  pub listed : Contains vars variable
+  pub large : limit < nodes (by variable)
+
+-- the occurrences of variables from left to right
+abbrev mutual
+  pub variables_of : Term → List Var
+  variables_of (var x) = x ∷ []
+  variables_of (app f ts) = variables_among ts
+
+  pub variables_among : Terms → List Var
+  variables_among none = []
+  variables_among (more t ts) = variables_of t ++ variables_among ts
+
+-- the fresh variable of the sort with this number
+abbrev pub fresh : ℕ → Var
+fresh n = record { name = n; sort = the_sort; fresh = true }
+
+-- each is a fresh variable with a number from 1 below next, or the one with the number next, after which next is one more
+pub data AreNumberedFrom : ℕ → List Var → Type 0 where
+  no_more : {next : ℕ} → AreNumberedFrom next []
+  seen : {next n : ℕ} {xs : List Var} → 1 ≤ n → n < next → AreNumberedFrom next xs → AreNumberedFrom next (fresh n ∷ xs)
+  «new» : {next : ℕ} {xs : List Var} → AreNumberedFrom (next + 1) xs → AreNumberedFrom next (fresh next ∷ xs)
+
+-- fresh variables, numbered 1, 2, .. in the order in which they first occur
+abbrev pub AreNumbered : List Var → Type 0
+AreNumbered = AreNumberedFrom 1

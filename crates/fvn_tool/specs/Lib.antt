@@ -1,0 +1,14 @@
+pub mod Free
+pub mod FreeAnswer
+pub mod Lines
+pub mod Spellings
+pub mod Words
+pub mod Replies
+pub mod Outcomes
+pub mod Texts
+pub mod Claims
+pub mod FreeTable
+pub mod FreeClasses
+pub mod FreeCompared
+pub mod FreeValues
+pub mod FreeNumbering

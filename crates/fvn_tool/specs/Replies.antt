@@ -1,0 +1,104 @@
+-- What the program replies to a module's text and a problem's text.
+use Rattle.std.specs.Prelude.{◌≡◌, ◌≤◌, ℕ, List, [], ◌∷◌, ◌++◌, codes, decimal, map, All}
+use Rattle.fvn_terms.specs.Term.{Term, nodes, pack}
+use Rattle.fvn_terms.specs.Plain.{term}
+use Rattle.fvn_terms.specs.Substitution.{Substitution}
+use Rattle.fvn_terms.specs.Unifiers.{IsUnifier, IsInstance}
+use Rattle.fvn_module.specs.declared.first.module_text.FirstModule.{FirstModule}
+use Rattle.fvn_module.specs.declared.first.problem_text.FirstProblem.{FirstProblem}
+use Rattle.fvn_module.specs.ModuleText.{IsModuleText}
+use Rattle.fvn_module.specs.ProblemText.{IsProblemText}
+use Rattle.fvn_tool.specs.declared.status.Status.{Status}
+use Rattle.fvn_tool.specs.declared.status.Status.TheVariants.{Solved, Nothing, ModuleRefused, ProblemRefused, Ended}
+use Rattle.fvn_tool.specs.Lines.{unifier_line}
+use Rattle.fvn_tool.specs.Spellings.{spelling}
+use Rattle.fvn_tool.specs.Free.{IsMostGeneral, HasNoUnifier, IsTooLarge, AreNumbered, variables_among}
+
+-- a line ends with a line feed
+abbrev pub line : List ℕ → List ℕ
+line text = text ++ 10 ∷ []
+
+abbrev pub lines : List (List ℕ) → List ℕ
+lines [] = []
+lines (text ∷ texts) = line text ++ lines texts
+
+-- how an answer ends: all was found, with so many lines; or a term would have had over 1,000 symbols
+pub data End : Type 0 where
+  complete : ℕ → End
+  bound_size : End
+
+abbrev pub end_text : End → List ℕ
+end_text (complete n) = codes "complete " ++ decimal n
+end_text bound_size = codes "bound size 1000"
+
+-- the lines of an answer, and then its end line
+abbrev pub answer_text : List (List ℕ) → End → List ℕ
+answer_text texts end = lines texts ++ line (end_text end)
+
+-- the lines of refusals
+abbrev pub no_module_line : List ℕ
+no_module_line = line (codes "module 8 statement 0 later")
+
+abbrev pub no_problem_line : List ℕ
+no_problem_line = line (codes "problem 2")
+
+-- the most symbols of a term in an answer
+abbrev pub size_limit : ℕ
+size_limit = 1000
+
+-- What a module and a problem ask: the most general unifiers of the two sides.
+module _ (scope : FirstModule) (problem : FirstProblem) where
+  abbrev pub left : Term
+  left = term problem.left
+
+  abbrev pub right : Term
+  right = term problem.right
+
+  -- s makes the two sides equal
+  abbrev pub Unifies : Substitution → Type 0
+  Unifies = IsUnifier scope.declarations ((left, right) ∷ [])
+
+  -- on the problem's variables, s is an instance of c
+  abbrev pub IsInstanceOf : Substitution → Substitution → Type 0
+  IsInstanceOf = IsInstance scope.declarations problem.vars
+
+  abbrev pub CannotBeUnified : Type 0
+  CannotBeUnified = HasNoUnifier scope.declarations left right
+
+  -- a most general unifier gives some variable of the problem a term of over 1,000 symbols
+  abbrev pub ExceedsSize : Type 0
+  ExceedsSize = IsTooLarge scope.declarations problem.vars left right size_limit
+
+  -- the line of a substitution on the problem's variables
+  abbrev pub line_of : Substitution → List ℕ
+  line_of = unifier_line (spelling scope.names problem.names) problem.vars
+
+  -- The substitution is a most general unifier whose terms are within the limit,
+  -- with new variables numbered 1, 2, .. as they first occur along its line.
+  pub record IsPrintable (s : Substitution) : Type 0 where
+    pub most_general : IsMostGeneral scope.declarations problem.vars left right s
+    pub within : All (λ x. nodes (s x) ≤ size_limit) problem.vars
+    pub numbered : AreNumbered (variables_among (pack (map s problem.vars)))
+
+  -- this status with this text answers
+  pub data IsAnswer : Status → List ℕ → Type 0 where
+    unified : {text : List ℕ} (s : Substitution) → IsPrintable s → text ≡ answer_text (line_of s ∷ []) (complete 1) → IsAnswer Solved text
+    not_unified : {text : List ℕ} → CannotBeUnified → text ≡ answer_text [] (complete 0) → IsAnswer Nothing text
+    too_large : {text : List ℕ} → ExceedsSize → text ≡ answer_text [] bound_size → IsAnswer Ended text
+
+-- some word asks the problem in the module
+abbrev pub IsProblem : FirstModule → FirstProblem → Type 0
+IsProblem scope problem = (word : List ℕ) × IsProblemText scope word problem
+
+-- no module is declared by the bytes; in a module no problem by the word
+abbrev pub DeclareNoModule : List ℕ → Type 0
+DeclareNoModule bytes = (scope : FirstModule) → IsModuleText bytes scope → ⊥
+
+abbrev pub AsksNothing : FirstModule → List ℕ → Type 0
+AsksNothing scope word = (problem : FirstProblem) → IsProblemText scope word problem → ⊥
+
+-- this status with this text replies to the bytes of a module and the word of a problem
+pub data IsReply (bytes word : List ℕ) : Status → List ℕ → Type 0 where
+  no_module : {text : List ℕ} → DeclareNoModule bytes → text ≡ no_module_line → IsReply bytes word ModuleRefused text
+  no_problem : {text : List ℕ} (scope : FirstModule) → IsModuleText bytes scope → AsksNothing scope word → text ≡ no_problem_line → IsReply bytes word ProblemRefused text
+  answered : {status : Status} {text : List ℕ} (scope : FirstModule) (problem : FirstProblem) → IsModuleText bytes scope → IsProblemText scope word problem → IsAnswer scope problem status text → IsReply bytes word status text

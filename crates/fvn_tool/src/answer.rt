@@ -1,0 +1,144 @@
+//! The answer to the text of a module and the text of a problem.
+ghost use Rattle.std.specs.Prelude.{◌≡◌, ◌∷◌, [], map, IfOk};
+ghost use Rattle.fvn_terms.specs.Plain.{term};
+ghost use Rattle.fvn_module.specs.ModuleText.{IsModule};
+ghost use Rattle.fvn_tool.specs.Lines.{bindings_line};
+ghost use Rattle.fvn_tool.specs.Spellings.{spelling};
+ghost use Rattle.fvn_tool.specs.Replies.{IsReply, IsAnswer, IsProblem, answer_text, complete};
+ghost use Rattle.fvn_tool.specs.Outcomes.{usage_line, too_long_line};
+ghost use Rattle.fvn_tool.specs.Texts.{bytes_of};
+
+use crate::free::{Unified, unify};
+use crate::lines::push_unifier;
+use crate::status::Status;
+use fvn_module::first::{
+    FirstFault, FirstModule, FirstProblem, Names, VarNames, modules_are_first, problems_are_first,
+    read_module, read_problem,
+};
+use fvn_terms::{NoMemory, PlainSubst};
+use std::alloc::Global;
+
+/// The most symbols of a term in an answer.
+const SIZE_LIMIT: u64 = 1000;
+
+/// A text that is written as it stands in the program, or one that was made.
+#[derive(Drop)]
+pub(crate) enum Text {
+    Fixed(&'static [u8]),
+    Made(Vec<u8>),
+}
+
+/// A status, and the text that goes with it.
+#[derive(Drop)]
+pub(crate) struct Answer {
+    pub(crate) status: Status,
+    pub(crate) text: Text,
+}
+
+impl Text {
+    /// The bytes of the text.
+    pub(crate) fn as_slice(&self) -> &[u8]
+        ensures { result.now ≡ bytes_of self.now }
+    {
+        match self {
+            Text::Fixed(bytes) => bytes,
+            Text::Made(bytes) => bytes.as_slice(),
+        }
+    }
+}
+
+fn fixed(status: Status, text: &'static [u8]) -> Answer
+    ensures status { result.status ≡ status }
+    ensures text { bytes_of result.text ≡ text.now }
+{
+    Answer {
+        status,
+        text: Text::Fixed(text),
+    }
+}
+
+impl Answer {
+    /// The usage line, for words that are no command.
+    pub(crate) fn usage() -> Answer
+        ensures status { result.status ≡ Status.Usage }
+        ensures text { bytes_of result.text ≡ usage_line }
+    {
+        fixed(
+            Status::Usage,
+            b"usage: fvn check|unify|variants|vunify|verify|work\n",
+        )
+    }
+
+    /// The refusal of a module whose text is too long.
+    pub(crate) fn too_long() -> Answer
+        ensures status { result.status ≡ Status.ModuleRefused }
+        ensures text { bytes_of result.text ≡ too_long_line }
+    {
+        fixed(Status::ModuleRefused, b"module 14\n")
+    }
+}
+
+// The text of an answer with one line, that of a unifier.
+fn solved_text(
+    alloc: Global,
+    names: &Names,
+    variables: &VarNames,
+    unifier: &PlainSubst,
+) -> Result<Vec<u8>, NoMemory>
+    ensures { IfOk result (λ text. text.items ≡ answer_text (bindings_line (spelling names.now variables.now) (map (λ p. (p.0, term p.1)) unifier.now.pairs) ∷ []) (complete 1)) }
+{
+    let mut text = Vec::new(alloc);
+    push_unifier(names, variables, &mut text, unifier.pairs.as_slice())?;
+    text.extend_from_slice(b"\ncomplete 1\n")?;
+    Ok(text)
+}
+
+// The answer to a problem.
+fn solve(alloc: Global, scope: &FirstModule, problem: &FirstProblem) -> Result<Answer, NoMemory>
+    requires module_text { IsModule scope.now }
+    requires problem_text { IsProblem scope.now problem.now }
+    ensures { IfOk result (λ a. IsAnswer scope.now problem.now a.status (bytes_of a.text)) }
+{
+    modules_are_first();
+    problems_are_first();
+    let vars = problem.vars.as_slice();
+    match unify(
+        alloc,
+        &scope.declarations,
+        &problem.left,
+        &problem.right,
+        vars,
+        SIZE_LIMIT,
+    )? {
+        Unified::MostGeneral(unifier) => {
+            let text = solved_text(alloc, &scope.names, &problem.names, &unifier)?;
+            Ok(Answer {
+                status: Status::Solved,
+                text: Text::Made(text),
+            })
+        }
+        Unified::NoUnifier => Ok(fixed(Status::Nothing, b"complete 0\n")),
+        Unified::TooLarge => Ok(fixed(Status::Ended, b"bound size 1000\n")),
+    }
+}
+
+/// What is replied to the text of a module and the text of a problem.
+pub(crate) fn reply(alloc: Global, bytes: &[u8], word: &[u8]) -> Result<Answer, NoMemory>
+    ensures { IfOk result (λ a. IsReply bytes.now word.now a.status (bytes_of a.text)) }
+{
+    let scope = match read_module(alloc, bytes) {
+        Ok(scope) => scope,
+        Err(FirstFault::NoMemory) => return Err(NoMemory),
+        Err(FirstFault::NotOfForm) => {
+            return Ok(fixed(Status::ModuleRefused, b"module 8 statement 0 later\n"));
+        }
+    };
+    match read_problem(alloc, &scope, word) {
+        Ok(problem) => {
+            let answer = solve(alloc, &scope, &problem)?;
+            Ok(answer)
+        }
+        Err(FirstFault::NoMemory) => Err(NoMemory),
+        Err(FirstFault::NotOfForm) => Ok(fixed(Status::ProblemRefused, b"problem 2\n")),
+    }
+}

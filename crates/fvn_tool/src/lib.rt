@@ -1,0 +1,12 @@
+//! The top call: all that the program does, from the words of the command line to the bytes that it writes.
+#![tactic(auto)]
+
+mod answer;
+mod free;
+mod lines;
+mod status;
+mod top;
+mod words;
+
+pub use status::Status;
+pub use top::run;
