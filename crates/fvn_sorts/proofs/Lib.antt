@@ -1,0 +1,11 @@
+pub mod Closures
+pub mod Parts
+pub mod CompletedKinds
+pub mod Orders
+pub mod Serving
+pub mod ShapeLemmas
+pub mod LowestResults
+pub mod FaultOrder
+pub mod ResultLemmas
+pub mod GoodFrom
+pub mod SortLemmas

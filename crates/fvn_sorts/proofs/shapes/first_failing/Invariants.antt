@@ -1,0 +1,8 @@
+use Rattle.std.proofs.Common.{◌<◌}
+use Rattle.fvn_terms.specs.declared.plain.OpId.{OpId}
+use Rattle.fvn_sorts.specs.Faults.{HasFault, fault_at}
+use Rattle.fvn_sorts.proofs.shapes.first_failing.Given as goal
+
+-- no operator so far fails
+abbrev pub invariant-loop-op : goal.invariant-loop-op
+invariant-loop-op l = (g : OpId) → g.0 < l.op → HasFault l.collected (fault_at l.condition g) → ⊥

@@ -1,0 +1,6 @@
+pub mod Collected
+pub mod Faults
+pub mod Words
+pub mod Drafts
+pub mod Queries
+pub mod Searches
