@@ -1,17 +1,17 @@
 -- The points with which a row is searched generate what it needs.
-use Rattle.std.proofs.Common.{◌≡◌, ◌≢◌, ℕ, zero, suc, ◌+◌, ◌<◌, ◌≤◌, ◌⊎◌, ◌↔◌, ℤ, pos, List, [], ◌∷◌, ◌++◌, length, get_or, take, set, replicate, sum, refl, sym, ap, ◌∙◌, subst, inl, inr, arith}
+use Rattle.std.proofs.Common.{Some, ◌≡◌, ◌≢◌, ℕ, zero, suc, ◌+◌, ◌<◌, ◌≤◌, ◌⊎◌, ◌↔◌, ℤ, pos, List, [], ◌∷◌, ◌++◌, length, get_or, take, set, replicate, sum, refl, sym, ap, ◌∙◌, subst, inl, inr, arith}
 use Rattle.smallvec.specs.SmallVec.{SmallVec}
 use Rattle.std.specs.List.{All, Contains}
-use Rattle.std.proofs.lemmas.List.{get_or_append_left, get_or_at, get_or-set_other, get_or_past, length_push, length-set, length-replicate}
-use Rattle.std.proofs.lemmas.List.Elements.{All-nil, All-cons, All-head, All-tail, All-append, All-set, All-replicate, All-contains}
+use Rattle.std.proofs.lemmas.List.{get_or-set_other, get_or_past, length-set, length-replicate}
+use Rattle.std.proofs.lemmas.List.Elements.{All-nil, All-cons, All-head, All-tail, All-push, All-pop, All-set, All-replicate, All-contains}
 use Rattle.std.proofs.lemmas.Bool.{cases_lt}
 use Rattle.fvn_lindio.specs.Vectors.{IsAtOrBelow, IsNonZero}
-use Rattle.fvn_lindio.specs.Systems.{above, below, up, down, IsZeroAt, IsUnused, Solves, IsMinimal}
+use Rattle.fvn_lindio.specs.Systems.{above, below, IsZeroAt, IsUnused, Solves, IsMinimal}
 use Rattle.fvn_lindio.specs.Search.{Lies}
 use Rattle.fvn_lindio.specs.Levels.{Generates}
 use Rattle.fvn_lindio.specs.Generators.{Adds, IsValued, Values, IsNewUnit, IsNewUnitBelow, vectors_in}
 use Rattle.fvn_lindio.specs.declared.level.Point.{Point}
-use Rattle.fvn_lindio.proofs.VectorLemmas.{sum-cons, up-zero, down-zero}
+use Rattle.fvn_lindio.proofs.VectorLemmas.{sum-cons, sides-zero}
 use Rattle.fvn_lindio.proofs.ValueLemmas.{zero-both}
 use Rattle.fvn_lindio.proofs.Solving.{minimal_below}
 use Rattle.fvn_lindio.proofs.LevelLemmas.{pushed_old, pushed_new, pushed_cases}
@@ -88,19 +88,15 @@ length-unit n j = length-set (replicate n 0) j 1 ∙ length-replicate n 0
 get_or-unit_other : (n j k : ℕ) → k ≢ j → get_or (unit_of n j) k 0 ≡ 0
 get_or-unit_other n j k h = get_or-set_other (replicate n 0) j k 1 0 h ∙ get_or-zeros n k
 
-up-unit : (row : List ℤ) (j : ℕ) → j < length row → up row (unit_of (length row) j) ≡ above (get_or row j (pos 0))
-up-unit [] j h = absurd (omega arith)
-up-unit (c ∷ row) zero h = omega (arith, up-zero row (replicate (length row) 0) (sum-zeros (length row)))
-up-unit (c ∷ row) (suc j) h =
+-- a row that does not use the column is zero at its unit
+zero_at_unit : (row : List ℤ) (j : ℕ) → j < length row → get_or row j (pos 0) ≡ pos 0 → IsZeroAt (unit_of (length row) j) row
+zero_at_unit [] j h z = refl
+zero_at_unit (c ∷ row) zero h z =
+    let r = sides-zero row (replicate (length row) 0) (sum-zeros (length row)) in
+    omega (arith, ap above z, ap below z, r.0, r.1)
+zero_at_unit (c ∷ row) (suc j) h z =
     let l : j < length row = omega arith in
-    omega (arith, up-unit row j l)
-
-down-unit : (row : List ℤ) (j : ℕ) → j < length row → down row (unit_of (length row) j) ≡ below (get_or row j (pos 0))
-down-unit [] j h = absurd (omega arith)
-down-unit (c ∷ row) zero h = omega (arith, down-zero row (replicate (length row) 0) (sum-zeros (length row)))
-down-unit (c ∷ row) (suc j) h =
-    let l : j < length row = omega arith in
-    omega (arith, down-unit row j l)
+    omega (arith, zero_at_unit row j l z)
 
 zeros_below : (z : List ℕ) → IsAtOrBelow (replicate (length z) 0) z
 zeros_below [] = tt
@@ -121,7 +117,8 @@ zero_told z = go (cases_lt 0 (above z)) (cases_lt 0 (below z))
     go (inr h) (inl k) = inr (λ e. let f : below z ≡ 0 = ap below e in omega (arith, f, k))
     go (inr h) (inr k) = inl (zero-both z (omega arith) (omega arith))
 
-abbrev ZeroIn : ℕ → List ℤ → Type 0
+-- the row does not use column j
+abbrev pub ZeroIn : ℕ → List ℤ → Type 0
 ZeroIn j row = get_or row j (pos 0) ≡ pos 0
 
 unused_told : (rows : List (List ℤ)) (j : ℕ) → IsUnused rows j ⊎ (IsUnused rows j → ⊥)
@@ -168,13 +165,10 @@ module _ (columns : ℕ) (before : List (List ℤ)) (row : List ℤ) (known : Li
 
   -- a column that no row uses is used by none before, and not by this one
   unused_before : (j : ℕ) → IsUnused whole j → IsUnused before j × (get_or row j (pos 0) ≡ pos 0)
-  unused_before j h = (
-    λ i d l. subst (ZeroIn j) (get_or_append_left before (row ∷ []) d i l) (h i d (omega (arith, l, length_push before row))),
-    subst (ZeroIn j) (get_or_at before row [] row (length before) refl) (h (length before) row (omega (arith, length_push before row))),
-  )
+  unused_before j h = All-pop (ZeroIn j) whole before (Some row) refl h
 
   unused_whole : (j : ℕ) → IsUnused before j → get_or row j (pos 0) ≡ pos 0 → IsUnused whole j
-  unused_whole j h e = All-append (ZeroIn j) before (row ∷ []) h (All-cons (ZeroIn j) row [] e (All-nil (ZeroIn j)))
+  unused_whole j h e = All-push (ZeroIn j) before row h e
 
   known_lies : (v : List ℕ) → IsMinimal columns before v → Lies columns before whole v
   known_lies v m =
@@ -189,11 +183,7 @@ module _ (columns : ℕ) (before : List (List ℤ)) (row : List ℤ) (known : Li
       }
     where
       zero_at : (r : List ℤ) → length r ≡ columns → ZeroIn j r → IsZeroAt (unit_of columns j) r
-      zero_at r e z =
-          let b : j < length r = omega (arith, e, l) in
-          let ups : up r (unit_of columns j) ≡ above (get_or r j (pos 0)) = subst (λ c. up r (unit_of c j) ≡ above (get_or r j (pos 0))) e (up-unit r j b) in
-          let downs : down r (unit_of columns j) ≡ below (get_or r j (pos 0)) = subst (λ c. down r (unit_of c j) ≡ below (get_or r j (pos 0))) e (down-unit r j b) in
-          ups ∙ (ap above z ∙ sym (downs ∙ ap below z))
+      zero_at r e z = subst (λ c. IsZeroAt (unit_of c j) r) e (zero_at_unit r j (omega (arith, e, l)) z)
 
   abbrev Kind : List ℕ → Type 0
   Kind v = Contains known v ⊎ IsNewUnitBelow columns before row columns v
@@ -224,7 +214,7 @@ module _ (columns : ℕ) (before : List (List ℤ)) (row : List ℤ) (known : Li
       from : (v : List ℕ) → Kind v → IsAtOrBelow v z → (g : Point) × Contains points g × IsAtOrBelow g.parts.items z
       from v k l = let r = stands v k in (r.0, r.1, subst (λ w. IsAtOrBelow w z) (sym r.2) l)
 
-      go : ((j : ℕ) × (j < columns) × IsUnused before j × (0 < get_or z j 0)) ⊎ ((j : ℕ) → j < columns → IsUnused before j → get_or z j 0 ≡ 0) → (g : Point) × Contains points g × IsAtOrBelow g.parts.items z
+      go : HasNew before z columns ⊎ HasNoNew before z columns → (g : Point) × Contains points g × IsAtOrBelow g.parts.items z
       go (inl (j, l, u, p)) =
           from (unit_of columns j) (inr (j, l, (u, (λ e. let f : get_or z j 0 ≡ 0 = h.unused j (unused_whole j u e) in omega (arith, f, p)), refl))) (subst (λ c. IsAtOrBelow (unit_of c j) z) h.sized (unit_below z j p))
       go (inr none) =

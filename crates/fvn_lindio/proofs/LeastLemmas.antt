@@ -3,7 +3,7 @@ use Rattle.std.proofs.Common.{◌≡◌, ℕ, ◌+◌, ◌-◌, ◌<◌, ◌≤�
 use Rattle.smallvec.specs.SmallVec.{SmallVec}
 use Rattle.std.specs.List.{All, AllPairs, Contains, insert}
 use Rattle.std.proofs.lemmas.List.{get_or_default, get_or-map, map-append, take-map, drop-map, take_all, take_more, take-append-drop}
-use Rattle.std.proofs.lemmas.List.Elements.{Contains-append_left}
+use Rattle.std.proofs.lemmas.List.Elements.{Contains-append_left, Contains-get_or}
 use Rattle.std.specs.Prelude.{Bool, false, IsTrue}
 use Rattle.std.proofs.lemmas.List.Edits.{length-insert, get_or-insert_below, get_or-insert_at, get_or-insert_above}
 use Rattle.std.proofs.lemmas.Bool.{cases_lt, cases_order}
@@ -202,7 +202,7 @@ kept_all points i list l kept = subst (λ ps. (w : List ℕ) → Contains (vecto
 pub kept_sized : (points : List Point) (i : ℕ) (p : Point) (list : List (SmallVec ℕ)) → IsUniform points → Contains points p → Kept points i list → All (λ w. length w ≡ length p.parts.items) (vectors_in list)
 kept_sized points i p list uniform m kept k d l =
     let w = get_or (vectors_in list) k d in
-    let r = (kept w).0 (k, l, get_or_default (vectors_in list) k w d l) in
+    let r = (kept w).0 (Contains-get_or (vectors_in list) k d l) in
     let q = r.0.0 in
     let member : Contains points q = in_take points i q r.0.1 in
     ap length (sym r.0.2) ∙ uniform q p member m

@@ -2,8 +2,8 @@
 use Rattle.std.proofs.Common.{◌≡◌, ◌≢◌, ℕ, ◌+◌, ◌<◌, ◌⊎◌, pos, ◌+ℤ◌, List, [], ◌∷◌, ◌++◌, length, get_or, take, ◌≤◌, refl, sym, ap, ◌∙◌, subst, inl, inr, arith}
 use Rattle.std.specs.List.{All, AllPairs, Contains}
 use Rattle.std.proofs.lemmas.List.Quantifiers.{all_pairs_push}
-use Rattle.std.proofs.lemmas.List.{take_more, take_all, get_or_default}
-use Rattle.std.proofs.lemmas.List.Elements.{Contains-push, Contains-append_left, Contains-push_cases}
+use Rattle.std.proofs.lemmas.List.{take_more, take_all}
+use Rattle.std.proofs.lemmas.List.Elements.{Contains-push, Contains-get_or, Contains-append_left, Contains-push_cases}
 use Rattle.fvn_lindio.specs.Vectors.{add}
 use Rattle.fvn_lindio.specs.Search.{IsOpposite}
 use Rattle.fvn_lindio.specs.Levels.{CanAdd, IsOnce, IsCovered, Grows, GrowsAnew, IsThis, IsAt, IsStepBy, IsStep, IsStepFrom, CoversSteps, CoversStepsFrom}
@@ -87,19 +87,6 @@ Grows-refl P a =
 pub covered_at : (level : Level) (xs : List Point) (v w : List ℕ) → xs ≡ level.ahead.items → v ≡ w → ((p : Point) × Contains xs p × (p.parts.items ≡ v)) → IsCovered level w
 covered_at level xs v w e f h = inr (h.0, subst (λ ps. Contains ps h.0) e h.1, h.2 ∙ f)
 
-module _ {X : Type 0} (P : X → Type 0) where
-  -- a loop that has met none with the property, one step on
-  pub none_more : (xs : List X) (i : ℕ) (x : X) → i < length xs → x ≡ get_or xs i x → (P x → ⊥) → ((y : X) → Contains (take i xs) y → P y → ⊥) → (y : X) → Contains (take (i + 1) xs) y → P y → ⊥
-  none_more xs i x l e here before y h p = split (pushed_cases (take i xs) (take (i + 1) xs) x y (take_more xs i x l ∙ ap (λ z. take i xs ++ (z ∷ [])) (sym e)) h) p
-    where
-      split : Contains (take i xs) y ⊎ (x ≡ y) → P y → ⊥
-      split (inl k) q = before y k q
-      split (inr g) q = here (subst P (sym g) q)
-
-  -- and at the end
-  pub none_all : (xs : List X) (i : ℕ) → length xs ≤ i → ((y : X) → Contains (take i xs) y → P y → ⊥) → (y : X) → Contains xs y → P y → ⊥
-  none_all xs i l none y h p = none y (subst (λ z. Contains z y) (sym (take_all i xs l)) h) p
-
 module _ {X : Type 0} (Q : X → Type 0) where
   -- what holds of each so far and of this one
   pub each_more : (xs : List X) (i : ℕ) (x : X) → i < length xs → x ≡ get_or xs i x → Q x → ((y : X) → Contains (take i xs) y → Q y) → (y : X) → Contains (take (i + 1) xs) y → Q y
@@ -148,20 +135,17 @@ first_more gs g q i a b c l e p v h k here = (
 pub in_none : {X : Type 0} (xs : List X) (x : X) → xs ≡ [] → Contains xs x → ⊥
 in_none xs x e h = let l : length xs ≡ 0 = ap length e in omega (arith, h.1)
 
+-- where one of two is impossible, the other holds
+pub the_other : {A B : Type 0} → (A → ⊥) → A ⊎ B → B
+the_other never (inl a) = absurd (never a)
+the_other never (inr b) = b
+
 -- what stands in a level that grew from nothing
 pub grown_found : (P : Point → Type 0) (a b : Level) → a.found.items ≡ [] → Grows P a b → (p : Point) → Contains b.found.items p → P p × (p.value ≡ pos 0)
-grown_found P a b e g p h = go (g.found_is p h)
-  where
-    go : Contains a.found.items p ⊎ P p × (p.value ≡ pos 0) → P p × (p.value ≡ pos 0)
-    go (inl k) = absurd (in_none a.found.items p e k)
-    go (inr k) = k
+grown_found P a b e g p h = the_other (in_none a.found.items p e) (g.found_is p h)
 
 pub grown_ahead : (P : Point → Type 0) (a b : Level) → a.ahead.items ≡ [] → Grows P a b → (p : Point) → Contains b.ahead.items p → P p × (p.value ≢ pos 0)
-grown_ahead P a b e g p h = go (g.ahead_is p h)
-  where
-    go : Contains a.ahead.items p ⊎ P p × (p.value ≢ pos 0) → P p × (p.value ≢ pos 0)
-    go (inl k) = absurd (in_none a.ahead.items p e k)
-    go (inr k) = k
+grown_ahead P a b e g p h = the_other (in_none a.ahead.items p e) (g.ahead_is p h)
 
 -- a level that grew from the found ones alone
 pub anew : (P : Point → Type 0) (old a b : Level) → a.found.items ≡ old.found.items → a.ahead.items ≡ [] → Grows P a b → GrowsAnew P old b
@@ -183,7 +167,7 @@ can_add_read gs xs ys i x e l r h = subst (λ z. All (CanAdd z) gs) (sym r) (sub
 pub once_push : (old new : Level) (q : Point) → new.ahead.items ≡ old.ahead.items ++ (q ∷ []) → ((p : Point) → Contains old.ahead.items p → p.parts.items ≡ q.parts.items → ⊥) → IsOnce old → IsOnce new
 once_push old new q e fresh once =
     let R : Point → Point → Type 0 = λ p r. p.parts.items ≢ r.parts.items in
-    subst (AllPairs R) (sym e) (all_pairs_push R old.ahead.items q once (λ k d l f. fresh (get_or old.ahead.items k d) (k, l, get_or_default old.ahead.items k (get_or old.ahead.items k d) d l) f))
+    subst (AllPairs R) (sym e) (all_pairs_push R old.ahead.items q once (λ k d l f. fresh (get_or old.ahead.items k d) (Contains-get_or old.ahead.items k d l) f))
 
 pub once_none : (level : Level) → level.ahead.items ≡ [] → IsOnce level
 once_none level e = subst (AllPairs (λ p r. p.parts.items ≢ r.parts.items)) (sym e) (λ i j d l m. absurd (omega (arith, m)))

@@ -1,3 +1,4 @@
+-- Lemmas on vectors and rows, the search for minimal solutions and the prefixes that are refused.
 pub mod VectorLemmas
 pub mod Solving
 pub mod SumLemmas

@@ -14,11 +14,11 @@ module _ {X Y : Type 0} (f : X → Y) where
   pub all_mapped_all : (P : Y → Type 0) (xs : List X) (i : ℕ) → length xs ≤ i → All P (map f (take i xs)) → All P (map f xs)
   all_mapped_all P xs i l h = subst (λ z. All P (map f z)) (take_all i xs l) h
 
-  -- what holds of each holds of this one
-  pub all_mapped_at : (P : Y → Type 0) (xs : List X) (i : ℕ) (x : X) → i < length xs → x ≡ get_or xs i x → All P (map f xs) → P (f x)
-  all_mapped_at P xs i x l e h =
+  -- what holds of each holds of what is read of this one
+  pub all_mapped_at : (P : Y → Type 0) (xs : List X) (i : ℕ) (x : X) (y : Y) → i < length xs → x ≡ get_or xs i x → y ≡ f x → All P (map f xs) → P y
+  all_mapped_at P xs i x y l e read h =
       let n : i < length (map f xs) = omega (arith, length-map xs f) in
-      subst P (get_or-map f xs i x (f x) l ∙ ap f (sym e)) (h i (f x) n)
+      subst P (get_or-map f xs i x y l ∙ (ap f (sym e) ∙ sym read)) (h i y n)
 
   pub mapped_member_old : (xs : List X) (i : ℕ) (x : X) (y : Y) → i < length xs → x ≡ get_or xs i x → Contains (map f (take i xs)) y → Contains (map f (take (i + 1) xs)) y
   mapped_member_old xs i x y l e h = subst (λ z. Contains z y) (sym (mapped_more xs i x l e)) (Contains-append_left (map f (take i xs)) (f x ∷ []) y h)

@@ -2,6 +2,7 @@
 use Rattle.std.proofs.Common.{◌≡◌, ◌≢◌, ℕ, zero, suc, ◌+◌, ◌<◌, ◌≤◌, ◌⊎◌, inl, inr, List, [], ◌∷◌, length, get_or, refl, sym, ap, ◌∙◌, subst, arith}
 use Rattle.std.specs.List.{AllPairs, Contains}
 use Rattle.std.proofs.lemmas.List.{get_or_default}
+use Rattle.std.proofs.lemmas.List.Elements.{Contains-get_or}
 use Rattle.std.proofs.lemmas.Bool.{cases_lt}
 
 module _ {X : Type 0} where
@@ -50,7 +51,7 @@ module _ {X : Type 0} where
   AllPairs-cons x xs h n i zero d l m = absurd (omega (arith, l))
   AllPairs-cons x xs h n zero (suc j) d l m =
       let b : j < length xs = omega (arith, m) in
-      λ e. n (get_or xs j d) (j, b, get_or_default xs j (get_or xs j d) d b) e
+      λ e. n (get_or xs j d) (Contains-get_or xs j d b) e
   AllPairs-cons x xs h n (suc i) (suc j) d l m = h i j d (omega (arith, l)) (omega (arith, m))
 
   pub Contains-cons_cases : (P : X → Type 0) (x : X) (xs : List X) → P x → ((y : X) → Contains xs y → P y) → (y : X) → Contains (x ∷ xs) y → P y

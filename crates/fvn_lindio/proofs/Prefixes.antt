@@ -1,8 +1,8 @@
 -- Prefixes of the rows: what is known of those done, and which one is refused first.
 use Rattle.std.proofs.Common.{◌≡◌, ◌≢◌, ℕ, suc, ◌+◌, ◌<◌, ◌≤◌, ◌⊎◌, ◌↔◌, ℤ, List, [], ◌∷◌, length, get_or, take, sum, refl, sym, ◌∙◌, subst, inl, inr, arith}
 use Rattle.std.specs.List.{All, AllPairs, Any, Contains}
-use Rattle.std.proofs.lemmas.List.{get_or_default, get_or-take, length-take-le}
-use Rattle.std.proofs.lemmas.List.Elements.{All-contains}
+use Rattle.std.proofs.lemmas.List.{get_or-take, length-take-le}
+use Rattle.std.proofs.lemmas.List.Elements.{All-contains, Contains-get_or}
 use Rattle.std.proofs.lemmas.Bool.{cases_lt, cases_order}
 use Rattle.fvn_lindio.specs.Vectors.{IsBefore}
 use Rattle.fvn_lindio.specs.Systems.{IsMinimal}
@@ -10,6 +10,15 @@ use Rattle.fvn_lindio.specs.Refusals.{HasTooMany, HasTooWide, NoneShorter, IsToo
 use Rattle.fvn_lindio.proofs.VectorLemmas.{sum-cons}
 use Rattle.fvn_lindio.proofs.Pigeonhole.{length-le_within}
 use Rattle.fvn_lindio.proofs.LeastLemmas.{before_irrefl}
+
+-- a property has one first place
+one_first : (P : ℕ → Type 0) (j k : ℕ) → P j → P k → ((i : ℕ) → i < j → P i → ⊥) → ((i : ℕ) → i < k → P i → ⊥) → j ≡ k
+one_first P j k p q before_j before_k = go (cases_order j k)
+  where
+    go : (j ≡ k) ⊎ ((j < k) ⊎ (k < j)) → j ≡ k
+    go (inl e) = e
+    go (inr (inl l)) = absurd (before_k j l p)
+    go (inr (inr l)) = absurd (before_j k l q)
 
 module _ (columns : ℕ) (rows : List (List ℤ)) (most : ℕ) where
   -- the list is that of the minimal solutions of the first k rows
@@ -23,6 +32,12 @@ module _ (columns : ℕ) (rows : List (List ℤ)) (most : ℕ) where
     pub narrow : All (All (λ a. a ≤ 65535)) list
     pub first : NoneShorter columns rows most (k + 1)
 
+  -- the list is that of the rows with row k, and none of the prefixes before is refused
+  pub record IsReached (k : ℕ) (list : List (List ℕ)) : Type 0 where
+    pub within : k < length rows
+    pub basis : IsBasis (k + 1) list
+    pub first : NoneShorter columns rows most (k + 1)
+
   apart : (list : List (List ℕ)) → AllPairs IsBefore list → AllPairs ◌≢◌ list
   apart list h i j d l m e = before_irrefl (get_or list j d) (subst (λ v. IsBefore v (get_or list j d)) e (h i j d l m))
 
@@ -34,7 +49,7 @@ module _ (columns : ℕ) (rows : List (List ℤ)) (most : ℕ) where
         list = take (most + 1) list;
         one_more = count;
         apart = λ i j d p q. let b : j < most + 1 = omega (arith, q, count) in let a : i < most + 1 = omega (arith, b, p) in λ e. apart list h.ordered i j d p (omega arith) (sym (get_or-take (most + 1) list i d a) ∙ (e ∙ get_or-take (most + 1) list j d b));
-        minimal = λ i d p. let b : i < most + 1 = omega (arith, p, count) in subst (IsMinimal columns (take k rows)) (sym (get_or-take (most + 1) list i d b)) ((h.exact (get_or list i d)).0 (i, omega arith, get_or_default list i (get_or list i d) d (omega arith)));
+        minimal = λ i d p. let b : i < most + 1 = omega (arith, p, count) in subst (IsMinimal columns (take k rows)) (sym (get_or-take (most + 1) list i d b)) ((h.exact (get_or list i d)).0 (Contains-get_or list i d (omega arith)));
       }
     where
       count : length (take (most + 1) list) ≡ most + 1
@@ -67,20 +82,10 @@ module _ (columns : ℕ) (rows : List (List ℤ)) (most : ℕ) where
           subst (λ n. (HasTooMany columns rows most n → ⊥) × (HasTooWide columns rows n → ⊥)) e (m, w)
 
   pub same_many : (j k : ℕ) → IsTooMany columns rows most j → IsTooMany columns rows most k → j ≡ k
-  same_many j k h g = go (cases_order j k)
-    where
-      go : (j ≡ k) ⊎ ((j < k) ⊎ (k < j)) → j ≡ k
-      go (inl e) = e
-      go (inr (inl l)) = absurd ((g.first j l).0 h.many)
-      go (inr (inr l)) = absurd ((h.first k l).0 g.many)
+  same_many j k h g = one_first (HasTooMany columns rows most) j k h.many g.many (λ i l. (h.first i l).0) (λ i l. (g.first i l).0)
 
   pub same_wide : (j k : ℕ) → IsTooWide columns rows most j → IsTooWide columns rows most k → j ≡ k
-  same_wide j k h g = go (cases_order j k)
-    where
-      go : (j ≡ k) ⊎ ((j < k) ⊎ (k < j)) → j ≡ k
-      go (inl e) = e
-      go (inr (inl l)) = absurd ((g.first j l).1 h.wide)
-      go (inr (inr l)) = absurd ((h.first k l).1 g.wide)
+  same_wide j k h g = one_first (HasTooWide columns rows) j k h.wide g.wide (λ i l. (h.first i l).1) (λ i l. (g.first i l).1)
 
   pub not_both : (j k : ℕ) → IsTooMany columns rows most j → IsTooWide columns rows most k → ⊥
   not_both j k h g = go (cases_order j k)
@@ -117,14 +122,25 @@ module _ (columns : ℕ) (rows : List (List ℤ)) (most : ℕ) where
       none : IsBasis 0 []
       none = record { exact = λ v. (λ m. absurd (omega (arith, m.1)), λ m. absurd (no_solution v m)); ordered = λ i j d l m. absurd (omega (arith, m)) }
 
-  -- one row more
-  module _ (k : ℕ) (list : List (List ℕ)) (within : k < length rows) (basis : IsBasis (k + 1) list) (first : NoneShorter columns rows most (k + 1)) where
-    pub refused_many : most < length list → IsTooMany columns rows most (k + 1)
-    refused_many l = record { within = omega arith; many = has_too_many (k + 1) list basis l; first = first }
+-- one row more
+module _ {columns : ℕ} {rows : List (List ℤ)} {most k : ℕ} {list : List (List ℕ)} (reached : IsReached columns rows most k list) where
+  pub refused_many : most < length list → IsTooMany columns rows most (k + 1)
+  refused_many l = record { within = omega (arith, reached.within); many = has_too_many columns rows most (k + 1) list reached.basis l; first = reached.first }
 
-    pub refused_wide : length list ≤ most → ((v : List ℕ) × Contains list v × Any (λ a. 65535 < a) v) → IsTooWide columns rows most (k + 1)
-    refused_wide l w = record { within = omega arith; few = not_too_many (k + 1) list basis l; wide = has_too_wide (k + 1) list basis w; first = first }
+  pub refused_wide : length list ≤ most → ((v : List ℕ) × Contains list v × Any (λ a. 65535 < a) v) → IsTooWide columns rows most (k + 1)
+  refused_wide l w =
+      record {
+        within = omega (arith, reached.within);
+        few = not_too_many columns rows most (k + 1) list reached.basis l;
+        wide = has_too_wide columns rows most (k + 1) list reached.basis w;
+        first = reached.first;
+      }
 
-    pub done_more : length list ≤ most → All (All (λ a. a ≤ 65535)) list → IsDone (k + 1) list
-    done_more l narrow =
-        record { basis = basis; few = l; narrow = narrow; first = none_more (k + 1) first (not_too_many (k + 1) list basis l) (not_too_wide (k + 1) list basis narrow) }
+  pub done_more : length list ≤ most → All (All (λ a. a ≤ 65535)) list → IsDone columns rows most (k + 1) list
+  done_more l narrow =
+      record {
+        basis = reached.basis;
+        few = l;
+        narrow = narrow;
+        first = none_more columns rows most (k + 1) reached.first (not_too_many columns rows most (k + 1) list reached.basis l) (not_too_wide columns rows most (k + 1) list reached.basis narrow);
+      }

@@ -1,15 +1,14 @@
 -- The search for one more row: from a vector below a minimal solution a step leads on below it, and no such path is long.
-use Rattle.std.proofs.Common.{◌≡◌, ◌≢◌, ℕ, zero, suc, ◌+◌, ◌<◌, ◌≤◌, ◌⊎◌, ℤ, pos, ◌+ℤ◌, List, [], ◌∷◌, ◌++◌, length, get_or, sum, refl, sym, ap, ◌∙◌, subst, inl, inr, arith}
+use Rattle.std.proofs.Common.{Some, ◌≡◌, ◌≢◌, ℕ, zero, suc, ◌+◌, ◌<◌, ◌≤◌, ◌⊎◌, ℤ, pos, ◌+ℤ◌, List, [], ◌∷◌, ◌++◌, length, sum, refl, sym, ap, ◌∙◌, subst, inl, inr, arith}
 use Rattle.std.specs.List.{All, Contains}
-use Rattle.std.proofs.lemmas.List.Elements.{All-append, All-cons, All-nil, All-from_get_or}
-use Rattle.std.proofs.lemmas.List.{get_or_append_left, get_or_at, length_push}
+use Rattle.std.proofs.lemmas.List.Elements.{All-push, All-pop, All-from_get_or}
 use Rattle.std.proofs.lemmas.Bool.{cases_lt}
 use Rattle.fvn_lindio.specs.Vectors.{IsAtOrBelow, IsNonZero, add}
 use Rattle.fvn_lindio.specs.Systems.{above, below, up, down, IsZeroAt, Solves}
 use Rattle.fvn_lindio.specs.Search.{IsOpposite, Lies}
 use Rattle.fvn_lindio.specs.Levels.{IsPoint, Generates}
 use Rattle.fvn_lindio.specs.declared.level.Point.{Point}
-use Rattle.fvn_lindio.proofs.VectorLemmas.{length-add, sum-add, up-add, down-add, get_or-add, up-zero, down-zero, below_trans, below_length, add_below, difference}
+use Rattle.fvn_lindio.proofs.VectorLemmas.{length-add, sum-add, sides-add, get_or-add, sides-zero, below_trans, below_length, add_below, difference}
 use Rattle.fvn_lindio.proofs.ValueLemmas.{one_side, above-add, zero-both}
 use Rattle.fvn_lindio.proofs.Solving.{Lies-rest}
 
@@ -61,78 +60,76 @@ module _ (columns : ℕ) (before : List (List ℤ)) (row : List ℤ) where
   Solves-from_space x h e =
       record {
         sized = h.sized;
-        zero_rows = All-append (IsZeroAt x) before (row ∷ []) h.zero_rows (All-cons (IsZeroAt x) row [] e (All-nil (IsZeroAt x)));
+        zero_rows = All-push (IsZeroAt x) before row h.zero_rows e;
         unused = h.unused;
       }
 
   pub space_from_solves : (x : List ℕ) → Solves columns all x → Space x × (up row x ≡ down row x)
   space_from_solves x h =
-      (record { sized = h.sized; zero_rows = λ i d l. at_front i d l; unused = h.unused }, last)
-    where
-      at_front : (i : ℕ) (d : List ℤ) → i < length before → IsZeroAt x (get_or before i d)
-      at_front i d l = subst (IsZeroAt x) (get_or_append_left before (row ∷ []) d i l) (h.zero_rows i d (omega (arith, l, length_push before row)))
+      let rows = All-pop (IsZeroAt x) all before (Some row) refl h.zero_rows in
+      (record { sized = h.sized; zero_rows = rows.0; unused = h.unused }, rows.1)
 
-      last : up row x ≡ down row x
-      last = subst (IsZeroAt x) (get_or_at before row [] row (length before) refl) (h.zero_rows (length before) row (omega (arith, length_push before row)))
+  -- by how much a vector of the space exceeds one at or below it: this lies in the space too, and what rows and sums give subtracts
+  pub record Rest (x z : List ℕ) : Type 0 where
+    pub vector : List ℕ
+    pub sized : length x ≡ length vector
+    pub whole : add x vector ≡ z
+    pub lies : Space vector
+    pub under : IsAtOrBelow vector z
+    pub ups : up row x + up row vector ≡ up row z
+    pub downs : down row x + down row vector ≡ down row z
+    pub sums : sum x + sum vector ≡ sum z
+
+  pub rest_of : (x z : List ℕ) → Space x → Space z → IsAtOrBelow x z → Rest x z
+  rest_of x z h k l =
+      let d = difference x z l in
+      let e : add x d.0 ≡ z = d.2 in
+      let sides = sides-add row x d.0 d.1 in
+      record {
+        vector = d.0;
+        sized = d.1;
+        whole = e;
+        lies = Lies-rest x d.0 d.1 h (subst Space (sym e) k);
+        under = subst (IsAtOrBelow d.0) e (below_add_right x d.0 d.1);
+        ups = sym sides.0 ∙ ap (up row) e;
+        downs = sym sides.1 ∙ ap (down row) e;
+        sums = sym (sum-add x d.0 d.1) ∙ ap sum e;
+      }
 
   module _ (gs : List Point) (generates : Generates columns before row gs) where
+    -- a generator at or below the vector, with a value on this side of zero
+    abbrev HasOnSide : (ℤ → ℕ) → List ℕ → Type 0
+    HasOnSide side z = (g : Point) × Contains gs g × IsAtOrBelow g.parts.items z × (0 < side g.value)
+
+    -- at or below a vector that leans to a side stands a generator on it, where no zero vector leans, and taking away a generator not on it leaves the vector leaning
+    module _ (Leans : List ℕ → Type 0) (side : ℤ → ℕ) (nonzero : (z : List ℕ) → Leans z → IsNonZero z)
+        (stays : (g : Point) (z : List ℕ) → IsPoint columns before row g → side g.value ≤ 0 → (r : Rest g.parts.items z) → Leans z → Leans r.vector) where
+      leaning : (n : ℕ) (z : List ℕ) → sum z ≤ n → Space z → Leans z → HasOnSide side z
+      leaning zero z b h l = absurd (omega (arith, b, nonzero z l))
+      leaning (suc n) z b h l = go (cases_lt 0 (side under.0.value)) (leaning n)
+        where
+          under : (g : Point) × Contains gs g × IsAtOrBelow g.parts.items z
+          under = generates.under z h (nonzero z l)
+
+          go : (0 < side under.0.value) ⊎ (side under.0.value ≤ 0) → ((y : List ℕ) → sum y ≤ n → Space y → Leans y → HasOnSide side y) → HasOnSide side z
+          go (inl p) further = (under.0, under.1, under.2, p)
+          go (inr p) further =
+              let point = generates.points under.0 under.1 in
+              let rest = rest_of under.0.parts.items z point.lies h under.2 in
+              let r = further rest.vector (omega (arith, b, rest.sums, point.nonzero)) rest.lies (stays under.0 z point p rest l) in
+              (r.0, r.1, below_trans r.0.parts.items rest.vector z r.2 rest.under, r.3)
+
     -- in a vector at which the row is below zero stands a generator at which it is
-    falling : (n : ℕ) (z : List ℕ) → sum z ≤ n → Space z → up row z < down row z → (g : Point) × Contains gs g × IsAtOrBelow g.parts.items z × (0 < below g.value)
-    falling zero z b h l = absurd (omega (arith, down-zero row z (omega arith)))
-    falling (suc n) z b h l = go (cases_lt 0 (below under.0.value)) (falling n)
-      where
-        nonzero : IsNonZero z
-        nonzero = split (cases_lt 0 (sum z))
-          where
-            split : (0 < sum z) ⊎ (sum z ≤ 0) → 0 < sum z
-            split (inl p) = p
-            split (inr p) = absurd (omega (arith, down-zero row z (omega arith)))
-
-        under : (g : Point) × Contains gs g × IsAtOrBelow g.parts.items z
-        under = generates.under z h nonzero
-
-        go : (0 < below under.0.value) ⊎ (below under.0.value ≤ 0) → ((y : List ℕ) → sum y ≤ n → Space y → up row y < down row y → (g : Point) × Contains gs g × IsAtOrBelow g.parts.items y × (0 < below g.value)) → (g : Point) × Contains gs g × IsAtOrBelow g.parts.items z × (0 < below g.value)
-        go (inl p) further = (under.0, under.1, under.2, p)
-        go (inr p) further =
-            let g = under.0 in
-            let point = generates.points g under.1 in
-            let d = difference g.parts.items z under.2 in
-            let e : add g.parts.items d.0 ≡ z = d.2 in
-            let lies : Space d.0 = Lies-rest g.parts.items d.0 d.1 point.lies (subst Space (sym e) h) in
-            let ups : up row g.parts.items + up row d.0 ≡ up row z = sym (up-add row g.parts.items d.0 d.1) ∙ ap (up row) e in
-            let downs : down row g.parts.items + down row d.0 ≡ down row z = sym (down-add row g.parts.items d.0 d.1) ∙ ap (down row) e in
-            let total : sum g.parts.items + sum d.0 ≡ sum z = sym (sum-add g.parts.items d.0 d.1) ∙ ap sum e in
-            let r = further d.0 (omega (arith, total, point.nonzero)) lies (omega (arith, ups, downs, point.exact, p, l)) in
-            (r.0, r.1, below_trans r.0.parts.items d.0 z r.2 (subst (IsAtOrBelow d.0) e (below_add_right g.parts.items d.0 d.1)), r.3)
+    falling : (z : List ℕ) → Space z → up row z < down row z → HasOnSide below z
+    falling z =
+        leaning (λ y. up row y < down row y) below (λ y l. let n : sum y ≢ 0 = λ e. omega (arith, (sides-zero row y e).1, l) in omega (arith, n))
+        (λ g y point p r l. omega (arith, r.ups, r.downs, point.exact, p, l)) (sum z) z (omega arith)
 
     -- likewise above zero
-    rising : (n : ℕ) (z : List ℕ) → sum z ≤ n → Space z → down row z < up row z → (g : Point) × Contains gs g × IsAtOrBelow g.parts.items z × (0 < above g.value)
-    rising zero z b h l = absurd (omega (arith, up-zero row z (omega arith)))
-    rising (suc n) z b h l = go (cases_lt 0 (above under.0.value)) (rising n)
-      where
-        nonzero : IsNonZero z
-        nonzero = split (cases_lt 0 (sum z))
-          where
-            split : (0 < sum z) ⊎ (sum z ≤ 0) → 0 < sum z
-            split (inl p) = p
-            split (inr p) = absurd (omega (arith, up-zero row z (omega arith)))
-
-        under : (g : Point) × Contains gs g × IsAtOrBelow g.parts.items z
-        under = generates.under z h nonzero
-
-        go : (0 < above under.0.value) ⊎ (above under.0.value ≤ 0) → ((y : List ℕ) → sum y ≤ n → Space y → down row y < up row y → (g : Point) × Contains gs g × IsAtOrBelow g.parts.items y × (0 < above g.value)) → (g : Point) × Contains gs g × IsAtOrBelow g.parts.items z × (0 < above g.value)
-        go (inl p) further = (under.0, under.1, under.2, p)
-        go (inr p) further =
-            let g = under.0 in
-            let point = generates.points g under.1 in
-            let d = difference g.parts.items z under.2 in
-            let e : add g.parts.items d.0 ≡ z = d.2 in
-            let lies : Space d.0 = Lies-rest g.parts.items d.0 d.1 point.lies (subst Space (sym e) h) in
-            let ups : up row g.parts.items + up row d.0 ≡ up row z = sym (up-add row g.parts.items d.0 d.1) ∙ ap (up row) e in
-            let downs : down row g.parts.items + down row d.0 ≡ down row z = sym (down-add row g.parts.items d.0 d.1) ∙ ap (down row) e in
-            let total : sum g.parts.items + sum d.0 ≡ sum z = sym (sum-add g.parts.items d.0 d.1) ∙ ap sum e in
-            let r = further d.0 (omega (arith, total, point.nonzero)) lies (omega (arith, ups, downs, point.exact, p, l)) in
-            (r.0, r.1, below_trans r.0.parts.items d.0 z r.2 (subst (IsAtOrBelow d.0) e (below_add_right g.parts.items d.0 d.1)), r.3)
+    rising : (z : List ℕ) → Space z → down row z < up row z → HasOnSide above z
+    rising z =
+        leaning (λ y. down row y < up row y) above (λ y l. let n : sum y ≢ 0 = λ e. omega (arith, (sides-zero row y e).0, l) in omega (arith, n))
+        (λ g y point p r l. omega (arith, r.ups, r.downs, point.exact, p, l)) (sum z) z (omega arith)
 
     -- from a vector below a solution, at which the row is not zero, a step leads to one that is at or below the solution too
     pub step_towards : (s : List ℕ) (p : Point) → Solves columns all s → IsPoint columns before row p → p.value ≢ pos 0 → IsAtOrBelow p.parts.items s → (g : Point) × Contains gs g × IsOpposite p.value g.value × IsAtOrBelow (add p.parts.items g.parts.items) s
@@ -141,27 +138,18 @@ module _ (columns : ℕ) (before : List (List ℤ)) (row : List ℤ) where
         at : Space s × (up row s ≡ down row s)
         at = space_from_solves s h
 
-        d : (d : List ℕ) × (length p.parts.items ≡ length d) × (add p.parts.items d ≡ s)
-        d = difference p.parts.items s l
+        rest : Rest p.parts.items s
+        rest = rest_of p.parts.items s point.lies at.0 l
 
-        lies : Space d.0
-        lies = Lies-rest p.parts.items d.0 d.1 point.lies (subst Space (sym d.2) at.0)
-
-        ups : up row p.parts.items + up row d.0 ≡ up row s
-        ups = sym (up-add row p.parts.items d.0 d.1) ∙ ap (up row) d.2
-
-        downs : down row p.parts.items + down row d.0 ≡ down row s
-        downs = sym (down-add row p.parts.items d.0 d.1) ∙ ap (down row) d.2
-
-        reach : (g : Point) → IsAtOrBelow g.parts.items d.0 → IsAtOrBelow (add p.parts.items g.parts.items) s
-        reach g k = subst (IsAtOrBelow (add p.parts.items g.parts.items)) d.2 (add_below p.parts.items g.parts.items d.0 (d.1 ∙ sym (below_length g.parts.items d.0 k)) k)
+        reach : (g : Point) → IsAtOrBelow g.parts.items rest.vector → IsAtOrBelow (add p.parts.items g.parts.items) s
+        reach g k = subst (IsAtOrBelow (add p.parts.items g.parts.items)) rest.whole (add_below p.parts.items g.parts.items rest.vector (rest.sized ∙ sym (below_length g.parts.items rest.vector k)) k)
 
         go : (0 < above p.value) ⊎ (0 < below p.value) → (above p.value ≡ 0) ⊎ (below p.value ≡ 0) → (g : Point) × Contains gs g × IsOpposite p.value g.value × IsAtOrBelow (add p.parts.items g.parts.items) s
         go (inl a) (inl e) = absurd (omega (arith, a))
         go (inl a) (inr e) =
-            let r = falling (sum d.0) d.0 (omega arith) lies (omega (arith, ups, downs, at.1, point.exact, e, a)) in
+            let r = falling rest.vector rest.lies (omega (arith, rest.ups, rest.downs, at.1, point.exact, e, a)) in
             (r.0, r.1, inl (a, r.3), reach r.0 r.2)
         go (inr b) (inr e) = absurd (omega (arith, b))
         go (inr b) (inl e) =
-            let r = rising (sum d.0) d.0 (omega arith) lies (omega (arith, ups, downs, at.1, point.exact, e, b)) in
+            let r = rising rest.vector rest.lies (omega (arith, rest.ups, rest.downs, at.1, point.exact, e, b)) in
             (r.0, r.1, inr (b, r.3), reach r.0 r.2)

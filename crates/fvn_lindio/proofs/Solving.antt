@@ -7,7 +7,7 @@ use Rattle.fvn_lindio.specs.Vectors.{IsAtOrBelow, IsNonZero, add}
 use Rattle.fvn_lindio.specs.Systems.{up, down, IsZeroAt, Solves, IsMinimal}
 use Rattle.fvn_lindio.specs.Sums.{MinimalBelow}
 use Rattle.fvn_lindio.specs.Search.{Lies}
-use Rattle.fvn_lindio.proofs.VectorLemmas.{length-add, up-add, down-add, get_or-add, below_refl, below_trans, below_length, below_same, below_get_or}
+use Rattle.fvn_lindio.proofs.VectorLemmas.{length-add, sides-add, get_or-add, below_refl, below_trans, below_length, below_same, below_get_or}
 
 pub Lies-from_solves : {columns : ℕ} {rows : List (List ℤ)} {x : List ℕ} → Solves columns rows x → Lies columns rows rows x
 Lies-from_solves h = record { sized = h.sized; zero_rows = h.zero_rows; unused = h.unused }
@@ -21,7 +21,7 @@ Lies-add {columns} {rows} {used} x y h k =
     let e : length x ≡ length y = h.sized ∙ sym k.sized in
     record {
       sized = length-add x y e ∙ h.sized;
-      zero_rows = λ i d l. omega (arith, up-add (get_or rows i d) x y e, down-add (get_or rows i d) x y e, h.zero_rows i d l, k.zero_rows i d l);
+      zero_rows = λ i d l. let r = sides-add (get_or rows i d) x y e in omega (arith, r.0, r.1, h.zero_rows i d l, k.zero_rows i d l);
       unused = λ j u. omega (arith, get_or-add x y j e, h.unused j u, k.unused j u);
     }
 
@@ -30,7 +30,7 @@ pub Lies-rest : {columns : ℕ} {rows used : List (List ℤ)} (x d : List ℕ) �
 Lies-rest {columns} {rows} {used} x y e h k =
     record {
       sized = sym e ∙ h.sized;
-      zero_rows = λ i d l. omega (arith, up-add (get_or rows i d) x y e, down-add (get_or rows i d) x y e, h.zero_rows i d l, k.zero_rows i d l);
+      zero_rows = λ i d l. let r = sides-add (get_or rows i d) x y e in omega (arith, r.0, r.1, h.zero_rows i d l, k.zero_rows i d l);
       unused = λ j u. omega (arith, get_or-add x y j e, h.unused j u, k.unused j u);
     }
 

@@ -1,8 +1,8 @@
 -- Every solution is a sum of minimal ones.
 use Rattle.std.proofs.Common.{◌≡◌, ℕ, zero, suc, ◌+◌, ◌*◌, ◌<◌, ◌≤◌, ◌⊎◌, ◌↔◌, ℤ, List, [], ◌∷◌, length, get_or, sum, map, replicate, refl, sym, ap, ◌∙◌, subst, inl, inr, arith}
 use Rattle.std.specs.List.{All, Contains}
-use Rattle.std.proofs.lemmas.List.{length-map, length-replicate, get_or_default}
-use Rattle.std.proofs.lemmas.List.Elements.{All-tail, All-head}
+use Rattle.std.proofs.lemmas.List.{length-map, length-replicate}
+use Rattle.std.proofs.lemmas.List.Elements.{All-tail, All-head, Contains-get_or}
 use Rattle.std.proofs.lemmas.Bool.{cases_lt}
 use Rattle.fvn_lindio.specs.Vectors.{IsAtOrBelow, add}
 use Rattle.fvn_lindio.specs.Systems.{Solves, IsMinimal}
@@ -97,12 +97,7 @@ module _ (columns : ℕ) where
     Sum x = (times : List ℕ) × (length times ≡ length list) × (combination columns times list ≡ x)
 
     sized : Sized list
-    sized k d l =
-        let e : get_or list k (get_or list k d) ≡ get_or list k d = same k d l in
-        ((exact (get_or list k d)).0 (k, l, e)).solves.sized
-      where
-        same : (k : ℕ) (d : List ℕ) → k < length list → get_or list k (get_or list k d) ≡ get_or list k d
-        same k d l = get_or_default list k (get_or list k d) d l
+    sized k d l = ((exact (get_or list k d)).0 (Contains-get_or list k d l)).solves.sized
 
     sum_of_none : (x : List ℕ) → length x ≡ columns → sum x ≡ 0 → Sum x
     sum_of_none x e z =

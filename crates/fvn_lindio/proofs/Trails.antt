@@ -1,22 +1,21 @@
 -- What the levels of the search keep: each minimal solution is found, or stands above a vector to go on from, at the end of a trail.
 use Rattle.std.proofs.Common.{◌≡◌, ◌≢◌, ◌↔◌, ℕ, ◌+◌, ◌-◌, ◌*◌, ◌<◌, ◌≤◌, ◌^◌, ◌⊎◌, ℤ, pos, ◌+ℤ◌, List, [], ◌∷◌, length, get_or, sum, refl, sym, ap, ◌∙◌, subst, inl, inr, arith}
 use Rattle.std.specs.List.{All, AllPairs, Contains}
-use Rattle.std.proofs.lemmas.List.{get_or_default}
-use Rattle.std.proofs.lemmas.List.Elements.{All-contains}
+use Rattle.std.proofs.lemmas.List.Elements.{All-contains, Contains-get_or}
 use Rattle.std.proofs.lemmas.Bool.{cases_lt}
 use Rattle.fvn_lindio.specs.Least.{HasOther, IsLeast, IsUniform}
 use Rattle.fvn_lindio.specs.Vectors.{IsAtOrBelow, IsNonZero, add}
-use Rattle.fvn_lindio.specs.Systems.{above, below, up, down, IsMinimal}
+use Rattle.fvn_lindio.specs.Systems.{above, below, up, down, Solves, IsMinimal}
 use Rattle.fvn_lindio.specs.Search.{IsValue}
 use Rattle.fvn_lindio.specs.Levels.{CanAdd, IsCovered, GrowsAnew, IsThis, IsAt, IsStepBy, IsStepFrom, CoversStepsFrom, IsPoint, Generates}
 use Rattle.fvn_lindio.specs.declared.level.Point.{Point}
 use Rattle.fvn_lindio.specs.declared.level.Level.{Level}
-use Rattle.fvn_lindio.proofs.VectorLemmas.{sum-add, up-add, down-add, below_refl, below_trans, below_sum, below_same, below_add, difference}
+use Rattle.fvn_lindio.proofs.VectorLemmas.{sum-add, sides-add, below_refl, below_trans, below_sum, below_same, below_add}
 use Rattle.fvn_lindio.proofs.ValueLemmas.{above-add}
-use Rattle.fvn_lindio.proofs.Solving.{Lies-add, Lies-rest, minimal_below}
+use Rattle.fvn_lindio.proofs.Solving.{Lies-add, minimal_below}
 use Rattle.fvn_lindio.proofs.Pigeonhole.{length-le_below, AllPairs-cons, Contains-cons_cases}
 use Rattle.fvn_lindio.proofs.LevelLemmas.{in_none}
-use Rattle.fvn_lindio.proofs.SearchLemmas.{all, Space, Solves-from_space, space_from_solves, step_towards, opposite_bounds, All_add, below_add_right}
+use Rattle.fvn_lindio.proofs.SearchLemmas.{all, Space, Solves-from_space, space_from_solves, rest_of, step_towards, opposite_bounds, All_add}
 
 module _ (columns : ℕ) (before : List (List ℤ)) (row : List ℤ) (gs : List Point) (low high : ℕ) where
   abbrev pub Minimal : List ℕ → Type 0
@@ -64,30 +63,25 @@ module _ (columns : ℕ) (before : List (List ℤ)) (row : List ℤ) (gs : List 
     pub rises : (g : Point) → Contains gs g → above g.value ≤ high
     pub falls : (g : Point) → Contains gs g → below g.value ≤ low
 
+  -- a point with value zero is a solution
+  pub solution_at : (p : Point) → IsPoint columns before row p → p.value ≡ pos 0 → Solves columns (all columns before row) p.parts.items
+  solution_at p h z =
+      let a : above p.value ≡ 0 = ap above z in
+      let b : below p.value ≡ 0 = ap below z in
+      Solves-from_space columns before row p.parts.items h.lies (omega (arith, h.exact, a, b))
+
   -- a point with value zero at or below a minimal solution is that solution
   pub found_is_it : (s : List ℕ) (f : Point) → Minimal s → IsPoint columns before row f → f.value ≡ pos 0 → IsAtOrBelow f.parts.items s → f.parts.items ≡ s
-  found_is_it s f m p z l = m.least f.parts.items (Solves-from_space columns before row f.parts.items p.lies zero_at) p.nonzero l
-    where
-      zero_at : up row f.parts.items ≡ down row f.parts.items
-      zero_at =
-          let a : above f.value ≡ 0 = ap above z in
-          let b : below f.value ≡ 0 = ap below z in
-          omega (arith, p.exact, a, b)
+  found_is_it s f m p z l = m.least f.parts.items (solution_at f p z) p.nonzero l
 
   -- two vectors of one value, one of them at or below the other and below a minimal solution, would leave a solution below it
   values_apart : (s x y : List ℕ) → Minimal s → Space columns before row x → Space columns before row y → IsNonZero y → IsAtOrBelow y x → IsAtOrBelow x s → sum y < sum x → up row x + down row y ≡ up row y + down row x → ⊥
   values_apart s x y m h k n l u less e =
-      let d = difference y x l in
-      let parts : add y d.0 ≡ x = d.2 in
-      let lies : Space columns before row d.0 = Lies-rest y d.0 d.1 k (subst (Space columns before row) (sym parts) h) in
-      let ups : up row y + up row d.0 ≡ up row x = sym (up-add row y d.0 d.1) ∙ ap (up row) parts in
-      let downs : down row y + down row d.0 ≡ down row x = sym (down-add row y d.0 d.1) ∙ ap (down row) parts in
-      let total : sum y + sum d.0 ≡ sum x = sym (sum-add y d.0 d.1) ∙ ap sum parts in
-      let solves = Solves-from_space columns before row d.0 lies (omega (arith, ups, downs, e)) in
-      let under : IsAtOrBelow d.0 s = below_trans d.0 x s (subst (IsAtOrBelow d.0) parts (below_add_right y d.0 d.1)) u in
-      let same : d.0 ≡ s = m.least d.0 solves (omega (arith, total, less)) under in
-      let sums : sum d.0 ≡ sum s = ap sum same in
-      omega (arith, sums, total, n, below_sum x s u)
+      let rest = rest_of columns before row y x k h l in
+      let solves = Solves-from_space columns before row rest.vector rest.lies (omega (arith, rest.ups, rest.downs, e)) in
+      let under : IsAtOrBelow rest.vector s = below_trans rest.vector x s rest.under u in
+      let same : rest.vector ≡ s = m.least rest.vector solves (omega (arith, rest.sums, less)) under in
+      omega (arith, ap sum same, rest.sums, n, below_sum x s u)
 
   -- the height of a point's value
   height : Point → ℕ
@@ -151,7 +145,7 @@ module _ (columns : ℕ) (before : List (List ℤ)) (row : List ℤ) (gs : List 
         record {
           lies = subst (Space columns before row) (sym parts) (Lies-add x.parts.items g.parts.items h.lies k.lies);
           nonzero = omega (arith, ap sum parts, sum-add x.parts.items g.parts.items e, h.nonzero);
-          exact = omega (arith, ap (up row) parts, ap (down row) parts, up-add row x.parts.items g.parts.items e, down-add row x.parts.items g.parts.items e, h.exact, k.exact, ap above step.2, ap below step.2, above-add x.value g.value);
+          exact = omega (arith, ap (up row) parts, ap (down row) parts, sides.0, sides.1, h.exact, k.exact, ap above step.2, ap below step.2, above-add x.value g.value);
         }
       where
         parts : p.parts.items ≡ add x.parts.items g.parts.items
@@ -159,6 +153,9 @@ module _ (columns : ℕ) (before : List (List ℤ)) (row : List ℤ) (gs : List 
 
         e : length x.parts.items ≡ length g.parts.items
         e = h.lies.sized ∙ sym k.lies.sized
+
+        sides : (up row (add x.parts.items g.parts.items) ≡ up row x.parts.items + up row g.parts.items) × (down row (add x.parts.items g.parts.items) ≡ down row x.parts.items + down row g.parts.items)
+        sides = sides-add row x.parts.items g.parts.items e
 
     way_step : (t : ℕ) (x g p : Point) → IsOnTheWay t x → Contains gs g → IsStepBy x g p → p.value ≢ pos 0 → IsOnTheWay (t + 1) p
     way_step t x g p h k step n =
@@ -283,28 +280,22 @@ module _ (columns : ℕ) (before : List (List ℤ)) (row : List ℤ) (gs : List 
                 let r = step_towards columns before row gs bounded.generates s p m.solves way_p.point way_p.nonzero goes.under in
                 further p goes.member goes.under goes.trail r.0 r.1 r.3 (covered p goes.member r.0 r.1 r.2)
 
-  -- where nothing is ahead, or the level is beyond every trail, each minimal solution is found
-  pub all_found_none : (t : ℕ) (level : Level) → LevelAt t level → level.ahead.items ≡ [] → (s : List ℕ) → Minimal s → IsFound level s
-  all_found_none t level at e s m = go (at.complete s m)
+  -- where the level is beyond every trail, or nothing is ahead, each minimal solution is found
+  pub all_found : (t : ℕ) (level : Level) → LevelAt t level → (low + high + 1 < t) ⊎ (level.ahead.items ≡ []) → (s : List ℕ) → Minimal s → IsFound level s
+  all_found t level at done s m = go done (at.complete s m)
     where
-      go : IsFound level s ⊎ GoesOn t level s → IsFound level s
-      go (inl f) = f
-      go (inr goes) = absurd (in_none level.ahead.items goes.point e goes.member)
-
-  pub all_found_beyond : (t : ℕ) (level : Level) → LevelAt t level → low + high + 1 < t → (s : List ℕ) → Minimal s → IsFound level s
-  all_found_beyond t level at l s m = go (at.complete s m)
-    where
-      go : IsFound level s ⊎ GoesOn t level s → IsFound level s
-      go (inl f) = f
-      go (inr goes) = absurd (omega (arith, l, trail_short t goes.point.parts.items goes.trail))
+      go : (low + high + 1 < t) ⊎ (level.ahead.items ≡ []) → IsFound level s ⊎ GoesOn t level s → IsFound level s
+      go done (inl f) = f
+      go (inl l) (inr goes) = absurd (omega (arith, l, trail_short t goes.point.parts.items goes.trail))
+      go (inr e) (inr goes) = absurd (in_none level.ahead.items goes.point e goes.member)
 
   -- vectors ahead are far from the greatest number
   pub can_add : (t : ℕ) (level : Level) → Bounded → LevelAt t level → t ≤ 2 ^ 44 → All (λ x. All (CanAdd x) gs) level.ahead.items
   can_add t level bounded at l i d k j e m =
       let x = get_or level.ahead.items i d in
       let g = get_or gs j e in
-      let way = at.ahead x (i, k, get_or_default level.ahead.items i x d k) in
-      let h : Contains gs g = (j, m, get_or_default gs j g e m) in
+      let way = at.ahead x (Contains-get_or level.ahead.items i d k) in
+      let h : Contains gs g = Contains-get_or gs j e m in
       record {
         sized = way.point.lies.sized ∙ sym (bounded.generates.points g h).lies.sized;
         room = λ n f b. omega (arith, way.small n f b, l);
@@ -320,13 +311,13 @@ pub record Going (columns : ℕ) (before : List (List ℤ)) (row : List ℤ) (gs
   pub room : last ≤ 2 ^ 43
   pub at : LevelAt columns before row gs low high (turn + 1) level
 
-module _ (columns : ℕ) (before : List (List ℤ)) (row : List ℤ) (gs : List Point) where
+module _ {columns : ℕ} {before : List (List ℤ)} {row : List ℤ} {gs : List Point} where
   pub going_first : (low high : ℕ) (level : Level) → Generates columns before row gs → All (λ p. below p.value ≤ low) gs → All (λ p. above p.value ≤ high) gs → low ≤ 2 ^ 42 → high < 2 ^ 42 → ((p : Point) → Contains level.found.items p → IsAt gs p × (p.value ≡ pos 0)) → ((p : Point) → Contains level.ahead.items p → IsAt gs p × (p.value ≢ pos 0)) → ((g : Point) → Contains gs g → IsCovered level g.parts.items) → Going columns before row gs 0 (low + high + 1) level
   going_first low high level g falls rises l m found ahead covered =
       let bounded : Bounded columns before row gs low high = record { generates = g; rises = λ p h. All-contains (λ q. above q.value ≤ high) gs p rises h; falls = λ p h. All-contains (λ q. below q.value ≤ low) gs p falls h } in
       record { low = low; high = high; bounded = bounded; bound = refl; room = omega arith; at = level_first columns before row gs low high bounded level found ahead covered }
 
-  module _ (turn last : ℕ) (level : Level) (going : Going columns before row gs turn last level) where
+  module _ {turn last : ℕ} {level : Level} (going : Going columns before row gs turn last level) where
     pub going_more : (new : Level) → GrowsAnew (IsStepFrom gs level.ahead.items) level new → CoversStepsFrom gs level.ahead.items new → Going columns before row gs (turn + 1) last new
     going_more new grows covered =
         record { low = going.low; high = going.high; bounded = going.bounded; bound = going.bound; room = going.room; at = level_next columns before row gs going.low going.high going.bounded (turn + 1) level new going.at grows covered }
@@ -338,8 +329,11 @@ module _ (columns : ℕ) (before : List (List ℤ)) (row : List ℤ) (gs : List 
     going_uniform p q h k = (going.at.found p h).0.lies.sized ∙ sym (going.at.found q k).0.lies.sized
 
     pub going_all : (last ≤ turn) ⊎ (level.ahead.items ≡ []) → (s : List ℕ) → IsMinimal columns (all columns before row) s → (f : Point) × Contains level.found.items f × (f.parts.items ≡ s)
-    going_all (inl h) = all_found_beyond columns before row gs going.low going.high (turn + 1) level going.at (omega (arith, going.bound, h))
-    going_all (inr e) = all_found_none columns before row gs going.low going.high (turn + 1) level going.at e
+    going_all done = all_found columns before row gs going.low going.high (turn + 1) level going.at (beyond done)
+      where
+        beyond : (last ≤ turn) ⊎ (level.ahead.items ≡ []) → (going.low + going.high + 1 < turn + 1) ⊎ (level.ahead.items ≡ [])
+        beyond (inl h) = inl (omega (arith, going.bound, h))
+        beyond (inr e) = inr e
 
     -- the least of the vectors found are the minimal solutions
     pub going_exact : (last ≤ turn) ⊎ (level.ahead.items ≡ []) → (v : List ℕ) → IsLeast level.found.items v ↔ IsMinimal columns (all columns before row) v
@@ -351,14 +345,8 @@ module _ (columns : ℕ) (before : List (List ℤ)) (row : List ℤ) (gs : List 
             point : IsPoint columns before row p × (p.value ≡ pos 0)
             point = going.at.found p h
 
-            zero_at : up row p.parts.items ≡ down row p.parts.items
-            zero_at =
-                let a : above p.value ≡ 0 = ap above point.1 in
-                let b : below p.value ≡ 0 = ap below point.1 in
-                omega (arith, point.0.exact, a, b)
-
             m : (m : List ℕ) × IsMinimal columns (all columns before row) m × IsAtOrBelow m p.parts.items
-            m = minimal_below columns (all columns before row) (sum p.parts.items) p.parts.items (omega arith) (Solves-from_space columns before row p.parts.items point.0.lies zero_at) point.0.nonzero
+            m = minimal_below columns (all columns before row) (sum p.parts.items) p.parts.items (omega arith) (solution_at columns before row gs going.low going.high p point.0 point.1) point.0.nonzero
 
             go : (sum m.0 < sum p.parts.items) ⊎ (sum p.parts.items ≤ sum m.0) → IsMinimal columns (all columns before row) p.parts.items
             go (inr l) = subst (IsMinimal columns (all columns before row)) (below_same m.0 p.parts.items m.2 l) m.1

@@ -5,7 +5,7 @@ use Rattle.std.proofs.lemmas.Int.{ints, to_z-of_z, to_z_pos, fits_signed_from_ab
 use Rattle.std.proofs.Common.{to_z, of_z, w32, w64, FitsSigned, mul-le-mul}
 use Rattle.fvn_lindio.specs.Systems.{above, below}
 use Rattle.fvn_lindio.specs.Search.{IsValue, IsOpposite}
-use Rattle.fvn_lindio.proofs.VectorLemmas.{up-take_more, down-take_more}
+use Rattle.fvn_lindio.proofs.VectorLemmas.{sides-take_more}
 
 -- one of the two is nothing
 pub one_side : (z : ℤ) → (above z ≡ 0) ⊎ (below z ≡ 0)
@@ -40,7 +40,8 @@ pub value-more : (row : List ℤ) (x : List ℕ) (i : ℕ) (v : ℤ) → i < len
 value-more row x i v h k =
     let c = get_or row i (pos 0) in
     let a = get_or x i 0 in
-    omega (arith, up-take_more row x i h, down-take_more row x i h, k, above-add v (c *ℤ pos a), above-times c a, below-times c a)
+    let sides = sides-take_more row x i h in
+    omega (arith, sides.0, sides.1, k, above-add v (c *ℤ pos a), above-times c a, below-times c a)
 
 pub above-le : (c : ℤ) (m : ℕ) → unsigned_abs c ≤ m → (above c ≤ m) × (below c ≤ m)
 above-le (pos n) m h = (h, omega arith)

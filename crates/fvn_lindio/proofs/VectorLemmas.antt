@@ -23,23 +23,16 @@ sum-add (a ∷ x) (b ∷ y) h =
     let r = sum-add x y e in
     omega (arith, sum-cons (a + b) (add x y), sum-cons a x, sum-cons b y, r)
 
-pub up-add : (row : List ℤ) (x y : List ℕ) → length x ≡ length y → up row (add x y) ≡ up row x + up row y
-up-add [] x y h = refl
-up-add (c ∷ row) [] [] h = refl
-up-add (c ∷ row) [] (b ∷ y) h = absurd (omega arith)
-up-add (c ∷ row) (a ∷ x) [] h = absurd (omega arith)
-up-add (c ∷ row) (a ∷ x) (b ∷ y) h =
+-- what the coefficients above zero give at a sum, and what those below zero take
+pub sides-add : (row : List ℤ) (x y : List ℕ) → length x ≡ length y → (up row (add x y) ≡ up row x + up row y) × (down row (add x y) ≡ down row x + down row y)
+sides-add [] x y h = (refl, refl)
+sides-add (c ∷ row) [] [] h = (refl, refl)
+sides-add (c ∷ row) [] (b ∷ y) h = absurd (omega arith)
+sides-add (c ∷ row) (a ∷ x) [] h = absurd (omega arith)
+sides-add (c ∷ row) (a ∷ x) (b ∷ y) h =
     let e : length x ≡ length y = omega arith in
-    omega (arith, up-add row x y e)
-
-pub down-add : (row : List ℤ) (x y : List ℕ) → length x ≡ length y → down row (add x y) ≡ down row x + down row y
-down-add [] x y h = refl
-down-add (c ∷ row) [] [] h = refl
-down-add (c ∷ row) [] (b ∷ y) h = absurd (omega arith)
-down-add (c ∷ row) (a ∷ x) [] h = absurd (omega arith)
-down-add (c ∷ row) (a ∷ x) (b ∷ y) h =
-    let e : length x ≡ length y = omega arith in
-    omega (arith, down-add row x y e)
+    let r = sides-add row x y e in
+    (omega (arith, r.0), omega (arith, r.1))
 
 pub get_or-add : (x y : List ℕ) (j : ℕ) → length x ≡ length y → get_or (add x y) j 0 ≡ get_or x j 0 + get_or y j 0
 get_or-add [] [] j h = refl
@@ -51,21 +44,14 @@ get_or-add (a ∷ x) (b ∷ y) (suc j) h =
     get_or-add x y j e
 
 -- a vector that sums to zero has nothing anywhere
-pub up-zero : (row : List ℤ) (x : List ℕ) → sum x ≡ 0 → up row x ≡ 0
-up-zero [] x h = refl
-up-zero (c ∷ row) [] h = refl
-up-zero (c ∷ row) (a ∷ x) h =
+pub sides-zero : (row : List ℤ) (x : List ℕ) → sum x ≡ 0 → (up row x ≡ 0) × (down row x ≡ 0)
+sides-zero [] x h = (refl, refl)
+sides-zero (c ∷ row) [] h = (refl, refl)
+sides-zero (c ∷ row) (a ∷ x) h =
     let e : a ≡ 0 = omega (arith, sum-cons a x) in
-    let r : sum x ≡ 0 = omega (arith, sum-cons a x) in
-    rw e (omega (arith, up-zero row x r))
-
-pub down-zero : (row : List ℤ) (x : List ℕ) → sum x ≡ 0 → down row x ≡ 0
-down-zero [] x h = refl
-down-zero (c ∷ row) [] h = refl
-down-zero (c ∷ row) (a ∷ x) h =
-    let e : a ≡ 0 = omega (arith, sum-cons a x) in
-    let r : sum x ≡ 0 = omega (arith, sum-cons a x) in
-    rw e (omega (arith, down-zero row x r))
+    let z : sum x ≡ 0 = omega (arith, sum-cons a x) in
+    let r = sides-zero row x z in
+    rw e (omega (arith, r.0), omega (arith, r.1))
 
 -- ---- the order
 
@@ -150,26 +136,15 @@ add-take_suc (a ∷ x) (b ∷ y) (suc i) h k =
 pub add-take_more : (x y : List ℕ) (i : ℕ) → i < length x → i < length y → add (take (i + 1) x) (take (i + 1) y) ≡ add (take i x) (take i y) ++ ((get_or x i 0 + get_or y i 0) ∷ [])
 add-take_more x y i h k = rw add-one (add-take_suc x y i h k)
 
-up-take_suc : (row : List ℤ) (x : List ℕ) (i : ℕ) → i < length row → up (take (suc i) row) x ≡ up (take i row) x + above (get_or row i (pos 0)) * get_or x i 0
-up-take_suc [] x i h = absurd (omega arith)
-up-take_suc (c ∷ row) [] zero h = omega arith
-up-take_suc (c ∷ row) [] (suc i) h = omega arith
-up-take_suc (c ∷ row) (a ∷ x) zero h = omega arith
-up-take_suc (c ∷ row) (a ∷ x) (suc i) h =
+sides-take_suc : (row : List ℤ) (x : List ℕ) (i : ℕ) → i < length row → (up (take (suc i) row) x ≡ up (take i row) x + above (get_or row i (pos 0)) * get_or x i 0) × (down (take (suc i) row) x ≡ down (take i row) x + below (get_or row i (pos 0)) * get_or x i 0)
+sides-take_suc [] x i h = absurd (omega arith)
+sides-take_suc (c ∷ row) [] zero h = (omega arith, omega arith)
+sides-take_suc (c ∷ row) [] (suc i) h = (omega arith, omega arith)
+sides-take_suc (c ∷ row) (a ∷ x) zero h = (omega arith, omega arith)
+sides-take_suc (c ∷ row) (a ∷ x) (suc i) h =
     let l : i < length row = omega arith in
-    omega (arith, up-take_suc row x i l)
+    let r = sides-take_suc row x i l in
+    (omega (arith, r.0), omega (arith, r.1))
 
-pub up-take_more : (row : List ℤ) (x : List ℕ) (i : ℕ) → i < length row → up (take (i + 1) row) x ≡ up (take i row) x + above (get_or row i (pos 0)) * get_or x i 0
-up-take_more row x i h = rw add-one (up-take_suc row x i h)
-
-down-take_suc : (row : List ℤ) (x : List ℕ) (i : ℕ) → i < length row → down (take (suc i) row) x ≡ down (take i row) x + below (get_or row i (pos 0)) * get_or x i 0
-down-take_suc [] x i h = absurd (omega arith)
-down-take_suc (c ∷ row) [] zero h = omega arith
-down-take_suc (c ∷ row) [] (suc i) h = omega arith
-down-take_suc (c ∷ row) (a ∷ x) zero h = omega arith
-down-take_suc (c ∷ row) (a ∷ x) (suc i) h =
-    let l : i < length row = omega arith in
-    omega (arith, down-take_suc row x i l)
-
-pub down-take_more : (row : List ℤ) (x : List ℕ) (i : ℕ) → i < length row → down (take (i + 1) row) x ≡ down (take i row) x + below (get_or row i (pos 0)) * get_or x i 0
-down-take_more row x i h = rw add-one (down-take_suc row x i h)
+pub sides-take_more : (row : List ℤ) (x : List ℕ) (i : ℕ) → i < length row → (up (take (i + 1) row) x ≡ up (take i row) x + above (get_or row i (pos 0)) * get_or x i 0) × (down (take (i + 1) row) x ≡ down (take i row) x + below (get_or row i (pos 0)) * get_or x i 0)
+sides-take_more row x i h = rw add-one (sides-take_suc row x i h)

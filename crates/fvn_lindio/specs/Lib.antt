@@ -1,3 +1,4 @@
+-- The words of the contracts of this crate.
 pub mod Vectors
 pub mod Systems
 pub mod Refusals

@@ -1,16 +1,20 @@
 -- One vector more.
-use Rattle.std.proofs.Common.{length, sym, subst, ◌≤◌, ◌∙◌}
+use Rattle.std.proofs.Common.{ℕ, List, length, ◌≤◌, ◌∙◌}
 use Rattle.std.specs.List.{All}
-use Rattle.fvn_lindio.specs.Generators.{IsRow}
+use Rattle.fvn_lindio.specs.Generators.{IsRow, vectors_in}
 use Rattle.fvn_lindio.proofs.ListSteps.{all_mapped_at}
 use Rattle.fvn_lindio.proofs.GeneratorLemmas.{known_more}
 use Rattle.fvn_lindio.proofs.generators.known_points.Goals as goal
 
+-- what holds of each vector holds of this one
+each : (c : goal.After-as_slice) (P : List ℕ → Type 0) → All P (vectors_in c.args.known.now) → P c.as_slice.result.now
+each c P = all_mapped_at (λ v. v.items) P c.args.known.now c.loop-v.v-index c.v-item.result c.as_slice.result.now c.loop-v-test.true c.v-item.is c.as_slice.ensures
+
 pub point_at-requires-clause-row : goal.point_at-requires-clause-row
-point_at-requires-clause-row c = subst (λ v. IsRow (length v) c.args.row.now) (sym c.as_slice.ensures) (all_mapped_at (λ v. v.items) (λ v. IsRow (length v) c.args.row.now) c.args.known.now c.loop-v.v-index c.v-item.result c.loop-v-test.true c.v-item.is c.requires.row)
+point_at-requires-clause-row c = each c (λ v. IsRow (length v) c.args.row.now) c.requires.row
 
 pub point_at-requires-clause-narrow : goal.point_at-requires-clause-narrow
-point_at-requires-clause-narrow c = subst (All (λ a. a ≤ 65535)) (sym c.as_slice.ensures) (all_mapped_at (λ v. v.items) (All (λ a. a ≤ 65535)) c.args.known.now c.loop-v.v-index c.v-item.result c.loop-v-test.true c.v-item.is c.requires.narrow)
+point_at-requires-clause-narrow c = each c (All (λ a. a ≤ 65535)) c.requires.narrow
 
 pub loop-v-preserved : goal.loop-v-preserved
 loop-v-preserved c =

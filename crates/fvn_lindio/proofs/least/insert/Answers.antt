@@ -5,22 +5,24 @@ use Rattle.fvn_lindio.specs.Least.{IsPlace, StandsAt}
 use Rattle.fvn_lindio.proofs.LeastLemmas.{insert_ordered, insert_exact, not_false}
 use Rattle.fvn_lindio.proofs.least.insert.Goals as goal
 
+-- the place is the vector's, and it does not stand there
+placed : (c : goal.In_ok-insert) → IsPlace (vectors_in c.args.list.now.items) c.args.v.items c.place_of-place.result
+placed c =
+    let place = c.place_of-place.result in
+    subst (λ z. IsPlace (vectors_in c.args.list.now.items) z place) c.as_slice-2.ensures
+    (subst (λ z. IsPlace (vectors_in z) c.as_slice-2.result.now place) c.as_slice.ensures.value c.place_of-place.ensures)
+
+absent : (c : goal.In_ok-insert) → StandsAt (vectors_in c.args.list.now.items) c.place_of-place.result c.args.v.items → ⊥
+absent c =
+    let place = c.place_of-place.result in
+    let fresh = not_false c.stands_at.result c.if-stands_at.false c.stands_at.ensures.1 in
+    subst (λ z. StandsAt (vectors_in c.args.list.now.items) place z → ⊥) c.as_slice-4.ensures
+    (subst (λ z. StandsAt (vectors_in z) place c.as_slice-4.result.now → ⊥) c.as_slice-3.ensures.value fresh)
+
 pub returns-clause-ordered : goal.returns-clause-ordered
 returns-clause-ordered c =
-    let list = c.args.list.now.items in
-    let v = c.args.v in
-    let place = c.place_of-place.result in
-    let placed = subst (λ z. IsPlace (vectors_in list) z place) c.as_slice-2.ensures (subst (λ z. IsPlace (vectors_in z) c.as_slice-2.result.now place) c.as_slice.ensures.value c.place_of-place.ensures) in
-    let fresh = not_false c.stands_at.result c.if-stands_at.false c.stands_at.ensures.1 in
-    let absent = subst (λ z. StandsAt (vectors_in list) place z → ⊥) c.as_slice-4.ensures (subst (λ z. StandsAt (vectors_in z) place c.as_slice-4.result.now → ⊥) c.as_slice-3.ensures.value fresh) in
-    insert_ordered list c.insert.new.self.items v place c.in_ok-insert.ensures.items c.requires.sized c.requires.ordered placed absent
+    insert_ordered c.args.list.now.items c.insert.new.self.items c.args.v c.place_of-place.result c.in_ok-insert.ensures.items c.requires.sized c.requires.ordered (placed c) (absent c)
 
 pub returns-clause-exact : goal.returns-clause-exact
 returns-clause-exact c =
-    let list = c.args.list.now.items in
-    let v = c.args.v in
-    let place = c.place_of-place.result in
-    let placed = subst (λ z. IsPlace (vectors_in list) z place) c.as_slice-2.ensures (subst (λ z. IsPlace (vectors_in z) c.as_slice-2.result.now place) c.as_slice.ensures.value c.place_of-place.ensures) in
-    let fresh = not_false c.stands_at.result c.if-stands_at.false c.stands_at.ensures.1 in
-    let absent = subst (λ z. StandsAt (vectors_in list) place z → ⊥) c.as_slice-4.ensures (subst (λ z. StandsAt (vectors_in z) place c.as_slice-4.result.now → ⊥) c.as_slice-3.ensures.value fresh) in
-    insert_exact list c.insert.new.self.items v place c.in_ok-insert.ensures.items c.requires.sized c.requires.ordered placed absent
+    insert_exact c.args.list.now.items c.insert.new.self.items c.args.v c.place_of-place.result c.in_ok-insert.ensures.items c.requires.sized c.requires.ordered (placed c) (absent c)

@@ -1,5 +1,5 @@
 -- One vector more stands before.
-use Rattle.std.proofs.Common.{◌≡◌, length, ap, ◌∙◌, sym, subst, refl, arith}
+use Rattle.std.proofs.Common.{◌≡◌, length, ◌∙◌, sym, subst, refl, arith}
 use Rattle.std.proofs.lemmas.List.{length-map}
 use Rattle.fvn_lindio.specs.Vectors.{IsBefore}
 use Rattle.fvn_lindio.specs.Generators.{vectors_in}
@@ -8,7 +8,7 @@ use Rattle.fvn_lindio.proofs.LeastLemmas.{vector_at, earlier_more}
 use Rattle.fvn_lindio.proofs.least.place_of.Goals as goal
 
 pub is_before-requires : goal.is_before-requires
-is_before-requires c = ap length c.as_slice.ensures ∙ all_mapped_at (λ w. w.items) (λ v. length v ≡ length c.args.parts.now) c.args.list.now c.loop-i.i c.index-list-i.result c.loop-i-test.true c.index-list-i.is c.requires
+is_before-requires c = all_mapped_at (λ w. w.items) (λ v. length v ≡ length c.args.parts.now) c.args.list.now c.loop-i.i c.index-list-i.result c.as_slice.result.now c.loop-i-test.true c.index-list-i.is c.as_slice.ensures c.requires
 
 pub loop-i-preserved : goal.loop-i-preserved
 loop-i-preserved c =

@@ -3,7 +3,7 @@ use Rattle.std.proofs.Common.{◌≡◌, ◌≢◌, ◌+◌, ◌≤◌, ◌⊎�
 use Rattle.std.specs.List.{All, Contains}
 use Rattle.std.proofs.lemmas.List.{nil_from_length}
 use Rattle.std.proofs.lemmas.Grind.{common_steps}
-use Rattle.fvn_lindio.specs.Systems.{above, below, coefficients_of}
+use Rattle.fvn_lindio.specs.Systems.{above, below}
 use Rattle.fvn_lindio.specs.Levels.{CanAdd, GrowsAnew, IsAt, IsStepFrom, CoversStepsFrom, IsCovered}
 use Rattle.fvn_lindio.specs.Generators.{vectors_in}
 use Rattle.fvn_lindio.specs.Least.{IsLeast, IsUniform}
@@ -18,7 +18,7 @@ loop-init c =
     let reach = c.reach_of-reach in
     let level = c.in_ok-level.level in
     let first = c.as_slice-2.ensures.value in
-    going_first (length c.args.row.now) (coefficients_of c.args.before.now) c.args.row.now gs reach.result.low reach.result.high level c.in_ok-points.ensures.generates
+    going_first reach.result.low reach.result.high level c.in_ok-points.ensures.generates
     (subst (All (λ p. below p.value ≤ reach.result.low)) c.as_slice.ensures.value reach.ensures.low)
     (subst (All (λ p. above p.value ≤ reach.result.high)) c.as_slice.ensures.value reach.ensures.high)
     (omega (arith, reach.ensures.low_bounded)) (omega (arith, reach.ensures.high_bounded))
@@ -30,26 +30,26 @@ pub next-requires : goal.next-requires
 next-requires c =
     let gs = c.in_ok-points.points.items in
     subst (λ ps. All (λ x. All (CanAdd x) ps) c.loop.level.ahead.items) (sym c.as_slice-in-loop.ensures.value)
-    (going_can_add (length c.args.row.now) (coefficients_of c.args.before.now) c.args.row.now gs c.loop.counter (c.reach_of-reach.result.low + c.reach_of-reach.result.high + 1) c.loop.level c.loop.invariant c.loop-test.true)
+    (going_can_add c.loop.invariant c.loop-test.true)
 
 pub loop-preserved : goal.loop-preserved
 loop-preserved c =
     let gs = c.in_ok-points.points.items in
     let old = c.loop.level in
     let new = c.in_ok-level-2.level in
-    going_more (length c.args.row.now) (coefficients_of c.args.before.now) c.args.row.now gs c.loop.counter (c.reach_of-reach.result.low + c.reach_of-reach.result.high + 1) old c.loop.invariant new
+    going_more c.loop.invariant new
     (subst (λ ps. GrowsAnew (IsStepFrom ps old.ahead.items) old new) c.as_slice-in-loop.ensures.value c.in_ok-level-2.ensures.grows)
     (subst (λ ps. CoversStepsFrom ps old.ahead.items new) c.as_slice-in-loop.ensures.value c.in_ok-level-2.ensures.covered)
 
 pub least_of-requires : goal.least_of-requires
 least_of-requires c =
     subst IsUniform (sym c.as_slice-3.ensures.value)
-    (going_uniform (length c.args.row.now) (coefficients_of c.args.before.now) c.args.row.now c.in_ok-points.points.items c.loop.counter (c.reach_of-reach.result.low + c.reach_of-reach.result.high + 1) c.loop.level c.loop.invariant)
+    (going_uniform c.loop.invariant)
 
 pub returns-clause-exact : goal.returns-clause-exact
 returns-clause-exact c =
     let last = c.reach_of-reach.result.low + c.reach_of-reach.result.high + 1 in
     let done : (last ≤ c.loop.counter) ⊎ (c.loop.level.ahead.items ≡ []) = elim c.loop-test.branch [ else-loop-test w ↦ inl w.loop-test.false | then-loop-test+then-is_empty w ↦ inr (let k = w.if-is_empty.ensures in let n : length c.loop.level.ahead.items ≡ 0 = grind (arith, common_steps) in nil_from_length c.loop.level.ahead.items n) ] in
-    let exact = going_exact (length c.args.row.now) (coefficients_of c.args.before.now) c.args.row.now c.in_ok-points.points.items c.loop.counter last c.loop.level c.loop.invariant done in
+    let exact = going_exact c.loop.invariant done in
     let least = subst (λ ps. (v : List ℕ) → Contains (vectors_in c.in_ok-least.least.items) v ↔ IsLeast ps v) c.as_slice-3.ensures.value c.in_ok-least.ensures.exact in
     λ v. (λ m. (exact v).0 ((least v).0 m), λ m. (least v).1 ((exact v).1 m))
