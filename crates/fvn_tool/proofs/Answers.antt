@@ -8,14 +8,14 @@ use Rattle.fvn_terms.specs.Substitution.{value}
 use Rattle.fvn_module.specs.declared.first.module_text.FirstModule.{FirstModule}
 use Rattle.fvn_module.specs.declared.first.problem_text.FirstProblem.{FirstProblem}
 use Rattle.fvn_module.specs.ModuleText.{IsModule, IsModuleText}
-use Rattle.fvn_module.specs.Facts.{ModulesAreFirst, ProblemsAreFirst, IsFirstProblem}
+use Rattle.fvn_module.specs.Facts.{IsFirstForm, ModulesAreFirst, ProblemsAreFirst, IsFirstProblem}
 use Rattle.fvn_tool.specs.declared.status.Status.{Status}
 use Rattle.fvn_tool.specs.declared.status.Status.TheVariants.{Solved, Nothing, ModuleRefused, ProblemRefused, Ended}
-use Rattle.fvn_tool.specs.Free.{IsFirstForm, ListsVariables, IsMostGeneral, AreNumbered, variables_among}
+use Rattle.fvn_tool.specs.Free.{ListsVariables, IsMostGeneral, AreNumbered, variables_among}
 use Rattle.fvn_tool.specs.Lines.{bindings_line}
 use Rattle.fvn_tool.specs.Spellings.{spelling}
 use Rattle.fvn_tool.specs.Replies.{answer_text, complete, bound_size, line_of, size_limit, CannotBeUnified, ExceedsSize, IsPrintable, IsAnswer, unified, not_unified, too_large, IsProblem, IsReply, no_module, no_problem, no_module_line, no_problem_line, DeclareNoModule, AsksNothing}
-use Rattle.fvn_tool.proofs.Asked.{first_form, lists_variables}
+use Rattle.fvn_tool.proofs.Asked.{lists_variables}
 use Rattle.fvn_tool.proofs.Pairs.{values-pairs, pack-values, within-values}
 
 module _ (scope : FirstModule) (problem : FirstProblem) (m : IsModule scope) (q : IsProblem scope problem) (modules : ModulesAreFirst) (problems : ProblemsAreFirst) where
@@ -23,7 +23,7 @@ module _ (scope : FirstModule) (problem : FirstProblem) (m : IsModule scope) (q 
   asked_problem = problems m.0 scope m.1 q.0 problem q.1
 
   pub asked_form : IsFirstForm scope.declarations
-  asked_form = first_form scope.declarations (modules m.0 scope m.1).form
+  asked_form = (modules m.0 scope m.1).form
 
   pub asked_variables : ListsVariables problem.vars (term problem.left) (term problem.right)
   asked_variables = lists_variables scope q.0 problem asked_problem q.1

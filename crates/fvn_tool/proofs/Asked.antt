@@ -1,12 +1,9 @@
 -- What the readers say of a module and a problem is what the solver asks for.
-use Rattle.std.proofs.Common.{◌≡◌, ◌≢◌, ◌<◌, ◌+◌, ◌⊎◌, ℕ, zero, suc, Bool, true, false, List, [], ◌∷◌, ◌++◌, length, fold, All, AllPairs, Contains, Option, Some, None, slice_index_or, if◌then◌else◌, refl, sym, ap, ◌∙◌, subst, inl, inr, arith, replicate}
+use Rattle.std.proofs.Common.{◌≡◌, ◌≢◌, ◌<◌, ◌+◌, ◌⊎◌, ℕ, zero, suc, Bool, true, false, List, [], ◌∷◌, ◌++◌, length, fold, All, AllPairs, Contains, Option, Some, None, slice_index_or, if◌then◌else◌, refl, sym, ap, ◌∙◌, subst, inl, inr, arith}
 use Rattle.std.specs.List.{list_any}
 use Rattle.std.specs.Str.{bytes_eq}
-use Rattle.std.proofs.lemmas.List.Elements.{All-replicate}
 use Rattle.std.proofs.lemmas.Slice.Eq.{bytes_eq-Decides}
 use Rattle.fvn_terms.specs.declared.plain.Var.{Var}
-use Rattle.fvn_terms.specs.declared.declarations.OpDecl.{OpDecl}
-use Rattle.fvn_terms.specs.declared.declarations.Declarations.{Declarations}
 use Rattle.fvn_terms.specs.Term.{Term, Terms, var, app, none, more}
 use Rattle.fvn_terms.specs.Plain.{term}
 use Rattle.fvn_terms.specs.Substitution.{Occurs, OccursAmong}
@@ -17,24 +14,9 @@ use Rattle.fvn_module.specs.Spelling.{Raw, Raws, bare, call, round, last, and}
 use Rattle.fvn_module.specs.ModuleText.{the_sort}
 use Rattle.fvn_module.specs.Meaning.{Meaning, a_constant, a_variable, place, with_text, each_once, variable, variable_in, means, texts_in, texts_in_all, Stands, Denotes, DenoteAll}
 use Rattle.fvn_module.specs.ProblemText.{numbered, IsProblemText}
-use Rattle.fvn_module.specs.Facts.{IsFreeOperator, IsFirstModule, IsFirstProblem}
-use Rattle.fvn_module.specs.Facts as facts
-use Rattle.fvn_tool.specs.Free.{IsPlainOperator, IsFirstForm, ListsVariables}
+use Rattle.fvn_module.specs.Facts.{IsFirstProblem}
+use Rattle.fvn_tool.specs.Free.{ListsVariables}
 use Rattle.fvn_tool.proofs.Members.{Among, Among-at, Among-append, position_at, same_place}
-
--- The signature
-
-plain_operator : (o : OpDecl) → IsFreeOperator o → IsPlainOperator o
-plain_operator o h = subst IsPlainOperator (sym h.1) (record {
-  axioms = refl;
-  rank = record { args = replicate h.0 the_sort; result = the_sort };
-  once = refl;
-  args = All-replicate (λ s. s ≡ the_sort) h.0 the_sort refl;
-  result = refl;
-})
-
-pub first_form : (d : Declarations) → facts.IsFirstForm d → IsFirstForm d
-first_form d f = record { sorts = f.sorts; kinds = f.kinds; below = f.below; operators = λ k o within. plain_operator _ (f.operators k o within) }
 
 -- The variables
 

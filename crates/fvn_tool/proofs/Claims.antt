@@ -36,7 +36,7 @@ outcome_one_text words left rest s t (replied word bytes h n e f r) = reply_one_
 Some-injective : {A : Type 0} {x y : A} → Some x ≡ Some y → x ≡ y
 Some-injective e = cc
 
-outcome_usage : (words : List (List ℕ)) (left rest : Option (List ℕ)) → problem_word words ≡ None → (s : Status) (t : List ℕ) → IsOutcome words left rest s t → Is Usage usage_line s t
+pub outcome_usage : (words : List (List ℕ)) (left rest : Option (List ℕ)) → problem_word words ≡ None → (s : Status) (t : List ℕ) → IsOutcome words left rest s t → Is Usage usage_line s t
 outcome_usage words left rest none s t (no_command h is) = (refl, is)
 outcome_usage words left rest none s t (too_long word h n is) = cc
 outcome_usage words left rest none s t (replied word bytes h n e f r) = cc
@@ -72,11 +72,11 @@ told_count bytes None n h = cc
 told_count bytes (Some r) n h = let e = ap length (Some-injective h.2) in let a = length-append h.0 r in let b = h.1 in grind arith
 
 -- what comes of a command: its module is too long, or the reply to what was read
-data Comes (bytes word : List ℕ) (s : Status) (t : List ℕ) : Type 0 where
+pub data Comes (bytes word : List ℕ) (s : Status) (t : List ℕ) : Type 0 where
   comes_long : s ≡ ModuleRefused → text_limit < length bytes → t ≡ too_long_line → Comes bytes word s t
   comes_reply : length bytes ≤ text_limit → IsReply bytes word s t → Comes bytes word s t
 
-comes : (words : List (List ℕ)) (left rest : Option (List ℕ)) (bytes word : List ℕ) → left ≡ Some bytes → problem_word words ≡ Some word → (s : Status) (t : List ℕ) → IsOutcome words left rest s t → Comes bytes word s t
+pub comes : (words : List (List ℕ)) (left rest : Option (List ℕ)) (bytes word : List ℕ) → left ≡ Some bytes → problem_word words ≡ Some word → (s : Status) (t : List ℕ) → IsOutcome words left rest s t → Comes bytes word s t
 comes words left rest bytes word told command s t (no_command h is) = cc
 comes words left rest bytes word told command s t (too_long w h n is) = comes_long refl (told_count bytes rest (text_limit + 1) (subst (λ l. TakesCount l rest (text_limit + 1)) told n)) is
 comes words left rest bytes word told command s t (replied w b h n e f r) =
@@ -99,7 +99,7 @@ reply_refuses_module bytes word s t e (no_module h is) = h
 reply_refuses_module bytes word s t e (no_problem scope m h is) = cc
 reply_refuses_module bytes word s t e (answered scope problem m p a) = absurd (answer_not_refused scope problem s t (inl e) a)
 
-reply_no_module : (bytes word : List ℕ) → DeclareNoModule bytes → (s : Status) (t : List ℕ) → IsReply bytes word s t → Is ModuleRefused no_module_line s t
+pub reply_no_module : (bytes word : List ℕ) → DeclareNoModule bytes → (s : Status) (t : List ℕ) → IsReply bytes word s t → Is ModuleRefused no_module_line s t
 reply_no_module bytes word none s t (no_module h is) = (refl, is)
 reply_no_module bytes word none s t (no_problem scope m h is) = absurd (none scope m)
 reply_no_module bytes word none s t (answered scope problem m p a) = absurd (none scope m)
@@ -108,6 +108,21 @@ reply_refuses_problem : (bytes word : List ℕ) (s : Status) (t : List ℕ) → 
 reply_refuses_problem bytes word s t e f (no_module k is) = cc
 reply_refuses_problem bytes word s t e f (no_problem scope m k is) = record { few = f; scope = scope; module_text = m; no_problem = k }
 reply_refuses_problem bytes word s t e f (answered scope problem m p a) = absurd (answer_not_refused scope problem s t (inr e) a)
+
+module _ (bytes word : List ℕ) (determined : ModulesAreDetermined) where
+  pub reply_no_problem : HasNoProblem bytes word → (u : Status) (t : List ℕ) → IsReply bytes word u t → Is ProblemRefused no_problem_line u t
+  reply_no_problem k u t (no_module none is) = absurd (none k.scope k.module_text)
+  reply_no_problem k u t (no_problem scope m none is) = (refl, is)
+  reply_no_problem k u t (answered scope problem m p a) = absurd (k.no_problem problem (subst (λ x. IsProblemText x word problem) (determined bytes scope k.scope m k.module_text) p))
+
+  pub reply_answers : ProblemsAreDetermined → (scope : FirstModule) (problem : FirstProblem) → IsAsked bytes word scope problem → (u : Status) (t : List ℕ) → IsReply bytes word u t → IsAnswer scope problem u t
+  reply_answers problems_determined scope problem asked u t (no_module none is) = absurd (none scope asked.module_text)
+  reply_answers problems_determined scope problem asked u t (no_problem other m none is) =
+      absurd (none problem (subst (λ x. IsProblemText x word problem) (determined bytes scope other asked.module_text m) asked.problem_text))
+  reply_answers problems_determined scope problem asked u t (answered other found m p a) =
+      let e : other ≡ scope = determined bytes other scope m asked.module_text in
+      let q : IsProblemText scope word found = subst (λ x. IsProblemText x word found) e p in
+      subst (λ x. IsAnswer scope x u t) (problems_determined scope word found problem q asked.problem_text) (subst (λ x. IsAnswer x found u t) e a)
 
 module _ (words : List (List ℕ)) (left rest : Option (List ℕ)) (bytes word : List ℕ) (told : left ≡ Some bytes) (command : problem_word words ≡ Some word) (s : Status) (before after : Option (List ℕ)) (h : Leaves (IsOutcome words left rest) s before after) where
   -- the outcome that is left, in other words
@@ -141,14 +156,9 @@ module _ (words : List (List ℕ)) (left rest : Option (List ℕ)) (bytes word :
   problem_only e t (comes_reply f r) = reply_refuses_problem bytes word s t e f r
 
   module _ (determined : ModulesAreDetermined) where
-    reply_no_problem : (k : HasNoProblem bytes word) → (u : Status) (t : List ℕ) → IsReply bytes word u t → Is ProblemRefused no_problem_line u t
-    reply_no_problem k u t (no_module none is) = absurd (none k.scope k.module_text)
-    reply_no_problem k u t (no_problem scope m none is) = (refl, is)
-    reply_no_problem k u t (answered scope problem m p a) = absurd (k.no_problem problem (subst (λ x. IsProblemText x word problem) (determined bytes scope k.scope m k.module_text) p))
-
     problem_text : (k : HasNoProblem bytes word) → (u : Status) (t : List ℕ) → Comes bytes word u t → Is ProblemRefused no_problem_line u t
     problem_text k u t (comes_long i l is) = absurd (let f = k.few in omega (arith, f, l))
-    problem_text k u t (comes_reply f r) = reply_no_problem k u t r
+    problem_text k u t (comes_reply f r) = reply_no_problem bytes word determined k u t r
 
     pub refuses_problem : RefusesProblem bytes word s before after
     refuses_problem = record {
@@ -157,17 +167,9 @@ module _ (words : List (List ℕ)) (left rest : Option (List ℕ)) (bytes word :
     }
 
     module _ (problems_determined : ProblemsAreDetermined) (scope : FirstModule) (problem : FirstProblem) (asked : IsAsked bytes word scope problem) where
-      reply_answers : (u : Status) (t : List ℕ) → IsReply bytes word u t → IsAnswer scope problem u t
-      reply_answers u t (no_module none is) = absurd (none scope asked.module_text)
-      reply_answers u t (no_problem other m none is) = absurd (none problem (subst (λ x. IsProblemText x word problem) (determined bytes scope other asked.module_text m) asked.problem_text))
-      reply_answers u t (answered other found m p a) =
-          let e : other ≡ scope = determined bytes other scope m asked.module_text in
-          let q : IsProblemText scope word found = subst (λ x. IsProblemText x word found) e p in
-          subst (λ x. IsAnswer scope x u t) (problems_determined scope word found problem q asked.problem_text) (subst (λ x. IsAnswer x found u t) e a)
-
       come_answers : (u : Status) (t : List ℕ) → Comes bytes word u t → IsAnswer scope problem u t
       come_answers u t (comes_long i l is) = absurd (let f = asked.few in omega (arith, f, l))
-      come_answers u t (comes_reply f r) = reply_answers u t r
+      come_answers u t (comes_reply f r) = reply_answers bytes word determined problems_determined scope problem asked u t r
 
       -- the answer to what the bytes and the words ask is left
       pub leaves_answer : Leaves (IsAnswer scope problem) s before after

@@ -10,7 +10,8 @@ use Rattle.fvn_terms.specs.Substitution.{Substitution, apply, apply_all, same_va
 use Rattle.fvn_terms.specs.Signature.{kind, IsSort, HasKind, same}
 use Rattle.fvn_terms.specs.Places.{stop}
 use Rattle.fvn_terms.specs.Sorts.{HasSort, IsWellSorted}
-use Rattle.fvn_tool.specs.Free.{the_sort, IsFirstForm}
+use Rattle.fvn_module.specs.ModuleText.{the_sort}
+use Rattle.fvn_module.specs.Facts.{IsFirstForm}
 use Rattle.fvn_tool.specs.declared.free.table.Table.{Table}
 use Rattle.fvn_tool.specs.FreeValues.{IsValue, AreValues}
 use Rattle.fvn_tool.specs.FreeNumbering.{IsRenaming}

@@ -8,7 +8,8 @@ use Rattle.fvn_terms.specs.declared.plain.Plain.TheVariants.{Var as Variable}
 use Rattle.fvn_terms.specs.Term.{Term, Terms, var, app, none, more}
 use Rattle.fvn_terms.specs.Substitution.{Substitution, apply, apply_all, followed_by, Occurs, OccursAmong, same_truth, same_var, bound, term_or, value}
 use Rattle.fvn_terms.proofs.Substitutions.{apply_all-apply_all, apply_all-agree, apply_all-var}
-use Rattle.fvn_tool.specs.Free.{the_sort, variables_of, variables_among, fresh, AreNumberedFrom, AreNumbered, no_more, seen, «new»}
+use Rattle.fvn_module.specs.ModuleText.{the_sort}
+use Rattle.fvn_tool.specs.Free.{variables_of, variables_among, fresh, AreNumberedFrom, AreNumbered, no_more, seen, «new»}
 use Rattle.fvn_tool.specs.FreeNumbering.{is_among, noted, numbered_from, IsRenaming, AreRenamed}
 
 -- the test of variables
@@ -291,7 +292,7 @@ mutual
   variables_of-apply s f (var x) h = ap variables_of (h x refl)
   variables_of-apply s f (app o ts) h = variables_among-apply s f ts h
 
-  variables_among-apply : (s : Substitution) (f : Var → Var) (ts : Terms) → ((x : Var) → OccursAmong x ts → s x ≡ var (f x)) → variables_among (apply_all s ts) ≡ map f (variables_among ts)
+  pub variables_among-apply : (s : Substitution) (f : Var → Var) (ts : Terms) → ((x : Var) → OccursAmong x ts → s x ≡ var (f x)) → variables_among (apply_all s ts) ≡ map f (variables_among ts)
   variables_among-apply s f none h = refl
   variables_among-apply s f (more t ts) h =
       ap (λ xs. xs ++ variables_among (apply_all s ts)) (variables_of-apply s f t (λ x o. h x (inl o))) ∙ ap (λ xs. map f (variables_of t) ++ xs) (variables_among-apply s f ts (λ x o. h x (inr o)))

@@ -13,7 +13,8 @@ use Rattle.fvn_terms.specs.Places.{stop}
 use Rattle.fvn_terms.specs.Sorts.{Gets, GetAtMost, HasSort, is_declared}
 use Rattle.fvn_terms.specs.Laws.{IsFree}
 use Rattle.fvn_tool.specs.declared.free.table.Table.{Table}
-use Rattle.fvn_tool.specs.Free.{the_sort, the_kind, IsFirstForm}
+use Rattle.fvn_module.specs.ModuleText.{the_sort, the_kind}
+use Rattle.fvn_module.specs.Facts.{IsFirstForm}
 use Rattle.fvn_tool.specs.FreeTable.{subterm, subterms, IsOrdered, HaveKind}
 use Rattle.fvn_tool.specs.FreeClasses.{class_of}
 use Rattle.fvn_tool.specs.FreeValues.{IsValue, AreValues}
@@ -47,7 +48,7 @@ module _ (d : Declarations) where
     pub free_operators : IsFree d
     free_operators f =
         elim (cases_lt f.0 (length d.ops)) [
-          | inl l ↦ (first.operators f.0 unknown l).axioms
+          | inl l ↦ ap (λ o. o.axioms) (first.operators f.0 unknown l).1
           | inr g ↦ ap (λ o. o.axioms) (get_or_past d.ops f.0 unknown g)
         ]
 

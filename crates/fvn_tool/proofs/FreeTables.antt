@@ -1,11 +1,12 @@
 -- The terms of a table as it grows.
-use Rattle.std.proofs.Common.{◌≡◌, ℕ, zero, suc, ◌+◌, ◌<◌, ◌≤◌, List, [], ◌∷◌, ◌++◌, length, map, get_or, take, drop, refl, sym, ap, ◌∙◌, subst, inl, inr, arith, All, Contains, append_assoc, length-append}
+use Rattle.std.proofs.Common.{◌≡◌, ℕ, zero, suc, ◌+◌, ◌<◌, ◌≤◌, List, [], ◌∷◌, ◌++◌, length, map, get_or, take, drop, refl, sym, ap, ◌∙◌, subst, inl, inr, arith, All, Contains, replicate, append_assoc, length-append}
 use Rattle.std.proofs.lemmas.List.{get_or_append_left, length_push, get_or_push, get_or-map, length-map, append-nil}
-use Rattle.std.proofs.lemmas.List.Elements.{All-push}
+use Rattle.std.proofs.lemmas.List.Elements.{All-push, All-replicate}
 use Rattle.std.proofs.lemmas.Bool.{cases_lt}
 use Rattle.fvn_terms.specs.declared.plain.Var.{Var}
 use Rattle.fvn_terms.specs.declared.plain.Plain.{Plain}
 use Rattle.fvn_terms.specs.declared.plain.SortId.{SortId}
+use Rattle.fvn_terms.specs.declared.declarations.OpDecl.{OpDecl}
 use Rattle.fvn_terms.specs.declared.declarations.Declarations.{Declarations}
 use Rattle.fvn_terms.specs.Term.{Term, Terms, var, app, none, more, pack}
 use Rattle.std.proofs.lemmas.List.{drop_more, take_more, map_push, get_or_past, get_or_default, take-append-drop, length-take-le}
@@ -17,7 +18,8 @@ use Rattle.fvn_terms.specs.Plain.{term, terms}
 use Rattle.fvn_terms.specs.Substitution.{Occurs, OccursAmong}
 use Rattle.fvn_terms.specs.Signature.{kind, declared, unknown, HasKind, HaveKinds}
 use Rattle.fvn_terms.proofs.Plains.{push, terms-push}
-use Rattle.fvn_tool.specs.Free.{the_sort, the_kind, IsPlainOperator, IsFirstForm}
+use Rattle.fvn_module.specs.ModuleText.{the_sort, the_kind}
+use Rattle.fvn_module.specs.Facts.{IsFreeOperator, IsFirstForm}
 use Rattle.fvn_tool.specs.declared.free.table.Application.{Application}
 use Rattle.fvn_tool.specs.declared.free.table.Table.{Table}
 use Rattle.fvn_tool.specs.FreeTable.{count, nothing, headed, terms_from, subterms, subterm, over, IsAt, IsOrdered, Extends, HaveKind, EachHasKind}
@@ -155,14 +157,27 @@ pub record IsPlainRank (r : Rank) : Type 0 where
   pub args : All (λ s. s ≡ the_sort) r.args
   pub result : r.result ≡ the_sort
 
+-- without axioms, and declared once, on the sort alone
+record IsPlainOperator (o : OpDecl) : Type 0 where
+  pub rank : Rank
+  pub once : o.ranks ≡ rank ∷ []
+  pub plain : IsPlainRank rank
+
+plain_operator : (o : OpDecl) → IsFreeOperator o → IsPlainOperator o
+plain_operator o h = subst IsPlainOperator (sym h.1) (record {
+  rank = record { args = replicate h.0 the_sort; result = the_sort };
+  once = refl;
+  plain = record { args = All-replicate (λ s. s ≡ the_sort) h.0 the_sort refl; result = refl };
+})
+
 module _ (d : Declarations) (first : IsFirstForm d) where
   pub kind-the_sort : kind d the_sort ≡ the_kind
   kind-the_sort = ap (λ ks. get_or ks 0 the_sort) first.kinds
 
-  pub declared_plain : (f : OpId) (r : Rank) → Contains (declared d f).ranks r → IsPlainOperator (declared d f)
+  declared_plain : (f : OpId) (r : Rank) → Contains (declared d f).ranks r → IsPlainOperator (declared d f)
   declared_plain f r c =
       elim (cases_lt f.0 (length d.ops)) [
-        | inl l ↦ first.operators f.0 unknown l
+        | inl l ↦ plain_operator (declared d f) (first.operators f.0 unknown l)
         | inr g ↦ absurd (let e = get_or_past d.ops f.0 unknown g in let n = ap (λ o. length o.ranks) e in let l = c.1 in omega (arith, n, l))
       ]
 
@@ -177,7 +192,7 @@ module _ (d : Declarations) (first : IsFirstForm d) where
   plain_rank f r c =
       let p = declared_plain f r c in
       let e = only_rank (declared d f).ranks p.rank r p.once c in
-      record { args = subst (λ q. All (λ s. s ≡ the_sort) q.args) (sym e) p.args; result = ap (λ q. q.result) e ∙ p.result }
+      subst IsPlainRank (sym e) p.plain
 
   EachHasKind-from : (ss : List SortId) (ts : Terms) → All (λ s. s ≡ the_sort) ss → HaveKinds d ts (map (kind d) ss) → EachHasKind d ts the_kind
   EachHasKind-from ss none a h = tt

@@ -1,5 +1,5 @@
 -- Values of the classes of a problem's table are a most general unifier, and there is none if a class has no value.
-use Rattle.std.proofs.Common.{◌≡◌, ℕ, zero, suc, ◌+◌, ◌<◌, ◌≤◌, List, [], ◌∷◌, ◌++◌, length, map, get_or, take, refl, sym, ap, ◌∙◌, subst, inl, inr, arith, All, Contains}
+use Rattle.std.proofs.Common.{◌≡◌, ℕ, zero, suc, ◌+◌, ◌<◌, ◌≤◌, List, [], ◌∷◌, ◌++◌, length, map, get_or, take, refl, sym, ap, ◌∙◌, subst, inl, inr, arith, All, Contains, Option, Some, IfSome, Vec, Global}
 use Rattle.std.proofs.lemmas.Bool.{cases_lt}
 use Rattle.std.proofs.lemmas.List.{length-append, get_or_default, get_or-take, length-take-le}
 use Rattle.std.proofs.lemmas.List.Elements.{All-take}
@@ -17,7 +17,9 @@ use Rattle.fvn_terms.specs.Unifiers.{IsUnifier}
 use Rattle.fvn_terms.proofs.Substitutions.{apply-apply, apply-agree}
 use Rattle.fvn_terms.proofs.WellSorted.{IsWellSorted-followed_by, IsUnifier-followed_by}
 use Rattle.fvn_terms.proofs.Free.{BEqual-free}
-use Rattle.fvn_tool.specs.Free.{the_sort, the_kind, IsFirstForm, ListsVariables, IsMostGeneral, HasNoUnifier, IsTooLarge, variables_of, variables_among}
+use Rattle.fvn_module.specs.ModuleText.{the_sort, the_kind}
+use Rattle.fvn_module.specs.Facts.{IsFirstForm}
+use Rattle.fvn_tool.specs.Free.{ListsVariables, IsMostGeneral, HasNoUnifier, IsTooLarge, variables_of, variables_among}
 use Rattle.fvn_tool.specs.declared.free.table.Table.{Table}
 use Rattle.fvn_tool.specs.declared.free.values.Entry.{Entry}
 use Rattle.fvn_tool.specs.FreeTable.{count, subterm, HaveKind, IsTableOf}
@@ -36,40 +38,64 @@ use Rattle.fvn_tool.proofs.FreeSmall.{length-variables, length-noted, variables-
 equal-BEqual : (d : Declarations) (t u : Term) → t ≡ u → BEqual d t u
 equal-BEqual d t u e = subst (BEqual d t) e stop
 
-module _ (d : Declarations) (first : IsFirstForm d) (vars : List Var) (left right : Term) (listed : ListsVariables vars left right) (left_kind : HasKind d left the_kind) (right_kind : HasKind d right the_kind)
-    (t : Table) (l r : ℕ) (table : IsTableOf vars left right t l r) (cs : List ℕ) (classes : AreClassesOf t l r cs) where
+All-one : (P : Term × Term → Type 0) (p : Term × Term) → P p → All P (p ∷ [])
+All-one P p h zero q g = h
+All-one P p h (suc k) q g = absurd (omega (arith, g))
+
+-- what stands fixed once a problem of one sort and free operators has the classes of its table
+pub record IsPosed (d : Declarations) (vars : List Var) (left right : Term) (t : Table) (l r : ℕ) (cs : List ℕ) : Type 0 where
+  pub first : IsFirstForm d
+  pub listed : ListsVariables vars left right
+  pub left_kind : HasKind d left the_kind
+  pub right_kind : HasKind d right the_kind
+  pub table : IsTableOf vars left right t l r
+  pub classes : AreClassesOf t l r cs
+
+pub IsPosed-classes : {d : Declarations} {vars : List Var} {left right : Term} {t : Table} {l r : ℕ} {cs : List ℕ} {found : Option (Vec ℕ Global)} {items : Vec ℕ Global} →
+    IsFirstForm d → ListsVariables vars left right → HasKind d left the_kind → HasKind d right the_kind → IsTableOf vars left right t l r →
+    found ≡ Some items → cs ≡ items.items → IfSome found (λ v. AreClassesOf t l r v.items) → IsPosed d vars left right t l r cs
+IsPosed-classes {d} {vars} {left} {right} {t} {l} {r} first listed left_kind right_kind table found_is items_are classes = record {
+  first = first;
+  listed = listed;
+  left_kind = left_kind;
+  right_kind = right_kind;
+  table = table;
+  classes = subst (AreClassesOf t l r) (sym items_are) (subst (λ (o : Option (Vec ℕ Global)). IfSome o (λ v. AreClassesOf t l r v.items)) found_is classes);
+}
+
+module _ {d : Declarations} {vars : List Var} {left right : Term} {t : Table} {l r : ℕ} {cs : List ℕ} (posed : IsPosed d vars left right t l r cs) where
   abbrev m : ℕ
   m = length t.vars.items
 
   kinds : HaveKind d t the_kind
-  kinds = table.kinds d first left_kind right_kind
+  kinds = posed.table.kinds d posed.first posed.left_kind posed.right_kind
 
   sorts : All (λ x. x.sort ≡ the_sort) t.vars.items
-  sorts = subst (All (λ x. x.sort ≡ the_sort)) (sym table.listed) listed.sorts
+  sorts = subst (All (λ x. x.sort ≡ the_sort)) (sym posed.table.listed) posed.listed.sorts
 
   number-length : length vars ≡ m
-  number-length = ap length (sym table.listed)
+  number-length = ap length (sym posed.table.listed)
 
   m-within : m ≤ count t
   m-within = omega arith
 
   length-classes : length (take m cs) ≡ m
-  length-classes = length-take-le m cs (let n = classes.partition.all in omega (arith, n))
+  length-classes = length-take-le m cs (let n = posed.classes.partition.all in omega (arith, n))
 
   -- a unifier makes the subterms of each class equal
   pub MakesEqual-unifier : (u : Substitution) → IsUnifier d ((left, right) ∷ []) u → MakesEqual t cs u
   MakesEqual-unifier u h =
-      let e = BEqual-free d (free_operators d first) (apply u left) (apply u right) (h.1 0 (left, right) (omega arith)) in
-      classes.valid u (ap (apply u) table.left_is ∙ e ∙ sym (ap (apply u) table.right_is))
+      let e = BEqual-free d (free_operators d posed.first) (apply u left) (apply u right) (h.1 0 (left, right) (omega arith)) in
+      posed.classes.valid u (ap (apply u) posed.table.left_is ∙ e ∙ sym (ap (apply u) posed.table.right_is))
 
   -- a class of which nothing can be noted
   pub HasNoUnifier-unknown : (entries : List Entry) → AllStuck t cs entries → HasUnknown cs entries cs → HasNoUnifier d left right
   HasNoUnifier-unknown entries stuck h u unifier =
       let i : ℕ = h.listed.0 in
-      let within : i < count t = let n = classes.partition.all in let w = h.listed.1 in omega (arith, n, w) in
+      let within : i < count t = let n = posed.classes.partition.all in let w = h.listed.1 in omega (arith, n, w) in
       let same : class_of cs i ≡ h.child = get_or_default cs i 0 h.child h.listed.1 ∙ h.listed.2 in
       let unknown = subst (λ c. IsUnknown entries (class_of cs c)) (sym same) h.unknown in
-      none_unknown t cs table.ordered u (MakesEqual-unifier u unifier) classes.partition entries stuck (class_of cs i) (classes.partition.within i within) unknown
+      none_unknown t cs posed.table.ordered u (MakesEqual-unifier u unifier) posed.classes.partition entries stuck (class_of cs i) (posed.classes.partition.within i within) unknown
 
   -- values of the classes of the variables
   module _ (ts : Terms) (values : AreValues t cs ts (take m cs)) where
@@ -78,7 +104,7 @@ module _ (d : Declarations) (first : IsFirstForm d) (vars : List Var) (left righ
 
     pub number-values_of : number ts ≡ length vars
     number-values_of =
-        let n = number-values d first t table.ordered cs kinds sorts ts (take m cs) values in
+        let n = number-values d posed.first t posed.table.ordered cs kinds sorts ts (take m cs) values in
         let k = number-length in
         let o = length-classes in
         omega (arith, n, k, o)
@@ -87,33 +113,29 @@ module _ (d : Declarations) (first : IsFirstForm d) (vars : List Var) (left righ
     value-of i x h e =
         let k = number-length in
         let o = length-classes in
-        let here : get_or vars i x ≡ x = ap (λ xs. get_or xs i x) (sym table.listed) ∙ e in
-        let p = place_of-apart vars listed.each_once i x (omega (arith, h, k)) here in
+        let here : get_or vars i x ≡ x = ap (λ xs. get_or xs i x) (sym posed.table.listed) ∙ e in
+        let p = place_of-apart vars posed.listed.each_once i x (omega (arith, h, k)) here in
         let v = assigned-value t cs vars ts (take m cs) x (omega (arith, k, o)) values (omega (arith, p, h, k)) in
         subst (λ c. IsValue t cs (s x) c) (ap (λ j. get_or (take m cs) j 0) p ∙ get_or-take m cs i 0 h) v
 
     IsWellSorted-values : IsWellSorted d s
-    IsWellSorted-values = IsWellSorted-assigned d first vars ts listed.sorts (AreSorted-values d first t table.ordered cs kinds sorts ts (take m cs) values)
+    IsWellSorted-values = IsWellSorted-assigned d posed.first vars ts posed.listed.sorts (AreSorted-values d posed.first t posed.table.ordered cs kinds sorts ts (take m cs) values)
 
     sides : apply s left ≡ apply s right
     sides =
-        ap (apply s) (sym table.left_is) ∙ subterms-together t cs table.ordered s value-of classes.closed l r table.left_within table.right_within classes.joined ∙ ap (apply s) table.right_is
+        ap (apply s) (sym posed.table.left_is) ∙ subterms-together t cs posed.table.ordered s value-of posed.classes.closed l r posed.table.left_within posed.table.right_within posed.classes.joined ∙ ap (apply s) posed.table.right_is
 
     IsUnifier-values : IsUnifier d ((left, right) ∷ []) s
     IsUnifier-values = (IsWellSorted-values, All-one (λ p. BEqual d (apply s p.0) (apply s p.1)) (left, right) (equal-BEqual d (apply s left) (apply s right) sides))
-      where
-        All-one : (P : Term × Term → Type 0) (p : Term × Term) → P p → All P (p ∷ [])
-        All-one P p h zero q g = h
-        All-one P p h (suc k) q g = absurd (omega (arith, g))
 
     -- each unifier goes through s
     through : (u : Substitution) → IsUnifier d ((left, right) ∷ []) u → (x : Var) → Contains vars x → u x ≡ apply u (s x)
     through u unifier x c =
         let i : ℕ = c.0 in
         let h : i < m = let k = number-length in let w = c.1 in omega (arith, k, w) in
-        let here : get_or t.vars.items i x ≡ x = ap (λ xs. get_or xs i x) table.listed ∙ c.2 in
+        let here : get_or t.vars.items i x ≡ x = ap (λ xs. get_or xs i x) posed.table.listed ∙ c.2 in
         let within : i < count t = omega (arith, h) in
-        let same = apply-IsValue t cs table.ordered u (MakesEqual-unifier u unifier) (s x) (class_of cs i) i (value-of i x h here) within refl in
+        let same = apply-IsValue t cs posed.table.ordered u (MakesEqual-unifier u unifier) (s x) (class_of cs i) i (value-of i x h here) within refl in
         ap (apply u) (sym (subterm-var t i x h here)) ∙ sym same
 
     pub IsMostGeneral-values : IsMostGeneral d vars left right s
@@ -126,14 +148,14 @@ module _ (d : Declarations) (first : IsFirstForm d) (vars : List Var) (left righ
     pub IsTooLarge-values : (limit i : ℕ) → i < m → HasLargeValue t cs limit (class_of cs i) → IsTooLarge d vars left right limit
     IsTooLarge-values limit i h large =
         let x = variable_at t.vars.items i h in
-        let same = IsValue-unique t cs classes.closed (s x.variable) large.by (class_of cs i) (value-of i x.variable h x.is) large.value in
+        let same = IsValue-unique t cs posed.classes.closed (s x.variable) large.by (class_of cs i) (value-of i x.variable h x.is) large.value in
         let n = large.large in
         let size = ap nodes same in
         record {
           by = s;
           most_general = IsMostGeneral-values;
           variable = x.variable;
-          listed = (i, (let k = number-length in omega (arith, k, h)), ap (λ xs. get_or xs i x.variable) (sym table.listed) ∙ x.is);
+          listed = (i, (let k = number-length in omega (arith, k, h)), ap (λ xs. get_or xs i x.variable) (sym posed.table.listed) ∙ x.is);
           large = omega (arith, n, size);
         }
 
@@ -172,7 +194,7 @@ module _ (d : Declarations) (first : IsFirstForm d) (vars : List Var) (left righ
           ]
 
       side : (side : Term) → ((x : Var) → Occurs x side → Contains vars x) → apply (value after) side ≡ apply (followed_by s renamed.there) side
-      side u occurs = apply-agree (value after) (followed_by s renamed.there) u (λ x o. given-within x (place_of-within vars listed.each_once x (occurs x o)))
+      side u occurs = apply-agree (value after) (followed_by s renamed.there) u (λ x o. given-within x (place_of-within vars posed.listed.each_once x (occurs x o)))
 
       IsUnifier-given : IsUnifier d ((left, right) ∷ []) (value after)
       IsUnifier-given = (
@@ -181,15 +203,11 @@ module _ (d : Declarations) (first : IsFirstForm d) (vars : List Var) (left righ
             (
             equal-BEqual d (apply (value after) left) (apply (value after) right)
             (
-            side left (λ x o. listed.complete x (inl o)) ∙ sym (apply-apply s renamed.there left) ∙ ap (apply renamed.there) sides ∙ apply-apply s renamed.there right
-            ∙ sym (side right (λ x o. listed.complete x (inr o)))
+            side left (λ x o. posed.listed.complete x (inl o)) ∙ sym (apply-apply s renamed.there left) ∙ ap (apply renamed.there) sides ∙ apply-apply s renamed.there right
+            ∙ sym (side right (λ x o. posed.listed.complete x (inr o)))
             )
             ),
       )
-        where
-          All-one : (P : Term × Term → Type 0) (p : Term × Term) → P p → All P (p ∷ [])
-          All-one P p h zero q g = h
-          All-one P p h (suc k) q g = absurd (omega (arith, g))
 
       pub IsMostGeneral-renamed : IsMostGeneral d vars left right (value after)
       IsMostGeneral-renamed = record {
@@ -199,7 +217,7 @@ module _ (d : Declarations) (first : IsFirstForm d) (vars : List Var) (left righ
           well_sorted = IsWellSorted-followed_by d renamed.back u (IsWellSorted-renaming d renamed.back renamed.back_renames) unifier.0;
           equal = λ x c.
               equal-BEqual d (u x) (apply (followed_by renamed.back u) (value after x))
-              (through u unifier x c ∙ ap (apply u) (back-within x (place_of-within vars listed.each_once x c)) ∙ apply-apply renamed.back u (value after x));
+              (through u unifier x c ∙ ap (apply u) (back-within x (place_of-within vars posed.listed.each_once x c)) ∙ apply-apply renamed.back u (value after x));
         };
       }
 
@@ -207,11 +225,11 @@ module _ (d : Declarations) (first : IsFirstForm d) (vars : List Var) (left righ
   pub IsTooLarge-entries : (limit : ℕ) (entries : List Entry) → length entries ≡ count t → AreRight t cs limit entries → ((i : ℕ) → i < count t → IsKnown entries (class_of cs i)) → (i : ℕ) → i < m → HasLargeValue t cs limit (class_of cs i) → IsTooLarge d vars left right limit
   IsTooLarge-entries limit entries n right known i h large =
       let within : All (λ c. c < length entries) cs = λ k e g.
-      let a = classes.partition.all in
-      let w = classes.partition.within k (omega (arith, g, a)) in
+      let a = posed.classes.partition.all in
+      let w = posed.classes.partition.within k (omega (arith, g, a)) in
       let same = get_or_default cs k e 0 g in
       omega (arith, w, same, n) in
-      let all_known : All (IsKnown entries) cs = λ k e g. let a = classes.partition.all in subst (IsKnown entries) (sym (get_or_default cs k e 0 g)) (known k (omega (arith, g, a))) in
+      let all_known : All (IsKnown entries) cs = λ k e g. let a = posed.classes.partition.all in subst (IsKnown entries) (sym (get_or_default cs k e 0 g)) (known k (omega (arith, g, a))) in
       let vs = values_of t cs limit entries right (take m cs) (All-take (λ c. c < length entries) m cs within) (All-take (IsKnown entries) m cs all_known) in
       IsTooLarge-values vs.by vs.values limit i h large
 
@@ -222,8 +240,8 @@ module _ (d : Declarations) (first : IsFirstForm d) (vars : List Var) (left righ
   occurring : (i : ℕ) (x : Var) → i < m → get_or t.vars.items i x ≡ x → Member x (variables_of left ++ variables_of right)
   occurring i x h e =
       let k = number-length in
-      let here : Contains vars x = (i, omega (arith, k, h), ap (λ xs. get_or xs i x) (sym table.listed) ∙ e) in
-      elim (listed.occurring x here) [
+      let here : Contains vars x = (i, omega (arith, k, h), ap (λ xs. get_or xs i x) (sym posed.table.listed) ∙ e) in
+      elim (posed.listed.occurring x here) [
         | inl o ↦ Member-append_left x (variables_of left) (variables_of right) (Member-variables x left o)
         | inr o ↦ Member-append_right x (variables_of left) (variables_of right) (Member-variables x right o)
       ]
@@ -237,8 +255,8 @@ module _ (d : Declarations) (first : IsFirstForm d) (vars : List Var) (left righ
       let b = length-variables right in
       omega (arith, few, n, a, b)
 
--- the clauses on values of the problem's variables, where there are as many as the table has
-pub HasNoUnifier-impossible : (d : Declarations) → IsFirstForm d → (vars : List Var) (left right : Term) (t : Table) (l r : ℕ) → IsTableOf vars left right t l r →
+-- no substitution that makes the two subterms equal, no unifier
+pub HasNoUnifier-impossible : {d : Declarations} {vars : List Var} {left right : Term} {t : Table} {l r : ℕ} → IsFirstForm d → IsTableOf vars left right t l r →
     ((u : Substitution) → apply u (subterm t l) ≡ apply u (subterm t r) → ⊥) → HasNoUnifier d left right
-HasNoUnifier-impossible d first vars left right t l r table impossible u unifier =
+HasNoUnifier-impossible {d} {vars} {left} {right} first table impossible u unifier =
     impossible u (ap (apply u) table.left_is ∙ BEqual-free d (free_operators d first) (apply u left) (apply u right) (unifier.1 0 (left, right) (omega arith)) ∙ sym (ap (apply u) table.right_is))

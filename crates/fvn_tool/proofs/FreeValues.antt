@@ -5,7 +5,9 @@ use Rattle.std.proofs.lemmas.Bool.{cases_eq}
 use Rattle.std.proofs.lemmas.List.{get_or_default, get_or-set_same, get_or-set_other, take-append-drop, drop_more, map-append, length-set}
 use Rattle.std.proofs.lemmas.List.Sums.{sum_by-set}
 use Rattle.std.proofs.lemmas.List.Elements.{All-head, All-tail, All-drop, All-map, All-weaker}
+use Rattle.fvn_terms.specs.declared.plain.Var.{Var}
 use Rattle.fvn_terms.specs.declared.plain.Plain.{Plain}
+use Rattle.fvn_terms.specs.declared.plain.Plain.TheVariants.{Var as Variable}
 use Rattle.fvn_terms.specs.Term.{Term, Terms, none, more, nodes, nodes_all}
 use Rattle.fvn_terms.specs.Plain.{term, terms}
 use Rattle.fvn_terms.proofs.Plains.{push, terms-push}
@@ -14,7 +16,7 @@ use Rattle.fvn_tool.specs.declared.free.values.Entry.{Entry}
 use Rattle.fvn_tool.specs.declared.free.values.Entry.TheVariants.{Unknown, Large, Small}
 use Rattle.fvn_tool.specs.FreeTable.{count}
 use Rattle.fvn_tool.specs.FreeClasses.{class_of, IsPartition}
-use Rattle.fvn_tool.specs.FreeValues.{IsValue, AreValues, HaveLargeValues, IsRight, is_unknown, entry_of, AreRight, IsUnknown, IsKnown}
+use Rattle.fvn_tool.specs.FreeValues.{IsFreeClass, IsValue, AreValues, HaveLargeValues, IsRight, is_unknown, entry_of, AreRight, IsUnknown, IsKnown}
 
 -- one list of terms and then another
 abbrev append : Terms → Terms → Terms
@@ -38,6 +40,10 @@ pub record HasValue (t : Table) (cs : List ℕ) (c : ℕ) : Type 0 where
 pub record HaveValues (t : Table) (cs ds : List ℕ) : Type 0 where
   pub by : Terms
   pub values : AreValues t cs by ds
+
+-- what can be noted of a class without an application
+pub IsRight-free : (t : Table) (cs : List ℕ) (limit c : ℕ) (x : Var) → IsFreeClass t cs x c → 0 < limit → IsRight t cs limit c (Small (Variable x))
+IsRight-free t cs limit c x free positive = (free, positive)
 
 module _ (t : Table) (cs : List ℕ) where
   AreValues-append : (us vs : Terms) (ds es : List ℕ) → AreValues t cs us ds → AreValues t cs vs es → AreValues t cs (append us vs) (ds ++ es)

@@ -17,3 +17,5 @@ pub mod Pairs
 pub mod Answers
 pub mod FreeSmall
 pub mod FreeExact
+pub mod NumberedAlike
+pub mod Determined

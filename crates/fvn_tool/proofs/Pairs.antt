@@ -10,7 +10,7 @@ use Rattle.fvn_terms.specs.Substitution.{Substitution, same_var, bound, term_or,
 use Rattle.fvn_tool.proofs.FreeNumbering.{same_var-same, same_var-false}
 
 -- a variable with its term
-abbrev given : Substitution → Var → Var × Term
+abbrev pub given : Substitution → Var → Var × Term
 given s x = (x, s x)
 
 abbrev pub bound_term : Var × Plain → Var × Term

@@ -1,5 +1,5 @@
 -- What an answer shows of its problem.
-use Rattle.std.proofs.Common.{◌≡◌, ◌≤◌, ℕ, List, [], ◌∷◌, Contains, refl, sym, arith}
+use Rattle.std.proofs.Common.{◌≡◌, ◌≤◌, ℕ, List, [], ◌∷◌, Option, Contains, refl, sym, arith}
 use Rattle.std.proofs.lemmas.List.Elements.{All-from_recursion, All-contains}
 use Rattle.fvn_terms.specs.declared.plain.Var.{Var}
 use Rattle.fvn_terms.specs.Term.{nodes}
@@ -10,7 +10,8 @@ use Rattle.fvn_module.specs.declared.first.problem_text.FirstProblem.{FirstProbl
 use Rattle.fvn_tool.specs.declared.status.Status.{Status}
 use Rattle.fvn_tool.specs.Free.{IsMostGeneral}
 use Rattle.fvn_tool.specs.Replies.{End, complete, bound_size, Unifies, ExceedsSize, size_limit, IsPrintable, IsAnswer, unified, not_unified, too_large}
-use Rattle.fvn_tool.specs.Claims.{Shows, IsRight, EndsComplete}
+use Rattle.fvn_tool.specs.Claims.{Shows, Answers, IsRight, EndsComplete}
+use Rattle.fvn_tool.proofs.Outcomes.{Leaves-weaker}
 
 complete-injective : (n m : ℕ) → complete n ≡ complete m → n ≡ m
 complete-injective n m e = cc
@@ -18,14 +19,19 @@ complete-injective n m e = cc
 not_bound : (n : ℕ) → complete n ≡ bound_size → ⊥
 not_bound n e = cc
 
-module _ (scope : FirstModule) (problem : FirstProblem) where
-  -- a claim in other words
-  pub Shows-weaker : (Claim Other : Status → List Substitution → End → Type 0) → ((u : Status) (values : List Substitution) (end : End) → Claim u values end → Other u values end) → (u : Status) (t : List ℕ) → Shows scope problem Claim u t → Shows scope problem Other u t
-  Shows-weaker Claim Other w u t h = record { answering = h.answering; values = h.values; end = h.end; text_is = h.text_is; claim = w u h.values h.end h.claim }
+-- what is claimed of answers may be said in other words
+pub Answers-weaker : (Claim Other : (scope : FirstModule) (problem : FirstProblem) → Status → List Substitution → End → Type 0) →
+    ((scope : FirstModule) (problem : FirstProblem) (u : Status) (values : List Substitution) (end : End) → Claim scope problem u values end → Other scope problem u values end) →
+    (words : List (List ℕ)) (left : Option (List ℕ)) (s : Status) (before after : Option (List ℕ)) → Answers Claim words left s before after → Answers Other words left s before after
+Answers-weaker Claim Other w words left s before after h bytes word told command scope problem asked =
+    Leaves-weaker (Shows scope problem (Claim scope problem)) (Shows scope problem (Other scope problem))
+    (λ u t k. record { answering = k.answering; values = k.values; end = k.end; text_is = k.text_is; claim = w scope problem u k.values k.end k.claim })
+    s before after (h bytes word told command scope problem asked)
 
+module _ (scope : FirstModule) (problem : FirstProblem) where
   -- the size that a printed unifier keeps to is exceeded by no other most general one
   module _ (same_sizes : (a b : Substitution) → IsMostGeneral scope.declarations problem.vars (term problem.left) (term problem.right) a → IsMostGeneral scope.declarations problem.vars (term problem.left) (term problem.right) b → (x : Var) → Contains problem.vars x → nodes (a x) ≤ nodes (b x)) where
-    not_exceeded : (s : Substitution) → IsPrintable scope problem s → ExceedsSize scope problem → ⊥
+    pub not_exceeded : (s : Substitution) → IsPrintable scope problem s → ExceedsSize scope problem → ⊥
     not_exceeded s p h =
         let fits = All-contains (λ x. nodes (s x) ≤ size_limit) problem.vars h.variable p.within h.listed in
         let less = same_sizes h.by s h.most_general p.most_general h.variable h.listed in

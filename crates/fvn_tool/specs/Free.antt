@@ -1,36 +1,11 @@
 -- Unification of two terms over one sort and free operators.
 use Rattle.std.specs.Prelude.{◌≡◌, ◌≢◌, ◌⊎◌, ◌<◌, ◌≤◌, ◌+◌, ℕ, false, true, List, [], ◌∷◌, ◌++◌, All, AllPairs, Contains}
 use Rattle.fvn_terms.specs.declared.plain.Var.{Var}
-use Rattle.fvn_terms.specs.declared.plain.SortId.{SortId}
-use Rattle.fvn_terms.specs.declared.declarations.Axioms.TheVariants.{Free}
-use Rattle.fvn_terms.specs.declared.declarations.Rank.{Rank}
-use Rattle.fvn_terms.specs.declared.declarations.OpDecl.{OpDecl}
 use Rattle.fvn_terms.specs.declared.declarations.Declarations.{Declarations}
 use Rattle.fvn_terms.specs.Term.{Term, Terms, var, app, none, more, nodes}
 use Rattle.fvn_terms.specs.Substitution.{Substitution, Occurs}
 use Rattle.fvn_terms.specs.Unifiers.{IsUnifier, IsInstance}
-
--- the sort, and its kind
-abbrev pub the_sort : SortId
-the_sort = record { 0 = 0 }
-
-abbrev pub the_kind : SortId
-the_kind = record { 0 = 1 }
-
--- without axioms, and declared once, on the sort alone
-pub record IsPlainOperator (o : OpDecl) : Type 0 where
-  pub axioms : o.axioms ≡ Free
-  pub rank : Rank
-  pub once : o.ranks ≡ rank ∷ []
-  pub args : All (λ s. s ≡ the_sort) rank.args
-  pub result : rank.result ≡ the_sort
-
--- one sort, and plain operators
-pub record IsFirstForm (d : Declarations) : Type 0 where
-  pub sorts : d.sorts ≡ 1
-  pub kinds : d.kinds ≡ the_kind ∷ the_kind ∷ []
-  pub below : d.below ≡ []
-  pub operators : All IsPlainOperator d.ops
+use Rattle.fvn_module.specs.ModuleText.{the_sort}
 
 -- vars has each variable of the two terms once, and no other
 pub record ListsVariables (vars : List Var) (left right : Term) : Type 0 where

@@ -7,6 +7,7 @@ pub mod Replies
 pub mod Outcomes
 pub mod Texts
 pub mod Claims
+pub mod Laws
 pub mod FreeTable
 pub mod FreeClasses
 pub mod FreeCompared

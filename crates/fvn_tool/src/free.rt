@@ -4,16 +4,9 @@ ghost use Rattle.fvn_terms.specs.Term.{nodes};
 ghost use Rattle.fvn_terms.specs.Plain.{term, terms};
 ghost use Rattle.fvn_terms.specs.Signature.{HasKind};
 ghost use Rattle.fvn_terms.specs.Substitution.{value};
-ghost use Rattle.fvn_tool.specs.Free.{
-  the_kind,
-  IsFirstForm,
-  ListsVariables,
-  IsMostGeneral,
-  HasNoUnifier,
-  IsTooLarge,
-  variables_among,
-  AreNumbered,
-};
+ghost use Rattle.fvn_module.specs.ModuleText.{the_kind};
+ghost use Rattle.fvn_module.specs.Facts.{IsFirstForm};
+ghost use Rattle.fvn_tool.specs.Free.{ListsVariables, IsMostGeneral, HasNoUnifier, IsTooLarge, variables_among, AreNumbered};
 ghost use Rattle.fvn_tool.specs.FreeAnswer.{IfMostGeneral, OnNoUnifier, OnTooLarge};
 
 mod classes;

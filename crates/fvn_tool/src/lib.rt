@@ -3,10 +3,12 @@
 
 mod answer;
 mod free;
+mod laws;
 mod lines;
 mod status;
 mod top;
 mod words;
 
+pub use laws::outcomes_are_determined;
 pub use status::Status;
 pub use top::run;

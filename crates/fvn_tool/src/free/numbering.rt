@@ -2,7 +2,8 @@
 ghost use Rattle.std.specs.Prelude.{◌≡◌, ℕ, ◌+◌, ◌<◌, ◌^◌, ◌-◌, [], All, map, length, IfOk, OnOk};
 ghost use Rattle.fvn_terms.specs.Plain.{term, terms};
 ghost use Rattle.fvn_terms.specs.Substitution.{value, apply_all};
-ghost use Rattle.fvn_tool.specs.Free.{the_sort, variables_of, variables_among, AreNumbered};
+ghost use Rattle.fvn_module.specs.ModuleText.{the_sort};
+ghost use Rattle.fvn_tool.specs.Free.{variables_of, variables_among, AreNumbered};
 ghost use Rattle.fvn_tool.specs.FreeNumbering.{is_among, noted, numbered_from, AreRenamed};
 
 use fvn_seq::Seq;

@@ -6,7 +6,9 @@ ghost use Rattle.fvn_terms.specs.Term.{nodes, nodes_all, pack};
 ghost use Rattle.fvn_terms.specs.Plain.{term};
 ghost use Rattle.fvn_terms.specs.Signature.{HasKind};
 ghost use Rattle.fvn_terms.specs.Substitution.{Occurs, OccursAmong};
-ghost use Rattle.fvn_tool.specs.Free.{the_kind, IsFirstForm, ListsVariables};
+ghost use Rattle.fvn_module.specs.ModuleText.{the_kind};
+ghost use Rattle.fvn_module.specs.Facts.{IsFirstForm};
+ghost use Rattle.fvn_tool.specs.Free.{ListsVariables};
 ghost use Rattle.fvn_tool.specs.FreeTable.{count, subterm, IsOrdered, Extends, HaveKind, EachHasKind, IsTableOf};
 
 use fvn_terms::{Args, NoMemory, OpId, Plain, Var};

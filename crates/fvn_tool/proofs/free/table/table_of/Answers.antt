@@ -1,5 +1,5 @@
 use Rattle.std.proofs.Common.{◌≡◌, All, arith, subst, ◌∙◌, sym}
-use Rattle.fvn_tool.specs.Free.{the_sort}
+use Rattle.fvn_module.specs.ModuleText.{the_sort}
 use Rattle.fvn_tool.proofs.FreeTables.{Extends-trans, count-Extends, subterm-Extends, HaveKind-variables}
 use Rattle.fvn_tool.proofs.free.table.table_of.Goals as goal
 

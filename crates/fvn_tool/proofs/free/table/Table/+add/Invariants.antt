@@ -2,7 +2,8 @@ use Rattle.std.proofs.Common.{◌≡◌, ◌<◌, All, map, take}
 use Rattle.fvn_terms.specs.declared.declarations.Declarations.{Declarations}
 use Rattle.fvn_terms.specs.Term.{pack}
 use Rattle.fvn_terms.specs.Plain.{terms}
-use Rattle.fvn_tool.specs.Free.{the_kind, IsFirstForm}
+use Rattle.fvn_module.specs.ModuleText.{the_kind}
+use Rattle.fvn_module.specs.Facts.{IsFirstForm}
 use Rattle.fvn_tool.specs.FreeTable.{count, subterm, IsOrdered, Extends, HaveKind, EachHasKind}
 use Rattle.fvn_tool.proofs.free.table.Table.+add.Given as goal
 

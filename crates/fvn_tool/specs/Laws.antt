@@ -1,0 +1,11 @@
+-- Laws of outcomes.
+use Rattle.std.specs.Prelude.{ℕ, List, Option, Some}
+use Rattle.fvn_tool.specs.declared.status.Status.{Status}
+use Rattle.fvn_tool.specs.Outcomes.{IsOutcome}
+use Rattle.fvn_tool.specs.Claims.{Is}
+
+-- words and the bytes of a source have one outcome: one status, and one text to the last byte
+abbrev pub OutcomesAreDetermined : Type 0
+OutcomesAreDetermined =
+    (words : List (List ℕ)) (bytes : List ℕ) (rest other : Option (List ℕ)) (status : Status) (text : List ℕ) → IsOutcome words (Some bytes) rest status text →
+    (s : Status) (t : List ℕ) → IsOutcome words (Some bytes) other s t → Is status text s t

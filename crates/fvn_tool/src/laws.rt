@@ -1,0 +1,14 @@
+//! A law of outcomes, the contract of a function that does nothing.
+ghost use Rattle.fvn_tool.specs.Laws.{OutcomesAreDetermined};
+
+use fvn_module::first::{modules_are_determined, modules_are_first, problems_are_determined};
+
+/// Words and the bytes of a source have one outcome: two runs over them that meet no fault and have memory enough end
+/// with the same status and the same text.
+pub fn outcomes_are_determined()
+    ensures { OutcomesAreDetermined }
+{
+    modules_are_determined();
+    modules_are_first();
+    problems_are_determined();
+}
