@@ -36,6 +36,14 @@ module _ (d : Declarations) where
     -- declarations name sorts
     pub ranks : (f : OpId) (r : Rank) → Contains (declared d f).ranks r → All (IsSort d) r.args × IsSort d r.result
 
+  -- the sort of a sum of three by f does not depend on its brackets
+  abbrev pub Associates : OpId → SortId → SortId → SortId → Type 0
+  Associates f a b c = result d f (result d f (a ∷ b ∷ []) ∷ c ∷ []) ≡ result d f (a ∷ result d f (b ∷ c ∷ []) ∷ [])
+
+  -- the sort is at or below that of its sum by f with the constant e
+  abbrev pub Collapses : OpId → OpId → SortId → Type 0
+  Collapses f e a = AtOrBelow d a (result d f (a ∷ result d e [] ∷ []))
+
   pub record IsWithinLimits : Type 0 where
     pub sorts : d.sorts ≤ 64
     pub operators : length d.ops ≤ 256
@@ -51,7 +59,7 @@ module _ (d : Declarations) where
     -- over any sorts of its argument kinds an operator has a least result
     pub preregular : (f : OpId) (args : List SortId) → TakesKinds f args → (r : SortId) × IsResult d f args r
     -- the sort of a sum does not depend on its brackets
-    pub associative_sorts : (f : OpId) (a b c : SortId) → IsAssociative (axioms d f) → IsOfKind f a → IsOfKind f b → IsOfKind f c → result d f (result d f (a ∷ b ∷ []) ∷ c ∷ []) ≡ result d f (a ∷ result d f (b ∷ c ∷ []) ∷ [])
-    -- taking an identity away never raises the sort
-    pub collapse : (f e : OpId) (a : SortId) → axioms d f ≡ AssocCommId e → IsOfKind f a → AtOrBelow d a (result d f (a ∷ result d e [] ∷ []))
+    pub associative_sorts : (f : OpId) (a b c : SortId) → IsAssociative (axioms d f) → IsOfKind f a → IsOfKind f b → IsOfKind f c → Associates f a b c
+    -- a sort is at or below that of its sum with the identity
+    pub collapse : (f e : OpId) (a : SortId) → axioms d f ≡ AssocCommId e → IsOfKind f a → Collapses f e a
     pub limits : IsWithinLimits

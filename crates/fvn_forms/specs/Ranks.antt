@@ -69,11 +69,12 @@ module _ (d : Declarations) where
   abbrev pub is_lowest : List SortId → SortId → Bool
   is_lowest qs r = list_all (at_or_below d r) qs
 
+  -- the kind of what the first of the ranks gives; without ranks sort 0
   abbrev pub first_result : List Rank → SortId
   first_result [] = sort_number 0
   first_result (r ∷ rs) = kind d r.result
 
-  -- the least sort to which f takes arguments of these sorts; where there is none, the kind of what f gives
+  -- the least sort to which f takes arguments of these sorts; where there is none, the kind of what f gives, or sort 0 where f is unknown
   unfoldable pub result : OpId → List SortId → SortId
   result f args =
       let rs = results (ranks_of f) args in

@@ -13,12 +13,13 @@ use Rattle.fvn_terms.specs.declared.declarations.OpDecl.{OpDecl}
 use Rattle.fvn_terms.specs.Signature.{kind, declared, unknown, IsSort}
 use Rattle.fvn_forms.specs.SortOrder.{sort_number, same_sort}
 use Rattle.fvn_forms.specs.Good.{IsKinded}
-use Rattle.fvn_forms.proofs.Among.{map_contains, filter_contains}
+use Rattle.fvn_forms.proofs.Among.{map_contains}
 use Rattle.fvn_forms.proofs.SortTests.{same_sort-self}
 use Rattle.fvn_sorts.specs.declared.collected.Declaration.{Declaration}
 use Rattle.fvn_sorts.specs.declared.collected.Collected.{Collected}
 use Rattle.fvn_sorts.specs.Collected.{IsClosed, Names, first_kind_number, op_number, same_op, declarations_of, joins, first_joined, is_first, first_sorts, parts_before, kind_of, kinds, meant, meant_or_kind, rank_meant, operator_meant, completed}
 use Rattle.fvn_sorts.proofs.Parts.{joins-below, first_joined-at, first_joined-same, first_joined-first, parts_before-more, kinds-length, kinds-at}
+use Rattle.fvn_sorts.proofs.Operators.{operators-long, declared_of}
 
 module _ (c : Collected) where
   total : ℕ
@@ -57,16 +58,23 @@ module _ (c : Collected) where
       let more = parts_before-more c (n + m) in
       subst (λ k. parts_before c n ≤ parts_before c k) (sym e) (omega arith)
 
+  -- the first sort of a part is counted before what comes after it
+  pub parts_before-less : (f n : ℕ) → f < n → is_first c (sort_number f) ≡ true → parts_before c f < parts_before c n
+  parts_before-less f n l is =
+      let more : parts_before c (f + 1) ≡ parts_before c f + 1 = parts_before-more c f ∙ ap (λ b. parts_before c f + cond b 1 0) is in
+      let rest = parts_before-mono (f + 1) (n - (f + 1)) in
+      let e : (f + 1) + (n - (f + 1)) ≡ n = omega arith in
+      let to_end : parts_before c (f + 1) ≤ parts_before c n = subst (λ k. parts_before c (f + 1) ≤ parts_before c k) e rest in
+      omega arith
+
+  pub first_joined-is_first : (s : SortId) → s.0 < c.sorts → is_first c (first_joined c s) ≡ true
+  first_joined-is_first s l = ap (λ z. same_sort z (first_joined c s)) (first_joined-first c s l) ∙ same_sort-self (first_joined c s)
+
   -- a sort's kind is one of the kinds
   pub kind_of-range : (s : SortId) → s.0 < c.sorts → (c.sorts ≤ (kind_of c s).0) × ((kind_of c s).0 < c.sorts + parts_before c c.sorts)
   kind_of-range s l =
-      let f : ℕ = (first_joined c s).0 in
       let at = (first_joined-at c s l).0 in
-      let is : is_first c (first_joined c s) ≡ true = ap (λ z. same_sort z (first_joined c s)) (first_joined-first c s l) ∙ same_sort-self (first_joined c s) in
-      let more : parts_before c (f + 1) ≡ parts_before c f + 1 = parts_before-more c f ∙ ap (λ b. parts_before c f + cond b 1 0) is in
-      let rest = parts_before-mono (f + 1) (c.sorts - (f + 1)) in
-      let e : (f + 1) + (c.sorts - (f + 1)) ≡ c.sorts = omega arith in
-      let to_end : parts_before c (f + 1) ≤ parts_before c c.sorts = subst (λ k. parts_before c (f + 1) ≤ parts_before c k) e rest in
+      let less = parts_before-less (first_joined c s).0 c.sorts (omega arith) (first_joined-is_first s l) in
       (omega arith, omega arith)
 
   -- joined sorts have one kind
@@ -79,8 +87,8 @@ module _ (c : Collected) where
     go (inl l) = let e = kind-sort s l in ap (kind (completed c)) e ∙ kind-own (kind_of c s) (kind_of-range s l).0 ∙ sym e
     go (inr l) = ap (kind (completed c)) (kind-own s l)
 
-  listed : (s : SortId) → IsSort (completed c) s → IsSort (completed c) (kind (completed c) s)
-  listed s h = go (cases_lt s.0 c.sorts) where
+  pub kind-listed : (s : SortId) → IsSort (completed c) s → IsSort (completed c) (kind (completed c) s)
+  kind-listed s h = go (cases_lt s.0 c.sorts) where
     go : (s.0 < c.sorts) ⊎ (c.sorts ≤ s.0) → IsSort (completed c) (kind (completed c) s)
     go (inl l) = subst (IsSort (completed c)) (sym (kind-sort s l)) (let r = (kind_of-range s l).1 in let e = kinds-long in omega arith)
     go (inr l) = subst (IsSort (completed c)) (sym (kind-own s l)) h
@@ -115,8 +123,7 @@ module _ (c : Collected) where
     go : (f.0 < c.operators) ⊎ (c.operators ≤ f.0) → declared (completed c) f ≡ operator_meant c (declarations_of c f)
     go (inl l) = get_or-map-range_with_len (λ n. operator_meant c (declarations_of c (op_number n))) 0 c.operators f.0 f.0 unknown l (omega arith)
     go (inr l) =
-        let long = length-map-range_with_len (λ n. operator_meant c (declarations_of c (op_number n))) 0 c.operators in
-        get_or_past (map (λ n. operator_meant c (declarations_of c (op_number n))) (range_with_len 0 c.operators)) f.0 unknown (omega arith)
+        get_or_past (completed c).ops f.0 unknown (omega (arith, operators-long c))
         ∙ ap (operator_meant c) (sym (none c.declarations closed.operators)) where
           none : (es : List Declaration) → All (λ e. e.op.0 < c.operators) es → filter (λ e. same_op e.op f) es ≡ []
           none [] h = refl
@@ -137,7 +144,7 @@ module _ (c : Collected) where
         subst (IsSort (completed c)) (sym e) (let r = (kind_of-range (sort_number (s.0 - first_kind_number)) l.1).1 in let long = kinds-long in omega arith)
 
     meant_or_kind-sort : (b : Bool) (s : SortId) → Names c.sorts s → IsSort (completed c) (meant_or_kind c b s)
-    meant_or_kind-sort true s h = listed (meant c s) (meant-sort s h)
+    meant_or_kind-sort true s h = kind-listed (meant c s) (meant-sort s h)
     meant_or_kind-sort false s h = meant-sort s h
 
     pub rank_meant-sorts : (e : Declaration) → Contains c.declarations e → All (IsSort (completed c)) (rank_meant c e).args × IsSort (completed c) (rank_meant c e).result
@@ -157,9 +164,9 @@ module _ (c : Collected) where
       own = own;
       ordered = ordered closed;
       top = top closed;
-      listed = listed;
+      listed = kind-listed;
       ranks = λ f r h. let w = rank-declared f r h in
-          let d = (filter_contains (λ e. same_op e.op f) c.declarations w.0 w.1.0).0 in
+          let d = (declared_of c f w.0 w.1.0).0 in
           let k = rank_meant-sorts w.0 d in
           subst (λ (q : Rank). All (IsSort (completed c)) q.args × IsSort (completed c) q.result) w.1.1 k;
     }

@@ -1,11 +1,20 @@
+-- The lemmas of the crate.
+pub mod Decided
+pub mod Operators
+pub mod Collecting
 pub mod Closures
 pub mod Parts
+pub mod TableLemmas
 pub mod CompletedKinds
 pub mod Orders
 pub mod Serving
 pub mod ShapeLemmas
 pub mod LowestResults
+pub mod RankSearch
 pub mod FaultOrder
 pub mod ResultLemmas
 pub mod GoodFrom
 pub mod SortLemmas
+pub mod Components
+pub mod DirectSubsorts
+pub mod Examples

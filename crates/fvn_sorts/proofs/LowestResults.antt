@@ -1,9 +1,10 @@
 -- Least results by ranks, one argument at a time.
 use Rattle.std.proofs.Common.{◌≡◌, ℕ, ◌<◌, ◌≤◌, Bool, true, false, ◌&&◌, List, [], ◌∷◌, ◌++◌, map, length, refl, sym, ap, subst, ◌∙◌, ◌⊎◌, inl, inr, arith, cond, get_or, drop, ◌+◌}
-use Rattle.std.specs.List.{filter, All}
+use Rattle.std.specs.List.{filter, All, range_with_len}
 use Rattle.std.specs.Prelude.{find, is_some}
 use Rattle.std.proofs.lemmas.Bool.{cases_lt}
-use Rattle.std.proofs.lemmas.List.{append-nil, append_assoc, get_or_past}
+use Rattle.std.proofs.lemmas.List.{get_or_past, drop_more, drop_all, ext_get_or, map-id}
+use Rattle.std.proofs.lemmas.List.FromFn.{length-map-range_with_len, get_or-map-range_with_len, map-range_with_len_more}
 use Rattle.fvn_terms.specs.declared.plain.SortId.{SortId}
 use Rattle.fvn_terms.specs.declared.declarations.Rank.{Rank}
 use Rattle.fvn_terms.specs.declared.declarations.Declarations.{Declarations}
@@ -13,13 +14,52 @@ use Rattle.fvn_forms.specs.Ranks.{results, is_lowest, pass_together}
 use Rattle.fvn_forms.specs.Good.{IsKinded}
 use Rattle.fvn_forms.specs.SortOrder.{sort_number}
 use Rattle.fvn_sorts.specs.Faults.{IsBefore, sort_numbers}
-use Rattle.fvn_sorts.specs.Searches.{advanced_one, advanced, has_lowest, HasNoLowest}
+use Rattle.fvn_sorts.specs.Searches.{no_rank, takes_first, rest_of, rests, has_lowest, HasNoLowest}
 
 module _ (d : Declarations) where
-  pub advanced-push : (s : SortId) (rs : List Rank) (r : Rank) → advanced d s (rs ++ r ∷ []) ≡ advanced d s rs ++ advanced_one d s r.args r.result
-  advanced-push s [] r = append-nil (advanced_one d s r.args r.result)
-  advanced-push s (t ∷ rs) r = ap (λ l. advanced_one d s t.args t.result ++ l) (advanced-push s rs r) ∙ sym (append_assoc (advanced_one d s t.args t.result) (advanced d s rs) (advanced_one d s r.args r.result))
+  abbrev pub advanced_one : SortId → List SortId → SortId → List Rank
+  advanced_one s [] r = []
+  advanced_one s (a ∷ more) r = cond (at_or_below d s a) (record { args = more; result = r } ∷ []) []
 
+  -- the ranks that take an argument of sort s first, without this argument
+  abbrev pub advanced : SortId → List Rank → List Rank
+  advanced s [] = []
+  advanced s (r ∷ rs) = advanced_one s r.args r.result ++ advanced s rs
+
+-- a list without n and then one of its elements
+pub drop_one : {X : Type 0} (d : X) (n : ℕ) (xs : List X) → drop 1 (drop n xs) ≡ drop (n + 1) xs
+drop_one d n xs = elim (cases_lt n (length xs)) as (λ _. drop 1 (drop n xs) ≡ drop (n + 1) xs) [
+  | inl l ↦ ap (drop 1) (drop_more xs n d l)
+  | inr l ↦ ap (drop 1) (drop_all n xs l) ∙ sym (drop_all (n + 1) xs (omega arith))
+]
+
+module _ (d : Declarations) (s : SortId) (rs : List Rank) (n : ℕ) where
+  -- those of the numbers whose rank takes an argument of the sort after n others
+  abbrev pub still_left : List ℕ → List ℕ
+  still_left left = filter (λ i. takes_first d s (drop n (get_or rs i no_rank).args)) left
+
+  rests-one : (i : ℕ) (left fewer : List ℕ) → advanced d s (rests rs n left) ≡ rests rs (n + 1) fewer → (xs : List SortId) → drop n (get_or rs i no_rank).args ≡ xs → advanced_one d s xs (get_or rs i no_rank).result ++ advanced d s (rests rs n left) ≡ rests rs (n + 1) (cond (takes_first d s xs) (i ∷ fewer) fewer)
+  rests-one i left fewer h [] e = h
+  rests-one i left fewer h (a ∷ more) e = go (at_or_below d s a) where
+    shorter : more ≡ drop (n + 1) (get_or rs i no_rank).args
+    shorter = ap (drop 1) (sym e) ∙ drop_one s n (get_or rs i no_rank).args
+
+    go : (b : Bool) → cond b (record { args = more; result = (get_or rs i no_rank).result } ∷ []) [] ++ advanced d s (rests rs n left) ≡ rests rs (n + 1) (cond b (i ∷ fewer) fewer)
+    go false = h
+    go true = ap (λ (l : List SortId). record { args = l; result = (get_or rs i no_rank).result } ∷ advanced d s (rests rs n left)) shorter ∙ ap (λ l. rest_of (n + 1) (get_or rs i no_rank) ∷ l) h
+
+  -- the ranks of these numbers, one argument further
+  pub advanced-rests : (left : List ℕ) → advanced d s (rests rs n left) ≡ rests rs (n + 1) (still_left left)
+  advanced-rests [] = refl
+  advanced-rests (i ∷ left) = rests-one i left (still_left left) (advanced-rests left) (drop n (get_or rs i no_rank).args) refl
+
+-- with the numbers of all ranks and no argument gone, the ranks themselves are left
+pub rests-all : (rs : List Rank) → rests rs 0 (range_with_len 0 (length rs)) ≡ rs
+rests-all rs = ext_get_or no_rank (rests rs 0 (range_with_len 0 (length rs))) rs long (λ i l. let m : i < length rs = subst (λ n. i < n) long l in get_or-map-range_with_len (λ n. rest_of 0 (get_or rs n no_rank)) 0 (length rs) i i no_rank m (omega arith)) where
+  long : length (rests rs 0 (range_with_len 0 (length rs))) ≡ length rs
+  long = length-map-range_with_len (λ n. rest_of 0 (get_or rs n no_rank)) 0 (length rs)
+
+module _ (d : Declarations) where
   kept : (args : List SortId) (r : Rank) (rest : List Rank) → filter (λ (p : Rank). pass_together (at_or_below d) args p.args) (r ∷ rest) ≡ cond (pass_together (at_or_below d) args r.args) (r ∷ filter (λ (p : Rank). pass_together (at_or_below d) args p.args) rest) (filter (λ (p : Rank). pass_together (at_or_below d) args p.args) rest)
   kept args r rest = refl
 
@@ -96,3 +136,7 @@ module _ (d : Declarations) where
         let k : (get_or ks 0 q).0 < total = listed 0 q some in
         let within : q.0 < length d.kinds = of_kind_listed kinded (get_or ks 0 q) q (let n : (get_or ks 0 q).0 < length d.kinds = omega arith in n) p.0 in
         before q (omega arith) p.0 qs p.1
+
+-- the first numbers, one number more
+pub numbers-more : (n : ℕ) → range_with_len 0 (n + 1) ≡ range_with_len 0 n ++ n ∷ []
+numbers-more n = sym (map-id (range_with_len 0 (n + 1))) ∙ map-range_with_len_more (λ k. k) 0 n n (omega arith) ∙ ap (λ l. l ++ n ∷ []) (map-id (range_with_len 0 n))

@@ -21,7 +21,7 @@ same_tests true false f g = absurd (false≢true (f refl))
 same_tests false true f g = absurd (false≢true (g refl))
 same_tests false false f g = refl
 
-both_ways-turned : (ps : List (SortId × SortId)) (s q : SortId) → Contains (both_ways ps) (s, q) → Contains (both_ways ps) (q, s)
+pub both_ways-turned : (ps : List (SortId × SortId)) (s q : SortId) → Contains (both_ways ps) (s, q) → Contains (both_ways ps) (q, s)
 both_ways-turned ps s q h = elim (Contains-append_cases ps (map turned ps) (s, q) h) [
   | inl i ↦ Contains-append_right ps (map turned ps) (q, s) (contains_map turned ps (s, q) i)
   | inr i ↦ let w = map_contains turned ps (s, q) i in Contains-append_left ps (map turned ps) (q, s) (subst (Contains ps) (ap turned w.1.1) w.1.0)
@@ -164,3 +164,14 @@ map_sorts-at f n k d l =
 
 pub map_sorts-length : {A : Type 0} (f : SortId → A) (n : ℕ) → length (map f (first_sorts n)) ≡ n
 map_sorts-length f n = length-map (first_sorts n) f ∙ length-map-range_with_len sort_number 0 n
+
+pub contains_first_sorts : (n : ℕ) (s : SortId) → s.0 < n → Contains (first_sorts n) s
+contains_first_sorts n s l = (s.0, let long = length-map-range_with_len sort_number 0 n in omega arith, get_or-map-range_with_len sort_number 0 n s.0 s.0 s l (omega arith))
+
+pub first_sorts_contains : (n : ℕ) (s : SortId) → Contains (first_sorts n) s → s.0 < n
+first_sorts_contains n s h =
+    let long : length (first_sorts n) ≡ n = length-map-range_with_len sort_number 0 n in
+    let listed : h.0 < length (first_sorts n) = h.1 in
+    let within : h.0 < n = omega arith in
+    let is : s.0 ≡ h.0 = ap (λ (z : SortId). z.0) (sym h.2 ∙ get_or-map-range_with_len sort_number 0 n h.0 h.0 s within (omega arith)) in
+    omega arith

@@ -3,6 +3,7 @@ use Rattle.std.proofs.Common.{◌≡◌, ◌↔◌, ℕ, ◌<◌, Bool, true, fa
 use Rattle.std.specs.List.{Contains, All}
 use Rattle.std.specs.Prelude.{find, is_some, Some}
 use Rattle.std.proofs.lemmas.Bool.{cases_eq, eqb-false, false≢true, true≢false, false_from_ne_true}
+use Rattle.std.proofs.lemmas.List.{get_or_default}
 use Rattle.std.proofs.lemmas.List.Elements.{All-map, All-weaker}
 use Rattle.fvn_terms.specs.declared.plain.OpId.{OpId}
 use Rattle.fvn_terms.specs.declared.plain.SortId.{SortId}
@@ -22,8 +23,10 @@ use Rattle.fvn_sorts.specs.declared.draft.Draft.{Draft}
 use Rattle.fvn_sorts.specs.declared.fault.Triple.{Triple}
 use Rattle.fvn_sorts.specs.Collected.{completed}
 use Rattle.fvn_sorts.specs.Drafts.{IsDraft}
-use Rattle.fvn_sorts.specs.Faults.{HaveOneKind, Differ, AgreeInKinds, HasNoResult, HasBadBrackets, HasBadCollapse}
-use Rattle.fvn_sorts.specs.Searches.{has_lowest, HasNoLowest, AreBad, IsRaised}
+use Rattle.fvn_forms.specs.FitsKinds.{HaveOneKind}
+use Rattle.fvn_sorts.specs.Faults.{Differ, HasNoResult, HasBadBrackets, HasBadCollapse}
+use Rattle.fvn_sorts.specs.Searches.{AgreeInKinds, has_lowest, HasNoLowest, AreBad, DoesNotCollapse}
+use Rattle.fvn_sorts.proofs.Decided.{unrefuted, both_or}
 
 -- equality of lists of sorts is decided
 pub same_sorts : (xs ys : List SortId) → (xs ≡ ys) ⊎ (xs ≡ ys → ⊥)
@@ -41,11 +44,7 @@ same_sort_or x y = elim (cases_eq x.0 y.0) [ inl e ↦ inl (ap sort_number e) | 
 
 -- ranks that do not differ in kinds have the same
 pub agree_of : (d : Declarations) (ranks : List Rank) → (Differ (HaveOneKind d) ranks → ⊥) → (r q : Rank) → Contains ranks r → Contains ranks q → HaveOneKind d r q
-agree_of d ranks no_two r q hr hq = go (same_sorts (map (kind d) r.args) (map (kind d) q.args)) (same_sort_or (kind d r.result) (kind d q.result)) where
-  go : (map (kind d) r.args ≡ map (kind d) q.args) ⊎ (map (kind d) r.args ≡ map (kind d) q.args → ⊥) → (kind d r.result ≡ kind d q.result) ⊎ (kind d r.result ≡ kind d q.result → ⊥) → HaveOneKind d r q
-  go (inl e) (inl f) = (e, f)
-  go (inl e) (inr n) = absurd (no_two record { one = r; other = q; one_listed = hr; other_listed = hq; differ = λ h. n h.1 })
-  go (inr n) f = absurd (no_two record { one = r; other = q; one_listed = hr; other_listed = hq; differ = λ h. n h.0 })
+agree_of d ranks no_two r q hr hq = unrefuted (both_or (same_sorts (map (kind d) r.args) (map (kind d) q.args)) (same_sort_or (kind d r.result) (kind d q.result))) (λ n. no_two record { one = r; other = q; one_listed = hr; other_listed = hq; differ = n })
 
 -- a search finds something exactly where something passes
 pub find_some : {A : Type 0} (p : A → Bool) (xs : List A) (y : A) → Contains xs y → p y ≡ true → is_some (find p xs) ≡ true
@@ -76,7 +75,7 @@ module _ (t : Draft) (draft : IsDraft t) (f : OpId) (r : Rank) (listed : Contain
   pub arg_kinds_listed : All (λ k. k.0 < t.total) (map (kind t.declarations) r.args)
   arg_kinds_listed = All-map (λ k. k.0 < t.total) (kind t.declarations) r.args (All-weaker (IsSort t.declarations) (λ s. (kind t.declarations s).0 < t.total) (λ s h. let k = draft.kinded.listed s h in let e = draft.total in omega arith) r.args (draft.kinded.ranks f r listed).0)
 
-  pub result_kind_listed : (kind t.declarations r.result).0 < t.total
+  result_kind_listed : (kind t.declarations r.result).0 < t.total
   result_kind_listed = let k = draft.kinded.listed r.result (draft.kinded.ranks f r listed).1 in let e = draft.total in omega arith
 
 module _ (c : Collected) (agree : AgreeInKinds c) (f : OpId) (r : Rank) where
@@ -87,7 +86,7 @@ module _ (c : Collected) (agree : AgreeInKinds c) (f : OpId) (r : Rank) where
   )
 
   pub no_result : (d : Declarations) → d ≡ completed c → Contains (declared d f).ranks r → (ss : List SortId) → HasNoLowest d (map (kind d) r.args) (ranks_of d f) ss ↔ HasNoResult c f ss
-  no_result d is = subst (λ (x : Declarations). Contains (declared x f).ranks r → (ss : List SortId) → HasNoLowest x (map (kind x) r.args) (ranks_of x f) ss ↔ HasNoResult c f ss) (sym is) no_result_of
+  no_result d is = rw is no_result_of
 
   of_kind : Contains (declared (completed c) f).ranks r → (s : SortId) → (kind (completed c) s ≡ kind (completed c) r.result) ↔ IsOfKind (completed c) f s
   of_kind h s = (λ e. record { rank = r; listed = h; kind_is = e }, λ w. w.kind_is ∙ (agree_of (completed c) (declared (completed c) f).ranks (agree f) w.rank r w.listed h).1)
@@ -99,9 +98,9 @@ module _ (c : Collected) (agree : AgreeInKinds c) (f : OpId) (r : Rank) where
   )
 
   pub bad_brackets : (d : Declarations) → d ≡ completed c → Contains (declared d f).ranks r → IsAssociative (axioms d f) → (t : Triple) → AreBad d f (kind d r.result) t ↔ HasBadBrackets c f t.first t.second t.third
-  bad_brackets d is = subst (λ (x : Declarations). Contains (declared x f).ranks r → IsAssociative (axioms x f) → (t : Triple) → AreBad x f (kind x r.result) t ↔ HasBadBrackets c f t.first t.second t.third) (sym is) bad_brackets_of
+  bad_brackets d is = rw is bad_brackets_of
 
-  bad_collapse_of : Contains (declared (completed c) f).ranks r → (e : OpId) → axioms (completed c) f ≡ AssocCommId e → (s : SortId) → IsRaised (completed c) f e (kind (completed c) r.result) s ↔ HasBadCollapse c f s
+  bad_collapse_of : Contains (declared (completed c) f).ranks r → (e : OpId) → axioms (completed c) f ≡ AssocCommId e → (s : SortId) → DoesNotCollapse (completed c) f e (kind (completed c) r.result) s ↔ HasBadCollapse c f s
   bad_collapse_of h e named s = (
     λ w. record { identity = e; named = named; of_kind = (of_kind h s).0 w.0; bad = w.1 },
     λ w.
@@ -109,8 +108,8 @@ module _ (c : Collected) (agree : AgreeInKinds c) (f : OpId) (r : Rank) where
         ((of_kind h s).1 w.of_kind, subst (λ i. AtOrBelow (completed c) s (result (completed c) f (s ∷ result (completed c) i [] ∷ [])) → ⊥) same w.bad),
   )
 
-  pub bad_collapse : (d : Declarations) → d ≡ completed c → Contains (declared d f).ranks r → (e : OpId) → axioms d f ≡ AssocCommId e → (s : SortId) → IsRaised d f e (kind d r.result) s ↔ HasBadCollapse c f s
-  bad_collapse d is = subst (λ (x : Declarations). Contains (declared x f).ranks r → (e : OpId) → axioms x f ≡ AssocCommId e → (s : SortId) → IsRaised x f e (kind x r.result) s ↔ HasBadCollapse c f s) (sym is) bad_collapse_of
+  pub bad_collapse : (d : Declarations) → d ≡ completed c → Contains (declared d f).ranks r → (e : OpId) → axioms d f ≡ AssocCommId e → (s : SortId) → DoesNotCollapse d f e (kind d r.result) s ↔ HasBadCollapse c f s
+  bad_collapse d is = rw is bad_collapse_of
 
 pub positive : (n : ℕ) → false ≡ nat_eq n 0 → 0 < n
 positive n e = go (eqb-false n 0 (sym e)) where
@@ -118,5 +117,10 @@ positive n e = go (eqb-false n 0 (sym e)) where
   go ne = omega arith
 
 -- the first of some ranks is among them
-pub first_listed : (ranks all : List Rank) (r : Rank) → false ≡ nat_eq (length ranks) 0 → ranks ≡ all → r ≡ get_or ranks 0 r → Contains all r
-first_listed ranks all r some e is = subst (λ (l : List Rank). Contains l r) e (0, positive (length ranks) some, sym is)
+pub first_listed : (ranks all : List Rank) (r : Rank) → false ≡ nat_eq (length ranks) 0 → ranks ≡ all → Contains all (get_or ranks 0 r)
+first_listed ranks all r some e =
+    let within = positive (length ranks) some in
+    subst (λ (l : List Rank). Contains l (get_or ranks 0 r)) e (0, within, get_or_default ranks 0 (get_or ranks 0 r) r within)
+
+pub first_kind_listed : (t : Draft) → IsDraft t → (f : OpId) (ranks : List Rank) (r : Rank) → false ≡ nat_eq (length ranks) 0 → ranks ≡ (declared t.declarations f).ranks → (k : SortId) → k ≡ kind t.declarations (get_or ranks 0 r).result → k.0 < t.total
+first_kind_listed t draft f ranks r some declares k is = subst (λ (q : SortId). q.0 < t.total) (sym is) (result_kind_listed t draft f (get_or ranks 0 r) (first_listed ranks _ r some declares))

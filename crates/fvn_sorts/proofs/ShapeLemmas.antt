@@ -1,9 +1,8 @@
 -- The conditions on the declarations of an operator.
-use Rattle.std.proofs.Common.{◌≡◌, ℕ, ◌+◌, ◌<◌, ◌≤◌, true, List, [], ◌∷◌, map, length, get_or, refl, sym, ap, subst, ◌∙◌, ◌⊎◌, ◌↔◌, inl, inr, arith}
+use Rattle.std.proofs.Common.{◌≡◌, ℕ, ◌+◌, ◌<◌, ◌≤◌, List, [], ◌∷◌, map, length, get_or, refl, sym, ap, subst, ◌∙◌, ◌⊎◌, ◌↔◌, inl, inr, arith}
 use Rattle.std.specs.List.{Contains, Any}
-use Rattle.std.proofs.lemmas.Bool.{eq-eqb, eqb-true, cases_eq, cases_lt}
+use Rattle.std.proofs.lemmas.Bool.{cases_eq, cases_lt}
 use Rattle.std.proofs.lemmas.List.{get_or_read, get_or_past}
-use Rattle.std.proofs.lemmas.List.FromFn.{length-map-range_with_len}
 use Rattle.std.proofs.lemmas.List.Elements.{All-contains}
 use Rattle.fvn_sorts.specs.declared.fault.Condition.{Condition}
 use Rattle.fvn_sorts.specs.declared.fault.Condition.TheVariants.{Kinds, Shape, Same, Identity}
@@ -17,17 +16,15 @@ use Rattle.fvn_terms.specs.declared.declarations.Declarations.{Declarations}
 use Rattle.fvn_terms.specs.Signature.{kind, declared, axioms, unknown, AtOrBelow, HasKind, HaveKinds}
 use Rattle.fvn_terms.specs.Term.{none}
 use Rattle.fvn_terms.specs.Equality.{IsCommutative, IsAssociative, constant}
-use Rattle.fvn_forms.proofs.Among.{filter_contains, contains_here, contains_none}
+use Rattle.fvn_forms.proofs.Among.{contains_here, contains_none}
 use Rattle.fvn_sorts.specs.declared.collected.Declaration.{Declaration}
 use Rattle.fvn_sorts.specs.declared.collected.Collected.{Collected}
-use Rattle.fvn_sorts.specs.Collected.{IsClosed, op_number, same_op, declarations_of, first_axioms, operator_meant, completed}
-use Rattle.fvn_sorts.specs.Faults.{Differ, HasBadIdentity, IsOnCycle, HasFault, fault_at}
-
-pub same_op-self : (f g : OpId) → f ≡ g → same_op f g ≡ true
-same_op-self f g e = eq-eqb f.0 g.0 (ap (λ (o : OpId). o.0) e)
-
-pub same_op-true : (f g : OpId) → same_op f g ≡ true → f ≡ g
-same_op-true f g e = ap op_number (eqb-true f.0 g.0 e)
+use Rattle.fvn_sorts.specs.Collected.{IsClosed, op_number, declarations_of, first_axioms, completed}
+use Rattle.fvn_sorts.specs.Faults.{Differ, HasBadIdentity, IsOnCycle, HasFault}
+use Rattle.fvn_sorts.specs.Searches.{fault_at}
+use Rattle.fvn_sorts.proofs.Decided.{unrefuted}
+use Rattle.fvn_sorts.proofs.Operators.{operators-long, declared_of}
+use Rattle.fvn_sorts.proofs.CompletedKinds.{below-range}
 
 pub associative_commutes : (a : Axioms) → IsAssociative a → IsCommutative a
 associative_commutes Free h = h
@@ -52,37 +49,21 @@ differ_from_first (g ∷ es) e h n = record { one = e; other = g; one_listed = h
 pub none_differ : (c : Collected) (f : OpId) (a : Axioms) → ((k : ℕ) (d : Declaration) → k < length c.declarations → ((get_or c.declarations k d).op ≡ f) × ((get_or c.declarations k d).axioms ≡ a → ⊥) → ⊥) → ((x y : Axioms) → (x ≡ y) ⊎ (x ≡ y → ⊥)) → Differ (λ e g. e.axioms ≡ g.axioms) (declarations_of c f) → ⊥
 none_differ c f a each decide w = w.differ (same w.one w.one_listed ∙ sym (same w.other w.other_listed)) where
   same : (e : Declaration) → Contains (declarations_of c f) e → e.axioms ≡ a
-  same e h = go (decide e.axioms a) where
-    here : Contains c.declarations e × (same_op e.op f ≡ true)
-    here = filter_contains (λ e. same_op e.op f) c.declarations e h
-
-    at : (get_or c.declarations here.0.0 e) ≡ e
-    at = here.0.2
-
-    go : (e.axioms ≡ a) ⊎ (e.axioms ≡ a → ⊥) → e.axioms ≡ a
-    go (inl q) = q
-    go (inr n) = absurd (each here.0.0 e here.0.1 (ap (λ (g : Declaration). g.op) at ∙ same_op-true e.op f here.1, λ q. n (ap (λ (g : Declaration). g.axioms) (sym at) ∙ q)))
+  same e h =
+      let w = declared_of c f e h in
+      let here = w.0 in
+      let at : (get_or c.declarations here.0 e) ≡ e = here.2 in
+      unrefuted (decide e.axioms a) (λ n. each here.0 e here.1 (ap (λ (g : Declaration). g.op) at ∙ w.1, λ q. n (ap (λ (g : Declaration). g.axioms) (sym at) ∙ q)))
 
 pub same_axioms : (x y : Axioms) → (x ≡ y) ⊎ (x ≡ y → ⊥)
 same_axioms Free Free = inl refl
-same_axioms Free Comm = inr (λ e. cc)
-same_axioms Free AssocComm = inr (λ e. cc)
-same_axioms Free (AssocCommId g) = inr (λ e. cc)
-same_axioms Comm Free = inr (λ e. cc)
 same_axioms Comm Comm = inl refl
-same_axioms Comm AssocComm = inr (λ e. cc)
-same_axioms Comm (AssocCommId g) = inr (λ e. cc)
-same_axioms AssocComm Free = inr (λ e. cc)
-same_axioms AssocComm Comm = inr (λ e. cc)
 same_axioms AssocComm AssocComm = inl refl
-same_axioms AssocComm (AssocCommId g) = inr (λ e. cc)
-same_axioms (AssocCommId f) Free = inr (λ e. cc)
-same_axioms (AssocCommId f) Comm = inr (λ e. cc)
-same_axioms (AssocCommId f) AssocComm = inr (λ e. cc)
 same_axioms (AssocCommId f) (AssocCommId g) = go (cases_eq f.0 g.0) where
   go : (f.0 ≡ g.0) ⊎ (f.0 ≡ g.0 → ⊥) → (AssocCommId f ≡ AssocCommId g) ⊎ (AssocCommId f ≡ AssocCommId g → ⊥)
   go (inl e) = inl (ap (λ n. AssocCommId (op_number n)) e)
   go (inr n) = inr (λ e. n (let h : f ≡ g = cc in ap (λ (o : OpId). o.0) h))
+same_axioms x y = inr (λ e. cc)
 
 module _ (d : Declarations) where
   -- a constant of a kind, by its ranks
@@ -104,11 +85,11 @@ bad_identity_of c f e named = (forth, back) where
       (w.listed.0, w.rank, w.listed.1, w.listed.2, λ h. w.bad (subst (λ i. HasKind (completed c) (constant i) (kind (completed c) w.rank.result)) (sym same) h))
 
 pub bad_identity : (c : Collected) (d : Declarations) → d ≡ completed c → (f e : OpId) → axioms d f ≡ AssocCommId e → Any (λ r. HasKind d (constant e) (kind d r.result) → ⊥) (declared d f).ranks ↔ HasBadIdentity c f
-bad_identity c d is f e = subst (λ (x : Declarations). axioms x f ≡ AssocCommId e → Any (λ r. HasKind x (constant e) (kind x r.result) → ⊥) (declared x f).ranks ↔ HasBadIdentity c f) (sym is) (bad_identity_of c f e)
+bad_identity c d is f e = rw is (bad_identity_of c f e)
 
 -- nothing fails of an operator that was not declared
 declares_nothing : (c : Collected) (f : OpId) → c.operators ≤ f.0 → declared (completed c) f ≡ unknown
-declares_nothing c f l = get_or_past (completed c).ops f.0 unknown (let e = length-map-range_with_len (λ n. operator_meant c (declarations_of c (op_number n))) 0 c.operators in omega arith)
+declares_nothing c f l = get_or_past (completed c).ops f.0 unknown (omega (arith, operators-long c))
 
 pub no_rank : (c : Collected) (f : OpId) → c.operators ≤ f.0 → (r : Rank) → Contains (declared (completed c) f).ranks r → ⊥
 no_rank c f l r h = contains_none r (subst (λ (o : OpDecl). Contains o.ranks r) (declares_nothing c f l) h)
@@ -123,15 +104,15 @@ nothing_fails c closed f l Shape w =
     let e : w.1.op.0 ≡ f.0 = ap (λ (o : OpId). o.0) w.4.0 in
     omega arith
 nothing_fails c closed f l Same w =
-    let here = filter_contains (λ e. same_op e.op f) c.declarations w.one w.one_listed in
+    let here = declared_of c f w.one w.one_listed in
     let m : w.one.op.0 < c.operators = known_operator c closed w.one here.0 in
-    let e : w.one.op.0 ≡ f.0 = ap (λ (o : OpId). o.0) (same_op-true w.one.op f here.1) in
+    let e : w.one.op.0 ≡ f.0 = ap (λ (o : OpId). o.0) here.1 in
     omega arith
 nothing_fails c closed f l Identity w = no_rank c f l w.rank w.listed
 
 -- what is on a cycle is a sort
 pub cycle_in_range : (c : Collected) → IsClosed c → (s : SortId) → IsOnCycle c s → s.0 < c.sorts
-cycle_in_range c closed s w = (All-contains (λ p. (p.0.0 < c.sorts) × (p.1.0 < c.sorts)) c.below (s, w.0) closed.below w.1.0).0
+cycle_in_range c closed s w = (below-range c closed s w.0 w.1.0).0
 
 -- a pair that closes a cycle
 pub cycle_at : (c : Collected) (d : Declarations) → d ≡ completed c → (s : SortId) → Any (λ p. (p.0 ≡ s) × AtOrBelow d p.1 s) d.below ↔ IsOnCycle c s

@@ -1,5 +1,5 @@
 -- What a builder collected, and the signature that it becomes.
-use Rattle.std.specs.Prelude.{◌≤◌, ◌<◌, ◌⊎◌, ℕ, ◌+◌, ◌-◌, Bool, nat_eq, nat_lt, if◌then◌else◌, List, [], ◌∷◌, ◌++◌, map, filter, find, count_by, unwrap_or, slice_index_or, All}
+use Rattle.std.specs.Prelude.{◌≡◌, ◌≤◌, ◌<◌, ◌⊎◌, ℕ, ◌+◌, ◌-◌, Bool, nat_eq, nat_lt, if◌then◌else◌, List, [], ◌∷◌, ◌++◌, map, filter, find, count_by, unwrap_or, slice_index_or, All, Contains}
 use Rattle.std.specs.List.{range_with_len}
 use Rattle.fvn_terms.specs.declared.plain.OpId.{OpId}
 use Rattle.fvn_terms.specs.declared.plain.SortId.{SortId}
@@ -26,13 +26,15 @@ first_kind_number = 32768
 abbrev pub Names : ℕ → SortId → Type 0
 Names n s = (s.0 < n) ⊎ ((first_kind_number ≤ s.0) × (s.0 - first_kind_number < n))
 
--- what is collected names only what was collected
+-- what is collected names only what was collected, and each operator is declared
 pub record IsClosed (c : Collected) : Type 0 where
   pub few : c.sorts < first_kind_number
   pub below : All (λ p. (p.0.0 < c.sorts) × (p.1.0 < c.sorts)) c.below
   pub operators : All (λ e. e.op.0 < c.operators) c.declarations
   pub args : All (λ e. All (Names c.sorts) e.rank.args) c.declarations
   pub results : All (λ e. Names c.sorts e.rank.result) c.declarations
+  -- each operator has a declaration
+  pub each_declared : (f : OpId) → f.0 < c.operators → (e : Declaration) × (Contains c.declarations e × (e.op ≡ f))
 
 abbrev pub turned : SortId × SortId → SortId × SortId
 turned p = (p.1, p.0)

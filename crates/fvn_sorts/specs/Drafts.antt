@@ -1,14 +1,24 @@
 -- A signature with its kinds, and what is kept beside it.
-use Rattle.std.specs.Prelude.{◌≡◌, ◌≤◌, ◌<◌, [], length, All, slice_index_or}
+use Rattle.std.specs.Prelude.{◌≡◌, ◌≤◌, ◌<◌, ◌⊎◌, ℕ, List, [], ◌∷◌, map, length, All, slice_index_or}
 use Rattle.fvn_terms.specs.declared.plain.OpId.{OpId}
+use Rattle.fvn_terms.specs.declared.plain.SortId.{SortId}
+use Rattle.fvn_terms.specs.declared.declarations.Declarations.{Declarations}
 use Rattle.fvn_forms.specs.Good.{IsKinded}
-use Rattle.fvn_forms.specs.Ranks.{ranks_of}
+use Rattle.fvn_forms.specs.Ranks.{ranks_of, result}
 use Rattle.fvn_sorts.specs.Words.{IsClosure}
 use Rattle.fvn_sorts.specs.declared.collected.Collected.{Collected}
-use Rattle.fvn_sorts.specs.Collected.{IsClosed, completed}
+use Rattle.fvn_sorts.specs.Collected.{IsClosed, first_sorts, completed}
 use Rattle.fvn_sorts.specs.declared.draft.Draft.{Draft}
 
--- the words say where the order leads, and the ranks are those of each operator
+-- the least sort to which f takes a sort and each sort after it, of the first n, sort by sort
+abbrev pub results_of_two : Declarations → OpId → ℕ → List (List SortId)
+results_of_two d f n = map (λ s. map (λ q. result d f (s ∷ q ∷ [])) (first_sorts n)) (first_sorts n)
+
+-- no table, or that of all results over two of the first n sorts
+abbrev pub IsTable : Declarations → OpId → ℕ → List (List SortId) → Type 0
+IsTable d f n rows = (rows ≡ []) ⊎ (rows ≡ results_of_two d f n)
+
+-- the words say where the order leads, the ranks are those of each operator, and the tables have its results
 pub record IsDraft (t : Draft) : Type 0 where
   pub kinded : IsKinded t.declarations
   pub in_range : All (λ p. (p.0.0 < t.declarations.sorts) × (p.1.0 < t.declarations.sorts)) t.declarations.below
@@ -17,6 +27,7 @@ pub record IsDraft (t : Draft) : Type 0 where
   pub more : t.declarations.sorts ≤ t.total
   pub words : IsClosure t.declarations.sorts t.declarations.below t.words.items
   pub ranks : (f : OpId) → slice_index_or t.ranks.items f.0 [] ≡ ranks_of t.declarations f
+  pub tables : (f : OpId) → IsTable t.declarations f t.total (slice_index_or t.tables.items f.0 [])
 
 -- the draft of what was collected
 pub record IsDraftOf (c : Collected) (t : Draft) : Type 0 where

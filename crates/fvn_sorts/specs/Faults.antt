@@ -1,34 +1,19 @@
 -- The faults of what was collected, and which of them comes first.
-use Rattle.std.specs.Prelude.{◌≡◌, ◌≤◌, ◌<◌, ◌⊎◌, ℕ, Option, MatchOption, List, [], ◌∷◌, map, length, Any, Contains}
+use Rattle.std.specs.Prelude.{◌≡◌, ◌<◌, ◌⊎◌, ℕ, List, [], ◌∷◌, map, length, Any, Contains}
 use Rattle.fvn_terms.specs.declared.plain.OpId.{OpId}
 use Rattle.fvn_terms.specs.declared.plain.SortId.{SortId}
 use Rattle.fvn_terms.specs.declared.declarations.Axioms.TheVariants.{AssocCommId}
 use Rattle.fvn_terms.specs.declared.declarations.Rank.{Rank}
-use Rattle.fvn_terms.specs.declared.declarations.Declarations.{Declarations}
 use Rattle.fvn_terms.specs.Signature.{kind, declared, axioms, AtOrBelow, HasKind}
 use Rattle.fvn_terms.specs.Equality.{IsCommutative, IsAssociative, constant}
-use Rattle.fvn_forms.specs.Ranks.{IsResult, result}
-use Rattle.fvn_forms.specs.Good.{TakesKinds, IsOfKind}
+use Rattle.fvn_forms.specs.Ranks.{IsResult}
+use Rattle.fvn_forms.specs.FitsKinds.{HaveOneKind, TakesTwoAlike, TakesTwoOfItsKind}
+use Rattle.fvn_forms.specs.Good.{TakesKinds, IsOfKind, Associates, Collapses}
 use Rattle.fvn_sorts.specs.declared.collected.Declaration.{Declaration}
-use Rattle.fvn_sorts.specs.declared.fault.Condition.{Condition}
-use Rattle.fvn_sorts.specs.declared.fault.Condition.TheVariants.{Kinds, Shape, Same, Identity}
 use Rattle.fvn_sorts.specs.declared.fault.SigFault.{SigFault}
 use Rattle.fvn_sorts.specs.declared.fault.SigFault.TheVariants.{SortCycle, KindsDiffer, AxiomShape, AxiomsDiffer, IdentityBad, NotPreregular, NotAssocSorts, NotCollapsing, TooMany, NoMemory}
 use Rattle.fvn_sorts.specs.declared.collected.Collected.{Collected}
 use Rattle.fvn_sorts.specs.Collected.{declarations_of, rank_meant, completed}
-
-module _ (d : Declarations) where
-  -- the two ranks have arguments and a result of the same kinds
-  abbrev pub HaveOneKind : Rank → Rank → Type 0
-  HaveOneKind r q = (map (kind d) r.args ≡ map (kind d) q.args) × (kind d r.result ≡ kind d q.result)
-
-  -- the rank takes two arguments of one kind
-  abbrev pub TakesTwoAlike : Rank → Type 0
-  TakesTwoAlike r = (k : SortId) × (map (kind d) r.args ≡ k ∷ k ∷ [])
-
-  -- the rank takes two arguments of the kind that it gives
-  abbrev pub TakesTwoOfItsKind : Rank → Type 0
-  TakesTwoOfItsKind r = map (kind d) r.args ≡ kind d r.result ∷ kind d r.result ∷ []
 
 -- two elements of the list are not related
 pub record Differ {A : Type 0} (R : A → A → Type 0) (xs : List A) : Type 0 where
@@ -66,14 +51,14 @@ module _ (c : Collected) where
     pub first : IsOfKind (completed c) f s
     pub second : IsOfKind (completed c) f q
     pub third : IsOfKind (completed c) f r
-    pub bad : result (completed c) f (result (completed c) f (s ∷ q ∷ []) ∷ r ∷ []) ≡ result (completed c) f (s ∷ result (completed c) f (q ∷ r ∷ []) ∷ []) → ⊥
+    pub bad : Associates (completed c) f s q r → ⊥
 
-  -- taking the identity away from beside this sort raises the sort
+  -- this sort is not at or below that of its sum with the identity
   pub record HasBadCollapse (f : OpId) (s : SortId) : Type 0 where
     pub identity : OpId
     pub named : axioms (completed c) f ≡ AssocCommId identity
     pub of_kind : IsOfKind (completed c) f s
-    pub bad : AtOrBelow (completed c) s (result (completed c) f (s ∷ result (completed c) identity [] ∷ [])) → ⊥
+    pub bad : Collapses (completed c) f identity s → ⊥
 
   abbrev pub IsTooLarge : Type 0
   IsTooLarge = (64 < c.sorts) ⊎ ((256 < c.operators) ⊎ Any (λ e. 8 < length e.rank.args) c.declarations)
@@ -139,31 +124,3 @@ IsFirstFault c = IsFirst IsEarlier (HasFault c)
 
 abbrev pub HasNoFault : Collected → Type 0
 HasNoFault c = (k : SigFault) → HasFault c k → ⊥
-
--- the first fault among those of the conditions from n up to m
-abbrev pub IsFirstFrom : Collected → ℕ → ℕ → Option SigFault → Type 0
-IsFirstFrom c n m r =
-    MatchOption r
-    ((j : SigFault) → n ≤ condition j → condition j < m → HasFault c j → ⊥)
-    (λ k. HasFault c k × ((n ≤ condition k) × ((condition k < m) × ((j : SigFault) → n ≤ condition j → IsEarlier j k → HasFault c j → ⊥))))
-
--- the conditions that speak of one operator alone
-abbrev pub fault_at : Condition → OpId → SigFault
-fault_at Kinds f = KindsDiffer f
-fault_at Shape f = AxiomShape f
-fault_at Same f = AxiomsDiffer f
-fault_at Identity f = IdentityBad f
-
-abbrev pub place_of : Condition → ℕ
-place_of Kinds = 2
-place_of Shape = 3
-place_of Same = 4
-place_of Identity = 5
-
--- the first operator with the property
-abbrev pub IsFirstOperator : (OpId → Type 0) → Option OpId → Type 0
-IsFirstOperator P r = MatchOption r ((f : OpId) → P f → ⊥) (λ f. P f × ((g : OpId) → g.0 < f.0 → P g → ⊥))
-
--- no operator has declarations that differ in kinds
-abbrev pub AgreeInKinds : Collected → Type 0
-AgreeInKinds c = (f : OpId) → Differ (HaveOneKind (completed c)) (declared (completed c) f).ranks → ⊥

@@ -4,3 +4,5 @@ pub mod Words
 pub mod Drafts
 pub mod Queries
 pub mod Searches
+pub mod Joined
+pub mod Laws

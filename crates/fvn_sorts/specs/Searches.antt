@@ -1,15 +1,51 @@
 -- What the searches for the first sorts that break a condition find.
-use Rattle.std.specs.Prelude.{◌≡◌, Bool, Option, MatchOption, if◌then◌else◌, false, List, [], ◌∷◌, ◌++◌, map, is_some, find}
+use Rattle.std.specs.Prelude.{◌≡◌, ◌≤◌, ◌<◌, ℕ, Bool, Option, MatchOption, false, List, [], ◌∷◌, map, drop, slice_index_or, is_some, find}
 use Rattle.fvn_terms.specs.declared.plain.OpId.{OpId}
 use Rattle.fvn_terms.specs.declared.plain.SortId.{SortId}
 use Rattle.fvn_terms.specs.declared.declarations.Rank.{Rank}
 use Rattle.fvn_terms.specs.declared.declarations.Declarations.{Declarations}
-use Rattle.fvn_terms.specs.Signature.{kind, AtOrBelow}
-use Rattle.fvn_forms.specs.SortOrder.{at_or_below}
-use Rattle.fvn_forms.specs.Ranks.{result, results, is_lowest}
+use Rattle.fvn_terms.specs.Signature.{kind, declared}
+use Rattle.fvn_forms.specs.SortOrder.{sort_number, at_or_below}
+use Rattle.fvn_forms.specs.Ranks.{results, is_lowest}
+use Rattle.fvn_forms.specs.FitsKinds.{HaveOneKind}
+use Rattle.fvn_forms.specs.Good.{Associates, Collapses}
+use Rattle.fvn_sorts.specs.declared.collected.Collected.{Collected}
+use Rattle.fvn_sorts.specs.declared.fault.Condition.{Condition}
+use Rattle.fvn_sorts.specs.declared.fault.Condition.TheVariants.{Kinds, Shape, Same, Identity}
+use Rattle.fvn_sorts.specs.declared.fault.SigFault.{SigFault}
+use Rattle.fvn_sorts.specs.declared.fault.SigFault.TheVariants.{KindsDiffer, AxiomShape, AxiomsDiffer, IdentityBad}
 use Rattle.fvn_sorts.specs.declared.fault.Triple.{Triple}
 use Rattle.fvn_sorts.specs.declared.fault.Passed.{Passed}
-use Rattle.fvn_sorts.specs.Faults.{IsBefore, sort_numbers}
+use Rattle.fvn_sorts.specs.Collected.{completed}
+use Rattle.fvn_sorts.specs.Faults.{Differ, HasFault, condition, IsBefore, sort_numbers, IsEarlier}
+
+-- the first fault among those of the conditions from n up to m
+abbrev pub IsFirstFrom : Collected → ℕ → ℕ → Option SigFault → Type 0
+IsFirstFrom c n m r =
+    MatchOption r
+    ((j : SigFault) → n ≤ condition j → condition j < m → HasFault c j → ⊥)
+    (λ k. HasFault c k × ((n ≤ condition k) × ((condition k < m) × ((j : SigFault) → n ≤ condition j → IsEarlier j k → HasFault c j → ⊥))))
+
+-- the conditions that speak of one operator alone
+abbrev pub fault_at : Condition → OpId → SigFault
+fault_at Kinds f = KindsDiffer f
+fault_at Shape f = AxiomShape f
+fault_at Same f = AxiomsDiffer f
+fault_at Identity f = IdentityBad f
+
+abbrev pub place_of : Condition → ℕ
+place_of Kinds = 2
+place_of Shape = 3
+place_of Same = 4
+place_of Identity = 5
+
+-- the first operator with the property
+abbrev pub IsFirstOperator : (OpId → Type 0) → Option OpId → Type 0
+IsFirstOperator P r = MatchOption r ((f : OpId) → P f → ⊥) (λ f. P f × ((g : OpId) → g.0 < f.0 → P g → ⊥))
+
+-- no operator has declarations that differ in kinds
+abbrev pub AgreeInKinds : Collected → Type 0
+AgreeInKinds c = (f : OpId) → Differ (HaveOneKind (completed c)) (declared (completed c) f).ranks → ⊥
 
 -- the first list of sorts with the property, in lexicographic order; the search gives the sorts as the list does
 abbrev pub IsFirstList : {A : Type 0} → (A → List SortId) → (A → Type 0) → Option A → Type 0
@@ -28,13 +64,9 @@ abbrev pub three_sorts : Triple → List SortId
 three_sorts t = t.first ∷ t.second ∷ t.third ∷ []
 
 module _ (d : Declarations) (f : OpId) where
-  -- the sort of a sum of three does not depend on its brackets
-  abbrev pub Associates : SortId → SortId → SortId → Type 0
-  Associates s q r = result d f (result d f (s ∷ q ∷ []) ∷ r ∷ []) ≡ result d f (s ∷ result d f (q ∷ r ∷ []) ∷ [])
-
   -- the sort has the kind, and with those before it breaks the condition
   abbrev pub IsBadThird : SortId → SortId → SortId → SortId → Type 0
-  IsBadThird k s q r = (kind d r ≡ k) × (Associates s q r → ⊥)
+  IsBadThird k s q r = (kind d r ≡ k) × (Associates d f s q r → ⊥)
 
   abbrev pub AreBadAfter : SortId → SortId → SortId × SortId → Type 0
   AreBadAfter k s p = (kind d p.0 ≡ k) × IsBadThird k s p.0 p.1
@@ -42,19 +74,27 @@ module _ (d : Declarations) (f : OpId) where
   abbrev pub AreBad : SortId → Triple → Type 0
   AreBad k t = (kind d t.first ≡ k) × AreBadAfter k t.first (t.second, t.third)
 
-  -- the sort has the kind, and is above its sum with the identity
-  abbrev pub IsRaised : OpId → SortId → SortId → Type 0
-  IsRaised e k s = (kind d s ≡ k) × (AtOrBelow d s (result d f (s ∷ result d e [] ∷ [])) → ⊥)
+  -- the sort has the kind, and is not at or below that of its sum with the identity
+  abbrev pub DoesNotCollapse : OpId → SortId → SortId → Type 0
+  DoesNotCollapse e k s = (kind d s ≡ k) × (Collapses d f e s → ⊥)
+
+-- a rank that is not listed takes no arguments
+abbrev pub no_rank : Rank
+no_rank = record { args = []; result = sort_number 0 }
+
+-- the rank without its first n arguments
+abbrev pub rest_of : ℕ → Rank → Rank
+rest_of n r = record { args = drop n r.args; result = r.result }
+
+-- the ranks of these numbers, without their first n arguments
+abbrev pub rests : List Rank → ℕ → List ℕ → List Rank
+rests rs n left = map (λ i. rest_of n (slice_index_or rs i no_rank)) left
 
 module _ (d : Declarations) where
-  abbrev pub advanced_one : SortId → List SortId → SortId → List Rank
-  advanced_one s [] r = []
-  advanced_one s (a ∷ more) r = if at_or_below d s a then record { args = more; result = r } ∷ [] else []
-
-  -- the ranks that take an argument of sort s first, without this argument
-  abbrev pub advanced : SortId → List Rank → List Rank
-  advanced s [] = []
-  advanced s (r ∷ rs) = advanced_one s r.args r.result ++ advanced s rs
+  -- the first of the arguments may be of sort s
+  abbrev pub takes_first : SortId → List SortId → Bool
+  takes_first s [] = false
+  takes_first s (a ∷ more) = at_or_below d s a
 
   -- whether arguments of these sorts have a least result by these ranks
   abbrev pub has_lowest : List Rank → List SortId → Bool
@@ -64,6 +104,6 @@ module _ (d : Declarations) where
   abbrev pub HasNoLowest : List SortId → List Rank → List SortId → Type 0
   HasNoLowest ks rs ss = (map (kind d) ss ≡ ks) × (has_lowest rs ss ≡ false)
 
-  -- no sorts of the kinds are without a least result
-  abbrev pub HaveAllLowest : Passed → Type 0
-  HaveAllLowest p = (ss : List SortId) → HasNoLowest p.kinds p.ranks ss → ⊥
+  -- from the place on, no sorts of the kinds are without a least result by the ranks that are left
+  abbrev pub HaveAllLowest : List SortId → List Rank → Passed → Type 0
+  HaveAllLowest ks rs p = (ss : List SortId) → HasNoLowest (drop p.place ks) (rests rs p.place p.left) ss → ⊥

@@ -10,7 +10,7 @@ ghost use Rattle.fvn_sorts.specs.Searches.{
   IsBadThird,
   AreBadAfter,
   AreBad,
-  IsRaised,
+  DoesNotCollapse,
 };
 
 use crate::draft::Draft;
@@ -102,10 +102,10 @@ pub fn bad_triple(draft: &Draft, op: OpId, of: SortId) -> Option<Triple>
     None
 }
 
-/// Whether the sort is of the kind, and above its sum with the identity.
-fn is_raised(draft: &Draft, op: OpId, identity: OpId, of: SortId, s: SortId) -> bool
+/// Whether the sort is of the kind, and not at or below that of its sum with the identity.
+fn does_not_collapse(draft: &Draft, op: OpId, identity: OpId, of: SortId, s: SortId) -> bool
     requires { IsDraft draft.now }
-    ensures { IsTrue result ↔ IsRaised draft.now.declarations op identity of s }
+    ensures { IsTrue result ↔ DoesNotCollapse draft.now.declarations op identity of s }
 {
     if draft.declarations.kind(s) != of {
         return false;
@@ -113,14 +113,14 @@ fn is_raised(draft: &Draft, op: OpId, identity: OpId, of: SortId, s: SortId) -> 
     !draft.is_at_or_below(s, draft.result(op, &[s, draft.result(identity, &[])]))
 }
 
-/// The first sort of the kind that is above its sum with the identity.
-pub fn first_raised(draft: &Draft, op: OpId, identity: OpId, of: SortId) -> Option<SortId>
+/// The first sort of the kind that is not at or below that of its sum with the identity.
+pub fn first_not_collapsing(draft: &Draft, op: OpId, identity: OpId, of: SortId) -> Option<SortId>
     requires draft { IsDraft draft.now }
     requires listed { of.0 < draft.now.total }
-    ensures { IsFirstList one_sort (IsRaised draft.now.declarations op identity of) result }
+    ensures { IsFirstList one_sort (DoesNotCollapse draft.now.declarations op identity of) result }
 {
     for s in 0..draft.total {
-        if is_raised(draft, op, identity, of, SortId(s)) {
+        if does_not_collapse(draft, op, identity, of, SortId(s)) {
             return Some(SortId(s));
         }
     }

@@ -1,5 +1,5 @@
 //! A signature with its kinds, before its conditions are tested.
-ghost use Rattle.std.specs.Prelude.{◌≡◌, ◌⊎◌, IsTrue, true, find, MatchOption};
+ghost use Rattle.std.specs.Prelude.{◌≡◌, ◌⊎◌, [], ◌∷◌, IsTrue, true, find, IfSome};
 ghost use Rattle.fvn_terms.specs.Signature.{declared, axioms};
 ghost use Rattle.fvn_forms.specs.SortOrder.{reaches, at_or_below};
 ghost use Rattle.fvn_forms.specs.Ranks.{
@@ -17,13 +17,14 @@ use fvn_seq::Seq;
 use fvn_terms::{Axioms, Declarations, OpId, Rank, SortId};
 
 /// The signature, the number of its sorts and kinds, for each sort the word of those at or above it,
-/// and for each operator the ranks that serve it.
+/// and for each operator the ranks that serve it and, where it takes two arguments, its results.
 #[derive(Drop)]
 pub struct Draft {
     pub declarations: Declarations,
     pub total: u16,
     pub words: Vec<u64>,
     pub ranks: Vec<Seq<Rank>>,
+    pub tables: Vec<Seq<Seq<SortId>>>,
 }
 
 impl Draft {
@@ -137,14 +138,45 @@ impl Draft {
         }
     }
 
-    /// The least sort to which the operator takes arguments of these sorts.
-    pub fn result(&self, op: OpId, args: &[SortId]) -> SortId
+    /// The least sort to which the operator takes arguments of these sorts, by its ranks.
+    fn searched(&self, op: OpId, args: &[SortId]) -> SortId
         requires { IsDraft self.now }
         ensures { result ≡ least_result self.now.declarations op args.now }
     {
         match self.lowest(self.ranks_of(op), args) {
             Some(sort) => sort,
             None => self.first_kind(op),
+        }
+    }
+
+    /// The least sort to which the operator takes two arguments of these sorts, where a table has it.
+    fn tabled(&self, op: OpId, first: SortId, second: SortId) -> Option<SortId>
+        requires { IsDraft self.now }
+        ensures { IfSome result (λ s. s ≡ least_result self.now.declarations op (first ∷ second ∷ [])) }
+    {
+        match self.tables.get(usize::from(op.0)) {
+            Some(rows) => match rows.as_slice().get(usize::from(first.0)) {
+                Some(row) => match row.as_slice().get(usize::from(second.0)) {
+                    Some(sort) => Some(*sort),
+                    None => None,
+                },
+                None => None,
+            },
+            None => None,
+        }
+    }
+
+    /// The least sort to which the operator takes arguments of these sorts.
+    pub fn result(&self, op: OpId, args: &[SortId]) -> SortId
+        requires { IsDraft self.now }
+        ensures { result ≡ least_result self.now.declarations op args.now }
+    {
+        if args.len() != 2 {
+            return self.searched(op, args);
+        }
+        match self.tabled(op, args[0], args[1]) {
+            Some(sort) => sort,
+            None => self.searched(op, args),
         }
     }
 }

@@ -3,21 +3,30 @@ ghost use Rattle.std.specs.Prelude.{◌≡◌};
 ghost use Rattle.fvn_sorts.specs.declared.fault.SigFault.TheVariants.{NoMemory};
 
 use fvn_seq::Seq;
-use fvn_terms::{NoMemory, OpId, Rank, SortId};
+use fvn_terms::{NoMemory, OpId, SortId};
 
 /// Why a signature is refused, with the first operator and the first sorts that show it.
 ///
 /// `NoMemory` says nothing of the signature.
 #[derive(Drop)]
 pub enum SigFault {
+    /// The sort is on a cycle of the order.
     SortCycle(SortId),
+    /// Two declarations of the operator differ in arity or kinds.
     KindsDiffer(OpId),
+    /// The operator has axioms, and its arguments or its result are not such as these ask for.
     AxiomShape(OpId),
+    /// Two declarations of the operator differ in axioms.
     AxiomsDiffer(OpId),
+    /// The operator's identity is not a constant of its kind.
     IdentityBad(OpId),
+    /// Over these sorts the operator has no least result.
     NotPreregular(OpId, Seq<SortId>),
+    /// The sort of the sum of these three depends on its brackets.
     NotAssocSorts(OpId, SortId, SortId, SortId),
+    /// The sort is not at or below that of its sum with the operator's identity.
     NotCollapsing(OpId, SortId),
+    /// There are more than 64 sorts, 256 operators, or 8 arguments of one operator.
     TooMany,
     NoMemory,
 }
@@ -47,9 +56,10 @@ pub struct Triple {
     pub third: SortId,
 }
 
-/// Kinds, and ranks by which all sorts of these kinds have a least result.
+/// A place among the arguments, and numbers of ranks by which all sorts from there on have a least
+/// result.
 #[derive(Drop)]
 pub struct Passed {
-    pub kinds: Seq<SortId>,
-    pub ranks: Seq<Rank>,
+    pub place: usize,
+    pub left: Seq<usize>,
 }

@@ -38,8 +38,9 @@ impl SignatureBuilder {
     /// The signature of what was collected, where it is good; else its first fault.
     ///
     /// Faults are told in the order of their conditions: too much of something, a cycle, kinds, shapes,
-    /// axioms and identities of declarations, results that are not least, brackets, and identities that
-    /// lower a sort. Within one condition the first operator is told, with the first sorts.
+    /// axioms and identities of declarations, sorts without a least result, brackets, and sorts that are
+    /// not at or below those of their sums with an identity. Within one condition the first operator is
+    /// told, with its first list of sorts in lexicographic order of their numbers.
     pub fn finish(self, alloc: Global) -> Result<Signature, SigFault>
         // The signature is good, and is what was collected with kinds.
         ensures good { IfOk result IsGood }

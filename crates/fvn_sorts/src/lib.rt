@@ -12,6 +12,7 @@ mod draft;
 mod fault;
 mod finish;
 mod kinds;
+mod laws;
 mod making;
 mod preregular;
 mod ranks;
@@ -20,10 +21,15 @@ mod signature;
 mod sorting;
 mod stages;
 mod subsorts;
+mod tables;
 #[cfg(test)]
 mod tests;
 
 pub use builder::SignatureBuilder;
 pub use collected::{Collected, Declaration};
 pub use fault::SigFault;
+pub use laws::{
+    direct_subsorts_are_listed, direct_subsorts_cover, direct_subsorts_of_kinds,
+    kinds_are_components,
+};
 pub use signature::{Signature, all_shared};

@@ -9,11 +9,12 @@ use crate::completing::completed;
 use crate::draft::Draft;
 use crate::kinds::kinds_of;
 use crate::ranks::all_ranks;
+use crate::tables::all_tables;
 use fvn_terms::NoMemory;
 use std::alloc::Global;
 
-/// What was collected with its kinds, and the tables beside it.
-pub fn draft_of(alloc: Global, collected: &Collected) -> Result<Draft, NoMemory>
+/// What was collected with its kinds, before its results are known.
+fn draft_without_tables(alloc: Global, collected: &Collected) -> Result<Draft, NoMemory>
     requires few { collected.now.sorts ≤ 64 }
     requires operators { collected.now.operators ≤ 256 }
     requires closed { IsClosed collected.now }
@@ -29,5 +30,31 @@ pub fn draft_of(alloc: Global, collected: &Collected) -> Result<Draft, NoMemory>
         total,
         words,
         ranks,
+        tables: Vec::new(alloc),
+    })
+}
+
+/// What was collected with its kinds, and the tables beside it.
+pub fn draft_of(alloc: Global, collected: &Collected) -> Result<Draft, NoMemory>
+    requires few { collected.now.sorts ≤ 64 }
+    requires operators { collected.now.operators ≤ 256 }
+    requires closed { IsClosed collected.now }
+    ensures { IfOk result (IsDraftOf collected.now) }
+{
+    let draft = draft_without_tables(alloc, collected)?;
+    let tables = all_tables(alloc, &draft, collected.operators)?;
+    let Draft {
+        declarations,
+        total,
+        words,
+        ranks,
+        tables: _,
+    } = draft;
+    Ok(Draft {
+        declarations,
+        total,
+        words,
+        ranks,
+        tables,
     })
 }

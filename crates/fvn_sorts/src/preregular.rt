@@ -1,11 +1,14 @@
 //! Whether arguments of all sorts have a least result.
-ghost use Rattle.std.specs.Prelude.{◌≡◌, ◌↔◌, ◌<◌, [], ◌∷◌, All, Any, IsTrue, IfOk, OnOk, option_to_list};
+ghost use Rattle.std.specs.Prelude.{◌≡◌, ◌↔◌, ◌<◌, ◌≤◌, [], ◌∷◌, All, Any, IsTrue, IfOk, OnOk, drop, filter, length, slice_index_or};
+ghost use Rattle.std.specs.List.{range_with_len};
 ghost use Rattle.fvn_sorts.specs.Drafts.{IsDraft};
 ghost use Rattle.fvn_sorts.specs.Searches.{
   IsFirstList,
   the_list,
-  advanced,
-  advanced_one,
+  no_rank,
+  takes_first,
+  rest_of,
+  rests,
   HasNoLowest,
   HaveAllLowest,
 };
@@ -16,106 +19,109 @@ use fvn_seq::Seq;
 use fvn_terms::{NoMemory, Rank, SortId};
 use std::alloc::{AllocError, AllocFailed, Global};
 
-/// The rank without its first argument, where it takes an argument of the sort there.
-fn rest_of(alloc: Global, draft: &Draft, s: SortId, rank: &Rank) -> Result<Option<Rank>, NoMemory>
+/// Whether the rank of this number takes an argument of the sort at the place.
+fn takes(draft: &Draft, ranks: &[Rank], number: usize, place: usize, s: SortId) -> bool
     requires { IsDraft draft.now }
-    ensures { IfOk result (λ o. option_to_list o ≡ advanced_one draft.now.declarations s rank.now.args rank.now.result) }
+    ensures { result ≡ takes_first draft.now.declarations s (drop place (slice_index_or ranks.now number no_rank).args) }
 {
-    let args = rank.args.as_slice();
-    if args.is_empty() {
-        return Ok(None);
+    let args = match ranks.get(number) {
+        Some(rank) => rank.args.as_slice(),
+        None => return false,
+    };
+    match args.get(place) {
+        Some(sort) => draft.is_at_or_below(s, *sort),
+        None => false,
     }
-    if !draft.is_at_or_below(s, args[0]) {
-        return Ok(None);
-    }
-    let rest = Vec::from_slice(alloc, &args[1..])?;
-    Ok(Some(Rank {
-        args: Seq::from_vec(rest),
-        result: rank.result,
-    }))
 }
 
-/// The ranks that take an argument of the sort first, without it.
-fn advanced(alloc: Global, draft: &Draft, s: SortId, ranks: &[Rank]) -> Result<Vec<Rank>, NoMemory>
+/// Those of the ranks of these numbers that take an argument of the sort at the place.
+fn still_left(
+    alloc: Global,
+    draft: &Draft,
+    ranks: &[Rank],
+    place: usize,
+    s: SortId,
+    left: &[usize],
+) -> Result<Vec<usize>, NoMemory>
     requires { IsDraft draft.now }
-    ensures { IfOk result (λ v. v.items ≡ advanced draft.now.declarations s ranks.now) }
+    ensures { IfOk result (λ v. v.items ≡ filter (λ n. takes_first draft.now.declarations s (drop place (slice_index_or ranks.now n no_rank).args)) left.now) }
 {
-    let mut list = Vec::new(alloc);
-    for rank in ranks {
-        match rest_of(alloc, draft, s, rank)? {
-            Some(rest) => list.push(rest)?,
-            None => {}
+    let mut list = Vec::with_capacity(alloc, left.len())?;
+    for number in left {
+        if takes(draft, ranks, *number, place, s) {
+            list.push(*number)?;
         }
     }
     Ok(list)
 }
 
-fn are_same_sorts(some: &[SortId], others: &[SortId]) -> bool
-    ensures { IsTrue result ↔ (some.now ≡ others.now) }
+/// The rank without its first arguments.
+fn rest_of(alloc: Global, rank: &Rank, place: usize) -> Result<Rank, NoMemory>
+    ensures { IfOk result (λ r. r ≡ rest_of place rank.now) }
 {
-    if some.len() != others.len() {
-        return false;
-    }
-    for (s, q) in some.iter().zip(others.iter()) {
-        if *s != *q {
-            return false;
+    let args = match rank.args.as_slice().get(place..) {
+        Some(args) => Vec::from_slice(alloc, args)?,
+        None => Vec::new(alloc),
+    };
+    Ok(Rank {
+        args: Seq::from_vec(args),
+        result: rank.result,
+    })
+}
+
+/// The ranks of these numbers, without their first arguments.
+fn rests(alloc: Global, ranks: &[Rank], place: usize, left: &[usize]) -> Result<Vec<Rank>, NoMemory>
+    ensures { IfOk result (λ v. v.items ≡ rests ranks.now place left.now) }
+{
+    let mut list = Vec::new(alloc);
+    for number in left {
+        match ranks.get(*number) {
+            Some(rank) => list.push(rest_of(alloc, rank, place)?)?,
+            None => list.push(Rank {
+                args: Seq::new(alloc),
+                result: SortId(0),
+            })?,
         }
     }
-    true
+    Ok(list)
 }
 
-fn are_same_rank(one: &Rank, other: &Rank) -> bool
-    ensures { IsTrue result ↔ (one.now ≡ other.now) }
+/// The numbers below `count`.
+fn numbers(alloc: Global, count: usize) -> Result<Vec<usize>, NoMemory>
+    ensures { IfOk result (λ v. v.items ≡ range_with_len 0 count) }
 {
-    if one.result != other.result {
-        return false;
+    let mut list = Vec::new(alloc);
+    for number in 0..count {
+        list.push(number)?;
     }
-    are_same_sorts(one.args.as_slice(), other.args.as_slice())
+    Ok(list)
 }
 
-fn are_same_ranks(some: &[Rank], others: &[Rank]) -> bool
+fn are_same(some: &[usize], others: &[usize]) -> bool
     ensures { IsTrue result ↔ (some.now ≡ others.now) }
 {
-    if some.len() != others.len() {
-        return false;
-    }
-    for (r, q) in some.iter().zip(others.iter()) {
-        if !are_same_rank(r, q) {
-            return false;
-        }
-    }
-    true
+    some == others
 }
 
-fn is_of(passed: &Passed, kinds: &[SortId], ranks: &[Rank]) -> bool
-    ensures { IsTrue result ↔ ((passed.now.kinds ≡ kinds.now) × (passed.now.ranks ≡ ranks.now)) }
-{
-    if !are_same_sorts(passed.kinds.as_slice(), kinds) {
-        return false;
-    }
-    are_same_ranks(passed.ranks.as_slice(), ranks)
-}
-
-/// Whether these kinds and ranks have passed already.
-fn is_known(passed: &[Passed], kinds: &[SortId], ranks: &[Rank]) -> bool
-    ensures { IsTrue result ↔ Any (λ p. (p.kinds ≡ kinds.now) × (p.ranks ≡ ranks.now)) passed.now }
+/// Whether these ranks have passed already at the place.
+fn is_known(passed: &[Passed], place: usize, left: &[usize]) -> bool
+    ensures { IsTrue result ↔ Any (λ p. (p.place ≡ place) × (p.left ≡ left.now)) passed.now }
 {
     for entry in passed {
-        if is_of(entry, kinds, ranks) {
+        if entry.place == place && are_same(entry.left.as_slice(), left) {
             return true;
         }
     }
     false
 }
 
-fn remembered(alloc: Global, kinds: &[SortId], ranks: Vec<Rank>) -> Result<Passed, NoMemory>
-    ensures { IfOk result (λ p. p ≡ record { kinds = kinds.now; ranks = ranks.items }) }
+fn remembered(place: usize, left: Vec<usize>) -> Passed
+    ensures { result ≡ record { place = place; left = left.items } }
 {
-    let kinds = Vec::from_slice(alloc, kinds)?;
-    Ok(Passed {
-        kinds: Seq::from_vec(kinds),
-        ranks: Seq::from_vec(ranks),
-    })
+    Passed {
+        place,
+        left: Seq::from_vec(left),
+    }
 }
 
 fn preceded(alloc: Global, s: SortId, list: Seq<SortId>) -> Result<Seq<SortId>, NoMemory>
@@ -129,43 +135,6 @@ fn preceded(alloc: Global, s: SortId, list: Seq<SortId>) -> Result<Seq<SortId>, 
     Ok(Seq::from_vec(all))
 }
 
-/// The first sorts of the kinds that have no least result by the ranks.
-///
-/// It goes argument by argument. What is left of the ranks after some arguments decides all that
-/// follows, so no such rest is gone through twice: `passed` has those that are known to fail nowhere.
-pub fn first_without(
-    alloc: Global,
-    draft: &Draft,
-    kinds: &[SortId],
-    ranks: &[Rank],
-    passed: &mut Vec<Passed>,
-) -> Result<Option<Seq<SortId>>, NoMemory>
-    requires draft { IsDraft draft.now }
-    requires listed { All (λ k. k.0 < draft.now.total) kinds.now }
-    requires passed { All (HaveAllLowest draft.now.declarations) passed.old.items }
-    ensures passed { OnOk result (All (HaveAllLowest draft.now.declarations) passed.new.items) }
-    ensures first { IfOk result (IsFirstList the_list (HasNoLowest draft.now.declarations kinds.now ranks.now)) }
-{
-    if kinds.is_empty() {
-        return Ok(at_the_end(alloc, draft, ranks));
-    }
-    for s in 0..draft.total {
-        if draft.declarations.kind(SortId(s)) != kinds[0] {
-            continue;
-        }
-        let left = advanced(alloc, draft, SortId(s), ranks)?;
-        if is_known(passed.as_slice(), &kinds[1..], left.as_slice()) {
-            continue;
-        }
-        match first_without(alloc, draft, &kinds[1..], left.as_slice(), passed)? {
-            Some(list) => return Ok(Some(preceded(alloc, SortId(s), list)?)),
-            None => {}
-        }
-        passed.push(remembered(alloc, &kinds[1..], left)?)?;
-    }
-    Ok(None)
-}
-
 /// No sorts, where the ranks have no least result without arguments.
 fn at_the_end(alloc: Global, draft: &Draft, ranks: &[Rank]) -> Option<Seq<SortId>>
     requires { IsDraft draft.now }
@@ -175,4 +144,70 @@ fn at_the_end(alloc: Global, draft: &Draft, ranks: &[Rank]) -> Option<Seq<SortId
         Some(_) => None,
         None => Some(Seq::new(alloc)),
     }
+}
+
+/// The first sorts of the kinds from the place on that have no least result by the ranks left.
+///
+/// Which ranks are left after some arguments decides all that follows, so the same ranks are gone
+/// through once at each place: `passed` has those that are known to fail nowhere.
+fn first_from(
+    alloc: Global,
+    draft: &Draft,
+    kinds: &[SortId],
+    ranks: &[Rank],
+    place: usize,
+    left: &[usize],
+    passed: &mut Vec<Passed>,
+) -> Result<Option<Seq<SortId>>, NoMemory>
+    requires draft { IsDraft draft.now }
+    requires listed { All (λ k. k.0 < draft.now.total) kinds.now }
+    requires place { place ≤ length kinds.now }
+    requires passed { All (HaveAllLowest draft.now.declarations kinds.now ranks.now) passed.old.items }
+    ensures passed { OnOk result (All (HaveAllLowest draft.now.declarations kinds.now ranks.now) passed.new.items) }
+    ensures first { IfOk result (IsFirstList the_list (HasNoLowest draft.now.declarations (drop place kinds.now) (rests ranks.now place left.now))) }
+{
+    if place == kinds.len() {
+        let rest = rests(alloc, ranks, place, left)?;
+        return Ok(at_the_end(alloc, draft, rest.as_slice()));
+    }
+    for s in 0..draft.total {
+        if draft.declarations.kind(SortId(s)) != kinds[place] {
+            continue;
+        }
+        let rest = still_left(alloc, draft, ranks, place, SortId(s), left)?;
+        if is_known(passed.as_slice(), place + 1, rest.as_slice()) {
+            continue;
+        }
+        match first_from(
+            alloc,
+            draft,
+            kinds,
+            ranks,
+            place + 1,
+            rest.as_slice(),
+            passed,
+        )? {
+            Some(list) => return Ok(Some(preceded(alloc, SortId(s), list)?)),
+            None => {}
+        }
+        passed.push(remembered(place + 1, rest))?;
+    }
+    Ok(None)
+}
+
+/// The first sorts of the kinds that have no least result by the ranks.
+pub fn first_without(
+    alloc: Global,
+    draft: &Draft,
+    kinds: &[SortId],
+    ranks: &[Rank],
+) -> Result<Option<Seq<SortId>>, NoMemory>
+    requires draft { IsDraft draft.now }
+    requires listed { All (λ k. k.0 < draft.now.total) kinds.now }
+    ensures { IfOk result (IsFirstList the_list (HasNoLowest draft.now.declarations kinds.now ranks.now)) }
+{
+    let all = numbers(alloc, ranks.len())?;
+    let mut passed = Vec::new(alloc);
+    let found = first_from(alloc, draft, kinds, ranks, 0, all.as_slice(), &mut passed)?;
+    Ok(found)
 }

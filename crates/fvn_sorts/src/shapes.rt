@@ -4,16 +4,9 @@ ghost use Rattle.fvn_terms.specs.Signature.{kind, declared, axioms, HasKind};
 ghost use Rattle.fvn_terms.specs.Equality.{constant as constant_term};
 ghost use Rattle.fvn_sorts.specs.Collected.{declarations_of, completed, meant_or_kind, rank_meant};
 ghost use Rattle.fvn_sorts.specs.Drafts.{IsDraftOf};
-ghost use Rattle.fvn_sorts.specs.Faults.{
-  Differ,
-  HaveOneKind,
-  TakesTwoAlike,
-  HasBadShape,
-  HasBadIdentity,
-  HasFault,
-  fault_at,
-  IsFirstOperator,
-};
+ghost use Rattle.fvn_forms.specs.FitsKinds.{HaveOneKind, TakesTwoAlike};
+ghost use Rattle.fvn_sorts.specs.Faults.{Differ, HasBadShape, HasBadIdentity, HasFault};
+ghost use Rattle.fvn_sorts.specs.Searches.{fault_at, IsFirstOperator};
 
 use crate::axioms::{identity_of, is_associative, is_commutative};
 use crate::collected::{Collected, Declaration};

@@ -5,11 +5,11 @@ ghost use Rattle.fvn_terms.specs.declared.plain.SortId.{SortId};
 ghost use Rattle.fvn_terms.specs.Signature.{kind, axioms, AtOrBelow, IsSort};
 ghost use Rattle.fvn_forms.specs.Good.{IsGood, TakesKinds};
 ghost use Rattle.fvn_forms.specs.Ranks.{ranks_of, IsResult, result as least_result};
-ghost use Rattle.fvn_sorts.specs.Queries.{arity, direct_subsorts, IsTop};
+ghost use Rattle.fvn_sorts.specs.Queries.{arity, direct_subsorts, IsKind, IsTop, IsCompleted};
 
 use crate::axioms::identity_of;
 use crate::draft::Draft;
-use crate::subsorts::first_greatest;
+use crate::subsorts::first_maximal;
 use fvn_seq::Seq;
 use fvn_terms::{Axioms, Declarations, OpId, Rank, SortId};
 use std::marker::Model;
@@ -35,15 +35,22 @@ impl Model for Signature {
     ghost use Rattle.fvn_forms.specs.Good.{IsGood};
     ghost use Rattle.fvn_sorts.specs.Collected.{first_sorts};
     ghost use Rattle.fvn_sorts.specs.Drafts.{IsDraft};
-    ghost use Rattle.fvn_sorts.specs.Queries.{direct_subsorts};
+    ghost use Rattle.fvn_sorts.specs.Queries.{direct_subsorts, IsCompleted};
 
-    ghost invariant = { λ s. IsGood s.draft.declarations × (IsDraft s.draft × (s.direct.items ≡ map (direct_subsorts s.draft.declarations) (first_sorts s.draft.total))) };
+    ghost invariant = { λ s. IsGood s.draft.declarations × (IsDraft s.draft × ((s.direct.items ≡ map (direct_subsorts s.draft.declarations) (first_sorts s.draft.total)) × IsCompleted s.draft.declarations)) };
 }
 
 impl Signature {
     /// Tells that the signature is good; it does nothing.
     pub fn is_good(&self)
         ensures { IsGood self.now }
+    {
+        let _draft = &self.draft;
+    }
+
+    /// Tells that sorts, kinds, the order and the operators go together; it does nothing.
+    pub fn is_completed(&self)
+        ensures { IsCompleted self.now }
     {
         let _draft = &self.draft;
     }
@@ -64,22 +71,25 @@ impl Signature {
 
     /// The kind of a sort; a kind is its own.
     pub fn kind(&self, s: SortId) -> SortId
-        ensures { result ≡ kind self.now s }
+        ensures exact { result ≡ kind self.now s }
+        ensures is_kind { IsSort self.now s → IsKind self.now result }
     {
         self.draft.declarations.kind(s)
     }
 
-    /// The sort after which a kind is printed: the first of its greatest sorts.
+    /// The sort after which a kind is printed: the first of its maximal sorts.
     pub fn top_of(&self, kind: SortId) -> SortId
-        ensures { (s : SortId) → IsTop self.now kind s → result ≡ s }
+        ensures { IsKind self.now kind → IsTop self.now kind result }
     {
-        match first_greatest(&self.draft, kind) {
+        match first_maximal(&self.draft, kind) {
             Some(s) => s,
             None => kind,
         }
     }
 
     /// The least sort to which the operator takes arguments of these sorts.
+    ///
+    /// Over two arguments it is read from a table; over others it costs a pass through the ranks.
     pub fn result(&self, op: OpId, args: &[SortId]) -> SortId
         ensures exact { result ≡ least_result self.now op args.now }
         ensures least { TakesKinds self.now op args.now → IsResult self.now op args.now result }
@@ -112,6 +122,8 @@ impl Signature {
     }
 
     /// The number of ranks that serve an operator: declared, on kinds, and for a commutative one swapped.
+    ///
+    /// One rank may stand there several times.
     pub fn rank_count(&self, op: OpId) -> usize
         ensures { result ≡ length (ranks_of self.now op) }
     {
@@ -136,7 +148,7 @@ impl Signature {
         }
     }
 
-    /// The number of declared sorts right below a sort; of a kind, the number of its greatest sorts.
+    /// The number of declared sorts right below a sort; of a kind, the number of its maximal sorts.
     pub fn direct_subsorts_count(&self, s: SortId) -> usize
         requires { IsSort self.now s }
         ensures { result ≡ length (direct_subsorts self.now s) }
@@ -177,7 +189,7 @@ impl Signature {
 
 fn shared<T: Send + Sync>(_value: &T) {}
 
-/// Signatures may be shared between threads.
+/// Signatures may be sent to and shared between threads.
 pub fn all_shared(signature: &Signature) {
     shared(signature);
 }

@@ -3,19 +3,11 @@ ghost use Rattle.std.specs.Prelude.{◌≡◌, ◌+◌, IfOk, map};
 ghost use Rattle.fvn_terms.specs.declared.plain.OpId.{OpId};
 ghost use Rattle.fvn_terms.specs.Signature.{kind};
 ghost use Rattle.fvn_sorts.specs.Drafts.{IsDraftOf};
-ghost use Rattle.fvn_sorts.specs.Faults.{
-  IsFirstFrom,
-  AgreeInKinds,
-  HasNoResult,
-  HasBadBrackets,
-  HasBadCollapse,
-  fault_at,
-  place_of,
-};
-ghost use Rattle.fvn_sorts.specs.Searches.{IsFirstList, the_list, one_sort, three_sorts};
+ghost use Rattle.fvn_sorts.specs.Faults.{HasNoResult, HasBadBrackets, HasBadCollapse};
+ghost use Rattle.fvn_sorts.specs.Searches.{IsFirstFrom, AgreeInKinds, fault_at, place_of, IsFirstList, the_list, one_sort, three_sorts};
 
 use crate::axioms::{identity_of, is_associative};
-use crate::brackets::{bad_triple, first_raised};
+use crate::brackets::{bad_triple, first_not_collapsing};
 use crate::collected::Collected;
 use crate::cycles::first_cycle;
 use crate::draft::Draft;
@@ -90,9 +82,8 @@ fn without_result(
         return Ok(None);
     }
     let kinds = kinds_of_sorts(alloc, &draft.declarations, ranks[0].args.as_slice())?;
-    let mut passed = Vec::new(alloc);
     let all = draft.ranks_of(op);
-    let found = first_without(alloc, draft, kinds.as_slice(), all, &mut passed)?;
+    let found = first_without(alloc, draft, kinds.as_slice(), all)?;
     Ok(found)
 }
 
@@ -148,7 +139,7 @@ fn bracket_fault(draft: &Draft, collected: &Collected) -> Option<SigFault>
     None
 }
 
-/// The first sort of its kind that is above its sum with the operator's identity.
+/// The first sort of its kind that is not at or below that of its sum with the operator's identity.
 fn bad_collapse(draft: &Draft, collected: &Collected, op: OpId) -> Option<SortId>
     requires draft { IsDraftOf collected.now draft.now }
     requires agree { AgreeInKinds collected.now }
@@ -159,7 +150,7 @@ fn bad_collapse(draft: &Draft, collected: &Collected, op: OpId) -> Option<SortId
         return None;
     }
     match identity_of(draft.axioms(op)) {
-        Some(identity) => first_raised(
+        Some(identity) => first_not_collapsing(
             draft,
             op,
             identity,
@@ -169,7 +160,7 @@ fn bad_collapse(draft: &Draft, collected: &Collected, op: OpId) -> Option<SortId
     }
 }
 
-/// An operator whose sum with its identity is below a sort.
+/// An operator with such a sort.
 fn collapse_fault(draft: &Draft, collected: &Collected) -> Option<SigFault>
     requires draft { IsDraftOf collected.now draft.now }
     requires agree { AgreeInKinds collected.now }

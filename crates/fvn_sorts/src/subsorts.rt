@@ -1,10 +1,10 @@
-//! The sorts right below a sort, and the first of the greatest sorts of a kind.
+//! The sorts right below a sort, and the first of the maximal sorts of a kind.
 ghost use Rattle.std.specs.Prelude.{◌≡◌, ◌&&◌, not, map, IfOk, ◌↔◌, ◌<◌, Any, IsTrue, MatchOption};
 ghost use Rattle.fvn_terms.specs.declared.plain.SortId.{SortId};
 ghost use Rattle.std.specs.List.{list_all};
 ghost use Rattle.fvn_sorts.specs.Collected.{first_sorts};
 ghost use Rattle.fvn_sorts.specs.Drafts.{IsDraft};
-ghost use Rattle.fvn_sorts.specs.Queries.{is_below, is_direct, direct_subsorts, IsGreatestOf, IsTop};
+ghost use Rattle.fvn_sorts.specs.Queries.{is_below, is_direct, direct_subsorts, IsMaximalOf, IsTop};
 
 use crate::draft::Draft;
 use fvn_seq::Seq;
@@ -84,9 +84,9 @@ fn has_above(draft: &Draft, s: SortId) -> bool
 }
 
 /// Whether the declared sort is of the kind, and none is above it.
-fn is_greatest_of(draft: &Draft, of: SortId, s: SortId) -> bool
+fn is_maximal_of(draft: &Draft, of: SortId, s: SortId) -> bool
     requires { s.0 < draft.now.declarations.sorts }
-    ensures { IsTrue result ↔ IsGreatestOf draft.now.declarations of s }
+    ensures { IsTrue result ↔ IsMaximalOf draft.now.declarations of s }
 {
     if draft.declarations.kind(s) != of {
         return false;
@@ -94,12 +94,12 @@ fn is_greatest_of(draft: &Draft, of: SortId, s: SortId) -> bool
     !has_above(draft, s)
 }
 
-/// The first of the greatest sorts of a kind.
-pub fn first_greatest(draft: &Draft, of: SortId) -> Option<SortId>
-    ensures { MatchOption result ((s : SortId) → IsGreatestOf draft.now.declarations of s → ⊥) (IsTop draft.now.declarations of) }
+/// The first of the maximal sorts of a kind.
+pub fn first_maximal(draft: &Draft, of: SortId) -> Option<SortId>
+    ensures { MatchOption result ((s : SortId) → IsMaximalOf draft.now.declarations of s → ⊥) (IsTop draft.now.declarations of) }
 {
     for s in 0..draft.declarations.sorts {
-        if is_greatest_of(draft, of, SortId(s)) {
+        if is_maximal_of(draft, of, SortId(s)) {
             return Some(SortId(s));
         }
     }

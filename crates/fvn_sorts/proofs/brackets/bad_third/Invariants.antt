@@ -1,3 +1,4 @@
+-- The invariant of the search for a third sort.
 use Rattle.std.proofs.Common.{◌<◌}
 use Rattle.fvn_terms.specs.declared.plain.SortId.{SortId}
 use Rattle.fvn_sorts.specs.Searches.{IsBadThird}

@@ -1,3 +1,4 @@
+-- The first three sorts are the first pair after the first sort that has one.
 use Rattle.std.proofs.Common.{◌≡◌, ℕ, ◌≤◌, inl, inr, subst, arith}
 use Rattle.std.proofs.lemmas.Bool.{cases_lt}
 use Rattle.fvn_terms.specs.declared.plain.OpId.{OpId}

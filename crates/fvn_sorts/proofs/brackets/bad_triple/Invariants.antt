@@ -1,3 +1,4 @@
+-- The invariant of the search for three sorts.
 use Rattle.std.proofs.Common.{◌<◌}
 use Rattle.fvn_sorts.specs.declared.fault.Triple.{Triple}
 use Rattle.fvn_sorts.specs.Searches.{AreBad}

@@ -1,3 +1,4 @@
+-- The invariant of the pairs and their turned copies.
 use Rattle.std.proofs.Common.{◌≡◌, ◌++◌, map, take}
 use Rattle.fvn_sorts.specs.Collected.{turned}
 use Rattle.fvn_sorts.proofs.closure.both_ways.Given as goal

@@ -1,3 +1,4 @@
+-- The closure, with one pair more.
 use Rattle.std.proofs.Common.{get_or}
 use Rattle.std.proofs.lemmas.List.{take_more}
 use Rattle.fvn_terms.specs.declared.plain.SortId.{SortId}

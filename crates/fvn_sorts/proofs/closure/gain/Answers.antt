@@ -1,3 +1,4 @@
+-- The words, with one more that has gained.
 use Rattle.std.proofs.Common.{◌<◌, arith, get_or, length, ℕ}
 use Rattle.std.proofs.lemmas.List.{get_or_default}
 use Rattle.std.proofs.lemmas.List.Edits.{map_over_more}

@@ -1,3 +1,4 @@
+-- The invariant of the words that gain a bit each.
 use Rattle.std.proofs.Common.{◌≡◌, ◌++◌, map, take, drop}
 use Rattle.fvn_sorts.specs.Words.{gaining}
 use Rattle.fvn_sorts.proofs.closure.gain.Given as goal

@@ -1,3 +1,4 @@
+-- The words of one bit, with one bit more.
 use Rattle.std.proofs.Common.{◌^◌, arith, ◌<◌}
 use Rattle.std.proofs.lemmas.Nat.{one_shl}
 use Rattle.std.proofs.lemmas.List.FromFn.{map-range_with_len_more}

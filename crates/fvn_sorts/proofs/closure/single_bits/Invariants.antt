@@ -1,3 +1,4 @@
+-- The invariant of the words with one bit each.
 use Rattle.std.proofs.Common.{◌≡◌, ◌^◌, map}
 use Rattle.std.specs.List.{range_with_len}
 use Rattle.fvn_sorts.proofs.closure.single_bits.Given as goal

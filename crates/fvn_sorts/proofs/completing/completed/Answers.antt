@@ -1,3 +1,4 @@
+-- The operators that are meant, with one operator more.
 use Rattle.std.proofs.Common.{sym, arith}
 use Rattle.std.proofs.lemmas.List.FromFn.{map-range_with_len_more}
 use Rattle.fvn_sorts.specs.Collected.{operator_meant, declarations_of, op_number}

@@ -1,3 +1,4 @@
+-- The invariant of the operators that are meant.
 use Rattle.std.proofs.Common.{◌≡◌, map}
 use Rattle.std.specs.List.{range_with_len}
 use Rattle.fvn_sorts.specs.Collected.{operator_meant, declarations_of, op_number}

@@ -1,3 +1,4 @@
+-- The invariant of the search for an operator's first declaration.
 use Rattle.std.proofs.Common.{◌≡◌, drop}
 use Rattle.std.specs.Prelude.{filter}
 use Rattle.fvn_sorts.specs.Collected.{first_axioms, declarations_of, same_op}

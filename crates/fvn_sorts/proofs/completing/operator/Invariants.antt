@@ -1,3 +1,4 @@
+-- The invariant of the ranks of an operator's declarations.
 use Rattle.std.proofs.Common.{◌≡◌, map, take}
 use Rattle.std.specs.Prelude.{filter}
 use Rattle.fvn_sorts.specs.Collected.{rank_meant, same_op}

@@ -1,3 +1,4 @@
+-- The invariant of the arguments that a declaration means.
 use Rattle.std.proofs.Common.{◌≡◌, map, take}
 use Rattle.fvn_sorts.specs.Collected.{meant_or_kind}
 use Rattle.fvn_sorts.proofs.completing.rank_meant.Given as goal

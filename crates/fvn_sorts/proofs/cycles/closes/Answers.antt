@@ -1,3 +1,4 @@
+-- A pair closes a cycle exactly where it leads up from the sort to a sort at or below it.
 use Rattle.std.proofs.Common.{sym, ◌∙◌}
 use Rattle.std.proofs.lemmas.Bool.{not-false}
 use Rattle.fvn_forms.proofs.SortTests.{same_sort-true, at_or_below-true, at_or_below-complete}

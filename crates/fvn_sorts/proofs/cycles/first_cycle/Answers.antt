@@ -1,3 +1,4 @@
+-- Where no sort was found, none is on a cycle.
 use Rattle.std.proofs.Common.{inl, inr, arith}
 use Rattle.std.proofs.lemmas.Bool.{cases_lt}
 use Rattle.fvn_sorts.proofs.ShapeLemmas.{cycle_in_range}

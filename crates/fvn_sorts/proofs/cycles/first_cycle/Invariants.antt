@@ -1,3 +1,4 @@
+-- The invariant of the search for a sort on a cycle.
 use Rattle.std.proofs.Common.{◌<◌}
 use Rattle.fvn_terms.specs.declared.plain.SortId.{SortId}
 use Rattle.fvn_sorts.specs.Faults.{IsOnCycle}

@@ -1,3 +1,4 @@
+-- The invariant of the search for a pair that closes a cycle.
 use Rattle.std.proofs.Common.{◌≡◌, ℕ, ◌<◌, get_or}
 use Rattle.fvn_terms.specs.declared.plain.SortId.{SortId}
 use Rattle.fvn_terms.specs.Signature.{AtOrBelow}

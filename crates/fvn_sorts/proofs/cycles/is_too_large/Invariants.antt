@@ -1,3 +1,4 @@
+-- The invariant of the search for a rank that is too long.
 use Rattle.std.proofs.Common.{ℕ, ◌<◌, length, get_or}
 use Rattle.fvn_sorts.specs.declared.collected.Declaration.{Declaration}
 use Rattle.fvn_sorts.proofs.cycles.is_too_large.Given as goal

@@ -1,3 +1,4 @@
+-- The first sort with the bit of a word is the first joined one.
 use Rattle.std.proofs.Common.{◌≡◌, ◌<◌, false, sym, ap, ◌∙◌}
 use Rattle.std.specs.Prelude.{unwrap_or}
 use Rattle.std.proofs.lemmas.Bool.{false≢true, false_from_ne_true}

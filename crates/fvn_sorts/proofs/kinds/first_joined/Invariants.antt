@@ -1,3 +1,4 @@
+-- The invariant of the search for a joined sort.
 use Rattle.std.proofs.Common.{◌≡◌, ◌-◌, map}
 use Rattle.std.specs.Prelude.{find}
 use Rattle.std.specs.List.{range_with_len}

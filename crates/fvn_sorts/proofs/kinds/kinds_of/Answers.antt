@@ -1,3 +1,4 @@
+-- The kinds of the sorts, and after them the kinds themselves.
 use Rattle.std.proofs.Common.{◌≡◌, ◌≤◌, ◌+◌, ◌-◌, ◌++◌, map, ap, ◌∙◌, arith, append_assoc, ℕ}
 use Rattle.std.specs.List.{range_with_len}
 use Rattle.std.proofs.lemmas.List.FromFn.{map-range_with_len_more}

@@ -1,3 +1,4 @@
+-- A sort that is the first of its part has a new kind, and any other the kind of that first sort.
 use Rattle.std.proofs.Common.{◌≡◌, ◌<◌, map, length, get_or, sym, ap, ◌∙◌, arith}
 use Rattle.fvn_terms.specs.declared.plain.SortId.{SortId}
 use Rattle.fvn_forms.specs.SortOrder.{sort_number}

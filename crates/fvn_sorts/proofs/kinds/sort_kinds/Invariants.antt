@@ -1,3 +1,4 @@
+-- The invariant of the kinds of the first sorts.
 use Rattle.std.proofs.Common.{◌≡◌, ◌+◌, map}
 use Rattle.fvn_sorts.specs.Collected.{kind_of, first_sorts, parts_before}
 use Rattle.fvn_sorts.proofs.kinds.sort_kinds.Given as goal

@@ -1,3 +1,4 @@
+-- The invariant of a list with a sort put before it.
 use Rattle.std.proofs.Common.{◌≡◌, ◌∷◌, take}
 use Rattle.fvn_sorts.proofs.preregular.preceded.Given as goal
 

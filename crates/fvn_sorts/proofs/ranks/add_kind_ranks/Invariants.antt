@@ -1,3 +1,4 @@
+-- The invariant of the ranks on kinds.
 use Rattle.std.proofs.Common.{◌≡◌, ◌++◌, map, take}
 use Rattle.fvn_forms.specs.Ranks.{kind_rank}
 use Rattle.fvn_sorts.proofs.ranks.add_kind_ranks.Given as goal

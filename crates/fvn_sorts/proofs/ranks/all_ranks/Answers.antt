@@ -1,3 +1,4 @@
+-- The ranks of all operators, with one operator more.
 use Rattle.std.proofs.Common.{◌≡◌, ◌<◌, ◌≤◌, ◌⊎◌, inl, inr, [], ap, sym, ◌∙◌, arith, length, get_or, map, ℕ}
 use Rattle.std.specs.List.{range_with_len}
 use Rattle.std.proofs.lemmas.Bool.{cases_lt}

@@ -1,3 +1,4 @@
+-- The invariant of the ranks of all operators.
 use Rattle.std.proofs.Common.{◌≡◌, map}
 use Rattle.std.specs.List.{range_with_len}
 use Rattle.fvn_forms.specs.Ranks.{ranks_of}

@@ -1,3 +1,4 @@
+-- The invariant of ranks that are appended.
 use Rattle.std.proofs.Common.{◌≡◌, ◌++◌}
 use Rattle.fvn_sorts.proofs.ranks.appended.Given as goal
 

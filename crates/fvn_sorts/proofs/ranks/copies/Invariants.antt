@@ -1,3 +1,4 @@
+-- The invariant of the copies of ranks.
 use Rattle.std.proofs.Common.{◌≡◌, take}
 use Rattle.fvn_sorts.proofs.ranks.copies.Given as goal
 

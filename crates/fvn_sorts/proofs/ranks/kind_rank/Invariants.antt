@@ -1,3 +1,4 @@
+-- The invariant of the arguments of a rank on kinds.
 use Rattle.std.proofs.Common.{◌≡◌, map, take}
 use Rattle.fvn_terms.specs.Signature.{kind}
 use Rattle.fvn_sorts.proofs.ranks.kind_rank.Given as goal

@@ -1,3 +1,4 @@
+-- The swapped ranks, with one rank more.
 use Rattle.std.proofs.Common.{◌≡◌, ◌++◌, [], ◌∷◌, ap, sym, ◌∙◌, ◌+◌, List, length, take}
 use Rattle.std.proofs.lemmas.List.{take_more, append-nil}
 use Rattle.fvn_terms.specs.declared.declarations.Rank.{Rank}

@@ -1,3 +1,4 @@
+-- The invariant of the swapped ranks.
 use Rattle.std.proofs.Common.{◌≡◌, take}
 use Rattle.fvn_forms.specs.Ranks.{swapped_ranks}
 use Rattle.fvn_sorts.proofs.ranks.swapped.Given as goal

@@ -1,10 +1,12 @@
+-- Axioms differ exactly where some declaration has others than the first.
 use Rattle.std.proofs.Common.{◌≡◌, List, refl, sym, subst, ◌∙◌, arith}
 use Rattle.std.specs.List.{Contains}
 use Rattle.std.proofs.lemmas.Bool.{false≢true}
 use Rattle.fvn_sorts.specs.declared.collected.Declaration.{Declaration}
 use Rattle.fvn_sorts.specs.Collected.{declarations_of, same_op}
 use Rattle.fvn_forms.proofs.Among.{contains_filter}
-use Rattle.fvn_sorts.proofs.ShapeLemmas.{same_op-self, differ_from_first, none_differ, same_axioms}
+use Rattle.fvn_sorts.proofs.Operators.{same_op-self}
+use Rattle.fvn_sorts.proofs.ShapeLemmas.{differ_from_first, none_differ, same_axioms}
 use Rattle.fvn_sorts.proofs.shapes.axioms_differ.Goals as goal
 
 pub returns-then-has_other_axioms : goal.returns-then-has_other_axioms

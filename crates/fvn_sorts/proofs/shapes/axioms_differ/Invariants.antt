@@ -1,3 +1,4 @@
+-- The invariant of the search for other axioms.
 use Rattle.std.proofs.Common.{◌≡◌, ℕ, ◌<◌, get_or}
 use Rattle.fvn_sorts.specs.declared.collected.Declaration.{Declaration}
 use Rattle.fvn_sorts.proofs.shapes.axioms_differ.Given as goal

@@ -1,3 +1,4 @@
+-- No declaration so far is bad, with one declaration more.
 use Rattle.std.proofs.Common.{◌≡◌}
 use Rattle.std.proofs.lemmas.Bool.{false≢true}
 use Rattle.fvn_sorts.specs.declared.collected.Declaration.{Declaration}

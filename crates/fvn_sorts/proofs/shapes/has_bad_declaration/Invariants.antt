@@ -1,3 +1,4 @@
+-- The invariant of the search for a bad declaration.
 use Rattle.std.proofs.Common.{◌≡◌, ℕ, ◌<◌, get_or}
 use Rattle.fvn_sorts.specs.declared.collected.Declaration.{Declaration}
 use Rattle.fvn_sorts.specs.Faults.{HasBadShape}

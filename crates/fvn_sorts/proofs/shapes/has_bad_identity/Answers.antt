@@ -1,3 +1,4 @@
+-- An identity is bad exactly where some rank gives a kind that it is not of.
 use Rattle.std.proofs.Common.{◌≡◌, List, sym, ap, ◌∙◌, subst}
 use Rattle.std.specs.List.{Any}
 use Rattle.fvn_terms.specs.declared.declarations.OpDecl.{OpDecl}

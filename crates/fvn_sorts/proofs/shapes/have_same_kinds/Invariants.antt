@@ -1,3 +1,4 @@
+-- The invariant of a comparison of kinds, place by place.
 use Rattle.std.proofs.Common.{◌≡◌, ◌↔◌, map, length}
 use Rattle.fvn_terms.specs.Signature.{kind}
 use Rattle.fvn_sorts.proofs.shapes.have_same_kinds.Given as goal

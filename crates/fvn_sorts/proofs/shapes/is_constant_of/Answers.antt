@@ -1,3 +1,4 @@
+-- Where no rank is one of a constant of the kind, there is no such constant.
 use Rattle.std.proofs.Common.{◌≡◌, ap, ◌∙◌, arith}
 use Rattle.std.proofs.lemmas.Bool.{false≢true}
 use Rattle.fvn_terms.specs.declared.declarations.OpDecl.{OpDecl}

@@ -1,6 +1,7 @@
+-- The invariant of the search for a rank of other kinds.
 use Rattle.std.proofs.Common.{ℕ, ◌<◌, get_or}
 use Rattle.fvn_terms.specs.declared.declarations.Rank.{Rank}
-use Rattle.fvn_sorts.specs.Faults.{HaveOneKind}
+use Rattle.fvn_forms.specs.FitsKinds.{HaveOneKind}
 use Rattle.fvn_sorts.proofs.shapes.kinds_differ.Given as goal
 
 -- the ranks so far have the kinds of the first

@@ -1,3 +1,4 @@
+-- The sorts of the arguments so far, and the measures of the recursion.
 use Rattle.std.proofs.Common.{◌≡◌, ◌+◌, ◌*◌, length, map, take}
 use Rattle.fvn_terms.specs.declared.plain.Plain.{Plain}
 use Rattle.fvn_terms.specs.Term.{nodes, nodes_all}

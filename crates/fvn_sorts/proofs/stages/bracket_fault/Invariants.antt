@@ -1,3 +1,4 @@
+-- The invariant of the search for bad brackets.
 use Rattle.std.proofs.Common.{◌<◌}
 use Rattle.fvn_terms.specs.declared.plain.OpId.{OpId}
 use Rattle.fvn_sorts.specs.declared.fault.Triple.{Triple}

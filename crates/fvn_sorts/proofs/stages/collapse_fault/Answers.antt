@@ -1,20 +1,15 @@
-use Rattle.std.proofs.Common.{inl, inr, arith}
-use Rattle.std.proofs.lemmas.Bool.{cases_lt}
+-- No operator so far has a bad collapse, and at the end none has.
+use Rattle.fvn_terms.specs.declared.plain.SortId.{SortId}
 use Rattle.fvn_sorts.specs.declared.fault.SigFault.TheVariants.{NotCollapsing}
 use Rattle.fvn_sorts.specs.Faults.{HasBadCollapse}
-use Rattle.fvn_sorts.proofs.FaultOrder.{only_8, more_operators, none_of_operators}
-use Rattle.fvn_sorts.proofs.ShapeLemmas.{no_rank}
+use Rattle.fvn_sorts.proofs.Operators.{more_operators}
+use Rattle.fvn_sorts.proofs.FaultOrder.{only, none_of_operators}
 use Rattle.fvn_sorts.proofs.stages.collapse_fault.Goals as goal
 
 pub loop-op-preserved : goal.loop-op-preserved
 loop-op-preserved c =
     let coll = c.args.collected.now in
-    more_operators coll (λ g s. HasBadCollapse coll g s) c.loop-op.op c.loop-op.invariant c.in-None.ensures
+    more_operators (λ g. (s : SortId) → HasBadCollapse coll g s → ⊥) c.loop-op.op c.loop-op.invariant c.in-None.ensures
 
 pub returns : goal.returns
-returns c =
-    let coll = c.args.collected.now in
-    none_of_operators coll 8 NotCollapsing only_8 (λ f x h. elim (cases_lt f.0 c.loop-op.op) [
-      | inl l ↦ c.loop-op.invariant f l x h
-      | inr l ↦ no_rank coll f (let past = c.loop-op-test.false in omega arith) h.of_kind.rank h.of_kind.listed
-    ])
+returns c = none_of_operators c.args.collected.now 8 NotCollapsing (only 8) (λ f s h. (h.of_kind.rank, h.of_kind.listed)) c.loop-op.op c.loop-op-test.false c.loop-op.invariant

@@ -1,3 +1,4 @@
+-- The invariant of the search for a bad collapse.
 use Rattle.std.proofs.Common.{◌<◌}
 use Rattle.fvn_terms.specs.declared.plain.OpId.{OpId}
 use Rattle.fvn_terms.specs.declared.plain.SortId.{SortId}

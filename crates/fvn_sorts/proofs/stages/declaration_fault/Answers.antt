@@ -1,3 +1,4 @@
+-- The first operator that fails is the first fault of its condition.
 use Rattle.fvn_sorts.proofs.FaultOrder.{declared_none, declared_first}
 use Rattle.fvn_sorts.proofs.stages.declaration_fault.Goals as goal
 

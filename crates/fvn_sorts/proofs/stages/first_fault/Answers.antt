@@ -1,3 +1,4 @@
+-- Where no fault of the declarations was found, they agree in kinds.
 use Rattle.std.proofs.Common.{arith}
 use Rattle.fvn_sorts.specs.declared.fault.SigFault.TheVariants.{KindsDiffer}
 use Rattle.fvn_sorts.proofs.stages.first_fault.Goals as goal

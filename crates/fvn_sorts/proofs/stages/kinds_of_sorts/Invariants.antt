@@ -1,3 +1,4 @@
+-- The invariant of the kinds of some sorts.
 use Rattle.std.proofs.Common.{◌≡◌, map, take}
 use Rattle.fvn_terms.specs.Signature.{kind}
 use Rattle.fvn_sorts.proofs.stages.kinds_of_sorts.Given as goal

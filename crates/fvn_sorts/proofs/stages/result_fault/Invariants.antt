@@ -1,3 +1,4 @@
+-- The invariant of the search for sorts without a result.
 use Rattle.std.proofs.Common.{◌<◌, List}
 use Rattle.fvn_terms.specs.declared.plain.OpId.{OpId}
 use Rattle.fvn_terms.specs.declared.plain.SortId.{SortId}

@@ -1,3 +1,4 @@
+-- The lists of direct subsorts, with one sort more.
 use Rattle.std.proofs.Common.{sym}
 use Rattle.fvn_sorts.specs.Queries.{direct_subsorts}
 use Rattle.fvn_sorts.proofs.Parts.{map_sorts-more}

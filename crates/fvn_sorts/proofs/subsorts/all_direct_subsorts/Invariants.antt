@@ -1,3 +1,4 @@
+-- The invariant of the lists of direct subsorts.
 use Rattle.std.proofs.Common.{◌≡◌, map}
 use Rattle.fvn_sorts.specs.Collected.{first_sorts}
 use Rattle.fvn_sorts.specs.Queries.{direct_subsorts}

@@ -1,3 +1,4 @@
+-- The list of direct subsorts, with one sort more.
 use Rattle.std.proofs.Common.{◌++◌, [], ◌∷◌, Bool, cond, sym, ap, ◌∙◌, arith}
 use Rattle.std.specs.Prelude.{filter}
 use Rattle.std.proofs.lemmas.List.{append-nil}

@@ -1,3 +1,4 @@
+-- The invariant of the list of direct subsorts.
 use Rattle.std.proofs.Common.{◌≡◌}
 use Rattle.std.specs.Prelude.{filter}
 use Rattle.fvn_sorts.specs.Collected.{first_sorts}

@@ -1,3 +1,4 @@
+-- Nothing is between, with one sort more.
 use Rattle.std.proofs.Common.{◌&&◌, not, sym, ap, ◌∙◌}
 use Rattle.fvn_terms.specs.declared.plain.SortId.{SortId}
 use Rattle.fvn_sorts.specs.Queries.{is_below}

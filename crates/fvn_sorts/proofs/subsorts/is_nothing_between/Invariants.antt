@@ -1,3 +1,4 @@
+-- The invariant of the search for a sort between two others.
 use Rattle.std.proofs.Common.{◌≡◌, ◌-◌, ◌&&◌, not, map}
 use Rattle.std.specs.List.{list_all, range_with_len}
 use Rattle.fvn_forms.specs.SortOrder.{sort_number}

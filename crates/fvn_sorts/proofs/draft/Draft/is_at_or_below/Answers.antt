@@ -1,3 +1,4 @@
+-- A sort is at or below itself, its kind and where the pairs lead.
 use Rattle.std.proofs.Common.{sym, ap, ◌∙◌}
 use Rattle.std.proofs.lemmas.Bool.{false≢true, eq-eqb}
 use Rattle.fvn_terms.specs.declared.plain.SortId.{SortId}

@@ -1,3 +1,4 @@
+-- The invariant of the comparison of a sort with results.
 use Rattle.std.proofs.Common.{◌≡◌, drop}
 use Rattle.fvn_forms.specs.Ranks.{is_lowest, results}
 use Rattle.fvn_sorts.proofs.draft.Draft.is_lowest.Given as goal

@@ -1,3 +1,4 @@
+-- What is no sort leads only to itself.
 use Rattle.std.proofs.Common.{◌≡◌, ◌<◌, ◌≤◌, inl, inr, arith, length, ap}
 use Rattle.fvn_sorts.proofs.Orders.{reaches-range}
 use Rattle.fvn_sorts.proofs.draft.Draft.leads.Goals as goal

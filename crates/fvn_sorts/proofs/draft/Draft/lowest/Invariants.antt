@@ -1,3 +1,4 @@
+-- The invariant of the search for a lowest result.
 use Rattle.std.proofs.Common.{◌≡◌, drop}
 use Rattle.std.specs.Prelude.{find}
 use Rattle.fvn_forms.specs.Ranks.{is_lowest, results}

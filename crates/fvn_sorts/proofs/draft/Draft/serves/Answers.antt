@@ -1,3 +1,4 @@
+-- A rank with another number of arguments does not serve.
 use Rattle.std.proofs.Common.{sym}
 use Rattle.fvn_sorts.proofs.Serving.{pass_together-length}
 use Rattle.fvn_sorts.proofs.draft.Draft.serves.Goals as goal

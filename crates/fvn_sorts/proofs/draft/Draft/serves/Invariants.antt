@@ -1,3 +1,4 @@
+-- The invariant of a comparison of arguments with a rank.
 use Rattle.std.proofs.Common.{◌≡◌, length}
 use Rattle.fvn_forms.specs.SortOrder.{at_or_below}
 use Rattle.fvn_forms.specs.Ranks.{pass_together}

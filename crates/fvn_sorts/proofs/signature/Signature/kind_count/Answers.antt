@@ -1,3 +1,4 @@
+-- There are as many kinds as sorts and kinds together, less the sorts.
 use Rattle.std.proofs.Common.{◌≡◌, ap, arith, length}
 use Rattle.fvn_terms.specs.declared.declarations.Declarations.{Declarations}
 use Rattle.fvn_sorts.proofs.signature.Signature.kind_count.Goals as goal

@@ -1,3 +1,4 @@
+-- The test tells the order.
 use Rattle.std.proofs.Common.{◌↔◌, sym, ◌∙◌, subst}
 use Rattle.std.specs.Prelude.{IsTrue}
 use Rattle.fvn_terms.specs.declared.declarations.Declarations.{Declarations}

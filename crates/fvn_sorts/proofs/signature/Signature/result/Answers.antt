@@ -1,3 +1,4 @@
+-- Over sorts of its argument kinds an operator has its least result.
 use Rattle.std.proofs.Common.{sym, subst}
 use Rattle.fvn_terms.specs.declared.declarations.Declarations.{Declarations}
 use Rattle.fvn_forms.specs.Good.{TakesKinds}

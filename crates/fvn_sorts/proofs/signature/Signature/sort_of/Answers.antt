@@ -1,3 +1,4 @@
+-- The sort of the flat form is the least sort of the term.
 use Rattle.std.proofs.Common.{sym, subst}
 use Rattle.fvn_terms.specs.Plain.{term}
 use Rattle.fvn_terms.specs.Signature.{same}

@@ -1,9 +1,0 @@
-use Rattle.std.proofs.Common.{◌≡◌, ◌↔◌, length}
-use Rattle.fvn_sorts.proofs.preregular.are_same_sorts.Given as goal
-
--- the places that are left decide
-abbrev pub invariant-loop-s : goal.invariant-loop-s
-invariant-loop-s l = record {
-  as_long : length l.s-iterator.a.rest.now ≡ length l.s-iterator.b.rest.now;
-  decide : (l.some ≡ l.others) ↔ (l.s-iterator.a.rest.now ≡ l.s-iterator.b.rest.now);
-}

@@ -1,8 +1,0 @@
-use Rattle.std.proofs.Common.{◌<◌}
-use Rattle.fvn_terms.specs.declared.plain.SortId.{SortId}
-use Rattle.fvn_sorts.specs.Queries.{IsGreatestOf}
-use Rattle.fvn_sorts.proofs.subsorts.first_greatest.Given as goal
-
--- no sort so far is one
-abbrev pub invariant-loop-s : goal.invariant-loop-s
-invariant-loop-s l = (q : SortId) → q.0 < l.s → IsGreatestOf l.draft.declarations l.of q → ⊥
