@@ -26,7 +26,7 @@ first_kind_number = 32768
 abbrev pub Names : ℕ → SortId → Type 0
 Names n s = (s.0 < n) ⊎ ((first_kind_number ≤ s.0) × (s.0 - first_kind_number < n))
 
--- what is collected names only what was collected, and each operator is declared
+-- pairs and ranks name sorts that were collected, and the operators are those that have a declaration
 pub record IsClosed (c : Collected) : Type 0 where
   pub few : c.sorts < first_kind_number
   pub below : All (λ p. (p.0.0 < c.sorts) × (p.1.0 < c.sorts)) c.below

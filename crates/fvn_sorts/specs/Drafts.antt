@@ -10,7 +10,7 @@ use Rattle.fvn_sorts.specs.declared.collected.Collected.{Collected}
 use Rattle.fvn_sorts.specs.Collected.{IsClosed, first_sorts, completed}
 use Rattle.fvn_sorts.specs.declared.draft.Draft.{Draft}
 
--- the least sort to which f takes a sort and each sort after it, of the first n, sort by sort
+-- for each of the first n sorts a row: the results of f over it and each of the first n sorts, as first and second argument
 abbrev pub results_of_two : Declarations → OpId → ℕ → List (List SortId)
 results_of_two d f n = map (λ s. map (λ q. result d f (s ∷ q ∷ [])) (first_sorts n)) (first_sorts n)
 
@@ -18,7 +18,7 @@ results_of_two d f n = map (λ s. map (λ q. result d f (s ∷ q ∷ [])) (first
 abbrev pub IsTable : Declarations → OpId → ℕ → List (List SortId) → Type 0
 IsTable d f n rows = (rows ≡ []) ⊎ (rows ≡ results_of_two d f n)
 
--- the words say where the order leads, the ranks are those of each operator, and the tables have its results
+-- the words say where the order leads, the ranks are those of each operator, and each table that there is has the results of its operator
 pub record IsDraft (t : Draft) : Type 0 where
   pub kinded : IsKinded t.declarations
   pub in_range : All (λ p. (p.0.0 < t.declarations.sorts) × (p.1.0 < t.declarations.sorts)) t.declarations.below

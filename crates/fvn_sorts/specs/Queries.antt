@@ -48,7 +48,7 @@ module _ (d : Declarations) where
   abbrev pub is_below : SortId → SortId → Bool
   is_below s q = at_or_below d s q && not (same_sort s q)
 
-  -- the test of being a direct subsort, of declared sorts t
+  -- whether the declared sort t is a direct subsort of s
   abbrev pub is_direct : SortId → SortId → Bool
   is_direct s t = is_below t s && list_all (λ q. not (is_below t q && is_below q s)) (first_sorts d.sorts)
 

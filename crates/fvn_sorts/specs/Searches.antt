@@ -64,7 +64,7 @@ abbrev pub three_sorts : Triple → List SortId
 three_sorts t = t.first ∷ t.second ∷ t.third ∷ []
 
 module _ (d : Declarations) (f : OpId) where
-  -- the sort has the kind, and with those before it breaks the condition
+  -- the sort has the kind, and over it and the two before it the sort of the sum depends on its brackets
   abbrev pub IsBadThird : SortId → SortId → SortId → SortId → Type 0
   IsBadThird k s q r = (kind d r ≡ k) × (Associates d f s q r → ⊥)
 
@@ -74,11 +74,11 @@ module _ (d : Declarations) (f : OpId) where
   abbrev pub AreBad : SortId → Triple → Type 0
   AreBad k t = (kind d t.first ≡ k) × AreBadAfter k t.first (t.second, t.third)
 
-  -- the sort has the kind, and is not at or below that of its sum with the identity
+  -- the sort has the kind, and is not at or below that of its sum by f with the constant e
   abbrev pub DoesNotCollapse : OpId → SortId → SortId → Type 0
   DoesNotCollapse e k s = (kind d s ≡ k) × (Collapses d f e s → ⊥)
 
--- a rank that is not listed takes no arguments
+-- what stands for a rank that is not listed: without arguments, to sort 0
 abbrev pub no_rank : Rank
 no_rank = record { args = []; result = sort_number 0 }
 
@@ -91,7 +91,7 @@ abbrev pub rests : List Rank → ℕ → List ℕ → List Rank
 rests rs n left = map (λ i. rest_of n (slice_index_or rs i no_rank)) left
 
 module _ (d : Declarations) where
-  -- the first of the arguments may be of sort s
+  -- whether a rank with these arguments takes one of sort s as its first; with none it takes nothing
   abbrev pub takes_first : SortId → List SortId → Bool
   takes_first s [] = false
   takes_first s (a ∷ more) = at_or_below d s a

@@ -21,7 +21,7 @@ pub fn direct_subsorts_cover()
     ensures { DirectSubsortsCover }
 {}
 
-/// The direct subsorts of a kind are its maximal sorts.
+/// In a good and completed signature the direct subsorts of a kind are its maximal sorts.
 pub fn direct_subsorts_of_kinds()
     ensures { DirectSubsortsOfKinds }
 {}

@@ -135,7 +135,7 @@ fn preceded(alloc: Global, s: SortId, list: Seq<SortId>) -> Result<Seq<SortId>, 
     Ok(Seq::from_vec(all))
 }
 
-/// No sorts, where the ranks have no least result without arguments.
+/// The empty list, where the ranks have no least result without arguments.
 fn at_the_end(alloc: Global, draft: &Draft, ranks: &[Rank]) -> Option<Seq<SortId>>
     requires { IsDraft draft.now }
     ensures { IsFirstList the_list (HasNoLowest draft.now.declarations [] ranks.now) result }

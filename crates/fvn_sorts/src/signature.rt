@@ -89,7 +89,8 @@ impl Signature {
 
     /// The least sort to which the operator takes arguments of these sorts.
     ///
-    /// Over two arguments it is read from a table; over others it costs a pass through the ranks.
+    /// Over two arguments it is read from a table; over others it costs a pass through the ranks, at worst
+    /// one for each of them.
     pub fn result(&self, op: OpId, args: &[SortId]) -> SortId
         ensures exact { result ≡ least_result self.now op args.now }
         ensures least { TakesKinds self.now op args.now → IsResult self.now op args.now result }

@@ -10,7 +10,7 @@ use fvn_seq::Seq;
 use fvn_terms::{NoMemory, OpId, Rank, SortId};
 use std::alloc::{AllocError, AllocFailed, Global};
 
-/// The results over a sort and each sort after it.
+/// The results over a sort as first argument and each sort and kind as second.
 fn row(alloc: Global, draft: &Draft, op: OpId, s: SortId) -> Result<Vec<SortId>, NoMemory>
     requires { IsDraft draft.now }
     ensures { IfOk result (λ v. v.items ≡ map (λ q. least_result draft.now.declarations op (s ∷ q ∷ [])) (first_sorts draft.now.total)) }

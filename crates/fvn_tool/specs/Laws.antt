@@ -4,7 +4,7 @@ use Rattle.fvn_tool.specs.declared.status.Status.{Status}
 use Rattle.fvn_tool.specs.Outcomes.{IsOutcome}
 use Rattle.fvn_tool.specs.Claims.{Is}
 
--- words and the bytes of a source have one outcome: one status, and one text to the last byte
+-- words and the bytes of a source have at most one outcome: one status, and one text to the last byte
 abbrev pub OutcomesAreDetermined : Type 0
 OutcomesAreDetermined =
     (words : List (List ℕ)) (bytes : List ℕ) (rest other : Option (List ℕ)) (status : Status) (text : List ℕ) → IsOutcome words (Some bytes) rest status text →

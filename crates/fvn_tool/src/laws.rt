@@ -3,8 +3,10 @@ ghost use Rattle.fvn_tool.specs.Laws.{OutcomesAreDetermined};
 
 use fvn_module::first::{modules_are_determined, modules_are_first, problems_are_determined};
 
-/// Words and the bytes of a source have one outcome: two runs over them that meet no fault and have memory enough end
-/// with the same status and the same text.
+/// Words and the bytes of a source have at most one outcome.
+///
+/// By the clause `outcome` of `run`, two runs over them have the same status and the same text, where
+/// neither status is ReadFault, WriteFault or NoMemory.
 pub fn outcomes_are_determined()
     ensures { OutcomesAreDetermined }
 {

@@ -1,3 +1,4 @@
+-- There is at most one outcome.
 use Rattle.fvn_tool.proofs.Determined.{outcomes_determined}
 use Rattle.fvn_tool.proofs.laws.outcomes_are_determined.Goals as goal
 
