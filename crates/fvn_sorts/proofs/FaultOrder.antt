@@ -12,7 +12,7 @@ use Rattle.fvn_sorts.specs.declared.fault.Condition.TheVariants.{Kinds, Shape, S
 use Rattle.fvn_sorts.specs.declared.fault.Triple.{Triple}
 use Rattle.fvn_sorts.specs.declared.fault.SigFault.{SigFault}
 use Rattle.fvn_sorts.specs.declared.fault.SigFault.TheVariants.{SortCycle, KindsDiffer, AxiomShape, AxiomsDiffer, IdentityBad, NotPreregular, NotAssocSorts, NotCollapsing, TooMany, NoMemory}
-use Rattle.fvn_sorts.specs.Faults.{HasFault, condition, witness, IsBefore, IsEarlier, IsFirstFault, HasNoFault}
+use Rattle.fvn_sorts.specs.Faults.{HasFault, condition, witness, IsBefore, IsEarlier, HasNoFault}
 use Rattle.fvn_sorts.specs.Searches.{IsFirstFrom, fault_at, place_of, IsFirstList}
 use Rattle.fvn_sorts.specs.Collected.{op_number, completed}
 use Rattle.fvn_sorts.proofs.ShapeLemmas.{no_rank}
@@ -115,22 +115,9 @@ module _ (c : Collected) where
   found_later n m p l h None f = none_then_none n m p h f
   found_later n m p l h (Some k) f = none_then_first n m p p k l (omega arith) h f
 
-  pub found_before : (n m p : ℕ) → m ≤ p → (k : SigFault) → FirstFrom n m k → FirstFrom n p k
-  found_before n m p l k f = (f.0, (f.1.0, (let x = f.1.1.0 in omega arith, f.1.1.1)))
-
   -- what is too large is told first
   pub none_too_large : (HasFault c TooMany → ⊥) → NoneFrom 0 1
   none_too_large h j l m f = h (subst (HasFault c) (only 0 j (omega arith)) f)
-
-  pub too_large_first : HasFault c TooMany → IsFirstFault c TooMany
-  too_large_first h = (h, earlier) where
-    earlier : (j : SigFault) → IsEarlier j TooMany → HasFault c j → ⊥
-    earlier j (inl l) f = omega arith
-    earlier j (inr p) f = subst (λ z. IsBefore (witness z) []) (only 0 j p.0) p.1
-
-  -- all conditions together
-  pub first_of_all : (k : SigFault) → NoneFrom 0 1 → FirstFrom 1 9 k → IsFirstFault c k
-  first_of_all k h f = let w = none_then_first 0 1 9 9 k (omega arith) (omega arith) h f in (w.0, λ j e. w.1.1.1 j (omega arith) e)
 
   no_fault_at : NoneFrom 0 9 → (k : SigFault) → HasFault c k → ⊥
   no_fault_at h NoMemory f = f

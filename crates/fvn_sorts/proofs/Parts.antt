@@ -102,9 +102,6 @@ pub find_from-true : (p : SortId → Bool) (q n : ℕ) → q < n → p (sort_num
 find_from-true p q n l e =
     ap (λ xs. find p (map sort_number xs)) (range_from q n l) ∙ ap (λ b. cond b (Some (sort_number q)) (find p (map sort_number (range_with_len (q + 1) (n - (q + 1)))))) e
 
-pub find_from-none : (p : SortId → Bool) (q n : ℕ) → n ≤ q → find p (map sort_number (range_with_len q (n - q))) ≡ None
-find_from-none p q n l = let e : n - q ≡ 0 = omega arith in ap (λ k. find p (map sort_number (range_with_len q k))) e
-
 module _ (c : Collected) where
   pub parts_before-le : (n : ℕ) → parts_before c n ≤ n
   parts_before-le n = let a = count_by-le-length (is_first c) (first_sorts n) in let b = length-map-range_with_len sort_number 0 n in omega arith

@@ -13,7 +13,7 @@ use Rattle.fvn_terms.specs.declared.declarations.Axioms.TheVariants.{Free, Comm,
 use Rattle.fvn_terms.specs.declared.declarations.Rank.{Rank}
 use Rattle.fvn_terms.specs.declared.declarations.OpDecl.{OpDecl}
 use Rattle.fvn_terms.specs.declared.declarations.Declarations.{Declarations}
-use Rattle.fvn_terms.specs.Signature.{kind, declared, axioms, unknown, AtOrBelow, HasKind, HaveKinds}
+use Rattle.fvn_terms.specs.Signature.{kind, declared, axioms, unknown, HasKind, HaveKinds}
 use Rattle.fvn_terms.specs.Term.{none}
 use Rattle.fvn_terms.specs.Equality.{IsCommutative, IsAssociative, constant}
 use Rattle.fvn_forms.proofs.Among.{contains_here, contains_none}
@@ -113,10 +113,3 @@ nothing_fails c closed f l Identity w = no_rank c f l w.rank w.listed
 -- what is on a cycle is a sort
 pub cycle_in_range : (c : Collected) → IsClosed c → (s : SortId) → IsOnCycle c s → s.0 < c.sorts
 cycle_in_range c closed s w = (below-range c closed s w.0 w.1.0).0
-
--- a pair that closes a cycle
-pub cycle_at : (c : Collected) (d : Declarations) → d ≡ completed c → (s : SortId) → Any (λ p. (p.0 ≡ s) × AtOrBelow d p.1 s) d.below ↔ IsOnCycle c s
-cycle_at c d is s = subst (λ (x : Declarations). Any (λ p. (p.0 ≡ s) × AtOrBelow x p.1 s) x.below ↔ IsOnCycle c s) (sym is) (
-  λ w. (w.1.1, (subst (λ z. Contains c.below (z, w.1.1)) w.4.0 (w.0, w.2, w.3), w.4.1)),
-  λ w. (w.1.0.0, (s, w.0), w.1.0.1, w.1.0.2, (refl, w.1.1)),
-)

@@ -73,9 +73,6 @@ module _ (d : Declarations) where
     pub plain_sort : (IsAssociative (axioms d f) → ⊥) → least_sort d (canon d (app f (terms items))) ≡ result d f (map (λ (t : Plain). least_sort d (canon d (term t))) items)
     plain_sort plain = least_sort_of_app d good f (terms items) is_term.0 is_term.1 (each (λ t. IsIdentityOf d f t → ⊥) (λ t w. no_identity (axioms d f) w.0 plain w.1) (eval_all d fvar (terms items))) ∙ ap (result d f) (sorts_of_arguments items)
 
-  pub plain_constant_none : (f : OpId) → as_constant (canon d (app f (terms []))) ≡ Some f
-  plain_constant_none f = refl
-
   pub plain_constant_some : (f : OpId) → (IsAssociative (axioms d f) → ⊥) → (items : List Plain) → 0 < length items → as_constant (canon d (app f (terms items))) ≡ None
   plain_constant_some f plain [] h = absurd (omega arith)
   plain_constant_some f plain (t ∷ ts) h = build_unjoined_some d f plain (canon d (term t)) (eval_all d fvar (terms ts))

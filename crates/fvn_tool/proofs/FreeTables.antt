@@ -81,37 +81,10 @@ module _ (before now : Table) (a : Application) (vars : now.vars.items ≡ befor
   subterm-push us e =
       ap (λ ts. get_or ts (count before) nothing) subterms-push ∙ get_or_push (subterms before) (headed (subterms before) a) nothing (count before) (length-subterms before) ∙ ap (app a.op) e
 
-  pub count-push : count now ≡ count before + 1
-  count-push =
-      let v = ap length vars in
-      let w = ap length applications ∙ length_push before.applications.items a in
-      omega (arith, v, w)
-
   pub HaveKind-push : (d : Declarations) (k : SortId) (us : Terms) → pack (map (subterm before) a.children.items) ≡ us → HasKind d (app a.op us) k → HaveKind d before k → HaveKind d now k
   HaveKind-push d k us e h all =
       let p = All-push (λ u. HasKind d u k) (subterms before) (headed (subterms before) a) all (subst (λ vs. HasKind d (app a.op vs) k) (sym e) h) in
       subst (All (λ u. HasKind d u k)) (sym subterms-push) p
-
-  pub IsOrdered-push : All (λ k. k < count before) a.children.items → IsOrdered before → IsOrdered now
-  IsOrdered-push within ordered i b at =
-      elim (cases_lt at.place (length before.applications.items)) [
-        | inl l ↦
-            let at' : IsAt before i b = record {
-              place = at.place;
-              within = l;
-              is = sym (ap (λ xs. get_or xs at.place b) applications ∙ get_or_append_left before.applications.items (a ∷ []) b at.place l) ∙ at.is;
-              offset = at.offset ∙ ap (λ xs. length xs + at.place) vars;
-            } in ordered i b at'
-        | inr g ↦
-            let w = ap length applications ∙ length_push before.applications.items a in
-            let v = ap length vars in
-            let within' = at.within in
-            let o = at.offset in
-            let p : length before.applications.items ≡ at.place = omega (arith, w) in
-            let e : a ≡ b = sym (get_or_push before.applications.items a b at.place p) ∙ sym (ap (λ xs. get_or xs at.place b) applications) ∙ at.is in
-            let n : count before ≡ i = omega (arith, v, w, o) in
-            subst (λ m. All (λ k. k < m) b.children.items) n (subst (λ x. All (λ k. k < count before) x.children.items) e within)
-      ]
 
 pub pack-push : (ts : List Term) (u : Term) → pack (ts ++ u ∷ []) ≡ push (pack ts) u
 pack-push [] u = refl

@@ -76,9 +76,6 @@ module _ {d : Declarations} {vars : List Var} {left right : Term} {t : Table} {l
   number-length : length vars ≡ m
   number-length = ap length (sym posed.table.listed)
 
-  m-within : m ≤ count t
-  m-within = omega arith
-
   length-classes : length (take m cs) ≡ m
   length-classes = length-take-le m cs (let n = posed.classes.partition.all in omega (arith, n))
 

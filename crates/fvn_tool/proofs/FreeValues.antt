@@ -1,9 +1,7 @@
 -- Values of classes.
-use Rattle.std.proofs.Common.{◌≡◌, ℕ, zero, suc, ◌+◌, ◌<◌, Bool, true, false, List, [], ◌∷◌, ◌++◌, length, map, get_or, set, take, drop, refl, sym, ap, ◌∙◌, subst, inl, inr, arith, All, count_by, if◌then◌else◌}
+use Rattle.std.proofs.Common.{◌≡◌, ℕ, zero, suc, ◌+◌, ◌<◌, false, List, [], ◌∷◌, ◌++◌, length, map, get_or, take, drop, refl, sym, ap, ◌∙◌, subst, arith, All}
 use Rattle.std.specs.Prelude.{replicate}
-use Rattle.std.proofs.lemmas.Bool.{cases_eq}
-use Rattle.std.proofs.lemmas.List.{get_or_default, get_or-set_same, get_or-set_other, take-append-drop, drop_more, map-append, length-set}
-use Rattle.std.proofs.lemmas.List.Sums.{sum_by-set}
+use Rattle.std.proofs.lemmas.List.{get_or_default, take-append-drop, drop_more, map-append}
 use Rattle.std.proofs.lemmas.List.Elements.{All-head, All-tail, All-drop, All-map, All-weaker}
 use Rattle.fvn_terms.specs.declared.plain.Var.{Var}
 use Rattle.fvn_terms.specs.declared.plain.Plain.{Plain}
@@ -93,28 +91,9 @@ module _ (t : Table) (cs : List ℕ) where
         large = let e = nodes_all-append us (more v rest.by) in omega (arith, e);
       }
 
-  -- one entry is set
-  pub AreRight-set : (limit : ℕ) (entries : List Entry) (c : ℕ) (e : Entry) → c < length entries → AreRight t cs limit entries → IsRight t cs limit c e → AreRight t cs limit (set entries c e)
-  AreRight-set limit entries c e l right one d h =
-      elim (cases_eq d c) [
-        | inl p ↦ subst (λ k. IsRight t cs limit k (entry_of (set entries c e) k)) (sym p) (subst (IsRight t cs limit c) (sym (get_or-set_same entries c e Unknown l)) one)
-        | inr n ↦ subst (IsRight t cs limit d) (sym (get_or-set_other entries c d e Unknown n)) (right d (let m = length-set entries c e in omega (arith, m)))
-      ]
-
-pub count-known : (entries : List Entry) (c : ℕ) (e : Entry) → c < length entries → IsUnknown entries c → is_unknown e ≡ false → count_by is_unknown (set entries c e) < count_by is_unknown entries
-count-known entries c e l old new =
-    let s = sum_by-set (λ x. if is_unknown x then 1 else 0) entries c e Unknown l in
-    let number : Bool → ℕ = λ b. if b then 1 else 0 in
-    let a = ap number old in
-    let b = ap number new in
-    omega (arith, s, a, b)
-
 -- what a read of an entry gives
 pub entry-is : (entries : List Entry) (c : ℕ) (e : Entry) → c < length entries → e ≡ get_or entries c e → entry_of entries c ≡ e
 entry-is entries c e h is = sym (is ∙ get_or_default entries c e Unknown h)
 
 pub classes-within : (t : Table) (cs : List ℕ) → IsPartition t cs → (n : ℕ) → n ≡ count t → (ks : List ℕ) → All (λ k. k < count t) ks → All (λ k. class_of cs k < n) ks
 classes-within t cs partition n e ks within = All-weaker (λ k. k < count t) (λ k. class_of cs k < n) (λ k l. let w = partition.within k l in omega (arith, w, e)) ks within
-
-pub not_unknown : (entries : List Entry) (c : ℕ) → IsKnown entries c → entry_of entries c ≡ Unknown → ⊥
-not_unknown entries c known e = let z : true ≡ false = sym (ap is_unknown e) ∙ known in cc
