@@ -6,18 +6,18 @@ there=$(mktemp -d)
 trap 'rm -rf "$there"' EXIT
 mkdir -p "$there/crates"
 cp "$here/HANDLES" "$there/HANDLES"
-cp -r "$here/crates/fvn_seq" "$here/crates/fvn_lindio" "$there/crates/"
+cp -r "$here/crates/fvn_base" "$here/crates/fvn_lindio" "$there/crates/"
 rm -rf "$there"/crates/*/out
 touch "$there/crates.txt"
 cd "$there/crates" && rt new lindio_times start_io > /dev/null && cd lindio_times
 rm -rf proofs/* specs/* stdin stdout src/*
-printf 'fvn_seq:\nfvn_lindio: fvn_seq smallvec\nlindio_times: fvn_lindio fvn_seq\n' > "$there/crates.txt"
+printf 'fvn_base:\nfvn_lindio: fvn_base smallvec\nlindio_times: fvn_lindio fvn_base\n' > "$there/crates.txt"
 cat > src/main.rt <<'PROGRAM'
 //! Times of `basis`.
 #![tactic(auto)]
 
 use fvn_lindio::{LinFault, Row, System, basis};
-use fvn_seq::Seq;
+use fvn_base::Seq;
 use std::alloc::{AllocError, Global};
 use std::io;
 use std::time::Instant;

@@ -6,7 +6,7 @@ there=$(mktemp -d)
 trap 'rm -rf "$there"' EXIT
 mkdir -p "$there/crates"
 cp "$here/HANDLES" "$there/HANDLES"
-for crate in fvn_seq fvn_terms fvn_forms fvn_sorts; do cp -r "$here/crates/$crate" "$there/crates/"; done
+for crate in fvn_base fvn_terms fvn_forms fvn_sorts; do cp -r "$here/crates/$crate" "$there/crates/"; done
 grep -E '^fvn_(seq|terms|forms|sorts):' "$here/crates.txt" > "$there/crates.txt"
 cd "$there/crates/fvn_sorts"
 rm -rf src/tests src/tests.rt proofs/tests must-fail
@@ -28,7 +28,7 @@ ghost use Rattle.std.specs.Prelude.{◌<◌, All, IsTrue};
 ghost use Rattle.fvn_sorts.specs.Collected.{Names};
 
 use crate::{SigFault, SignatureBuilder};
-use fvn_seq::Seq;
+use fvn_base::Seq;
 use fvn_terms::{Axioms, NoMemory, OpId, Rank, SortId};
 use std::alloc::{AllocError, AllocFailed, Global};
 use std::process::Abort;

@@ -5,7 +5,7 @@ ghost use Rattle.fvn_lindio.specs.Systems.{vectors_of};
 use crate::prefix::dead_place;
 use crate::theory::{OneFault, OneTheory};
 use fvn_lindio::Solution;
-use fvn_seq::Seq;
+use fvn_base::Seq;
 use std::alloc::Global;
 use std::marker::Model;
 

@@ -5,7 +5,7 @@ ghost use Rattle.fvn_acunify.specs.Theory.{IsOneTheory};
 use crate::solve::solve_one;
 use crate::theory::{OneFault, OneTheory};
 use fvn_lindio::{LinFault, Row, Solution, System};
-use fvn_seq::Seq;
+use fvn_base::Seq;
 use std::alloc::{AllocError, Global};
 use std::test::Fail;
 

@@ -4,7 +4,7 @@ ghost use Rattle.fvn_lindio.specs.Systems.{vectors_of};
 ghost use Rattle.fvn_lindio.specs.Generators.{vectors_in};
 
 use crate::system::Solution;
-use fvn_seq::Seq;
+use fvn_base::Seq;
 use smallvec::SmallVec;
 use std::alloc::{AllocError, Global};
 

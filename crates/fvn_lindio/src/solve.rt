@@ -7,7 +7,7 @@ ghost use Rattle.fvn_lindio.specs.Refusals.{IsTooMany, IsTooWide};
 use crate::answer::{is_wide, solutions_of};
 use crate::rows::extended;
 use crate::system::{LinFault, Solution, System};
-use fvn_seq::Seq;
+use fvn_base::Seq;
 use smallvec::SmallVec;
 use std::alloc::Global;
 

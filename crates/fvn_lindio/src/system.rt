@@ -1,7 +1,7 @@
 //! Systems of linear equations, their solutions, and why a system is refused.
 ghost use Rattle.std.specs.Prelude.{◌≡◌};
 
-use fvn_seq::Seq;
+use fvn_base::Seq;
 use std::alloc::AllocError;
 
 /// One equation: the sum of coefficient times component is zero.

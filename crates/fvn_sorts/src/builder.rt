@@ -3,7 +3,7 @@ ghost use Rattle.std.specs.Prelude.{◌≡◌, ◌<◌, ◌≤◌, ◌+◌, max,
 ghost use Rattle.fvn_sorts.specs.Collected.{Names};
 
 use crate::collected::{Collected, Declaration};
-use fvn_seq::Seq;
+use fvn_base::Seq;
 use fvn_terms::{Axioms, NoMemory, OpId, Rank, SortId};
 use std::alloc::Global;
 use std::marker::Model;

@@ -1,5 +1,5 @@
 //! What a builder collects.
-use fvn_seq::Seq;
+use fvn_base::Seq;
 use fvn_terms::{Axioms, OpId, Rank, SortId};
 
 /// What one `op` statement says of an operator.

@@ -12,7 +12,7 @@ ghost use Rattle.fvn_sorts.specs.Collected.{
 };
 
 use crate::collected::{Collected, Declaration};
-use fvn_seq::Seq;
+use fvn_base::Seq;
 use fvn_terms::{Axioms, Declarations, NoMemory, OpDecl, OpId, Rank, SortId};
 use std::alloc::{AllocError, AllocFailed, Global};
 

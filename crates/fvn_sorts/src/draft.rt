@@ -13,7 +13,7 @@ ghost use Rattle.fvn_forms.specs.Ranks.{
 ghost use Rattle.fvn_sorts.specs.Drafts.{IsDraft};
 
 use crate::closure::has;
-use fvn_seq::Seq;
+use fvn_base::Seq;
 use fvn_terms::{Axioms, Declarations, OpId, Rank, SortId};
 
 /// The signature, the number of its sorts and kinds, for each sort the word of those at or above it,

@@ -2,7 +2,7 @@
 ghost use Rattle.std.specs.Prelude.{◌≡◌};
 ghost use Rattle.fvn_sorts.specs.declared.fault.SigFault.TheVariants.{NoMemory};
 
-use fvn_seq::Seq;
+use fvn_base::Seq;
 use fvn_terms::{NoMemory, OpId, SortId};
 
 /// Why a signature is refused, with the first operator and the first sorts that show it.

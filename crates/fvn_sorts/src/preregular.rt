@@ -15,7 +15,7 @@ ghost use Rattle.fvn_sorts.specs.Searches.{
 
 use crate::draft::Draft;
 use crate::fault::Passed;
-use fvn_seq::Seq;
+use fvn_base::Seq;
 use fvn_terms::{NoMemory, Rank, SortId};
 use std::alloc::{AllocError, AllocFailed, Global};
 

@@ -5,7 +5,7 @@ ghost use Rattle.fvn_terms.specs.Signature.{declared};
 ghost use Rattle.fvn_forms.specs.Ranks.{kind_rank, written_ranks, swapped_ranks, ranks_of};
 
 use crate::axioms::is_commutative;
-use fvn_seq::Seq;
+use fvn_base::Seq;
 use fvn_terms::{Axioms, Declarations, NoMemory, OpDecl, OpId, Rank, SortId};
 use std::alloc::{AllocError, AllocFailed, Global};
 

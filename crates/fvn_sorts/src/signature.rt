@@ -10,7 +10,7 @@ ghost use Rattle.fvn_sorts.specs.Queries.{arity, direct_subsorts, IsKind, IsTop,
 use crate::axioms::identity_of;
 use crate::draft::Draft;
 use crate::subsorts::first_maximal;
-use fvn_seq::Seq;
+use fvn_base::Seq;
 use fvn_terms::{Axioms, Declarations, OpId, Rank, SortId};
 use std::marker::Model;
 

@@ -14,7 +14,7 @@ use crate::draft::Draft;
 use crate::fault::{Condition, SigFault, Triple};
 use crate::preregular::first_without;
 use crate::shapes::first_failing;
-use fvn_seq::Seq;
+use fvn_base::Seq;
 use fvn_terms::{Axioms, Declarations, NoMemory, OpId, Rank, SortId};
 use std::alloc::{AllocFailed, Global};
 

@@ -7,7 +7,7 @@ ghost use Rattle.fvn_sorts.specs.Drafts.{IsDraft};
 ghost use Rattle.fvn_sorts.specs.Queries.{is_below, is_direct, direct_subsorts, IsMaximalOf, IsTop};
 
 use crate::draft::Draft;
-use fvn_seq::Seq;
+use fvn_base::Seq;
 use fvn_terms::{NoMemory, SortId};
 use std::alloc::{AllocError, AllocFailed, Global};
 

@@ -6,7 +6,7 @@ ghost use Rattle.fvn_sorts.specs.Collected.{first_sorts};
 ghost use Rattle.fvn_sorts.specs.Drafts.{IsDraft, IsTable, results_of_two};
 
 use crate::draft::Draft;
-use fvn_seq::Seq;
+use fvn_base::Seq;
 use fvn_terms::{NoMemory, OpId, Rank, SortId};
 use std::alloc::{AllocError, AllocFailed, Global};
 

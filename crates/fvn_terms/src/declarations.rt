@@ -3,7 +3,7 @@ ghost use Rattle.std.specs.Prelude.{◌≡◌, MatchOption};
 ghost use Rattle.fvn_terms.specs.Signature.{kind, declared, unknown};
 
 use crate::plain::{OpId, SortId};
-use fvn_seq::Seq;
+use fvn_base::Seq;
 
 /// The axioms of an operator: none, commutativity, with associativity, and with an identity constant.
 #[derive(Debug, Clone, Copy, PartialEq, Eq)]

@@ -4,7 +4,7 @@ ghost use Rattle.fvn_terms.specs.Plain.{term, terms};
 ghost use Rattle.fvn_terms.specs.Substitution.{bound, value, apply, apply_all};
 
 use crate::plain::{Args, NoMemory, Plain, Var};
-use fvn_seq::Seq;
+use fvn_base::Seq;
 use std::alloc::Global;
 
 /// Terms for some variables; a variable without a pair stays as it is.

@@ -2,7 +2,7 @@
 use crate::{
     Args, Axioms, Declarations, NoMemory, OpDecl, OpId, Plain, PlainSubst, Rank, SortId, Var,
 };
-use fvn_seq::Seq;
+use fvn_base::Seq;
 use std::alloc::Global;
 
 const X: Var = Var {

@@ -21,7 +21,7 @@ ghost use Rattle.fvn_module.specs.ModuleReading.{
 
 use crate::first::FirstFault;
 use crate::first::pieces::{Piece, copy_text};
-use fvn_seq::Seq;
+use fvn_base::Seq;
 use std::alloc::Global;
 
 /// The most operators that a module declares, and the most arguments of one.

@@ -10,7 +10,7 @@ ghost use Rattle.fvn_module.specs.ProblemReading.{resolve, resolve_variable};
 use crate::first::declared::read_sorted_name;
 use crate::first::pieces::copy_text;
 use crate::first::{FirstFault, FirstModule};
-use fvn_seq::Seq;
+use fvn_base::Seq;
 use fvn_terms::{Args, OpId, Plain, SortId, Var};
 use std::alloc::Global;
 

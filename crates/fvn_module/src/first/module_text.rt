@@ -7,7 +7,7 @@ ghost use Rattle.fvn_module.specs.ModuleReading.{header, behind, split_word, is_
 use crate::first::declared::{Declared, Operator};
 use crate::first::pieces::{Piece, copy_text, cut};
 use crate::first::{FirstFault, Names};
-use fvn_seq::Seq;
+use fvn_base::Seq;
 use fvn_terms::{Axioms, Declarations, OpDecl, Rank, SortId};
 use std::alloc::Global;
 

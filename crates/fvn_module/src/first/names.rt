@@ -1,7 +1,7 @@
 //! The texts of names, as the bytes of their tokens.
 ghost use Rattle.std.specs.Prelude.{◌≡◌, ◌<◌, length, slice_get, Some};
 
-use fvn_seq::Seq;
+use fvn_base::Seq;
 use fvn_terms::{OpId, SortId};
 
 /// The texts of a module's name, of its sorts and of its operators; sorts and operators are numbered by their places.

@@ -7,7 +7,7 @@ ghost use Rattle.fvn_module.specs.Tests.{is_word, is_name, is_special, is_dot};
 
 use crate::first::FirstFault;
 use fvn_lex::{Class, LexFault, tokens};
-use fvn_seq::Seq;
+use fvn_base::Seq;
 use std::alloc::Global;
 
 /// A token with its bytes.

@@ -8,7 +8,7 @@ ghost use Rattle.fvn_module.specs.ProblemReading.{read_problem_pieces, undotted,
 use crate::first::pieces::{Piece, cut};
 use crate::first::terms::Reading;
 use crate::first::{FirstFault, FirstModule, VarNames};
-use fvn_seq::Seq;
+use fvn_base::Seq;
 use fvn_terms::{Plain, Var};
 use std::alloc::Global;
 

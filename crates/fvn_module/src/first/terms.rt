@@ -8,7 +8,7 @@ use crate::first::meaning::{SYMBOLS, arity_of, find_operator, make_variable, res
 use crate::first::pieces::{Piece, copy_text};
 use crate::first::problem_text::FirstProblem;
 use crate::first::{FirstFault, FirstModule, VarNames};
-use fvn_seq::Seq;
+use fvn_base::Seq;
 use fvn_terms::{Args, OpId, Plain, SortId, Var};
 use std::alloc::Global;
 

@@ -3,7 +3,7 @@ ghost use Rattle.std.specs.Prelude.{◌<◌, All, IsTrue};
 ghost use Rattle.fvn_sorts.specs.Collected.{Names};
 
 use crate::SignatureBuilder;
-use fvn_seq::Seq;
+use fvn_base::Seq;
 use fvn_terms::{Axioms, NoMemory, OpId, Rank, SortId};
 use std::alloc::{AllocError, AllocFailed, Global};
 use std::process::Abort;

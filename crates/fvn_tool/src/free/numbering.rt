@@ -6,7 +6,7 @@ ghost use Rattle.fvn_module.specs.ModuleText.{the_sort};
 ghost use Rattle.fvn_tool.specs.Free.{variables_of, variables_among, AreNumbered};
 ghost use Rattle.fvn_tool.specs.FreeNumbering.{is_among, noted, numbered_from, AreRenamed};
 
-use fvn_seq::Seq;
+use fvn_base::Seq;
 use fvn_terms::{Args, NoMemory, Plain, PlainSubst, SortId, Var};
 use std::alloc::Global;
 
