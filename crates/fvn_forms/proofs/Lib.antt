@@ -6,7 +6,6 @@ pub mod Eval
 pub mod KindsKept
 pub mod Nests
 pub mod ToCanon
-pub mod Among
 pub mod SortOrder
 pub mod SortTests
 pub mod RanksAgree

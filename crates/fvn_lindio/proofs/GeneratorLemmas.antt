@@ -15,7 +15,7 @@ use Rattle.fvn_lindio.proofs.VectorLemmas.{sum-cons, sides-zero}
 use Rattle.fvn_lindio.proofs.ValueLemmas.{zero-both}
 use Rattle.fvn_lindio.proofs.Solving.{minimal_below}
 use Rattle.fvn_lindio.proofs.LevelLemmas.{pushed_old, pushed_new, pushed_cases}
-use Rattle.fvn_lindio.proofs.ListSteps.{mapped_member_old, mapped_member_new, mapped_member_cases}
+use Rattle.fvn_base.proofs.MappedLists.{mapped_member_old, mapped_member_new, mapped_member_cases}
 
 -- one vector more
 pub known_more : (row : List ℤ) (known : List (SmallVec ℕ)) (i : ℕ) (v : SmallVec ℕ) (old new : List Point) (p : Point) → i < length known → v ≡ get_or known i v → new ≡ old ++ (p ∷ []) → p.parts.items ≡ v.items → IsValued row p → Values row (Contains (vectors_in (take i known))) old → Values row (Contains (vectors_in (take (i + 1) known))) new

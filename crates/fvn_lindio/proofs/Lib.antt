@@ -4,10 +4,8 @@ pub mod Solving
 pub mod SumLemmas
 pub mod ValueLemmas
 pub mod LevelLemmas
-pub mod Pigeonhole
 pub mod SearchLemmas
 pub mod Trails
-pub mod ListSteps
 pub mod GeneratorLemmas
 pub mod ReachLemmas
 pub mod LeastLemmas

@@ -8,7 +8,7 @@ use Rattle.fvn_lindio.specs.Vectors.{IsBefore}
 use Rattle.fvn_lindio.specs.Systems.{IsMinimal}
 use Rattle.fvn_lindio.specs.Refusals.{HasTooMany, HasTooWide, NoneShorter, IsTooMany, IsTooWide}
 use Rattle.fvn_lindio.proofs.VectorLemmas.{sum-cons}
-use Rattle.fvn_lindio.proofs.Pigeonhole.{length-le_within}
+use Rattle.fvn_base.proofs.Pigeonhole.{length-le_within}
 use Rattle.fvn_lindio.proofs.LeastLemmas.{before_irrefl}
 
 -- a property has one first place

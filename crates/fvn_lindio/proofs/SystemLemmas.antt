@@ -13,7 +13,7 @@ use Rattle.fvn_lindio.specs.declared.system.System.{System}
 use Rattle.fvn_lindio.specs.declared.system.Row.{Row}
 use Rattle.fvn_lindio.specs.declared.system.LinFault.{LinFault}
 use Rattle.fvn_lindio.specs.declared.system.LinFault.TheVariants.{TooMany, TooWide}
-use Rattle.fvn_lindio.proofs.ListSteps.{all_mapped_at}
+use Rattle.fvn_base.proofs.MappedLists.{all_mapped_at}
 use Rattle.fvn_lindio.proofs.Prefixes.{IsBasis, same_many, same_wide, not_both, none_many, none_wide}
 
 -- the coefficients are those of the row at k, as the code reads them

@@ -6,3 +6,5 @@ pub mod WellSorted
 pub mod Free
 pub mod Packs
 pub mod TheoryLaws
+pub mod CompleteSets
+pub mod Instances

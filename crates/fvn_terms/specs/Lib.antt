@@ -7,6 +7,7 @@ pub mod Equality
 pub mod Sorts
 pub mod Unifiers
 pub mod Theory
+pub mod CompleteSets
 pub mod Laws
 pub mod Code
 pub mod Falls
