@@ -4,4 +4,5 @@ pub mod Drops
 pub mod MappedLists
 pub mod Membership
 pub mod Options
+pub mod Order
 pub mod Pigeonhole

@@ -31,7 +31,7 @@ pub const TERM_SYMBOLS: u64 = 1_000;
 pub const MINIMAL_SOLUTIONS: usize = 24;
 
 /// A component of a minimal solution, and a coefficient of a system.
-pub const COMPONENT: u32 = 65_535;
+pub const COMPONENT: u64 = 65_535;
 
 /// Columns of a system.
 pub const COLUMNS: usize = 1_000;

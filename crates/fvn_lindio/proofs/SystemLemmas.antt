@@ -5,7 +5,7 @@ use Rattle.std.specs.Prelude.{unsigned_abs}
 use Rattle.std.specs.List.{All, AllPairs, Contains}
 use Rattle.std.proofs.lemmas.List.{get_or-map, length-map, take-map, take_more}
 use Rattle.std.proofs.lemmas.List.Elements.{All-take}
-use Rattle.fvn_lindio.specs.Vectors.{IsBefore}
+use Rattle.fvn_base.specs.Order.{IsBefore}
 use Rattle.fvn_lindio.specs.Systems.{IsMinimal, IsSystem, rows_of, coefficients_of}
 use Rattle.fvn_lindio.specs.Refusals.{NoneShorter, IsTooMany, IsTooWide}
 use Rattle.fvn_lindio.specs.Generators.{IsRow, vectors_in}

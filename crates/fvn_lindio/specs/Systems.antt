@@ -1,5 +1,6 @@
 -- Linear systems and their minimal solutions.
 use Rattle.std.specs.Prelude.{◌≡◌, ℕ, suc, ◌+◌, ◌*◌, ◌≤◌, ℤ, pos, negsuc, unsigned_abs, List, [], ◌∷◌, length, map, slice_index, slice_index_or, All}
+use Rattle.fvn_base.specs.declared.limits.TheConstants.{COLUMNS, COMPONENT}
 use Rattle.fvn_lindio.specs.Vectors.{IsAtOrBelow, IsNonZero}
 use Rattle.fvn_lindio.specs.declared.system.System.{System}
 use Rattle.fvn_lindio.specs.declared.system.Row.{Row}
@@ -58,6 +59,6 @@ vectors_of list = map (λ v. v.parts) list
 
 -- what a system keeps to: so many columns, and coefficients of at most this size
 pub record IsSystem (s : System) : Type 0 where
-  pub columns : s.columns ≤ 1000
+  pub columns : s.columns ≤ COLUMNS
   pub sized : All (λ row. length row ≡ s.columns) (rows_of s)
-  pub bounded : All (All (λ c. unsigned_abs c ≤ 65535)) (rows_of s)
+  pub bounded : All (All (λ c. unsigned_abs c ≤ COMPONENT)) (rows_of s)
