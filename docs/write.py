@@ -167,6 +167,11 @@ def parse_function(text, at, name, doc):
             return Call(name, doc, clauses, False), at
 
 
+def is_defined(module):
+    """Whether a module has definitions, and not what rattle makes of types."""
+    return module.startswith("specs.") and not module.startswith("specs.declared")
+
+
 class Source:
     """What a file of Rattle declares."""
 
@@ -174,7 +179,7 @@ class Source:
         self.head = ""
         self.types, self.calls, self.methods, self.uses, self.mods = [], [], [], [], []
         text = read(path)
-        self.words = {w: d[2] for w, d in imports_of(text).items() if d[1].startswith("specs.") and d[0] != "std"}
+        self.words = {w: d[2] for w, d in imports_of(text).items() if d[0] != "std" and is_defined(d[1])}
         found = re.match(r"//! ?(.*)", text)
         if found:
             self.head = found.group(1).strip()
@@ -461,7 +466,7 @@ def text_of(clause, call):
     for token in TOKEN.findall(clause.text):
         if token in call.words and call.words[token] not in words:
             words.append(call.words[token])
-    return "by " + ", ".join(code(w) for w in words) if words else "in the source"
+    return "by " + ", ".join(code(w) for w in words) if words else code(clause.text)
 
 
 def name_of(clause):

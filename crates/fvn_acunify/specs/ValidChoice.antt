@@ -1,4 +1,5 @@
 -- Which choices of solutions are valid: a choice is a number whose bit i says that solution i is chosen.
+-- M. E. Stickel, A unification algorithm for associative-commutative functions, 1981.
 use Rattle.std.specs.Prelude.{◌≡◌, ℕ, ◌/◌, ◌%◌, ◌^◌, ◌<◌, ◌≤◌, ◌==◌, Bool, true, false, if◌then◌else◌, List, [], ◌∷◌, length, sum_by, count_by, nat_lt, slice_index, slice_index_or, All, map, filter}
 use Rattle.std.specs.List.{enumerate_from}
 use Rattle.std.specs.Int.{bit_at}

@@ -4,8 +4,8 @@ ghost use Rattle.fvn_lindio.specs.Systems.{vectors_of};
 
 use crate::prefix::dead_place;
 use crate::theory::{OneFault, OneTheory};
-use fvn_lindio::Solution;
 use fvn_base::Seq;
+use fvn_lindio::Solution;
 use std::alloc::Global;
 use std::marker::Model;
 

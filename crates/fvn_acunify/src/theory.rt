@@ -1,6 +1,6 @@
 //! What is asked of a choice of solutions, and why there is none to be had.
-use fvn_lindio::{LinFault, System};
 use fvn_base::Seq;
+use fvn_lindio::{LinFault, System};
 use std::alloc::AllocError;
 
 /// A system, and what is asked of the sum of the solutions that are chosen.

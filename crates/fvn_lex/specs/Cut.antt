@@ -19,6 +19,7 @@ pub data Move : Type 0 where
   Go : List Token → Place → Move
   Stop : LexFault → Move
 
+-- the token of these bytes and this class
 abbrev pub token : ℕ → ℕ → Class → Token
 token from upto kind = record { start = from; end = upto; class = kind }
 

@@ -33,6 +33,7 @@ pub record Laid : Type 0 where
   pub spaced : Bool
   pub piece : Piece
 
+-- the pieces alone
 abbrev pub pieces : List Laid → List Piece
 pieces [] = []
 pieces (l ∷ laid) = l.piece ∷ pieces laid

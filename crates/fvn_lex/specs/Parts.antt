@@ -64,6 +64,7 @@ pub data Part : Type 0 where
   Remark : List ℕ → Part
   Item : Piece → Part
 
+-- the bytes of a part
 abbrev pub bytes_of : Part → List ℕ
 bytes_of (White b) = b ∷ []
 bytes_of (Remark text) = text

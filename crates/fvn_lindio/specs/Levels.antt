@@ -59,6 +59,7 @@ abbrev pub CoversSteps : List Point → Point → Level → Type 0
 CoversSteps generators x level =
     (g : Point) → Contains generators g → IsOpposite x.value g.value → IsCovered level (add x.parts.items g.parts.items)
 
+-- every step from one of these is covered
 abbrev pub CoversStepsFrom : List Point → List Point → Level → Type 0
 CoversStepsFrom generators points level = (x : Point) → Contains points x → CoversSteps generators x level
 

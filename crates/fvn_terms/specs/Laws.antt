@@ -22,9 +22,11 @@ pub record IsEquivalence (R : Term → Term → Type 0) : Type 0 where
 abbrev pub IsCongruence : (Term → Term → Type 0) → Type 0
 IsCongruence R = (f : OpId) (ts us : _) → AllZip R ts us → R (app f (pack ts)) (app f (pack us))
 
+-- equality modulo the axioms is an equivalence
 abbrev pub EqualityIsAnEquivalence : Type 0
 EqualityIsAnEquivalence = (d : Declarations) → IsEquivalence (BEqual d)
 
+-- equality modulo the axioms is a congruence
 abbrev pub EqualityIsACongruence : Type 0
 EqualityIsACongruence = (d : Declarations) → IsCongruence (BEqual d)
 
