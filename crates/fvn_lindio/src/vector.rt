@@ -1,7 +1,7 @@
 //! Vectors of the search: their order, sums and the value of a row at them.
 ghost use Rattle.std.specs.Prelude.{◌≡◌, ◌↔◌, ◌+◌, ◌*◌, ◌<◌, ◌≤◌, ◌^◌, ℕ, IfOk, IsTrue, All, length, slice_index, slice_set, replicate, unsigned_abs};
 ghost use Rattle.fvn_lindio.specs.Vectors.{IsAtOrBelow, IsBefore, add};
-ghost use Rattle.fvn_lindio.specs.Search.{IsValue, IsOpposite};
+ghost use Rattle.fvn_lindio.specs.inner.Search.{IsValue, IsOpposite};
 
 use smallvec::SmallVec;
 use std::alloc::{AllocError, Global};

@@ -1,6 +1,7 @@
 -- Laws of the definitions.
-use Rattle.std.specs.Prelude.{◌≡◌}
+use Rattle.std.specs.Prelude.{◌≡◌, List}
 use Rattle.std.specs.List.{AllZip}
+use Rattle.fvn_terms.specs.declared.plain.Var.{Var}
 use Rattle.fvn_terms.specs.declared.plain.OpId.{OpId}
 use Rattle.fvn_terms.specs.declared.declarations.Axioms.TheVariants.{Free}
 use Rattle.fvn_terms.specs.declared.declarations.Declarations.{Declarations}
@@ -9,8 +10,8 @@ use Rattle.fvn_terms.specs.Substitution.{Substitution, apply, followed_by}
 use Rattle.fvn_terms.specs.Signature.{axioms, KeepsKinds}
 use Rattle.fvn_terms.specs.Equality.{BEqual}
 use Rattle.fvn_terms.specs.Sorts.{IsWellSorted}
-use Rattle.fvn_terms.specs.Unifiers.{Problem, IsUnifier}
-use Rattle.fvn_terms.specs.Theory.{Equations, TEqual, IsTheoryUnifier}
+use Rattle.fvn_terms.specs.Unifiers.{Problem, IsUnifier, IsInstance}
+use Rattle.fvn_terms.specs.Theory.{Equations, TEqual, IsTheoryUnifier, IsTheoryInstance}
 
 -- each term is related to itself, the other way round too, and along two steps
 pub record IsEquivalence (R : Term → Term → Type 0) : Type 0 where
@@ -53,7 +54,8 @@ pub record TheoryLaws (d : Declarations) (equations : Equations) : Type 0 where
   pub modulo : (t u : Term) → BEqual d t u → TEqual d equations t u
   pub substitution : (s : Substitution) → IsWellSorted d s → (t u : Term) → TEqual d equations t u → TEqual d equations (apply s t) (apply s u)
   pub follows : (problem : Problem) (s c : Substitution) → IsTheoryUnifier d equations problem s → IsWellSorted d c → IsTheoryUnifier d equations problem (followed_by s c)
+  pub instances : (vars : List Var) (a b : Substitution) → IsInstance d vars a b → IsTheoryInstance d equations vars a b
 
--- equality in the theory is an equivalence and a congruence, contains equality modulo the axioms, and is kept by well-sorted substitutions
+-- equality in the theory is an equivalence and a congruence, contains equality modulo the axioms and its instances, and is kept by well-sorted substitutions
 abbrev pub TheoryEqualityIsLawful : Type 0
 TheoryEqualityIsLawful = (d : Declarations) (equations : Equations) → TheoryLaws d equations

@@ -57,7 +57,7 @@ impl From<AllocError> for NoMemory {
 
 impl Model for Args {
     ghost use Rattle.fvn_terms.specs.Term.{Terms};
-    ghost use Rattle.fvn_terms.specs.Code.{coded_terms};
+    ghost use Rattle.fvn_terms.specs.inner.Code.{coded_terms};
 
     ghost Value = { Terms };
 

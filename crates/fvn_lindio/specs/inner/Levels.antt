@@ -1,7 +1,7 @@
 -- How a level of the search grows, and what it need not look at any more.
 use Rattle.std.specs.Prelude.{◌≡◌, ◌≢◌, ℕ, ◌⊎◌, ℤ, pos, ◌+ℤ◌, ◌<◌, ◌≤◌, ◌^◌, List, [], ◌∷◌, ◌++◌, length, All, AllPairs, Contains}
 use Rattle.fvn_lindio.specs.Vectors.{IsAtOrBelow, IsNonZero, add}
-use Rattle.fvn_lindio.specs.Search.{IsOpposite, IsValue, Lies}
+use Rattle.fvn_lindio.specs.inner.Search.{IsOpposite, IsValue, Lies}
 use Rattle.fvn_lindio.specs.declared.level.Point.{Point}
 use Rattle.fvn_lindio.specs.declared.level.Level.{Level}
 

@@ -69,15 +69,3 @@ top_run ts = ap top (run_marks ts [] [])
 abbrev pub coded_terms : Coded Terms
 coded_terms =
     code_by (List Mark) (coded_list (coded_option (coded⊎ coded_var coded_op))) (λ ts. marks ts []) (λ k. top (run k [])) top_run
-
--- a term as the list of it alone
-abbrev pub first_of : Terms → Term
-first_of none = app (record { 0 = 0 }) none
-first_of (more t ts) = t
-
-pub first_run : (t : Term) → first_of (top (run (marks (more t none) []) [])) ≡ t
-first_run t = ap first_of (top_run (more t none))
-
-abbrev pub coded_term : Coded Term
-coded_term =
-    code_by (List Mark) (coded_list (coded_option (coded⊎ coded_var coded_op))) (λ t. marks (more t none) []) (λ k. first_of (top (run k []))) first_run

@@ -2,7 +2,7 @@
 use Rattle.std.specs.Prelude.{◌≡◌, ◌≢◌, ℕ, ◌*◌, ◌<◌, ◌≤◌, ◌⊎◌, ℤ, pos, List, length, map, replicate, slice_index_or, slice_set, unsigned_abs, All, Contains}
 use Rattle.smallvec.specs.SmallVec.{SmallVec}
 use Rattle.fvn_lindio.specs.Systems.{IsUnused}
-use Rattle.fvn_lindio.specs.Search.{IsValue}
+use Rattle.fvn_lindio.specs.inner.Search.{IsValue}
 use Rattle.fvn_lindio.specs.declared.level.Point.{Point}
 
 -- the vectors that the search keeps
