@@ -3,7 +3,7 @@
 
     python3 docs/write.py           writes both
     python3 docs/write.py --check   fails where the written documents differ from the sources
-    python3 docs/write.py --lint    prints what is missing: comments, first lines, uses
+    python3 docs/write.py --lint    prints what is missing: comments, first lines, uses, and a page for each crate
 
 The words come from the sources: the `//!` line of a crate, the `///` line of a call, the `//` comment over
 clauses, the `--` lines over a definition and at the head of a file. To change a document, change them.
@@ -520,7 +520,8 @@ def layers(write_crate, head):
 def contracts():
     def write_crate(name):
         crate = Crate(name)
-        parts = ["### " + name + "\n\n" + crate.head + "\n"]
+        page = "../crates/" + name + "/README.md"
+        parts = ["### [" + name + "](" + page + ")\n\n" + crate.head + "\n"]
         if crate.is_program:
             return parts[0]
         kinds = [[code(path), doc] for path, doc in crate.types()]
@@ -572,6 +573,12 @@ def source_files():
             if folder.exists():
                 for path in sorted(list(folder.rglob("*.rt")) + list(folder.rglob("*.antt"))):
                     yield name, path
+
+
+def without_page():
+    for name, _ in crates():
+        if not (CRATES / name / "README.md").exists():
+            yield "crates/" + name + " has no README.md"
 
 
 def without_first_line():
@@ -637,7 +644,7 @@ def unused():
 
 
 def hidden_files():
-    """Files of lemmas that are `pub mod` though no other crate cites them."""
+    """Files of lemmas that are `pub mod` though no other crate cites them and their crate's page does not name them."""
     cited = set()
     for name, path in source_files():
         for found in re.finditer(r"Rattle\.(\w+)\.proofs\.([\w.]*\w)", read(path)):
@@ -646,15 +653,21 @@ def hidden_files():
                 cited.update((found.group(1), ".".join(parts[:n])) for n in range(1, len(parts) + 1))
     for name, _ in crates():
         path = CRATES / name / "proofs" / "Lib.antt"
+        page = CRATES / name / "README.md"
+        page = read(page) if page.exists() else ""
         if path.exists():
             for found in re.finditer(r"^pub mod (\w+)", read(path), re.M):
-                if (name, found.group(1)) not in cited:
-                    yield str(path.relative_to(TOP)) + ": " + found.group(1) + " is public, and no other crate cites it"
+                if (name, found.group(1)) not in cited and found.group(1) + ".antt" not in page:
+                    yield str(path.relative_to(TOP)) + ": " + found.group(1) + " is public, and nothing asks for it"
 
 
 def main(words):
     if words == ["--lint"]:
-        missing = list(without_first_line()) + list(without_comment()) + list(unused()) + list(hidden_files())
+        missing = [
+            line
+            for find in (without_page, without_first_line, without_comment, unused, hidden_files)
+            for line in find()
+        ]
         for line in missing:
             print(line)
         print(len(missing), "warnings")
