@@ -6,7 +6,9 @@ use Rattle.fvn_base.proofs.Drops.{drop-at}
 use Rattle.fvn_lex.specs.declared.token.Token.{Token}
 use Rattle.fvn_lex.specs.declared.token.LexFault.{LexFault}
 use Rattle.fvn_lex.specs.declared.cut.Place.{Place}
-use Rattle.fvn_lex.specs.Cut.{Lexed, Move, Go, Stop, LeadsTo, prepend, advance, follow, rest_of, lex_from, lex, piece_at, pieces_in, pieces_of}
+use Rattle.fvn_lex.specs.Spans.{Lexed}
+use Rattle.fvn_lex.specs.inner.Machine.{Move, Go, Stop, LeadsTo, prepend, advance, follow, rest_of, lex_from}
+use Rattle.fvn_lex.specs.Cut.{lex, piece_at, pieces_in, pieces_of}
 
 pub prepend-prepend : (made more : List Token) (r : Lexed) →
     prepend made (prepend more r) ≡ prepend (made ++ more) r

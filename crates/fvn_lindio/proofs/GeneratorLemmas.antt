@@ -8,9 +8,9 @@ use Rattle.std.proofs.lemmas.Bool.{cases_lt}
 use Rattle.fvn_base.specs.Decided.{Decided}
 use Rattle.fvn_lindio.specs.Vectors.{IsAtOrBelow, IsNonZero}
 use Rattle.fvn_lindio.specs.Systems.{above, below, IsZeroAt, IsUnused, Solves, IsMinimal}
-use Rattle.fvn_lindio.specs.Search.{Lies}
-use Rattle.fvn_lindio.specs.Levels.{Generates}
-use Rattle.fvn_lindio.specs.Generators.{Adds, IsValued, Values, IsNewUnit, IsNewUnitBelow, vectors_in}
+use Rattle.fvn_lindio.specs.inner.Search.{Lies}
+use Rattle.fvn_lindio.specs.inner.Levels.{Generates}
+use Rattle.fvn_lindio.specs.inner.Generators.{Adds, IsValued, Values, IsNewUnit, IsNewUnitBelow, vectors_in}
 use Rattle.fvn_lindio.specs.declared.level.Point.{Point}
 use Rattle.fvn_lindio.proofs.VectorLemmas.{sum-cons, sides-zero}
 use Rattle.fvn_lindio.proofs.ValueLemmas.{zero-both}

@@ -9,8 +9,8 @@ use Rattle.std.proofs.lemmas.List.Edits.{length-insert, get_or-insert_below, get
 use Rattle.std.proofs.lemmas.Bool.{cases_lt, cases_order}
 use Rattle.fvn_base.specs.Order.{IsBefore}
 use Rattle.fvn_base.proofs.Order.{before_else, before_trans}
-use Rattle.fvn_lindio.specs.Generators.{vectors_in}
-use Rattle.fvn_lindio.specs.Least.{HasOther, IsLeast, IsPlace, IsUniform, StandsAt}
+use Rattle.fvn_lindio.specs.inner.Generators.{vectors_in}
+use Rattle.fvn_lindio.specs.inner.Least.{HasOther, IsLeast, IsPlace, IsUniform, StandsAt}
 use Rattle.fvn_lindio.specs.declared.level.Point.{Point}
 use Rattle.fvn_lindio.proofs.LevelLemmas.{pushed_old, pushed_new, pushed_cases}
 

@@ -6,8 +6,8 @@ use Rattle.std.proofs.lemmas.Bool.{cases_lt, cases_order}
 use Rattle.fvn_base.specs.Decided.{Decided}
 use Rattle.fvn_lindio.specs.Vectors.{IsAtOrBelow, IsNonZero, add}
 use Rattle.fvn_lindio.specs.Systems.{up, down, IsZeroAt, Solves, IsMinimal}
-use Rattle.fvn_lindio.specs.Sums.{MinimalBelow}
-use Rattle.fvn_lindio.specs.Search.{Lies}
+use Rattle.fvn_lindio.specs.Laws.{MinimalBelow}
+use Rattle.fvn_lindio.specs.inner.Search.{Lies}
 use Rattle.fvn_lindio.proofs.VectorLemmas.{length-add, sides-add, get_or-add, below_refl, below_trans, below_length, below_same, below_get_or}
 
 pub Lies-from_solves : {columns : ℕ} {rows : List (List ℤ)} {x : List ℕ} → Solves columns rows x → Lies columns rows rows x

@@ -8,7 +8,7 @@ use Rattle.std.proofs.lemmas.List.Elements.{All-take}
 use Rattle.fvn_base.specs.Order.{IsBefore}
 use Rattle.fvn_lindio.specs.Systems.{IsMinimal, IsSystem, rows_of, coefficients_of}
 use Rattle.fvn_lindio.specs.Refusals.{NoneShorter, IsTooMany, IsTooWide}
-use Rattle.fvn_lindio.specs.Generators.{IsRow, vectors_in}
+use Rattle.fvn_lindio.specs.inner.Generators.{IsRow, vectors_in}
 use Rattle.fvn_lindio.specs.declared.system.System.{System}
 use Rattle.fvn_lindio.specs.declared.system.Row.{Row}
 use Rattle.fvn_lindio.specs.declared.system.LinFault.{LinFault}

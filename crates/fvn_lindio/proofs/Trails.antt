@@ -3,11 +3,11 @@ use Rattle.std.proofs.Common.{◌≡◌, ◌≢◌, ◌↔◌, ℕ, ◌+◌, ◌
 use Rattle.std.specs.List.{All, AllPairs, Contains}
 use Rattle.std.proofs.lemmas.List.Elements.{All-contains, Contains-get_or}
 use Rattle.std.proofs.lemmas.Bool.{cases_lt}
-use Rattle.fvn_lindio.specs.Least.{HasOther, IsLeast, IsUniform}
+use Rattle.fvn_lindio.specs.inner.Least.{HasOther, IsLeast, IsUniform}
 use Rattle.fvn_lindio.specs.Vectors.{IsAtOrBelow, IsNonZero, add}
 use Rattle.fvn_lindio.specs.Systems.{above, below, up, down, Solves, IsMinimal}
-use Rattle.fvn_lindio.specs.Search.{IsValue}
-use Rattle.fvn_lindio.specs.Levels.{CanAdd, IsCovered, GrowsAnew, IsThis, IsAt, IsStepBy, IsStepFrom, CoversStepsFrom, IsPoint, Generates}
+use Rattle.fvn_lindio.specs.inner.Search.{IsValue}
+use Rattle.fvn_lindio.specs.inner.Levels.{CanAdd, IsCovered, GrowsAnew, IsThis, IsAt, IsStepBy, IsStepFrom, CoversStepsFrom, IsPoint, Generates}
 use Rattle.fvn_lindio.specs.declared.level.Point.{Point}
 use Rattle.fvn_lindio.specs.declared.level.Level.{Level}
 use Rattle.fvn_lindio.proofs.VectorLemmas.{sum-add, sides-add, below_refl, below_trans, below_sum, below_same, below_add}

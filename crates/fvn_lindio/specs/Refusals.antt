@@ -27,6 +27,7 @@ module _ (columns : ℕ) (rows : List (List ℤ)) where
     pub many : HasTooMany most k
     pub first : NoneShorter most k
 
+  -- the same for a component over 65,535, where there are not too many
   pub record IsTooWide (most k : ℕ) : Type 0 where
     pub within : k ≤ length rows
     pub few : HasTooMany most k → ⊥

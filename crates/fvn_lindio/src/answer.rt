@@ -1,7 +1,7 @@
 //! The search's vectors as solutions.
 ghost use Rattle.std.specs.Prelude.{◌≡◌, ◌<◌, ◌≤◌, ℕ, List, IfOk, IsTrue, IsFalse, All, Any, Contains};
 ghost use Rattle.fvn_lindio.specs.Systems.{vectors_of};
-ghost use Rattle.fvn_lindio.specs.Generators.{vectors_in};
+ghost use Rattle.fvn_lindio.specs.inner.Generators.{vectors_in};
 
 use crate::system::Solution;
 use fvn_base::Seq;

@@ -15,9 +15,9 @@ pub(crate) struct Reach {
     pub high: u64,
 }
 
-ghost use Rattle.fvn_lindio.specs.Generators.{Adds, IsNewUnit, IsNewUnitBelow, IsValued, IsRow, Values, vectors_in};
+ghost use Rattle.fvn_lindio.specs.inner.Generators.{Adds, IsNewUnit, IsNewUnitBelow, IsValued, IsRow, Values, vectors_in};
 ghost use Rattle.fvn_lindio.specs.Systems.{IsUnused, IsMinimal, above, below, coefficients_of};
-ghost use Rattle.fvn_lindio.specs.Levels.{Generates};
+ghost use Rattle.fvn_lindio.specs.inner.Levels.{Generates};
 
 /// Whether no row has a coefficient other than zero in the column.
 fn is_unused(rows: &[Row], column: usize) -> bool

@@ -2,7 +2,7 @@
 ghost use Rattle.std.specs.Prelude.{◌≡◌, ◌↔◌, ◌≤◌, ◌++◌, ◌∷◌, [], ℕ, List, IfOk, All, AllPairs, Contains, length};
 ghost use Rattle.fvn_base.specs.Order.{IsBefore};
 ghost use Rattle.fvn_lindio.specs.Systems.{IsMinimal, coefficients_of};
-ghost use Rattle.fvn_lindio.specs.Generators.{IsRow, vectors_in};
+ghost use Rattle.fvn_lindio.specs.inner.Generators.{IsRow, vectors_in};
 
 use crate::generators::{generators, reach_of};
 use crate::least::least_of;

@@ -2,7 +2,7 @@
 ghost use Rattle.std.specs.Prelude.{◌≡◌, ◌↔◌, ◌+◌, ◌*◌, ◌<◌, ◌≤◌, ◌^◌, ℕ, IfOk, IsTrue, All, length, slice_index, slice_set, replicate, unsigned_abs};
 ghost use Rattle.fvn_lindio.specs.Vectors.{IsAtOrBelow, add};
 ghost use Rattle.fvn_base.specs.Order.{IsBefore};
-ghost use Rattle.fvn_lindio.specs.Search.{IsValue, IsOpposite};
+ghost use Rattle.fvn_lindio.specs.inner.Search.{IsValue, IsOpposite};
 
 use fvn_base::limits::{COLUMNS, COMPONENT};
 use smallvec::SmallVec;

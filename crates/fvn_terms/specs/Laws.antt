@@ -24,9 +24,11 @@ pub record IsEquivalence (R : Term → Term → Type 0) : Type 0 where
 abbrev pub IsCongruence : (Term → Term → Type 0) → Type 0
 IsCongruence R = (f : OpId) (ts us : _) → AllZip R ts us → R (app f (pack ts)) (app f (pack us))
 
+-- equality modulo the axioms is an equivalence
 abbrev pub EqualityIsAnEquivalence : Type 0
 EqualityIsAnEquivalence = (d : Declarations) → IsEquivalence (BEqual d)
 
+-- equality modulo the axioms is a congruence
 abbrev pub EqualityIsACongruence : Type 0
 EqualityIsACongruence = (d : Declarations) → IsCongruence (BEqual d)
 
@@ -53,8 +55,9 @@ pub record TheoryLaws (d : Declarations) (equations : Equations) : Type 0 where
   pub modulo : (t u : Term) → BEqual d t u → TEqual d equations t u
   pub substitution : (s : Substitution) → IsWellSorted d s → (t u : Term) → TEqual d equations t u → TEqual d equations (apply s t) (apply s u)
   pub follows : (problem : Problem) (s c : Substitution) → IsTheoryUnifier d equations problem s → IsWellSorted d c → IsTheoryUnifier d equations problem (followed_by s c)
+  pub instances : (vars : List Var) (a b : Substitution) → IsInstance d vars a b → IsTheoryInstance d equations vars a b
 
--- equality in the theory is an equivalence and a congruence, contains equality modulo the axioms, and is kept by well-sorted substitutions
+-- equality in the theory is an equivalence and a congruence, contains equality modulo the axioms and its instances, and is kept by well-sorted substitutions
 abbrev pub TheoryEqualityIsLawful : Type 0
 TheoryEqualityIsLawful = (d : Declarations) (equations : Equations) → TheoryLaws d equations
 

@@ -42,7 +42,7 @@ pub struct Args {
 
 impl Model for Args {
     ghost use Rattle.fvn_terms.specs.Term.{Terms};
-    ghost use Rattle.fvn_terms.specs.Code.{coded_terms};
+    ghost use Rattle.fvn_terms.specs.inner.Code.{coded_terms};
 
     ghost Value = { Terms };
 

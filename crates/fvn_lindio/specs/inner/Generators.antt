@@ -3,7 +3,7 @@ use Rattle.std.specs.Prelude.{◌≡◌, ◌≢◌, ℕ, ◌*◌, ◌<◌, ◌�
 use Rattle.fvn_base.specs.declared.limits.TheConstants.{COLUMNS, COMPONENT}
 use Rattle.smallvec.specs.SmallVec.{SmallVec}
 use Rattle.fvn_lindio.specs.Systems.{IsUnused}
-use Rattle.fvn_lindio.specs.Search.{IsValue}
+use Rattle.fvn_lindio.specs.inner.Search.{IsValue}
 use Rattle.fvn_lindio.specs.declared.level.Point.{Point}
 
 -- the vectors that the search keeps

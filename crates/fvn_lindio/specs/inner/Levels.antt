@@ -2,7 +2,7 @@
 use Rattle.std.specs.Prelude.{◌≡◌, ◌≢◌, ℕ, ◌⊎◌, ℤ, pos, ◌+ℤ◌, ◌<◌, ◌≤◌, ◌^◌, List, [], ◌∷◌, ◌++◌, length, All, AllPairs, Contains}
 use Rattle.fvn_base.specs.declared.limits.TheConstants.{COMPONENT}
 use Rattle.fvn_lindio.specs.Vectors.{IsAtOrBelow, IsNonZero, add}
-use Rattle.fvn_lindio.specs.Search.{IsOpposite, IsValue, Lies}
+use Rattle.fvn_lindio.specs.inner.Search.{IsOpposite, IsValue, Lies}
 use Rattle.fvn_lindio.specs.declared.level.Point.{Point}
 use Rattle.fvn_lindio.specs.declared.level.Level.{Level}
 
@@ -60,6 +60,7 @@ abbrev pub CoversSteps : List Point → Point → Level → Type 0
 CoversSteps generators x level =
     (g : Point) → Contains generators g → IsOpposite x.value g.value → IsCovered level (add x.parts.items g.parts.items)
 
+-- every step from one of these is covered
 abbrev pub CoversStepsFrom : List Point → List Point → Level → Type 0
 CoversStepsFrom generators points level = (x : Point) → Contains points x → CoversSteps generators x level
 
