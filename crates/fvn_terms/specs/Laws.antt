@@ -5,7 +5,7 @@ use Rattle.fvn_terms.specs.declared.plain.OpId.{OpId}
 use Rattle.fvn_terms.specs.declared.plain.Var.{Var}
 use Rattle.fvn_terms.specs.declared.declarations.Axioms.TheVariants.{Free}
 use Rattle.fvn_terms.specs.declared.declarations.Declarations.{Declarations}
-use Rattle.fvn_terms.specs.Term.{Term, Terms, app, pack}
+use Rattle.fvn_terms.specs.Term.{Term, app, pack}
 use Rattle.fvn_terms.specs.Substitution.{Substitution, apply, followed_by}
 use Rattle.fvn_terms.specs.Signature.{axioms, KeepsKinds}
 use Rattle.fvn_terms.specs.Equality.{BEqual}
