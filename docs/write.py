@@ -672,7 +672,8 @@ def hidden_files():
         page = read(page) if page.exists() else ""
         if path.exists():
             for found in re.finditer(r"^pub mod (\w+)", read(path), re.M):
-                if (name, found.group(1)) not in cited and found.group(1) + ".antt" not in page:
+                is_named = re.search(r"\b" + found.group(1) + r"(\.antt)?`", page)
+                if (name, found.group(1)) not in cited and not is_named:
                     yield str(path.relative_to(TOP)) + ": " + found.group(1) + " is public, and nothing asks for it"
 
 

@@ -1,5 +1,5 @@
 -- Laws of equality in a theory.
-use Rattle.std.proofs.Common.{◌≡◌, inl, inr, ap, ◌∙◌, get_or}
+use Rattle.std.proofs.Common.{inl, inr, ap, ◌∙◌, get_or}
 use Rattle.fvn_terms.specs.declared.declarations.Declarations.{Declarations}
 use Rattle.fvn_terms.specs.Term.{Term}
 use Rattle.fvn_terms.specs.Substitution.{Substitution, apply, followed_by}

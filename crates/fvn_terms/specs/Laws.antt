@@ -5,7 +5,7 @@ use Rattle.fvn_terms.specs.declared.plain.OpId.{OpId}
 use Rattle.fvn_terms.specs.declared.plain.Var.{Var}
 use Rattle.fvn_terms.specs.declared.declarations.Axioms.TheVariants.{Free}
 use Rattle.fvn_terms.specs.declared.declarations.Declarations.{Declarations}
-use Rattle.fvn_terms.specs.Term.{Term, Terms, app, pack}
+use Rattle.fvn_terms.specs.Term.{Term, app, pack}
 use Rattle.fvn_terms.specs.Substitution.{Substitution, apply, followed_by, Occurs}
 use Rattle.fvn_terms.specs.Signature.{axioms, KeepsKinds}
 use Rattle.fvn_terms.specs.Places.{AtOnePlace}
@@ -77,7 +77,7 @@ InstancesAreTransitive = (d : Declarations) (equations : Equations) (vars : List
 abbrev pub CompleteSetsThatAreApartAreShortest : Type 0
 CompleteSetsThatAreApartAreShortest =
     (d : Declarations) (problem : Problem) (vars : List Var) (set : List Substitution) →
-    IsCompleteSet (IsUnifier d problem) (IsInstance d vars) set → IsApart (IsUnifier d problem) (IsInstance d vars) set →
+    IsCompleteSet (IsUnifier d problem) (IsInstance d vars) set → IsApart (IsInstance d vars) set →
     IsShortest (IsUnifier d problem) (IsInstance d vars) set
 
 -- what is said of rewriting with some equations

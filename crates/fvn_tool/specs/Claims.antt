@@ -117,7 +117,7 @@ module _ (scope : FirstModule) (problem : FirstProblem) (status : Status) (value
   -- every unifier is an instance of one, and no complete set of unifiers has fewer members.
   pub record IsRight : Type 0 where
     pub sound : All (Unifies scope problem) values
-    pub apart : IsApart (Unifies scope problem) (IsInstanceOf scope problem) values
+    pub apart : IsApart (IsInstanceOf scope problem) values
     pub shortest : (n : ℕ) → end ≡ complete n → IsShortest (Unifies scope problem) (IsInstanceOf scope problem) values
     pub complete : (n : ℕ) → end ≡ complete n → (n ≡ length values) × IsCompleteSet (Unifies scope problem) (IsInstanceOf scope problem) values
     pub nothing : IsNothingExact
