@@ -1,5 +1,5 @@
 -- Laws of the definitions.
-use Rattle.std.specs.Prelude.{◌≡◌, ◌+◌, ◌↔◌, ℕ, List, All}
+use Rattle.std.specs.Prelude.{◌≡◌, ◌≤◌, ◌+◌, ◌↔◌, ℕ, List, All}
 use Rattle.std.specs.List.{AllZip}
 use Rattle.fvn_terms.specs.declared.plain.OpId.{OpId}
 use Rattle.fvn_terms.specs.declared.plain.Var.{Var}
@@ -7,14 +7,14 @@ use Rattle.fvn_terms.specs.declared.declarations.Axioms.TheVariants.{Free}
 use Rattle.fvn_terms.specs.declared.declarations.Declarations.{Declarations}
 use Rattle.fvn_terms.specs.Term.{Term, app, pack}
 use Rattle.fvn_terms.specs.Substitution.{Substitution, apply, followed_by, Occurs}
-use Rattle.fvn_terms.specs.Signature.{axioms, KeepsKinds}
+use Rattle.fvn_terms.specs.Signature.{axioms, KeepsKinds, IsTerm}
 use Rattle.fvn_terms.specs.Places.{AtOnePlace}
 use Rattle.fvn_terms.specs.Equality.{BEqual}
 use Rattle.fvn_terms.specs.Sorts.{IsWellSorted}
 use Rattle.fvn_terms.specs.Unifiers.{Problem, IsUnifier, IsInstance}
 use Rattle.fvn_terms.specs.Theory.{Equations, TEqual, IsTheoryUnifier, IsTheoryInstance}
 use Rattle.fvn_terms.specs.CompleteSets.{IsCompleteSet, IsApart, IsShortest}
-use Rattle.fvn_terms.specs.Rewriting.{Rewrites, TermSequence, IsIrreducible, IsIrreducibleList}
+use Rattle.fvn_terms.specs.Rewriting.{Rewrites, TermSequence, ListSequence, IsIrreducible, IsIrreducibleList, IsTerminating, BringsNoVariable}
 use Rattle.fvn_terms.specs.Variants.{Covers}
 
 -- each term is related to itself, the other way round too, and along two steps
@@ -98,6 +98,14 @@ pub record RewritingLaws (d : Declarations) (equations : Equations) : Type 0 whe
   pub theory : (k : ℕ) (t u : Term) → TermSequence d equations k t u → TEqual d equations t u
   -- a list is irreducible where each member is
   pub lists : (ts : List Term) → IsIrreducibleList d equations ts ↔ All (IsIrreducible d equations) ts
+  -- instances of a sequence are sequences
+  pub sequences : (s : Substitution) → IsWellSorted d s → (k : ℕ) (t u : Term) → TermSequence d equations k t u → TermSequence d equations k (apply s t) (apply s u)
+  -- two sequences of lists in a row are one
+  pub list_joined : (j k : ℕ) (ts us vs : List Term) → ListSequence d equations j ts us → ListSequence d equations k us vs → ListSequence d equations (j + k) ts vs
+  -- sequences bring no new variable, where the equations' right sides have none
+  pub variables : BringsNoVariable equations → (x : Var) (k : ℕ) (t u : Term) → TermSequence d equations k t u → Occurs x u → Occurs x t
+  -- where the equations terminate, sequences of a list are bounded
+  pub bounded : IsTerminating d equations → (ts : List Term) → All (IsTerm d) ts → (most : ℕ) × ((k : ℕ) (us : List Term) → ListSequence d equations k ts us → k ≤ most)
 
 -- rewriting modulo the axioms keeps to these laws, whatever the signature and the equations
 abbrev pub RewritingIsLawful : Type 0
