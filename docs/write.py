@@ -3,7 +3,7 @@
 
     python3 docs/write.py           writes both
     python3 docs/write.py --check   fails where the written documents differ from the sources
-    python3 docs/write.py --lint    prints what is missing: comments, first lines, uses, and a page for each crate
+    python3 docs/write.py --lint    prints what is missing: comments, first lines, uses, pages of crates, and laws that stand elsewhere
 
 The words come from the sources: the `//!` line of a crate, the `///` line of a call, the `//` comment over
 clauses, the `--` lines over a definition and at the head of a file. To change a document, change them.
@@ -705,11 +705,23 @@ def hidden_files():
                     yield str(path.relative_to(TOP)) + ": " + found.group(1) + " is public, and nothing asks for it"
 
 
+def scattered_laws():
+    """Laws whose statement stands elsewhere than in specs/Laws.antt."""
+    for name, _ in crates():
+        for source in Crate(name).modules:
+            for call in source.calls:
+                told = " ".join(clause.text for clause in call.clauses)
+                for word in TOKEN.findall(told) if call.is_law() else []:
+                    place = source.imports.get(word)
+                    if place and place[1] != "specs.Laws":
+                        yield "crates/" + name + ": the law " + call.name + " is stated in " + place[1] + ": " + word
+
+
 def main(words):
     if words == ["--lint"]:
         missing = [
             line
-            for find in (without_page, without_first_line, without_comment, unused, hidden_files)
+            for find in (without_page, without_first_line, without_comment, unused, hidden_files, scattered_laws)
             for line in find()
         ]
         for line in missing:
