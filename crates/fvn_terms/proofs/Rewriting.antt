@@ -1,5 +1,5 @@
 -- Laws of rewriting modulo the axioms.
-use Rattle.std.proofs.Common.{◌≡◌, ◌≤◌, ◌+◌, ◌↔◌, ℕ, zero, suc, List, [], ◌∷◌, All, refl, sym, subst, ◌∙◌, inl, inr, arith}
+use Rattle.std.proofs.Common.{◌≡◌, ◌≤◌, ◌+◌, ◌↔◌, ℕ, zero, suc, List, [], ◌∷◌, map, All, refl, sym, subst, ◌∙◌, inl, inr, arith}
 use Rattle.std.specs.List.{AllZip}
 use Rattle.std.proofs.lemmas.List.Elements.{All-nil, All-cons, All-head, All-tail}
 use Rattle.fvn_terms.specs.declared.plain.Var.{Var}
@@ -11,7 +11,8 @@ use Rattle.fvn_terms.specs.Places.{AtOnePlace, AmongOnePlace, here, inside, firs
 use Rattle.fvn_terms.specs.Equality.{IsAxiomEitherWay, BEqual}
 use Rattle.fvn_terms.specs.Sorts.{IsWellSorted}
 use Rattle.fvn_terms.specs.Theory.{Equations, IsRule, TEqual}
-use Rattle.fvn_terms.specs.Rewriting.{Rewrites, TermSequence, ListRewrites, ListSequence, IsIrreducible, IsIrreducibleList, IsTerminating}
+use Rattle.fvn_terms.specs.Rewriting.{Rewrites, TermSequence, ListRewrites, ListSequence, IsIrreducible, IsIrreducibleList, IsTerminating, IsConfluent}
+use Rattle.fvn_terms.specs.Variants.{IsVariant, IsWithin}
 use Rattle.fvn_terms.specs.Laws.{RewritingLaws}
 use Rattle.fvn_terms.proofs.Steps.{Leads-append, Leads-map, AtOnePlace-apply, AtOnePlace-weaker}
 use Rattle.fvn_terms.proofs.Equal.{BEqual-apply, BEqual-trans, BEqual-sym}
@@ -195,6 +196,29 @@ module _ (d : Declarations) (equations : Equations) where
   pub lists_terminate : IsTerminating d equations → (ts : List Term) → All (IsTerm d) ts → (most : ℕ) × ((k : ℕ) (us : List Term) → ListSequence d equations k ts us → k ≤ most)
   lists_terminate ends ts h = let b = separate_bounded ends ts h in (b.0, λ k us q. b.1 k us (ListSequence-separate k ts us q))
 
+  -- Normal forms and variants
+
+  pub one_normal_form : IsConfluent d equations → (t u v : Term) (j k : ℕ) → IsTerm d t → TermSequence d equations j t u → TermSequence d equations k t v →
+      IsIrreducible d equations u → IsIrreducible d equations v → BEqual d u v
+  one_normal_form confluent t u v j k kinded p q stays_u stays_v =
+      let joined = confluent t u v j k kinded p q in
+      let left = irreducible_ends joined.left_steps u joined.left stays_u joined.left_reached in
+      let right = irreducible_ends joined.right_steps v joined.right stays_v joined.right_reached in
+      BEqual-trans d left.1 (BEqual-trans d joined.equal (BEqual-sym d right.1))
+
+  pub within_after : (most : ℕ) (terms us : List Term) (s : Substitution) (k : ℕ) → IsWithin d equations most terms s → ListSequence d equations k (map (apply s) terms) us →
+      (j : ℕ) (vs : List Term) → ListSequence d equations j us vs → k + j ≤ most
+  within_after most terms us s k bound p j vs q = bound (k + j) vs (ListSequence-append k j (map (apply s) terms) us vs p q)
+
+  separate_theory : (k : ℕ) (ts us : List Term) → Separate k ts us → AllZip (TEqual d equations) ts us
+  separate_theory k [] [] q = tt
+  separate_theory k [] (u ∷ us) q = absurd q
+  separate_theory k (t ∷ ts) [] q = absurd q
+  separate_theory k (t ∷ ts) (u ∷ us) q = (TermSequence-theory q.0 t u q.3.0, separate_theory q.1 ts us q.3.1)
+
+  pub variants_theory : (fixed terms us : List Term) (s : Substitution) → IsVariant d equations fixed terms us s → AllZip (TEqual d equations) (map (apply s) terms) us
+  variants_theory fixed terms us s v = separate_theory v.steps (map (apply s) terms) us (ListSequence-separate v.steps (map (apply s) terms) us v.sequence)
+
   pub rewriting_laws : RewritingLaws d equations
   rewriting_laws = record {
     modulo = Rewrites-modulo;
@@ -209,4 +233,7 @@ module _ (d : Declarations) (equations : Equations) where
     list_joined = ListSequence-append;
     variables = λ bound x. TermSequence-occurs x d equations bound;
     bounded = lists_terminate;
+    one_normal_form = one_normal_form;
+    within = within_after;
+    variants = variants_theory;
   }

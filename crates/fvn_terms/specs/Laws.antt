@@ -1,5 +1,5 @@
 -- Laws of the definitions.
-use Rattle.std.specs.Prelude.{◌≡◌, ◌≤◌, ◌+◌, ◌↔◌, ℕ, List, All}
+use Rattle.std.specs.Prelude.{◌≡◌, ◌≤◌, ◌+◌, ◌↔◌, ℕ, List, map, All}
 use Rattle.std.specs.List.{AllZip}
 use Rattle.fvn_terms.specs.declared.plain.OpId.{OpId}
 use Rattle.fvn_terms.specs.declared.plain.Var.{Var}
@@ -14,8 +14,8 @@ use Rattle.fvn_terms.specs.Sorts.{IsWellSorted}
 use Rattle.fvn_terms.specs.Unifiers.{Problem, IsUnifier, IsInstance}
 use Rattle.fvn_terms.specs.Theory.{Equations, TEqual, IsTheoryUnifier, IsTheoryInstance}
 use Rattle.fvn_terms.specs.CompleteSets.{IsCompleteSet, IsApart, IsShortest}
-use Rattle.fvn_terms.specs.Rewriting.{Rewrites, TermSequence, ListSequence, IsIrreducible, IsIrreducibleList, IsTerminating, BringsNoVariable}
-use Rattle.fvn_terms.specs.Variants.{Covers}
+use Rattle.fvn_terms.specs.Rewriting.{Rewrites, TermSequence, ListSequence, IsIrreducible, IsIrreducibleList, IsTerminating, IsConfluent, BringsNoVariable}
+use Rattle.fvn_terms.specs.Variants.{IsVariant, IsWithin, Covers}
 
 -- each term is related to itself, the other way round too, and along two steps
 pub record IsEquivalence (R : Term → Term → Type 0) : Type 0 where
@@ -106,6 +106,14 @@ pub record RewritingLaws (d : Declarations) (equations : Equations) : Type 0 whe
   pub variables : BringsNoVariable equations → (x : Var) (k : ℕ) (t u : Term) → TermSequence d equations k t u → Occurs x u → Occurs x t
   -- where the equations terminate, sequences of a list are bounded
   pub bounded : IsTerminating d equations → (ts : List Term) → All (IsTerm d) ts → (most : ℕ) × ((k : ℕ) (us : List Term) → ListSequence d equations k ts us → k ≤ most)
+  -- where the equations are confluent, irreducible terms that one term is brought to are equal modulo the axioms
+  pub one_normal_form : IsConfluent d equations → (t u v : Term) (j k : ℕ) → IsTerm d t → TermSequence d equations j t u → TermSequence d equations k t v →
+      IsIrreducible d equations u → IsIrreducible d equations v → BEqual d u v
+  -- what bounds the sequences of an instance bounds the steps to its variants, and leaves that much less behind them
+  pub within : (most : ℕ) (terms us : List Term) (s : Substitution) (k : ℕ) → IsWithin d equations most terms s → ListSequence d equations k (map (apply s) terms) us →
+      (j : ℕ) (vs : List Term) → ListSequence d equations j us vs → k + j ≤ most
+  -- the terms of a variant are equal in the theory to the instance that its substitution makes
+  pub variants : (fixed terms us : List Term) (s : Substitution) → IsVariant d equations fixed terms us s → AllZip (TEqual d equations) (map (apply s) terms) us
 
 -- rewriting modulo the axioms keeps to these laws, whatever the signature and the equations
 abbrev pub RewritingIsLawful : Type 0
