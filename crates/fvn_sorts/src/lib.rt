@@ -14,6 +14,7 @@ mod finish;
 mod kinds;
 mod laws;
 mod making;
+mod pairs;
 mod preregular;
 mod ranks;
 mod shapes;
