@@ -23,8 +23,6 @@ mod sorting;
 mod stages;
 mod subsorts;
 mod tables;
-#[cfg(test)]
-mod tests;
 
 pub use builder::SignatureBuilder;
 pub use collected::{Collected, Declaration};

@@ -6,7 +6,7 @@ mod terms;
 use self::reading::{collected, with_operator, with_sorts};
 use self::showing::{push_fault, push_signature, push_sort};
 use self::terms::{least_sort, term_of};
-use crate::{Signature, SignatureBuilder, all_shared};
+use fvn_sorts::{Signature, SignatureBuilder, all_shared};
 use fvn_terms::{NoMemory, OpId};
 use std::alloc::{AllocError, Global};
 use std::process::Abort;
@@ -37,6 +37,12 @@ A B C; C < A; C < B; f : A A -> A; f : A B -> B => results f A C
 A B C; C < A; C < B; f : C A A -> A; f : A A B -> B => results f C A C
 A B C; A < C; B < C; f : C C -> C [assoc comm]; f : A A -> B [assoc comm]; f : B B -> A [assoc comm] => brackets f A A B
 A B C; A < C; B < C; f : C C -> C [assoc comm]; f : A A -> A [assoc comm]; f : B B -> A [assoc comm] => brackets f A B B
+A B C D; C < A; C < B; D < A; D < B; f : A A -> A; f : B B -> B => results f C C
+A B C D; C < A; C < B; D < A; D < B; f : A A -> A; f : B B -> B; f : C C -> C; f : D D -> D => results f C D
+A B C D; C < A; C < B; D < A; D < B; f : A A -> A; f : B B -> B; f : C C -> C; f : C D -> C; f : D D -> D => results f D C
+A B C D; C < A; C < B; D < A; D < B; f : A A -> A; f : B B -> B; f : C C -> C; f : C D -> C; f : D C -> D; f : D D -> D => good
+A B C D; C < A; C < B; D < A; D < B; f : A A -> A; f : B B -> B; f : C A -> C; f : D A -> D => good
+A B C D; C < A; C < B; D < A; D < B; f : A A -> A; f : B B -> B; f : A C -> C => results f C D
 A B C D; A < D; B < D; C < A; C < B; f : [A] -> A; f : [A] -> B; f : D -> C => results f E
 A B; A < B; f : [A] [A] -> B [assoc comm]; f : B B -> A [assoc comm] => brackets f A A C
 A; f : -> A; g : [A] [A] -> A [assoc comm id: f] => collapse g B
@@ -235,6 +241,15 @@ fn constants(rt: &impl Abort, alloc: Global, count: u16) -> Result<SignatureBuil
     Ok(builder)
 }
 
+/// 64 sorts, and 256 operators of eight arguments.
+fn full(rt: &impl Abort, alloc: Global) -> Result<SignatureBuilder, NoMemory> {
+    let mut builder = sorts_alone(rt, alloc, 64)?;
+    for op in 0..256u16 {
+        builder = with_operator(rt, alloc, builder, OpId(op), "A A A A A A A A -> A")?;
+    }
+    Ok(builder)
+}
+
 #[test]
 fn faults_are_told_with_their_first_witness(rt: HostRuntime) -> Result<(), NoMemory> {
     let alloc = rt.alloc();
@@ -253,6 +268,8 @@ fn sizes_are_kept(rt: HostRuntime) -> Result<(), NoMemory> {
         let shown = shown_fault(alloc, sorts_alone(&rt, alloc, count)?)?;
         assert_eq!(rt; shown.as_str(), want, "at {count} sorts");
     }
+    let shown = shown_fault(alloc, full(&rt, alloc)?)?;
+    assert_eq!(rt; shown.as_str(), "good", "at the limits");
     for (count, want) in [(256, "good"), (257, "too many")] {
         let shown = shown_fault(alloc, constants(&rt, alloc, count)?)?;
         assert_eq!(rt; shown.as_str(), want, "at {count} operators");

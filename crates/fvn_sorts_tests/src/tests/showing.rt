@@ -2,7 +2,7 @@
 ghost use Rattle.std.specs.Prelude.{IsTrue};
 ghost use Rattle.fvn_terms.specs.Signature.{IsSort};
 
-use crate::{SigFault, Signature};
+use fvn_sorts::{SigFault, Signature};
 use fvn_terms::{Axioms, NoMemory, OpId, Rank, SortId};
 use std::alloc::{AllocError, AllocFailed, Global};
 

@@ -2,7 +2,7 @@
 use Rattle.std.proofs.Common.{ℕ, ◌<◌, get_or}
 use Rattle.fvn_terms.specs.declared.plain.SortId.{SortId}
 use Rattle.fvn_sorts.specs.Collected.{Names}
-use Rattle.fvn_sorts.proofs.tests.reading.all_names.Given as goal
+use Rattle.fvn_sorts_tests.proofs.tests.reading.all_names.Given as goal
 
 -- each sort so far is named
 abbrev pub invariant-loop-s : goal.invariant-loop-s

@@ -2,8 +2,8 @@
 ghost use Rattle.std.specs.Prelude.{◌<◌, All, IsTrue};
 ghost use Rattle.fvn_sorts.specs.Collected.{Names};
 
-use crate::SignatureBuilder;
 use fvn_base::Seq;
+use fvn_sorts::SignatureBuilder;
 use fvn_terms::{Axioms, NoMemory, OpId, Rank, SortId};
 use std::alloc::{AllocError, AllocFailed, Global};
 use std::process::Abort;
@@ -89,10 +89,10 @@ pub fn with_operator(
     let (gives, attributes) = to.split_once(" [").unwrap_or((to, ""));
     let args = sorts_of(alloc, from)?;
     let result_sort = sort_of(gives);
-    assert!(rt; op.0 <= builder.collected.operators);
-    assert!(rt; builder.collected.operators < 1000);
-    assert!(rt; all_names(builder.collected.sorts, args.as_slice()));
-    assert!(rt; names(builder.collected.sorts, result_sort));
+    assert!(rt; op.0 <= builder.op_count());
+    assert!(rt; builder.op_count() < 1000);
+    assert!(rt; all_names(builder.sort_count(), args.as_slice()));
+    assert!(rt; names(builder.sort_count(), result_sort));
     let rank = Rank {
         args: Seq::from_vec(args),
         result: result_sort,
@@ -106,7 +106,7 @@ fn with_pair(
     low: SortId,
     high: SortId,
 ) -> Result<SignatureBuilder, NoMemory> {
-    assert!(rt; low.0 < builder.collected.sorts && high.0 < builder.collected.sorts);
+    assert!(rt; low.0 < builder.sort_count() && high.0 < builder.sort_count());
     builder.subsort(low, high)
 }
 
@@ -118,7 +118,7 @@ pub fn with_sorts(
 ) -> Result<SignatureBuilder, NoMemory> {
     let mut more = builder;
     for _ in 0..count {
-        assert!(rt; more.collected.sorts < 100);
+        assert!(rt; more.sort_count() < 100);
         more = more.sort()?;
     }
     Ok(more)

@@ -5,7 +5,7 @@ ghost use Rattle.fvn_terms.specs.Signature.{kind, declared, IsSort, HasKind, Hav
 
 use super::reading::{operator_of, sort_of};
 use super::showing::is_listed;
-use crate::Signature;
+use fvn_sorts::Signature;
 use fvn_terms::{Args, NoMemory, OpId, Plain, Rank, SortId, Var};
 use std::alloc::{AllocError, AllocFailed, Global};
 

@@ -2,7 +2,7 @@
 use Rattle.std.proofs.Common.{◌≡◌, map, length}
 use Rattle.fvn_terms.specs.Plain.{terms}
 use Rattle.fvn_terms.specs.Signature.{kind, HaveKinds}
-use Rattle.fvn_sorts.proofs.tests.terms.+kinds.Given as goal
+use Rattle.fvn_sorts_tests.proofs.tests.terms.+kinds.Given as goal
 
 -- the arguments that are left decide
 abbrev pub invariant-have_kinds-loop-u : goal.invariant-have_kinds-loop-u
