@@ -1,0 +1,2 @@
+//! Flat terms and substitutions of them, and what a solver modulo axioms promises.
+#![tactic(auto)]
