@@ -1,1 +1,6 @@
 -- The lemmas of the crate.
+mod Symbols
+mod Occurrences
+mod Comparisons
+mod Views
+pub mod Fitting

@@ -1,0 +1,5 @@
+-- What contracts of flat terms and substitutions speak of.
+pub mod Forms
+pub mod Fits
+pub mod Bindings
+pub mod inner
