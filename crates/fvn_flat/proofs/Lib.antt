@@ -3,4 +3,12 @@ mod Symbols
 mod Occurrences
 mod Comparisons
 mod Views
+mod SortedLists
+mod Summands
+mod Nesting
+mod Evaluation
 pub mod Fitting
+pub mod Rebuilding
+mod Instances
+mod Binding
+mod SortsOfFlats
