@@ -11,4 +11,7 @@ pub mod Fitting
 pub mod Rebuilding
 mod Instances
 mod Binding
+mod Listed
+mod Composing
+mod Renamings
 mod SortsOfFlats

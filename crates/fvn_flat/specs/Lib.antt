@@ -2,4 +2,5 @@
 pub mod Forms
 pub mod Fits
 pub mod Bindings
+pub mod Variables
 pub mod inner
