@@ -12,6 +12,6 @@ pub mod Rebuilding
 mod Instances
 mod Binding
 mod Listed
-mod Composing
+pub mod Composing
 mod Renamings
 mod SortsOfFlats

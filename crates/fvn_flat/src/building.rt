@@ -1,12 +1,12 @@
 //! Operators over flat terms, flat again.
-ghost use Rattle.std.specs.Prelude.{◌≡◌, ◌++◌, ◌∷◌, [], ◌<◌, length, false, IfOk, OnOk};
-ghost use Rattle.fvn_terms.specs.Equality.{IsAssociative};
+ghost use Rattle.std.specs.Prelude.{◌≡◌, ◌++◌, false, IfOk, OnOk};
+ghost use Rattle.fvn_terms.specs.Equality.{BEqual};
 ghost use Rattle.fvn_terms.specs.Signature.{axioms};
-ghost use Rattle.fvn_forms.specs.Flat.{fapp, fpack, fconstant};
+ghost use Rattle.fvn_forms.specs.Flat.{fapp, fpack, plain};
 ghost use Rattle.fvn_forms.specs.InOrder.{sort};
 ghost use Rattle.fvn_forms.specs.Canon.{as_constant, identity, parts, all_parts, joined, sum, build};
 ghost use Rattle.fvn_flat.specs.Forms.{args_of};
-ghost use Rattle.fvn_flat.specs.Fits.{Fits, AllFit, Takes};
+ghost use Rattle.fvn_flat.specs.Fits.{Fits, AllFit, Takes, plain_over};
 ghost use Rattle.fvn_flat.specs.inner.Summands.{is_sum_of};
 
 use crate::flat::{Flat, Node};
@@ -155,6 +155,7 @@ impl Flat {
         requires fit { AllFit sig.now args.items }
         requires takes { Takes sig.now op args.items }
         ensures exact { IfOk result (λ t. t ≡ build sig.now op args.items) }
+        ensures equal { IfOk result (λ t. BEqual sig.now (plain_over sig.now op args.items) (plain t)) }
         ensures fits { IfOk result (Fits sig.now) }
     {
         sig.is_good();

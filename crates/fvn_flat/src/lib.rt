@@ -8,8 +8,10 @@ mod order;
 mod renaming;
 mod sorting;
 mod substitution;
+#[cfg(test)]
+mod tests;
 
 pub use flat::Flat;
 pub use flattening::flatten;
-pub use renaming::rename_apart;
-pub use substitution::Subst;
+pub use renaming::{MOST_RENAMED, rename_apart};
+pub use substitution::{Subst, all_shared};

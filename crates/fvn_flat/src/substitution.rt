@@ -204,3 +204,11 @@ impl Subst {
         Ok(s)
     }
 }
+
+fn shared<T: Send + Sync>(_value: &T) {}
+
+/// Flat terms and substitutions may be sent to and shared between threads.
+pub fn all_shared(term: &Flat, subst: &Subst) {
+    shared(term);
+    shared(subst);
+}
