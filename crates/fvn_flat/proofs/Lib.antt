@@ -1,0 +1,17 @@
+-- The lemmas of the crate.
+mod Symbols
+mod Occurrences
+mod Comparisons
+mod Views
+mod SortedLists
+mod Summands
+mod Nesting
+mod Evaluation
+pub mod Fitting
+pub mod Rebuilding
+mod Instances
+mod Binding
+mod Listed
+pub mod Composing
+mod Renamings
+mod SortsOfFlats
