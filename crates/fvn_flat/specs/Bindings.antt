@@ -1,0 +1,33 @@
+-- Substitutions of flat forms, as lists of pairs.
+use Rattle.std.specs.Prelude.{◌≡◌, Bool, if◌then◌else◌, List, [], ◌∷◌, Option, Some, None}
+use Rattle.std.specs.List.{AllByRecursion}
+use Rattle.fvn_terms.specs.declared.plain.Var.{Var}
+use Rattle.fvn_terms.specs.declared.declarations.Declarations.{Declarations}
+use Rattle.fvn_terms.specs.Substitution.{same_var}
+use Rattle.fvn_forms.specs.Flat.{FlatTerm, fvar}
+use Rattle.fvn_forms.specs.LeastSort.{IsFlatSubstitution}
+
+abbrev pub Bindings : Type 0
+Bindings = List (Var × FlatTerm)
+
+-- what the pairs give x
+abbrev pub bound : Bindings → Var → Option FlatTerm
+bound [] x = None
+bound (p ∷ s) x = if same_var p.0 x then Some p.1 else bound s x
+
+abbrev pub form_or : Var → Option FlatTerm → FlatTerm
+form_or x None = fvar x
+form_or x (Some t) = t
+
+-- the substitution that the pairs stand for: a variable without a pair stays
+abbrev pub value : Bindings → Var → FlatTerm
+value s x = form_or x (bound s x)
+
+-- each variable has one pair
+abbrev pub BindsOnce : Bindings → Type 0
+BindsOnce [] = Unit {0}
+BindsOnce (p ∷ s) = (bound s p.0 ≡ None) × BindsOnce s
+
+-- each variable is bound to a form that is flat in the signature, and of the variable's kind
+abbrev pub BindingsFit : Declarations → Bindings → Type 0
+BindingsFit d s = IsFlatSubstitution d (value s)
