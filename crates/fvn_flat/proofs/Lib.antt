@@ -1,4 +1,9 @@
 -- The lemmas of the crate.
-pub mod Examples
+mod Symbols
+mod Occurrences
+mod Comparisons
+mod Views
+pub mod Fitting
 pub mod VariablesKept
 pub mod OneAnswer
+pub mod Examples

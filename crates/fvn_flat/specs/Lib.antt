@@ -1,6 +1,9 @@
--- What contracts of flat terms and solvers speak of.
-pub mod CompleteSets
+-- What contracts of flat terms and substitutions speak of.
+pub mod Forms
+pub mod Fits
 pub mod Bindings
+pub mod inner
+pub mod CompleteSets
 pub mod Problems
 pub mod Partitions
 pub mod SumSystems
@@ -10,3 +13,4 @@ pub mod Rules
 pub mod FlatPlaces
 pub mod Successors
 pub mod FlatLaws
+pub mod Solving

@@ -1,6 +1,18 @@
 //! Flat terms and substitutions of them, and what a solver modulo axioms promises.
 #![tactic(auto)]
 
+mod flat;
+mod order;
+mod substitution;
+
 mod laws;
+mod solver;
+
+pub use flat::Flat;
+pub use substitution::Subst;
 
 pub use laws::{equal_pairs_have_one_answer, flattened_pairs_have_one_answer};
+pub use solver::{
+    AxiomSolver, LAST_FIRST_FRESH, LAST_NEXT_FRESH, Normal, Pairs, SizeCause, SolveEnd, Solved,
+    SolvedList,
+};

@@ -1,0 +1,5 @@
+-- What mirrors the code.
+pub mod Weight
+pub mod Node
+pub mod Falls
+pub mod Own
