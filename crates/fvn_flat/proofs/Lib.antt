@@ -6,4 +6,5 @@ mod Views
 pub mod Fitting
 pub mod VariablesKept
 pub mod OneAnswer
+mod GroundProblems
 pub mod Examples

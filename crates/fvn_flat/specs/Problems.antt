@@ -5,7 +5,7 @@ use Rattle.fvn_terms.specs.declared.plain.Var.{Var}
 use Rattle.fvn_terms.specs.declared.plain.SortId.{SortId}
 use Rattle.fvn_terms.specs.declared.declarations.Declarations.{Declarations}
 use Rattle.fvn_terms.specs.Term.{Term, Terms, var, app, none, more}
-use Rattle.fvn_terms.specs.Substitution.{same_var}
+use Rattle.fvn_terms.specs.Substitution.{Occurs, same_var}
 use Rattle.fvn_terms.specs.Signature.{HasKind}
 use Rattle.fvn_terms.specs.Equality.{BEqual}
 use Rattle.fvn_terms.specs.Unifiers.{Problem}
@@ -41,6 +41,10 @@ abbrev mutual
 abbrev pub variables_of : Problem → List Var
 variables_of [] = []
 variables_of (p ∷ problem) = (variables p.0 ++ variables p.1) ++ variables_of problem
+
+-- no variable occurs in the term
+abbrev pub IsGround : Term → Type 0
+IsGround t = (x : Var) → Occurs x t → ⊥
 
 -- whether two terms are one
 abbrev mutual

@@ -14,5 +14,11 @@ impl Model for Subst {
 
     ghost Value = { Bindings };
 
+    ghost use Rattle.std.specs.Coded.{coded_list, coded×};
+    ghost use Rattle.fvn_terms.specs.Code.{coded_var};
+    ghost use Rattle.fvn_forms.specs.FlatCode.{coded_flat};
+
+    ghost coded = { coded_list (coded× coded_var coded_flat) };
+
     ghost view = { λ s. s.pairs.items };
 }
