@@ -14,7 +14,7 @@ use Rattle.fvn_terms.specs.Unifiers.{Problem, IsUnifier, IsInstance}
 use Rattle.fvn_terms.proofs.Substitutions.{apply-var, apply-agree}
 use Rattle.fvn_forms.specs.Flat.{FlatTerm, fvar, plain}
 use Rattle.fvn_forms.proofs.Eval.{canon_respects, canon_plain}
-use Rattle.fvn_flat.specs.CompleteSets.{IsCompleteSet, IsApart}
+use Rattle.fvn_terms.specs.CompleteSets.{IsCompleteSet, IsApart}
 use Rattle.fvn_flat.specs.Bindings.{Bindings, bound, value, BindingsFit}
 use Rattle.fvn_flat.specs.Fits.{Fits}
 use Rattle.fvn_flat.specs.Problems.{IsGround, variables, variables_of, plain_pairs}

@@ -4,7 +4,7 @@ use Rattle.fvn_terms.specs.declared.plain.Var.{Var}
 use Rattle.fvn_terms.specs.declared.declarations.Declarations.{Declarations}
 use Rattle.fvn_terms.specs.Substitution.{Substitution}
 use Rattle.fvn_terms.specs.Unifiers.{Problem, IsUnifier, IsInstance}
-use Rattle.fvn_flat.specs.CompleteSets.{IsCompleteSet, IsApart}
+use Rattle.fvn_terms.specs.CompleteSets.{IsCompleteSet, IsApart}
 use Rattle.fvn_forms.specs.FitsKinds.{FitsKinds}
 use Rattle.fvn_flat.specs.Problems.{variables_of, IsProblem, plain_pairs, flat_pairs, ArePairsEqual}
 

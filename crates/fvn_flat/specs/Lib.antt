@@ -3,7 +3,6 @@ pub mod Forms
 pub mod Fits
 pub mod Bindings
 pub mod inner
-pub mod CompleteSets
 pub mod Problems
 pub mod Partitions
 pub mod SumSystems

@@ -1,5 +1,6 @@
 -- What a solver modulo the axioms is given, and what its answer promises.
 use Rattle.std.specs.Prelude.{◌≡◌, ◌≤◌, ◌<◌, ◌↔◌, ◌⊎◌, ℕ, ◌+◌, true, List, [], ◌∷◌, length, map, sum_by, Some, All, Contains}
+use Rattle.fvn_base.specs.declared.limits.TheConstants.{MINIMAL_SOLUTIONS}
 use Rattle.fvn_terms.specs.declared.plain.Var.{Var}
 use Rattle.fvn_terms.specs.declared.plain.OpId.{OpId}
 use Rattle.fvn_terms.specs.declared.declarations.Declarations.{Declarations}
@@ -39,7 +40,7 @@ substitution s x = plain (value s x)
 
 -- some prefix of the system's rows has too many minimal solutions, or one with too large a component
 abbrev pub IsRefused : System → Type 0
-IsRefused s = (k : ℕ) × (IsTooMany s.columns (rows_of s) 24 k ⊎ IsTooWide s.columns (rows_of s) 24 k)
+IsRefused s = (k : ℕ) × (IsTooMany s.columns (rows_of s) MINIMAL_SOLUTIONS k ⊎ IsTooWide s.columns (rows_of s) MINIMAL_SOLUTIONS k)
 
 -- the problem that flat pairs are
 abbrev pub problem_of : Pairs → Problem

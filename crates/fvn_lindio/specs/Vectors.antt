@@ -15,9 +15,3 @@ abbrev pub add : List ℕ → List ℕ → List ℕ
 add [] y = []
 add (a ∷ x) [] = []
 add (a ∷ x) (b ∷ y) = (a + b) ∷ add x y
-
--- x stands before y in lexicographic order: at the first component in which they differ, x has less
-abbrev pub IsBefore : List ℕ → List ℕ → Type 0
-IsBefore [] y = ⊥
-IsBefore (a ∷ x) [] = ⊥
-IsBefore (a ∷ x) (b ∷ y) = (a < b) ⊎ (a ≡ b) × IsBefore x y

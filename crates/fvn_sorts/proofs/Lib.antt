@@ -1,5 +1,4 @@
 -- The lemmas of the crate.
-pub mod Decided
 pub mod Operators
 pub mod Collecting
 pub mod Closures

@@ -60,4 +60,9 @@ module _ (d : Declarations) (equations : Equations) where
     modulo = TEqual-modulo;
     substitution = TEqual-apply;
     follows = IsTheoryUnifier-followed_by;
+    instances = λ vars a b i. record {
+      after = i.after;
+      well_sorted = i.well_sorted;
+      equal = λ x h. TEqual-modulo _ _ (i.equal x h);
+    };
   }

@@ -1,7 +1,8 @@
 -- Laws of the definitions.
-use Rattle.std.specs.Prelude.{◌≡◌}
+use Rattle.std.specs.Prelude.{◌≡◌, List}
 use Rattle.std.specs.List.{AllZip}
 use Rattle.fvn_terms.specs.declared.plain.OpId.{OpId}
+use Rattle.fvn_terms.specs.declared.plain.Var.{Var}
 use Rattle.fvn_terms.specs.declared.declarations.Axioms.TheVariants.{Free}
 use Rattle.fvn_terms.specs.declared.declarations.Declarations.{Declarations}
 use Rattle.fvn_terms.specs.Term.{Term, Terms, app, pack}
@@ -9,8 +10,9 @@ use Rattle.fvn_terms.specs.Substitution.{Substitution, apply, followed_by}
 use Rattle.fvn_terms.specs.Signature.{axioms, KeepsKinds}
 use Rattle.fvn_terms.specs.Equality.{BEqual}
 use Rattle.fvn_terms.specs.Sorts.{IsWellSorted}
-use Rattle.fvn_terms.specs.Unifiers.{Problem, IsUnifier}
-use Rattle.fvn_terms.specs.Theory.{Equations, TEqual, IsTheoryUnifier}
+use Rattle.fvn_terms.specs.Unifiers.{Problem, IsUnifier, IsInstance}
+use Rattle.fvn_terms.specs.Theory.{Equations, TEqual, IsTheoryUnifier, IsTheoryInstance}
+use Rattle.fvn_terms.specs.CompleteSets.{IsCompleteSet, IsApart, IsShortest}
 
 -- each term is related to itself, the other way round too, and along two steps
 pub record IsEquivalence (R : Term → Term → Type 0) : Type 0 where
@@ -22,9 +24,11 @@ pub record IsEquivalence (R : Term → Term → Type 0) : Type 0 where
 abbrev pub IsCongruence : (Term → Term → Type 0) → Type 0
 IsCongruence R = (f : OpId) (ts us : _) → AllZip R ts us → R (app f (pack ts)) (app f (pack us))
 
+-- equality modulo the axioms is an equivalence
 abbrev pub EqualityIsAnEquivalence : Type 0
 EqualityIsAnEquivalence = (d : Declarations) → IsEquivalence (BEqual d)
 
+-- equality modulo the axioms is a congruence
 abbrev pub EqualityIsACongruence : Type 0
 EqualityIsACongruence = (d : Declarations) → IsCongruence (BEqual d)
 
@@ -51,7 +55,23 @@ pub record TheoryLaws (d : Declarations) (equations : Equations) : Type 0 where
   pub modulo : (t u : Term) → BEqual d t u → TEqual d equations t u
   pub substitution : (s : Substitution) → IsWellSorted d s → (t u : Term) → TEqual d equations t u → TEqual d equations (apply s t) (apply s u)
   pub follows : (problem : Problem) (s c : Substitution) → IsTheoryUnifier d equations problem s → IsWellSorted d c → IsTheoryUnifier d equations problem (followed_by s c)
+  pub instances : (vars : List Var) (a b : Substitution) → IsInstance d vars a b → IsTheoryInstance d equations vars a b
 
--- equality in the theory is an equivalence and a congruence, contains equality modulo the axioms, and is kept by well-sorted substitutions
+-- equality in the theory is an equivalence and a congruence, contains equality modulo the axioms and its instances, and is kept by well-sorted substitutions
 abbrev pub TheoryEqualityIsLawful : Type 0
 TheoryEqualityIsLawful = (d : Declarations) (equations : Equations) → TheoryLaws d equations
+
+-- an instance of an instance is one, modulo the axioms and in a theory
+pub record InstancesChain (d : Declarations) (equations : Equations) (vars : List Var) : Type 0 where
+  pub modulo : (a b c : Substitution) → IsInstance d vars a b → IsInstance d vars b c → IsInstance d vars a c
+  pub theory : (a b c : Substitution) → IsTheoryInstance d equations vars a b → IsTheoryInstance d equations vars b c → IsTheoryInstance d equations vars a c
+
+abbrev pub InstancesAreTransitive : Type 0
+InstancesAreTransitive = (d : Declarations) (equations : Equations) (vars : List Var) → InstancesChain d equations vars
+
+-- a complete set of unifiers of which none is an instance of another is a shortest one
+abbrev pub CompleteSetsThatAreApartAreShortest : Type 0
+CompleteSetsThatAreApartAreShortest =
+    (d : Declarations) (problem : Problem) (vars : List Var) (set : List Substitution) →
+    IsCompleteSet (IsUnifier d problem) (IsInstance d vars) set → IsApart (IsUnifier d problem) (IsInstance d vars) set →
+    IsShortest (IsUnifier d problem) (IsInstance d vars) set

@@ -6,6 +6,8 @@ ghost use Rattle.fvn_terms.specs.Laws.{
   WhatFollowsAUnifierIsAUnifier,
   FreeTermsAreEqual,
   TheoryEqualityIsLawful,
+  InstancesAreTransitive,
+  CompleteSetsThatAreApartAreShortest,
 };
 
 use crate::declarations::Declarations;
@@ -40,6 +42,16 @@ pub fn free_terms_are_equal()
 /// Equality in the theory of equations has the same laws, and contains equality modulo the axioms.
 pub fn theory_equality_is_lawful()
     ensures { TheoryEqualityIsLawful }
+{}
+
+/// An instance of an instance is an instance.
+pub fn instances_are_transitive()
+    ensures { InstancesAreTransitive }
+{}
+
+/// A complete set of unifiers of which none is an instance of another has as few members as any complete set.
+pub fn complete_sets_that_are_apart_are_shortest()
+    ensures { CompleteSetsThatAreApartAreShortest }
 {}
 
 fn shared<T: Send + Sync>(_value: &T) {}

@@ -1,8 +1,9 @@
 -- The points with which a row is searched.
 use Rattle.std.specs.Prelude.{◌≡◌, ◌≢◌, ℕ, ◌*◌, ◌<◌, ◌≤◌, ◌⊎◌, ℤ, pos, List, length, map, replicate, slice_index_or, slice_set, unsigned_abs, All, Contains}
+use Rattle.fvn_base.specs.declared.limits.TheConstants.{COLUMNS, COMPONENT}
 use Rattle.smallvec.specs.SmallVec.{SmallVec}
 use Rattle.fvn_lindio.specs.Systems.{IsUnused}
-use Rattle.fvn_lindio.specs.Search.{IsValue}
+use Rattle.fvn_lindio.specs.inner.Search.{IsValue}
 use Rattle.fvn_lindio.specs.declared.level.Point.{Point}
 
 -- the vectors that the search keeps
@@ -12,13 +13,13 @@ vectors_in known = map (λ v. v.items) known
 -- a row of so many columns that the system allows
 pub record IsRow (columns : ℕ) (row : List ℤ) : Type 0 where
   pub sized : length row ≡ columns
-  pub few : columns ≤ 1000
-  pub bounded : All (λ c. unsigned_abs c ≤ 65535) row
+  pub few : columns ≤ COLUMNS
+  pub bounded : All (λ c. unsigned_abs c ≤ COMPONENT) row
 
 -- the value is that of the row, and no further from zero than it can be
 pub record IsValued (row : List ℤ) (p : Point) : Type 0 where
   pub exact : IsValue row p.parts.items p.value
-  pub bounded : unsigned_abs p.value ≤ 1000 * 65535 * 65535
+  pub bounded : unsigned_abs p.value ≤ COLUMNS * COMPONENT * COMPONENT
 
 -- the points are exactly the vectors with the property, with their values
 pub record Values (row : List ℤ) (P : List ℕ → Type 0) (points : List Point) : Type 0 where

@@ -1,4 +1,4 @@
--- What the minimal solutions tell of all solutions.
+-- Laws of minimal solutions: what they tell of all solutions.
 use Rattle.std.specs.Prelude.{◌≡◌, ℕ, ◌*◌, ◌↔◌, ℤ, List, [], ◌∷◌, length, map, replicate, Contains}
 use Rattle.fvn_lindio.specs.Vectors.{IsAtOrBelow, IsNonZero, add}
 use Rattle.fvn_lindio.specs.Systems.{Solves, IsMinimal}

@@ -1,7 +1,8 @@
 -- How a level of the search grows, and what it need not look at any more.
 use Rattle.std.specs.Prelude.{◌≡◌, ◌≢◌, ℕ, ◌⊎◌, ℤ, pos, ◌+ℤ◌, ◌<◌, ◌≤◌, ◌^◌, List, [], ◌∷◌, ◌++◌, length, All, AllPairs, Contains}
+use Rattle.fvn_base.specs.declared.limits.TheConstants.{COMPONENT}
 use Rattle.fvn_lindio.specs.Vectors.{IsAtOrBelow, IsNonZero, add}
-use Rattle.fvn_lindio.specs.Search.{IsOpposite, IsValue, Lies}
+use Rattle.fvn_lindio.specs.inner.Search.{IsOpposite, IsValue, Lies}
 use Rattle.fvn_lindio.specs.declared.level.Point.{Point}
 use Rattle.fvn_lindio.specs.declared.level.Level.{Level}
 
@@ -59,6 +60,7 @@ abbrev pub CoversSteps : List Point → Point → Level → Type 0
 CoversSteps generators x level =
     (g : Point) → Contains generators g → IsOpposite x.value g.value → IsCovered level (add x.parts.items g.parts.items)
 
+-- every step from one of these is covered
 abbrev pub CoversStepsFrom : List Point → List Point → Level → Type 0
 CoversStepsFrom generators points level = (x : Point) → Contains points x → CoversSteps generators x level
 
@@ -72,5 +74,5 @@ module _ (columns : ℕ) (before : List (List ℤ)) (row : List ℤ) where
   -- such vectors with small components, of which one is at or below each vector of the kind
   pub record Generates (generators : List Point) : Type 0 where
     pub points : (g : Point) → Contains generators g → IsPoint g
-    pub narrow : (g : Point) → Contains generators g → All (λ a. a ≤ 65535) g.parts.items
+    pub narrow : (g : Point) → Contains generators g → All (λ a. a ≤ COMPONENT) g.parts.items
     pub under : (z : List ℕ) → Lies columns before (before ++ row ∷ []) z → IsNonZero z → (g : Point) × Contains generators g × IsAtOrBelow g.parts.items z

@@ -1,6 +1,7 @@
 -- The least of some vectors, and a vector's place in an ordered list.
 use Rattle.std.specs.Prelude.{◌≡◌, ◌≢◌, ℕ, ◌<◌, ◌≤◌, List, length, slice_index_or, Contains}
-use Rattle.fvn_lindio.specs.Vectors.{IsAtOrBelow, IsBefore}
+use Rattle.fvn_lindio.specs.Vectors.{IsAtOrBelow}
+use Rattle.fvn_base.specs.Order.{IsBefore}
 use Rattle.fvn_lindio.specs.declared.level.Point.{Point}
 
 -- one of the points is at or below the vector, and not the vector itself
