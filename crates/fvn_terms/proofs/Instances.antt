@@ -25,8 +25,8 @@ module _ (d : Declarations) (vars : List Var) where
       after = followed_by g.after h.after;
       well_sorted = IsWellSorted-followed_by d g.after h.after g.well_sorted h.well_sorted;
       equal = λ x m.
-        let whole = joins (a x) (apply h.after (b x)) (apply h.after (apply g.after (c x))) (h.equal x m) (kept h.after h.well_sorted (b x) (apply g.after (c x)) (g.equal x m)) in
-        subst (E (a x)) (apply-apply g.after h.after (c x)) whole;
+          let whole = joins (a x) (apply h.after (b x)) (apply h.after (apply g.after (c x))) (h.equal x m) (kept h.after h.well_sorted (b x) (apply g.after (c x)) (g.equal x m)) in
+          subst (E (a x)) (apply-apply g.after h.after (c x)) whole;
     }
 
   pub IsInstance-trans : (a b c : Substitution) → IsInstance d vars a b → IsInstance d vars b c → IsInstance d vars a c

@@ -66,6 +66,7 @@ pub record InstancesChain (d : Declarations) (equations : Equations) (vars : Lis
   pub modulo : (a b c : Substitution) → IsInstance d vars a b → IsInstance d vars b c → IsInstance d vars a c
   pub theory : (a b c : Substitution) → IsTheoryInstance d equations vars a b → IsTheoryInstance d equations vars b c → IsTheoryInstance d equations vars a c
 
+-- for every signature, theory and list of variables
 abbrev pub InstancesAreTransitive : Type 0
 InstancesAreTransitive = (d : Declarations) (equations : Equations) (vars : List Var) → InstancesChain d equations vars
 
