@@ -21,17 +21,17 @@ use Rattle.fvn_flat.specs.SolvedLists.{Part, members, unfolded}
 use Rattle.fvn_flat.specs.FlatPlaces.{IsReplaced, here, inside, first, later}
 use Rattle.fvn_flat.specs.Rules.{IsIdentity}
 
-abbrev op : ℕ → OpId
+abbrev pub op : ℕ → OpId
 op n = record { 0 = n }
 
-abbrev s : SortId
+abbrev pub s : SortId
 s = record { 0 = 0 }
 
-abbrev binary : List Rank
+abbrev pub binary : List Rank
 binary = record { args = s ∷ s ∷ []; result = s } ∷ []
 
 -- one sort and its kind; plus and times, both with the identity zero; union without one; the constants zero and one; a free pair
-abbrev numbers : Declarations
+abbrev pub numbers : Declarations
 numbers = record {
   sorts = 1;
   kinds = record { 0 = 1 } ∷ record { 0 = 1 } ∷ [];
@@ -46,25 +46,25 @@ numbers = record {
       ∷ [];
 }
 
-abbrev variable : ℕ → Var
+abbrev pub variable : ℕ → Var
 variable n = record { name = n; sort = s; fresh = false }
 
-abbrev x : ℕ → Term
+abbrev pub x : ℕ → Term
 x n = var (variable n)
 
-abbrev plus : Term → Term → Term
+abbrev pub plus : Term → Term → Term
 plus = two (op 0)
 
 abbrev times : Term → Term → Term
 times = two (op 1)
 
-abbrev union : Term → Term → Term
+abbrev pub union : Term → Term → Term
 union = two (op 2)
 
 abbrev zero_ : Term
 zero_ = constant (op 3)
 
-abbrev one_ : Term
+abbrev pub one_ : Term
 one_ = constant (op 4)
 
 -- A row with five against five: the sum of x0 to x4 is that of x5 to x9.
@@ -81,13 +81,13 @@ of_five (app f (more (app g us) ts)) = 0
 abbrev columns_of_five : List ℕ
 columns_of_five = 0 ∷ 1 ∷ 2 ∷ 3 ∷ 4 ∷ 5 ∷ 6 ∷ 7 ∷ 8 ∷ 9 ∷ 10 ∷ 11 ∷ 12 ∷ 13 ∷ 16 ∷ 17 ∷ 18 ∷ []
 
-abbrev o : ℤ
+abbrev pub o : ℤ
 o = pos 0
 
-abbrev i : ℤ
+abbrev pub i : ℤ
 i = pos 1
 
-abbrev m : ℤ
+abbrev pub m : ℤ
 m = negsuc 0
 
 -- its rows; 25 minimal solutions, one for each pair of a variable of the left side and one of the right
@@ -111,10 +111,10 @@ sums_stand_once : sums_of (op 2) doubled ≡ union (union (x 0) (x 1)) (union (x
 sums_stand_once = refl
 
 -- An unused column: x0 is plus(x0, x1), so that the two sides are one class and cancel in the row.
-abbrev absorbed : Problem
+abbrev pub absorbed : Problem
 absorbed = (x 0, plus (x 0) (x 1)) ∷ []
 
-abbrev of_absorbed : Term → ℕ
+abbrev pub of_absorbed : Term → ℕ
 of_absorbed (var y) = y.name
 of_absorbed (app f none) = 2
 of_absorbed (app f (more t ts)) = 0

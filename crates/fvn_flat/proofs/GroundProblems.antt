@@ -1,6 +1,7 @@
 -- Problems without variables: each has the empty substitution as its one unifier, or none.
-use Rattle.std.proofs.Common.{◌≡◌, ◌≢◌, ◌⊎◌, ℕ, zero, suc, ◌<◌, List, [], ◌∷◌, ◌++◌, length, get_or, map, refl, sym, ap, ◌∙◌, subst, inl, inr, arith, lit<}
-use Rattle.std.specs.Prelude.{◌↔◌, All, AllPairs, Any, Contains, Some}
+use Rattle.std.proofs.Common.{◌≡◌, ◌≢◌, ◌⊎◌, ℕ, zero, suc, ◌<◌, List, [], ◌∷◌, ◌++◌, length, get_or, take, map, ◌≤◌, Bool, true, false, if◌then◌else◌, refl, sym, ap, ◌∙◌, subst, inl, inr, arith, lit<}
+use Rattle.std.specs.Prelude.{◌↔◌, IsTrue, IsFalse, All, AllPairs, Any, Contains, Some}
+use Rattle.std.proofs.lemmas.List.{take_all}
 use Rattle.std.proofs.lemmas.List.Elements.{All-nil, All-cons, All-head, All-tail, Contains-append_cases}
 use Rattle.fvn_terms.specs.declared.plain.Var.{Var}
 use Rattle.fvn_terms.specs.declared.declarations.Declarations.{Declarations}
@@ -15,7 +16,7 @@ use Rattle.fvn_terms.proofs.Substitutions.{apply-var, apply-agree}
 use Rattle.fvn_forms.specs.Flat.{FlatTerm, fvar, plain}
 use Rattle.fvn_forms.proofs.Eval.{canon_respects, canon_plain}
 use Rattle.fvn_terms.specs.CompleteSets.{IsCompleteSet, IsApart}
-use Rattle.fvn_flat.specs.Bindings.{Bindings, bound, value, BindingsFit}
+use Rattle.fvn_flat.specs.Bindings.{Bindings, bound, value, BindsOnce, BindingsFit}
 use Rattle.fvn_flat.specs.Fits.{Fits}
 use Rattle.fvn_flat.specs.Problems.{IsGround, variables, variables_of, plain_pairs}
 use Rattle.fvn_flat.specs.FlatLaws.{IsCompleteFor, IsApartFor}
@@ -24,6 +25,12 @@ use Rattle.fvn_flat.proofs.VariablesKept.{variables_occur}
 
 abbrev pub AreGround : FlatTerm × FlatTerm → Type 0
 AreGround p = IsGround (plain p.0) × IsGround (plain p.1)
+
+abbrev pub Same : FlatTerm × FlatTerm → Type 0
+Same p = p.0 ≡ p.1
+
+abbrev pub Differ : FlatTerm × FlatTerm → Type 0
+Differ p = p.0 ≢ p.1
 
 ground_stays : (u : Substitution) (t : Term) → IsGround t → apply u t ≡ t
 ground_stays u t g = apply-agree u var t (λ x o. absurd (g x o)) ∙ apply-var t
@@ -41,14 +48,8 @@ no_variables (p ∷ pairs) g x c =
     ]
 
 module _ (d : Declarations) where
-  abbrev Fit : FlatTerm × FlatTerm → Type 0
+  abbrev pub Fit : FlatTerm × FlatTerm → Type 0
   Fit p = Fits d p.0 × Fits d p.1
-
-  abbrev Same : FlatTerm × FlatTerm → Type 0
-  Same p = p.0 ≡ p.1
-
-  abbrev Differ : FlatTerm × FlatTerm → Type 0
-  Differ p = p.0 ≢ p.1
 
   pub nothing_is_well_sorted : IsWellSorted d (substitution [])
   nothing_is_well_sorted = (λ x i. (i, refl), λ x. record { form = var x; equal = stop; gets = record { sort = x.sort; gets = refl; below = same } })
@@ -74,6 +75,10 @@ module _ (d : Declarations) where
     differ_unsolved (p ∷ pairs) g f (suc k, q, l, e, n) h =
         differ_unsolved pairs (All-tail AreGround p pairs g) (All-tail Fit p pairs f) (k, q, omega (arith, l), e, n) (All-tail Unified (plain p.0, plain p.1) (plain_pairs pairs) h)
 
+  -- the empty substitution, or none
+  abbrev pub answer : Bool → List Bindings
+  answer wanted = if wanted then [] ∷ [] else []
+
   module _ (pairs : FlatPairs) (ground : All AreGround pairs) where
     pub same_complete : All Same pairs → IsCompleteFor d (plain_pairs pairs) (substitution [] ∷ [])
     same_complete h = record {
@@ -96,8 +101,32 @@ module _ (d : Declarations) where
     pub numbers_nothing : (first next : ℕ) → IsNumbered first next (plain_pairs pairs) []
     numbers_nothing first next x y c o = absurd (no_variables pairs ground x c)
 
-pub alone_apart : {A : Type 0} (R : A → A → Type 0) (a : A) → AllPairs R (a ∷ [])
-alone_apart R a i j x l m = absurd (omega (arith, l, m))
+    abbrev IsOne : Bindings → Type 0
+    IsOne s = IsUnifier d (plain_pairs pairs) (substitution s)
 
-pub none_apart : {A : Type 0} (R : A → A → Type 0) → AllPairs R []
-none_apart R i j x l m = absurd (omega (arith, m))
+    pub answer_sound : (b : Bool) → (IsTrue b → All Same pairs) → All IsOne (answer b)
+    answer_sound true h = All-cons IsOne [] [] (nothing_is_well_sorted, same_unified (substitution []) pairs (h tt)) (All-nil IsOne)
+    answer_sound false h = All-nil IsOne
+
+    abbrev IsBinding : Bindings → Type 0
+    IsBinding s = Binds (plain_pairs pairs) s × BindsOnce s × BindingsFit d s
+
+    pub answer_binds : (b : Bool) → All IsBinding (answer b)
+    answer_binds true = All-cons IsBinding [] [] (binds_nothing, tt, fits_nothing) (All-nil IsBinding)
+    answer_binds false = All-nil IsBinding
+
+    pub answer_fresh : (first next : ℕ) (b : Bool) → All (IsNumbered first next (plain_pairs pairs)) (answer b)
+    answer_fresh first next true = let P : Bindings → Type 0 = IsNumbered first next (plain_pairs pairs) in All-cons P [] [] (numbers_nothing first next) (All-nil P)
+    answer_fresh first next false = All-nil (IsNumbered first next (plain_pairs pairs))
+
+    pub answer_apart : (b : Bool) → IsApartFor d (plain_pairs pairs) (map substitution (answer b))
+    answer_apart true i j x l m = absurd (omega (arith, l, m))
+    answer_apart false i j x l m = absurd (omega (arith, m))
+
+    pub answer_complete : All Fit pairs → (b : Bool) → (IsTrue b → All Same pairs) → (IsFalse b → Any Differ pairs) → IsCompleteFor d (plain_pairs pairs) (map substitution (answer b))
+    answer_complete f true h n = same_complete (h tt)
+    answer_complete f false h n = differ_complete f (n tt)
+
+-- what holds of the first elements, all of them
+pub all_taken : {A : Type 0} (P : A → Type 0) (xs : List A) (i : ℕ) → length xs ≤ i → All P (take i xs) → All P xs
+all_taken P xs i done h = subst (All P) (take_all i xs done) h

@@ -8,3 +8,6 @@ pub mod VariablesKept
 pub mod OneAnswer
 mod GroundProblems
 pub mod Examples
+mod ExampleLists
+mod ExampleSystems
+mod ExampleSums

@@ -16,7 +16,7 @@ use Rattle.fvn_terms.proofs.Equal.{BEqual-sym, BEqual-trans, BEqual-apply}
 use Rattle.fvn_forms.specs.FitsKinds.{FitsKinds}
 use Rattle.fvn_forms.proofs.ToCanon.{to_canon}
 use Rattle.fvn_flat.specs.Problems.{variables, variables_of, IsProblem, plain_pairs, flat_pairs, ArePairsEqual}
-use Rattle.fvn_flat.specs.FlatLaws.{IsCompleteFor, IsApartFor, HaveOneAnswer, EqualPairsHaveOneAnswer, FlattenedPairsHaveOneAnswer}
+use Rattle.fvn_flat.specs.FlatLaws.{IsCompleteFor, IsApartFor, IsShortestFor, HaveOneAnswer, EqualPairsHaveOneAnswer, FlattenedPairsHaveOneAnswer}
 use Rattle.fvn_flat.proofs.VariablesKept.{Occurs-BEqual, variables_list, variables_occur}
 
 abbrev Pair : Type 0
@@ -76,6 +76,9 @@ module _ (d : Declarations) where
   apart_along ps qs e set h i j s l m = let back = instance_along qs ps (turn ps qs e) in let a = h i j s l m in
       ((λ w. a.0 (back (get_or set i s) (get_or set j s) w)), (λ w. a.1 (back (get_or set j s) (get_or set i s) w)))
 
+  shortest_along : (ps qs : Problem) → ArePairsEqual d ps qs → (set : List Substitution) → IsShortestFor d ps set → IsShortestFor d qs set
+  shortest_along ps qs e set h others c = h others (complete_along qs ps (turn ps qs e) others c)
+
   one_answer : (problem other : Problem) → ArePairsEqual d problem other → HaveOneAnswer d problem other
   one_answer ps qs e = let b = turn ps qs e in record {
     variables = λ x. (variables_along x ps qs e, variables_along x qs ps b);
@@ -83,6 +86,7 @@ module _ (d : Declarations) where
     instances = λ s c. (instance_along ps qs e s c, instance_along qs ps b s c);
     complete = λ set. (complete_along ps qs e set, complete_along qs ps b set);
     apart = λ set. (apart_along ps qs e set, apart_along qs ps b set);
+    shortest = λ set. (shortest_along ps qs e set, shortest_along qs ps b set);
   }
 
   module _ (fits : FitsKinds d) where

@@ -4,17 +4,21 @@ use Rattle.fvn_terms.specs.declared.plain.Var.{Var}
 use Rattle.fvn_terms.specs.declared.declarations.Declarations.{Declarations}
 use Rattle.fvn_terms.specs.Substitution.{Substitution}
 use Rattle.fvn_terms.specs.Unifiers.{Problem, IsUnifier, IsInstance}
-use Rattle.fvn_terms.specs.CompleteSets.{IsCompleteSet, IsApart}
+use Rattle.fvn_terms.specs.CompleteSets.{IsCompleteSet, IsApart, IsShortest}
 use Rattle.fvn_forms.specs.FitsKinds.{FitsKinds}
 use Rattle.fvn_flat.specs.Problems.{variables_of, IsProblem, plain_pairs, flat_pairs, ArePairsEqual}
 
--- s and its like are unifiers of the problem, of which every unifier is an instance on the problem's variables
+-- these are unifiers of the problem, and every unifier is an instance of one of them on the problem's variables
 abbrev pub IsCompleteFor : Declarations → Problem → List Substitution → Type 0
 IsCompleteFor d problem = IsCompleteSet (IsUnifier d problem) (IsInstance d (variables_of problem))
 
 -- none is an instance of another on the problem's variables
 abbrev pub IsApartFor : Declarations → Problem → List Substitution → Type 0
 IsApartFor d problem = IsApart (IsUnifier d problem) (IsInstance d (variables_of problem))
+
+-- no complete set of unifiers has fewer members
+abbrev pub IsShortestFor : Declarations → Problem → List Substitution → Type 0
+IsShortestFor d problem = IsShortest (IsUnifier d problem) (IsInstance d (variables_of problem))
 
 -- the same substitutions answer both problems
 pub record HaveOneAnswer (d : Declarations) (problem other : Problem) : Type 0 where
@@ -23,6 +27,7 @@ pub record HaveOneAnswer (d : Declarations) (problem other : Problem) : Type 0 w
   pub instances : (a b : Substitution) → IsInstance d (variables_of problem) a b ↔ IsInstance d (variables_of other) a b
   pub complete : (set : List Substitution) → IsCompleteFor d problem set ↔ IsCompleteFor d other set
   pub apart : (set : List Substitution) → IsApartFor d problem set ↔ IsApartFor d other set
+  pub shortest : (set : List Substitution) → IsShortestFor d problem set ↔ IsShortestFor d other set
 
 -- problems whose pairs are equal modulo the axioms have one answer
 abbrev pub EqualPairsHaveOneAnswer : Type 0

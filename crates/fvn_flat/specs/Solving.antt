@@ -12,7 +12,7 @@ use Rattle.fvn_forms.specs.Canon.{canon}
 use Rattle.fvn_lindio.specs.declared.system.System.{System}
 use Rattle.fvn_lindio.specs.Systems.{rows_of}
 use Rattle.fvn_lindio.specs.Refusals.{IsTooMany, IsTooWide}
-use Rattle.fvn_flat.specs.Bindings.{Bindings, bound, value, BindingsFit}
+use Rattle.fvn_flat.specs.Bindings.{Bindings, bound, value, BindsOnce, BindingsFit}
 use Rattle.fvn_flat.specs.Fits.{Fits}
 use Rattle.fvn_flat.specs.Problems.{variables_of, plain_pairs, IsProblem}
 use Rattle.fvn_flat.specs.Partitions.{IsPartition}
@@ -71,9 +71,9 @@ module _ (d : Declarations) (given : Pairs) where
   abbrev pub AreDrawn : (Problem → Substitution → Type 0) → Solved → Type 0
   AreDrawn drawn r = All (λ s. drawn (problem_of given) (substitution s)) r.unifiers
 
-  -- each binds just the problem's variables, to flat forms of their kinds
+  -- each binds just the problem's variables, each once, to flat forms of their kinds
   abbrev pub AreBindings : Solved → Type 0
-  AreBindings r = All (λ s. Binds (problem_of given) s × BindingsFit d s) r.unifiers
+  AreBindings r = All (λ s. Binds (problem_of given) s × BindsOnce s × BindingsFit d s) r.unifiers
 
   -- their variables are new, with numbers from the first to below the next
   abbrev pub AreNumbered : ℕ → Solved → Type 0

@@ -9,7 +9,7 @@ use Rattle.fvn_terms.specs.Unifiers.{Problem, IsUnifier}
 use Rattle.fvn_terms.specs.Theory.{Equations}
 use Rattle.fvn_forms.specs.Flat.{FlatTerm, fvar, plain}
 use Rattle.fvn_forms.specs.Canon.{canon}
-use Rattle.fvn_flat.specs.Problems.{variables_of}
+use Rattle.fvn_flat.specs.Problems.{variables_of, plain_pairs, flat_pairs}
 use Rattle.fvn_flat.specs.Drawn.{OccursInValues, Renaming, renamed, IsOneToOne}
 use Rattle.fvn_flat.specs.Rules.{IsRuleOf}
 use Rattle.fvn_flat.specs.FlatPlaces.{IsReplaced}
@@ -32,14 +32,14 @@ module _ (d : Declarations) where
   abbrev pub renamed_form : Renaming → FlatTerm → FlatTerm
   renamed_form r t = canon d (renamed r (plain t))
 
-  -- s is what a solver may draw for the problem, up to a renaming of the problem before and one of the values after
+  -- s is what a solver may draw for the problem, renamed before and flat again, its values renamed after
   pub record IsDrawnUpToRenaming (drawn : Problem → Substitution → Type 0) (problem : Problem) (s : Substitution) : Type 0 where
     pub before : Renaming
     pub after : Renaming
     pub draw : Substitution
     pub renames_problem : IsRenaming (Contains (variables_of problem)) before
     pub renames_values : IsRenaming (OccursInValues (variables_of (renamed_problem before problem)) draw) after
-    pub is_drawn : drawn (renamed_problem before problem) draw
+    pub is_drawn : drawn (plain_pairs (flat_pairs d (renamed_problem before problem))) draw
     pub equal : (x : Var) → Contains (variables_of problem) x → BEqual d (s x) (renamed after (draw (before x)))
 
   module _ (vars : List Var) where

@@ -3,3 +3,4 @@ pub mod Weight
 pub mod Node
 pub mod Falls
 pub mod Own
+pub mod FlatCode

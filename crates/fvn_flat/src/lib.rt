@@ -2,17 +2,17 @@
 #![tactic(auto)]
 
 mod flat;
+#[cfg(test)]
+mod ground_solver;
+mod laws;
 mod order;
+mod solver;
 mod substitution;
 
-mod laws;
-mod solver;
-
 pub use flat::Flat;
-pub use substitution::Subst;
-
 pub use laws::{equal_pairs_have_one_answer, flattened_pairs_have_one_answer};
 pub use solver::{
     AxiomSolver, LAST_FIRST_FRESH, LAST_NEXT_FRESH, Normal, Pairs, SizeCause, SolveEnd, Solved,
     SolvedList,
 };
+pub use substitution::Subst;

@@ -91,12 +91,7 @@ pub trait AxiomSolver: Sync {
     ghost drawn: { Self → Problem → Substitution → Type 0 };
 
     /// Unifiers of the problem over fresh variables with numbers from `first_fresh` on.
-    fn solve(
-        &self,
-        alloc: Global,
-        problem: &Pairs,
-        first_fresh: u32,
-    ) -> Result<Solved, NoMemory>
+    fn solve(&self, alloc: Global, problem: &Pairs, first_fresh: u32) -> Result<Solved, NoMemory>
         requires { IsGiven (signature self.now) problem.now first_fresh }
 
         // Each unifier given is one, may be drawn, and binds just the problem's variables, over new ones.
@@ -104,8 +99,8 @@ pub trait AxiomSolver: Sync {
         ensures drawn { IfOk result (AreDrawn (signature self.now) problem.now (drawn self.now)) }
         ensures binds { IfOk result (AreBindings (signature self.now) problem.now) }
         ensures fresh { IfOk result (AreNumbered (signature self.now) problem.now first_fresh) }
-        ensures from { IfOk result (λ r. first_fresh ≤ r.next_fresh) }
-        ensures numbers { IfOk result (λ r. r.next_fresh ≤ LAST_NEXT_FRESH) }
+        ensures next { IfOk result (λ r. first_fresh ≤ r.next_fresh) }
+        ensures bounded { IfOk result (λ r. r.next_fresh ≤ LAST_NEXT_FRESH) }
 
         // None is an instance of another; where the solver says so, they are complete.
         ensures apart { IfOk result (AreApart (signature self.now) problem.now) }
