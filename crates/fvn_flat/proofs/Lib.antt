@@ -3,7 +3,15 @@ mod Symbols
 mod Occurrences
 mod Comparisons
 mod Views
+mod SortedLists
+mod Summands
+mod Nesting
+mod Evaluation
 pub mod Fitting
+pub mod Rebuilding
+mod Instances
+mod Binding
+mod SortsOfFlats
 pub mod VariablesKept
 pub mod OneAnswer
 mod GroundProblems

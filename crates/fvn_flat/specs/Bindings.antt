@@ -1,10 +1,11 @@
 -- Substitutions of flat forms, as lists of pairs.
-use Rattle.std.specs.Prelude.{◌≡◌, Bool, if◌then◌else◌, List, [], ◌∷◌, Option, Some, None}
-use Rattle.std.specs.List.{AllByRecursion}
+use Rattle.std.specs.Prelude.{◌≡◌, Bool, not, if◌then◌else◌, List, [], ◌∷◌, ◌++◌, map, filter, Contains, Option, Some, None, is_some}
 use Rattle.fvn_terms.specs.declared.plain.Var.{Var}
 use Rattle.fvn_terms.specs.declared.declarations.Declarations.{Declarations}
 use Rattle.fvn_terms.specs.Substitution.{same_var}
 use Rattle.fvn_forms.specs.Flat.{FlatTerm, fvar}
+use Rattle.fvn_forms.specs.Canon.{inst}
+use Rattle.fvn_forms.specs.Settled.{Settled}
 use Rattle.fvn_forms.specs.LeastSort.{IsFlatSubstitution}
 
 abbrev pub Bindings : Type 0
@@ -31,3 +32,16 @@ BindsOnce (p ∷ s) = (bound s p.0 ≡ None) × BindsOnce s
 -- each variable is bound to a form that is flat in the signature, and of the variable's kind
 abbrev pub BindingsFit : Declarations → Bindings → Type 0
 BindingsFit d s = IsFlatSubstitution d (value s)
+
+-- the pairs of s with c applied to their terms, and then those of c for other variables
+abbrev pub composed : Declarations → Bindings → Bindings → Bindings
+composed d s c = map (λ p. (p.0, inst d (value c) p.1)) s ++ filter (λ p. not (is_some (bound s p.0))) c
+
+-- r is s and then c, on each variable
+abbrev pub IsOneThenOther : Declarations → Bindings → Bindings → Bindings → Type 0
+IsOneThenOther d s c r = (t : FlatTerm) → inst d (value r) t ≡ inst d (value c) (inst d (value s) t)
+
+-- r has the pairs of s for the listed variables, and no others
+pub record IsRestriction (vars : List Var) (s r : Bindings) : Type 0 where
+  pub kept : (x : Var) → Contains vars x → bound r x ≡ bound s x
+  pub others : (x : Var) → (Contains vars x → ⊥) → bound r x ≡ None

@@ -1,5 +1,5 @@
 -- What calls with a signature ask of flat forms: that they are flat in it, and well-kinded.
-use Rattle.std.specs.Prelude.{◌≡◌, ◌≤◌, List, length, map, Contains}
+use Rattle.std.specs.Prelude.{◌≡◌, ◌≤◌, ◌↔◌, List, length, map, Contains}
 use Rattle.std.specs.List.{AllByRecursion}
 use Rattle.fvn_terms.specs.declared.plain.OpId.{OpId}
 use Rattle.fvn_terms.specs.declared.plain.SortId.{SortId}
@@ -8,6 +8,7 @@ use Rattle.fvn_terms.specs.declared.declarations.Axioms.TheVariants.{Free, Comm,
 use Rattle.fvn_terms.specs.declared.declarations.Rank.{Rank}
 use Rattle.fvn_terms.specs.declared.declarations.Declarations.{Declarations}
 use Rattle.fvn_terms.specs.Signature.{kind, declared, axioms, HasKind, HaveKinds, IsTerm}
+use Rattle.fvn_terms.specs.Equality.{BEqual}
 use Rattle.fvn_forms.specs.Flat.{FlatTerm, fpack, plain, plain_all}
 use Rattle.fvn_forms.specs.Settled.{Settled}
 use Rattle.fvn_forms.specs.FitsKinds.{FitsKinds}
@@ -43,3 +44,7 @@ module _ (d : Declarations) where
 -- in each signature in which the form fits, these fit
 abbrev pub FitWhere : FlatTerm → List FlatTerm → Type 0
 FitWhere t us = (d : Declarations) → FitsKinds d → Fits d t → AllFit d us
+
+-- in each signature in which both forms fit, the fact holds exactly where they are equal modulo the axioms
+abbrev pub IsEqualWhereBothFit : FlatTerm → FlatTerm → Type 0 → Type 0
+IsEqualWhereBothFit t u P = (d : Declarations) → FitsKinds d → Fits d t → Fits d u → P ↔ BEqual d (plain t) (plain u)
