@@ -177,7 +177,7 @@ class Source:
 
     def __init__(self, path):
         self.head = ""
-        self.types, self.calls, self.methods, self.uses, self.mods = [], [], [], [], []
+        self.types, self.constants, self.calls, self.methods, self.uses, self.mods = [], [], [], [], [], []
         text = read(path)
         self.words = {w: d[2] for w, d in imports_of(text).items() if d[0] != "std" and is_defined(d[1])}
         found = re.match(r"//! ?(.*)", text)
@@ -242,7 +242,11 @@ class Source:
                     self.mods.append((name, public, shown))
                 at = stop + 1
             elif word in ("const", "static", "type"):
-                at = text.index(";", at) + 1
+                end_of_item = text.index(";", at)
+                if shown and public and owner is None and word == "const":
+                    value = text[at:end_of_item].partition("=")[2].strip()
+                    self.constants.append((name, value, words))
+                at = end_of_item + 1
             elif word in ("impl", "trait"):
                 start = text.index("{", at)
                 close = skip_braces(text, start)
@@ -299,6 +303,8 @@ class Crate:
         if is_public:
             for name, _ in source.types:
                 self.public.append((name, prefix + name))
+            for name, _, _ in source.constants:
+                self.public.append((name, prefix + name))
             for call in source.calls:
                 self.public.append((call.name, prefix + call.name))
             for use in source.uses:
@@ -328,6 +334,12 @@ class Crate:
             for name, doc in source.types:
                 if self.path_of(name):
                     yield self.path_of(name), doc
+
+    def constants(self):
+        for source in self.modules:
+            for name, value, doc in source.constants:
+                if self.path_of(name):
+                    yield self.path_of(name), value, doc
 
     def calls(self):
         """Public calls with their paths: laws last."""
@@ -527,6 +539,9 @@ def contracts():
         kinds = [[code(path), doc] for path, doc in crate.types()]
         if kinds:
             parts.append(table(["type", "is"], kinds))
+        numbers = [[code(path), value, doc] for path, value, doc in crate.constants()]
+        if numbers:
+            parts.append(table(["constant", "value", "is"], numbers))
         if crate.elsewhere:
             parts.append(
                 "Handed on: " + ", ".join(code(n) + " of " + code(c) for n, c in crate.elsewhere) + ".\n"
@@ -657,7 +672,8 @@ def hidden_files():
         page = read(page) if page.exists() else ""
         if path.exists():
             for found in re.finditer(r"^pub mod (\w+)", read(path), re.M):
-                if (name, found.group(1)) not in cited and found.group(1) + ".antt" not in page:
+                is_named = re.search(r"\b" + found.group(1) + r"(\.antt)?`", page)
+                if (name, found.group(1)) not in cited and not is_named:
                     yield str(path.relative_to(TOP)) + ": " + found.group(1) + " is public, and nothing asks for it"
 
 

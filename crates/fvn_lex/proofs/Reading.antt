@@ -1,5 +1,5 @@
 -- How the reading of a text goes on, byte by byte.
-use Rattle.std.proofs.Common.{◌≡◌, ℕ, ◌+◌, ◌<◌, List, [], ◌∷◌, ◌++◌, length, get_or, drop, take, ◌-◌, refl, ap, sym, append_assoc, add-one, Ok, Err, Some, None, map}
+use Rattle.std.proofs.Common.{◌≡◌, ℕ, ◌+◌, ◌<◌, List, [], ◌∷◌, ◌++◌, length, get_or, drop, take, ◌-◌, refl, ap, sym, append_assoc, Ok, Err, Some, None, map}
 use Rattle.std.proofs.Math.Seq.{drop-length}
 use Rattle.std.proofs.lemmas.List.{take_rest, get_or_default}
 use Rattle.fvn_base.proofs.Drops.{drop-at}

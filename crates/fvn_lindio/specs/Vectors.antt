@@ -1,5 +1,5 @@
 -- Vectors of numbers: a vector is the list of its components.
-use Rattle.std.specs.Prelude.{◌≡◌, ℕ, ◌+◌, ◌<◌, ◌≤◌, ◌⊎◌, List, [], ◌∷◌, sum}
+use Rattle.std.specs.Prelude.{ℕ, ◌+◌, ◌<◌, ◌≤◌, List, [], ◌∷◌, sum}
 use Rattle.std.specs.List.{AllZip}
 
 -- both have equally many components, and no component of x is above that of y

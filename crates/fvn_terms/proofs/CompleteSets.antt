@@ -1,5 +1,5 @@
 -- A set of solutions that is complete and apart is shortest.
-use Rattle.std.proofs.Common.{◌≡◌, ℕ, ◌<◌, ◌≤◌, ◌⊎◌, List, length, get_or, All, Any, sym, subst, inl, inr, ◌∙◌, arith}
+use Rattle.std.proofs.Common.{◌≡◌, ℕ, ◌<◌, ◌≤◌, List, length, get_or, sym, subst, inl, inr, ◌∙◌, arith}
 use Rattle.std.specs.List.{Contains}
 use Rattle.std.proofs.lemmas.Bool.{cases_order}
 use Rattle.std.proofs.lemmas.List.{get_or_default}
@@ -7,7 +7,7 @@ use Rattle.fvn_base.proofs.Pigeonhole.{length-le_numbered}
 use Rattle.fvn_terms.specs.CompleteSets.{IsCompleteSet, IsApart, IsShortest}
 
 module _ {A : Type 0} (IsSolution : A → Type 0) (IsInstanceOf : A → A → Type 0) (transitive : (a b c : A) → IsInstanceOf a b → IsInstanceOf b c → IsInstanceOf a c) where
-  module _ (set others : List A) (whole : IsCompleteSet IsSolution IsInstanceOf set) (apart : IsApart IsSolution IsInstanceOf set) (given : IsCompleteSet IsSolution IsInstanceOf others) where
+  module _ (set others : List A) (whole : IsCompleteSet IsSolution IsInstanceOf set) (apart : IsApart IsInstanceOf set) (given : IsCompleteSet IsSolution IsInstanceOf others) where
     -- x is an instance of the member of the other set with this number
     abbrev Under : A → ℕ → Type 0
     Under x k = (k < length others) × IsInstanceOf x (get_or others k x)
@@ -43,5 +43,5 @@ module _ {A : Type 0} (IsSolution : A → Type 0) (IsInstanceOf : A → A → Ty
     fewest : length set ≤ length others
     fewest = length-le_numbered Under (length others) set under none_shared
 
-  pub apart_and_complete_is_shortest : (set : List A) → IsCompleteSet IsSolution IsInstanceOf set → IsApart IsSolution IsInstanceOf set → IsShortest IsSolution IsInstanceOf set
+  pub apart_and_complete_is_shortest : (set : List A) → IsCompleteSet IsSolution IsInstanceOf set → IsApart IsInstanceOf set → IsShortest IsSolution IsInstanceOf set
   apart_and_complete_is_shortest set whole apart others given = fewest set others whole apart given

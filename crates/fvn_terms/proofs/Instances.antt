@@ -1,6 +1,5 @@
 -- An instance of an instance is an instance.
-use Rattle.std.proofs.Common.{◌≡◌, List, ap, ◌∙◌, subst}
-use Rattle.std.specs.List.{Contains}
+use Rattle.std.proofs.Common.{List, subst}
 use Rattle.fvn_terms.specs.declared.plain.Var.{Var}
 use Rattle.fvn_terms.specs.declared.declarations.Declarations.{Declarations}
 use Rattle.fvn_terms.specs.Term.{Term}
@@ -38,5 +37,5 @@ module _ (d : Declarations) (vars : List Var) where
     theory = IsInstanceUpTo-trans (TEqual d equations) (λ t u v. Leads-append) (λ s sorted t u. TEqual-apply d equations s sorted t u);
   }
 
-  pub shortest_unifiers : (problem : Problem) (set : List Substitution) → IsCompleteSet (IsUnifier d problem) (IsInstance d vars) set → IsApart (IsUnifier d problem) (IsInstance d vars) set → IsShortest (IsUnifier d problem) (IsInstance d vars) set
+  pub shortest_unifiers : (problem : Problem) (set : List Substitution) → IsCompleteSet (IsUnifier d problem) (IsInstance d vars) set → IsApart (IsInstance d vars) set → IsShortest (IsUnifier d problem) (IsInstance d vars) set
   shortest_unifiers problem = apart_and_complete_is_shortest (IsUnifier d problem) (IsInstance d vars) IsInstance-trans

@@ -9,3 +9,5 @@ mod Packs
 mod TheoryLaws
 pub mod CompleteSets
 pub mod Instances
+pub mod Rewriting
+pub mod Covering

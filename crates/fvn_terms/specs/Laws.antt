@@ -1,18 +1,21 @@
 -- Laws of the definitions.
-use Rattle.std.specs.Prelude.{◌≡◌, List}
+use Rattle.std.specs.Prelude.{◌≡◌, ◌+◌, ◌↔◌, ℕ, List, All}
 use Rattle.std.specs.List.{AllZip}
 use Rattle.fvn_terms.specs.declared.plain.OpId.{OpId}
 use Rattle.fvn_terms.specs.declared.plain.Var.{Var}
 use Rattle.fvn_terms.specs.declared.declarations.Axioms.TheVariants.{Free}
 use Rattle.fvn_terms.specs.declared.declarations.Declarations.{Declarations}
-use Rattle.fvn_terms.specs.Term.{Term, Terms, app, pack}
-use Rattle.fvn_terms.specs.Substitution.{Substitution, apply, followed_by}
+use Rattle.fvn_terms.specs.Term.{Term, app, pack}
+use Rattle.fvn_terms.specs.Substitution.{Substitution, apply, followed_by, Occurs}
 use Rattle.fvn_terms.specs.Signature.{axioms, KeepsKinds}
+use Rattle.fvn_terms.specs.Places.{AtOnePlace}
 use Rattle.fvn_terms.specs.Equality.{BEqual}
 use Rattle.fvn_terms.specs.Sorts.{IsWellSorted}
 use Rattle.fvn_terms.specs.Unifiers.{Problem, IsUnifier, IsInstance}
 use Rattle.fvn_terms.specs.Theory.{Equations, TEqual, IsTheoryUnifier, IsTheoryInstance}
 use Rattle.fvn_terms.specs.CompleteSets.{IsCompleteSet, IsApart, IsShortest}
+use Rattle.fvn_terms.specs.Rewriting.{Rewrites, TermSequence, IsIrreducible, IsIrreducibleList}
+use Rattle.fvn_terms.specs.Variants.{Covers}
 
 -- each term is related to itself, the other way round too, and along two steps
 pub record IsEquivalence (R : Term → Term → Type 0) : Type 0 where
@@ -66,7 +69,7 @@ pub record InstancesChain (d : Declarations) (equations : Equations) (vars : Lis
   pub modulo : (a b c : Substitution) → IsInstance d vars a b → IsInstance d vars b c → IsInstance d vars a c
   pub theory : (a b c : Substitution) → IsTheoryInstance d equations vars a b → IsTheoryInstance d equations vars b c → IsTheoryInstance d equations vars a c
 
--- for every signature, theory and list of variables
+-- instances of instances are instances
 abbrev pub InstancesAreTransitive : Type 0
 InstancesAreTransitive = (d : Declarations) (equations : Equations) (vars : List Var) → InstancesChain d equations vars
 
@@ -74,5 +77,37 @@ InstancesAreTransitive = (d : Declarations) (equations : Equations) (vars : List
 abbrev pub CompleteSetsThatAreApartAreShortest : Type 0
 CompleteSetsThatAreApartAreShortest =
     (d : Declarations) (problem : Problem) (vars : List Var) (set : List Substitution) →
-    IsCompleteSet (IsUnifier d problem) (IsInstance d vars) set → IsApart (IsUnifier d problem) (IsInstance d vars) set →
+    IsCompleteSet (IsUnifier d problem) (IsInstance d vars) set → IsApart (IsInstance d vars) set →
     IsShortest (IsUnifier d problem) (IsInstance d vars) set
+
+-- what is said of rewriting with some equations
+pub record RewritingLaws (d : Declarations) (equations : Equations) : Type 0 where
+  -- steps lead between classes of equal terms
+  pub modulo : (t v u w : Term) → BEqual d t v → Rewrites d equations t u → BEqual d u w → Rewrites d equations v w
+  -- a step of a subterm is a step of the term
+  pub inside : (t u : Term) → AtOnePlace (Rewrites d equations) t u → Rewrites d equations t u
+  -- instances of a step are steps
+  pub instances : (s : Substitution) → IsWellSorted d s → (t u : Term) → Rewrites d equations t u → Rewrites d equations (apply s t) (apply s u)
+  -- two sequences in a row are one
+  pub joined : (j k : ℕ) (t u v : Term) → TermSequence d equations j t u → TermSequence d equations k u v → TermSequence d equations (j + k) t v
+  -- from an irreducible term only the sequence without a step leads on
+  pub ended : (k : ℕ) (t u : Term) → IsIrreducible d equations t → TermSequence d equations k t u → (k ≡ 0) × BEqual d t u
+  -- what stands at a variable in an irreducible instance is irreducible
+  pub values : (s : Substitution) (t : Term) (x : Var) → Occurs x t → IsIrreducible d equations (apply s t) → IsIrreducible d equations (s x)
+  -- a sequence stays within the theory
+  pub theory : (k : ℕ) (t u : Term) → TermSequence d equations k t u → TEqual d equations t u
+  -- a list is irreducible where each member is
+  pub lists : (ts : List Term) → IsIrreducibleList d equations ts ↔ All (IsIrreducible d equations) ts
+
+-- rewriting modulo the axioms keeps to these laws, whatever the signature and the equations
+abbrev pub RewritingIsLawful : Type 0
+RewritingIsLawful = (d : Declarations) (equations : Equations) → RewritingLaws d equations
+
+-- covering is reflexive and transitive
+pub record CoveringIsAnOrder (d : Declarations) (vars : List Var) : Type 0 where
+  pub reflexive : (ts : List Term) (s : Substitution) → Covers d vars ts s ts s
+  pub transitive : (ts us vs : List Term) (s c e : Substitution) → Covers d vars ts s us c → Covers d vars us c vs e → Covers d vars ts s vs e
+
+-- for every signature and all variables
+abbrev pub CoveringIsReflexiveAndTransitive : Type 0
+CoveringIsReflexiveAndTransitive = (d : Declarations) (vars : List Var) → CoveringIsAnOrder d vars

@@ -9,6 +9,8 @@ pub mod Sorts
 pub mod Unifiers
 pub mod Theory
 pub mod CompleteSets
+pub mod Rewriting
+pub mod Variants
 pub mod Laws
 pub mod Falls
 pub mod inner

@@ -8,6 +8,8 @@ ghost use Rattle.fvn_terms.specs.Laws.{
   TheoryEqualityIsLawful,
   InstancesAreTransitive,
   CompleteSetsThatAreApartAreShortest,
+  RewritingIsLawful,
+  CoveringIsReflexiveAndTransitive,
 };
 
 use crate::declarations::Declarations;
@@ -52,6 +54,16 @@ pub fn instances_are_transitive()
 /// A complete set of unifiers of which none is an instance of another has as few members as any complete set.
 pub fn complete_sets_that_are_apart_are_shortest()
     ensures { CompleteSetsThatAreApartAreShortest }
+{}
+
+/// Rewriting modulo the axioms leads between classes of equal terms, inside terms and through instances.
+pub fn rewriting_is_lawful()
+    ensures { RewritingIsLawful }
+{}
+
+/// Covering is reflexive and transitive.
+pub fn covering_is_reflexive_and_transitive()
+    ensures { CoveringIsReflexiveAndTransitive }
 {}
 
 fn shared<T: Send + Sync>(_value: &T) {}

@@ -1,4 +1,4 @@
--- The law, from the lemma on instances.
+-- The law `complete_sets_that_are_apart_are_shortest`, by its lemma.
 use Rattle.fvn_terms.proofs.Instances.{shortest_unifiers}
 use Rattle.fvn_terms.proofs.laws.complete_sets_that_are_apart_are_shortest.Goals as goal
 

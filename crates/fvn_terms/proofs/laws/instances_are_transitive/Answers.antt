@@ -1,4 +1,4 @@
--- The law, from the lemma on instances.
+-- The law `instances_are_transitive`, by its lemma.
 use Rattle.fvn_terms.proofs.Instances.{instances_chain}
 use Rattle.fvn_terms.proofs.laws.instances_are_transitive.Goals as goal
 

@@ -4,7 +4,7 @@ use Rattle.fvn_terms.specs.Substitution.{Substitution, apply}
 use Rattle.fvn_terms.specs.Term.{Term}
 use Rattle.fvn_tool.specs.declared.free.table.Application.{Application}
 use Rattle.fvn_tool.specs.declared.free.table.Table.{Table}
-use Rattle.fvn_tool.specs.FreeTable.{count, subterm, over, IsAt}
+use Rattle.fvn_tool.specs.inner.FreeTable.{count, subterm, over, IsAt}
 
 -- the class of the subterm at i
 abbrev pub class_of : List ℕ → ℕ → ℕ

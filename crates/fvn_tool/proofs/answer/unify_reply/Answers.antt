@@ -1,7 +1,8 @@
+-- What `unify_reply` promises and requires, where the search does not find it.
 use Rattle.std.proofs.Common.{◌∙◌, ap, Err}
 use Rattle.fvn_tool.specs.Replies.{answered}
 use Rattle.fvn_tool.proofs.Answers.{no_module_reply, no_problem_reply}
-use Rattle.fvn_tool.proofs.answer.reply.Goals as goal
+use Rattle.fvn_tool.proofs.answer.unify_reply.Goals as goal
 
 pub returns-in-Err-NotOfForm : goal.returns-in-Err-NotOfForm
 returns-in-Err-NotOfForm c = no_module_reply _ _ _ _ c.fixed.ensures.status (c.read_module.ensures.not_of_form (c.in-Err-NotOfForm.is ∙ ap Err c.in-Err-NotOfForm.field-0-is)) c.fixed.ensures.text

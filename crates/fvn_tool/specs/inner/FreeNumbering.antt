@@ -7,6 +7,7 @@ use Rattle.fvn_terms.specs.Term.{Terms, var}
 use Rattle.fvn_terms.specs.Substitution.{Substitution, apply_all, same_var}
 use Rattle.fvn_tool.specs.Free.{fresh}
 
+-- whether the variable is in the list
 abbrev pub is_among : List Var → Var → Bool
 is_among [] x = false
 is_among (y ∷ ys) x = if same_var y x then true else is_among ys x
@@ -27,6 +28,7 @@ pub record GoesToVariable (s : Substitution) (x : Var) : Type 0 where
   pub is : s x ≡ var to
   pub sort : to.sort ≡ x.sort
 
+-- each variable goes to a variable of its sort
 abbrev pub IsRenaming : Substitution → Type 0
 IsRenaming s = (x : Var) → GoesToVariable s x
 

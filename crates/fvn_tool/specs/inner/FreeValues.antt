@@ -8,8 +8,8 @@ use Rattle.fvn_tool.specs.declared.free.table.Application.{Application}
 use Rattle.fvn_tool.specs.declared.free.table.Table.{Table}
 use Rattle.fvn_tool.specs.declared.free.values.Entry.{Entry}
 use Rattle.fvn_tool.specs.declared.free.values.Entry.TheVariants.{Unknown, Large, Small}
-use Rattle.fvn_tool.specs.FreeTable.{count, IsAt}
-use Rattle.fvn_tool.specs.FreeClasses.{class_of}
+use Rattle.fvn_tool.specs.inner.FreeTable.{count, IsAt}
+use Rattle.fvn_tool.specs.inner.FreeClasses.{class_of}
 
 module _ (t : Table) (cs : List ℕ) where
   -- no application is in the class c, which has the place of the variable x as its name
@@ -28,12 +28,13 @@ module _ (t : Table) (cs : List ℕ) where
     pub op : application.op ≡ f
     pub args : Fit (map (class_of cs) application.children.items)
 
-  -- the term is a value of the class; each term is one of the class in its place
   abbrev mutual
+    -- the term is a value of the class
     pub IsValue : Term → ℕ → Type 0
     IsValue (var x) c = IsFreeClass x c
     IsValue (app f ts) c = IsHeaded f (AreValues ts) c
 
+    -- each term is a value of the class in its place
     pub AreValues : Terms → List ℕ → Type 0
     AreValues none [] = Unit {0}
     AreValues none (c ∷ rest) = ⊥
@@ -58,6 +59,7 @@ module _ (t : Table) (cs : List ℕ) where
   IsRight limit c Large = HasLargeValue limit c
   IsRight limit c (Small p) = IsValue (term p) c × (nodes (term p) ≤ limit)
 
+-- nothing is noted
 abbrev pub is_unknown : Entry → Bool
 is_unknown Unknown = true
 is_unknown Large = false
@@ -67,6 +69,7 @@ is_unknown (Small p) = false
 abbrev pub entry_of : List Entry → ℕ → Entry
 entry_of entries c = slice_index_or entries c Unknown
 
+-- what is noted of each class holds of it
 abbrev pub AreRight : Table → List ℕ → ℕ → List Entry → Type 0
 AreRight t cs limit entries = (c : ℕ) → c < length entries → IsRight t cs limit c (entry_of entries c)
 
@@ -74,6 +77,7 @@ AreRight t cs limit entries = (c : ℕ) → c < length entries → IsRight t cs 
 abbrev pub IsUnknown : List Entry → ℕ → Type 0
 IsUnknown entries c = is_unknown (entry_of entries c) ≡ true
 
+-- something is noted of the class
 abbrev pub IsKnown : List Entry → ℕ → Type 0
 IsKnown entries c = is_unknown (entry_of entries c) ≡ false
 

@@ -11,11 +11,13 @@ IfMostGeneral (MostGeneral s) P = P s.pairs
 IfMostGeneral NoUnifier P = Unit {0}
 IfMostGeneral TooLarge P = Unit {0}
 
+-- P holds, if the answer is that there is no unifier
 abbrev pub OnNoUnifier : Unified → Type 0 → Type 0
 OnNoUnifier (MostGeneral s) P = Unit {0}
 OnNoUnifier NoUnifier P = P
 OnNoUnifier TooLarge P = Unit {0}
 
+-- P holds, if the answer is that a term is too large
 abbrev pub OnTooLarge : Unified → Type 0 → Type 0
 OnTooLarge (MostGeneral s) P = Unit {0}
 OnTooLarge NoUnifier P = Unit {0}

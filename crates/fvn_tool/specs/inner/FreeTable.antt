@@ -22,6 +22,7 @@ nothing = app (record { 0 = 0 }) none
 abbrev pub headed : List Term → Application → Term
 headed ts a = app a.op (pack (map (λ k. slice_index_or ts k nothing) a.children.items))
 
+-- these terms, and then those of the applications, each over the terms before it
 abbrev pub terms_from : List Term → List Application → List Term
 terms_from ts [] = ts
 terms_from ts (a ∷ rest) = terms_from (ts ++ headed ts a ∷ []) rest
@@ -30,6 +31,7 @@ terms_from ts (a ∷ rest) = terms_from (ts ++ headed ts a ∷ []) rest
 abbrev pub subterms : Table → List Term
 subterms t = terms_from (map var t.vars.items) t.applications.items
 
+-- the term at a place
 abbrev pub subterm : Table → ℕ → Term
 subterm t i = slice_index_or (subterms t) i nothing
 
@@ -54,6 +56,7 @@ pub record Extends (before now : Table) : Type 0 where
 abbrev pub HaveKind : Declarations → Table → SortId → Type 0
 HaveKind d t k = All (λ u. HasKind d u k) (subterms t)
 
+-- each of the terms has the kind k
 abbrev pub EachHasKind : Declarations → Terms → SortId → Type 0
 EachHasKind d none k = Unit {0}
 EachHasKind d (more t ts) k = HasKind d t k × EachHasKind d ts k
