@@ -14,6 +14,7 @@ mod Binding
 mod SortsOfFlats
 pub mod VariablesKept
 pub mod OneAnswer
+pub mod PlainAnswers
 mod GroundProblems
 pub mod Examples
 mod ExampleLists

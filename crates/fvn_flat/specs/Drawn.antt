@@ -23,6 +23,7 @@ OccursInValues vars s y = (x : Var) × Contains vars x × Occurs y (s x)
 abbrev pub Renaming : Type 0
 Renaming = Var → Var
 
+-- the term with renamed variables
 abbrev pub renamed : Renaming → Term → Term
 renamed r = apply (λ x. var (r x))
 

@@ -9,6 +9,7 @@ mutual
     here : IsReplaced u v u v
     inside : {f : OpId} {joined : Bool} {ts us : FlatTerms} → IsReplacedAmong u v ts us → IsReplaced u v (fapp f joined ts) (fapp f joined us)
 
+  -- the same at one place of a list
   pub data IsReplacedAmong (u v : FlatTerm) : FlatTerms → FlatTerms → Type 0 where
     first : {t w : FlatTerm} {ts : FlatTerms} → IsReplaced u v t w → IsReplacedAmong u v (fmore t ts) (fmore w ts)
     later : {t : FlatTerm} {ts us : FlatTerms} → IsReplacedAmong u v ts us → IsReplacedAmong u v (fmore t ts) (fmore t us)

@@ -13,3 +13,4 @@ pub mod FlatPlaces
 pub mod Successors
 pub mod FlatLaws
 pub mod Solving
+pub mod PlainPairs

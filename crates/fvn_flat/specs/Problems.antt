@@ -18,6 +18,7 @@ abbrev mutual
   subterms (var x) = var x ∷ []
   subterms (app f ts) = app f ts ∷ subterms_among ts
 
+  -- those of each argument in turn
   pub subterms_among : Terms → List Term
   subterms_among none = []
   subterms_among (more t ts) = subterms t ++ subterms_among ts
@@ -33,6 +34,7 @@ abbrev mutual
   variables (var x) = x ∷ []
   variables (app f ts) = variables_among ts
 
+  -- those of each argument in turn
   pub variables_among : Terms → List Var
   variables_among none = []
   variables_among (more t ts) = variables t ++ variables_among ts
@@ -54,6 +56,7 @@ abbrev mutual
   same_term (app f ts) (var y) = false
   same_term (app f ts) (app g us) = same_op f g && same_terms ts us
 
+  -- whether two lists of arguments are one
   pub same_terms : Terms → Terms → Bool
   same_terms none none = true
   same_terms none (more u us) = false

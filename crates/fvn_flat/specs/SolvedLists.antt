@@ -89,6 +89,7 @@ module _ (d : Declarations) (problem : Problem) (class : Term → ℕ) where
     over_classes (var x) = fvar x
     over_classes (app g ts) = canon d (app g (names_of ts))
 
+    -- the members of the sum of f to which class k is bound
     abbrev pub members_of : OpId → ℕ → List FlatTerm
     members_of f k = members (plan.columns f) (plan.parts f) k
 
@@ -98,6 +99,7 @@ module _ (d : Declarations) (problem : Problem) (class : Term → ℕ) where
     bound_as (as_member t) k = Some (over_classes t)
     bound_as (as_sum f) k = Some (sum d f (members_of f k))
 
+    -- what class k is bound to, if it is bound
     abbrev pub bound_to : ℕ → Option FlatTerm
     bound_to k = bound_as (plan.form k) k
 
@@ -116,6 +118,7 @@ module _ (d : Declarations) (problem : Problem) (class : Term → ℕ) where
       pub associative : IsAssociative (axioms d f)
       pub members : HasNoIdentity (axioms d f) → members_of f k ≢ []
 
+    -- what the form asks of class k
     abbrev pub IsFormOf : ℕ → Form → Type 0
     IsFormOf k unbound = Unit {0}
     IsFormOf k (as_member t) = IsSimpleMember k t
@@ -131,6 +134,7 @@ module _ (d : Declarations) (problem : Problem) (class : Term → ℕ) where
     IsBoundToIdentity f k = (e : OpId) × (axioms d f ≡ AssocCommId e) × (bound_to k ≡ Some (fconstant e))
 
     module _ (f : OpId) where
+      -- the component of the part's solution in the column of class k
       abbrev pub component_of : Part → ℕ → ℕ
       component_of p k = component (plan.columns f) p.solution k
 
@@ -185,5 +189,6 @@ module _ (d : Declarations) (problem : Problem) (class : Term → ℕ) where
       pub triangular : IsTriangular bindings
       pub unifies : IsKindUnifier d problem (unfolded bindings)
 
+  -- the bindings are a solved list of the problem under the partition
   abbrev pub IsSolvedList : Bindings → Type 0
   IsSolvedList bindings = (plan : Plan) × IsSolvedBy plan bindings

@@ -27,6 +27,7 @@ use Rattle.fvn_flat.specs.declared.solver.SizeCause.{SizeCause}
 use Rattle.fvn_flat.specs.declared.solver.SizeCause.TheVariants.{Problem as OfProblem, Binding, Term as OfTerm}
 use Rattle.fvn_flat.specs.declared.solver.TheConstants.{LAST_FIRST_FRESH}
 
+-- pairs of flat forms
 abbrev pub FlatPairs : Type 0
 FlatPairs = List (FlatTerm × FlatTerm)
 
@@ -117,5 +118,6 @@ module _ (d : Declarations) (given : Pairs) where
   IsCause most_unifiers most_symbols count Unifiers = count ≡ most_unifiers
   IsCause most_unifiers most_symbols count (Size cause) = IsSizeCause most_symbols cause
 
+  -- the end of an answer has its cause
   abbrev pub HasCause : ℕ → ℕ → Solved → Type 0
   HasCause most_unifiers most_symbols r = IsCause most_unifiers most_symbols (length r.unifiers) r.end

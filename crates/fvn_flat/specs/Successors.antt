@@ -19,6 +19,7 @@ pub record IsRenaming (Among : Var → Type 0) (r : Renaming) : Type 0 where
   pub one_to_one : IsOneToOne Among r
   pub sorts : (x : Var) → Among x → (r x).sort ≡ x.sort
 
+-- the problem with renamed variables
 abbrev pub renamed_problem : Renaming → Problem → Problem
 renamed_problem r problem = map (λ p. (renamed r p.0, renamed r p.1)) problem
 

@@ -14,6 +14,7 @@ use Rattle.fvn_lindio.specs.declared.system.System.{System}
 use Rattle.fvn_lindio.specs.Systems.{rows_of}
 use Rattle.fvn_flat.specs.Problems.{subterms_of, once}
 
+-- whether f heads the term
 abbrev pub is_headed_by : OpId → Term → Bool
 is_headed_by f (var x) = false
 is_headed_by f (app g ts) = same_op f g

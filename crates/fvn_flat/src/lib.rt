@@ -17,7 +17,10 @@ pub use flat::Flat;
 pub use flattening::flatten;
 pub use substitution::Subst;
 
-pub use laws::{equal_pairs_have_one_answer, flattened_pairs_have_one_answer};
+pub use laws::{
+    answers_to_flattened_pairs, equal_pairs_have_one_answer, flattened_pairs_are_given,
+    flattened_pairs_have_one_answer,
+};
 pub use solver::{
     AxiomSolver, LAST_FIRST_FRESH, LAST_NEXT_FRESH, Normal, Pairs, SizeCause, SolveEnd, Solved,
     SolvedList,
