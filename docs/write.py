@@ -3,7 +3,7 @@
 
     python3 docs/write.py           writes both
     python3 docs/write.py --check   fails where the written documents differ from the sources
-    python3 docs/write.py --lint    prints what is missing: comments, first lines, uses, and a page for each crate
+    python3 docs/write.py --lint    prints what is missing: comments, first lines, uses, pages of crates, and laws that stand elsewhere
 
 The words come from the sources: the `//!` line of a crate, the `///` line of a call, the `//` comment over
 clauses, the `--` lines over a definition and at the head of a file. To change a document, change them.
@@ -88,6 +88,7 @@ class Call:
         self.name, self.doc, self.clauses = name, doc, clauses
         self.is_empty = is_empty  # the body is empty, or calls laws alone
         self.words = {}  # the definitions that its file may cite: how it calls them, and their names
+        self.fields = {}  # of those that are records
 
     def is_law(self):
         return self.is_empty and any(c.kind == "ensures" for c in self.clauses)
@@ -179,7 +180,8 @@ class Source:
         self.head = ""
         self.types, self.constants, self.calls, self.methods, self.uses, self.mods = [], [], [], [], [], []
         text = read(path)
-        self.words = {w: d[2] for w, d in imports_of(text).items() if d[0] != "std" and is_defined(d[1])}
+        self.imports = {w: d for w, d in imports_of(text).items() if d[0] != "std" and is_defined(d[1])}
+        self.words = {w: d[2] for w, d in self.imports.items()}
         found = re.match(r"//! ?(.*)", text)
         if found:
             self.head = found.group(1).strip()
@@ -369,6 +371,7 @@ class Definition:
     def __init__(self, name, indent, comment, public, line):
         self.name, self.indent, self.comment, self.public, self.line = name, indent, comment, public, line
         self.body = []
+        self.fields = []  # of a record, each with the comment over it
 
 
 class Room:
@@ -396,6 +399,8 @@ class Room:
                 continue
             if record is not None and indent > record:
                 current.body.append(line)
+                if words[0] == "pub":
+                    current.fields.append((words[1], comment_over(lines, number)))
                 continue
             record = None
             found = SIGNATURE.match(line)
@@ -478,7 +483,14 @@ def text_of(clause, call):
     for token in TOKEN.findall(clause.text):
         if token in call.words and call.words[token] not in words:
             words.append(call.words[token])
-    return "by " + ", ".join(code(w) for w in words) if words else code(clause.text)
+    if not words:
+        return code(clause.text)
+    parts = ["by " + ", ".join(code(w) for w in words)]
+    for word in words:
+        fields = call.fields.get(word, [])
+        if len(fields) > 4:
+            parts.append(code(word) + " has " + ", ".join(code(f) for f in fields))
+    return "<br>".join(parts)
 
 
 def name_of(clause):
@@ -530,8 +542,18 @@ def layers(write_crate, head):
 
 
 def contracts():
+    records = {
+        (name, "specs." + room.module, d.name): [field for field, _ in d.fields]
+        for name, _ in crates()
+        for room in rooms(name)
+        for d in room.definitions
+    }
+
     def write_crate(name):
         crate = Crate(name)
+        for source in crate.modules:
+            for call in source.calls + [call for _, call in source.methods]:
+                call.fields = {d[2]: records.get(d, []) for d in source.imports.values()}
         page = "../crates/" + name + "/README.md"
         parts = ["### [" + name + "](" + page + ")\n\n" + crate.head + "\n"]
         if crate.is_program:
@@ -559,6 +581,12 @@ def contracts():
     return layers(write_crate, CONTRACTS_HEAD)
 
 
+def says(definition):
+    """The comment of a definition, and the fields of a record that are commented."""
+    told = ["- " + code(name) + ": " + comment for name, comment in definition.fields if comment]
+    return "<br>".join([definition.comment] + told)
+
+
 def definitions():
     def write_crate(name):
         shown = [room for room in rooms(name) if not is_inner(room) and room.public()]
@@ -566,7 +594,7 @@ def definitions():
             return ""
         parts = ["### " + name + "\n"]
         for room in shown:
-            rows = [[code(d.name), d.comment] for d in room.public()]
+            rows = [[code(d.name), says(d)] for d in room.public()]
             path = "../crates/" + name + "/specs/" + room.module.replace(".", "/") + ".antt"
             head = " ".join(room.head) + "\n\n" if room.head else ""
             parts.append("#### [" + room.module + "](" + path + ")\n\n" + head + table(["definition", "says"], rows))
@@ -677,11 +705,23 @@ def hidden_files():
                     yield str(path.relative_to(TOP)) + ": " + found.group(1) + " is public, and nothing asks for it"
 
 
+def scattered_laws():
+    """Laws whose statement stands elsewhere than in specs/Laws.antt."""
+    for name, _ in crates():
+        for source in Crate(name).modules:
+            for call in source.calls:
+                told = " ".join(clause.text for clause in call.clauses)
+                for word in TOKEN.findall(told) if call.is_law() else []:
+                    place = source.imports.get(word)
+                    if place and place[1] != "specs.Laws":
+                        yield "crates/" + name + ": the law " + call.name + " is stated in " + place[1] + ": " + word
+
+
 def main(words):
     if words == ["--lint"]:
         missing = [
             line
-            for find in (without_page, without_first_line, without_comment, unused, hidden_files)
+            for find in (without_page, without_first_line, without_comment, unused, hidden_files, scattered_laws)
             for line in find()
         ]
         for line in missing:

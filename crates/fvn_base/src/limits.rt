@@ -38,3 +38,12 @@ pub const COLUMNS: usize = 1_000;
 
 /// Unifiers of one problem: with so many of them the search ends.
 pub const UNIFIERS: u32 = 4_096;
+
+/// The first number of a new variable that a solver may be given, or a renaming.
+pub const FIRST_FRESH: u32 = 1_000_000;
+
+/// The number after the last new variable of a solver.
+pub const NEXT_FRESH: u32 = 2_000_000;
+
+/// The first number of a new variable that the expansion of a variant may be given.
+pub const EXPANDED_FRESH: u32 = 2_000_000_000;

@@ -9,5 +9,6 @@ mod Packs
 mod TheoryLaws
 pub mod CompleteSets
 pub mod Instances
-pub mod Rewriting
-pub mod Covering
+mod Occurrences
+mod Rewriting
+mod Covering

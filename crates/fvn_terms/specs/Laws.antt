@@ -1,21 +1,22 @@
 -- Laws of the definitions.
-use Rattle.std.specs.Prelude.{◌≡◌, ◌+◌, ◌↔◌, ℕ, List, All}
+use Rattle.std.specs.Prelude.{◌≡◌, ◌≤◌, ◌+◌, ◌↔◌, ℕ, List, map, All, Contains}
 use Rattle.std.specs.List.{AllZip}
 use Rattle.fvn_terms.specs.declared.plain.OpId.{OpId}
+use Rattle.fvn_terms.specs.declared.plain.SortId.{SortId}
 use Rattle.fvn_terms.specs.declared.plain.Var.{Var}
 use Rattle.fvn_terms.specs.declared.declarations.Axioms.TheVariants.{Free}
 use Rattle.fvn_terms.specs.declared.declarations.Declarations.{Declarations}
 use Rattle.fvn_terms.specs.Term.{Term, app, pack}
 use Rattle.fvn_terms.specs.Substitution.{Substitution, apply, followed_by, Occurs}
-use Rattle.fvn_terms.specs.Signature.{axioms, KeepsKinds}
+use Rattle.fvn_terms.specs.Signature.{axioms, KeepsKinds, IsTerm}
 use Rattle.fvn_terms.specs.Places.{AtOnePlace}
 use Rattle.fvn_terms.specs.Equality.{BEqual}
-use Rattle.fvn_terms.specs.Sorts.{IsWellSorted}
+use Rattle.fvn_terms.specs.Sorts.{HasSort, IsWellSorted}
 use Rattle.fvn_terms.specs.Unifiers.{Problem, IsUnifier, IsInstance}
-use Rattle.fvn_terms.specs.Theory.{Equations, TEqual, IsTheoryUnifier, IsTheoryInstance}
+use Rattle.fvn_terms.specs.Theory.{Equations, IsRule, TEqual, IsTheoryUnifier, IsTheoryInstance}
 use Rattle.fvn_terms.specs.CompleteSets.{IsCompleteSet, IsApart, IsShortest}
-use Rattle.fvn_terms.specs.Rewriting.{Rewrites, TermSequence, IsIrreducible, IsIrreducibleList}
-use Rattle.fvn_terms.specs.Variants.{Covers}
+use Rattle.fvn_terms.specs.Rewriting.{Rewrites, TermSequence, ListSequence, IsReducible, IsSortDecreasing, IsIrreducible, IsIrreducibleList, IsTerminating, IsConfluent, BringsNoVariable}
+use Rattle.fvn_terms.specs.Variants.{IsVariant, IsWithin, Covers}
 
 -- each term is related to itself, the other way round too, and along two steps
 pub record IsEquivalence (R : Term → Term → Type 0) : Type 0 where
@@ -94,10 +95,30 @@ pub record RewritingLaws (d : Declarations) (equations : Equations) : Type 0 whe
   pub ended : (k : ℕ) (t u : Term) → IsIrreducible d equations t → TermSequence d equations k t u → (k ≡ 0) × BEqual d t u
   -- what stands at a variable in an irreducible instance is irreducible
   pub values : (s : Substitution) (t : Term) (x : Var) → Occurs x t → IsIrreducible d equations (apply s t) → IsIrreducible d equations (s x)
+  -- a term is reducible where what stands at one of its variables is
+  pub reducible : (s : Substitution) (t : Term) (x : Var) → Occurs x t → IsReducible d equations (s x) → IsReducible d equations (apply s t)
+  -- where each equation is sort-decreasing, what an instance of a left side is replaced by has all its sorts
+  pub sorts : ((left right : Term) → Contains equations (left, right) → IsSortDecreasing d left right) → (t u : Term) → IsRule d equations t u → (q : SortId) → HasSort d t q → HasSort d u q
   -- a sequence stays within the theory
   pub theory : (k : ℕ) (t u : Term) → TermSequence d equations k t u → TEqual d equations t u
   -- a list is irreducible where each member is
   pub lists : (ts : List Term) → IsIrreducibleList d equations ts ↔ All (IsIrreducible d equations) ts
+  -- instances of a sequence are sequences
+  pub sequences : (s : Substitution) → IsWellSorted d s → (k : ℕ) (t u : Term) → TermSequence d equations k t u → TermSequence d equations k (apply s t) (apply s u)
+  -- two sequences of lists in a row are one
+  pub list_joined : (j k : ℕ) (ts us vs : List Term) → ListSequence d equations j ts us → ListSequence d equations k us vs → ListSequence d equations (j + k) ts vs
+  -- sequences bring no new variable, where the equations' right sides have none
+  pub variables : BringsNoVariable equations → (x : Var) (k : ℕ) (t u : Term) → TermSequence d equations k t u → Occurs x u → Occurs x t
+  -- where the equations terminate, sequences of a list are bounded
+  pub bounded : IsTerminating d equations → (ts : List Term) → All (IsTerm d) ts → (most : ℕ) × ((k : ℕ) (us : List Term) → ListSequence d equations k ts us → k ≤ most)
+  -- where the equations are confluent, irreducible terms that one term is brought to are equal modulo the axioms
+  pub one_normal_form : IsConfluent d equations → (t u v : Term) (j k : ℕ) → IsTerm d t → TermSequence d equations j t u → TermSequence d equations k t v →
+      IsIrreducible d equations u → IsIrreducible d equations v → BEqual d u v
+  -- what bounds the sequences of an instance bounds the steps to its variants, and leaves that much less behind them
+  pub within : (most : ℕ) (terms us : List Term) (s : Substitution) (k : ℕ) → IsWithin d equations most terms s → ListSequence d equations k (map (apply s) terms) us →
+      (j : ℕ) (vs : List Term) → ListSequence d equations j us vs → k + j ≤ most
+  -- the terms of a variant are equal in the theory to the instance that its substitution makes
+  pub variants : (fixed terms us : List Term) (s : Substitution) → IsVariant d equations fixed terms us s → AllZip (TEqual d equations) (map (apply s) terms) us
 
 -- rewriting modulo the axioms keeps to these laws, whatever the signature and the equations
 abbrev pub RewritingIsLawful : Type 0

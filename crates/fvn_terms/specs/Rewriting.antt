@@ -1,15 +1,20 @@
 -- Rewriting with equations from left to right, modulo the axioms (Peterson and Stickel 1981).
-use Rattle.std.specs.Prelude.{◌≤◌, ◌⊎◌, ℕ, zero, suc, List, [], ◌∷◌}
+use Rattle.std.specs.Prelude.{◌≤◌, ◌⊎◌, ℕ, zero, suc, List, [], ◌∷◌, Contains}
 use Rattle.std.specs.List.{AllZip}
+use Rattle.fvn_terms.specs.declared.plain.Var.{Var}
 use Rattle.fvn_terms.specs.declared.plain.SortId.{SortId}
 use Rattle.fvn_terms.specs.declared.declarations.Declarations.{Declarations}
 use Rattle.fvn_terms.specs.Term.{Term}
-use Rattle.fvn_terms.specs.Substitution.{Substitution, apply}
+use Rattle.fvn_terms.specs.Substitution.{Substitution, apply, Occurs}
 use Rattle.fvn_terms.specs.Signature.{IsTerm}
 use Rattle.fvn_terms.specs.Places.{AtOnePlace}
 use Rattle.fvn_terms.specs.Equality.{BEqual}
 use Rattle.fvn_terms.specs.Sorts.{HasSort, IsWellSorted}
 use Rattle.fvn_terms.specs.Theory.{Equations, IsRule}
+
+-- each variable of a right side stands in the left side
+abbrev pub BringsNoVariable : Equations → Type 0
+BringsNoVariable equations = (left right : Term) → Contains equations (left, right) → (x : Var) → Occurs x right → Occurs x left
 
 module _ (d : Declarations) (equations : Equations) where
   -- one step: up to the axioms, an instance of the left side of an equation is replaced, at one place, by the same instance of its right side
