@@ -14,7 +14,7 @@ IsCompleteFor d problem = IsCompleteSet (IsUnifier d problem) (IsInstance d (var
 
 -- none is an instance of another on the problem's variables
 abbrev pub IsApartFor : Declarations → Problem → List Substitution → Type 0
-IsApartFor d problem = IsApart (IsUnifier d problem) (IsInstance d (variables_of problem))
+IsApartFor d problem = IsApart (IsInstance d (variables_of problem))
 
 -- no complete set of unifiers has fewer members
 abbrev pub IsShortestFor : Declarations → Problem → List Substitution → Type 0

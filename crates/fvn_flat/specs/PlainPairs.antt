@@ -11,12 +11,12 @@ use Rattle.fvn_flat.specs.Solving.{IsGiven, substitution, AreUnifiers, AreApart,
 use Rattle.fvn_flat.specs.declared.solver.Pairs.{Pairs}
 use Rattle.fvn_flat.specs.declared.solver.Solved.{Solved}
 use Rattle.fvn_flat.specs.declared.solver.SolveEnd.TheVariants.{Complete}
-use Rattle.fvn_flat.specs.declared.solver.TheConstants.{LAST_FIRST_FRESH}
+use Rattle.fvn_base.specs.declared.limits.TheConstants.{FIRST_FRESH}
 
 -- the fresh variables of the problem have numbers below first, which is a number that a solver takes
 pub record HasRoom (problem : Problem) (first : ℕ) : Type 0 where
   pub numbers : (x : Var) → Contains (variables_of problem) x → x.fresh ≡ true → x.name < first
-  pub small : first ≤ LAST_FIRST_FRESH
+  pub small : first ≤ FIRST_FRESH
 
 -- these are unifiers of the problem, none an instance of another; where they are said to be all, every unifier is an instance of one
 pub record IsAnswerTo (d : Declarations) (problem : Problem) (unifiers : List Substitution) (AreAll : Type 0) : Type 0 where

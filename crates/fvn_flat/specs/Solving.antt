@@ -1,6 +1,6 @@
 -- What a solver modulo the axioms is given, and what its answer promises.
 use Rattle.std.specs.Prelude.{◌≡◌, ◌≤◌, ◌<◌, ◌↔◌, ◌⊎◌, ℕ, ◌+◌, true, List, [], ◌∷◌, length, map, sum_by, Some, All, Contains}
-use Rattle.fvn_base.specs.declared.limits.TheConstants.{MINIMAL_SOLUTIONS}
+use Rattle.fvn_base.specs.declared.limits.TheConstants.{MINIMAL_SOLUTIONS, FIRST_FRESH}
 use Rattle.fvn_terms.specs.declared.plain.Var.{Var}
 use Rattle.fvn_terms.specs.declared.plain.OpId.{OpId}
 use Rattle.fvn_terms.specs.declared.declarations.Declarations.{Declarations}
@@ -25,7 +25,6 @@ use Rattle.fvn_flat.specs.declared.solver.SolveEnd.{SolveEnd}
 use Rattle.fvn_flat.specs.declared.solver.SolveEnd.TheVariants.{Complete, Basis, Unifiers, Size}
 use Rattle.fvn_flat.specs.declared.solver.SizeCause.{SizeCause}
 use Rattle.fvn_flat.specs.declared.solver.SizeCause.TheVariants.{Problem as OfProblem, Binding, Term as OfTerm}
-use Rattle.fvn_flat.specs.declared.solver.TheConstants.{LAST_FIRST_FRESH}
 
 -- pairs of flat forms
 abbrev pub FlatPairs : Type 0
@@ -52,7 +51,7 @@ pub record IsGiven (d : Declarations) (given : Pairs) (first : ℕ) : Type 0 whe
   pub fit : All (λ p. Fits d p.0 × Fits d p.1) given.pairs
   pub kinds : IsProblem d (problem_of given)
   pub numbers : (x : Var) → Contains (variables_of (problem_of given)) x → x.fresh ≡ true → x.name < first
-  pub small : first ≤ LAST_FIRST_FRESH
+  pub small : first ≤ FIRST_FRESH
 
 -- just the variables of the problem are bound
 abbrev pub Binds : Problem → Bindings → Type 0

@@ -4,6 +4,7 @@ ghost use Rattle.fvn_terms.specs.declared.declarations.Declarations.{Declaration
 ghost use Rattle.fvn_terms.specs.Substitution.{Substitution};
 ghost use Rattle.fvn_terms.specs.Unifiers.{Problem};
 ghost use Rattle.fvn_flat.specs.Solving.{IsGiven, AreUnifiers, AreDrawn, AreBindings, AreNumbered, AreApart, AreComplete, HasCause};
+ghost use Rattle.fvn_base.specs.declared.limits.TheConstants.{NEXT_FRESH};
 
 use crate::flat::Flat;
 use crate::substitution::Subst;
@@ -11,12 +12,6 @@ use fvn_base::Seq;
 use fvn_lindio::System;
 use fvn_terms::{NoMemory, OpId, Var};
 use std::alloc::Global;
-
-/// The greatest number that may be the first for a solver's fresh variables.
-pub const LAST_FIRST_FRESH: u32 = 1_000_000;
-
-/// The greatest number that may be the next after a solver's fresh variables.
-pub const LAST_NEXT_FRESH: u32 = 2_000_000;
 
 /// A problem: pairs of flat terms that are to be made equal.
 #[derive(Drop)]
@@ -100,7 +95,7 @@ pub trait AxiomSolver: Sync {
         ensures binds { IfOk result (AreBindings (signature self.now) problem.now) }
         ensures fresh { IfOk result (AreNumbered (signature self.now) problem.now first_fresh) }
         ensures next { IfOk result (λ r. first_fresh ≤ r.next_fresh) }
-        ensures bounded { IfOk result (λ r. r.next_fresh ≤ LAST_NEXT_FRESH) }
+        ensures bounded { IfOk result (λ r. r.next_fresh ≤ NEXT_FRESH) }
 
         // None is an instance of another; where the solver says so, they are complete.
         ensures apart { IfOk result (AreApart (signature self.now) problem.now) }
