@@ -11,6 +11,9 @@ pub mod Fitting
 pub mod Rebuilding
 mod Instances
 mod Binding
+mod Listed
+mod Composing
+mod Renamings
 mod SortsOfFlats
 pub mod VariablesKept
 pub mod OneAnswer

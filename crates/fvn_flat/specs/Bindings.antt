@@ -33,9 +33,21 @@ BindsOnce (p ∷ s) = (bound s p.0 ≡ None) × BindsOnce s
 abbrev pub BindingsFit : Declarations → Bindings → Type 0
 BindingsFit d s = IsFlatSubstitution d (value s)
 
+-- the pairs with their terms changed
+abbrev pub changed : (FlatTerm → FlatTerm) → Bindings → Bindings
+changed g s = map (λ p. (p.0, g p.1)) s
+
+-- the pairs whose variable passes the test
+abbrev pub chosen : (Var → Bool) → Bindings → Bindings
+chosen test s = filter (λ p. test p.0) s
+
+-- whether x has no pair
+abbrev pub is_free : Bindings → Var → Bool
+is_free s x = not (is_some (bound s x))
+
 -- the pairs of s with c applied to their terms, and then those of c for other variables
 abbrev pub composed : Declarations → Bindings → Bindings → Bindings
-composed d s c = map (λ p. (p.0, inst d (value c) p.1)) s ++ filter (λ p. not (is_some (bound s p.0))) c
+composed d s c = changed (inst d (value c)) s ++ chosen (is_free s) c
 
 -- r is s and then c, on each variable
 abbrev pub IsOneThenOther : Declarations → Bindings → Bindings → Bindings → Type 0

@@ -2,6 +2,7 @@
 pub mod Forms
 pub mod Fits
 pub mod Bindings
+pub mod Variables
 pub mod inner
 pub mod Problems
 pub mod Partitions

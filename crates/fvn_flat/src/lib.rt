@@ -8,6 +8,7 @@ mod flattening;
 mod ground_solver;
 mod laws;
 mod order;
+mod renaming;
 mod solver;
 mod sorting;
 mod substitution;
@@ -18,5 +19,6 @@ pub use laws::{
     answers_to_flattened_pairs, equal_pairs_have_one_answer, flattened_pairs_are_given,
     flattened_pairs_have_one_answer,
 };
+pub use renaming::rename_apart;
 pub use solver::{AxiomSolver, Normal, Pairs, SizeCause, SolveEnd, Solved, SolvedList};
 pub use substitution::Subst;

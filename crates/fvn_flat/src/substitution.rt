@@ -1,15 +1,16 @@
 //! Substitutions of flat terms.
-ghost use Rattle.std.specs.Prelude.{◌≡◌, ◌<◌, ◌++◌, ◌∷◌, [], ℕ, length, slice_get, map, filter, not, is_some, Some, None, MatchOption, IfOk};
+ghost use Rattle.std.specs.Prelude.{◌≡◌, ◌<◌, ◌++◌, ◌∷◌, [], ℕ, length, slice_get, is_some, Some, None, MatchOption, IfOk};
 ghost use Rattle.fvn_terms.specs.Signature.{HasKind, IsSort, kind};
 ghost use Rattle.fvn_forms.specs.Flat.{plain};
 ghost use Rattle.fvn_forms.specs.Canon.{inst};
 ghost use Rattle.fvn_forms.specs.Settled.{Settled};
 ghost use Rattle.fvn_flat.specs.Fits.{Fits};
-ghost use Rattle.fvn_flat.specs.Bindings.{bound, value, BindsOnce, BindingsFit, composed, IsOneThenOther, IsRestriction};
+ghost use Rattle.fvn_flat.specs.Bindings.{bound, value, BindsOnce, BindingsFit, changed, chosen, is_free, composed, IsOneThenOther, IsRestriction};
 ghost use Rattle.fvn_flat.specs.inner.Rebuilt.{rebuilt};
 
 use crate::building::built;
 use crate::flat::{Flat, Node};
+use crate::renaming::is_listed;
 use fvn_sorts::Signature;
 use fvn_terms::{NoMemory, Var};
 use std::alloc::Global;
@@ -97,6 +98,7 @@ impl Subst {
         requires { bound self.now v ≡ None }
         ensures { IfOk result (λ s. s ≡ self.now ++ (v, t.now) ∷ []) }
     {
+        self.binds_once();
         let mut pairs = self.copied(alloc)?;
         let copy = t.copy(alloc)?;
         pairs.push((v, copy))?;
@@ -133,5 +135,72 @@ impl Subst {
         sig.is_good();
         let u = self.instance(alloc, sig, t)?;
         Ok(u)
+    }
+
+    fn is_bound(&self, v: Var) -> bool
+        ensures { result ≡ is_some (bound self.now v) }
+    {
+        self.get(v).is_some()
+    }
+
+    // The pairs with another substitution applied to their terms.
+    fn changed(&self, alloc: Global, sig: &Signature, later: &Subst) -> Result<Vec<(Var, Flat)>, NoMemory>
+        ensures { IfOk result (λ pairs. pairs.items ≡ changed (rebuilt sig.now (value later.now)) self.now) }
+    {
+        let mut pairs = Vec::new(alloc);
+        for (x, t) in &self.pairs {
+            let u = later.instance(alloc, sig, t)?;
+            pairs.push((*x, u))?;
+        }
+        Ok(pairs)
+    }
+
+    // The pairs of another substitution for variables that are free here, at the end of some pairs.
+    fn with_free(&self, alloc: Global, later: &Subst, pairs: Vec<(Var, Flat)>) -> Result<Vec<(Var, Flat)>, NoMemory>
+        ensures { IfOk result (λ all. all.items ≡ pairs.items ++ chosen (is_free self.now) later.now) }
+    {
+        let mut all = pairs;
+        for (x, t) in &later.pairs {
+            if self.is_bound(*x) {
+                continue;
+            }
+            let copy = t.copy(alloc)?;
+            all.push((*x, copy))?;
+        }
+        Ok(all)
+    }
+
+    /// This substitution, and then the other.
+    pub fn compose(&self, alloc: Global, sig: &Signature, later: &Subst) -> Result<Subst, NoMemory>
+        requires first { BindingsFit sig.now self.now }
+        requires then { BindingsFit sig.now later.now }
+        ensures exact { IfOk result (λ s. s ≡ composed sig.now self.now later.now) }
+        ensures both { IfOk result (IsOneThenOther sig.now self.now later.now) }
+        ensures fits { IfOk result (BindingsFit sig.now) }
+    {
+        sig.is_good();
+        self.binds_once();
+        later.binds_once();
+        let changed = self.changed(alloc, sig, later)?;
+        let pairs = self.with_free(alloc, later, changed)?;
+        let s = Subst { pairs };
+        Ok(s)
+    }
+
+    /// The pairs of the listed variables.
+    pub fn restrict(&self, alloc: Global, vars: &[Var]) -> Result<Subst, NoMemory>
+        ensures { IfOk result (IsRestriction vars.now self.now) }
+    {
+        self.binds_once();
+        let mut pairs = Vec::new(alloc);
+        for (x, t) in &self.pairs {
+            if !is_listed(vars, *x) {
+                continue;
+            }
+            let copy = t.copy(alloc)?;
+            pairs.push((*x, copy))?;
+        }
+        let s = Subst { pairs };
+        Ok(s)
     }
 }

@@ -1,6 +1,7 @@
 -- The sorts of the arguments so far.
 use Rattle.std.proofs.Common.{◌≡◌, length, map, take}
 use Rattle.fvn_forms.specs.LeastSort.{least_sort}
+use Rattle.fvn_flat.specs.inner.Weight.{places}
 use Rattle.fvn_flat.specs.inner.SumSorts.{sort_so_far}
 use Rattle.fvn_flat.proofs.flat.Flat.+sort_in.Given as goal
 
@@ -13,3 +14,6 @@ invariant-loop-u l = record {
   room : length l.sorts ≡ 8;
   sorts : take l.i l.sorts ≡ map (least_sort l.sig) (take l.u-index l.u-items);
 }
+
+abbrev pub decreases-sort_in : goal.decreases-sort_in
+decreases-sort_in l = places l.self.now

@@ -1,0 +1,91 @@
+//! Terms with fresh variables.
+ghost use Rattle.std.specs.Prelude.{◌≡◌, ◌+◌, ◌<◌, ◌≤◌, ◌^◌, length, IfOk};
+ghost use Rattle.fvn_forms.specs.Flat.{symbols};
+ghost use Rattle.fvn_forms.specs.Canon.{inst};
+ghost use Rattle.fvn_flat.specs.Bindings.{value};
+ghost use Rattle.fvn_flat.specs.Fits.{Fits};
+ghost use Rattle.fvn_flat.specs.Variables.{listed, with_variable, with_variables, variables_of, renaming};
+
+use crate::flat::{Flat, Node};
+use crate::substitution::Subst;
+use fvn_sorts::Signature;
+use fvn_terms::{NoMemory, Var};
+use std::alloc::Global;
+
+pub(crate) fn is_listed(vars: &[Var], x: Var) -> bool
+    ensures { result ≡ listed vars.now x }
+{
+    for y in vars {
+        if *y == x {
+            return true;
+        }
+    }
+    false
+}
+
+fn with_variable(vars: Vec<Var>, x: Var) -> Result<Vec<Var>, NoMemory>
+    ensures { IfOk result (λ all. all.items ≡ with_variable vars.items x) }
+{
+    let mut all = vars;
+    if is_listed(all.as_slice(), x) {
+        return Ok(all);
+    }
+    all.push(x)?;
+    Ok(all)
+}
+
+impl Flat {
+    // The list with the term's variables that are not there yet.
+    fn with_variables(&self, vars: Vec<Var>) -> Result<Vec<Var>, NoMemory>
+        ensures { IfOk result (λ all. all.items ≡ with_variables self.now vars.items) }
+    {
+        match &self.node {
+            Node::Var(x) => {
+                let all = with_variable(vars, *x)?;
+                Ok(all)
+            }
+            Node::App(_, _, ts) => {
+                let mut all = vars;
+                for t in ts {
+                    all = t.with_variables(all)?;
+                }
+                Ok(all)
+            }
+        }
+    }
+}
+
+// Fresh variables for those of the list, numbered along it.
+fn renaming(alloc: Global, vars: &[Var], first: u32) -> Result<Vec<(Var, Flat)>, NoMemory>
+    requires { first + length vars.now < 2 ^ 32 }
+    ensures { IfOk result (λ pairs. pairs.items ≡ renaming first vars.now) }
+{
+    let mut pairs = Vec::new(alloc);
+    let mut next = first;
+    for x in vars {
+        let fresh = Var {
+            name: next,
+            sort: x.sort,
+            fresh: true,
+        };
+        pairs.push((*x, Flat::var(fresh)))?;
+        next += 1;
+    }
+    Ok(pairs)
+}
+
+/// The term with its variables renamed to fresh ones, numbered along it, and the next free number.
+pub fn rename_apart(alloc: Global, sig: &Signature, t: &Flat, first: u32) -> Result<(Flat, u32), NoMemory>
+    requires term { Fits sig.now t.now }
+    requires number { first ≤ 1000000 }
+    requires size { symbols t.now ≤ 1000000 }
+    ensures renamed { IfOk result (λ r. r.0 ≡ inst sig.now (value (renaming first (variables_of t.now))) t.now) }
+    ensures next { IfOk result (λ r. r.1 ≡ first + length (variables_of t.now)) }
+    ensures fits { IfOk result (λ r. Fits sig.now r.0) }
+{
+    let vars = t.with_variables(Vec::new(alloc))?;
+    let pairs = renaming(alloc, vars.as_slice(), first)?;
+    let s = Subst { pairs };
+    let u = s.apply(alloc, sig, t)?;
+    Ok((u, first + vars.len() as u32))
+}
