@@ -3,7 +3,8 @@ use Rattle.std.proofs.Common.{◌≡◌, ℕ, ◌+◌, ◌/◌, ◌%◌, ◌^◌
 use Rattle.std.specs.List.{enumerate_from, filter}
 use Rattle.std.specs.Int.{bit_at}
 use Rattle.std.proofs.lemmas.Nat.{shr-shr}
-use Rattle.fvn_acunify.specs.ValidChoice.{ChosenByBits, chosen}
+use Rattle.fvn_acunify.specs.Laws.{ChosenByBits}
+use Rattle.fvn_acunify.specs.ValidChoice.{chosen}
 
 cond-map : (t : Bool) (k : ℕ) (v : List ℕ) (x : List (List ℕ)) (y : List (ℕ × List ℕ)) → x ≡ map (λ p. p.1) y → cond t (v ∷ x) x ≡ map (λ p. p.1) (cond t ((k, v) ∷ y) y)
 cond-map true k v x y e = ap (λ l. v ∷ l) e

@@ -1,5 +1,6 @@
-pub mod ColumnSums
-pub mod Prefixes
-pub mod ChosenBits
-pub mod Cursors
-pub mod RefusalLemmas
+-- Lemmas on sums, on choices and on refusals.
+mod ColumnSums
+mod Prefixes
+mod ChosenBits
+mod Cursors
+mod RefusalLemmas

@@ -8,7 +8,7 @@ use Rattle.std.proofs.lemmas.List.Sums.{sum_by-append}
 use Rattle.fvn_lindio.specs.Systems.{vectors_of}
 use Rattle.fvn_lindio.specs.declared.system.Solution.{Solution}
 use Rattle.fvn_acunify.specs.ValidChoice.{IsValid, chosen, column_sum, touched}
-use Rattle.fvn_acunify.specs.Prefix.{IsBounded, IsDead, IsOpen}
+use Rattle.fvn_acunify.specs.inner.Prefix.{IsBounded, IsDead, IsOpen}
 use Rattle.fvn_acunify.proofs.ColumnSums.{column_sum-cons}
 
 -- ---- a number's bits from a place on

@@ -10,7 +10,7 @@ use Rattle.fvn_lindio.specs.declared.system.LinFault.TheVariants.{TooMany, TooWi
 use Rattle.fvn_acunify.specs.declared.theory.OneFault.{OneFault}
 use Rattle.fvn_acunify.specs.declared.theory.OneFault.TheVariants.{Basis, NoMemory as NoRoom}
 use Rattle.fvn_acunify.specs.Theory.{IsRefusal, fault_of}
-use Rattle.fvn_acunify.specs.Prefix.{IsBounded}
+use Rattle.fvn_acunify.specs.inner.Prefix.{IsBounded}
 
 -- a call that answers too many and too wide exactly where they are so answers just the refusals
 pub refused_exactly : {A : Type 0} (columns most : ℕ) (rows : List (List ℤ)) (r : Result A LinFault) → r ≢ Err NoMemory → ((k : ℕ) → (r ≡ Err (TooMany k)) ↔ IsTooMany columns rows most k) → ((k : ℕ) → (r ≡ Err (TooWide k)) ↔ IsTooWide columns rows most k) → (fault : LinFault) → (r ≡ Err fault) ↔ IsRefusal columns rows most fault

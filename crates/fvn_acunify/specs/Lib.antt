@@ -1,4 +1,6 @@
+-- The words of theories, of valid choices and of what is still to come.
 pub mod Theory
 pub mod ValidChoice
 pub mod Cursor
-pub mod Prefix
+pub mod Laws
+pub mod inner

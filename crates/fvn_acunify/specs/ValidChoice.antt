@@ -1,18 +1,11 @@
 -- Which choices of solutions are valid: a choice is a number whose bit i says that solution i is chosen.
-use Rattle.std.specs.Prelude.{◌≡◌, ℕ, ◌/◌, ◌%◌, ◌^◌, ◌<◌, ◌≤◌, ◌==◌, Bool, true, false, if◌then◌else◌, List, [], ◌∷◌, length, sum_by, count_by, nat_lt, slice_index, slice_index_or, All, map, filter}
-use Rattle.std.specs.List.{enumerate_from}
-use Rattle.std.specs.Int.{bit_at}
+-- M. E. Stickel, A unification algorithm for associative-commutative functions, 1981.
+use Rattle.std.specs.Prelude.{◌≡◌, ℕ, ◌/◌, ◌%◌, ◌^◌, ◌<◌, ◌≤◌, ◌==◌, Bool, true, false, if◌then◌else◌, List, [], ◌∷◌, length, sum_by, count_by, nat_lt, slice_index, slice_index_or, All}
 
 -- the solutions that a number chooses
 abbrev pub chosen : ℕ → List (List ℕ) → List (List ℕ)
 chosen b [] = []
 chosen b (v ∷ basis) = if b % 2 == 1 then v ∷ chosen (b / 2) basis else chosen (b / 2) basis
-
--- in their order, they are those at the places of the bits that are set
-abbrev pub ChosenByBits : Type 0
-ChosenByBits =
-    (b : ℕ) (basis : List (List ℕ))
-    → chosen b basis ≡ map (λ p. p.1) (filter (λ p. bit_at b p.0 == 1) (enumerate_from 0 basis))
 
 -- what these vectors have in a column, all together
 abbrev pub column_sum : ℕ → List (List ℕ) → ℕ

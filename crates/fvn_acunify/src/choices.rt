@@ -4,8 +4,8 @@ ghost use Rattle.fvn_lindio.specs.Systems.{vectors_of};
 
 use crate::prefix::dead_place;
 use crate::theory::{OneFault, OneTheory};
-use fvn_lindio::Solution;
 use fvn_base::Seq;
+use fvn_lindio::Solution;
 use std::alloc::Global;
 use std::marker::Model;
 
@@ -23,7 +23,7 @@ pub struct Choices {
 impl Model for Choices {
     ghost use Rattle.std.specs.Prelude.{◌≡◌, ◌≤◌, ◌^◌, length};
     ghost use Rattle.fvn_acunify.specs.Cursor.{Cursor};
-    ghost use Rattle.fvn_acunify.specs.Prefix.{IsBounded};
+    ghost use Rattle.fvn_acunify.specs.inner.Prefix.{IsBounded};
 
     ghost Value = { Cursor };
 
@@ -41,7 +41,7 @@ impl Model for Choices {
 
 impl Choices {
     ghost use Rattle.fvn_acunify.specs.Cursor.{Pending};
-    ghost use Rattle.fvn_acunify.specs.Prefix.{IsBounded};
+    ghost use Rattle.fvn_acunify.specs.inner.Prefix.{IsBounded};
     ghost use Rattle.fvn_acunify.specs.ValidChoice.{IsValid};
 
     /// The choices among these solutions, none of them given yet.

@@ -2,7 +2,7 @@
 ghost use Rattle.std.specs.Prelude.{◌≡◌, ◌↔◌, ℕ, ◌+◌, ◌^◌, ◌<◌, ◌≤◌, length, slice_index, slice_index_or, true, false, All, IsTrue, IfSome, IfNone};
 ghost use Rattle.fvn_lindio.specs.Systems.{vectors_of};
 ghost use Rattle.fvn_acunify.specs.ValidChoice.{IsValid, touched};
-ghost use Rattle.fvn_acunify.specs.Prefix.{CanBeFilled, CanBeOne, IsBounded, IsDead, IsOpen};
+ghost use Rattle.fvn_acunify.specs.inner.Prefix.{CanBeFilled, CanBeOne, IsBounded, IsDead, IsOpen};
 
 use fvn_lindio::Solution;
 

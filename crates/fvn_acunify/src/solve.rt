@@ -1,6 +1,6 @@
 //! The choices of a theory, from its system.
 ghost use Rattle.std.specs.Prelude.{◌≡◌, ◌≢◌, ◌↔◌, ◌≤◌, ℕ, List, IfOk, length, All, AllPairs, Contains};
-ghost use Rattle.fvn_lindio.specs.Vectors.{IsBefore};
+ghost use Rattle.fvn_base.specs.Order.{IsBefore};
 ghost use Rattle.fvn_lindio.specs.Systems.{IsMinimal, rows_of, vectors_of};
 ghost use Rattle.fvn_lindio.specs.declared.system.LinFault.{LinFault as Refusal};
 ghost use Rattle.fvn_acunify.specs.Theory.{IsOneTheory, IsRefusal};
@@ -9,6 +9,7 @@ ghost use Rattle.fvn_acunify.specs.Cursor.{Pending};
 
 use crate::choices::Choices;
 use crate::theory::{OneFault, OneTheory};
+use fvn_base::limits::{COMPONENT, MINIMAL_SOLUTIONS};
 use fvn_lindio::basis;
 use std::alloc::Global;
 
@@ -20,8 +21,8 @@ pub fn solve_one(alloc: Global, theory: &OneTheory) -> Result<Choices, OneFault>
     ensures exact { IfOk result (λ c. (v : List ℕ) → Contains (vectors_of c.basis) v
         ↔ IsMinimal theory.now.system.columns (rows_of theory.now.system) v) }
     ensures ordered { IfOk result (λ c. AllPairs IsBefore (vectors_of c.basis)) }
-    ensures few { IfOk result (λ c. length c.basis ≤ 24) }
-    ensures narrow { IfOk result (λ c. All (All (λ a. a ≤ 65535)) (vectors_of c.basis)) }
+    ensures few { IfOk result (λ c. length c.basis ≤ MINIMAL_SOLUTIONS) }
+    ensures narrow { IfOk result (λ c. All (All (λ a. a ≤ COMPONENT)) (vectors_of c.basis)) }
     ensures constants { IfOk result (λ c. c.constants ≡ theory.now.constants) }
     ensures may_be_zero { IfOk result (λ c. c.may_be_zero ≡ theory.now.may_be_zero) }
     ensures all_pending { IfOk result (λ c. (b : ℕ) →
@@ -30,8 +31,8 @@ pub fn solve_one(alloc: Global, theory: &OneTheory) -> Result<Choices, OneFault>
     // Where memory does not run out, the system's refusal is handed on, and nothing else is an error.
     ensures refused { result ≢ Err OneFault.NoMemory → (fault : Refusal) →
         (result ≡ Err (OneFault.Basis fault))
-        ↔ IsRefusal theory.now.system.columns (rows_of theory.now.system) 24 fault }
+        ↔ IsRefusal theory.now.system.columns (rows_of theory.now.system) MINIMAL_SOLUTIONS fault }
 {
-    let solutions = basis(alloc, &theory.system, 24)?;
+    let solutions = basis(alloc, &theory.system, MINIMAL_SOLUTIONS)?;
     Choices::over(alloc, theory, solutions)
 }

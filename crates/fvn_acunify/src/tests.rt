@@ -4,8 +4,8 @@ ghost use Rattle.fvn_acunify.specs.Theory.{IsOneTheory};
 
 use crate::solve::solve_one;
 use crate::theory::{OneFault, OneTheory};
-use fvn_lindio::{LinFault, Row, Solution, System};
 use fvn_base::Seq;
+use fvn_lindio::{LinFault, Row, Solution, System};
 use std::alloc::{AllocError, Global};
 use std::test::Fail;
 
@@ -110,16 +110,53 @@ fn a_refusal_is_handed_on(rt: HostRuntime) -> Result<(), Fail> {
     Ok(())
 }
 
+/// Two rows of so many columns: a solution has the greatest component in the first column, and 23 solutions
+/// have 1 in the third. No column that they use may be zero.
+fn wide_theory(alloc: Global, columns: usize, greatest: i32) -> Result<OneTheory, AllocError> {
+    let mut first = Vec::new(alloc);
+    let mut second = Vec::new(alloc);
+    let mut may_be_zero = Vec::new(alloc);
+    for column in 0..columns {
+        let is_last = columns - column <= 23;
+        first.push(match column {
+            0 => -1,
+            1 => greatest,
+            _ => 0,
+        })?;
+        second.push(match column {
+            2 => 1,
+            _ => 0 - i32::from(is_last),
+        })?;
+        may_be_zero.push(column > 2 && !is_last)?;
+    }
+    let mut rows = Vec::new(alloc);
+    for row in [first, second] {
+        rows.push(Row {
+            coefficients: Seq::from_vec(row),
+        })?;
+    }
+    Ok(OneTheory {
+        system: System {
+            columns,
+            rows: Seq::from_vec(rows),
+        },
+        constants: Seq::new(alloc),
+        may_be_zero: Seq::from_vec(may_be_zero),
+    })
+}
+
+// 24 solutions, which are the most; the most columns; and the greatest component.
 #[test]
-fn the_greatest_of_many_choices_comes_at_once(rt: HostRuntime) -> Result<(), Fail> {
+fn the_one_choice_of_all_solutions_comes_at_once(rt: HostRuntime) -> Result<(), Fail> {
     let alloc = rt.alloc();
-    let mut row = [-1i32; 25];
-    row[0] = 1;
-    let theory = one_row(alloc, &row, &[])?;
-    assert!(rt; keeps(&theory));
-    let mut choices = solve_one(alloc, &theory)?;
-    assert_eq!(rt; choices.next(), Some(16_777_215));
-    assert_eq!(rt; choices.next(), None);
+    for (columns, greatest) in [(1000, 1), (26, 65_535)] {
+        let theory = wide_theory(alloc, columns, greatest)?;
+        assert!(rt; keeps(&theory), "{columns} columns");
+        let mut choices = solve_one(alloc, &theory)?;
+        assert_eq!(rt; choices.basis().len(), 24, "{columns} columns");
+        assert_eq!(rt; choices.next(), Some(16_777_215), "{columns} columns");
+        assert_eq!(rt; choices.next(), None, "{columns} columns");
+    }
     Ok(())
 }
 

@@ -1,7 +1,8 @@
 //! What is asked of a choice of solutions, and why there is none to be had.
-use fvn_lindio::{LinFault, System};
 use fvn_base::Seq;
+use fvn_lindio::{LinFault, System};
 use std::alloc::AllocError;
+use thiserror::Error;
 
 /// A system, and what is asked of the sum of the solutions that are chosen.
 ///
@@ -17,11 +18,13 @@ pub struct OneTheory {
 }
 
 /// Why a theory has no choices.
-#[derive(Clone, Copy, Debug)]
+#[derive(Clone, Copy, Debug, Error)]
 pub enum OneFault {
     /// The system was refused: too many minimal solutions, or a component that is too large.
+    #[error("the system has no basis within the limits: {0}")]
     Basis(LinFault),
-    /// Memory ran out.
+    /// Memory was refused.
+    #[error("memory was refused")]
     NoMemory,
 }
 

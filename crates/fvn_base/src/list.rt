@@ -7,7 +7,7 @@ use std::marker::Model;
 /// Any number of values in their order; contracts see it as the list of them.
 ///
 /// It is made from a `Vec` and gives it back without taking memory.
-#[derive(Drop)]
+#[derive(Debug, Drop)]
 pub struct Seq<T> {
     items: Vec<T>,
 }

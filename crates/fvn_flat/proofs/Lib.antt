@@ -15,3 +15,11 @@ mod Listed
 pub mod Composing
 mod Renamings
 mod SortsOfFlats
+pub mod VariablesKept
+pub mod OneAnswer
+pub mod PlainAnswers
+mod GroundProblems
+pub mod Examples
+mod ExampleLists
+mod ExampleSystems
+mod ExampleSums

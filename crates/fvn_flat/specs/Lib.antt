@@ -4,3 +4,14 @@ pub mod Fits
 pub mod Bindings
 pub mod Variables
 pub mod inner
+pub mod Problems
+pub mod Partitions
+pub mod SumSystems
+pub mod SolvedLists
+pub mod Drawn
+pub mod Rules
+pub mod FlatPlaces
+pub mod Successors
+pub mod FlatLaws
+pub mod Solving
+pub mod PlainPairs

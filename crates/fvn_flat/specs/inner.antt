@@ -6,3 +6,4 @@ pub mod Own
 pub mod Summands
 pub mod Rebuilt
 pub mod SumSorts
+pub mod FlatCode

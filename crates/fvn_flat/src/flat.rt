@@ -29,7 +29,7 @@ pub(crate) enum Node {
 
 impl Model for Flat {
     ghost use Rattle.fvn_forms.specs.Flat.{FlatTerm};
-    ghost use Rattle.fvn_forms.specs.FlatCode.{coded_flat};
+    ghost use Rattle.fvn_flat.specs.inner.FlatCode.{coded_flat};
 
     ghost Value = { FlatTerm };
 

@@ -1,23 +1,23 @@
+-- Lemmas on flat forms and least sorts; the public ones are for callers.
 pub mod Order
 pub mod InOrder
 pub mod Sums
 pub mod Build
 pub mod Eval
 pub mod KindsKept
-pub mod Nests
+mod Nests
 pub mod ToCanon
-pub mod Among
 pub mod SortOrder
 pub mod SortTests
-pub mod RanksAgree
+mod RanksAgree
 pub mod Results
-pub mod Folds
+mod Folds
 pub mod KindsOfSums
-pub mod RawSorts
-pub mod SortsOfSums
+mod RawSorts
+mod SortsOfSums
 pub mod LeastSort
 pub mod Induction
 pub mod Instances
 pub mod Sizes
 pub mod LeastSortOf
-pub mod Examples
+mod Examples

@@ -1,5 +1,5 @@
 -- The order of flat forms is total, and ties only what is equal.
-use Rattle.std.proofs.Common.{◌≡◌, ℕ, Bool, true, false, List, [], ◌∷◌, refl, sym, ap, ◌∙◌, subst}
+use Rattle.std.proofs.Common.{◌≡◌, ℕ, Bool, true, false, List, [], ◌∷◌, refl, sym, ap, ◌∙◌, subst, inl, inr}
 use Rattle.std.specs.declared.cmp.Ordering.{Ordering}
 use Rattle.std.specs.declared.cmp.Ordering.TheVariants.{Less, Equal, Greater}
 use Rattle.std.specs.Bool.{Decides}
@@ -7,6 +7,7 @@ use Rattle.std.specs.Cmp.{IsTotalOrder}
 use Rattle.std.specs.Cmp.Lexicographic.{slice_cmp}
 use Rattle.std.specs.Ordering.{ordering_then, nat_cmp, bool_cmp, is_eq}
 use Rattle.std.proofs.lemmas.Cmp.{nat_list_cmp_total, on_total, ranked, tied_itself}
+use Rattle.fvn_base.specs.Decided.{Decided}
 use Rattle.fvn_terms.specs.declared.plain.Var.{Var}
 use Rattle.fvn_terms.specs.declared.plain.OpId.{OpId}
 use Rattle.fvn_forms.specs.Flat.{FlatTerm, FlatTerms, fvar, fapp, fnone, fmore}
@@ -141,9 +142,9 @@ same_flat_is t u e = flat_ties t u (equal_if (flat_cmp t u) e)
 pub same_flat-decides : (t u : FlatTerm) → Decides (same_flat t u) (t ≡ u)
 same_flat-decides t u = (same_flat_is t u, λ e. subst (λ v. same_flat t v ≡ true) e (same_flat_itself t))
 
-pub flat_equal_decided : (t u : FlatTerm) → Dec (t ≡ u)
+pub flat_equal_decided : (t u : FlatTerm) → Decided (t ≡ u)
 flat_equal_decided t u = go (same_flat t u) refl
   where
-    go : (b : Bool) → same_flat t u ≡ b → Dec (t ≡ u)
-    go true e = yes (same_flat_is t u e)
-    go false e = no (λ (p : t ≡ u). let q : same_flat t t ≡ false = ap (same_flat t) p ∙ e in cc (same_flat_itself t))
+    go : (b : Bool) → same_flat t u ≡ b → Decided (t ≡ u)
+    go true e = inl (same_flat_is t u e)
+    go false e = inr (λ (p : t ≡ u). let q : same_flat t t ≡ false = ap (same_flat t) p ∙ e in cc (same_flat_itself t))

@@ -12,7 +12,7 @@ use Rattle.fvn_terms.specs.Signature.{kind, declared, axioms}
 use Rattle.fvn_terms.specs.Equality.{IsCommutative}
 use Rattle.fvn_terms.specs.Sorts.{HasRank, is_declared, on_kinds, swapped}
 use Rattle.fvn_forms.specs.Ranks.{swapped_args, swapped_ranks, swaps, kind_rank, written_ranks, ranks_of}
-use Rattle.fvn_forms.proofs.Among.{contains_here, contains_later, contains_cases, contains_none, contains_map, map_contains}
+use Rattle.fvn_base.proofs.Membership.{contains_here, contains_later, contains_cases, contains_none, contains_map, map_contains}
 
 abbrev pub rank_of : List SortId → SortId → Rank
 rank_of ss s = record { args = ss; result = s }

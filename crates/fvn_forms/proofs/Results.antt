@@ -13,7 +13,7 @@ use Rattle.fvn_terms.specs.Sorts.{HasRank, is_declared, on_kinds, swapped}
 use Rattle.fvn_forms.specs.SortOrder.{at_or_below}
 use Rattle.fvn_forms.specs.Ranks.{Serves, IsResult, ranks_of, results, is_lowest, pass_together, first_result, result}
 use Rattle.fvn_forms.specs.Good.{TakesKinds, IsOfKind, IsGood}
-use Rattle.fvn_forms.proofs.Among.{filter_contains, contains_filter, list_all_gives, list_all_from, find_or, contains_map, map_contains}
+use Rattle.fvn_base.proofs.Membership.{filter_contains, contains_filter, list_all_gives, list_all_from, find_or, contains_map, map_contains}
 use Rattle.fvn_forms.proofs.SortOrder.{AtOrBelow-trans, AtOrBelow-kind, AtOrBelow-antisym, AtOrBelow-one_kind}
 use Rattle.fvn_forms.proofs.SortTests.{at_or_below-true, at_or_below-complete}
 use Rattle.fvn_forms.proofs.RanksAgree.{ranks_of-sound, ranks_of-swapped, rank_of}

@@ -9,7 +9,7 @@ use Rattle.fvn_terms.specs.declared.plain.SortId.{SortId}
 use Rattle.fvn_terms.specs.declared.declarations.Declarations.{Declarations}
 use Rattle.fvn_terms.specs.Signature.{kind, AtOrBelow, same, up, to_kind}
 use Rattle.fvn_forms.specs.SortOrder.{sort_number, same_sort, reaches, kind_steps, order_steps, at_or_below}
-use Rattle.fvn_forms.proofs.Among.{contains_here, contains_later, contains_cases, contains_none}
+use Rattle.fvn_base.proofs.Membership.{contains_here, contains_later, contains_cases, contains_none}
 use Rattle.fvn_forms.proofs.SortOrder.{AtOrBelow-trans, AtOrBelow-one, AtOrBelow-from_same}
 
 pub same_sort-true : (s q : SortId) → same_sort s q ≡ true → s ≡ q

@@ -1,9 +1,10 @@
 -- Well-kinded terms are equal modulo the axioms exactly where their flat forms are equal.
-use Rattle.std.proofs.Common.{◌≡◌, Bool, true, false, List, [], ◌∷◌, ◌++◌, Some, refl, sym, ap, ◌∙◌, subst, inl}
+use Rattle.std.proofs.Common.{◌≡◌, Bool, true, false, List, [], ◌∷◌, ◌++◌, Some, refl, sym, ap, ◌∙◌, subst, inl, inr}
 use Rattle.std.specs.Prelude.{◌↔◌}
 use Rattle.std.specs.Ordering.{is_gt}
 use Rattle.std.specs.List.{AllByRecursion}
 use Rattle.std.proofs.lemmas.List.{append-nil}
+use Rattle.fvn_base.specs.Decided.{Decided}
 use Rattle.fvn_terms.specs.declared.plain.OpId.{OpId}
 use Rattle.fvn_terms.specs.declared.plain.SortId.{SortId}
 use Rattle.fvn_terms.specs.declared.declarations.Axioms.{Axioms}
@@ -166,9 +167,9 @@ module _ (d : Declarations) where
     b_equal_iff_canon t u ht hu = (canon_respects d, from_canon t u ht hu)
 
     -- whether well-kinded terms are equal modulo the axioms
-    pub b_equal_decided : (t u : Term) → IsTerm d t → IsTerm d u → Dec (BEqual d t u)
+    pub b_equal_decided : (t u : Term) → IsTerm d t → IsTerm d u → Decided (BEqual d t u)
     b_equal_decided t u ht hu = go (flat_equal_decided (canon d t) (canon d u))
       where
-        go : Dec (canon d t ≡ canon d u) → Dec (BEqual d t u)
-        go (yes e) = yes (from_canon t u ht hu e)
-        go (no n) = no (λ p. n (canon_respects d p))
+        go : Decided (canon d t ≡ canon d u) → Decided (BEqual d t u)
+        go (inl e) = inl (from_canon t u ht hu e)
+        go (inr n) = inr (λ p. n (canon_respects d p))

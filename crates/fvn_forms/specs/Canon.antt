@@ -1,4 +1,5 @@
 -- The flat form of a term.
+-- G. E. Peterson and M. E. Stickel, Complete sets of reductions for some equational theories, 1981.
 use Rattle.std.specs.Prelude.{Bool, true, false, nat_eq, if◌then◌else◌, List, [], ◌∷◌, ◌++◌, Option, Some, None}
 use Rattle.fvn_terms.specs.declared.plain.Var.{Var}
 use Rattle.fvn_terms.specs.declared.plain.OpId.{OpId}
@@ -10,6 +11,7 @@ use Rattle.fvn_terms.specs.Signature.{axioms}
 use Rattle.fvn_forms.specs.Flat.{FlatTerm, fvar, fapp, fnone, fmore, fpack, funpack, fconstant, plain}
 use Rattle.fvn_forms.specs.InOrder.{sort}
 
+-- whether two operators are one
 abbrev pub same_op : OpId → OpId → Bool
 same_op f g = nat_eq f.0 g.0
 
@@ -40,6 +42,7 @@ module _ (d : Declarations) where
   parts f (fapp g false fnone) = if is_identity (identity (axioms d f)) g then [] else fconstant g ∷ []
   parts f (fapp g false (fmore t ts)) = fapp g false (fmore t ts) ∷ []
 
+  -- the summands of several flat forms under f, one after another
   abbrev pub all_parts : OpId → List FlatTerm → List FlatTerm
   all_parts f [] = []
   all_parts f (t ∷ ts) = parts f t ++ all_parts f ts
@@ -55,6 +58,7 @@ module _ (d : Declarations) where
   joined f (t ∷ []) = t
   joined f (t ∷ u ∷ us) = fapp f true (fpack (t ∷ u ∷ us))
 
+  -- the sum of summands in any order
   abbrev pub sum : OpId → List FlatTerm → FlatTerm
   sum f ts = joined f (sort ts)
 
@@ -76,6 +80,7 @@ module _ (d : Declarations) where
     eval s (var x) = s x
     eval s (app f ts) = build f (eval_all s ts)
 
+    -- the flat forms of a list of terms in which each variable stands for a flat form
     pub eval_all : (Var → FlatTerm) → Terms → List FlatTerm
     eval_all s none = []
     eval_all s (more t ts) = eval s t ∷ eval_all s ts

@@ -1,4 +1,6 @@
 -- Good signatures.
+-- Maude Manual, chapter 3.
+-- The last two conditions on sorts, on brackets and on identities, are this project's own.
 use Rattle.std.specs.Prelude.{◌≡◌, ◌≤◌, List, [], ◌∷◌, map, length, All, Contains}
 use Rattle.fvn_terms.specs.declared.plain.OpId.{OpId}
 use Rattle.fvn_terms.specs.declared.plain.SortId.{SortId}
@@ -44,6 +46,7 @@ module _ (d : Declarations) where
   abbrev pub Collapses : OpId → OpId → SortId → Type 0
   Collapses f e a = AtOrBelow d a (result d f (a ∷ result d e [] ∷ []))
 
+  -- at most 64 sorts, 256 operators and 8 arguments
   pub record IsWithinLimits : Type 0 where
     pub sorts : d.sorts ≤ 64
     pub operators : length d.ops ≤ 256

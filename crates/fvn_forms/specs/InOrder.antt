@@ -10,15 +10,17 @@ InOrder [] = Unit {0}
 InOrder (t ∷ []) = Unit {0}
 InOrder (t ∷ u ∷ us) = (is_gt (flat_cmp t u) ≡ false) × InOrder (u ∷ us)
 
--- before the first flat form that it is not after
+-- the list with t put before the first flat form that it is not after
 abbrev pub insert : FlatTerm → List FlatTerm → List FlatTerm
 insert t [] = t ∷ []
 insert t (u ∷ us) = if is_gt (flat_cmp t u) then u ∷ insert t us else t ∷ u ∷ us
 
+-- the list in order
 abbrev pub sort : List FlatTerm → List FlatTerm
 sort [] = []
 sort (t ∷ ts) = insert t (sort ts)
 
+-- 1 where it is true, else 0
 abbrev pub one_if : Bool → ℕ
 one_if true = 1
 one_if false = 0

@@ -1,5 +1,6 @@
 -- Laws of flat forms.
 use Rattle.std.specs.Prelude.{◌≡◌, ◌↔◌}
+use Rattle.fvn_base.specs.Decided.{Decided}
 use Rattle.fvn_terms.specs.declared.declarations.Declarations.{Declarations}
 use Rattle.fvn_terms.specs.declared.plain.Var.{Var}
 use Rattle.fvn_terms.specs.declared.plain.SortId.{SortId}
@@ -16,7 +17,7 @@ use Rattle.fvn_forms.specs.LeastSort.{sort_in, least_sort, KeepsKindsOfVariables
 
 -- two flat forms are equal or not
 abbrev pub FlatFormsAreCompared : Type 0
-FlatFormsAreCompared = (t u : FlatTerm) → Dec (t ≡ u)
+FlatFormsAreCompared = (t u : FlatTerm) → Decided (t ≡ u)
 
 -- a form is settled exactly where it is the flat form of its plain term
 abbrev pub SettledIsFlat : Type 0

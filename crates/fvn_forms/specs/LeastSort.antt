@@ -1,4 +1,5 @@
 -- The least sort of a flat form.
+-- J. A. Goguen and J. Meseguer, Order-sorted algebra I, 1992.
 use Rattle.std.specs.Prelude.{◌≡◌, Bool, true, false, List, [], ◌∷◌}
 use Rattle.std.specs.List.{fold}
 use Rattle.fvn_terms.specs.declared.plain.Var.{Var}
@@ -20,6 +21,7 @@ module _ (d : Declarations) where
   sum_sort f [] = result d f []
   sum_sort f (s ∷ ss) = fold (result_of_two f) s ss
 
+  -- the least sort of f over terms of these sorts, joined or not
   abbrev pub sort_over : OpId → Bool → List SortId → SortId
   sort_over f true ss = sum_sort f ss
   sort_over f false ss = result d f ss
@@ -30,10 +32,12 @@ module _ (d : Declarations) where
     sort_in env (fvar x) = env x
     sort_in env (fapp f joined ts) = sort_over f joined (sorts_in env ts)
 
+    -- the least sorts of a list of flat forms whose variables have these sorts
     pub sorts_in : (Var → SortId) → FlatTerms → List SortId
     sorts_in env fnone = []
     sorts_in env (fmore t ts) = sort_in env t ∷ sorts_in env ts
 
+  -- the least sort of a flat form
   abbrev pub least_sort : FlatTerm → SortId
   least_sort = sort_in (λ x. x.sort)
 

@@ -1,5 +1,5 @@
+-- The words of flat forms, of good signatures and of least sorts.
 pub mod Flat
-pub mod FlatCode
 pub mod Order
 pub mod InOrder
 pub mod Canon

@@ -18,11 +18,13 @@ abbrev mutual
   flat_cmp (fapp f j ts) (fvar y) = Greater
   flat_cmp (fapp f j ts) (fapp g k us) = ordering_then (nat_cmp f.0 g.0) (ordering_then (bool_cmp j k) (flats_cmp ts us))
 
+  -- by the first members that differ; a list that ends there comes first
   pub flats_cmp : FlatTerms → FlatTerms → Ordering
   flats_cmp fnone fnone = Equal
   flats_cmp fnone (fmore u us) = Less
   flats_cmp (fmore t ts) fnone = Greater
   flats_cmp (fmore t ts) (fmore u us) = ordering_then (flat_cmp t u) (flats_cmp ts us)
 
+-- whether two flat forms are one
 abbrev pub same_flat : FlatTerm → FlatTerm → Bool
 same_flat t u = is_eq (flat_cmp t u)

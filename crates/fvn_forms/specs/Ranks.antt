@@ -1,4 +1,5 @@
 -- The ranks that serve an operator, and the least result over given sorts.
+-- J. A. Goguen and J. Meseguer, Order-sorted algebra I, 1992.
 use Rattle.std.specs.Prelude.{◌≡◌, List, [], ◌∷◌, ◌++◌, map, find, Contains, unwrap_or}
 use Rattle.std.specs.List.{AllZip, list_all, filter}
 use Rattle.std.specs.Prelude.{Bool, true, false, ◌&&◌}
@@ -11,6 +12,7 @@ use Rattle.fvn_terms.specs.declared.declarations.Declarations.{Declarations}
 use Rattle.fvn_terms.specs.Signature.{kind, declared, axioms, AtOrBelow}
 use Rattle.fvn_forms.specs.SortOrder.{sort_number, at_or_below}
 
+-- the rank with these two arguments swapped; none for other numbers of arguments
 abbrev pub swapped_args : List SortId → SortId → List Rank
 swapped_args (s ∷ q ∷ []) r = record { args = q ∷ s ∷ []; result = r } ∷ []
 swapped_args [] r = []

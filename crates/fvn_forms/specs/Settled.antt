@@ -1,4 +1,5 @@
 -- Which flat forms are flat in a signature.
+-- G. E. Peterson and M. E. Stickel, Complete sets of reductions for some equational theories, 1981.
 use Rattle.std.specs.Prelude.{◌≡◌, ◌≤◌, Bool, true, false, List, [], ◌∷◌, length}
 use Rattle.std.specs.List.{AllByRecursion}
 use Rattle.fvn_terms.specs.declared.plain.Var.{Var}
@@ -31,6 +32,7 @@ module _ (d : Declarations) where
     pub two_or_more : 2 ≤ length ts
     pub in_order : InOrder ts
 
+  -- what an operator may stand over, joined or not
   abbrev pub FitsOver : OpId → Bool → List FlatTerm → Type 0
   FitsOver f true ts = IsJoined f ts
   FitsOver f false ts = FitsUnjoined (axioms d f) ts
@@ -41,6 +43,7 @@ module _ (d : Declarations) where
     Settled (fvar x) = Unit {0}
     Settled (fapp f joined ts) = FitsOver f joined (funpack ts) × SettledAll ts
 
+    -- each flat form of a list is settled
     pub SettledAll : FlatTerms → Type 0
     SettledAll fnone = Unit {0}
     SettledAll (fmore t ts) = Settled t × SettledAll ts

@@ -3,9 +3,11 @@ use Rattle.std.specs.Prelude.{ℕ, ◌+◌, Bool, ◌&&◌, ◌||◌, nat_eq, Li
 use Rattle.fvn_terms.specs.declared.plain.SortId.{SortId}
 use Rattle.fvn_terms.specs.declared.declarations.Declarations.{Declarations}
 
+-- the sort of this number
 abbrev pub sort_number : ℕ → SortId
 sort_number n = record { 0 = n }
 
+-- whether two sorts are one
 abbrev pub same_sort : SortId → SortId → Bool
 same_sort s q = nat_eq s.0 q.0
 

@@ -7,7 +7,8 @@ use Rattle.fvn_lex.specs.declared.token.LexFault.{LexFault}
 use Rattle.fvn_lex.specs.declared.token.LexFault.TheVariants.{BadByte, BlockComment, NoMemory}
 use Rattle.fvn_lex.specs.declared.cut.Place.TheVariants.{Between}
 use Rattle.fvn_lex.specs.Bytes.{is_blank, is_special, is_printed, begins_comment, begins_block}
-use Rattle.fvn_lex.specs.Cut.{Stop, prepend, begin, advance, follow, lex_from, lex}
+use Rattle.fvn_lex.specs.inner.Machine.{Stop, prepend, begin, advance, follow, lex_from}
+use Rattle.fvn_lex.specs.Cut.{lex}
 use Rattle.fvn_lex.specs.Parts.{begins_bad, row_bytes, row_tokens, IsCutInto, IsRowUpTo, IsFirstFault}
 use Rattle.fvn_lex.proofs.ByteLemmas.{special-printed, dash-printed, dash-not_blank, dash-not_special, begins_comment-dash, begins_block-comment, begins_block-nil, false_when}
 use Rattle.fvn_lex.proofs.Reading.{lex_from-nil, lex_from-cons}

@@ -8,7 +8,8 @@ use Rattle.fvn_lex.specs.declared.token.Class.{Class}
 use Rattle.fvn_lex.specs.declared.token.Class.TheVariants.{Word, Special, Dot}
 use Rattle.fvn_lex.specs.declared.token.Token.{Token}
 use Rattle.fvn_lex.specs.Bytes.{is_blank, is_special, is_printed, goes_on}
-use Rattle.fvn_lex.specs.Cut.{Lexed, Piece, piece_at, pieces_in, pieces_of, lex}
+use Rattle.fvn_lex.specs.Spans.{Lexed}
+use Rattle.fvn_lex.specs.Cut.{Piece, piece_at, pieces_in, pieces_of, lex}
 use Rattle.fvn_lex.specs.Parts.{goes_through, stops, is_quoted_after, class_of, IsWordPiece, IsSpecialPiece, IsItem, Single, Longest, Part, White, Remark, Item, row_bytes, AreParts, row_tokens, row_pieces, IsCutInto}
 use Rattle.fvn_lex.specs.Join.{IsPiece, would_merge, needs_space, Laid, pieces, space, join_after, join}
 use Rattle.fvn_lex.proofs.ByteLemmas.{goes_on-plain, goes_on-printed, goes_on-not_special, special-printed}

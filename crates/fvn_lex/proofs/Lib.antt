@@ -1,10 +1,11 @@
-pub mod ByteLemmas
-pub mod CutLemmas
-pub mod JoinLemmas
-pub mod Reading
-pub mod RowReading
-pub mod Rows
-pub mod SpaceLemmas
-pub mod SpanLemmas
-pub mod TrailLemmas
-pub mod WordLemmas
+-- Lemmas on bytes, on the reading of a text and on its rows of parts.
+mod ByteLemmas
+mod CutLemmas
+mod JoinLemmas
+mod Reading
+mod RowReading
+mod Rows
+mod SpaceLemmas
+mod SpanLemmas
+mod TrailLemmas
+mod WordLemmas

@@ -1,11 +1,14 @@
 -- How the reading of a text goes on, byte by byte.
-use Rattle.std.proofs.Common.{◌≡◌, ℕ, ◌+◌, ◌<◌, List, [], ◌∷◌, ◌++◌, length, get_or, drop, take, ◌-◌, refl, ap, sym, append_assoc, add-one, Ok, Err, Some, None, map}
-use Rattle.std.proofs.Math.Seq.{drop-cons, drop-length}
-use Rattle.std.proofs.lemmas.List.{take_rest}
+use Rattle.std.proofs.Common.{◌≡◌, ℕ, ◌+◌, ◌<◌, List, [], ◌∷◌, ◌++◌, length, get_or, drop, take, ◌-◌, refl, ap, sym, append_assoc, Ok, Err, Some, None, map}
+use Rattle.std.proofs.Math.Seq.{drop-length}
+use Rattle.std.proofs.lemmas.List.{take_rest, get_or_default}
+use Rattle.fvn_base.proofs.Drops.{drop-at}
 use Rattle.fvn_lex.specs.declared.token.Token.{Token}
 use Rattle.fvn_lex.specs.declared.token.LexFault.{LexFault}
 use Rattle.fvn_lex.specs.declared.cut.Place.{Place}
-use Rattle.fvn_lex.specs.Cut.{Lexed, Move, Go, Stop, LeadsTo, prepend, advance, follow, rest_of, lex_from, lex, piece_at, pieces_in, pieces_of}
+use Rattle.fvn_lex.specs.Spans.{Lexed}
+use Rattle.fvn_lex.specs.inner.Machine.{Move, Go, Stop, LeadsTo, prepend, advance, follow, rest_of, lex_from}
+use Rattle.fvn_lex.specs.Cut.{lex, piece_at, pieces_in, pieces_of}
 
 pub prepend-prepend : (made more : List Token) (r : Lexed) →
     prepend made (prepend more r) ≡ prepend (made ++ more) r
@@ -25,16 +28,12 @@ pub lex_from-cons : (place : Place) (n b : ℕ) (rest : List ℕ) →
 unfolding lex_from
 lex_from-cons place n b rest = refl
 
-pub drop-at : (bytes : List ℕ) (n : ℕ) → n < length bytes →
-    drop n bytes ≡ get_or bytes n 0 ∷ drop (n + 1) bytes
-drop-at bytes n h = rw add-one (drop-cons bytes n 0 h)
-
 pub lex_from-drop : (bytes : List ℕ) (place : Place) (n : ℕ) → n < length bytes →
     lex_from place n (drop n bytes)
     ≡ follow (advance place n (get_or bytes n 0) (drop n bytes))
     (λ next. lex_from next (n + 1) (drop (n + 1) bytes))
 lex_from-drop bytes place n h =
-    rw (drop-at bytes n h) (lex_from-cons place n (get_or bytes n 0) (drop (n + 1) bytes))
+    rw (drop-at bytes n (get_or bytes n 0) h (get_or_default bytes n 0 (get_or bytes n 0) h)) (lex_from-cons place n (get_or bytes n 0) (drop (n + 1) bytes))
 
 pub follow-go : (m : Move) (before now : List Token) (next : Place) (reading : Place → Lexed) →
     LeadsTo m before now next → prepend before (follow m reading) ≡ prepend now (reading next)

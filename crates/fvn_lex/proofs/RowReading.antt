@@ -7,7 +7,9 @@ use Rattle.fvn_lex.specs.declared.token.Token.{Token}
 use Rattle.fvn_lex.specs.declared.cut.Place.{Place}
 use Rattle.fvn_lex.specs.declared.cut.Place.TheVariants.{Between, Comment, Inside}
 use Rattle.fvn_lex.specs.Bytes.{is_blank, is_special, is_printed, is_backquote, goes_on, begins_comment, begins_block}
-use Rattle.fvn_lex.specs.Cut.{Lexed, Move, Go, Stop, token, prepend, begin, after, advance, follow, lex_from, Piece}
+use Rattle.fvn_lex.specs.Spans.{Lexed, token}
+use Rattle.fvn_lex.specs.inner.Machine.{Move, Go, Stop, prepend, begin, after, advance, follow, lex_from}
+use Rattle.fvn_lex.specs.Cut.{Piece}
 use Rattle.fvn_lex.specs.Parts.{goes_through, is_quoted_after, stops, class_of, is_one_line, ends_line, IsWordPiece, IsRemark, IsItem, Single, Longest, Part, White, Remark, Item, row_bytes, AreParts, row_tokens}
 use Rattle.fvn_lex.proofs.ByteLemmas.{printed-not_blank, goes_on-printed, goes_on-not_special, special-not_blank, dash-not_blank, dash-not_special, begins_comment-dash, begins_comment-append, begins_comment-word, no_comment-no_block, feed-blank, begins_comment-nil, begins_block-line}
 use Rattle.fvn_lex.proofs.Reading.{prepend-prepend, prepend-nil, lex_from-nil, lex_from-cons}

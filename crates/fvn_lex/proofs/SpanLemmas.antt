@@ -5,7 +5,8 @@ use Rattle.std.proofs.lemmas.List.Elements.{All-nil, All-cons}
 use Rattle.std.proofs.lemmas.List.Kept.{AllPairs-cons}
 use Rattle.std.proofs.Math.Seq.{drop-append_seam, take-append_seam}
 use Rattle.fvn_lex.specs.declared.token.Token.{Token}
-use Rattle.fvn_lex.specs.Cut.{Piece, piece_at, token}
+use Rattle.fvn_lex.specs.Cut.{Piece, piece_at}
+use Rattle.fvn_lex.specs.Spans.{token}
 use Rattle.fvn_lex.specs.Parts.{IsItem, Single, Longest, Part, White, Remark, Item, row_bytes, AreParts, row_tokens, row_pieces, IsCutInto}
 use Rattle.fvn_lex.specs.Spans.{AreWithin, AreInOrder}
 

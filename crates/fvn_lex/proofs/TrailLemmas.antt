@@ -4,7 +4,9 @@ use Rattle.std.proofs.lemmas.Bool.Decides.{nat_tests}
 use Rattle.fvn_lex.specs.declared.cut.Place.{Place}
 use Rattle.fvn_lex.specs.declared.cut.Place.TheVariants.{Between, Comment, Inside}
 use Rattle.fvn_lex.specs.Bytes.{is_blank, goes_on, begins_comment, begins_block}
-use Rattle.fvn_lex.specs.Cut.{Lexed, Move, Go, Stop, prepend, begin, advance, follow, rest_of, lex_from, lex}
+use Rattle.fvn_lex.specs.Spans.{Lexed}
+use Rattle.fvn_lex.specs.inner.Machine.{Move, Go, Stop, prepend, begin, advance, follow, rest_of, lex_from}
+use Rattle.fvn_lex.specs.Cut.{lex}
 use Rattle.fvn_lex.proofs.ByteLemmas.{false_when, goes_on-printed, printed-not_blank}
 use Rattle.fvn_lex.proofs.Reading.{lex_from-nil, lex_from-cons}
 

@@ -9,10 +9,6 @@ use Rattle.fvn_lex.specs.Parts.{is_quoted_after}
 unfoldable pub IsPiece : Piece → Type 0
 IsPiece p = pieces_of p.text ≡ Some (p ∷ [])
 
--- a text that is a single word
-abbrev pub IsWord : List ℕ → Type 0
-IsWord text = IsPiece (record { class = Word; text = text })
-
 -- Whether two pieces, one directly after the other, would be one token, by their classes and the first one's
 -- text: two words would, and so would a word that ends with a backquote, and a special byte.
 abbrev pub would_merge : Class → List ℕ → Class → Bool
@@ -33,6 +29,7 @@ pub record Laid : Type 0 where
   pub spaced : Bool
   pub piece : Piece
 
+-- the pieces alone
 abbrev pub pieces : List Laid → List Piece
 pieces [] = []
 pieces (l ∷ laid) = l.piece ∷ pieces laid

@@ -6,7 +6,8 @@ use Rattle.fvn_lex.specs.declared.token.Token.{Token}
 use Rattle.fvn_lex.specs.declared.token.LexFault.{LexFault}
 use Rattle.fvn_lex.specs.declared.token.LexFault.TheVariants.{BadByte, BlockComment, NoMemory}
 use Rattle.fvn_lex.specs.Bytes.{is_blank, is_special, is_printed, is_backquote, goes_on, begins_comment, begins_block}
-use Rattle.fvn_lex.specs.Cut.{Piece, token}
+use Rattle.fvn_lex.specs.Cut.{Piece}
+use Rattle.fvn_lex.specs.Spans.{token}
 
 -- Words.
 
@@ -64,6 +65,7 @@ pub data Part : Type 0 where
   Remark : List ℕ → Part
   Item : Piece → Part
 
+-- the bytes of a part
 abbrev pub bytes_of : Part → List ℕ
 bytes_of (White b) = b ∷ []
 bytes_of (Remark text) = text

@@ -1,7 +1,8 @@
 //! Cutting a text into tokens, in one pass over its bytes.
 ghost use Rattle.std.specs.Prelude.{◌≡◌, ◌+◌, ◌<◌, ◌^◌, ◌⊎◌, ◌++◌, IfOk, IfErr, OnOk, map};
 ghost use Rattle.fvn_lex.specs.Bytes.{is_blank, is_special, is_printed, goes_on, begins_block, begins_comment};
-ghost use Rattle.fvn_lex.specs.Cut.{lex, pieces_of, piece_at, begin, advance, LeadsTo, StopsAt, rest_of};
+ghost use Rattle.fvn_lex.specs.Cut.{lex, pieces_of, piece_at};
+ghost use Rattle.fvn_lex.specs.inner.Machine.{begin, advance, LeadsTo, StopsAt, rest_of};
 ghost use Rattle.fvn_lex.specs.Parts.{IsCutInto, IsFirstFault};
 ghost use Rattle.fvn_lex.specs.Spans.{AreWithin, AreInOrder};
 
@@ -66,7 +67,7 @@ fn begins_block_text(text: &[u8]) -> bool
 }
 
 // Reads the byte where a token would begin: a special byte is pushed as a token.
-#[tactic(auto, unfolding(crate::specs::Cut::begin))]
+#[tactic(auto, unfolding(crate::specs::inner::Machine::begin))]
 fn begin_byte(
     offset: usize,
     byte: u8,
@@ -110,7 +111,7 @@ fn begin_byte(
 }
 
 // Reads the byte at a place, and pushes the tokens that it completes.
-#[tactic(auto, unfolding(crate::specs::Cut::advance))]
+#[tactic(auto, unfolding(crate::specs::inner::Machine::advance))]
 fn move_on(
     place: Place,
     offset: usize,

@@ -24,6 +24,14 @@ fn shown(alloc: Global, bytes: &[u8]) -> Result<String, Fail> {
     }
 }
 
+// The number of the tokens of a text, or none at a fault.
+fn count(alloc: Global, bytes: &[u8]) -> Option<usize> {
+    match tokens(alloc, bytes) {
+        Ok(list) => Some(list.len()),
+        Err(_) => None,
+    }
+}
+
 #[test]
 fn words_and_white_space(rt: HostRuntime) -> Result<(), Fail> {
     for (text, want) in [
@@ -154,6 +162,25 @@ fn refused_bytes(rt: HostRuntime) -> Result<(), Fail> {
             want,
             "at {byte}"
         );
+    }
+    Ok(())
+}
+
+// A line of 32 bytes again and again up to 1 MiB, the longest text that the program reads.
+#[test]
+fn long_texts(rt: HostRuntime) -> Result<(), Fail> {
+    for (line, many) in [
+        ("op _`,_ : S S -> S .\r\n--- x.\r\n.\n", 294_912),
+        ("([{,}]) ([{,}]) ([{,}]) ([{,}])\n", 917_504),
+        ("a`(b`)c`[d`]e`{f`}g`,h``i```j`.k", 1),
+        ("--- *** `( \t\u{e9} a comment alone.\n", 0),
+    ] {
+        let mut text = Vec::new(rt.alloc());
+        for _ in 0..32_768 {
+            text.extend_from_slice(line.as_bytes())?;
+        }
+        assert_eq!(rt; text.len(), 1_048_576, "at {line}");
+        assert_eq!(rt; count(rt.alloc(), &text), Some(many), "at {line}");
     }
     Ok(())
 }

@@ -1,6 +1,7 @@
 //! Tokens, and the faults for which a text has none.
 
 use std::alloc::AllocFailed;
+use thiserror::Error;
 
 /// What kind of token it is: one of the bytes `( ) [ ] { } ,`, the word `.` alone, or any other word.
 #[derive(Clone, Copy, Debug, PartialEq, Eq)]
@@ -23,10 +24,13 @@ pub struct Token {
 /// `BadByte` holds the offset of a byte that may stand in comments alone, `BlockComment` the offset of the
 /// first of the four bytes `---(` or `***(`. After `NoMemory` the text may have tokens: the list of them found
 /// no room.
-#[derive(Clone, Copy, Debug, PartialEq, Eq)]
+#[derive(Clone, Copy, Debug, PartialEq, Eq, Error)]
 pub enum LexFault {
+    #[error("the byte at offset {0} may stand in a comment alone")]
     BadByte(usize),
+    #[error("a block comment begins at offset {0}: write a line comment in its place")]
     BlockComment(usize),
+    #[error("memory was refused")]
     NoMemory,
 }
 

@@ -5,17 +5,18 @@ use Rattle.std.specs.List.{All, Contains}
 use Rattle.std.proofs.lemmas.List.{get_or-set_other, get_or_past, length-set, length-replicate}
 use Rattle.std.proofs.lemmas.List.Elements.{All-nil, All-cons, All-head, All-tail, All-push, All-pop, All-set, All-replicate, All-contains}
 use Rattle.std.proofs.lemmas.Bool.{cases_lt}
+use Rattle.fvn_base.specs.Decided.{Decided}
 use Rattle.fvn_lindio.specs.Vectors.{IsAtOrBelow, IsNonZero}
 use Rattle.fvn_lindio.specs.Systems.{above, below, IsZeroAt, IsUnused, Solves, IsMinimal}
-use Rattle.fvn_lindio.specs.Search.{Lies}
-use Rattle.fvn_lindio.specs.Levels.{Generates}
-use Rattle.fvn_lindio.specs.Generators.{Adds, IsValued, Values, IsNewUnit, IsNewUnitBelow, vectors_in}
+use Rattle.fvn_lindio.specs.inner.Search.{Lies}
+use Rattle.fvn_lindio.specs.inner.Levels.{Generates}
+use Rattle.fvn_lindio.specs.inner.Generators.{Adds, IsValued, Values, IsNewUnit, IsNewUnitBelow, vectors_in}
 use Rattle.fvn_lindio.specs.declared.level.Point.{Point}
 use Rattle.fvn_lindio.proofs.VectorLemmas.{sum-cons, sides-zero}
 use Rattle.fvn_lindio.proofs.ValueLemmas.{zero-both}
 use Rattle.fvn_lindio.proofs.Solving.{minimal_below}
 use Rattle.fvn_lindio.proofs.LevelLemmas.{pushed_old, pushed_new, pushed_cases}
-use Rattle.fvn_lindio.proofs.ListSteps.{mapped_member_old, mapped_member_new, mapped_member_cases}
+use Rattle.fvn_base.proofs.MappedLists.{mapped_member_old, mapped_member_new, mapped_member_cases}
 
 -- one vector more
 pub known_more : (row : List ℤ) (known : List (SmallVec ℕ)) (i : ℕ) (v : SmallVec ℕ) (old new : List Point) (p : Point) → i < length known → v ≡ get_or known i v → new ≡ old ++ (p ∷ []) → p.parts.items ≡ v.items → IsValued row p → Values row (Contains (vectors_in (take i known))) old → Values row (Contains (vectors_in (take (i + 1) known))) new
@@ -109,10 +110,10 @@ unit_below (a ∷ z) (suc j) h = (omega arith, unit_below z j h)
 
 -- ---- unused columns
 
-zero_told : (z : ℤ) → (z ≡ pos 0) ⊎ (z ≡ pos 0 → ⊥)
+zero_told : (z : ℤ) → Decided (z ≡ pos 0)
 zero_told z = go (cases_lt 0 (above z)) (cases_lt 0 (below z))
   where
-    go : (0 < above z) ⊎ (above z ≤ 0) → (0 < below z) ⊎ (below z ≤ 0) → (z ≡ pos 0) ⊎ (z ≡ pos 0 → ⊥)
+    go : (0 < above z) ⊎ (above z ≤ 0) → (0 < below z) ⊎ (below z ≤ 0) → Decided (z ≡ pos 0)
     go (inl h) k = inr (λ e. let f : above z ≡ 0 = ap above e in omega (arith, f, h))
     go (inr h) (inl k) = inr (λ e. let f : below z ≡ 0 = ap below e in omega (arith, f, k))
     go (inr h) (inr k) = inl (zero-both z (omega arith) (omega arith))
@@ -121,11 +122,11 @@ zero_told z = go (cases_lt 0 (above z)) (cases_lt 0 (below z))
 abbrev pub ZeroIn : ℕ → List ℤ → Type 0
 ZeroIn j row = get_or row j (pos 0) ≡ pos 0
 
-unused_told : (rows : List (List ℤ)) (j : ℕ) → IsUnused rows j ⊎ (IsUnused rows j → ⊥)
+unused_told : (rows : List (List ℤ)) (j : ℕ) → Decided (IsUnused rows j)
 unused_told [] j = inl (All-nil (ZeroIn j))
 unused_told (row ∷ rows) j = go (zero_told (get_or row j (pos 0))) (unused_told rows j)
   where
-    go : (get_or row j (pos 0) ≡ pos 0) ⊎ (get_or row j (pos 0) ≡ pos 0 → ⊥) → IsUnused rows j ⊎ (IsUnused rows j → ⊥) → IsUnused (row ∷ rows) j ⊎ (IsUnused (row ∷ rows) j → ⊥)
+    go : Decided (get_or row j (pos 0) ≡ pos 0) → Decided (IsUnused rows j) → IsUnused (row ∷ rows) j ⊎ (IsUnused (row ∷ rows) j → ⊥)
     go (inl e) (inl h) = inl (All-cons (ZeroIn j) row rows e h)
     go (inl e) (inr n) = inr (λ h. n (All-tail (ZeroIn j) row rows h))
     go (inr n) h = inr (λ k. n (All-head (ZeroIn j) row rows k))
@@ -150,7 +151,7 @@ new_column rows z (suc n) = go (new_column rows z n) (unused_told rows n) (cases
             let e : n ≡ j = omega (arith, l, h) in
             subst (λ k. IsUnused rows k → get_or z k 0 ≡ 0) e here u
 
-    go : HasNew rows z n ⊎ HasNoNew rows z n → IsUnused rows n ⊎ (IsUnused rows n → ⊥) → (0 < get_or z n 0) ⊎ (get_or z n 0 ≤ 0) → HasNew rows z (suc n) ⊎ HasNoNew rows z (suc n)
+    go : HasNew rows z n ⊎ HasNoNew rows z n → Decided (IsUnused rows n) → (0 < get_or z n 0) ⊎ (get_or z n 0 ≤ 0) → HasNew rows z (suc n) ⊎ HasNoNew rows z (suc n)
     go (inl s) u p = inl (s.0, omega (arith, s.1), s.2, s.3)
     go (inr none) (inl u) (inl p) = inl (n, omega arith, u, p)
     go (inr none) (inl u) (inr p) = inr (no_new_more none (λ _. omega (arith, p)))

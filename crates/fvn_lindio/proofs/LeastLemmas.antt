@@ -1,5 +1,5 @@
 -- Ordered lists of vectors, and the least of some.
-use Rattle.std.proofs.Common.{◌≡◌, ℕ, ◌+◌, ◌-◌, ◌<◌, ◌≤◌, ◌⊎◌, ◌↔◌, List, [], ◌∷◌, ◌++◌, length, get_or, take, drop, map, refl, sym, ap, ◌∙◌, subst, inl, inr, arith}
+use Rattle.std.proofs.Common.{◌≡◌, ℕ, ◌+◌, ◌-◌, ◌<◌, ◌≤◌, ◌⊎◌, ◌↔◌, List, [], ◌∷◌, ◌++◌, length, get_or, take, drop, map, sym, ap, ◌∙◌, subst, inl, inr, arith}
 use Rattle.smallvec.specs.SmallVec.{SmallVec}
 use Rattle.std.specs.List.{All, AllPairs, Contains, insert}
 use Rattle.std.proofs.lemmas.List.{get_or_default, get_or-map, map-append, take-map, drop-map, take_all, take_more, take-append-drop}
@@ -7,41 +7,12 @@ use Rattle.std.proofs.lemmas.List.Elements.{Contains-append_left, Contains-get_o
 use Rattle.std.specs.Prelude.{Bool, false, IsTrue}
 use Rattle.std.proofs.lemmas.List.Edits.{length-insert, get_or-insert_below, get_or-insert_at, get_or-insert_above}
 use Rattle.std.proofs.lemmas.Bool.{cases_lt, cases_order}
-use Rattle.fvn_lindio.specs.Vectors.{IsBefore}
-use Rattle.fvn_lindio.specs.Generators.{vectors_in}
-use Rattle.fvn_lindio.specs.Least.{HasOther, IsLeast, IsPlace, IsUniform, StandsAt}
+use Rattle.fvn_base.specs.Order.{IsBefore}
+use Rattle.fvn_base.proofs.Order.{before_else, before_trans}
+use Rattle.fvn_lindio.specs.inner.Generators.{vectors_in}
+use Rattle.fvn_lindio.specs.inner.Least.{HasOther, IsLeast, IsPlace, IsUniform, StandsAt}
 use Rattle.fvn_lindio.specs.declared.level.Point.{Point}
 use Rattle.fvn_lindio.proofs.LevelLemmas.{pushed_old, pushed_new, pushed_cases}
-
--- ---- the order
-
-pub before_else : (x y : List ℕ) → length x ≡ length y → (IsBefore x y → ⊥) → (x ≡ y → ⊥) → IsBefore y x
-before_else [] [] h n m = absurd (m refl)
-before_else [] (b ∷ y) h n m = absurd (omega arith)
-before_else (a ∷ x) [] h n m = absurd (omega arith)
-before_else (a ∷ x) (b ∷ y) h n m = go (cases_order a b) (before_else x y)
-  where
-    go : (a ≡ b) ⊎ ((a < b) ⊎ (b < a)) → (length x ≡ length y → (IsBefore x y → ⊥) → (x ≡ y → ⊥) → IsBefore y x) → IsBefore (b ∷ y) (a ∷ x)
-    go (inr (inl l)) rest = absurd (n (inl l))
-    go (inr (inr l)) rest = inl l
-    go (inl e) rest = inr (sym e, rest (omega arith) (λ l. n (inr (e, l))) (λ f. m (cc)))
-
-pub before_trans : (x y z : List ℕ) → IsBefore x y → IsBefore y z → IsBefore x z
-before_trans [] y z h k = absurd h
-before_trans (a ∷ x) [] z h k = absurd h
-before_trans (a ∷ x) (b ∷ y) [] h k = absurd k
-before_trans (a ∷ x) (b ∷ y) (c ∷ z) h k = go h k (before_trans x y z)
-  where
-    go : (a < b) ⊎ (a ≡ b) × IsBefore x y → (b < c) ⊎ (b ≡ c) × IsBefore y z → (IsBefore x y → IsBefore y z → IsBefore x z) → (a < c) ⊎ (a ≡ c) × IsBefore x z
-    go (inl l) (inl m) rest = inl (omega arith)
-    go (inl l) (inr m) rest = inl (omega (arith, m.0))
-    go (inr l) (inl m) rest = inl (omega (arith, l.0))
-    go (inr l) (inr m) rest = inr (l.0 ∙ m.0, rest l.1 m.1)
-
-pub before_irrefl : (x : List ℕ) → IsBefore x x → ⊥
-before_irrefl [] h = h
-before_irrefl (a ∷ x) (inl l) = omega arith
-before_irrefl (a ∷ x) (inr l) = before_irrefl x l.1
 
 -- ---- an insert at the place
 

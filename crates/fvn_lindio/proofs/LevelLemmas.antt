@@ -5,8 +5,8 @@ use Rattle.std.proofs.lemmas.List.Quantifiers.{all_pairs_push}
 use Rattle.std.proofs.lemmas.List.{take_more, take_all}
 use Rattle.std.proofs.lemmas.List.Elements.{Contains-push, Contains-get_or, Contains-append_left, Contains-push_cases}
 use Rattle.fvn_lindio.specs.Vectors.{add}
-use Rattle.fvn_lindio.specs.Search.{IsOpposite}
-use Rattle.fvn_lindio.specs.Levels.{CanAdd, IsOnce, IsCovered, Grows, GrowsAnew, IsThis, IsAt, IsStepBy, IsStep, IsStepFrom, CoversSteps, CoversStepsFrom}
+use Rattle.fvn_lindio.specs.inner.Search.{IsOpposite}
+use Rattle.fvn_lindio.specs.inner.Levels.{CanAdd, IsOnce, IsCovered, Grows, GrowsAnew, IsThis, IsAt, IsStepBy, IsStep, IsStepFrom, CoversSteps, CoversStepsFrom}
 use Rattle.fvn_lindio.specs.declared.level.Point.{Point}
 use Rattle.fvn_lindio.specs.declared.level.Level.{Level}
 use Rattle.fvn_lindio.proofs.VectorLemmas.{below_refl}

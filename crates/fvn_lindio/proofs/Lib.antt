@@ -1,15 +1,13 @@
 -- Lemmas on vectors and rows, the search for minimal solutions and the prefixes that are refused.
-pub mod VectorLemmas
-pub mod Solving
-pub mod SumLemmas
-pub mod ValueLemmas
-pub mod LevelLemmas
-pub mod Pigeonhole
-pub mod SearchLemmas
-pub mod Trails
-pub mod ListSteps
-pub mod GeneratorLemmas
-pub mod ReachLemmas
-pub mod LeastLemmas
-pub mod Prefixes
-pub mod SystemLemmas
+mod VectorLemmas
+mod Solving
+mod SumLemmas
+mod ValueLemmas
+mod LevelLemmas
+mod SearchLemmas
+mod Trails
+mod GeneratorLemmas
+mod ReachLemmas
+mod LeastLemmas
+mod Prefixes
+mod SystemLemmas

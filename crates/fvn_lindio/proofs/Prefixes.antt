@@ -4,12 +4,12 @@ use Rattle.std.specs.List.{All, AllPairs, Any, Contains}
 use Rattle.std.proofs.lemmas.List.{get_or-take, length-take-le}
 use Rattle.std.proofs.lemmas.List.Elements.{All-contains, Contains-get_or}
 use Rattle.std.proofs.lemmas.Bool.{cases_lt, cases_order}
-use Rattle.fvn_lindio.specs.Vectors.{IsBefore}
+use Rattle.fvn_base.specs.Order.{IsBefore}
 use Rattle.fvn_lindio.specs.Systems.{IsMinimal}
 use Rattle.fvn_lindio.specs.Refusals.{HasTooMany, HasTooWide, NoneShorter, IsTooMany, IsTooWide}
 use Rattle.fvn_lindio.proofs.VectorLemmas.{sum-cons}
-use Rattle.fvn_lindio.proofs.Pigeonhole.{length-le_within}
-use Rattle.fvn_lindio.proofs.LeastLemmas.{before_irrefl}
+use Rattle.fvn_base.proofs.Pigeonhole.{length-le_within}
+use Rattle.fvn_base.proofs.Order.{before_irrefl}
 
 -- a property has one first place
 one_first : (P : ℕ → Type 0) (j k : ℕ) → P j → P k → ((i : ℕ) → i < j → P i → ⊥) → ((i : ℕ) → i < k → P i → ⊥) → j ≡ k

@@ -5,8 +5,8 @@ use Rattle.std.proofs.lemmas.List.Elements.{All-push, All-pop, All-from_get_or}
 use Rattle.std.proofs.lemmas.Bool.{cases_lt}
 use Rattle.fvn_lindio.specs.Vectors.{IsAtOrBelow, IsNonZero, add}
 use Rattle.fvn_lindio.specs.Systems.{above, below, up, down, IsZeroAt, Solves}
-use Rattle.fvn_lindio.specs.Search.{IsOpposite, Lies}
-use Rattle.fvn_lindio.specs.Levels.{IsPoint, Generates}
+use Rattle.fvn_lindio.specs.inner.Search.{IsOpposite, Lies}
+use Rattle.fvn_lindio.specs.inner.Levels.{IsPoint, Generates}
 use Rattle.fvn_lindio.specs.declared.level.Point.{Point}
 use Rattle.fvn_lindio.proofs.VectorLemmas.{length-add, sum-add, sides-add, get_or-add, sides-zero, below_trans, below_length, add_below, difference}
 use Rattle.fvn_lindio.proofs.ValueLemmas.{one_side, above-add, zero-both}

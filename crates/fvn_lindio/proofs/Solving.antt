@@ -3,10 +3,11 @@ use Rattle.std.proofs.Common.{◌≡◌, ℕ, zero, suc, ◌<◌, ◌≤◌, ◌
 use Rattle.std.specs.List.{All}
 use Rattle.std.proofs.lemmas.List.Elements.{All-nil, All-cons, All-head, All-tail}
 use Rattle.std.proofs.lemmas.Bool.{cases_lt, cases_order}
+use Rattle.fvn_base.specs.Decided.{Decided}
 use Rattle.fvn_lindio.specs.Vectors.{IsAtOrBelow, IsNonZero, add}
 use Rattle.fvn_lindio.specs.Systems.{up, down, IsZeroAt, Solves, IsMinimal}
-use Rattle.fvn_lindio.specs.Sums.{MinimalBelow}
-use Rattle.fvn_lindio.specs.Search.{Lies}
+use Rattle.fvn_lindio.specs.Laws.{MinimalBelow}
+use Rattle.fvn_lindio.specs.inner.Search.{Lies}
 use Rattle.fvn_lindio.proofs.VectorLemmas.{length-add, sides-add, get_or-add, below_refl, below_trans, below_length, below_same, below_get_or}
 
 pub Lies-from_solves : {columns : ℕ} {rows : List (List ℤ)} {x : List ℕ} → Solves columns rows x → Lies columns rows rows x
@@ -36,13 +37,10 @@ Lies-rest {columns} {rows} {used} x y e h k =
 
 -- ---- whether some vector of the box below x has a property that can be told of each vector
 
-abbrev Told : Type 0 → Type 0
-Told P = P ⊎ (P → ⊥)
-
 abbrev Below : List ℕ → (List ℕ → Type 0) → Type 0
 Below x P = (y : List ℕ) × IsAtOrBelow y x × P y
 
-shorter : (n : ℕ) (x : List ℕ) (P : List ℕ → Type 0) → Told (Below (n ∷ x) P) → Told (Below x (λ y. P (suc n ∷ y))) → Told (Below (suc n ∷ x) P)
+shorter : (n : ℕ) (x : List ℕ) (P : List ℕ → Type 0) → Decided (Below (n ∷ x) P) → Decided (Below x (λ y. P (suc n ∷ y))) → Decided (Below (suc n ∷ x) P)
 shorter n x P (inl (a ∷ y, h, p)) q = inl (a ∷ y, (omega (arith, h.0), h.1), p)
 shorter n x P (inl ([], h, p)) q = absurd h
 shorter n x P (inr never) (inl (y, h, p)) = inl (suc n ∷ y, (omega arith, h), p)
@@ -58,10 +56,10 @@ shorter n x P (inr never) (inr none) = inr refuse
             let e : a ≡ suc n = omega (arith, l, k.0) in
             none (y, k.1, subst (λ b. P (b ∷ y)) e q)
 
-heads : (x : List ℕ) → ((Q : List ℕ → Type 0) → ((y : List ℕ) → Told (Q y)) → Told (Below x Q)) → (n : ℕ) (P : List ℕ → Type 0) → ((y : List ℕ) → Told (P y)) → Told (Below (n ∷ x) P)
+heads : (x : List ℕ) → ((Q : List ℕ → Type 0) → ((y : List ℕ) → Decided (Q y)) → Decided (Below x Q)) → (n : ℕ) (P : List ℕ → Type 0) → ((y : List ℕ) → Decided (P y)) → Decided (Below (n ∷ x) P)
 heads x each zero P told = first (each (λ y. P (0 ∷ y)) (λ y. told (0 ∷ y)))
   where
-    first : Told (Below x (λ y. P (0 ∷ y))) → Told (Below (0 ∷ x) P)
+    first : Decided (Below x (λ y. P (0 ∷ y))) → Decided (Below (0 ∷ x) P)
     first (inl (y, h, p)) = inl (0 ∷ y, (omega arith, h), p)
     first (inr never) = inr refuse
       where
@@ -72,10 +70,10 @@ heads x each zero P told = first (each (λ y. P (0 ∷ y)) (λ y. told (0 ∷ y)
             never (y, h.1, subst (λ b. P (b ∷ y)) e p)
 heads x each (suc n) P told = shorter n x P (heads x each n P told) (each (λ y. P (suc n ∷ y)) (λ y. told (suc n ∷ y)))
 
-pub below_told : (x : List ℕ) (P : List ℕ → Type 0) → ((y : List ℕ) → Told (P y)) → Told (Below x P)
+pub below_told : (x : List ℕ) (P : List ℕ → Type 0) → ((y : List ℕ) → Decided (P y)) → Decided (Below x P)
 below_told [] P told = at_nil (told [])
   where
-    at_nil : Told (P []) → Told (Below [] P)
+    at_nil : Decided (P []) → Decided (Below [] P)
     at_nil (inl p) = inl ([], tt, p)
     at_nil (inr never) = inr refuse
       where
@@ -86,11 +84,11 @@ below_told (a ∷ x) P told = heads x (below_told x) a P told
 
 -- ---- each solution other than zero has a minimal one at or below it
 
-zero_rows_told : (x : List ℕ) (rows : List (List ℤ)) → Told (All (IsZeroAt x) rows)
+zero_rows_told : (x : List ℕ) (rows : List (List ℤ)) → Decided (All (IsZeroAt x) rows)
 zero_rows_told x [] = inl (All-nil (IsZeroAt x))
 zero_rows_told x (row ∷ rows) = both (cases_order (up row x) (down row x)) (zero_rows_told x rows)
   where
-    both : (up row x ≡ down row x) ⊎ ((up row x < down row x) ⊎ (down row x < up row x)) → Told (All (IsZeroAt x) rows) → Told (All (IsZeroAt x) (row ∷ rows))
+    both : (up row x ≡ down row x) ⊎ ((up row x < down row x) ⊎ (down row x < up row x)) → Decided (All (IsZeroAt x) rows) → Decided (All (IsZeroAt x) (row ∷ rows))
     both (inl e) (inl h) = inl (All-cons (IsZeroAt x) row rows e h)
     both (inl e) (inr never) = inr (λ h. never (All-tail (IsZeroAt x) row rows h))
     both (inr n) h = inr (λ k. let e : IsZeroAt x row = All-head (IsZeroAt x) row rows k in absurd (omega (arith, e, n)))
@@ -99,10 +97,10 @@ zero_rows_told x (row ∷ rows) = both (cases_order (up row x) (down row x)) (ze
 abbrev Less : List (List ℤ) → List ℕ → List ℕ → Type 0
 Less rows x y = All (IsZeroAt y) rows × (0 < sum y) × (sum y < sum x)
 
-less_told : (rows : List (List ℤ)) (x y : List ℕ) → Told (Less rows x y)
+less_told : (rows : List (List ℤ)) (x y : List ℕ) → Decided (Less rows x y)
 less_told rows x y = go (zero_rows_told y rows) (cases_lt 0 (sum y)) (cases_lt (sum y) (sum x))
   where
-    go : Told (All (IsZeroAt y) rows) → (0 < sum y) ⊎ (sum y ≤ 0) → (sum y < sum x) ⊎ (sum x ≤ sum y) → Told (Less rows x y)
+    go : Decided (All (IsZeroAt y) rows) → (0 < sum y) ⊎ (sum y ≤ 0) → (sum y < sum x) ⊎ (sum x ≤ sum y) → Decided (Less rows x y)
     go (inr never) p q = inr (λ h. never h.0)
     go (inl z) (inr p) q = inr (λ h. omega (arith, h.1, p))
     go (inl z) (inl p) (inr q) = inr (λ h. omega (arith, h.2, q))
@@ -136,7 +134,7 @@ module _ (columns : ℕ) (rows : List (List ℤ)) where
   minimal_below zero x b h p = absurd (omega (arith, b, p))
   minimal_below (suc n) x b h p = go (below_told x (Less rows x) (less_told rows x)) (minimal_below n)
     where
-      go : Told (Below x (Less rows x)) → ((y : List ℕ) → sum y ≤ n → Solves columns rows y → IsNonZero y → (m : List ℕ) × IsMinimal columns rows m × IsAtOrBelow m y) → (m : List ℕ) × IsMinimal columns rows m × IsAtOrBelow m x
+      go : Decided (Below x (Less rows x)) → ((y : List ℕ) → sum y ≤ n → Solves columns rows y → IsNonZero y → (m : List ℕ) × IsMinimal columns rows m × IsAtOrBelow m y) → (m : List ℕ) × IsMinimal columns rows m × IsAtOrBelow m x
       go (inr none) further = (x, least_if_none x h p none, below_refl x)
       go (inl (y, l, s)) further =
           let r = further y (omega (arith, s.2, b)) (Solves-below x y h l s.0) s.1 in

@@ -6,8 +6,8 @@ use Rattle.std.proofs.lemmas.List.Elements.{All-tail, All-head, Contains-get_or}
 use Rattle.std.proofs.lemmas.Bool.{cases_lt}
 use Rattle.fvn_lindio.specs.Vectors.{IsAtOrBelow, add}
 use Rattle.fvn_lindio.specs.Systems.{Solves, IsMinimal}
-use Rattle.fvn_lindio.specs.Search.{Lies}
-use Rattle.fvn_lindio.specs.Sums.{combination, SumOfMinimal}
+use Rattle.fvn_lindio.specs.inner.Search.{Lies}
+use Rattle.fvn_lindio.specs.Laws.{combination, SumOfMinimal}
 use Rattle.fvn_lindio.proofs.VectorLemmas.{sum-cons, length-add, sum-add, difference}
 use Rattle.fvn_lindio.proofs.Solving.{minimal_below, Lies-rest, Lies-from_solves, Solves-from_lies}
 

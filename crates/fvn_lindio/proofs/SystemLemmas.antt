@@ -5,15 +5,15 @@ use Rattle.std.specs.Prelude.{unsigned_abs}
 use Rattle.std.specs.List.{All, AllPairs, Contains}
 use Rattle.std.proofs.lemmas.List.{get_or-map, length-map, take-map, take_more}
 use Rattle.std.proofs.lemmas.List.Elements.{All-take}
-use Rattle.fvn_lindio.specs.Vectors.{IsBefore}
+use Rattle.fvn_base.specs.Order.{IsBefore}
 use Rattle.fvn_lindio.specs.Systems.{IsMinimal, IsSystem, rows_of, coefficients_of}
 use Rattle.fvn_lindio.specs.Refusals.{NoneShorter, IsTooMany, IsTooWide}
-use Rattle.fvn_lindio.specs.Generators.{IsRow, vectors_in}
+use Rattle.fvn_lindio.specs.inner.Generators.{IsRow, vectors_in}
 use Rattle.fvn_lindio.specs.declared.system.System.{System}
 use Rattle.fvn_lindio.specs.declared.system.Row.{Row}
 use Rattle.fvn_lindio.specs.declared.system.LinFault.{LinFault}
 use Rattle.fvn_lindio.specs.declared.system.LinFault.TheVariants.{TooMany, TooWide}
-use Rattle.fvn_lindio.proofs.ListSteps.{all_mapped_at}
+use Rattle.fvn_base.proofs.MappedLists.{all_mapped_at}
 use Rattle.fvn_lindio.proofs.Prefixes.{IsBasis, same_many, same_wide, not_both, none_many, none_wide}
 
 -- the coefficients are those of the row at k, as the code reads them

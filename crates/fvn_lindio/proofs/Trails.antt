@@ -3,17 +3,17 @@ use Rattle.std.proofs.Common.{◌≡◌, ◌≢◌, ◌↔◌, ℕ, ◌+◌, ◌
 use Rattle.std.specs.List.{All, AllPairs, Contains}
 use Rattle.std.proofs.lemmas.List.Elements.{All-contains, Contains-get_or}
 use Rattle.std.proofs.lemmas.Bool.{cases_lt}
-use Rattle.fvn_lindio.specs.Least.{HasOther, IsLeast, IsUniform}
+use Rattle.fvn_lindio.specs.inner.Least.{HasOther, IsLeast, IsUniform}
 use Rattle.fvn_lindio.specs.Vectors.{IsAtOrBelow, IsNonZero, add}
 use Rattle.fvn_lindio.specs.Systems.{above, below, up, down, Solves, IsMinimal}
-use Rattle.fvn_lindio.specs.Search.{IsValue}
-use Rattle.fvn_lindio.specs.Levels.{CanAdd, IsCovered, GrowsAnew, IsThis, IsAt, IsStepBy, IsStepFrom, CoversStepsFrom, IsPoint, Generates}
+use Rattle.fvn_lindio.specs.inner.Search.{IsValue}
+use Rattle.fvn_lindio.specs.inner.Levels.{CanAdd, IsCovered, GrowsAnew, IsThis, IsAt, IsStepBy, IsStepFrom, CoversStepsFrom, IsPoint, Generates}
 use Rattle.fvn_lindio.specs.declared.level.Point.{Point}
 use Rattle.fvn_lindio.specs.declared.level.Level.{Level}
 use Rattle.fvn_lindio.proofs.VectorLemmas.{sum-add, sides-add, below_refl, below_trans, below_sum, below_same, below_add}
 use Rattle.fvn_lindio.proofs.ValueLemmas.{above-add}
 use Rattle.fvn_lindio.proofs.Solving.{Lies-add, minimal_below}
-use Rattle.fvn_lindio.proofs.Pigeonhole.{length-le_below, AllPairs-cons, Contains-cons_cases}
+use Rattle.fvn_base.proofs.Pigeonhole.{length-le_below, AllPairs-cons, contains_each}
 use Rattle.fvn_lindio.proofs.LevelLemmas.{in_none}
 use Rattle.fvn_lindio.proofs.SearchLemmas.{all, Space, Solves-from_space, space_from_solves, rest_of, step_towards, opposite_bounds, All_add}
 
@@ -116,7 +116,7 @@ module _ (columns : ℕ) (before : List (List ℤ)) (row : List ℤ) (gs : List 
         heights = height p ∷ [];
         count = refl;
         apart = λ i j d l m. absurd (omega (arith, l, m));
-        passed = Contains-cons_cases (Passes p.parts.items) (height p) [] (passes_itself t p h) (λ y k. absurd (in_none [] y refl k));
+        passed = contains_each (Passes p.parts.items) (height p) [] (passes_itself t p h) (λ y k. absurd (in_none [] y refl k));
       }
 
   -- one step on, to a point that is above, the value is a new one
@@ -126,7 +126,7 @@ module _ (columns : ℕ) (before : List (List ℤ)) (row : List ℤ) (gs : List 
         heights = height q ∷ trail.heights;
         count = omega (arith, trail.count);
         apart = AllPairs-cons (height q) trail.heights trail.apart fresh;
-        passed = Contains-cons_cases (Passes q.parts.items) (height q) trail.heights (passes_itself u q h) (λ y k. passes_above p.parts.items q.parts.items y l (trail.passed y k));
+        passed = contains_each (Passes q.parts.items) (height q) trail.heights (passes_itself u q h) (λ y k. passes_above p.parts.items q.parts.items y l (trail.passed y k));
       }
     where
       fresh : (y : ℕ) → Contains trail.heights y → height q ≡ y → ⊥

@@ -4,7 +4,7 @@ use Rattle.std.specs.Prelude.{unsigned_abs}
 use Rattle.std.proofs.lemmas.Int.{ints, to_z-of_z, to_z_pos, fits_signed_from_abs, fits_signed_mul}
 use Rattle.std.proofs.Common.{to_z, of_z, w32, w64, FitsSigned, mul-le-mul}
 use Rattle.fvn_lindio.specs.Systems.{above, below}
-use Rattle.fvn_lindio.specs.Search.{IsValue, IsOpposite}
+use Rattle.fvn_lindio.specs.inner.Search.{IsValue, IsOpposite}
 use Rattle.fvn_lindio.proofs.VectorLemmas.{sides-take_more}
 
 -- one of the two is nothing

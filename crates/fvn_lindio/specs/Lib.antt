@@ -1,9 +1,6 @@
--- The words of the contracts of this crate.
+-- The words of linear systems, their minimal solutions and their refusals.
 pub mod Vectors
 pub mod Systems
 pub mod Refusals
-pub mod Sums
-pub mod Search
-pub mod Levels
-pub mod Generators
-pub mod Least
+pub mod Laws
+pub mod inner

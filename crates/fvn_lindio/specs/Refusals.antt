@@ -1,5 +1,6 @@
 -- Where a system is refused: at the first rows that have too many minimal solutions, or one with a large component.
 use Rattle.std.specs.Prelude.{◌≡◌, ◌≢◌, ℕ, ◌+◌, ◌<◌, ◌≤◌, ℤ, List, length, take, All, AllPairs, Any}
+use Rattle.fvn_base.specs.declared.limits.TheConstants.{COMPONENT}
 use Rattle.fvn_lindio.specs.Systems.{IsMinimal}
 
 module _ (columns : ℕ) (rows : List (List ℤ)) where
@@ -14,7 +15,7 @@ module _ (columns : ℕ) (rows : List (List ℤ)) where
   pub record HasTooWide (k : ℕ) : Type 0 where
     pub solution : List ℕ
     pub minimal : IsMinimal columns (take k rows) solution
-    pub wide : Any (λ a. 65535 < a) solution
+    pub wide : Any (λ a. COMPONENT < a) solution
 
   -- none of the prefixes shorter than k has too many, or one that is too wide
   abbrev pub NoneShorter : ℕ → ℕ → Type 0
@@ -26,6 +27,7 @@ module _ (columns : ℕ) (rows : List (List ℤ)) where
     pub many : HasTooMany most k
     pub first : NoneShorter most k
 
+  -- the same for a component over 65,535, where there are not too many
   pub record IsTooWide (most k : ℕ) : Type 0 where
     pub within : k ≤ length rows
     pub few : HasTooMany most k → ⊥

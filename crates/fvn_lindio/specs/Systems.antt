@@ -1,25 +1,30 @@
 -- Linear systems and their minimal solutions.
+-- G. Huet, An algorithm to generate the basis of solutions to homogeneous linear Diophantine equations, 1978.
+-- E. Contejean and H. Devie, An efficient incremental algorithm for solving systems of linear Diophantine equations, 1994.
 use Rattle.std.specs.Prelude.{◌≡◌, ℕ, suc, ◌+◌, ◌*◌, ◌≤◌, ℤ, pos, negsuc, unsigned_abs, List, [], ◌∷◌, length, map, slice_index, slice_index_or, All}
+use Rattle.fvn_base.specs.declared.limits.TheConstants.{COLUMNS, COMPONENT}
 use Rattle.fvn_lindio.specs.Vectors.{IsAtOrBelow, IsNonZero}
 use Rattle.fvn_lindio.specs.declared.system.System.{System}
 use Rattle.fvn_lindio.specs.declared.system.Row.{Row}
 use Rattle.fvn_lindio.specs.declared.system.Solution.{Solution}
 
--- how far a number is above zero, and how far below
+-- how far a number is above zero
 abbrev pub above : ℤ → ℕ
 above (pos n) = n
 above (negsuc n) = 0
 
+-- how far a number is below zero
 abbrev pub below : ℤ → ℕ
 below (pos n) = 0
 below (negsuc n) = suc n
 
--- what the coefficients above zero give at a vector, and what those below zero take
+-- what the coefficients above zero give at a vector
 abbrev pub up : List ℤ → List ℕ → ℕ
 up [] x = 0
 up (c ∷ row) [] = 0
 up (c ∷ row) (a ∷ x) = above c * a + up row x
 
+-- what the coefficients below zero take at a vector
 abbrev pub down : List ℤ → List ℕ → ℕ
 down [] x = 0
 down (c ∷ row) [] = 0
@@ -49,6 +54,7 @@ pub record IsMinimal (columns : ℕ) (rows : List (List ℤ)) (x : List ℕ) : T
 abbrev pub coefficients_of : List Row → List (List ℤ)
 coefficients_of rows = map (λ row. row.coefficients) rows
 
+-- the rows of a system as lists of coefficients
 abbrev pub rows_of : System → List (List ℤ)
 rows_of s = coefficients_of s.rows
 
@@ -58,6 +64,6 @@ vectors_of list = map (λ v. v.parts) list
 
 -- what a system keeps to: so many columns, and coefficients of at most this size
 pub record IsSystem (s : System) : Type 0 where
-  pub columns : s.columns ≤ 1000
+  pub columns : s.columns ≤ COLUMNS
   pub sized : All (λ row. length row ≡ s.columns) (rows_of s)
-  pub bounded : All (All (λ c. unsigned_abs c ≤ 65535)) (rows_of s)
+  pub bounded : All (All (λ c. unsigned_abs c ≤ COMPONENT)) (rows_of s)

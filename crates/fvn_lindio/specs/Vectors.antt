@@ -1,5 +1,5 @@
 -- Vectors of numbers: a vector is the list of its components.
-use Rattle.std.specs.Prelude.{◌≡◌, ℕ, ◌+◌, ◌<◌, ◌≤◌, ◌⊎◌, List, [], ◌∷◌, sum}
+use Rattle.std.specs.Prelude.{ℕ, ◌+◌, ◌<◌, ◌≤◌, List, [], ◌∷◌, sum}
 use Rattle.std.specs.List.{AllZip}
 
 -- both have equally many components, and no component of x is above that of y
@@ -15,9 +15,3 @@ abbrev pub add : List ℕ → List ℕ → List ℕ
 add [] y = []
 add (a ∷ x) [] = []
 add (a ∷ x) (b ∷ y) = (a + b) ∷ add x y
-
--- x stands before y in lexicographic order: at the first component in which they differ, x has less
-abbrev pub IsBefore : List ℕ → List ℕ → Type 0
-IsBefore [] y = ⊥
-IsBefore (a ∷ x) [] = ⊥
-IsBefore (a ∷ x) (b ∷ y) = (a < b) ⊎ (a ≡ b) × IsBefore x y

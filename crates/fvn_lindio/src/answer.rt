@@ -1,23 +1,21 @@
 //! The search's vectors as solutions.
 ghost use Rattle.std.specs.Prelude.{◌≡◌, ◌<◌, ◌≤◌, ℕ, List, IfOk, IsTrue, IsFalse, All, Any, Contains};
 ghost use Rattle.fvn_lindio.specs.Systems.{vectors_of};
-ghost use Rattle.fvn_lindio.specs.Generators.{vectors_in};
+ghost use Rattle.fvn_lindio.specs.inner.Generators.{vectors_in};
 
 use crate::system::Solution;
 use fvn_base::Seq;
+use fvn_base::limits::COMPONENT;
 use smallvec::SmallVec;
 use std::alloc::{AllocError, Global};
 
-/// The greatest component of a solution.
-const WIDEST: u64 = 65535;
-
 /// Whether a component is over the greatest.
 fn has_wide(parts: &[u64]) -> bool
-    ensures wide { IsTrue result → Any (λ a. WIDEST < a) parts.now }
-    ensures narrow { IsFalse result → All (λ a. a ≤ WIDEST) parts.now }
+    ensures wide { IsTrue result → Any (λ a. COMPONENT < a) parts.now }
+    ensures narrow { IsFalse result → All (λ a. a ≤ COMPONENT) parts.now }
 {
     for a in parts {
-        if *a > WIDEST {
+        if *a > COMPONENT {
             return true;
         }
     }
@@ -26,8 +24,8 @@ fn has_wide(parts: &[u64]) -> bool
 
 /// Whether one of the vectors has such a component.
 pub(crate) fn is_wide(list: &[SmallVec<u64, 8>]) -> bool
-    ensures wide { IsTrue result → (v : List ℕ) × Contains (vectors_in list.now) v × Any (λ a. WIDEST < a) v }
-    ensures narrow { IsFalse result → All (All (λ a. a ≤ WIDEST)) (vectors_in list.now) }
+    ensures wide { IsTrue result → (v : List ℕ) × Contains (vectors_in list.now) v × Any (λ a. COMPONENT < a) v }
+    ensures narrow { IsFalse result → All (All (λ a. a ≤ COMPONENT)) (vectors_in list.now) }
 {
     for v in list {
         if has_wide(v.as_slice()) {
@@ -39,7 +37,7 @@ pub(crate) fn is_wide(list: &[SmallVec<u64, 8>]) -> bool
 
 /// The vector as a solution.
 fn solution_of(alloc: Global, parts: &[u64]) -> Result<Solution, AllocError>
-    requires { All (λ a. a ≤ WIDEST) parts.now }
+    requires { All (λ a. a ≤ COMPONENT) parts.now }
     ensures { IfOk result (λ v. v.parts ≡ parts.now) }
 {
     let mut narrow = Vec::new(alloc);
@@ -56,7 +54,7 @@ pub(crate) fn solutions_of(
     alloc: Global,
     list: &[SmallVec<u64, 8>],
 ) -> Result<Vec<Solution>, AllocError>
-    requires { All (All (λ a. a ≤ WIDEST)) (vectors_in list.now) }
+    requires { All (All (λ a. a ≤ COMPONENT)) (vectors_in list.now) }
     ensures { IfOk result (λ solutions. vectors_of solutions.items ≡ vectors_in list.now) }
 {
     let mut solutions = Vec::new(alloc);

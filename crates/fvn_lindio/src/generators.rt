@@ -4,6 +4,7 @@ ghost use Rattle.std.specs.Prelude.{◌≡◌, ◌≢◌, ◌↔◌, ◌+◌, �
 use crate::level::Point;
 use crate::system::Row;
 use crate::vector::{unit, value_at};
+use fvn_base::limits::{COLUMNS, COMPONENT};
 use smallvec::SmallVec;
 use std::alloc::{AllocError, Global};
 
@@ -14,9 +15,9 @@ pub(crate) struct Reach {
     pub high: u64,
 }
 
-ghost use Rattle.fvn_lindio.specs.Generators.{Adds, IsNewUnit, IsNewUnitBelow, IsValued, IsRow, Values, vectors_in};
+ghost use Rattle.fvn_lindio.specs.inner.Generators.{Adds, IsNewUnit, IsNewUnitBelow, IsValued, IsRow, Values, vectors_in};
 ghost use Rattle.fvn_lindio.specs.Systems.{IsUnused, IsMinimal, above, below, coefficients_of};
-ghost use Rattle.fvn_lindio.specs.Levels.{Generates};
+ghost use Rattle.fvn_lindio.specs.inner.Levels.{Generates};
 
 /// Whether no row has a coefficient other than zero in the column.
 fn is_unused(rows: &[Row], column: usize) -> bool
@@ -34,7 +35,7 @@ fn is_unused(rows: &[Row], column: usize) -> bool
 /// The vector with the value of the row at it.
 fn point_at(alloc: Global, row: &[i32], parts: &[u64]) -> Result<Point, AllocError>
     requires row { IsRow (length parts.now) row.now }
-    requires narrow { All (λ a. a ≤ 65535) parts.now }
+    requires narrow { All (λ a. a ≤ COMPONENT) parts.now }
     ensures { IfOk result (λ p. (p.parts.items ≡ parts.now) × IsValued row.now p) }
 {
     let value = value_at(row, parts);
@@ -49,7 +50,7 @@ fn known_points(
     known: &[SmallVec<u64, 8>],
 ) -> Result<Vec<Point>, AllocError>
     requires row { All (λ v. IsRow (length v) row.now) (vectors_in known.now) }
-    requires narrow { All (All (λ a. a ≤ 65535)) (vectors_in known.now) }
+    requires narrow { All (All (λ a. a ≤ COMPONENT)) (vectors_in known.now) }
     ensures { IfOk result (λ points. Values row.now (Contains (vectors_in known.now)) points.items) }
 {
     let mut points = Vec::new(alloc);
@@ -112,9 +113,9 @@ pub(crate) fn generators(
     requires row { IsRow (length row.now) row.now }
     requires before { All (λ r. length r.coefficients ≡ length row.now) before.now }
     requires known { (v : List ℕ) → Contains (vectors_in known.now) v ↔ IsMinimal (length row.now) (coefficients_of before.now) v }
-    requires narrow { All (All (λ a. a ≤ 65535)) (vectors_in known.now) }
+    requires narrow { All (All (λ a. a ≤ COMPONENT)) (vectors_in known.now) }
     ensures generates { IfOk result (λ points. Generates (length row.now) (coefficients_of before.now) row.now points.items) }
-    ensures bounded { IfOk result (λ points. All (λ p. unsigned_abs p.value ≤ 1000 * 65535 * 65535) points.items) }
+    ensures bounded { IfOk result (λ points. All (λ p. unsigned_abs p.value ≤ COLUMNS * COMPONENT * COMPONENT) points.items) }
 {
     let mut points = known_points(alloc, row, known)?;
     add_units(alloc, before, row, &mut points)?;
@@ -137,11 +138,11 @@ fn fall(value: i64) -> u64
 
 /// The greatest distances of the points' values from zero.
 pub(crate) fn reach_of(points: &[Point]) -> Reach
-    requires { All (λ p. unsigned_abs p.value ≤ 1000 * 65535 * 65535) points.now }
+    requires { All (λ p. unsigned_abs p.value ≤ COLUMNS * COMPONENT * COMPONENT) points.now }
     ensures low { All (λ p. below p.value ≤ result.low) points.now }
     ensures high { All (λ p. above p.value ≤ result.high) points.now }
-    ensures low_bounded { result.low ≤ 1000 * 65535 * 65535 }
-    ensures high_bounded { result.high ≤ 1000 * 65535 * 65535 }
+    ensures low_bounded { result.low ≤ COLUMNS * COMPONENT * COMPONENT }
+    ensures high_bounded { result.high ≤ COLUMNS * COMPONENT * COMPONENT }
 {
     let mut low: u64 = 0;
     let mut high: u64 = 0;

@@ -1,5 +1,5 @@
 //! What holds of every system: the minimal solutions make up all solutions.
-ghost use Rattle.fvn_lindio.specs.Sums.{MinimalBelow, SumOfMinimal};
+ghost use Rattle.fvn_lindio.specs.Laws.{MinimalBelow, SumOfMinimal};
 
 /// A law, for proofs: at or below every solution other than zero stands a minimal one.
 pub fn minimal_below()

@@ -1,8 +1,9 @@
 //! The least of some vectors, in lexicographic order.
 ghost use Rattle.std.specs.Prelude.{◌≡◌, ◌≢◌, ◌⊎◌, ◌↔◌, ◌<◌, ◌≤◌, ℕ, List, IfOk, OnOk, IsTrue, All, AllPairs, Contains, length, slice_index_or};
-ghost use Rattle.fvn_lindio.specs.Vectors.{IsAtOrBelow, IsBefore};
-ghost use Rattle.fvn_lindio.specs.Generators.{vectors_in};
-ghost use Rattle.fvn_lindio.specs.Least.{HasOther, IsLeast, IsPlace, IsUniform, StandsAt};
+ghost use Rattle.fvn_lindio.specs.Vectors.{IsAtOrBelow};
+ghost use Rattle.fvn_base.specs.Order.{IsBefore};
+ghost use Rattle.fvn_lindio.specs.inner.Generators.{vectors_in};
+ghost use Rattle.fvn_lindio.specs.inner.Least.{HasOther, IsLeast, IsPlace, IsUniform, StandsAt};
 
 use crate::level::Point;
 use crate::vector::{is_at_or_below, is_before, is_same};

@@ -1,7 +1,7 @@
 //! One level of the search: the solutions found so far, and the vectors from which it goes on.
 ghost use Rattle.std.specs.Prelude.{◌≡◌, ◌≢◌, pos, ◌↔◌, ◌+◌, ◌*◌, ◌<◌, ◌≤◌, ◌^◌, ℕ, [], IfOk, OnOk, IsTrue, All, Contains, length, nat_eq};
 ghost use Rattle.fvn_lindio.specs.Vectors.{IsAtOrBelow, add};
-ghost use Rattle.fvn_lindio.specs.Search.{IsValue, IsOpposite};
+ghost use Rattle.fvn_lindio.specs.inner.Search.{IsValue, IsOpposite};
 
 use crate::vector::{is_at_or_below, is_opposite, is_same, sum_of};
 use smallvec::SmallVec;
@@ -46,7 +46,7 @@ fn has_at(points: &[Point], parts: &[u64]) -> bool
 }
 
 impl Level {
-    ghost use Rattle.fvn_lindio.specs.Levels.{CanAdd, GrowsAnew, CoversSteps, CoversStepsFrom, Grows, IsCovered, IsOnce, IsStepBy, IsStep, IsStepFrom, IsThis, IsAt};
+    ghost use Rattle.fvn_lindio.specs.inner.Levels.{CanAdd, GrowsAnew, CoversSteps, CoversStepsFrom, Grows, IsCovered, IsOnce, IsStepBy, IsStep, IsStepFrom, IsThis, IsAt};
 
     /// Nothing found, and nothing ahead.
     pub fn new(alloc: Global) -> Level

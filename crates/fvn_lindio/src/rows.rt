@@ -1,13 +1,14 @@
 //! The minimal solutions of one row more.
 ghost use Rattle.std.specs.Prelude.{◌≡◌, ◌↔◌, ◌≤◌, ◌++◌, ◌∷◌, [], ℕ, List, IfOk, All, AllPairs, Contains, length};
-ghost use Rattle.fvn_lindio.specs.Vectors.{IsBefore};
+ghost use Rattle.fvn_base.specs.Order.{IsBefore};
 ghost use Rattle.fvn_lindio.specs.Systems.{IsMinimal, coefficients_of};
-ghost use Rattle.fvn_lindio.specs.Generators.{IsRow, vectors_in};
+ghost use Rattle.fvn_lindio.specs.inner.Generators.{IsRow, vectors_in};
 
 use crate::generators::{generators, reach_of};
 use crate::least::least_of;
 use crate::level::Level;
 use crate::system::Row;
+use fvn_base::limits::COMPONENT;
 use smallvec::SmallVec;
 use std::alloc::{AllocError, Global};
 
@@ -27,7 +28,7 @@ pub(crate) fn extended(
     requires before { All (λ r. length r.coefficients ≡ length row.now) before.now }
     requires known { (v : List ℕ) → Contains (vectors_in known.now) v
         ↔ IsMinimal (length row.now) (coefficients_of before.now) v }
-    requires narrow { All (All (λ a. a ≤ 65535)) (vectors_in known.now) }
+    requires narrow { All (All (λ a. a ≤ COMPONENT)) (vectors_in known.now) }
     ensures ordered { IfOk result (λ list. AllPairs IsBefore (vectors_in list.items)) }
     ensures exact { IfOk result (λ list. (v : List ℕ) → Contains (vectors_in list.items) v
         ↔ IsMinimal (length row.now) (coefficients_of before.now ++ row.now ∷ []) v) }

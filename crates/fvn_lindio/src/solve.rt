@@ -1,6 +1,6 @@
 //! The minimal solutions of a system, one row after another.
 ghost use Rattle.std.specs.Prelude.{◌≡◌, ◌≢◌, ◌↔◌, ◌≤◌, ℕ, List, IfOk, length, All, AllPairs, Contains};
-ghost use Rattle.fvn_lindio.specs.Vectors.{IsBefore};
+ghost use Rattle.fvn_base.specs.Order.{IsBefore};
 ghost use Rattle.fvn_lindio.specs.Systems.{IsMinimal, IsSystem, rows_of, vectors_of};
 ghost use Rattle.fvn_lindio.specs.Refusals.{IsTooMany, IsTooWide};
 
@@ -8,6 +8,7 @@ use crate::answer::{is_wide, solutions_of};
 use crate::rows::extended;
 use crate::system::{LinFault, Solution, System};
 use fvn_base::Seq;
+use fvn_base::limits::COMPONENT;
 use smallvec::SmallVec;
 use std::alloc::Global;
 
@@ -24,7 +25,7 @@ pub fn basis(alloc: Global, system: &System, most: usize) -> Result<Seq<Solution
         Contains (vectors_of list) v ↔ IsMinimal system.now.columns (rows_of system.now) v) }
     ensures ordered { IfOk result (λ list. AllPairs IsBefore (vectors_of list)) }
     ensures few { IfOk result (λ list. length list ≤ most) }
-    ensures narrow { IfOk result (λ list. All (All (λ a. a ≤ 65535)) (vectors_of list)) }
+    ensures narrow { IfOk result (λ list. All (All (λ a. a ≤ COMPONENT)) (vectors_of list)) }
 
     // Where memory does not run out, each refusal comes exactly where its prefix is the first.
     ensures too_many { result ≢ Err LinFault.NoMemory → (k : ℕ) →

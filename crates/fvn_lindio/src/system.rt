@@ -2,7 +2,9 @@
 ghost use Rattle.std.specs.Prelude.{◌≡◌};
 
 use fvn_base::Seq;
+use fvn_base::limits::COMPONENT;
 use std::alloc::AllocError;
+use thiserror::Error;
 
 /// One equation: the sum of coefficient times component is zero.
 #[derive(Drop)]
@@ -27,13 +29,16 @@ pub struct Solution {
 }
 
 /// Why a system has no answer.
-#[derive(Clone, Copy, PartialEq, Eq, Debug)]
+#[derive(Clone, Copy, Debug, PartialEq, Eq, Error)]
 pub enum LinFault {
     /// So many rows, from the first on, have more minimal solutions than were allowed.
+    #[error("the first {0} rows have more minimal solutions than were allowed")]
     TooMany(usize),
     /// So many rows, from the first on, have a minimal solution with a component over 65,535.
+    #[error("the first {0} rows have a minimal solution with a component over {limit}", limit = COMPONENT)]
     TooWide(usize),
-    /// Memory ran out.
+    /// Memory was refused.
+    #[error("memory was refused")]
     NoMemory,
 }
 

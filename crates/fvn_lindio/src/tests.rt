@@ -217,6 +217,43 @@ fn known_solutions(rt: HostRuntime) -> Result<(), Fail> {
     Ok(())
 }
 
+/// Two rows of so many columns: a solution has the greatest component in the first column, and 23 solutions
+/// have 1 in the third.
+fn wide_rows(alloc: Global, columns: usize, greatest: i32) -> Result<Vec<i32>, AllocError> {
+    let mut rows = Vec::new(alloc);
+    for column in 0..columns {
+        rows.push(match column {
+            0 => -1,
+            1 => greatest,
+            _ => 0,
+        })?;
+    }
+    for column in 0..columns {
+        let is_last = columns - column <= 23;
+        rows.push(match column {
+            2 => 1,
+            _ => 0 - i32::from(is_last),
+        })?;
+    }
+    Ok(rows)
+}
+
+// 24 solutions, which is the most that callers ask for; the most columns; and the greatest component.
+#[test]
+fn systems_at_the_limits(rt: HostRuntime) -> Result<(), Fail> {
+    let alloc = rt.alloc();
+    for (columns, greatest) in [(1000, 1), (26, 65535)] {
+        let rows = wide_rows(alloc, columns, greatest)?;
+        let list = found(&rt, alloc, columns, rows.as_slice(), 24)?;
+        assert_eq!(rt; list.len(), 24 * columns, "{columns} columns");
+        assert!(rt;
+            list.iter().any(|a| *a == greatest as u32),
+            "{columns} columns"
+        );
+    }
+    Ok(())
+}
+
 #[test]
 fn refused_prefixes(rt: HostRuntime) -> Result<(), Fail> {
     let alloc = rt.alloc();

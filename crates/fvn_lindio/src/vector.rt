@@ -1,8 +1,10 @@
 //! Vectors of the search: their order, sums and the value of a row at them.
 ghost use Rattle.std.specs.Prelude.{◌≡◌, ◌↔◌, ◌+◌, ◌*◌, ◌<◌, ◌≤◌, ◌^◌, ℕ, IfOk, IsTrue, All, length, slice_index, slice_set, replicate, unsigned_abs};
-ghost use Rattle.fvn_lindio.specs.Vectors.{IsAtOrBelow, IsBefore, add};
-ghost use Rattle.fvn_lindio.specs.Search.{IsValue, IsOpposite};
+ghost use Rattle.fvn_lindio.specs.Vectors.{IsAtOrBelow, add};
+ghost use Rattle.fvn_base.specs.Order.{IsBefore};
+ghost use Rattle.fvn_lindio.specs.inner.Search.{IsValue, IsOpposite};
 
+use fvn_base::limits::{COLUMNS, COMPONENT};
 use smallvec::SmallVec;
 use std::alloc::{AllocError, Global};
 
@@ -74,11 +76,11 @@ pub(crate) fn unit(
 /// The sum of coefficient times component.
 pub(crate) fn value_at(row: &[i32], x: &[u64]) -> i64
     requires same { length row.now ≡ length x.now }
-    requires few { length row.now ≤ 1000 }
-    requires bounded { All (λ c. unsigned_abs c ≤ 65535) row.now }
-    requires narrow { All (λ a. a ≤ 65535) x.now }
+    requires few { length row.now ≤ COLUMNS }
+    requires bounded { All (λ c. unsigned_abs c ≤ COMPONENT) row.now }
+    requires narrow { All (λ a. a ≤ COMPONENT) x.now }
     ensures exact { IsValue row.now x.now result }
-    ensures bounded { unsigned_abs result ≤ 1000 * 65535 * 65535 }
+    ensures bounded { unsigned_abs result ≤ COLUMNS * COMPONENT * COMPONENT }
 {
     let mut value: i64 = 0;
     for (i, c) in row.iter().enumerate() {

@@ -17,29 +17,9 @@ use Rattle.fvn_module.specs.Meaning.{Meaning, a_constant, a_variable, means, var
 use Rattle.fvn_module.specs.ProblemText.{is_reserved}
 use Rattle.fvn_module.specs.ProblemReading.{resolve, resolve_variable}
 use Rattle.fvn_module.proofs.TextLemmas.{place-below}
+use Rattle.fvn_terms.proofs.Plains.{plain_of, plains, plain_of-term, term-plain_of, terms-plains}
 use Rattle.fvn_module.proofs.Places.{adds, adds-append, adds-extends, Extends, Extends-trans, place-extends, place-with, place-at, with_text-place}
 use Rattle.fvn_module.proofs.TermReading.{Reads, reads_bare, reads_round, reads_call, ReadAll, read_last, read_and}
-
--- the plain term that stands for a term
-abbrev pub plain_of : Term → Plain
-plain_of (var x) = Var x
-plain_of (app f ts) = App f ts
-
-abbrev pub plains : Terms → List Plain
-plains none = []
-plains (more t ts) = plain_of t ∷ plains ts
-
-pub plain_of-term : (t : Plain) → plain_of (term t) ≡ t
-plain_of-term (Var x) = refl
-plain_of-term (App f us) = refl
-
-pub term-plain_of : (t : Term) → term (plain_of t) ≡ t
-term-plain_of (var x) = refl
-term-plain_of (app f ts) = refl
-
-pub terms-plains : (ts : Terms) → terms (plains ts) ≡ ts
-terms-plains none = refl
-terms-plains (more t ts) = ap (λ u. more u (terms (plains ts))) (term-plain_of t) ∙ ap (more t) (terms-plains ts)
 
 abbrev pair : Plain → List Text → Plain × List Text
 pair t us = (t, us)

@@ -2,14 +2,12 @@
 use Rattle.std.proofs.Common.{◌≡◌, ℕ, ◌+◌, ◌-◌, ◌<◌, ◌≤◌, true, false, List, [], ◌∷◌, ◌++◌, length, take, drop, get_or, Some, None, refl, sym, ap, ◌∙◌, add-one, suc, drop-cons, arith, length-drop, get_or-drop}
 use Rattle.std.proofs.lemmas.List.{take_more}
 use Rattle.std.specs.List.{slice_range}
+use Rattle.fvn_base.proofs.Drops.{drop-at}
 use Rattle.fvn_module.specs.declared.first.pieces.Piece.{Piece}
 use Rattle.fvn_module.specs.declared.first.declared.Operator.{Operator}
 use Rattle.fvn_module.specs.Pieces.{Text}
 use Rattle.fvn_module.specs.Tests.{is_word, is_dot}
 use Rattle.fvn_module.specs.ModuleReading.{Known, bind, declare, declare_all, read_statement, read_body}
-
-pub drop-at : {A : Type 0} (xs : List A) (i : ℕ) (x : A) → i < length xs → x ≡ get_or xs i x → drop i xs ≡ x ∷ drop (i + 1) xs
-drop-at xs i x h e = rw add-one (drop-cons xs i x h ∙ ap (λ y. y ∷ drop (suc i) xs) (sym e))
 
 pub declare_all-stuck : (sort : Text) (n : ℕ) (ops : List Operator) (names : List Piece) (i : ℕ) (p : Piece) → i < length names → p ≡ get_or names i p →
     is_word p ≡ true → declare sort n ops p.text ≡ None → declare_all sort n ops (drop i names) ≡ None

@@ -19,7 +19,8 @@ use Rattle.fvn_module.proofs.TermReading.{ProblemRead, Reads, run_problem}
 use Rattle.fvn_module.proofs.TermSound.{problem_read}
 use Rattle.fvn_module.proofs.Dots.{undotted-dot, undotted-spelled, undotted-cases}
 use Rattle.fvn_module.proofs.Places.{adds, adds-append, adds-extends, adds-length, Extends, Extends-refl, numbered_to-numbered}
-use Rattle.fvn_module.proofs.Denoting.{count-append, count-word, count-dot, read_denotes, denotes_read, words_nodes, texts_nodes, plain_of, plain_of-term}
+use Rattle.fvn_module.proofs.Denoting.{count-append, count-word, count-dot, read_denotes, denotes_read, words_nodes, texts_nodes}
+use Rattle.fvn_terms.proofs.Plains.{plain_of, plain_of-term}
 
 abbrev equals : Piece
 equals = word (codes "=?")

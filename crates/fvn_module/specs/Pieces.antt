@@ -2,7 +2,8 @@
 use Rattle.std.specs.Prelude.{ℕ, List, map, slice_range, Ok, Err, Option, Some, None, codes}
 use Rattle.fvn_lex.specs.declared.token.Class.TheVariants.{Word, Special, Dot}
 use Rattle.fvn_lex.specs.declared.token.Token.{Token}
-use Rattle.fvn_lex.specs.Cut.{Lexed, lex}
+use Rattle.fvn_lex.specs.Spans.{Lexed}
+use Rattle.fvn_lex.specs.Cut.{lex}
 use Rattle.fvn_module.specs.declared.first.pieces.Piece.{Piece}
 
 -- a text is a list of bytes

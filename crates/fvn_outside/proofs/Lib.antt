@@ -1,4 +1,5 @@
 -- Lemmas on what is taken, added and counted.
-pub mod SourceLemmas
-pub mod SinkLemmas
-pub mod ResultLemmas
+mod SourceLemmas
+mod SinkLemmas
+mod ResultLemmas
+mod KeptBytes

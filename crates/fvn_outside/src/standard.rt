@@ -6,10 +6,10 @@ ghost use Rattle.fvn_outside.specs.Faults.{Rose, next_count};
 use crate::failures::{ReadFailed, WriteFailed};
 use crate::reading::Source;
 use crate::writing::Sink;
-use std::io::{Read, Write};
+use std::io::{ErrorKind, Read, Write};
 
 /// A reader of the standard library as a source, which tells none of its bytes. Each error of the
-/// reader is a failed read, also one after which reading could go on.
+/// reader is a failed read, but an interruption: then it is asked again.
 #[derive(Drop)]
 pub struct StdSource<R> {
     reader: R,
@@ -25,6 +25,15 @@ impl<R: Read> StdSource<R> {
         ensures faults { read_faults result ≡ 0 }
     {
         StdSource { reader, faults: 0 }
+    }
+
+    // A failed read, counted.
+    fn failure(&mut self) -> ReadFailed
+        ensures reader { reader_of self.new ≡ reader_of self.old }
+        ensures counted { read_faults self.new ≡ next_count (read_faults self.old) }
+    {
+        self.faults = self.faults.saturating_add(1);
+        ReadFailed
     }
 }
 
@@ -46,18 +55,19 @@ impl<R: Read> Source for StdSource<R> {
         ensures counted { OnErr result (read_faults self.new ≡ next_count (read_faults self.old)) }
         ensures uncounted { OnOk result (read_faults self.new ≡ read_faults self.old) }
     {
-        match self.reader.read(buffer) {
-            Ok(n) => Ok(n),
-            Err(_) => {
-                self.faults = self.faults.saturating_add(1);
-                Err(ReadFailed)
+        for _ in 0..u64::MAX {
+            match self.reader.read(buffer) {
+                Ok(n) => return Ok(n),
+                Err(error) if error.kind() == ErrorKind::Interrupted => {}
+                Err(_) => return Err(self.failure()),
             }
         }
+        Err(self.failure())
     }
 }
 
 /// A writer of the standard library as a sink, which tells none of its bytes. Each error of the
-/// writer is a failed write, also one after which writing could go on. Nothing is flushed.
+/// writer is a failed write, but an interruption: then it is asked again. Nothing is flushed.
 #[derive(Drop)]
 pub struct StdSink<W> {
     writer: W,
@@ -73,6 +83,15 @@ impl<W: Write> StdSink<W> {
         ensures faults { write_faults result ≡ 0 }
     {
         StdSink { writer, faults: 0 }
+    }
+
+    // A failed write, counted.
+    fn failure(&mut self) -> WriteFailed
+        ensures writer { writer_of self.new ≡ writer_of self.old }
+        ensures counted { write_faults self.new ≡ next_count (write_faults self.old) }
+    {
+        self.faults = self.faults.saturating_add(1);
+        WriteFailed
     }
 }
 
@@ -98,10 +117,17 @@ impl<W: Write> Sink for StdSink<W> {
         ensures counted_stuck { IfOk result (λ n. write_faults self.new ≡
             (if n == 0 then next_count (write_faults self.old) else write_faults self.old)) }
     {
-        let result = self.writer.write(bytes);
-        if !matches!(result, Ok(1..)) {
-            self.faults = self.faults.saturating_add(1);
+        for _ in 0..u64::MAX {
+            match self.writer.write(bytes) {
+                Ok(0) => {
+                    self.failure();
+                    return Ok(0);
+                }
+                Ok(n) => return Ok(n),
+                Err(error) if error.kind() == ErrorKind::Interrupted => {}
+                Err(_) => return Err(self.failure()),
+            }
         }
-        result.map_err(|_| WriteFailed)
+        Err(self.failure())
     }
 }

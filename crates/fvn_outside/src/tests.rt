@@ -1,6 +1,7 @@
 //! Runs over sources and sinks, with each read and each write failing in turn.
 
 use super::*;
+use std::alloc::Global;
 use std::io;
 use std::io::{ErrorKind, Read, Write};
 use std::test::Fail;
@@ -26,6 +27,80 @@ impl Write for Broken {
     fn flush(&mut self) -> io::Result<()> {
         Ok(())
     }
+}
+
+/// A reader and writer of which every second call is interrupted, from the first on.
+#[derive(Drop)]
+struct Interrupted<T> {
+    inner: T,
+    interrupts: bool,
+}
+
+impl<T> Interrupted<T> {
+    // Whether this call is interrupted.
+    fn next_interrupts(&mut self) -> bool {
+        self.interrupts = !self.interrupts;
+        self.interrupts
+    }
+}
+
+impl<R: Read> Read for Interrupted<R> {
+    fn read(&mut self, buffer: &mut [u8]) -> io::Result<usize> {
+        if self.next_interrupts() {
+            return Err(io::Error::from(ErrorKind::Interrupted));
+        }
+        self.inner.read(buffer)
+    }
+}
+
+impl<W: Write> Write for Interrupted<W> {
+    fn write(&mut self, bytes: &[u8]) -> io::Result<usize> {
+        if self.next_interrupts() {
+            return Err(io::Error::from(ErrorKind::Interrupted));
+        }
+        self.inner.write(bytes)
+    }
+
+    fn flush(&mut self) -> io::Result<()> {
+        self.inner.flush()
+    }
+}
+
+/// A text of this many bytes, of which neighbours differ.
+fn long_text(alloc: Global, length: usize) -> Result<Vec<u8>, Fail> {
+    let mut text = Vec::new(alloc);
+    for place in 0..length {
+        text.push((place % 251) as u8)?;
+    }
+    Ok(text)
+}
+
+#[test]
+fn long_texts_go_through_whole(rt: HostRuntime) -> Result<(), Fail> {
+    for length in [0usize, 1, 4_095, 4_096, 4_097, 1_048_576] {
+        let text = long_text(rt.alloc(), length)?;
+        let mut source = StdSource::new(Interrupted {
+            inner: text.as_slice(),
+            interrupts: false,
+        });
+        let read = read_all(rt.alloc(), &mut source, length)?;
+        assert!(rt; read.as_slice() == text.as_slice(), "{length}");
+
+        let mut written = Vec::new(rt.alloc());
+        let mut sink = StdSink::new(Interrupted {
+            inner: &mut written,
+            interrupts: false,
+        });
+        assert_eq!(rt; write_all(&mut sink, &read), Ok(()));
+        assert!(rt; written.as_slice() == text.as_slice(), "{length}");
+
+        let mut source = MemSource::new(read, 4_096, Vec::new(rt.alloc()));
+        let read = read_all(rt.alloc(), &mut source, length)?;
+        let mut sink = MemSink::new(rt.alloc(), length, 4_096, Vec::new(rt.alloc()))?;
+        assert_eq!(rt; write_all(&mut sink, &read), Ok(()));
+        assert!(rt; sink.written() == text.as_slice(), "{length}");
+    }
+    Ok(())
 }
 
 #[test]

@@ -10,7 +10,7 @@ use Rattle.std.proofs.lemmas.List.Elements.{Contains-append_left, Contains-appen
 use Rattle.std.proofs.lemmas.Nat.Bits.{bit_at_or, bit_at-lt, bit_at-pow_same, bit_at-pow_other}
 use Rattle.fvn_terms.specs.declared.plain.SortId.{SortId}
 use Rattle.fvn_forms.specs.SortOrder.{sort_number, same_sort, reaches}
-use Rattle.fvn_forms.proofs.Among.{contains_here, contains_later, contains_cases, contains_none}
+use Rattle.fvn_base.proofs.Membership.{contains_here, contains_later, contains_cases, contains_none}
 use Rattle.fvn_forms.proofs.SortTests.{reaches-self, reaches-cases, reaches-trans, reaches-one, reaches-sound}
 use Rattle.fvn_sorts.specs.Words.{Has, IsClosure, gaining}
 

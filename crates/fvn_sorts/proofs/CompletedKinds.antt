@@ -13,7 +13,7 @@ use Rattle.fvn_terms.specs.declared.declarations.OpDecl.{OpDecl}
 use Rattle.fvn_terms.specs.Signature.{kind, declared, unknown, IsSort}
 use Rattle.fvn_forms.specs.SortOrder.{sort_number, same_sort}
 use Rattle.fvn_forms.specs.Good.{IsKinded}
-use Rattle.fvn_forms.proofs.Among.{map_contains}
+use Rattle.fvn_base.proofs.Membership.{map_contains}
 use Rattle.fvn_forms.proofs.SortTests.{same_sort-self}
 use Rattle.fvn_sorts.specs.declared.collected.Declaration.{Declaration}
 use Rattle.fvn_sorts.specs.declared.collected.Collected.{Collected}

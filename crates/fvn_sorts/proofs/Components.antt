@@ -10,7 +10,7 @@ use Rattle.fvn_terms.specs.declared.declarations.Rank.{Rank}
 use Rattle.fvn_terms.specs.declared.declarations.OpDecl.{OpDecl}
 use Rattle.fvn_terms.specs.Signature.{kind, declared, IsSort}
 use Rattle.fvn_forms.specs.SortOrder.{sort_number, reaches}
-use Rattle.fvn_forms.proofs.Among.{map_contains, contains_map, contains_filter}
+use Rattle.fvn_base.proofs.Membership.{map_contains, contains_map, contains_filter}
 use Rattle.fvn_forms.proofs.SortTests.{same_sort-true, reaches-self, reaches-trans, reaches-one, reaches-sound}
 use Rattle.fvn_sorts.specs.declared.collected.Collected.{Collected}
 use Rattle.fvn_sorts.specs.Collected.{IsClosed, turned, both_ways, joins, first_joined, is_first, parts_before, kind_of, same_op, declarations_of, rank_meant, completed}

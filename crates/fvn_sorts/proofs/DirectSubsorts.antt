@@ -8,7 +8,7 @@ use Rattle.fvn_terms.specs.declared.declarations.Declarations.{Declarations}
 use Rattle.fvn_terms.specs.Signature.{kind, AtOrBelow, same, up, to_kind}
 use Rattle.fvn_forms.specs.SortOrder.{same_sort, at_or_below}
 use Rattle.fvn_forms.specs.Good.{IsGood}
-use Rattle.fvn_forms.proofs.Among.{contains_here, contains_later, contains_cases, contains_none, contains_filter, filter_contains, list_all_gives, list_all_from}
+use Rattle.fvn_base.proofs.Membership.{contains_here, contains_later, contains_cases, contains_none, contains_filter, filter_contains, list_all_gives, list_all_from}
 use Rattle.fvn_forms.proofs.SortOrder.{AtOrBelow-trans, AtOrBelow-one, AtOrBelow-kind, AtOrBelow-from_same, AtOrBelow-antisym, AtOrBelow-one_kind}
 use Rattle.fvn_forms.proofs.SortTests.{same_sort-true, same_sort-self, at_or_below-true, at_or_below-complete}
 use Rattle.fvn_sorts.specs.Collected.{first_sorts}

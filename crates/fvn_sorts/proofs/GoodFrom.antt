@@ -23,7 +23,7 @@ use Rattle.fvn_sorts.specs.Collected.{IsClosed, declarations_of, first_axioms, r
 use Rattle.fvn_forms.specs.FitsKinds.{TakesTwoAlike, TakesTwoOfItsKind}
 use Rattle.fvn_sorts.specs.Faults.{HasNoFault, HasBadShape}
 use Rattle.fvn_sorts.specs.Searches.{has_lowest}
-use Rattle.fvn_sorts.proofs.Decided.{unrefuted, decided_by, both_or, some_or_none}
+use Rattle.fvn_base.proofs.Decided.{unrefuted, decided_by, both_or, some_or_none}
 use Rattle.fvn_sorts.proofs.CompletedKinds.{declared-is, rank-declared, completed-kinded}
 use Rattle.fvn_sorts.proofs.ShapeLemmas.{same_axioms, differ_from_first}
 use Rattle.fvn_sorts.proofs.ResultLemmas.{same_sorts, same_sort_or, agree_of, result_lowest, lowest_result}

@@ -9,7 +9,7 @@ use Rattle.std.proofs.lemmas.List.FromFn.{map-range_with_len_more, length-map-ra
 use Rattle.std.proofs.lemmas.List.Elements.{All-append, All-map, All-weaker, Contains-append_left, Contains-append_right, Contains-append_cases}
 use Rattle.fvn_terms.specs.declared.plain.SortId.{SortId}
 use Rattle.fvn_forms.specs.SortOrder.{sort_number, same_sort}
-use Rattle.fvn_forms.proofs.Among.{contains_map, map_contains}
+use Rattle.fvn_base.proofs.Membership.{contains_map, map_contains}
 use Rattle.fvn_forms.proofs.SortTests.{same_sort-true, same_sort-self, reaches-self, reaches-trans, reaches-one, reaches-sound}
 use Rattle.fvn_sorts.specs.declared.collected.Collected.{Collected}
 use Rattle.fvn_sorts.specs.Collected.{turned, both_ways, first_sorts, joins, first_joined, is_first, parts_before, kind_of}

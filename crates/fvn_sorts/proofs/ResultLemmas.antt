@@ -15,7 +15,7 @@ use Rattle.fvn_terms.specs.Equality.{IsAssociative}
 use Rattle.fvn_forms.specs.SortOrder.{sort_number, at_or_below}
 use Rattle.fvn_forms.specs.Ranks.{IsResult, ranks_of, results, is_lowest, result}
 use Rattle.fvn_forms.specs.Good.{IsOfKind}
-use Rattle.fvn_forms.proofs.Among.{contains_here, contains_later, contains_cases, contains_none, list_all_from, list_all_gives}
+use Rattle.fvn_base.proofs.Membership.{contains_here, contains_later, contains_cases, contains_none, list_all_from, list_all_gives}
 use Rattle.fvn_forms.proofs.SortTests.{at_or_below-true, at_or_below-complete}
 use Rattle.fvn_forms.proofs.Results.{Serves-contains, contains-Serves}
 use Rattle.fvn_sorts.specs.declared.collected.Collected.{Collected}
@@ -26,7 +26,7 @@ use Rattle.fvn_sorts.specs.Drafts.{IsDraft}
 use Rattle.fvn_forms.specs.FitsKinds.{HaveOneKind}
 use Rattle.fvn_sorts.specs.Faults.{Differ, HasNoResult, HasBadBrackets, HasBadCollapse}
 use Rattle.fvn_sorts.specs.Searches.{AgreeInKinds, has_lowest, HasNoLowest, AreBad, DoesNotCollapse}
-use Rattle.fvn_sorts.proofs.Decided.{unrefuted, both_or}
+use Rattle.fvn_base.proofs.Decided.{unrefuted, both_or}
 
 -- equality of lists of sorts is decided
 pub same_sorts : (xs ys : List SortId) → (xs ≡ ys) ⊎ (xs ≡ ys → ⊥)

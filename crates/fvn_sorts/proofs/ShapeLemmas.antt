@@ -16,13 +16,13 @@ use Rattle.fvn_terms.specs.declared.declarations.Declarations.{Declarations}
 use Rattle.fvn_terms.specs.Signature.{kind, declared, axioms, unknown, HasKind, HaveKinds}
 use Rattle.fvn_terms.specs.Term.{none}
 use Rattle.fvn_terms.specs.Equality.{IsCommutative, IsAssociative, constant}
-use Rattle.fvn_forms.proofs.Among.{contains_here, contains_none}
+use Rattle.fvn_base.proofs.Membership.{contains_here, contains_none}
 use Rattle.fvn_sorts.specs.declared.collected.Declaration.{Declaration}
 use Rattle.fvn_sorts.specs.declared.collected.Collected.{Collected}
 use Rattle.fvn_sorts.specs.Collected.{IsClosed, op_number, declarations_of, first_axioms, completed}
 use Rattle.fvn_sorts.specs.Faults.{Differ, HasBadIdentity, IsOnCycle, HasFault}
 use Rattle.fvn_sorts.specs.Searches.{fault_at}
-use Rattle.fvn_sorts.proofs.Decided.{unrefuted}
+use Rattle.fvn_base.proofs.Decided.{unrefuted}
 use Rattle.fvn_sorts.proofs.Operators.{operators-long, declared_of}
 use Rattle.fvn_sorts.proofs.CompletedKinds.{below-range}
 

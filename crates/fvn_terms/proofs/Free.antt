@@ -1,7 +1,5 @@
 -- Without axioms, terms that are equal modulo the axioms are equal.
 use Rattle.std.proofs.Common.{◌≡◌, inl, inr, subst}
-use Rattle.fvn_terms.specs.declared.declarations.Axioms.{Axioms}
-use Rattle.fvn_terms.specs.declared.declarations.Axioms.TheVariants.{Free, AssocCommId}
 use Rattle.fvn_terms.specs.declared.declarations.Declarations.{Declarations}
 use Rattle.fvn_terms.specs.Term.{Term}
 use Rattle.fvn_terms.specs.Equality.{IsCommutative, IsAssociative, IsAxiom, IsAxiomEitherWay, BEqual, swap, shift, right_identity, left_identity}

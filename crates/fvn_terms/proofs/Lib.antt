@@ -1,8 +1,14 @@
+-- Lemmas on terms, substitutions and steps; the public ones are for callers.
 pub mod Plains
 pub mod Substitutions
 pub mod Steps
 pub mod Equal
 pub mod WellSorted
 pub mod Free
-pub mod Packs
-pub mod TheoryLaws
+mod Packs
+mod TheoryLaws
+pub mod CompleteSets
+pub mod Instances
+pub mod Occurrences
+mod Rewriting
+mod Covering

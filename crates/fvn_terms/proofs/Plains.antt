@@ -8,17 +8,25 @@ use Rattle.fvn_terms.specs.Plain.{term, terms}
 use Rattle.fvn_terms.specs.Substitution.{Substitution, apply, apply_all}
 
 -- the plain term that stands for a term
-abbrev plain_of : Term → Plain
+abbrev pub plain_of : Term → Plain
 plain_of (var x) = Var x
 plain_of (app f ts) = App f ts
 
-abbrev plains : Terms → List Plain
+abbrev pub plains : Terms → List Plain
 plains none = []
 plains (more t ts) = plain_of t ∷ plains ts
 
-plain_of-term : (t : Plain) → plain_of (term t) ≡ t
+pub plain_of-term : (t : Plain) → plain_of (term t) ≡ t
 plain_of-term (Var x) = refl
 plain_of-term (App f us) = refl
+
+pub term-plain_of : (t : Term) → term (plain_of t) ≡ t
+term-plain_of (var x) = refl
+term-plain_of (app f ts) = refl
+
+pub terms-plains : (ts : Terms) → terms (plains ts) ≡ ts
+terms-plains none = refl
+terms-plains (more t ts) = ap (λ u. more u (terms (plains ts))) (term-plain_of t) ∙ ap (more t) (terms-plains ts)
 
 plains-terms : (ts : List Plain) → plains (terms ts) ≡ ts
 plains-terms [] = refl

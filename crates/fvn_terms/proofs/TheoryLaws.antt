@@ -1,5 +1,5 @@
 -- Laws of equality in a theory.
-use Rattle.std.proofs.Common.{◌≡◌, inl, inr, ap, ◌∙◌, get_or}
+use Rattle.std.proofs.Common.{inl, inr, ap, ◌∙◌, get_or}
 use Rattle.fvn_terms.specs.declared.declarations.Declarations.{Declarations}
 use Rattle.fvn_terms.specs.Term.{Term}
 use Rattle.fvn_terms.specs.Substitution.{Substitution, apply, followed_by}
@@ -28,7 +28,7 @@ module _ (d : Declarations) (equations : Equations) where
   TEqual-modulo t u p = Leads-map (λ (v : Term). v) (λ v w. AtOnePlace-weaker (λ _ _. inl)) p
 
   module _ (s : Substitution) (sorted : IsWellSorted d s) where
-    IsRule-apply : (t u : Term) → IsRule d equations t u → IsRule d equations (apply s t) (apply s u)
+    pub IsRule-apply : (t u : Term) → IsRule d equations t u → IsRule d equations (apply s t) (apply s u)
     IsRule-apply t u r = record {
       left = r.left;
       right = r.right;
@@ -60,4 +60,9 @@ module _ (d : Declarations) (equations : Equations) where
     modulo = TEqual-modulo;
     substitution = TEqual-apply;
     follows = IsTheoryUnifier-followed_by;
+    instances = λ vars a b i. record {
+      after = i.after;
+      well_sorted = i.well_sorted;
+      equal = λ x h. TEqual-modulo _ _ (i.equal x h);
+    };
   }

@@ -1,4 +1,5 @@
 -- Equality modulo the axioms.
+-- G. E. Peterson and M. E. Stickel, Complete sets of reductions for some equational theories, 1981.
 use Rattle.std.specs.Prelude.{◌≡◌, ◌⊎◌}
 use Rattle.fvn_terms.specs.declared.plain.OpId.{OpId}
 use Rattle.fvn_terms.specs.declared.plain.SortId.{SortId}
@@ -9,19 +10,22 @@ use Rattle.fvn_terms.specs.Term.{Term, app, none, more}
 use Rattle.fvn_terms.specs.Signature.{axioms, HasKind}
 use Rattle.fvn_terms.specs.Places.{AtOnePlace, Leads}
 
--- f(t, u), and the constant e
+-- f(t, u)
 abbrev pub two : OpId → Term → Term → Term
 two f t u = app f (more t (more u none))
 
+-- the constant e
 abbrev pub constant : OpId → Term
 constant e = app e none
 
+-- operators with these axioms may exchange their arguments
 abbrev pub IsCommutative : Axioms → Type 0
 IsCommutative Free = ⊥
 IsCommutative Comm = Unit {0}
 IsCommutative AssocComm = Unit {0}
 IsCommutative (AssocCommId e) = Unit {0}
 
+-- operators with these axioms may move their brackets
 abbrev pub IsAssociative : Axioms → Type 0
 IsAssociative Free = ⊥
 IsAssociative Comm = ⊥
@@ -41,6 +45,7 @@ module _ (d : Declarations) where
   abbrev pub IsAxiomEitherWay : Term → Term → Type 0
   IsAxiomEitherWay t u = IsAxiom t u ⊎ IsAxiom u t
 
+  -- one axiom, used at one place of a term
   abbrev pub AxiomStep : Term → Term → Type 0
   AxiomStep = AtOnePlace IsAxiomEitherWay
 

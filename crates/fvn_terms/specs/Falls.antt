@@ -9,10 +9,12 @@ use Rattle.fvn_terms.specs.declared.plain.Args.TheDeep.{deep-Plain}
 use Rattle.fvn_terms.specs.Term.{nodes, nodes_all}
 use Rattle.fvn_terms.specs.Plain.{term, terms}
 
+-- the size of a plain term as a part is at most its number of nodes
 pub deep_le_nodes : (t : Plain) → deep-Plain t ≤ nodes (term t)
 deep_le_nodes (Var x) = zero-le
 deep_le_nodes (App f us) = max-le (le_refl (nodes_all us + 1)) zero-le
 
+-- the greatest such size in a list is at most the number of nodes of the list
 pub most_le_nodes : (ts : List Plain) → most deep-Plain ts ≤ nodes_all (terms ts)
 most_le_nodes [] = le_refl 0
 most_le_nodes (t ∷ ts) =

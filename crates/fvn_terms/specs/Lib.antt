@@ -1,3 +1,4 @@
+-- The words of terms, of equality modulo the axioms, of sorts and of unifiers.
 pub mod Term
 pub mod Plain
 pub mod Substitution
@@ -7,6 +8,9 @@ pub mod Equality
 pub mod Sorts
 pub mod Unifiers
 pub mod Theory
+pub mod CompleteSets
+pub mod Rewriting
+pub mod Variants
 pub mod Laws
-pub mod Code
 pub mod Falls
+pub mod inner

@@ -8,6 +8,7 @@ mutual
     here : {t u : Term} → R t u → AtOnePlace R t u
     inside : {f : OpId} {ts us : Terms} → AmongOnePlace R ts us → AtOnePlace R (app f ts) (app f us)
 
+  -- the same inside one term of a list
   pub data AmongOnePlace (R : Term → Term → Type 0) : Terms → Terms → Type 0 where
     first : {t u : Term} {ts : Terms} → AtOnePlace R t u → AmongOnePlace R (more t ts) (more u ts)
     later : {t : Term} {ts us : Terms} → AmongOnePlace R ts us → AmongOnePlace R (more t ts) (more t us)

@@ -1,4 +1,5 @@
 -- A signature: its sorts, their order, its operators, and the terms of a kind.
+-- Maude Manual, chapter 3.
 use Rattle.std.specs.Prelude.{◌≡◌, ◌<◌, List, [], ◌∷◌, map, length, slice_index_or, Contains}
 use Rattle.fvn_terms.specs.declared.plain.Var.{Var}
 use Rattle.fvn_terms.specs.declared.plain.OpId.{OpId}
@@ -24,6 +25,7 @@ module _ (d : Declarations) where
   abbrev pub declared : OpId → OpDecl
   declared f = slice_index_or d.ops f.0 unknown
 
+  -- the axioms of an operator; none where it is unknown
   abbrev pub axioms : OpId → Axioms
   axioms f = (declared f).axioms
 
@@ -50,12 +52,14 @@ module _ (d : Declarations) where
     HasKind (var x) k = IsSort x.sort × (kind x.sort ≡ k)
     HasKind (app f ts) k = FitsRank f (HaveKinds ts) k
 
+    -- the terms are well-kinded, and have these kinds in turn
     pub HaveKinds : Terms → List SortId → Type 0
     HaveKinds none [] = Unit {0}
     HaveKinds none (k ∷ ks) = ⊥
     HaveKinds (more t ts) [] = ⊥
     HaveKinds (more t ts) (k ∷ ks) = HasKind t k × HaveKinds ts ks
 
+  -- the term is well-kinded
   abbrev pub IsTerm : Term → Type 0
   IsTerm t = (k : SortId) × HasKind t k
 

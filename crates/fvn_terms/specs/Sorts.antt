@@ -1,4 +1,6 @@
 -- The sorts of a term.
+-- Maude Manual, chapter 3.
+-- J. A. Goguen and J. Meseguer, Order-sorted algebra I, 1992.
 use Rattle.std.specs.Prelude.{◌≡◌, List, [], ◌∷◌, map, Contains}
 use Rattle.fvn_terms.specs.declared.plain.Var.{Var}
 use Rattle.fvn_terms.specs.declared.plain.OpId.{OpId}
@@ -29,12 +31,13 @@ module _ (d : Declarations) where
     pub rank : HasRank f sorts s
     pub args : Fit sorts
 
-  -- the term gets this sort; each term gets a sort at or below the one in its place
+  -- the term gets this sort
   abbrev mutual
     pub Gets : Term → SortId → Type 0
     Gets (var x) s = x.sort ≡ s
     Gets (app f ts) s = FitsSorts f (GetAtMost ts) s
 
+    -- each term gets a sort at or below the one in its place
     pub GetAtMost : Terms → List SortId → Type 0
     GetAtMost none [] = Unit {0}
     GetAtMost none (s ∷ ss) = ⊥
@@ -51,6 +54,7 @@ module _ (d : Declarations) where
   abbrev pub IsWellSorted : Substitution → Type 0
   IsWellSorted s = KeepsKinds d s × ((x : Var) → HasSort (s x) x.sort)
 
+  -- the term has this sort, and each sort that it has is this one or above it
   pub record IsLeastSort (t : Term) (s : SortId) : Type 0 where
     pub has : HasSort t s
     pub least : (q : SortId) → HasSort t q → AtOrBelow d s q

@@ -1,4 +1,5 @@
 -- Substitutions.
+-- F. Baader and T. Nipkow, Term Rewriting and All That, 1998, chapter 3.
 use Rattle.std.specs.Prelude.{◌≡◌, ◌⊎◌, Bool, true, false, not, ◌&&◌, nat_eq, if◌then◌else◌, List, [], ◌∷◌, Option, Some, None}
 use Rattle.fvn_terms.specs.declared.plain.Var.{Var}
 use Rattle.fvn_terms.specs.declared.plain.Plain.{Plain}
@@ -15,6 +16,7 @@ abbrev mutual
   apply s (var x) = s x
   apply s (app f ts) = app f (apply_all s ts)
 
+  -- the terms of a list with all their variables replaced at once
   pub apply_all : Substitution → Terms → Terms
   apply_all s none = none
   apply_all s (more t ts) = more (apply s t) (apply_all s ts)
@@ -29,14 +31,17 @@ abbrev mutual
   Occurs x (var y) = x ≡ y
   Occurs x (app f ts) = OccursAmong x ts
 
+  -- x occurs in one of the terms
   pub OccursAmong : Var → Terms → Type 0
   OccursAmong x none = ⊥
   OccursAmong x (more t ts) = Occurs x t ⊎ OccursAmong x ts
 
+-- whether two truth values are one
 abbrev pub same_truth : Bool → Bool → Bool
 same_truth true b = b
 same_truth false b = not b
 
+-- whether two variables are one
 abbrev pub same_var : Var → Var → Bool
 same_var x y = nat_eq x.name y.name && nat_eq x.sort.0 y.sort.0 && same_truth x.fresh y.fresh
 
@@ -45,6 +50,7 @@ abbrev pub bound : List (Var × Plain) → Var → Option Plain
 bound [] x = None
 bound (p ∷ s) x = if same_var p.0 x then Some p.1 else bound s x
 
+-- the term that was found for x, else x itself
 abbrev pub term_or : Var → Option Plain → Term
 term_or x None = var x
 term_or x (Some t) = term t

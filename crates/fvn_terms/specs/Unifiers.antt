@@ -1,4 +1,6 @@
 -- Unifiers and instances.
+-- M. E. Stickel, A unification algorithm for associative-commutative functions, 1981.
+-- F. Baader and K. U. Schulz, Unification in the union of disjoint equational theories, 1996.
 use Rattle.std.specs.Prelude.{List, All, Contains}
 use Rattle.fvn_terms.specs.declared.plain.Var.{Var}
 use Rattle.fvn_terms.specs.declared.declarations.Declarations.{Declarations}
@@ -25,5 +27,6 @@ pub record IsInstanceUpTo (d : Declarations) (E : Term → Term → Type 0) (var
   pub well_sorted : IsWellSorted d after
   pub equal : (x : Var) → Contains vars x → E (a x) (apply after (b x))
 
+-- on these variables, a is modulo the axioms b followed by a well-sorted substitution
 abbrev pub IsInstance : Declarations → List Var → Substitution → Substitution → Type 0
 IsInstance d = IsInstanceUpTo d (BEqual d)

@@ -6,6 +6,10 @@ ghost use Rattle.fvn_terms.specs.Laws.{
   WhatFollowsAUnifierIsAUnifier,
   FreeTermsAreEqual,
   TheoryEqualityIsLawful,
+  InstancesAreTransitive,
+  CompleteSetsThatAreApartAreShortest,
+  RewritingIsLawful,
+  CoveringIsReflexiveAndTransitive,
 };
 
 use crate::declarations::Declarations;
@@ -40,6 +44,26 @@ pub fn free_terms_are_equal()
 /// Equality in the theory of equations has the same laws, and contains equality modulo the axioms.
 pub fn theory_equality_is_lawful()
     ensures { TheoryEqualityIsLawful }
+{}
+
+/// An instance of an instance is an instance.
+pub fn instances_are_transitive()
+    ensures { InstancesAreTransitive }
+{}
+
+/// A complete set of unifiers of which none is an instance of another has as few members as any complete set.
+pub fn complete_sets_that_are_apart_are_shortest()
+    ensures { CompleteSetsThatAreApartAreShortest }
+{}
+
+/// Rewriting modulo the axioms leads between classes of equal terms, inside terms and through instances.
+pub fn rewriting_is_lawful()
+    ensures { RewritingIsLawful }
+{}
+
+/// Covering is reflexive and transitive.
+pub fn covering_is_reflexive_and_transitive()
+    ensures { CoveringIsReflexiveAndTransitive }
 {}
 
 fn shared<T: Send + Sync>(_value: &T) {}

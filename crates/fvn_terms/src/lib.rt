@@ -9,10 +9,12 @@ mod substitution;
 mod tests;
 
 pub use declarations::{Axioms, Declarations, OpDecl, Rank};
+pub use fvn_base::NoMemory;
 pub use laws::{
-    all_shared, equality_is_a_congruence, equality_is_an_equivalence,
-    equality_is_kept_by_substitution, free_terms_are_equal, theory_equality_is_lawful,
+    all_shared, complete_sets_that_are_apart_are_shortest, covering_is_reflexive_and_transitive,
+    equality_is_a_congruence, equality_is_an_equivalence, equality_is_kept_by_substitution,
+    free_terms_are_equal, instances_are_transitive, rewriting_is_lawful, theory_equality_is_lawful,
     what_follows_a_unifier_is_a_unifier,
 };
-pub use plain::{Args, NoMemory, OpId, Plain, SortId, Var};
+pub use plain::{Args, OpId, Plain, SortId, Var};
 pub use substitution::PlainSubst;

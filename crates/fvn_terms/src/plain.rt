@@ -3,12 +3,9 @@ ghost use Rattle.std.specs.Prelude.{◌≡◌, ℕ, ◌+◌, ◌-◌, ◌^◌, m
 ghost use Rattle.fvn_terms.specs.Term.{nodes, nodes_all};
 ghost use Rattle.fvn_terms.specs.Plain.{term};
 
-use std::alloc::{AllocError, AllocFailed, Global};
+use fvn_base::NoMemory;
+use std::alloc::Global;
 use std::marker::Model;
-
-/// Memory was refused: the one answer that may come from any call that allocates.
-#[derive(Debug, Clone, Copy, PartialEq, Eq)]
-pub struct NoMemory;
 
 /// The number of a sort: the declared sorts in order of declaration, and then the kinds.
 #[derive(Debug, Clone, Copy, PartialEq, Eq, PartialOrd, Ord, Hash)]
@@ -43,21 +40,9 @@ pub struct Args {
     pub items: Vec<Plain>,
 }
 
-impl<T: Drop> From<AllocFailed<T>> for NoMemory {
-    fn from(_refused: AllocFailed<T>) -> NoMemory {
-        NoMemory
-    }
-}
-
-impl From<AllocError> for NoMemory {
-    fn from(_refused: AllocError) -> NoMemory {
-        NoMemory
-    }
-}
-
 impl Model for Args {
     ghost use Rattle.fvn_terms.specs.Term.{Terms};
-    ghost use Rattle.fvn_terms.specs.Code.{coded_terms};
+    ghost use Rattle.fvn_terms.specs.inner.Code.{coded_terms};
 
     ghost Value = { Terms };
 

@@ -3,8 +3,8 @@ ghost use Rattle.std.specs.Prelude.{◌≡◌, Some, None, MatchOption, IfOk};
 ghost use Rattle.fvn_terms.specs.Plain.{term, terms};
 ghost use Rattle.fvn_terms.specs.Substitution.{bound, value, apply, apply_all};
 
-use crate::plain::{Args, NoMemory, Plain, Var};
-use fvn_base::Seq;
+use crate::plain::{Args, Plain, Var};
+use fvn_base::{NoMemory, Seq};
 use std::alloc::Global;
 
 /// Terms for some variables; a variable without a pair stays as it is.

@@ -56,6 +56,55 @@ fn terms_are_copied_measured_compared_and_instantiated(rt: HostRuntime) -> Resul
     Ok(())
 }
 
+// So many operators over this term, each over the one before.
+fn tower(alloc: Global, height: u16, base: Plain) -> Result<Plain, NoMemory> {
+    let mut term = base;
+    for f in 0..height {
+        let mut items = Vec::new(alloc);
+        items.push(term)?;
+        term = Plain::App(OpId(f), Args::from_vec(items));
+    }
+    Ok(term)
+}
+
+// An operator over so many variables.
+fn row(alloc: Global, x: Var, width: u16) -> Result<Plain, NoMemory> {
+    let mut items = Vec::new(alloc);
+    for _ in 0..width {
+        items.push(Plain::Var(x))?;
+    }
+    Ok(Plain::App(OpId(0), Args::from_vec(items)))
+}
+
+// A term of 1,000 symbols is the largest that the program asks for: as deep or as wide as it can be.
+#[test]
+fn large_terms_are_copied_and_instantiated(rt: HostRuntime) -> Result<(), NoMemory> {
+    let alloc = rt.alloc();
+    for (height, width) in [(998, 1), (0, 999), (500, 499)] {
+        let term = tower(alloc, height, row(alloc, X, width)?)?;
+        let other = tower(alloc, height, row(alloc, Y, width)?)?;
+        assert_eq!(rt; term.size(), 1000, "at {height}");
+        assert!(rt; term.copy(alloc)?.same(&term), "at {height}");
+
+        // Each X becomes Y, and no Y is bound.
+        let mut pairs = Vec::new(alloc);
+        pairs.push((X, Plain::Var(Y)))?;
+        let substitution = PlainSubst {
+            pairs: Seq::from_vec(pairs),
+        };
+        assert!(rt; substitution.get(Y).is_none());
+        assert!(rt;
+            substitution.apply(alloc, &term)?.same(&other),
+            "at {height}"
+        );
+        assert!(rt;
+            substitution.apply(alloc, &other)?.same(&other),
+            "at {height}"
+        );
+    }
+    Ok(())
+}
+
 #[test]
 fn declarations_answer_for_sorts_and_operators(rt: HostRuntime) -> Result<(), NoMemory> {
     let alloc = rt.alloc();

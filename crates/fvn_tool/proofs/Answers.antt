@@ -1,5 +1,6 @@
 -- How an answer and a reply come about.
 use Rattle.std.proofs.Common.{◌≡◌, ◌≢◌, ◌≤◌, ℕ, List, [], ◌∷◌, map, All, AllPairs, sym, ap, ◌∙◌, subst}
+use Rattle.fvn_base.specs.declared.limits.TheConstants.{TERM_SYMBOLS}
 use Rattle.fvn_terms.specs.declared.plain.Var.{Var}
 use Rattle.fvn_terms.specs.declared.plain.Plain.{Plain}
 use Rattle.fvn_terms.specs.Term.{nodes, pack}
@@ -14,7 +15,7 @@ use Rattle.fvn_tool.specs.declared.status.Status.TheVariants.{Solved, Nothing, M
 use Rattle.fvn_tool.specs.Free.{ListsVariables, IsMostGeneral, AreNumbered, variables_among}
 use Rattle.fvn_tool.specs.Lines.{bindings_line}
 use Rattle.fvn_tool.specs.Spellings.{spelling}
-use Rattle.fvn_tool.specs.Replies.{answer_text, complete, bound_size, line_of, size_limit, CannotBeUnified, ExceedsSize, IsPrintable, IsAnswer, unified, not_unified, too_large, IsProblem, IsReply, no_module, no_problem, no_module_line, no_problem_line, DeclareNoModule, AsksNothing}
+use Rattle.fvn_tool.specs.Replies.{answer_text, complete, bound_size, line_of, CannotBeUnified, ExceedsSize, IsPrintable, IsAnswer, unified, not_unified, too_large, IsProblem, IsUnifyReply, no_module, no_problem, no_module_line, no_problem_line, DeclareNoModule, AsksNothing}
 use Rattle.fvn_tool.proofs.Asked.{lists_variables}
 use Rattle.fvn_tool.proofs.Pairs.{values-pairs, pack-values, within-values}
 
@@ -32,7 +33,7 @@ module _ (scope : FirstModule) (problem : FirstProblem) (m : IsModule scope) (q 
   module _ (pairs : List (Var × Plain)) (text : List ℕ)
       (general : IsMostGeneral scope.declarations problem.vars (term problem.left) (term problem.right) (value pairs))
       (binds : map (λ p. p.0) pairs ≡ problem.vars)
-      (within : All (λ p. nodes (term p.1) ≤ size_limit) pairs)
+      (within : All (λ p. nodes (term p.1) ≤ TERM_SYMBOLS) pairs)
       (numbered : AreNumbered (variables_among (terms (map (λ p. p.1) pairs))))
       (text_is : text ≡ answer_text (bindings_line (spelling scope.names problem.names) (map (λ p. (p.0, term p.1)) pairs) ∷ []) (complete 1)) where
     apart : AllPairs (λ y z. y ≢ z) (map (λ p. p.0) pairs)
@@ -41,7 +42,7 @@ module _ (scope : FirstModule) (problem : FirstProblem) (m : IsModule scope) (q 
     printable : IsPrintable scope problem (value pairs)
     printable = record {
       most_general = general;
-      within = subst (All (λ x. nodes (value pairs x) ≤ size_limit)) binds (within-values size_limit pairs apart within);
+      within = subst (All (λ x. nodes (value pairs x) ≤ TERM_SYMBOLS)) binds (within-values TERM_SYMBOLS pairs apart within);
       numbered = subst (λ vars. AreNumbered (variables_among (pack (map (value pairs) vars)))) binds (subst (λ ts. AreNumbered (variables_among ts)) (sym (pack-values pairs apart)) numbered);
     }
 
@@ -59,8 +60,8 @@ module _ (scope : FirstModule) (problem : FirstProblem) (status : Status) (text 
   ended_answer e h is = subst (λ s. IsAnswer scope problem s text) (sym e) (too_large h is)
 
 module _ (bytes word : List ℕ) (status : Status) (text : List ℕ) where
-  pub no_module_reply : status ≡ ModuleRefused → DeclareNoModule bytes → text ≡ no_module_line → IsReply bytes word status text
-  no_module_reply e h is = subst (λ s. IsReply bytes word s text) (sym e) (no_module h is)
+  pub no_module_reply : status ≡ ModuleRefused → DeclareNoModule bytes → text ≡ no_module_line → IsUnifyReply bytes word status text
+  no_module_reply e h is = subst (λ s. IsUnifyReply bytes word s text) (sym e) (no_module h is)
 
-  pub no_problem_reply : (scope : FirstModule) → status ≡ ProblemRefused → IsModuleText bytes scope → AsksNothing scope word → text ≡ no_problem_line → IsReply bytes word status text
-  no_problem_reply scope e m h is = subst (λ s. IsReply bytes word s text) (sym e) (no_problem scope m h is)
+  pub no_problem_reply : (scope : FirstModule) → status ≡ ProblemRefused → IsModuleText bytes scope → AsksNothing scope word → text ≡ no_problem_line → IsUnifyReply bytes word status text
+  no_problem_reply scope e m h is = subst (λ s. IsUnifyReply bytes word s text) (sym e) (no_problem scope m h is)

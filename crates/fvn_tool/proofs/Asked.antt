@@ -3,6 +3,9 @@ use Rattle.std.proofs.Common.{◌≡◌, ◌≢◌, ◌<◌, ◌+◌, ◌⊎◌,
 use Rattle.std.specs.List.{list_any}
 use Rattle.std.specs.Str.{bytes_eq}
 use Rattle.std.proofs.lemmas.Slice.Eq.{bytes_eq-Decides}
+use Rattle.std.proofs.lemmas.List.{get_or_default}
+use Rattle.std.proofs.lemmas.List.Elements.{Contains-append_cases}
+use Rattle.fvn_base.proofs.Membership.{contains_here, contains_later, contains_cases, contains_none}
 use Rattle.fvn_terms.specs.declared.plain.Var.{Var}
 use Rattle.fvn_terms.specs.Term.{Term, Terms, var, app, none, more}
 use Rattle.fvn_terms.specs.Plain.{term}
@@ -16,7 +19,7 @@ use Rattle.fvn_module.specs.Meaning.{Meaning, a_constant, a_variable, place, wit
 use Rattle.fvn_module.specs.ProblemText.{numbered, IsProblemText}
 use Rattle.fvn_module.specs.Facts.{IsFirstProblem}
 use Rattle.fvn_tool.specs.Free.{ListsVariables}
-use Rattle.fvn_tool.proofs.Members.{Among, Among-at, Among-append, position_at, same_place}
+use Rattle.fvn_tool.proofs.Members.{position_at, same_place}
 
 -- The variables
 
@@ -45,23 +48,27 @@ module _ (texts : List Text) where
   numbered_named : All (λ x. x.fresh ≡ false) (numbered 0 texts)
   numbered_named k d h = ap (λ x. x.fresh) (at k d h)
 
--- a text that is kept once stood in the list
-with_text-among : (w : Text) (texts : List Text) (t : Text) → Among w (with_text texts t) → Among w texts ⊎ (w ≡ t)
-with_text-among w texts t h = go (list_any (λ u. bytes_eq u t) texts) h where
-  go : (b : Bool) → Among w (if b then texts else texts ++ (t ∷ [])) → Among w texts ⊎ (w ≡ t)
-  go true h = inl h
-  go false h = elim (Among-append w texts (t ∷ []) h) [ inl a ↦ inl a | inr b ↦ elim b [ inl e ↦ inr e | inr c ↦ absurd c ] ]
+-- the one member of a list
+only : (t w : Text) → Contains (t ∷ []) w → t ≡ w
+only t w h = elim (contains_cases t [] w h) [ inl e ↦ e | inr n ↦ absurd (contains_none w n) ]
 
-fold-among : (w : Text) (kept texts : List Text) → Among w (fold with_text kept texts) → Among w kept ⊎ Among w texts
-fold-among w kept [] h = inl h
-fold-among w kept (t ∷ texts) h =
-    elim (fold-among w (with_text kept t) texts h) [
-      | inl a ↦ elim (with_text-among w kept t a) [ inl b ↦ inl b | inr e ↦ inr (inl e) ]
-      | inr b ↦ inr (inr b)
+-- a text that is kept once stood in the list
+with_text-contains : (w : Text) (texts : List Text) (t : Text) → Contains (with_text texts t) w → Contains texts w ⊎ (t ≡ w)
+with_text-contains w texts t h = go (list_any (λ u. bytes_eq u t) texts) h where
+  go : (b : Bool) → Contains (if b then texts else texts ++ (t ∷ [])) w → Contains texts w ⊎ (t ≡ w)
+  go true h = inl h
+  go false h = elim (Contains-append_cases texts (t ∷ []) w h) [ inl a ↦ inl a | inr b ↦ inr (only t w b) ]
+
+fold-contains : (w : Text) (kept texts : List Text) → Contains (fold with_text kept texts) w → Contains kept w ⊎ Contains texts w
+fold-contains w kept [] h = inl h
+fold-contains w kept (t ∷ texts) h =
+    elim (fold-contains w (with_text kept t) texts h) [
+      | inl a ↦ elim (with_text-contains w kept t a) [ inl b ↦ inl b | inr e ↦ inr (subst (Contains (t ∷ texts)) e (contains_here t texts)) ]
+      | inr b ↦ inr (contains_later t texts w b)
     ]
 
-each_once-among : (w : Text) (texts : List Text) → Among w (each_once texts) → Among w texts
-each_once-among w texts h = elim (fold-among w [] texts h) [ inl a ↦ absurd a | inr b ↦ b ]
+each_once-contains : (w : Text) (texts : List Text) → Contains (each_once texts) w → Contains texts w
+each_once-contains w texts h = elim (fold-contains w [] texts h) [ inl a ↦ absurd (contains_none w a) | inr b ↦ b ]
 
 -- the variable of the text occurs, with the place of the text as its number
 pub record OccursAtPlace (texts : List Text) (w : Text) (Occur : Var → Type 0) : Type 0 where
@@ -70,30 +77,29 @@ pub record OccursAtPlace (texts : List Text) (w : Text) (Occur : Var → Type 0)
   pub occurs : Occur (variable number)
 
 module _ (m : FirstModule) (texts : List Text) (w : Text) where
-  stands : (o : Option Meaning) (t : Term) → Stands m texts o t → Among w (variable_in o) → OccursAtPlace texts w (λ x. Occurs x t)
+  stands : (o : Option Meaning) (t : Term) → Stands m texts o t → Contains (variable_in o) w → OccursAtPlace texts w (λ x. Occurs x t)
   stands None t h a = absurd h
-  stands (Some (a_constant f)) t h a = absurd a
-  stands (Some (a_variable u)) t h (inr a) = absurd a
-  stands (Some (a_variable u)) t h (inl e) = record {
+  stands (Some (a_constant f)) t h a = absurd (contains_none w a)
+  stands (Some (a_variable u)) t h a = record {
     number = h.0;
-    placed = ap (place texts) e ∙ h.1;
+    placed = ap (place texts) (sym (only u w a)) ∙ h.1;
     occurs = subst (Occurs (variable h.0)) (sym h.2) refl;
   }
 
   mutual
-    denoted : (r : Raw) (t : Term) → Denotes m texts r t → Among w (texts_in m r) → OccursAtPlace texts w (λ x. Occurs x t)
+    denoted : (r : Raw) (t : Term) → Denotes m texts r t → Contains (texts_in m r) w → OccursAtPlace texts w (λ x. Occurs x t)
     denoted (bare u) t h a = stands (means m u) t h a
     denoted (round r) t h a = denoted r t h a
     denoted (call u rs) (var x) h a = absurd h
     denoted (call u rs) (app f us) h a = denoted_all rs us h.2 a
 
-    denoted_all : (rs : Raws) (us : Terms) → DenoteAll m texts rs us → Among w (texts_in_all m rs) → OccursAtPlace texts w (λ x. OccursAmong x us)
+    denoted_all : (rs : Raws) (us : Terms) → DenoteAll m texts rs us → Contains (texts_in_all m rs) w → OccursAtPlace texts w (λ x. OccursAmong x us)
     denoted_all (last r) none h a = absurd h
     denoted_all (last r) (more u none) h a = let o = denoted r u h a in record { number = o.number; placed = o.placed; occurs = inl o.occurs }
     denoted_all (last r) (more u (more v us)) h a = absurd h
     denoted_all (and r rs) none h a = absurd h
     denoted_all (and r rs) (more u us) h a =
-        elim (Among-append w (texts_in m r) (texts_in_all m rs) a) [
+        elim (Contains-append_cases (texts_in m r) (texts_in_all m rs) w a) [
           | inl b ↦ (let o = denoted r u h.0 b in record { number = o.number; placed = o.placed; occurs = inl o.occurs })
           | inr b ↦ (let o = denoted_all rs us h.1 b in record { number = o.number; placed = o.placed; occurs = inr o.occurs })
         ]
@@ -109,12 +115,12 @@ module _ (m : FirstModule) (word : Text) (p : FirstProblem) (f : IsFirstProblem 
       let a = at_place (slice_index_or p.names.texts k []) o.number o.placed in
       subst (λ i. Occurs (variable i) t) (same_place p.names.texts [] f.distinct o.number k a.0 within a.1) o.occurs
 
-  among_sides : (k : ℕ) → k < length p.names.texts → Among (slice_index_or p.names.texts k []) (texts_in m h.left ++ texts_in m h.right)
-  among_sides k within = each_once-among _ _ (subst (Among (slice_index_or p.names.texts k [])) h.texts (Among-at p.names.texts k [] within))
+  in_sides : (k : ℕ) → k < length p.names.texts → Contains (texts_in m h.left ++ texts_in m h.right) (slice_index_or p.names.texts k [])
+  in_sides k within = each_once-contains _ _ (subst (λ l. Contains l (slice_index_or p.names.texts k [])) h.texts (k, within, get_or_default p.names.texts k (slice_index_or p.names.texts k []) [] within))
 
   variable_occurs : (k : ℕ) → k < length p.names.texts → Occurs (variable k) (term p.left) ⊎ Occurs (variable k) (term p.right)
   variable_occurs k within =
-      elim (Among-append _ (texts_in m h.left) (texts_in m h.right) (among_sides k within)) [
+      elim (Contains-append_cases (texts_in m h.left) (texts_in m h.right) _ (in_sides k within)) [
         | inl a ↦ inl (occurs_at k within (term p.left) (denoted m p.names.texts _ h.left (term p.left) h.left_side a))
         | inr a ↦ inr (occurs_at k within (term p.right) (denoted m p.names.texts _ h.right (term p.right) h.right_side a))
       ]

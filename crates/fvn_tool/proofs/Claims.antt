@@ -1,18 +1,25 @@
 -- What is promised of a run follows from its outcome.
 use Rattle.std.proofs.Common.{◌≡◌, ◌≤◌, ◌<◌, ◌+◌, ◌⊎◌, ℕ, List, [], ◌∷◌, ◌++◌, length, Option, Some, None, refl, sym, ap, ◌∙◌, subst, inl, inr, arith, append-nil, length-append}
 use Rattle.std.specs.Io.KnownBytes.{IsAtEnd}
+use Rattle.fvn_base.proofs.Options.{Some-injective}
+use Rattle.fvn_base.specs.declared.limits.TheConstants.{MODULE_BYTES}
 use Rattle.fvn_module.specs.declared.first.module_text.FirstModule.{FirstModule}
 use Rattle.fvn_module.specs.declared.first.problem_text.FirstProblem.{FirstProblem}
 use Rattle.fvn_module.specs.ProblemText.{IsProblemText}
-use Rattle.fvn_module.specs.Facts.{ModulesAreDetermined, ProblemsAreDetermined}
+use Rattle.fvn_module.specs.Facts.{ModulesAreDetermined, ModulesAreFirst, ProblemsAreDetermined}
 use Rattle.fvn_outside.specs.Source.{Takes, TakesCount}
 use Rattle.fvn_tool.specs.declared.status.Status.{Status}
-use Rattle.fvn_tool.specs.declared.status.Status.TheVariants.{Usage, ModuleRefused, ProblemRefused, WriteFault}
-use Rattle.fvn_tool.specs.Words.{problem_word}
-use Rattle.fvn_tool.specs.Replies.{complete, bound_size, line_of, IsReply, no_module, no_problem, answered, IsAnswer, unified, not_unified, too_large, no_module_line, no_problem_line, DeclareNoModule}
-use Rattle.fvn_tool.specs.Outcomes.{usage_line, too_long_line, text_limit, IsOutcome, no_command, too_long, replied, IsSpoken, Leaves}
-use Rattle.fvn_tool.specs.Claims.{IsOneText, Is, RefusesWords, RefusesModule, RefusesProblem, HasNoProblem, IsAsked}
-use Rattle.fvn_tool.proofs.Outcomes.{Leaves-weaker, Leaves-goes}
+use Rattle.fvn_tool.specs.declared.status.Status.TheVariants.{Usage, ModuleRefused, ProblemRefused, ReadFault, WriteFault}
+use Rattle.fvn_tool.specs.Statuses.{IsSpoken}
+use Rattle.fvn_tool.specs.Words.{Command, unify, command_of}
+use Rattle.fvn_tool.specs.Replies.{complete, bound_size, line_of, IsReply, IsUnifyReply, no_module, no_problem, answered, IsAnswer, unified, not_unified, too_large, no_module_line, no_problem_line, DeclareNoModule}
+use Rattle.fvn_tool.specs.Runs.{Outside, Run, Leaves, HasFailed}
+use Rattle.fvn_tool.specs.Outcomes.{usage_line, too_long_line, IsOutcome, no_command, too_long, replied}
+use Rattle.fvn_tool.specs.Claims.{IsOneText, Is, RefusesWords, Asks, RefusesLongText, RefusesModule, RefusesProblem, HasNoProblem, IsAsked, IsRight, Shows, EndsComplete, AnswersRight, AnswersWithoutEvent, AnswersUnify, IsReport}
+use Rattle.fvn_tool.proofs.Outcomes.{Leaves-weaker, Leaves-goes, Leaves-without_fault}
+use Rattle.fvn_tool.proofs.Shows.{shows_right, shows_end}
+use Rattle.fvn_tool.proofs.Sizes.{same_sizes}
+use Rattle.fvn_tool.proofs.FreeSorted.{free_operators}
 
 -- Texts
 
@@ -21,45 +28,43 @@ answer_one_text scope problem s t (unified c p is) = record { texts = line_of sc
 answer_one_text scope problem s t (not_unified h is) = record { texts = []; end = complete 0; text_is = is; status_is = refl }
 answer_one_text scope problem s t (too_large h is) = record { texts = []; end = bound_size; text_is = is; status_is = refl }
 
-reply_one_text : (bytes word : List ℕ) (s : Status) (t : List ℕ) → IsReply bytes word s t → IsOneText s t
-reply_one_text bytes word s t (no_module h is) = inr is
-reply_one_text bytes word s t (no_problem scope m h is) = is
-reply_one_text bytes word s t (answered scope problem m p a) = answer_one_text scope problem s t a
+unify_one_text : (bytes word : List ℕ) (s : Status) (t : List ℕ) → IsUnifyReply bytes word s t → IsOneText s t
+unify_one_text bytes word s t (no_module h is) = inr is
+unify_one_text bytes word s t (no_problem scope m h is) = is
+unify_one_text bytes word s t (answered scope problem m p a) = answer_one_text scope problem s t a
 
-pub outcome_one_text : (words : List (List ℕ)) (left rest : Option (List ℕ)) (s : Status) (t : List ℕ) → IsOutcome words left rest s t → IsOneText s t
-outcome_one_text words left rest s t (no_command h is) = is
-outcome_one_text words left rest s t (too_long word h n is) = inl is
-outcome_one_text words left rest s t (replied word bytes h n e f r) = reply_one_text bytes word s t r
+reply_one_text : (command : Command) (bytes : List ℕ) (s : Status) (t : List ℕ) → IsReply command bytes s t → IsOneText s t
+reply_one_text (unify word) bytes s t r = unify_one_text bytes word s t r
+
+outcome_one_text : (words : List (List ℕ)) (source : Outside) (s : Status) (t : List ℕ) → IsOutcome words source s t → IsOneText s t
+outcome_one_text words source s t (no_command h is) = is
+outcome_one_text words source s t (too_long command h n is) = inl is
+outcome_one_text words source s t (replied command bytes h n e f r) = reply_one_text command bytes s t r
 
 -- Words
 
-Some-injective : {A : Type 0} {x y : A} → Some x ≡ Some y → x ≡ y
-Some-injective e = cc
-
-pub outcome_usage : (words : List (List ℕ)) (left rest : Option (List ℕ)) → problem_word words ≡ None → (s : Status) (t : List ℕ) → IsOutcome words left rest s t → Is Usage usage_line s t
-outcome_usage words left rest none s t (no_command h is) = (refl, is)
-outcome_usage words left rest none s t (too_long word h n is) = cc
-outcome_usage words left rest none s t (replied word bytes h n e f r) = cc
+pub outcome_usage : (words : List (List ℕ)) (source : Outside) → command_of words ≡ None → (s : Status) (t : List ℕ) → IsOutcome words source s t → Is Usage usage_line s t
+outcome_usage words source none s t (no_command h is) = (refl, is)
+outcome_usage words source none s t (too_long command h n is) = cc
+outcome_usage words source none s t (replied command bytes h n e f r) = cc
 
 answer_not_usage : (scope : FirstModule) (problem : FirstProblem) (s : Status) (t : List ℕ) → s ≡ Usage → IsAnswer scope problem s t → ⊥
 answer_not_usage scope problem s t e (unified c p is) = cc
 answer_not_usage scope problem s t e (not_unified h is) = cc
 answer_not_usage scope problem s t e (too_large h is) = cc
 
-usage_only : (words : List (List ℕ)) (left rest : Option (List ℕ)) (s : Status) (t : List ℕ) → s ≡ Usage → IsOutcome words left rest s t → problem_word words ≡ None
-usage_only words left rest s t e (no_command h is) = h
-usage_only words left rest s t e (too_long word h n is) = cc
-usage_only words left rest s t e (replied word bytes h n a f (no_module k is)) = cc
-usage_only words left rest s t e (replied word bytes h n a f (no_problem scope m k is)) = cc
-usage_only words left rest s t e (replied word bytes h n a f (answered scope problem m p k)) = absurd (answer_not_usage scope problem s t e k)
+unify_not_usage : (bytes word : List ℕ) (s : Status) (t : List ℕ) → s ≡ Usage → IsUnifyReply bytes word s t → ⊥
+unify_not_usage bytes word s t e (no_module k is) = cc
+unify_not_usage bytes word s t e (no_problem scope m k is) = cc
+unify_not_usage bytes word s t e (answered scope problem m p k) = answer_not_usage scope problem s t e k
 
-pub refuses_words : (words : List (List ℕ)) (left rest : Option (List ℕ)) (s : Status) (before after : Option (List ℕ)) →
-    Leaves (IsOutcome words left rest) s before after → (problem_word words ≡ None → (s ≡ Usage) ⊎ (s ≡ WriteFault)) → RefusesWords words s before after
-refuses_words words left rest s before after h always = record {
-  only = λ e. let g = Leaves-goes (IsOutcome words left rest) s before after (subst IsSpoken (sym e) tt) h in usage_only words left rest s g.0 e g.1;
-  always = always;
-  text = λ none. Leaves-weaker (IsOutcome words left rest) (Is Usage usage_line) (outcome_usage words left rest none) s before after h;
-}
+reply_not_usage : (command : Command) (bytes : List ℕ) (s : Status) (t : List ℕ) → s ≡ Usage → IsReply command bytes s t → ⊥
+reply_not_usage (unify word) bytes s t e r = unify_not_usage bytes word s t e r
+
+usage_only : (words : List (List ℕ)) (source : Outside) (s : Status) (t : List ℕ) → s ≡ Usage → IsOutcome words source s t → command_of words ≡ None
+usage_only words source s t e (no_command h is) = h
+usage_only words source s t e (too_long command h n is) = cc
+usage_only words source s t e (replied command bytes h n a f r) = absurd (reply_not_usage command bytes s t e r)
 
 -- Where the source tells its bytes
 
@@ -72,19 +77,20 @@ told_count bytes None n h = cc
 told_count bytes (Some r) n h = let e = ap length (Some-injective h.2) in let a = length-append h.0 r in let b = h.1 in grind arith
 
 -- what comes of a command: its module is too long, or the reply to what was read
-pub data Comes (bytes word : List ℕ) (s : Status) (t : List ℕ) : Type 0 where
-  comes_long : s ≡ ModuleRefused → text_limit < length bytes → t ≡ too_long_line → Comes bytes word s t
-  comes_reply : length bytes ≤ text_limit → IsReply bytes word s t → Comes bytes word s t
+pub data Comes (bytes : List ℕ) (command : Command) (s : Status) (t : List ℕ) : Type 0 where
+  comes_long : s ≡ ModuleRefused → MODULE_BYTES < length bytes → t ≡ too_long_line → Comes bytes command s t
+  comes_reply : length bytes ≤ MODULE_BYTES → IsReply command bytes s t → Comes bytes command s t
 
-pub comes : (words : List (List ℕ)) (left rest : Option (List ℕ)) (bytes word : List ℕ) → left ≡ Some bytes → problem_word words ≡ Some word → (s : Status) (t : List ℕ) → IsOutcome words left rest s t → Comes bytes word s t
-comes words left rest bytes word told command s t (no_command h is) = cc
-comes words left rest bytes word told command s t (too_long w h n is) = comes_long refl (told_count bytes rest (text_limit + 1) (subst (λ l. TakesCount l rest (text_limit + 1)) told n)) is
-comes words left rest bytes word told command s t (replied w b h n e f r) =
-    let b_is : b ≡ bytes = told_all bytes b rest (subst (λ l. Takes l rest b) told n) e in
-    let w_is : w ≡ word = Some-injective (sym h ∙ command) in
-    comes_reply (subst (λ x. length x ≤ text_limit) b_is f) (subst (λ x. IsReply x word s t) b_is (subst (λ x. IsReply b x s t) w_is r))
+pub comes : (words : List (List ℕ)) (source : Outside) (bytes : List ℕ) (command : Command) → source.before ≡ Some bytes → command_of words ≡ Some command →
+    (s : Status) (t : List ℕ) → IsOutcome words source s t → Comes bytes command s t
+comes words source bytes command told is_command s t (no_command h is) = cc
+comes words source bytes command told is_command s t (too_long c h n is) = comes_long refl (told_count bytes source.after (MODULE_BYTES + 1) (subst (λ l. TakesCount l source.after (MODULE_BYTES + 1)) told n)) is
+comes words source bytes command told is_command s t (replied c b h n e f r) =
+    let b_is : b ≡ bytes = told_all bytes b source.after (subst (λ l. Takes l source.after b) told n) e in
+    let c_is : c ≡ command = Some-injective (sym h ∙ is_command) in
+    comes_reply (subst (λ x. length x ≤ MODULE_BYTES) b_is f) (subst (λ x. IsReply command x s t) b_is (subst (λ x. IsReply x b s t) c_is r))
 
--- Refusals
+-- Replies to unify
 
 answer_not_refused : (scope : FirstModule) (problem : FirstProblem) (s : Status) (t : List ℕ) → (s ≡ ModuleRefused) ⊎ (s ≡ ProblemRefused) → IsAnswer scope problem s t → ⊥
 answer_not_refused scope problem s t (inl e) (unified c p is) = cc
@@ -94,28 +100,28 @@ answer_not_refused scope problem s t (inr e) (unified c p is) = cc
 answer_not_refused scope problem s t (inr e) (not_unified h is) = cc
 answer_not_refused scope problem s t (inr e) (too_large h is) = cc
 
-reply_refuses_module : (bytes word : List ℕ) (s : Status) (t : List ℕ) → s ≡ ModuleRefused → IsReply bytes word s t → DeclareNoModule bytes
+reply_refuses_module : (bytes word : List ℕ) (s : Status) (t : List ℕ) → s ≡ ModuleRefused → IsUnifyReply bytes word s t → DeclareNoModule bytes
 reply_refuses_module bytes word s t e (no_module h is) = h
 reply_refuses_module bytes word s t e (no_problem scope m h is) = cc
 reply_refuses_module bytes word s t e (answered scope problem m p a) = absurd (answer_not_refused scope problem s t (inl e) a)
 
-pub reply_no_module : (bytes word : List ℕ) → DeclareNoModule bytes → (s : Status) (t : List ℕ) → IsReply bytes word s t → Is ModuleRefused no_module_line s t
+pub reply_no_module : (bytes word : List ℕ) → DeclareNoModule bytes → (s : Status) (t : List ℕ) → IsUnifyReply bytes word s t → Is ModuleRefused no_module_line s t
 reply_no_module bytes word none s t (no_module h is) = (refl, is)
 reply_no_module bytes word none s t (no_problem scope m h is) = absurd (none scope m)
 reply_no_module bytes word none s t (answered scope problem m p a) = absurd (none scope m)
 
-reply_refuses_problem : (bytes word : List ℕ) (s : Status) (t : List ℕ) → s ≡ ProblemRefused → length bytes ≤ text_limit → IsReply bytes word s t → HasNoProblem bytes word
+reply_refuses_problem : (bytes word : List ℕ) (s : Status) (t : List ℕ) → s ≡ ProblemRefused → length bytes ≤ MODULE_BYTES → IsUnifyReply bytes word s t → HasNoProblem bytes word
 reply_refuses_problem bytes word s t e f (no_module k is) = cc
 reply_refuses_problem bytes word s t e f (no_problem scope m k is) = record { few = f; scope = scope; module_text = m; no_problem = k }
 reply_refuses_problem bytes word s t e f (answered scope problem m p a) = absurd (answer_not_refused scope problem s t (inr e) a)
 
 module _ (bytes word : List ℕ) (determined : ModulesAreDetermined) where
-  pub reply_no_problem : HasNoProblem bytes word → (u : Status) (t : List ℕ) → IsReply bytes word u t → Is ProblemRefused no_problem_line u t
+  pub reply_no_problem : HasNoProblem bytes word → (u : Status) (t : List ℕ) → IsUnifyReply bytes word u t → Is ProblemRefused no_problem_line u t
   reply_no_problem k u t (no_module none is) = absurd (none k.scope k.module_text)
   reply_no_problem k u t (no_problem scope m none is) = (refl, is)
   reply_no_problem k u t (answered scope problem m p a) = absurd (k.no_problem problem (subst (λ x. IsProblemText x word problem) (determined bytes scope k.scope m k.module_text) p))
 
-  pub reply_answers : ProblemsAreDetermined → (scope : FirstModule) (problem : FirstProblem) → IsAsked bytes word scope problem → (u : Status) (t : List ℕ) → IsReply bytes word u t → IsAnswer scope problem u t
+  pub reply_answers : ProblemsAreDetermined → (scope : FirstModule) (problem : FirstProblem) → IsAsked bytes word scope problem → (u : Status) (t : List ℕ) → IsUnifyReply bytes word u t → IsAnswer scope problem u t
   reply_answers problems_determined scope problem asked u t (no_module none is) = absurd (none scope asked.module_text)
   reply_answers problems_determined scope problem asked u t (no_problem other m none is) =
       absurd (none problem (subst (λ x. IsProblemText x word problem) (determined bytes scope other asked.module_text m) asked.problem_text))
@@ -124,53 +130,103 @@ module _ (bytes word : List ℕ) (determined : ModulesAreDetermined) where
       let q : IsProblemText scope word found = subst (λ x. IsProblemText x word found) e p in
       subst (λ x. IsAnswer scope x u t) (problems_determined scope word found problem q asked.problem_text) (subst (λ x. IsAnswer x found u t) e a)
 
-module _ (words : List (List ℕ)) (left rest : Option (List ℕ)) (bytes word : List ℕ) (told : left ≡ Some bytes) (command : problem_word words ≡ Some word) (s : Status) (before after : Option (List ℕ)) (h : Leaves (IsOutcome words left rest) s before after) where
+-- A run
+
+module _ (run : Run) (h : Leaves (IsOutcome run.words run.source) run.status run.sink) where
   -- the outcome that is left, in other words
-  weaker : (Goes : Status → List ℕ → Type 0) → ((u : Status) (t : List ℕ) → Comes bytes word u t → Goes u t) → Leaves Goes s before after
-  weaker Goes w = Leaves-weaker (IsOutcome words left rest) Goes (λ u t o. w u t (comes words left rest bytes word told command u t o)) s before after h
+  module _ (command : Command) (bytes : List ℕ) (asks : Asks run command bytes) where
+    weaker : (Goes : Status → List ℕ → Type 0) → ((u : Status) (t : List ℕ) → Comes bytes command u t → Goes u t) → Leaves Goes run.status run.sink
+    weaker Goes w =
+        Leaves-weaker (IsOutcome run.words run.source) Goes (λ u t o. w u t (comes run.words run.source bytes command asks.told asks.command_is u t o)) run.status run.sink h
 
-  came : IsSpoken s → (t : List ℕ) × Comes bytes word s t
-  came k = let g = Leaves-goes (IsOutcome words left rest) s before after k h in (g.0, comes words left rest bytes word told command s g.0 g.1)
+    came : IsSpoken run.status → (t : List ℕ) × Comes bytes command run.status t
+    came k =
+        let g = Leaves-goes (IsOutcome run.words run.source) run.status run.sink k h in (g.0, comes run.words run.source bytes command asks.told asks.command_is run.status g.0 g.1)
 
-  module_only : s ≡ ModuleRefused → (t : List ℕ) → Comes bytes word s t → (text_limit < length bytes) ⊎ ((length bytes ≤ text_limit) × DeclareNoModule bytes)
-  module_only e t (comes_long i l is) = inl l
-  module_only e t (comes_reply f r) = inr (f, reply_refuses_module bytes word s t e r)
+    long_text : MODULE_BYTES < length bytes → (u : Status) (t : List ℕ) → Comes bytes command u t → Is ModuleRefused too_long_line u t
+    long_text l u t (comes_long i k is) = (i, is)
+    long_text l u t (comes_reply f r) = absurd (omega (arith, l, f))
 
-  module_long : text_limit < length bytes → (u : Status) (t : List ℕ) → Comes bytes word u t → Is ModuleRefused too_long_line u t
-  module_long l u t (comes_long i k is) = (i, is)
-  module_long l u t (comes_reply f r) = absurd (omega (arith, l, f))
-
-  module_none : length bytes ≤ text_limit → DeclareNoModule bytes → (u : Status) (t : List ℕ) → Comes bytes word u t → Is ModuleRefused no_module_line u t
-  module_none f none u t (comes_long i k is) = absurd (omega (arith, f, k))
-  module_none f none u t (comes_reply g r) = reply_no_module bytes word none u t r
-
-  pub refuses_module : RefusesModule bytes s before after
-  refuses_module = record {
-    only = λ e. let g = came (subst IsSpoken (sym e) tt) in module_only e g.0 g.1;
-    long = λ l. weaker (Is ModuleRefused too_long_line) (module_long l);
-    no_module = λ f none. weaker (Is ModuleRefused no_module_line) (module_none f none);
+  refuses_words : (command_of run.words ≡ None → (run.status ≡ Usage) ⊎ (run.status ≡ WriteFault)) → RefusesWords run
+  refuses_words always = record {
+    only = λ e. let g = Leaves-goes (IsOutcome run.words run.source) run.status run.sink (subst IsSpoken (sym e) tt) h in usage_only run.words run.source run.status g.0 e g.1;
+    always = always;
+    text = λ none. Leaves-weaker (IsOutcome run.words run.source) (Is Usage usage_line) (outcome_usage run.words run.source none) run.status run.sink h;
   }
 
-  problem_only : s ≡ ProblemRefused → (t : List ℕ) → Comes bytes word s t → HasNoProblem bytes word
-  problem_only e t (comes_long i l is) = cc
-  problem_only e t (comes_reply f r) = reply_refuses_problem bytes word s t e f r
+  refuses_long : RefusesLongText run
+  refuses_long command bytes asks l = weaker command bytes asks (Is ModuleRefused too_long_line) (long_text command bytes asks l)
 
-  module _ (determined : ModulesAreDetermined) where
-    problem_text : (k : HasNoProblem bytes word) → (u : Status) (t : List ℕ) → Comes bytes word u t → Is ProblemRefused no_problem_line u t
-    problem_text k u t (comes_long i l is) = absurd (let f = k.few in omega (arith, f, l))
-    problem_text k u t (comes_reply f r) = reply_no_problem bytes word determined k u t r
+  module _ (word bytes : List ℕ) (asks : Asks run (unify word) bytes) where
+    module_only : run.status ≡ ModuleRefused → (t : List ℕ) → Comes bytes (unify word) run.status t → (MODULE_BYTES < length bytes) ⊎ ((length bytes ≤ MODULE_BYTES) × DeclareNoModule bytes)
+    module_only e t (comes_long i l is) = inl l
+    module_only e t (comes_reply f r) = inr (f, reply_refuses_module bytes word run.status t e r)
 
-    pub refuses_problem : RefusesProblem bytes word s before after
-    refuses_problem = record {
-      only = λ e. let g = came (subst IsSpoken (sym e) tt) in problem_only e g.0 g.1;
-      text = λ k. weaker (Is ProblemRefused no_problem_line) (problem_text k);
+    module_none : length bytes ≤ MODULE_BYTES → DeclareNoModule bytes → (u : Status) (t : List ℕ) → Comes bytes (unify word) u t → Is ModuleRefused no_module_line u t
+    module_none f none u t (comes_long i k is) = absurd (omega (arith, f, k))
+    module_none f none u t (comes_reply g r) = reply_no_module bytes word none u t r
+
+    refuses_module : RefusesModule bytes run
+    refuses_module = record {
+      only = λ e. let g = came (unify word) bytes asks (subst IsSpoken (sym e) tt) in module_only e g.0 g.1;
+      no_module = λ f none. weaker (unify word) bytes asks (Is ModuleRefused no_module_line) (module_none f none);
     }
 
-    module _ (problems_determined : ProblemsAreDetermined) (scope : FirstModule) (problem : FirstProblem) (asked : IsAsked bytes word scope problem) where
-      come_answers : (u : Status) (t : List ℕ) → Comes bytes word u t → IsAnswer scope problem u t
-      come_answers u t (comes_long i l is) = absurd (let f = asked.few in omega (arith, f, l))
-      come_answers u t (comes_reply f r) = reply_answers bytes word determined problems_determined scope problem asked u t r
+    problem_only : run.status ≡ ProblemRefused → (t : List ℕ) → Comes bytes (unify word) run.status t → HasNoProblem bytes word
+    problem_only e t (comes_long i l is) = cc
+    problem_only e t (comes_reply f r) = reply_refuses_problem bytes word run.status t e f r
 
-      -- the answer to what the bytes and the words ask is left
-      pub leaves_answer : Leaves (IsAnswer scope problem) s before after
-      leaves_answer = weaker (IsAnswer scope problem) come_answers
+    module _ (determined : ModulesAreDetermined) where
+      problem_text : (k : HasNoProblem bytes word) → (u : Status) (t : List ℕ) → Comes bytes (unify word) u t → Is ProblemRefused no_problem_line u t
+      problem_text k u t (comes_long i l is) = absurd (let f = k.few in omega (arith, f, l))
+      problem_text k u t (comes_reply f r) = reply_no_problem bytes word determined k u t r
+
+      refuses_problem : RefusesProblem bytes word run
+      refuses_problem = record {
+        only = λ e. let g = came (unify word) bytes asks (subst IsSpoken (sym e) tt) in problem_only e g.0 g.1;
+        text = λ k. weaker (unify word) bytes asks (Is ProblemRefused no_problem_line) (problem_text k);
+      }
+
+      module _ (problems_determined : ProblemsAreDetermined) (scope : FirstModule) (problem : FirstProblem) (asked : IsAsked bytes word scope problem) where
+        come_answers : (u : Status) (t : List ℕ) → Comes bytes (unify word) u t → IsAnswer scope problem u t
+        come_answers u t (comes_long i l is) = absurd (let f = asked.few in omega (arith, f, l))
+        come_answers u t (comes_reply f r) = reply_answers bytes word determined problems_determined scope problem asked u t r
+
+        -- the answer to what the bytes and the words ask is left
+        leaves_answer : Leaves (IsAnswer scope problem) run.status run.sink
+        leaves_answer = weaker (unify word) bytes asks (IsAnswer scope problem) come_answers
+
+  module _ (determined : ModulesAreDetermined) (first : ModulesAreFirst) (problems_determined : ProblemsAreDetermined) (read : run.status ≡ ReadFault → HasFailed run.source) (write : run.status ≡ WriteFault → HasFailed run.sink) where
+    module _ (word bytes : List ℕ) (asks : Asks run (unify word) bytes) (scope : FirstModule) (problem : FirstProblem) (asked : IsAsked bytes word scope problem) where
+      answers_right : AnswersRight scope problem run
+      answers_right =
+          Leaves-weaker (IsAnswer scope problem) (Shows scope problem (IsRight scope problem))
+          (shows_right scope problem (same_sizes scope.declarations (free_operators scope.declarations (first bytes scope asked.module_text).form) problem.vars _ _))
+          run.status run.sink (leaves_answer word bytes asks determined problems_determined scope problem asked)
+
+      without_event : AnswersWithoutEvent scope problem run
+      without_event small no_read no_write =
+          Leaves-without_fault (Shows scope problem (EndsComplete scope problem)) run.status run.sink
+          (Leaves-weaker (IsAnswer scope problem) (Shows scope problem (EndsComplete scope problem)) (shows_end scope problem small) run.status run.sink
+          (leaves_answer word bytes asks determined problems_determined scope problem asked))
+          (λ e. no_read (read e)) (λ e. no_write (write e))
+
+    answers_unify : (word bytes : List ℕ) → Asks run (unify word) bytes → AnswersUnify bytes word run
+    answers_unify word bytes asks = record {
+      module_refused = refuses_module word bytes asks;
+      problem_refused = refuses_problem word bytes asks determined;
+      right = answers_right word bytes asks;
+      no_event = without_event word bytes asks;
+    }
+
+    -- the outcome and the causes of faults are all that there is to prove of a run
+    pub report : (command_of run.words ≡ None → (run.status ≡ Usage) ⊎ (run.status ≡ WriteFault)) → IsReport run
+    report always = record {
+      outcome = h;
+      whole = Leaves-weaker (IsOutcome run.words run.source) IsOneText (outcome_one_text run.words run.source) run.status run.sink h;
+      read_fault = read;
+      write_fault = write;
+      usage = refuses_words always;
+      too_long = refuses_long;
+      unify = answers_unify;
+    }

@@ -1,7 +1,8 @@
 -- A run has one outcome.
-use Rattle.std.proofs.Common.{◌≡◌, ◌≤◌, ℕ, List, [], ◌∷◌, map, length, Option, Some, All, refl, sym, ap, ◌∙◌, slice_index_or, arith}
+use Rattle.std.proofs.Common.{◌≡◌, ◌≤◌, ℕ, List, [], ◌∷◌, map, length, All, refl, sym, ap, ◌∙◌, slice_index_or, arith}
 use Rattle.std.proofs.lemmas.List.{get_or_default}
 use Rattle.std.proofs.lemmas.List.Elements.{All-head, All-tail}
+use Rattle.fvn_base.specs.declared.limits.TheConstants.{MODULE_BYTES}
 use Rattle.fvn_terms.specs.declared.plain.Var.{Var}
 use Rattle.fvn_terms.specs.Term.{more, pack}
 use Rattle.fvn_terms.specs.Plain.{term}
@@ -14,9 +15,9 @@ use Rattle.fvn_module.specs.Facts.{ModulesAreDetermined, ModulesAreFirst, Proble
 use Rattle.fvn_tool.specs.declared.status.Status.{Status}
 use Rattle.fvn_tool.specs.Lines.{bindings_line}
 use Rattle.fvn_tool.specs.Spellings.{spelling}
-use Rattle.fvn_tool.specs.Words.{problem_word}
-use Rattle.fvn_tool.specs.Replies.{answer_text, complete, IsInstanceOf, ExceedsSize, IsPrintable, IsAnswer, unified, not_unified, too_large, IsReply, no_module, no_problem, answered}
-use Rattle.fvn_tool.specs.Outcomes.{text_limit, IsOutcome, no_command, too_long, replied}
+use Rattle.fvn_tool.specs.Words.{Command, unify}
+use Rattle.fvn_tool.specs.Replies.{answer_text, complete, IsInstanceOf, ExceedsSize, IsPrintable, IsAnswer, unified, not_unified, too_large, IsReply, IsUnifyReply, no_module, no_problem, answered}
+use Rattle.fvn_tool.specs.Outcomes.{IsOutcome, no_command, too_long, replied}
 use Rattle.fvn_tool.specs.Claims.{Is}
 use Rattle.fvn_tool.specs.Laws.{OutcomesAreDetermined}
 use Rattle.fvn_tool.proofs.NumberedAlike.{more-head, more-tail, numbered_alike}
@@ -48,8 +49,8 @@ module _ (scope : FirstModule) (problem : FirstProblem) (free : IsFree scope.dec
   -- printable substitutions give the problem's variables the same terms
   printable-same : (a b : Substitution) → IsPrintable scope problem a → IsPrintable scope problem b → pack (map b problem.vars) ≡ pack (map a problem.vars)
   printable-same a b p q =
-      let i = p.most_general.general b q.most_general.unifier in
-      let j = q.most_general.general a p.most_general.unifier in
+      let i = p.most_general.general b q.most_general.solution in
+      let j = q.most_general.general a p.most_general.solution in
       numbered_alike i.after j.after (pack (map a problem.vars)) (pack (map b problem.vars)) (instance-terms b a i) (instance-terms a b j) p.numbered q.numbered
 
   not_larger : (s : Substitution) → IsPrintable scope problem s → ExceedsSize scope problem → ⊥
@@ -58,17 +59,17 @@ module _ (scope : FirstModule) (problem : FirstProblem) (free : IsFree scope.dec
   answer_determined : (s : Status) (t : List ℕ) → IsAnswer scope problem s t → (u : Status) (v : List ℕ) → IsAnswer scope problem u v → Is s t u v
   answer_determined s t (unified a p is) u v (unified b q i) =
       (refl, i ∙ ap (λ ps. answer_text (bindings_line (spelling scope.names problem.names) ps ∷ []) (complete 1)) (pairs-same problem.vars b a (printable-same a b p q)) ∙ sym is)
-  answer_determined s t (unified a p is) u v (not_unified h i) = absurd (h a p.most_general.unifier)
+  answer_determined s t (unified a p is) u v (not_unified h i) = absurd (h a p.most_general.solution)
   answer_determined s t (unified a p is) u v (too_large h i) = absurd (not_larger a p h)
-  answer_determined s t (not_unified h is) u v (unified b q i) = absurd (h b q.most_general.unifier)
+  answer_determined s t (not_unified h is) u v (unified b q i) = absurd (h b q.most_general.solution)
   answer_determined s t (not_unified h is) u v (not_unified k i) = (refl, i ∙ sym is)
-  answer_determined s t (not_unified h is) u v (too_large k i) = absurd (h k.by k.most_general.unifier)
+  answer_determined s t (not_unified h is) u v (too_large k i) = absurd (h k.by k.most_general.solution)
   answer_determined s t (too_large h is) u v (unified b q i) = absurd (not_larger b q h)
-  answer_determined s t (too_large h is) u v (not_unified k i) = absurd (k h.by h.most_general.unifier)
+  answer_determined s t (too_large h is) u v (not_unified k i) = absurd (k h.by h.most_general.solution)
   answer_determined s t (too_large h is) u v (too_large k i) = (refl, i ∙ sym is)
 
 module _ (determined : ModulesAreDetermined) (first : ModulesAreFirst) (problems_determined : ProblemsAreDetermined) where
-  reply_determined : (bytes word : List ℕ) → length bytes ≤ text_limit → (s : Status) (t : List ℕ) → IsReply bytes word s t → (u : Status) (v : List ℕ) → IsReply bytes word u v → Is s t u v
+  reply_determined : (bytes word : List ℕ) → length bytes ≤ MODULE_BYTES → (s : Status) (t : List ℕ) → IsUnifyReply bytes word s t → (u : Status) (v : List ℕ) → IsUnifyReply bytes word u v → Is s t u v
   reply_determined bytes word few s t (no_module h is) u v k = let r = reply_no_module bytes word h u v k in (r.0, r.1 ∙ sym is)
   reply_determined bytes word few s t (no_problem scope m h is) u v k =
       let r = reply_no_problem bytes word determined (record { few = few; scope = scope; module_text = m; no_problem = h }) u v k in (r.0, r.1 ∙ sym is)
@@ -76,18 +77,18 @@ module _ (determined : ModulesAreDetermined) (first : ModulesAreFirst) (problems
       answer_determined scope problem (free_operators scope.declarations (first bytes scope m).form) s t a u v
       (reply_answers bytes word determined problems_determined scope problem (record { few = few; module_text = m; problem_text = p }) u v k)
 
-  comes_determined : (bytes word : List ℕ) (s : Status) (t : List ℕ) → Comes bytes word s t → (u : Status) (v : List ℕ) → Comes bytes word u v → Is s t u v
-  comes_determined bytes word s t (comes_long e l is) u v (comes_long i m k) = (i ∙ sym e, k ∙ sym is)
-  comes_determined bytes word s t (comes_long e l is) u v (comes_reply f r) = absurd (omega (arith, l, f))
-  comes_determined bytes word s t (comes_reply f r) u v (comes_long i m k) = absurd (omega (arith, m, f))
-  comes_determined bytes word s t (comes_reply f r) u v (comes_reply g q) = reply_determined bytes word f s t r u v q
+  replies_determined : (command : Command) (bytes : List ℕ) → length bytes ≤ MODULE_BYTES → (s : Status) (t : List ℕ) → IsReply command bytes s t → (u : Status) (v : List ℕ) → IsReply command bytes u v → Is s t u v
+  replies_determined (unify word) bytes few s t r u v k = reply_determined bytes word few s t r u v k
 
-  command_determined : (words : List (List ℕ)) (bytes word : List ℕ) → problem_word words ≡ Some word → (rest other : Option (List ℕ)) (s : Status) (t : List ℕ) → IsOutcome words (Some bytes) rest s t →
-      (u : Status) (v : List ℕ) → IsOutcome words (Some bytes) other u v → Is s t u v
-  command_determined words bytes word command rest other s t o u v k =
-      comes_determined bytes word s t (comes words (Some bytes) rest bytes word refl command s t o) u v (comes words (Some bytes) other bytes word refl command u v k)
+  comes_determined : (command : Command) (bytes : List ℕ) (s : Status) (t : List ℕ) → Comes bytes command s t → (u : Status) (v : List ℕ) → Comes bytes command u v → Is s t u v
+  comes_determined command bytes s t (comes_long e l is) u v (comes_long i m k) = (i ∙ sym e, k ∙ sym is)
+  comes_determined command bytes s t (comes_long e l is) u v (comes_reply f r) = absurd (omega (arith, l, f))
+  comes_determined command bytes s t (comes_reply f r) u v (comes_long i m k) = absurd (omega (arith, m, f))
+  comes_determined command bytes s t (comes_reply f r) u v (comes_reply g q) = replies_determined command bytes f s t r u v q
 
   pub outcomes_determined : OutcomesAreDetermined
-  outcomes_determined words bytes rest other s t (no_command none is) u v k = let r = outcome_usage words (Some bytes) other none u v k in (r.0, r.1 ∙ sym is)
-  outcomes_determined words bytes rest other s t (too_long word command n is) u v k = command_determined words bytes word command rest other s t (too_long word command n is) u v k
-  outcomes_determined words bytes rest other s t (replied word read command n e f r) u v k = command_determined words bytes word command rest other s t (replied word read command n e f r) u v k
+  outcomes_determined words bytes source other one two s t (no_command none is) u v k = let r = outcome_usage words other none u v k in (r.0, r.1 ∙ sym is)
+  outcomes_determined words bytes source other one two s t (too_long command e n is) u v k =
+      comes_determined command bytes s t (comes words source bytes command one e s t (too_long command e n is)) u v (comes words other bytes command two e u v k)
+  outcomes_determined words bytes source other one two s t (replied command read e n d f r) u v k =
+      comes_determined command bytes s t (comes words source bytes command one e s t (replied command read e n d f r)) u v (comes words other bytes command two e u v k)

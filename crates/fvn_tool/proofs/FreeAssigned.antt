@@ -13,8 +13,8 @@ use Rattle.fvn_terms.specs.Sorts.{HasSort, IsWellSorted}
 use Rattle.fvn_module.specs.ModuleText.{the_sort}
 use Rattle.fvn_module.specs.Facts.{IsFirstForm}
 use Rattle.fvn_tool.specs.declared.free.table.Table.{Table}
-use Rattle.fvn_tool.specs.FreeValues.{IsValue, AreValues}
-use Rattle.fvn_tool.specs.FreeNumbering.{IsRenaming}
+use Rattle.fvn_tool.specs.inner.FreeValues.{IsValue, AreValues}
+use Rattle.fvn_tool.specs.inner.FreeNumbering.{IsRenaming}
 use Rattle.fvn_tool.proofs.FreeTables.{kind-the_sort}
 use Rattle.fvn_tool.proofs.FreeSorted.{IsSorted, AreSorted, HasSort-sorted, number}
 use Rattle.fvn_tool.proofs.FreeNumbering.{cases_var, same_var-same, same_var-false, place_of}

@@ -9,8 +9,8 @@ use Rattle.fvn_terms.specs.Term.{Term, app, more, pack}
 use Rattle.fvn_terms.specs.Substitution.{Substitution, apply, apply_all}
 use Rattle.fvn_tool.specs.declared.free.table.Application.{Application}
 use Rattle.fvn_tool.specs.declared.free.table.Table.{Table}
-use Rattle.fvn_tool.specs.FreeTable.{count, nothing, subterm, over, IsAt, IsOrdered}
-use Rattle.fvn_tool.specs.FreeClasses.{class_of, IsPartition, AreAlike, MakesEqual, AreForced, Clash, MustMeet, IsImpossible, united, IsCoarser}
+use Rattle.fvn_tool.specs.inner.FreeTable.{count, nothing, subterm, over, IsAt, IsOrdered}
+use Rattle.fvn_tool.specs.inner.FreeClasses.{class_of, IsPartition, AreAlike, MakesEqual, AreForced, Clash, MustMeet, IsImpossible, united, IsCoarser}
 use Rattle.fvn_tool.proofs.FreeTables.{subterm-at, IsAt-count}
 
 -- operators over terms

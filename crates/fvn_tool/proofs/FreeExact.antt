@@ -36,7 +36,7 @@ nodes-value limit positive (p ∷ pairs) h x =
     ]
 
 pub most_general_excludes : {d : Declarations} {vars : List Var} {left right : Term} (s : Substitution) → IsMostGeneral d vars left right s → HasNoUnifier d left right → ⊥
-most_general_excludes s h no_unifier = no_unifier s h.unifier
+most_general_excludes s h no_unifier = no_unifier s h.solution
 
 pub too_large_excludes : {d : Declarations} {vars : List Var} {left right : Term} {limit : ℕ} → IsTooLarge d vars left right limit → HasNoUnifier d left right → ⊥
 too_large_excludes h = most_general_excludes h.by h.most_general

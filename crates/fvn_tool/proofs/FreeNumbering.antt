@@ -10,7 +10,7 @@ use Rattle.fvn_terms.specs.Substitution.{Substitution, apply, apply_all, followe
 use Rattle.fvn_terms.proofs.Substitutions.{apply_all-apply_all, apply_all-agree, apply_all-var}
 use Rattle.fvn_module.specs.ModuleText.{the_sort}
 use Rattle.fvn_tool.specs.Free.{variables_of, variables_among, fresh, AreNumberedFrom, AreNumbered, no_more, seen, «new»}
-use Rattle.fvn_tool.specs.FreeNumbering.{is_among, noted, numbered_from, IsRenaming, AreRenamed}
+use Rattle.fvn_tool.specs.inner.FreeNumbering.{is_among, noted, numbered_from, IsRenaming, AreRenamed}
 
 -- the test of variables
 pub cases_bool : (b : Bool) → (b ≡ true) ⊎ (b ≡ false)

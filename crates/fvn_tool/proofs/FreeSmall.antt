@@ -10,8 +10,8 @@ use Rattle.fvn_terms.specs.Plain.{term, terms}
 use Rattle.fvn_terms.specs.Substitution.{Substitution, apply, apply_all, same_var}
 use Rattle.fvn_tool.specs.declared.free.table.Table.{Table}
 use Rattle.fvn_tool.specs.Free.{variables_of, variables_among}
-use Rattle.fvn_tool.specs.FreeNumbering.{is_among, noted, IsRenaming, AreRenamed}
-use Rattle.fvn_tool.specs.FreeValues.{IsValue, AreValues}
+use Rattle.fvn_tool.specs.inner.FreeNumbering.{is_among, noted, IsRenaming, AreRenamed}
+use Rattle.fvn_tool.specs.inner.FreeValues.{IsValue, AreValues}
 use Rattle.fvn_tool.proofs.FreeNumbering.{Member, cases_bool, cases_var, same_var-same, same_var-false}
 
 -- lists without repetition

@@ -8,9 +8,9 @@ use Rattle.fvn_terms.specs.Term.{Term, Terms, var, app, none, more, pack, nodes,
 use Rattle.fvn_terms.specs.Substitution.{Substitution, apply, apply_all}
 use Rattle.fvn_tool.specs.declared.free.table.Table.{Table}
 use Rattle.fvn_tool.specs.declared.free.values.Entry.{Entry}
-use Rattle.fvn_tool.specs.FreeTable.{count, subterm, IsAt, IsOrdered}
-use Rattle.fvn_tool.specs.FreeClasses.{class_of, IsPartition, IsClosed, MakesEqual}
-use Rattle.fvn_tool.specs.FreeValues.{IsValue, AreValues, IsUnknown, AllStuck}
+use Rattle.fvn_tool.specs.inner.FreeTable.{count, subterm, IsAt, IsOrdered}
+use Rattle.fvn_tool.specs.inner.FreeClasses.{class_of, IsPartition, IsClosed, MakesEqual}
+use Rattle.fvn_tool.specs.inner.FreeValues.{IsValue, AreValues, IsUnknown, AllStuck}
 use Rattle.fvn_tool.proofs.FreeTables.{subterm-var, subterm-at, IsAt-count, application_at, before-application}
 use Rattle.fvn_tool.proofs.FreeClasses.{apply-over}
 

@@ -15,9 +15,9 @@ use Rattle.fvn_terms.specs.Laws.{IsFree}
 use Rattle.fvn_tool.specs.declared.free.table.Table.{Table}
 use Rattle.fvn_module.specs.ModuleText.{the_sort, the_kind}
 use Rattle.fvn_module.specs.Facts.{IsFirstForm}
-use Rattle.fvn_tool.specs.FreeTable.{subterm, subterms, IsOrdered, HaveKind}
-use Rattle.fvn_tool.specs.FreeClasses.{class_of}
-use Rattle.fvn_tool.specs.FreeValues.{IsValue, AreValues}
+use Rattle.fvn_tool.specs.inner.FreeTable.{subterm, subterms, IsOrdered, HaveKind}
+use Rattle.fvn_tool.specs.inner.FreeClasses.{class_of}
+use Rattle.fvn_tool.specs.inner.FreeValues.{IsValue, AreValues}
 use Rattle.fvn_tool.proofs.FreeTables.{kind-the_sort, plain_rank, subterm-at, IsAt-count, length-subterms}
 
 abbrev pub number : Terms → ℕ

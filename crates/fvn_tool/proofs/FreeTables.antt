@@ -22,7 +22,7 @@ use Rattle.fvn_module.specs.ModuleText.{the_sort, the_kind}
 use Rattle.fvn_module.specs.Facts.{IsFreeOperator, IsFirstForm}
 use Rattle.fvn_tool.specs.declared.free.table.Application.{Application}
 use Rattle.fvn_tool.specs.declared.free.table.Table.{Table}
-use Rattle.fvn_tool.specs.FreeTable.{count, nothing, headed, terms_from, subterms, subterm, over, IsAt, IsOrdered, Extends, HaveKind, EachHasKind}
+use Rattle.fvn_tool.specs.inner.FreeTable.{count, nothing, headed, terms_from, subterms, subterm, over, IsAt, IsOrdered, Extends, HaveKind, EachHasKind}
 
 terms_from-append : (ts : List Term) (xs ys : List Application) → terms_from ts (xs ++ ys) ≡ terms_from (terms_from ts xs) ys
 terms_from-append ts [] ys = refl

@@ -22,16 +22,16 @@ use Rattle.fvn_module.specs.Facts.{IsFirstForm}
 use Rattle.fvn_tool.specs.Free.{ListsVariables, IsMostGeneral, HasNoUnifier, IsTooLarge, variables_of, variables_among}
 use Rattle.fvn_tool.specs.declared.free.table.Table.{Table}
 use Rattle.fvn_tool.specs.declared.free.values.Entry.{Entry}
-use Rattle.fvn_tool.specs.FreeTable.{count, subterm, HaveKind, IsTableOf}
-use Rattle.fvn_tool.specs.FreeClasses.{class_of, MakesEqual, AreClassesOf}
-use Rattle.fvn_tool.specs.FreeValues.{IsValue, AreValues, HasLargeValue, AreRight, IsUnknown, IsKnown, HasUnknown, AllStuck}
-use Rattle.fvn_tool.specs.FreeNumbering.{AreRenamed}
+use Rattle.fvn_tool.specs.inner.FreeTable.{count, subterm, HaveKind, IsTableOf}
+use Rattle.fvn_tool.specs.inner.FreeClasses.{class_of, MakesEqual, AreClassesOf}
+use Rattle.fvn_tool.specs.inner.FreeValues.{IsValue, AreValues, HasLargeValue, AreRight, IsUnknown, IsKnown, HasUnknown, AllStuck}
+use Rattle.fvn_tool.specs.inner.FreeNumbering.{AreRenamed}
 use Rattle.fvn_tool.proofs.FreeTables.{subterm-var}
 use Rattle.fvn_tool.proofs.FreeValues.{values_of}
 use Rattle.fvn_tool.proofs.FreeSolved.{variable_at, IsValue-unique, subterms-together, apply-IsValue, none_unknown}
 use Rattle.fvn_tool.proofs.FreeSorted.{AreSorted-values, free_operators, number, number-values}
 use Rattle.fvn_tool.proofs.FreeAssigned.{assigned, value-assigned, assigned-apply, assigned-not, assigned-value, place_of-apart, place_of-within, IsWellSorted-renaming, IsWellSorted-from, IsWellSorted-assigned, Fits, Fits-var}
-use Rattle.fvn_tool.specs.FreeNumbering.{noted}
+use Rattle.fvn_tool.specs.inner.FreeNumbering.{noted}
 use Rattle.fvn_tool.proofs.FreeNumbering.{place_of, Member, Member-append_left, Member-append_right, Member-variables}
 use Rattle.fvn_tool.proofs.FreeSmall.{length-variables, length-noted, variables-values}
 
@@ -137,7 +137,7 @@ module _ {d : Declarations} {vars : List Var} {left right : Term} {t : Table} {l
 
     pub IsMostGeneral-values : IsMostGeneral d vars left right s
     IsMostGeneral-values = record {
-      unifier = IsUnifier-values;
+      solution = IsUnifier-values;
       general = λ u unifier. record { after = u; well_sorted = unifier.0; equal = λ x c. equal-BEqual d (u x) (apply u (s x)) (through u unifier x c) };
     }
 
@@ -208,7 +208,7 @@ module _ {d : Declarations} {vars : List Var} {left right : Term} {t : Table} {l
 
       pub IsMostGeneral-renamed : IsMostGeneral d vars left right (value after)
       IsMostGeneral-renamed = record {
-        unifier = IsUnifier-given;
+        solution = IsUnifier-given;
         general = λ u unifier. record {
           after = followed_by renamed.back u;
           well_sorted = IsWellSorted-followed_by d renamed.back u (IsWellSorted-renaming d renamed.back renamed.back_renames) unifier.0;

@@ -12,9 +12,9 @@ use Rattle.fvn_terms.proofs.Plains.{push, terms-push}
 use Rattle.fvn_tool.specs.declared.free.table.Table.{Table}
 use Rattle.fvn_tool.specs.declared.free.values.Entry.{Entry}
 use Rattle.fvn_tool.specs.declared.free.values.Entry.TheVariants.{Unknown, Large, Small}
-use Rattle.fvn_tool.specs.FreeTable.{count}
-use Rattle.fvn_tool.specs.FreeClasses.{class_of, IsPartition}
-use Rattle.fvn_tool.specs.FreeValues.{IsFreeClass, IsValue, AreValues, HaveLargeValues, IsRight, is_unknown, entry_of, AreRight, IsUnknown, IsKnown}
+use Rattle.fvn_tool.specs.inner.FreeTable.{count}
+use Rattle.fvn_tool.specs.inner.FreeClasses.{class_of, IsPartition}
+use Rattle.fvn_tool.specs.inner.FreeValues.{IsFreeClass, IsValue, AreValues, HaveLargeValues, IsRight, is_unknown, entry_of, AreRight, IsUnknown, IsKnown}
 
 -- one list of terms and then another
 abbrev append : Terms → Terms → Terms

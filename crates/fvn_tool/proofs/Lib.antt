@@ -1,21 +1,22 @@
-pub mod Printing
-pub mod Outcomes
-pub mod Claims
-pub mod Shows
-pub mod Sizes
-pub mod Members
-pub mod Asked
-pub mod FreeTables
-pub mod FreeClasses
-pub mod FreeValues
-pub mod FreeSolved
-pub mod FreeSorted
-pub mod FreeNumbering
-pub mod FreeAssigned
-pub mod FreeUnify
-pub mod Pairs
-pub mod Answers
-pub mod FreeSmall
-pub mod FreeExact
-pub mod NumberedAlike
-pub mod Determined
+-- Lemmas of this crate; none is for other crates.
+mod Printing
+mod Outcomes
+mod Claims
+mod Shows
+mod Sizes
+mod Members
+mod Asked
+mod FreeTables
+mod FreeClasses
+mod FreeValues
+mod FreeSolved
+mod FreeSorted
+mod FreeNumbering
+mod FreeAssigned
+mod FreeUnify
+mod Pairs
+mod Answers
+mod FreeSmall
+mod FreeExact
+mod NumberedAlike
+mod Determined

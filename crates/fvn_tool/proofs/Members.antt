@@ -1,30 +1,13 @@
--- Members of lists.
+-- Places of members of lists.
 use Rattle.std.proofs.Common.{◌≡◌, ◌≢◌, ◌<◌, ◌≤◌, ◌+◌, ◌⊎◌, ℕ, zero, suc, Bool, true, false, List, [], ◌∷◌, ◌++◌, length, AllPairs, Some, cond, slice_index_or, refl, sym, subst, inl, inr, arith}
 use Rattle.std.proofs.lemmas.Bool.{cases_lt}
 use Rattle.std.specs.List.{position_from}
-
--- x is one of the list
-abbrev pub Among : {A : Type 0} → A → List A → Type 0
-Among x [] = ⊥
-Among x (y ∷ ys) = (x ≡ y) ⊎ Among x ys
-
-pub Among-at : {A : Type 0} (xs : List A) (k : ℕ) (d : A) → k < length xs → Among (slice_index_or xs k d) xs
-Among-at [] k d h = absurd (omega (arith, h))
-Among-at (y ∷ ys) zero d h = inl refl
-Among-at (y ∷ ys) (suc k) d h = inr (Among-at ys k d (omega (arith, h)))
-
-pub Among-append : {A : Type 0} (x : A) (xs ys : List A) → Among x (xs ++ ys) → Among x xs ⊎ Among x ys
-Among-append x [] ys h = inr h
-Among-append x (y ∷ xs) ys (inl e) = inl (inl e)
-Among-append x (y ∷ xs) ys (inr h) = elim (Among-append x xs ys h) [ inl a ↦ inl (inr a) | inr b ↦ inr b ]
+use Rattle.fvn_base.proofs.Options.{Some-injective}
 
 -- the place that a search found holds an element that passes the test
 pub record FoundAt {A : Type 0} (test : A → Bool) (xs : List A) (i : ℕ) : Type 0 where
   pub within : i < length xs
   pub passes : (d : A) → test (slice_index_or xs i d) ≡ true
-
-Some-injective : {A : Type 0} {x y : A} → Some x ≡ Some y → x ≡ y
-Some-injective e = cc
 
 later : {A : Type 0} (test : A → Bool) (from : ℕ) (x : A) (xs : List A) (n : ℕ) → (i : ℕ) × (n ≡ from + 1 + i) × FoundAt test xs i → (i : ℕ) × (n ≡ from + i) × FoundAt test (x ∷ xs) i
 later test from x xs n f = (suc f.0, let g = f.1 in omega (arith, g), record { within = let w = (f.2).within in omega (arith, w); passes = (f.2).passes })

@@ -2,6 +2,7 @@
 use Rattle.std.proofs.Common.{◌≡◌, ◌≢◌, ◌≤◌, ℕ, suc, Bool, true, false, List, [], ◌∷◌, map, All, AllPairs, Some, refl, sym, ap, ◌∙◌, subst, arith, if◌then◌else◌}
 use Rattle.std.specs.List.{AllByRecursion}
 use Rattle.std.proofs.lemmas.List.Elements.{All-from_recursion, recursion_from_All}
+use Rattle.fvn_base.proofs.Pigeonhole.{AllPairs-tail}
 use Rattle.fvn_terms.specs.declared.plain.Var.{Var}
 use Rattle.fvn_terms.specs.declared.plain.Plain.{Plain}
 use Rattle.fvn_terms.specs.Term.{Term, more, pack, nodes}
@@ -58,15 +59,12 @@ values-later p pairs (x ∷ xs) h =
 AllPairs-head : (x : Var) (xs : List Var) → AllPairs (λ y z. y ≢ z) (x ∷ xs) → IsNew x xs
 AllPairs-head x xs h = recursion_from_All (λ y. x ≢ y) xs (λ k d within. h 0 (suc k) d (omega arith) (omega (arith, within)))
 
-AllPairs-tail : (x : Var) (xs : List Var) → AllPairs (λ y z. y ≢ z) (x ∷ xs) → AllPairs (λ y z. y ≢ z) xs
-AllPairs-tail x xs h = λ i j d l within. h (suc i) (suc j) d (omega (arith, l)) (omega (arith, within))
-
 -- each variable has its own term
 pub values-pairs : (pairs : List (Var × Plain)) → AllPairs (λ y z. y ≢ z) (map key pairs) → map (given (value pairs)) (map key pairs) ≡ map bound_term pairs
 values-pairs [] apart = refl
 values-pairs (p ∷ pairs) apart =
     ap (λ t. (p.0, t) ∷ map (given (value (p ∷ pairs))) (keys pairs)) (value-here p pairs) ∙
-    ap (λ l. (p.0, term p.1) ∷ l) (values-later p pairs (keys pairs) (AllPairs-head p.0 (keys pairs) apart) ∙ values-pairs pairs (AllPairs-tail p.0 (keys pairs) apart))
+    ap (λ l. (p.0, term p.1) ∷ l) (values-later p pairs (keys pairs) (AllPairs-head p.0 (keys pairs) apart) ∙ values-pairs pairs (AllPairs-tail (λ y z. y ≢ z) p.0 (keys pairs) apart))
 
 -- the terms alone
 map-seconds : (s : Substitution) (xs : List Var) → map second (map (given s) xs) ≡ map s xs

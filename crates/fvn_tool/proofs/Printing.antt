@@ -30,4 +30,5 @@ unfolding digits
 no_lines = refl
 
 pub no_lines_bound : codes "bound size 1000\n" ≡ answer_text [] bound_size
+unfolding digits
 no_lines_bound = refl

@@ -25,5 +25,5 @@ mutual
 -- what a most general unifier gives a variable has at most the nodes of what another unifier gives it
 pub same_sizes : (d : Declarations) → IsFree d → (vars : List Var) (left right : Term) (a b : Substitution) → IsMostGeneral d vars left right a → IsMostGeneral d vars left right b → (x : Var) → Contains vars x → nodes (a x) ≤ nodes (b x)
 same_sizes d free vars left right a b p q x listed =
-    let i = p.general b q.unifier in
+    let i = p.general b q.solution in
     subst (λ t. nodes (a x) ≤ nodes t) (sym (BEqual-free d free (b x) (apply i.after (a x)) (i.equal x listed))) (nodes-apply i.after (a x))

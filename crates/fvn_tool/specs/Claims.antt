@@ -1,15 +1,19 @@
--- What is promised of a run, where the source tells its bytes and the sink what was written.
-use Rattle.std.specs.Prelude.{◌≡◌, ◌≤◌, ◌<◌, ◌⊎◌, ◌↔◌, ℕ, zero, suc, List, [], length, map, All, AllPairs, Any, Option, Some, None}
+-- What is promised of a run.
+use Rattle.std.specs.Prelude.{◌≡◌, ◌≤◌, ◌<◌, ◌⊎◌, ◌↔◌, ℕ, zero, suc, List, [], length, map, All, Some, None}
+use Rattle.fvn_base.specs.declared.limits.TheConstants.{MODULE_BYTES}
 use Rattle.fvn_terms.specs.Substitution.{Substitution}
+use Rattle.fvn_terms.specs.CompleteSets.{IsCompleteSet, IsApart, IsShortest}
 use Rattle.fvn_module.specs.declared.first.module_text.FirstModule.{FirstModule}
 use Rattle.fvn_module.specs.declared.first.problem_text.FirstProblem.{FirstProblem}
 use Rattle.fvn_module.specs.ModuleText.{IsModuleText}
 use Rattle.fvn_module.specs.ProblemText.{IsProblemText}
 use Rattle.fvn_tool.specs.declared.status.Status.{Status}
 use Rattle.fvn_tool.specs.declared.status.Status.TheVariants.{Solved, Nothing, Usage, ModuleRefused, ProblemRefused, Ended, ReadFault, WriteFault, NoMemory}
-use Rattle.fvn_tool.specs.Words.{problem_word}
+use Rattle.fvn_tool.specs.Statuses.{IsAnswering}
+use Rattle.fvn_tool.specs.Words.{Command, unify, command_of}
 use Rattle.fvn_tool.specs.Replies.{End, complete, bound_size, answer_text, line_of, Unifies, IsInstanceOf, CannotBeUnified, ExceedsSize, DeclareNoModule, AsksNothing, no_module_line, no_problem_line}
-use Rattle.fvn_tool.specs.Outcomes.{Leaves, WritesWhole, usage_line, too_long_line, text_limit}
+use Rattle.fvn_tool.specs.Runs.{Run, Leaves, WritesWhole, HasFailed}
+use Rattle.fvn_tool.specs.Outcomes.{usage_line, too_long_line, IsOutcome}
 
 -- Texts -----------------------------------------------------------------------------------------
 
@@ -42,51 +46,49 @@ IsOneText NoMemory text = ⊥
 abbrev pub Is : Status → List ℕ → Status → List ℕ → Type 0
 Is status text s t = (s ≡ status) × (t ≡ text)
 
--- Refusals --------------------------------------------------------------------------------------
+-- Every command ---------------------------------------------------------------------------------
 
 -- the words are refused exactly where they are no command; then nothing else can come but a failed write
-pub record RefusesWords (words : List (List ℕ)) (status : Status) (before after : Option (List ℕ)) : Type 0 where
-  pub only : status ≡ Usage → problem_word words ≡ None
-  pub always : problem_word words ≡ None → (status ≡ Usage) ⊎ (status ≡ WriteFault)
-  pub text : problem_word words ≡ None → Leaves (Is Usage usage_line) status before after
+pub record RefusesWords (run : Run) : Type 0 where
+  pub only : run.status ≡ Usage → command_of run.words ≡ None
+  pub always : command_of run.words ≡ None → (run.status ≡ Usage) ⊎ (run.status ≡ WriteFault)
+  pub text : command_of run.words ≡ None → Leaves (Is Usage usage_line) run.status run.sink
+
+-- the words are this command, and the source told these bytes
+pub record Asks (run : Run) (command : Command) (bytes : List ℕ) : Type 0 where
+  pub command_is : command_of run.words ≡ Some command
+  pub told : run.source.before ≡ Some bytes
+
+-- a text that is too long is refused
+abbrev pub RefusesLongText : Run → Type 0
+RefusesLongText run =
+    (command : Command) (bytes : List ℕ) → Asks run command bytes → MODULE_BYTES < length bytes →
+    Leaves (Is ModuleRefused too_long_line) run.status run.sink
+
+-- The command unify -----------------------------------------------------------------------------
 
 -- the module is refused exactly where its text is too long or declares no module
-pub record RefusesModule (bytes : List ℕ) (status : Status) (before after : Option (List ℕ)) : Type 0 where
-  pub only : status ≡ ModuleRefused → (text_limit < length bytes) ⊎ ((length bytes ≤ text_limit) × DeclareNoModule bytes)
-  pub long : text_limit < length bytes → Leaves (Is ModuleRefused too_long_line) status before after
-  pub no_module : length bytes ≤ text_limit → DeclareNoModule bytes → Leaves (Is ModuleRefused no_module_line) status before after
+pub record RefusesModule (bytes : List ℕ) (run : Run) : Type 0 where
+  pub only : run.status ≡ ModuleRefused → (MODULE_BYTES < length bytes) ⊎ ((length bytes ≤ MODULE_BYTES) × DeclareNoModule bytes)
+  pub no_module : length bytes ≤ MODULE_BYTES → DeclareNoModule bytes → Leaves (Is ModuleRefused no_module_line) run.status run.sink
 
 -- a module is declared in which the word asks nothing
 pub record HasNoProblem (bytes word : List ℕ) : Type 0 where
-  pub few : length bytes ≤ text_limit
+  pub few : length bytes ≤ MODULE_BYTES
   pub scope : FirstModule
   pub module_text : IsModuleText bytes scope
   pub no_problem : AsksNothing scope word
 
 -- the problem is refused exactly where a module is declared and the word asks nothing in it
-pub record RefusesProblem (bytes word : List ℕ) (status : Status) (before after : Option (List ℕ)) : Type 0 where
-  pub only : status ≡ ProblemRefused → HasNoProblem bytes word
-  pub text : HasNoProblem bytes word → Leaves (Is ProblemRefused no_problem_line) status before after
-
--- Answers ---------------------------------------------------------------------------------------
+pub record RefusesProblem (bytes word : List ℕ) (run : Run) : Type 0 where
+  pub only : run.status ≡ ProblemRefused → HasNoProblem bytes word
+  pub text : HasNoProblem bytes word → Leaves (Is ProblemRefused no_problem_line) run.status run.sink
 
 -- a module and a problem in it
 pub record IsAsked (bytes word : List ℕ) (scope : FirstModule) (problem : FirstProblem) : Type 0 where
-  pub few : length bytes ≤ text_limit
+  pub few : length bytes ≤ MODULE_BYTES
   pub module_text : IsModuleText bytes scope
   pub problem_text : IsProblemText scope word problem
-
--- the statuses of answers
-abbrev pub IsAnswering : Status → Type 0
-IsAnswering Solved = Unit {0}
-IsAnswering Nothing = Unit {0}
-IsAnswering Ended = Unit {0}
-IsAnswering Usage = ⊥
-IsAnswering ModuleRefused = ⊥
-IsAnswering ProblemRefused = ⊥
-IsAnswering ReadFault = ⊥
-IsAnswering WriteFault = ⊥
-IsAnswering NoMemory = ⊥
 
 -- The text has a line for each of some substitutions and then an end line,
 -- and the claim holds of the status, of what the lines denote, and of the end.
@@ -97,25 +99,7 @@ pub record Shows (scope : FirstModule) (problem : FirstProblem) (Claim : Status 
   pub text_is : text ≡ answer_text (map (line_of scope problem) values) end
   pub claim : Claim status values end
 
--- whatever module and problem the bytes and the words declare, the claim holds of the answer
-abbrev pub Answers : ((scope : FirstModule) (problem : FirstProblem) → Status → List Substitution → End → Type 0) → List (List ℕ) → Option (List ℕ) → Status → Option (List ℕ) → Option (List ℕ) → Type 0
-Answers Claim words left status before after =
-    (bytes word : List ℕ) → left ≡ Some bytes → problem_word words ≡ Some word →
-    (scope : FirstModule) (problem : FirstProblem) → IsAsked bytes word scope problem → Leaves (Shows scope problem (Claim scope problem)) status before after
-
 module _ (scope : FirstModule) (problem : FirstProblem) (status : Status) (values : List Substitution) (end : End) where
-  -- each line denotes a unifier
-  abbrev pub IsSound : Type 0
-  IsSound = All (Unifies scope problem) values
-
-  -- no line denotes an instance of what another denotes
-  abbrev pub IsApart : Type 0
-  IsApart = AllPairs (λ s c. (IsInstanceOf scope problem s c → ⊥) × (IsInstanceOf scope problem c s → ⊥)) values
-
-  -- at `complete n` there are n lines, and every unifier is an instance of one
-  abbrev pub IsComplete : Type 0
-  IsComplete = (n : ℕ) → end ≡ complete n → (n ≡ length values) × ((u : Substitution) → Unifies scope problem u → Any (IsInstanceOf scope problem u) values)
-
   -- `complete 0` and its status come exactly where there is no unifier
   pub record IsNothingExact : Type 0 where
     pub only : status ≡ Nothing → CannotBeUnified scope problem
@@ -129,29 +113,53 @@ module _ (scope : FirstModule) (problem : FirstProblem) (status : Status) (value
     pub end_is : status ≡ Ended ↔ (end ≡ bound_size)
     pub no_line : status ≡ Ended → values ≡ []
 
-  -- at `complete n` every list of unifiers of which every unifier is an instance has n members or more
-  abbrev pub IsShortest : Type 0
-  IsShortest =
-      (n : ℕ) → end ≡ complete n → (others : List Substitution) → All (Unifies scope problem) others →
-      ((u : Substitution) → Unifies scope problem u → Any (IsInstanceOf scope problem u) others) → n ≤ length others
-
-  -- all of this, of one and the same list of lines
+  -- Each line denotes a unifier, and none an instance of what another denotes. At `complete n` there are n lines,
+  -- every unifier is an instance of one, and no complete set of unifiers has fewer members.
   pub record IsRight : Type 0 where
-    pub sound : IsSound
-    pub apart : IsApart
-    pub complete : IsComplete
+    pub sound : All (Unifies scope problem) values
+    pub apart : IsApart (IsInstanceOf scope problem) values
+    pub shortest : (n : ℕ) → end ≡ complete n → IsShortest (Unifies scope problem) (IsInstanceOf scope problem) values
+    pub complete : (n : ℕ) → end ≡ complete n → (n ≡ length values) × IsCompleteSet (Unifies scope problem) (IsInstanceOf scope problem) values
     pub nothing : IsNothingExact
     pub bound_size : IsBoundExact
-    pub shortest : IsShortest
 
   -- all was found
   abbrev pub EndsComplete : Type 0
   EndsComplete = end ≡ complete (length values)
 
--- Where no term is too large and nothing outside failed, a complete answer is written, or memory was refused.
-abbrev pub AnswersWithoutEvent : List (List ℕ) → Option (List ℕ) → (read_failed write_failed : Type 0) → Status → Option (List ℕ) → Option (List ℕ) → Type 0
-AnswersWithoutEvent words left read_failed write_failed status before after =
-    (bytes word : List ℕ) → left ≡ Some bytes → problem_word words ≡ Some word →
-    (scope : FirstModule) (problem : FirstProblem) → IsAsked bytes word scope problem →
-    (ExceedsSize scope problem → ⊥) → (read_failed → ⊥) → (write_failed → ⊥) →
-    (status ≡ NoMemory) ⊎ WritesWhole (Shows scope problem (EndsComplete scope problem)) status before after
+module _ (scope : FirstModule) (problem : FirstProblem) (run : Run) where
+  -- the answer is right
+  abbrev pub AnswersRight : Type 0
+  AnswersRight = Leaves (Shows scope problem (IsRight scope problem)) run.status run.sink
+
+  -- where no term is too large and nothing outside failed, a complete answer is written, or memory was refused
+  abbrev pub AnswersWithoutEvent : Type 0
+  AnswersWithoutEvent =
+      (ExceedsSize scope problem → ⊥) → (HasFailed run.source → ⊥) → (HasFailed run.sink → ⊥) →
+      (run.status ≡ NoMemory) ⊎ WritesWhole (Shows scope problem (EndsComplete scope problem)) run.status run.sink
+
+-- a run that is asked to unify refuses what it should, and else answers every module and problem that the bytes and the word declare
+pub record AnswersUnify (bytes word : List ℕ) (run : Run) : Type 0 where
+  pub module_refused : RefusesModule bytes run
+  pub problem_refused : RefusesProblem bytes word run
+  pub right : (scope : FirstModule) (problem : FirstProblem) → IsAsked bytes word scope problem → AnswersRight scope problem run
+  pub no_event : (scope : FirstModule) (problem : FirstProblem) → IsAsked bytes word scope problem → AnswersWithoutEvent scope problem run
+
+-- The report ------------------------------------------------------------------------------------
+
+-- All that is promised of a run.
+pub record IsReport (run : Run) : Type 0 where
+  -- one text of one outcome is written, whole, or at a failed write a front of it
+  pub outcome : Leaves (IsOutcome run.words run.source) run.status run.sink
+  pub whole : Leaves IsOneText run.status run.sink
+
+  -- faults come only from the outside
+  pub read_fault : run.status ≡ ReadFault → HasFailed run.source
+  pub write_fault : run.status ≡ WriteFault → HasFailed run.sink
+
+  -- what is refused at every command
+  pub usage : RefusesWords run
+  pub too_long : RefusesLongText run
+
+  -- what each command answers
+  pub unify : (word bytes : List ℕ) → Asks run (unify word) bytes → AnswersUnify bytes word run

@@ -5,6 +5,7 @@ use Rattle.fvn_terms.specs.declared.declarations.Declarations.{Declarations}
 use Rattle.fvn_terms.specs.Term.{Term, Terms, var, app, none, more, nodes}
 use Rattle.fvn_terms.specs.Substitution.{Substitution, Occurs}
 use Rattle.fvn_terms.specs.Unifiers.{IsUnifier, IsInstance}
+use Rattle.fvn_terms.specs.CompleteSets.{IsMostGeneral as IsMostGeneralOf}
 use Rattle.fvn_module.specs.ModuleText.{the_sort}
 
 -- vars has each variable of the two terms once, and no other
@@ -16,10 +17,10 @@ pub record ListsVariables (vars : List Var) (left right : Term) : Type 0 where
   pub named : All (λ x. x.fresh ≡ false) vars
 
 -- s makes the two terms equal, and every substitution that does is on vars an instance of s
-pub record IsMostGeneral (d : Declarations) (vars : List Var) (left right : Term) (s : Substitution) : Type 0 where
-  pub unifier : IsUnifier d ((left, right) ∷ []) s
-  pub general : (u : Substitution) → IsUnifier d ((left, right) ∷ []) u → IsInstance d vars u s
+abbrev pub IsMostGeneral : Declarations → List Var → Term → Term → Substitution → Type 0
+IsMostGeneral d vars left right = IsMostGeneralOf (IsUnifier d ((left, right) ∷ [])) (IsInstance d vars)
 
+-- no substitution makes the two terms equal
 abbrev pub HasNoUnifier : Declarations → Term → Term → Type 0
 HasNoUnifier d left right = (u : Substitution) → IsUnifier d ((left, right) ∷ []) u → ⊥
 
@@ -31,12 +32,13 @@ pub record IsTooLarge (d : Declarations) (vars : List Var) (left right : Term) (
   pub listed : Contains vars variable
   pub large : limit < nodes (by variable)
 
--- the occurrences of variables from left to right
 abbrev mutual
+  -- the occurrences of variables in a term, from left to right
   pub variables_of : Term → List Var
   variables_of (var x) = x ∷ []
   variables_of (app f ts) = variables_among ts
 
+  -- the occurrences of variables in terms, from left to right
   pub variables_among : Terms → List Var
   variables_among none = []
   variables_among (more t ts) = variables_of t ++ variables_among ts

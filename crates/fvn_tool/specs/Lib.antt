@@ -1,15 +1,13 @@
+-- The words of the contracts of this crate.
 pub mod Free
-pub mod FreeAnswer
 pub mod Lines
 pub mod Spellings
 pub mod Words
+pub mod Statuses
+pub mod Runs
 pub mod Replies
 pub mod Outcomes
 pub mod Texts
 pub mod Claims
 pub mod Laws
-pub mod FreeTable
-pub mod FreeClasses
-pub mod FreeCompared
-pub mod FreeValues
-pub mod FreeNumbering
+pub mod inner

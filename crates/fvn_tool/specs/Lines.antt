@@ -26,13 +26,13 @@ module _ (spelling : Spelling) where
   abbrev pub variable_text : Var → List ℕ
   variable_text x = variable_name x ++ 58 ∷ spelling.sort x.sort
 
-  -- A text goes on with a term: a constant is its name, an application its name and its arguments.
-  -- Arguments stand in parentheses, with commas between them.
   abbrev mutual
+    -- a text goes on with a term: a constant is its name, an application its name and its arguments
     pub with_term : List ℕ → Term → List ℕ
     with_term text (var x) = text ++ variable_text x
     with_term text (app f ts) = with_arguments (text ++ spelling.operator f) ts
 
+    -- a text goes on with arguments, where there are any: in parentheses, with commas between them
     pub with_arguments : List ℕ → Terms → List ℕ
     with_arguments text none = text
     with_arguments text (more t ts) = beside (with_each 44 (with_term (beside text 40) t) ts) 41
@@ -51,6 +51,7 @@ module _ (spelling : Spelling) where
   between true text = text
   between false text = beside text 44 ++ 32 ∷ []
 
+  -- a text goes on with bindings
   abbrev pub with_bindings : Bool → List ℕ → List (Var × Term) → List ℕ
   with_bindings first text [] = text
   with_bindings first text (b ∷ bs) = with_bindings false (with_binding (between first text) b) bs

@@ -1,5 +1,6 @@
--- What the program replies to a module's text and a problem's text.
+-- What the program replies to a command over a module's text.
 use Rattle.std.specs.Prelude.{◌≡◌, ◌≤◌, ℕ, List, [], ◌∷◌, ◌++◌, codes, decimal, map, All}
+use Rattle.fvn_base.specs.declared.limits.TheConstants.{TERM_SYMBOLS}
 use Rattle.fvn_terms.specs.Term.{Term, nodes, pack}
 use Rattle.fvn_terms.specs.Plain.{term}
 use Rattle.fvn_terms.specs.Substitution.{Substitution}
@@ -10,6 +11,7 @@ use Rattle.fvn_module.specs.ModuleText.{IsModuleText}
 use Rattle.fvn_module.specs.ProblemText.{IsProblemText}
 use Rattle.fvn_tool.specs.declared.status.Status.{Status}
 use Rattle.fvn_tool.specs.declared.status.Status.TheVariants.{Solved, Nothing, ModuleRefused, ProblemRefused, Ended}
+use Rattle.fvn_tool.specs.Words.{Command, unify}
 use Rattle.fvn_tool.specs.Lines.{unifier_line}
 use Rattle.fvn_tool.specs.Spellings.{spelling}
 use Rattle.fvn_tool.specs.Free.{IsMostGeneral, HasNoUnifier, IsTooLarge, AreNumbered, variables_among}
@@ -18,6 +20,7 @@ use Rattle.fvn_tool.specs.Free.{IsMostGeneral, HasNoUnifier, IsTooLarge, AreNumb
 abbrev pub line : List ℕ → List ℕ
 line text = text ++ 10 ∷ []
 
+-- each text as a line
 abbrev pub lines : List (List ℕ) → List ℕ
 lines [] = []
 lines (text ∷ texts) = line text ++ lines texts
@@ -27,30 +30,30 @@ pub data End : Type 0 where
   complete : ℕ → End
   bound_size : End
 
+-- the text of an end
 abbrev pub end_text : End → List ℕ
 end_text (complete n) = codes "complete " ++ decimal n
-end_text bound_size = codes "bound size 1000"
+end_text bound_size = codes "bound size " ++ decimal TERM_SYMBOLS
 
 -- the lines of an answer, and then its end line
 abbrev pub answer_text : List (List ℕ) → End → List ℕ
 answer_text texts end = lines texts ++ line (end_text end)
 
--- the lines of refusals
+-- the line for bytes that declare no module
 abbrev pub no_module_line : List ℕ
 no_module_line = line (codes "module 8 statement 0 later")
 
+-- the line for a word that asks no problem
 abbrev pub no_problem_line : List ℕ
 no_problem_line = line (codes "problem 2")
 
--- the most symbols of a term in an answer
-abbrev pub size_limit : ℕ
-size_limit = 1000
-
 -- What a module and a problem ask: the most general unifiers of the two sides.
 module _ (scope : FirstModule) (problem : FirstProblem) where
+  -- the left side of the problem
   abbrev pub left : Term
   left = term problem.left
 
+  -- the right side of the problem
   abbrev pub right : Term
   right = term problem.right
 
@@ -62,12 +65,13 @@ module _ (scope : FirstModule) (problem : FirstProblem) where
   abbrev pub IsInstanceOf : Substitution → Substitution → Type 0
   IsInstanceOf = IsInstance scope.declarations problem.vars
 
+  -- no substitution makes the two sides equal
   abbrev pub CannotBeUnified : Type 0
   CannotBeUnified = HasNoUnifier scope.declarations left right
 
   -- a most general unifier gives some variable of the problem a term of over 1,000 symbols
   abbrev pub ExceedsSize : Type 0
-  ExceedsSize = IsTooLarge scope.declarations problem.vars left right size_limit
+  ExceedsSize = IsTooLarge scope.declarations problem.vars left right TERM_SYMBOLS
 
   -- the line of a substitution on the problem's variables
   abbrev pub line_of : Substitution → List ℕ
@@ -77,7 +81,7 @@ module _ (scope : FirstModule) (problem : FirstProblem) where
   -- with new variables numbered 1, 2, .. as they first occur along its line.
   pub record IsPrintable (s : Substitution) : Type 0 where
     pub most_general : IsMostGeneral scope.declarations problem.vars left right s
-    pub within : All (λ x. nodes (s x) ≤ size_limit) problem.vars
+    pub within : All (λ x. nodes (s x) ≤ TERM_SYMBOLS) problem.vars
     pub numbered : AreNumbered (variables_among (pack (map s problem.vars)))
 
   -- this status with this text answers
@@ -90,15 +94,20 @@ module _ (scope : FirstModule) (problem : FirstProblem) where
 abbrev pub IsProblem : FirstModule → FirstProblem → Type 0
 IsProblem scope problem = (word : List ℕ) × IsProblemText scope word problem
 
--- no module is declared by the bytes; in a module no problem by the word
+-- no module is declared by the bytes
 abbrev pub DeclareNoModule : List ℕ → Type 0
 DeclareNoModule bytes = (scope : FirstModule) → IsModuleText bytes scope → ⊥
 
+-- no problem is asked by the word in the module
 abbrev pub AsksNothing : FirstModule → List ℕ → Type 0
 AsksNothing scope word = (problem : FirstProblem) → IsProblemText scope word problem → ⊥
 
--- this status with this text replies to the bytes of a module and the word of a problem
-pub data IsReply (bytes word : List ℕ) : Status → List ℕ → Type 0 where
-  no_module : {text : List ℕ} → DeclareNoModule bytes → text ≡ no_module_line → IsReply bytes word ModuleRefused text
-  no_problem : {text : List ℕ} (scope : FirstModule) → IsModuleText bytes scope → AsksNothing scope word → text ≡ no_problem_line → IsReply bytes word ProblemRefused text
-  answered : {status : Status} {text : List ℕ} (scope : FirstModule) (problem : FirstProblem) → IsModuleText bytes scope → IsProblemText scope word problem → IsAnswer scope problem status text → IsReply bytes word status text
+-- this status with this text replies to the bytes of a module and the word of a problem to be unified
+pub data IsUnifyReply (bytes word : List ℕ) : Status → List ℕ → Type 0 where
+  no_module : {text : List ℕ} → DeclareNoModule bytes → text ≡ no_module_line → IsUnifyReply bytes word ModuleRefused text
+  no_problem : {text : List ℕ} (scope : FirstModule) → IsModuleText bytes scope → AsksNothing scope word → text ≡ no_problem_line → IsUnifyReply bytes word ProblemRefused text
+  answered : {status : Status} {text : List ℕ} (scope : FirstModule) (problem : FirstProblem) → IsModuleText bytes scope → IsProblemText scope word problem → IsAnswer scope problem status text → IsUnifyReply bytes word status text
+
+-- this status with this text replies to a command over the bytes of a module
+abbrev pub IsReply : Command → List ℕ → Status → List ℕ → Type 0
+IsReply (unify word) bytes status text = IsUnifyReply bytes word status text

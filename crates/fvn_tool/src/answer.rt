@@ -1,25 +1,25 @@
-//! The answer to the text of a module and the text of a problem.
+//! The answer to a command over the text of a module.
 ghost use Rattle.std.specs.Prelude.{◌≡◌, ◌∷◌, [], map, IfOk};
 ghost use Rattle.fvn_terms.specs.Plain.{term};
 ghost use Rattle.fvn_module.specs.ModuleText.{IsModule};
 ghost use Rattle.fvn_tool.specs.Lines.{bindings_line};
 ghost use Rattle.fvn_tool.specs.Spellings.{spelling};
-ghost use Rattle.fvn_tool.specs.Replies.{IsReply, IsAnswer, IsProblem, answer_text, complete};
+ghost use Rattle.fvn_tool.specs.Words.{meant};
+ghost use Rattle.fvn_tool.specs.Replies.{IsReply, IsUnifyReply, IsAnswer, IsProblem, answer_text, complete};
 ghost use Rattle.fvn_tool.specs.Outcomes.{usage_line, too_long_line};
 ghost use Rattle.fvn_tool.specs.Texts.{bytes_of};
 
 use crate::free::{Unified, unify};
 use crate::lines::push_unifier;
 use crate::status::Status;
+use crate::words::Command;
+use fvn_base::limits::TERM_SYMBOLS;
 use fvn_module::first::{
     FirstFault, FirstModule, FirstProblem, Names, VarNames, modules_are_first, problems_are_first,
     read_module, read_problem,
 };
 use fvn_terms::{NoMemory, PlainSubst};
 use std::alloc::Global;
-
-/// The most symbols of a term in an answer.
-const SIZE_LIMIT: u64 = 1000;
 
 /// A text that is written as it stands in the program, or one that was made.
 #[derive(Drop)]
@@ -85,7 +85,10 @@ fn solved_text(
     variables: &VarNames,
     unifier: &PlainSubst,
 ) -> Result<Vec<u8>, NoMemory>
-    ensures { IfOk result (λ text. text.items ≡ answer_text (bindings_line (spelling names.now variables.now) (map (λ p. (p.0, term p.1)) unifier.now.pairs) ∷ []) (complete 1)) }
+    ensures { IfOk result (λ text. text.items ≡ answer_text
+        (bindings_line (spelling names.now variables.now)
+            (map (λ p. (p.0, term p.1)) unifier.now.pairs) ∷ [])
+        (complete 1)) }
 {
     let mut text = Vec::new(alloc);
     push_unifier(names, variables, &mut text, unifier.pairs.as_slice())?;
@@ -108,7 +111,7 @@ fn solve(alloc: Global, scope: &FirstModule, problem: &FirstProblem) -> Result<A
         &problem.left,
         &problem.right,
         vars,
-        SIZE_LIMIT,
+        TERM_SYMBOLS,
     )? {
         Unified::MostGeneral(unifier) => {
             let text = solved_text(alloc, &scope.names, &problem.names, &unifier)?;
@@ -122,9 +125,9 @@ fn solve(alloc: Global, scope: &FirstModule, problem: &FirstProblem) -> Result<A
     }
 }
 
-/// What is replied to the text of a module and the text of a problem.
-pub(crate) fn reply(alloc: Global, bytes: &[u8], word: &[u8]) -> Result<Answer, NoMemory>
-    ensures { IfOk result (λ a. IsReply bytes.now word.now a.status (bytes_of a.text)) }
+// What is replied to the text of a module and a problem that is to be unified.
+fn unify_reply(alloc: Global, bytes: &[u8], word: &[u8]) -> Result<Answer, NoMemory>
+    ensures { IfOk result (λ a. IsUnifyReply bytes.now word.now a.status (bytes_of a.text)) }
 {
     let scope = match read_module(alloc, bytes) {
         Ok(scope) => scope,
@@ -140,5 +143,14 @@ pub(crate) fn reply(alloc: Global, bytes: &[u8], word: &[u8]) -> Result<Answer, 
         }
         Err(FirstFault::NoMemory) => Err(NoMemory),
         Err(FirstFault::NotOfForm) => Ok(fixed(Status::ProblemRefused, b"problem 2\n")),
+    }
+}
+
+/// What is replied to a command over the text of a module.
+pub(crate) fn reply(alloc: Global, bytes: &[u8], command: Command<'_>) -> Result<Answer, NoMemory>
+    ensures { IfOk result (λ a. IsReply (meant command.entry) bytes.now a.status (bytes_of a.text)) }
+{
+    match command {
+        Command::Unify(word) => unify_reply(alloc, bytes, word),
     }
 }

@@ -4,10 +4,11 @@ ghost use Rattle.fvn_terms.specs.Term.{nodes};
 ghost use Rattle.fvn_terms.specs.Plain.{term, terms};
 ghost use Rattle.fvn_terms.specs.Signature.{HasKind};
 ghost use Rattle.fvn_terms.specs.Substitution.{value};
+ghost use Rattle.fvn_base.specs.declared.limits.TheConstants.{TEXT_SYMBOLS};
 ghost use Rattle.fvn_module.specs.ModuleText.{the_kind};
 ghost use Rattle.fvn_module.specs.Facts.{IsFirstForm};
 ghost use Rattle.fvn_tool.specs.Free.{ListsVariables, IsMostGeneral, HasNoUnifier, IsTooLarge, variables_among, AreNumbered};
-ghost use Rattle.fvn_tool.specs.FreeAnswer.{IfMostGeneral, OnNoUnifier, OnTooLarge};
+ghost use Rattle.fvn_tool.specs.inner.FreeAnswer.{IfMostGeneral, OnNoUnifier, OnTooLarge};
 
 mod classes;
 mod numbering;
@@ -45,7 +46,7 @@ pub fn unify(
     requires left_kind { HasKind declarations.now (term left.now) the_kind }
     requires right_kind { HasKind declarations.now (term right.now) the_kind }
     requires variables { ListsVariables vars.now (term left.now) (term right.now) }
-    requires few_nodes { nodes (term left.now) + nodes (term right.now) ≤ 400 }
+    requires few_nodes { nodes (term left.now) + nodes (term right.now) ≤ TEXT_SYMBOLS }
     requires positive { 0 < limit }
 
     // the pairs bind the variables in their order, each once

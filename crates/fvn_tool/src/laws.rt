@@ -5,8 +5,8 @@ use fvn_module::first::{modules_are_determined, modules_are_first, problems_are_
 
 /// Words and the bytes of a source have at most one outcome.
 ///
-/// By the clause `outcome` of `run`, two runs over them have the same status and the same text, where
-/// neither status is ReadFault, WriteFault or NoMemory.
+/// By `outcome` in the report of `run`, two runs over them have the same status and the same text,
+/// where neither status is ReadFault, WriteFault or NoMemory.
 pub fn outcomes_are_determined()
     ensures { OutcomesAreDetermined }
 {

@@ -38,7 +38,8 @@ fn push_variable(
     text: &mut Vec<u8>,
     x: Var,
 ) -> Result<(), NoMemory>
-    ensures { OnOk result (text.new.items ≡ text.old.items ++ variable_text (spelling names.now variables.now) x) }
+    ensures { OnOk result
+        (text.new.items ≡ text.old.items ++ variable_text (spelling names.now variables.now) x) }
 {
     if x.fresh {
         let mut buffer = Buffer::new();
@@ -60,7 +61,8 @@ fn push_term(
     text: &mut Vec<u8>,
     t: &Plain,
 ) -> Result<(), NoMemory>
-    ensures { OnOk result (text.new.items ≡ with_term (spelling names.now variables.now) text.old.items (term t.now)) }
+    ensures { OnOk result (text.new.items ≡
+        with_term (spelling names.now variables.now) text.old.items (term t.now)) }
 {
     match t {
         Plain::Var(x) => push_variable(names, variables, text, *x),
@@ -79,7 +81,8 @@ fn push_arguments(
     text: &mut Vec<u8>,
     us: &Args,
 ) -> Result<(), NoMemory>
-    ensures { OnOk result (text.new.items ≡ with_arguments (spelling names.now variables.now) text.old.items us.now) }
+    ensures { OnOk result (text.new.items ≡
+        with_arguments (spelling names.now variables.now) text.old.items us.now) }
 {
     if us.items.is_empty() {
         return Ok(());
@@ -101,7 +104,9 @@ fn push_bindings(
     text: &mut Vec<u8>,
     pairs: &[(Var, Plain)],
 ) -> Result<(), NoMemory>
-    ensures { OnOk result (text.new.items ≡ with_bindings (spelling names.now variables.now) true text.old.items (map (λ p. (p.0, term p.1)) pairs.now)) }
+    ensures { OnOk result (text.new.items ≡
+        with_bindings (spelling names.now variables.now) true text.old.items
+            (map (λ p. (p.0, term p.1)) pairs.now)) }
 {
     let mut first = true;
     for (x, t) in pairs {
@@ -125,7 +130,8 @@ pub(crate) fn push_unifier(
     pairs: &[(Var, Plain)],
 ) -> Result<(), NoMemory>
     requires { text.old.items ≡ [] }
-    ensures { OnOk result (text.new.items ≡ bindings_line (spelling names.now variables.now) (map (λ p. (p.0, term p.1)) pairs.now)) }
+    ensures { OnOk result (text.new.items ≡
+        bindings_line (spelling names.now variables.now) (map (λ p. (p.0, term p.1)) pairs.now)) }
 {
     text.push(b'{')?;
     push_bindings(names, variables, text, pairs)?;

@@ -1,4 +1,6 @@
 //! How a run of the program ends.
+ghost use Rattle.std.specs.Prelude.{◌≡◌};
+ghost use Rattle.fvn_tool.specs.Statuses.{exit_number};
 
 /// The status that the program ends with.
 #[derive(Clone, Copy, Debug, PartialEq, Eq)]
@@ -21,4 +23,13 @@ pub enum Status {
     WriteFault = 7,
     /// Memory was refused.
     NoMemory = 8,
+}
+
+impl Status {
+    /// The number that the program exits with.
+    pub fn exit_number(self) -> u8
+        ensures { result ≡ exit_number self }
+    {
+        self as u8
+    }
 }

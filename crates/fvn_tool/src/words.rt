@@ -1,8 +1,15 @@
 //! Reading the words of the command line.
 ghost use Rattle.std.specs.Prelude.{◌≡◌, map, string_bytes, MatchOption, Some, None};
-ghost use Rattle.fvn_tool.specs.Words.{problem_word, is_option};
+ghost use Rattle.fvn_tool.specs.Words.{command_of, is_option, meant};
 
 use std::string::String;
+
+/// What the words ask.
+#[derive(Clone, Copy)]
+pub(crate) enum Command<'a> {
+    /// To unify the two sides of a problem.
+    Unify(&'a [u8]),
+}
 
 // Whether the word would be an option: it begins with a dash and is longer.
 #[tactic(auto, unfolding(crate::specs::Words::is_option))]
@@ -12,16 +19,18 @@ fn is_option_word(word: &[u8]) -> bool
     word.starts_with(b"-") && word.len() >= 2
 }
 
-// The problem that the words ask to unify.
-pub(crate) fn problem(words: &[String]) -> Option<&[u8]>
-    ensures { MatchOption result (problem_word (map string_bytes words.now) ≡ None) (λ problem. problem_word (map string_bytes words.now) ≡ Some problem.now) }
+// The command that the words are.
+pub(crate) fn read_command(words: &[String]) -> Option<Command<'_>>
+    ensures { MatchOption result
+        (command_of (map string_bytes words.now) ≡ None)
+        (λ command. command_of (map string_bytes words.now) ≡ Some (meant command)) }
 {
     if words.len() != 2 {
         return None;
     }
     let problem = words[1].as_bytes();
     if words[0].as_bytes() == b"unify".as_slice() && !is_option_word(problem) {
-        Some(problem)
+        Some(Command::Unify(problem))
     } else {
         None
     }

@@ -3,8 +3,8 @@ ghost use Rattle.std.specs.Prelude.{◌≡◌, ℕ, ◌+◌, ◌<◌, ◌≤◌,
 ghost use Rattle.fvn_terms.specs.Term.{Term, pack};
 ghost use Rattle.fvn_terms.specs.Substitution.{Substitution, apply};
 ghost use Rattle.fvn_tool.specs.declared.free.table.Application.{Application};
-ghost use Rattle.fvn_tool.specs.FreeTable.{count, subterm, over, IsAt, IsOrdered};
-ghost use Rattle.fvn_tool.specs.FreeClasses.{
+ghost use Rattle.fvn_tool.specs.inner.FreeTable.{count, subterm, over, IsAt, IsOrdered};
+ghost use Rattle.fvn_tool.specs.inner.FreeClasses.{
   class_of,
   IsPartition,
   AreAlike,
@@ -18,7 +18,7 @@ ghost use Rattle.fvn_tool.specs.FreeClasses.{
   IsCoarser,
   AreClassesOf,
 };
-ghost use Rattle.fvn_tool.specs.FreeCompared.{OnAlike, OnUnlike, IfApart};
+ghost use Rattle.fvn_tool.specs.inner.FreeCompared.{OnAlike, OnUnlike, IfApart};
 
 use crate::free::table::{Application, Table};
 use fvn_terms::NoMemory;

@@ -4,7 +4,7 @@ ghost use Rattle.fvn_terms.specs.Plain.{term, terms};
 ghost use Rattle.fvn_terms.specs.Substitution.{value, apply_all};
 ghost use Rattle.fvn_module.specs.ModuleText.{the_sort};
 ghost use Rattle.fvn_tool.specs.Free.{variables_of, variables_among, AreNumbered};
-ghost use Rattle.fvn_tool.specs.FreeNumbering.{is_among, noted, numbered_from, AreRenamed};
+ghost use Rattle.fvn_tool.specs.inner.FreeNumbering.{is_among, noted, numbered_from, AreRenamed};
 
 use fvn_base::Seq;
 use fvn_terms::{Args, NoMemory, Plain, PlainSubst, SortId, Var};

@@ -9,7 +9,7 @@ ghost use Rattle.fvn_terms.specs.Substitution.{Occurs, OccursAmong};
 ghost use Rattle.fvn_module.specs.ModuleText.{the_kind};
 ghost use Rattle.fvn_module.specs.Facts.{IsFirstForm};
 ghost use Rattle.fvn_tool.specs.Free.{ListsVariables};
-ghost use Rattle.fvn_tool.specs.FreeTable.{count, subterm, IsOrdered, Extends, HaveKind, EachHasKind, IsTableOf};
+ghost use Rattle.fvn_tool.specs.inner.FreeTable.{count, subterm, IsOrdered, Extends, HaveKind, EachHasKind, IsTableOf};
 
 use fvn_terms::{Args, NoMemory, OpId, Plain, Var};
 use std::alloc::Global;

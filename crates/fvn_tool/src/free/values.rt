@@ -20,9 +20,9 @@ ghost use Rattle.std.specs.Prelude.{
 ghost use Rattle.std.specs.Bool.{OnTrue, OnFalse};
 ghost use Rattle.fvn_terms.specs.Term.{nodes, nodes_all};
 ghost use Rattle.fvn_terms.specs.Plain.{term, terms};
-ghost use Rattle.fvn_tool.specs.FreeTable.{count, IsAt, IsOrdered};
-ghost use Rattle.fvn_tool.specs.FreeClasses.{class_of, IsPartition};
-ghost use Rattle.fvn_tool.specs.FreeValues.{
+ghost use Rattle.fvn_tool.specs.inner.FreeTable.{count, IsAt, IsOrdered};
+ghost use Rattle.fvn_tool.specs.inner.FreeClasses.{class_of, IsPartition};
+ghost use Rattle.fvn_tool.specs.inner.FreeValues.{
   AreValues,
   HasLargeValue,
   HaveLargeValues,

@@ -1,6 +1,6 @@
 -- Each column so far that may not be zero can be filled.
 use Rattle.std.proofs.Common.{◌≡◌, ℕ, ◌<◌, false, true, slice_index_or}
-use Rattle.fvn_acunify.specs.Prefix.{CanBeFilled}
+use Rattle.fvn_acunify.specs.inner.Prefix.{CanBeFilled}
 use Rattle.fvn_acunify.proofs.prefix.are_columns_open.Given as goal
 
 abbrev pub invariant-loop-j : goal.invariant-loop-j

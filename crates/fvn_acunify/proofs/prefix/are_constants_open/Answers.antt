@@ -2,7 +2,7 @@
 use Rattle.std.proofs.Common.{refl, sym}
 use Rattle.std.proofs.lemmas.List.{take_all}
 use Rattle.std.proofs.lemmas.List.Elements.{All-more, All-same}
-use Rattle.fvn_acunify.specs.Prefix.{CanBeOne}
+use Rattle.fvn_acunify.specs.inner.Prefix.{CanBeOne}
 use Rattle.fvn_acunify.proofs.prefix.are_constants_open.Goals as goal
 
 pub loop-c-preserved : goal.loop-c-preserved

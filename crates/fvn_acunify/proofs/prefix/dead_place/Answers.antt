@@ -2,7 +2,7 @@
 use Rattle.std.proofs.Common.{◌≡◌, ℕ, ◌+◌, ◌-◌, length, take, slice_index, ap, ◌∙◌, subst, arith}
 use Rattle.std.proofs.lemmas.Bool.{iff_false}
 use Rattle.std.proofs.lemmas.List.{take_all}
-use Rattle.fvn_acunify.specs.Prefix.{IsOpen}
+use Rattle.fvn_acunify.specs.inner.Prefix.{IsOpen}
 use Rattle.fvn_acunify.proofs.Prefixes.{IsWalked, IsWalked-start, IsWalked-taken, IsWalked-skipped, dead-from_closed, dead-from_touched, valid-from_open, part-le, get_or-zeros}
 use Rattle.fvn_acunify.proofs.prefix.dead_place.Goals as goal
 use Rattle.fvn_acunify.proofs.prefix.dead_place.Goals.{After-is_open-in-loop-place, then-number-place-eq1+else-touches_two, else-number-place-eq1}

@@ -1,6 +1,6 @@
 -- The walk came so far, and every column can still get what is asked.
 use Rattle.std.proofs.Common.{take}
-use Rattle.fvn_acunify.specs.Prefix.{IsOpen}
+use Rattle.fvn_acunify.specs.inner.Prefix.{IsOpen}
 use Rattle.fvn_acunify.proofs.Prefixes.{IsWalked}
 use Rattle.fvn_acunify.proofs.prefix.dead_place.Given as goal
 

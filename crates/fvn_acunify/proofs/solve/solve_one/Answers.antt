@@ -3,7 +3,7 @@ use Rattle.std.proofs.Common.{◌≡◌, ◌↔◌, ℕ, ◌^◌, List, length, 
 use Rattle.std.proofs.lemmas.Result.{IfOk-weaker, IfErr-at_err, err_from_is_err_and}
 use Rattle.fvn_lindio.specs.Systems.{IsMinimal, rows_of, vectors_of}
 use Rattle.fvn_acunify.specs.Cursor.{Cursor}
-use Rattle.fvn_acunify.specs.Prefix.{IsBounded}
+use Rattle.fvn_acunify.specs.inner.Prefix.{IsBounded}
 use Rattle.fvn_acunify.specs.declared.theory.OneFault.TheVariants.{NoMemory}
 use Rattle.fvn_acunify.proofs.RefusalLemmas.{refused-from_err, refused-from_ok, IsBounded-from_minimal}
 use Rattle.fvn_acunify.proofs.solve.solve_one.Goals as goal

@@ -1,3 +1,4 @@
+-- The law `instances_have_lower_sorts`, by its lemma.
 use Rattle.fvn_forms.proofs.LeastSort.{inst_lowers}
 use Rattle.fvn_forms.proofs.laws.instances_have_lower_sorts.Goals as goal
 

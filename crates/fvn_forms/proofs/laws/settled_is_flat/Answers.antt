@@ -1,3 +1,4 @@
+-- The law `settled_is_flat`, by its lemma.
 use Rattle.fvn_forms.proofs.Eval.{settled_iff_flat}
 use Rattle.fvn_forms.proofs.laws.settled_is_flat.Goals as goal
 

@@ -1,7 +1,7 @@
 -- None so far has such a component.
 use Rattle.std.proofs.Common.{◌≤◌, take}
 use Rattle.std.specs.List.{All}
-use Rattle.fvn_lindio.specs.Generators.{vectors_in}
+use Rattle.fvn_lindio.specs.inner.Generators.{vectors_in}
 use Rattle.fvn_lindio.proofs.answer.is_wide.Given as goal
 
 abbrev pub invariant-loop-v : goal.invariant-loop-v

@@ -1,7 +1,7 @@
 -- Each vector has small components.
 use Rattle.std.proofs.Common.{◌≤◌}
 use Rattle.std.specs.List.{All}
-use Rattle.fvn_lindio.proofs.ListSteps.{all_mapped_at}
+use Rattle.fvn_base.proofs.MappedLists.{all_mapped_at}
 use Rattle.fvn_lindio.proofs.answer.solutions_of.Goals as goal
 
 pub solution_of-requires : goal.solution_of-requires

@@ -1,6 +1,6 @@
 -- The columns so far.
 use Rattle.std.proofs.Common.{length}
-use Rattle.fvn_lindio.specs.Generators.{Adds, IsNewUnitBelow}
+use Rattle.fvn_lindio.specs.inner.Generators.{Adds, IsNewUnitBelow}
 use Rattle.fvn_lindio.specs.Systems.{coefficients_of}
 use Rattle.fvn_lindio.proofs.generators.add_units.Given as goal
 

@@ -1,7 +1,7 @@
 -- Known vectors and units of new columns are what the row is searched with.
 use Rattle.std.proofs.Common.{◌≡◌, length, refl}
 use Rattle.std.proofs.lemmas.List.Elements.{All-map}
-use Rattle.fvn_lindio.specs.Generators.{vectors_in}
+use Rattle.fvn_lindio.specs.inner.Generators.{vectors_in}
 use Rattle.fvn_lindio.specs.Systems.{coefficients_of}
 use Rattle.fvn_lindio.proofs.GeneratorLemmas.{generates_from}
 use Rattle.fvn_lindio.proofs.generators.generators.Goals as goal

@@ -2,7 +2,7 @@
 use Rattle.std.proofs.Common.{pos, get_or, refl, of_z, w32, ap, sym, ◌∙◌, FitsSigned, rules}
 use Rattle.fvn_lindio.proofs.ValueLemmas.{zero_read}
 use Rattle.fvn_lindio.proofs.GeneratorLemmas.{ZeroIn}
-use Rattle.fvn_lindio.proofs.ListSteps.{all_mapped_more, all_mapped_all, all_mapped_at}
+use Rattle.fvn_base.proofs.MappedLists.{all_mapped_more, all_mapped_all, all_mapped_at}
 use Rattle.fvn_lindio.proofs.generators.is_unused.Goals as goal
 
 pub returns-then-as_slice-column-ne0 : goal.returns-then-as_slice-column-ne0

@@ -1,8 +1,8 @@
 -- One vector more.
 use Rattle.std.proofs.Common.{ℕ, List, length, ◌≤◌, ◌∙◌}
 use Rattle.std.specs.List.{All}
-use Rattle.fvn_lindio.specs.Generators.{IsRow, vectors_in}
-use Rattle.fvn_lindio.proofs.ListSteps.{all_mapped_at}
+use Rattle.fvn_lindio.specs.inner.Generators.{IsRow, vectors_in}
+use Rattle.fvn_base.proofs.MappedLists.{all_mapped_at}
 use Rattle.fvn_lindio.proofs.GeneratorLemmas.{known_more}
 use Rattle.fvn_lindio.proofs.generators.known_points.Goals as goal
 

@@ -1,8 +1,8 @@
 -- A vector with no other below it is put in.
 use Rattle.std.proofs.Common.{◌≡◌, ◌↔◌, ◌⊎◌, List, ℕ, subst, ◌∙◌}
 use Rattle.std.specs.List.{Contains}
-use Rattle.fvn_lindio.specs.Generators.{vectors_in}
-use Rattle.fvn_lindio.specs.Least.{HasOther}
+use Rattle.fvn_lindio.specs.inner.Generators.{vectors_in}
+use Rattle.fvn_lindio.specs.inner.Least.{HasOther}
 use Rattle.fvn_lindio.proofs.LeastLemmas.{consider_kept, not_false}
 use Rattle.fvn_lindio.proofs.least.consider.Goals as goal
 

@@ -1,7 +1,7 @@
 -- The vector stands at its place.
 use Rattle.std.proofs.Common.{subst}
-use Rattle.fvn_lindio.specs.Generators.{vectors_in}
-use Rattle.fvn_lindio.specs.Least.{IsPlace, StandsAt}
+use Rattle.fvn_lindio.specs.inner.Generators.{vectors_in}
+use Rattle.fvn_lindio.specs.inner.Least.{IsPlace, StandsAt}
 use Rattle.fvn_lindio.proofs.LeastLemmas.{insert_ordered, insert_exact, not_false}
 use Rattle.fvn_lindio.proofs.least.insert.Goals as goal
 

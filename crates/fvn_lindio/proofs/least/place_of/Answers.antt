@@ -1,9 +1,9 @@
 -- One vector more stands before.
 use Rattle.std.proofs.Common.{◌≡◌, length, ◌∙◌, sym, subst, refl, arith}
 use Rattle.std.proofs.lemmas.List.{length-map}
-use Rattle.fvn_lindio.specs.Vectors.{IsBefore}
-use Rattle.fvn_lindio.specs.Generators.{vectors_in}
-use Rattle.fvn_lindio.proofs.ListSteps.{all_mapped_at}
+use Rattle.fvn_base.specs.Order.{IsBefore}
+use Rattle.fvn_lindio.specs.inner.Generators.{vectors_in}
+use Rattle.fvn_base.proofs.MappedLists.{all_mapped_at}
 use Rattle.fvn_lindio.proofs.LeastLemmas.{vector_at, earlier_more}
 use Rattle.fvn_lindio.proofs.least.place_of.Goals as goal
 

@@ -4,9 +4,9 @@ use Rattle.std.specs.List.{All, Contains}
 use Rattle.std.proofs.lemmas.List.{nil_from_length}
 use Rattle.std.proofs.lemmas.Grind.{common_steps}
 use Rattle.fvn_lindio.specs.Systems.{above, below}
-use Rattle.fvn_lindio.specs.Levels.{CanAdd, GrowsAnew, IsAt, IsStepFrom, CoversStepsFrom, IsCovered}
-use Rattle.fvn_lindio.specs.Generators.{vectors_in}
-use Rattle.fvn_lindio.specs.Least.{IsLeast, IsUniform}
+use Rattle.fvn_lindio.specs.inner.Levels.{CanAdd, GrowsAnew, IsAt, IsStepFrom, CoversStepsFrom, IsCovered}
+use Rattle.fvn_lindio.specs.inner.Generators.{vectors_in}
+use Rattle.fvn_lindio.specs.inner.Least.{IsLeast, IsUniform}
 use Rattle.fvn_lindio.specs.declared.level.Point.{Point}
 use Rattle.fvn_lindio.proofs.Trails.{going_first, going_more, going_can_add, going_uniform, going_exact}
 use Rattle.fvn_lindio.proofs.rows.extended.Goals as goal

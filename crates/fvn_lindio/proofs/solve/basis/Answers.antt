@@ -4,7 +4,7 @@ use Rattle.std.specs.List.{All, Any, Contains}
 use Rattle.std.proofs.lemmas.List.{length-map, take_all}
 use Rattle.fvn_lindio.specs.Systems.{IsMinimal, rows_of, vectors_of}
 use Rattle.fvn_lindio.specs.Refusals.{IsTooMany, IsTooWide}
-use Rattle.fvn_lindio.specs.Generators.{vectors_in}
+use Rattle.fvn_lindio.specs.inner.Generators.{vectors_in}
 use Rattle.fvn_lindio.proofs.Prefixes.{IsDone, IsReached, done_none, done_more, refused_many, refused_wide}
 use Rattle.fvn_lindio.proofs.SystemLemmas.{IsRowAt, row_allowed, before_sized, known_before, basis_after, within_coefficients, many_by_many, wide_by_many, many_by_wide, wide_by_wide, many_by_none, wide_by_none}
 use Rattle.fvn_lindio.proofs.solve.basis.Goals as goal

@@ -2,7 +2,7 @@
 use Rattle.std.proofs.Common.{◌≡◌, ◌≤◌, length, sym, subst, ◌∙◌}
 use Rattle.std.specs.Prelude.{unsigned_abs}
 use Rattle.std.specs.List.{All}
-use Rattle.fvn_lindio.proofs.ListSteps.{all_mapped_more, all_mapped_all}
+use Rattle.fvn_base.proofs.MappedLists.{all_mapped_more, all_mapped_all}
 use Rattle.fvn_lindio.proofs.tests.are_rows.Goals as goal
 
 pub loop-row-preserved : goal.loop-row-preserved

@@ -1,6 +1,6 @@
 -- What is left of both decides.
 use Rattle.std.proofs.Common.{◌↔◌, drop}
-use Rattle.fvn_lindio.specs.Vectors.{IsBefore}
+use Rattle.fvn_base.specs.Order.{IsBefore}
 use Rattle.fvn_lindio.proofs.vector.is_before.Given as goal
 
 abbrev pub invariant-loop-i : goal.invariant-loop-i

@@ -1,7 +1,7 @@
 -- One coefficient more, in numbers that fit.
 use Rattle.std.proofs.Common.{ℤ, pos, ◌≤◌, ◌*◌, ◌+◌, get_or, take, sym, subst, arith}
 use Rattle.fvn_lindio.specs.Systems.{above, below}
-use Rattle.fvn_lindio.specs.Search.{IsValue}
+use Rattle.fvn_lindio.specs.inner.Search.{IsValue}
 use Rattle.fvn_lindio.proofs.ValueLemmas.{value-more, value-more_size, value_read}
 use Rattle.fvn_lindio.proofs.vector.value_at.Goals as goal
 

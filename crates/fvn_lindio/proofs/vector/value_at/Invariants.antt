@@ -1,7 +1,7 @@
 -- The value of the coefficients so far, and how large it can be.
 use Rattle.std.proofs.Common.{◌≤◌, ◌*◌, take}
 use Rattle.fvn_lindio.specs.Systems.{above, below}
-use Rattle.fvn_lindio.specs.Search.{IsValue}
+use Rattle.fvn_lindio.specs.inner.Search.{IsValue}
 use Rattle.fvn_lindio.proofs.vector.value_at.Given as goal
 
 abbrev pub invariant-loop-i : goal.invariant-loop-i

@@ -4,7 +4,7 @@ use Rattle.std.specs.List.{Contains}
 use Rattle.std.proofs.lemmas.Bool.{false≢true}
 use Rattle.fvn_sorts.specs.declared.collected.Declaration.{Declaration}
 use Rattle.fvn_sorts.specs.Collected.{declarations_of, same_op}
-use Rattle.fvn_forms.proofs.Among.{contains_filter}
+use Rattle.fvn_base.proofs.Membership.{contains_filter}
 use Rattle.fvn_sorts.proofs.Operators.{same_op-self}
 use Rattle.fvn_sorts.proofs.ShapeLemmas.{differ_from_first, none_differ, same_axioms}
 use Rattle.fvn_sorts.proofs.shapes.axioms_differ.Goals as goal

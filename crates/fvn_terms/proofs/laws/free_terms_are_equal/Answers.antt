@@ -1,3 +1,4 @@
+-- The law `free_terms_are_equal`, by its lemma.
 use Rattle.fvn_terms.proofs.Free.{BEqual-free}
 use Rattle.fvn_terms.proofs.laws.free_terms_are_equal.Goals as goal
 

@@ -1,3 +1,4 @@
+-- What the loops of `copy` keep.
 use Rattle.std.proofs.Common.{◌≡◌, take}
 use Rattle.fvn_terms.proofs.plain.+copy.Given as goal
 

@@ -1,3 +1,4 @@
+-- The steps of `same` that the check leaves open.
 use Rattle.std.proofs.Common.{arith, ◌≡◌, ap, sym, ◌∙◌}
 use Rattle.fvn_terms.specs.Plain.{terms}
 use Rattle.fvn_terms.proofs.Plains.{terms-injective, terms_length}

@@ -1,3 +1,4 @@
+-- What the loops of `same` keep.
 use Rattle.std.proofs.Common.{◌≡◌, ◌↔◌, length}
 use Rattle.fvn_terms.proofs.plain.+same.Given as goal
 

@@ -1,3 +1,4 @@
+-- The steps of `size` that the check leaves open.
 use Rattle.std.proofs.Common.{arith}
 use Rattle.fvn_terms.proofs.Plains.{nodes_all-take_more}
 use Rattle.fvn_terms.proofs.plain.+size.Goals as goal

@@ -1,3 +1,4 @@
+-- What the loops of `size` keep.
 use Rattle.std.proofs.Common.{◌≡◌, ◌-◌, ◌^◌, take, min}
 use Rattle.fvn_terms.specs.Term.{nodes_all}
 use Rattle.fvn_terms.specs.Plain.{terms}

@@ -1,3 +1,4 @@
+-- What `solve` promises and requires, where the search does not find it.
 use Rattle.std.proofs.Common.{◌∙◌}
 use Rattle.fvn_tool.proofs.Printing.{no_lines, no_lines_bound}
 use Rattle.fvn_tool.proofs.Answers.{asked_problem, asked_form, asked_variables, solved_answer, nothing_answer, ended_answer}

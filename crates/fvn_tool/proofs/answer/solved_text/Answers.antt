@@ -1,3 +1,4 @@
+-- What `solved_text` promises and requires, where the search does not find it.
 use Rattle.std.proofs.Common.{◌++◌, ◌∙◌, ap, codes, map}
 use Rattle.fvn_tool.specs.Lines.{bindings_line}
 use Rattle.fvn_tool.specs.Spellings.{spelling}

@@ -1,3 +1,4 @@
+-- What `unify` promises and requires, where the search does not find it.
 use Rattle.std.proofs.Common.{map, ◌∙◌, ap, arith}
 use Rattle.fvn_terms.specs.declared.plain.Var.{Var}
 use Rattle.fvn_terms.specs.declared.plain.Plain.{Plain}

@@ -1,3 +1,4 @@
+-- What `push_term` promises and requires, where the search does not find it.
 use Rattle.std.proofs.Common.{◌∙◌, arith}
 use Rattle.fvn_tool.specs.Spellings.{spelling}
 use Rattle.fvn_tool.proofs.Printing.{printed-arguments}

@@ -1,3 +1,4 @@
+-- What holds at each turn of the loops of `push_term`, and what falls.
 use Rattle.std.proofs.Common.{◌≡◌, drop}
 use Rattle.fvn_terms.specs.Plain.{terms}
 use Rattle.fvn_tool.specs.Lines.{with_each}

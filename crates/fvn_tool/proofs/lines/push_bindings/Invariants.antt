@@ -1,3 +1,4 @@
+-- What holds at each turn of the loops of `push_bindings`, and what falls.
 use Rattle.std.proofs.Common.{◌≡◌, drop, map, true}
 use Rattle.fvn_terms.specs.Plain.{term}
 use Rattle.fvn_tool.specs.Lines.{with_bindings}

@@ -1,11 +1,12 @@
+-- What `conclude` promises and requires, where the search does not find it.
 use Rattle.std.proofs.Common.{subst}
 use Rattle.fvn_tool.specs.Texts.{bytes_of}
-use Rattle.fvn_tool.specs.Outcomes.{IsSpoken}
+use Rattle.fvn_tool.specs.Statuses.{IsSpoken}
 use Rattle.fvn_tool.proofs.Outcomes.{outcome_spoken, leaves_whole, spoken_not_silent}
 use Rattle.fvn_tool.proofs.top.conclude.Goals as goal
 
 pub returns-in-Ok-write_all-clause-outcome : goal.returns-in-Ok-write_all-clause-outcome
-returns-in-Ok-write_all-clause-outcome g c = leaves_whole _ c.in-Ok.answer.status (bytes_of c.in-Ok.answer.text) _ _ (outcome_spoken c.in-Ok.ensures.outcome) c.in-Ok.ensures.outcome (rw (← c.as_slice.ensures) c.in-Ok-write_all.ensures.ok)
+returns-in-Ok-write_all-clause-outcome g c = leaves_whole _ c.in-Ok.answer.status (bytes_of c.in-Ok.answer.text) _ (outcome_spoken c.in-Ok.ensures.outcome) c.in-Ok.ensures.outcome (rw (← c.as_slice.ensures) c.in-Ok-write_all.ensures.ok)
 
 pub returns-in-Ok-write_all-clause-unwritten : goal.returns-in-Ok-write_all-clause-unwritten
 returns-in-Ok-write_all-clause-unwritten g c h = absurd (spoken_not_silent c.in-Ok.answer.status (outcome_spoken c.in-Ok.ensures.outcome) h)

@@ -1,7 +1,7 @@
 -- The fields stay, the room stays, and every choice still to come is below the number reached.
 use Rattle.std.proofs.Common.{◌≡◌, ℕ, ◌^◌, ◌<◌, ◌≤◌, length}
 use Rattle.fvn_acunify.specs.Cursor.{Pending}
-use Rattle.fvn_acunify.specs.Prefix.{IsBounded}
+use Rattle.fvn_acunify.specs.inner.Prefix.{IsBounded}
 use Rattle.fvn_acunify.proofs.choices.Choices.next.Given as goal
 
 abbrev pub invariant-loop-self : goal.invariant-loop-self

@@ -1,7 +1,7 @@
 -- One generator more, and all of them in the end.
 use Rattle.std.proofs.Common.{◌∙◌, to_z, of_z, w64, FitsSigned, rules}
 use Rattle.std.proofs.lemmas.Int.{to_z-of_z}
-use Rattle.fvn_lindio.specs.Levels.{IsCovered, IsAt}
+use Rattle.fvn_lindio.specs.inner.Levels.{IsCovered, IsAt}
 use Rattle.fvn_lindio.proofs.LevelLemmas.{first_more, each_all, grown_found, grown_ahead}
 use Rattle.fvn_lindio.proofs.level.Level.first.Goals as goal
 

@@ -1,7 +1,7 @@
 -- The generators so far are covered, and no vector stands ahead twice.
 use Rattle.std.proofs.Common.{take}
 use Rattle.std.specs.List.{Contains}
-use Rattle.fvn_lindio.specs.Levels.{Grows, IsAt, IsCovered, IsOnce}
+use Rattle.fvn_lindio.specs.inner.Levels.{Grows, IsAt, IsCovered, IsOnce}
 use Rattle.fvn_lindio.specs.declared.level.Point.{Point}
 use Rattle.fvn_lindio.proofs.level.Level.first.Given as goal
 

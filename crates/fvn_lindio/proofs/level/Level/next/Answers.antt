@@ -1,6 +1,6 @@
 -- One vector more, and all of them in the end.
 use Rattle.std.proofs.Common.{refl, subst}
-use Rattle.fvn_lindio.specs.Levels.{CoversSteps, CoversStepsFrom, Grows, IsStepFrom}
+use Rattle.fvn_lindio.specs.inner.Levels.{CoversSteps, CoversStepsFrom, Grows, IsStepFrom}
 use Rattle.fvn_lindio.proofs.LevelLemmas.{step_more, each_all, anew, can_add_read}
 use Rattle.fvn_lindio.proofs.level.Level.next.Goals as goal
 

@@ -1,6 +1,6 @@
 -- The steps from the vectors so far are covered, and no vector stands ahead twice.
 use Rattle.std.proofs.Common.{take}
-use Rattle.fvn_lindio.specs.Levels.{Grows, IsOnce, IsStepFrom, CoversStepsFrom}
+use Rattle.fvn_lindio.specs.inner.Levels.{Grows, IsOnce, IsStepFrom, CoversStepsFrom}
 use Rattle.fvn_lindio.proofs.level.Level.next.Given as goal
 
 abbrev pub invariant-loop-x : goal.invariant-loop-x

@@ -3,9 +3,9 @@ use Rattle.std.proofs.Common.{◌≡◌, ◌∙◌, ℤ, ◌+ℤ◌, to_z, of_z,
 use Rattle.std.proofs.lemmas.Int.{to_z-of_z}
 use Rattle.fvn_lindio.proofs.LevelLemmas.{Grows-step_by}
 use Rattle.fvn_lindio.proofs.ValueLemmas.{sum_read}
-use Rattle.fvn_lindio.specs.Levels.{IsCovered}
+use Rattle.fvn_lindio.specs.inner.Levels.{IsCovered}
 use Rattle.fvn_lindio.specs.Vectors.{add}
-use Rattle.fvn_lindio.specs.Search.{IsOpposite}
+use Rattle.fvn_lindio.specs.inner.Search.{IsOpposite}
 use Rattle.fvn_lindio.proofs.level.Level.step_by.Goals as goal
 
 -- what is let in is the sum

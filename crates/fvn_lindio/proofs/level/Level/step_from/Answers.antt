@@ -1,6 +1,6 @@
 -- One generator more.
-use Rattle.fvn_lindio.specs.Search.{IsOpposite}
-use Rattle.fvn_lindio.specs.Levels.{IsCovered}
+use Rattle.fvn_lindio.specs.inner.Search.{IsOpposite}
+use Rattle.fvn_lindio.specs.inner.Levels.{IsCovered}
 use Rattle.fvn_lindio.specs.Vectors.{add}
 use Rattle.fvn_lindio.proofs.LevelLemmas.{step_from_more, each_all}
 use Rattle.fvn_lindio.proofs.level.Level.step_from.Goals as goal

@@ -1,6 +1,6 @@
 -- The steps by the generators so far are covered, and no vector stands ahead twice.
 use Rattle.std.proofs.Common.{take}
-use Rattle.fvn_lindio.specs.Levels.{Grows, IsOnce, IsStep, CoversSteps}
+use Rattle.fvn_lindio.specs.inner.Levels.{Grows, IsOnce, IsStep, CoversSteps}
 use Rattle.fvn_lindio.proofs.level.Level.step_from.Given as goal
 
 abbrev pub invariant-loop-g : goal.invariant-loop-g

@@ -1,3 +1,4 @@
+-- The steps of `apply` that the check leaves open.
 use Rattle.fvn_terms.specs.Substitution.{value}
 use Rattle.fvn_terms.proofs.Plains.{apply_all-take_more}
 use Rattle.fvn_terms.proofs.substitution.PlainSubst.+apply.Goals as goal

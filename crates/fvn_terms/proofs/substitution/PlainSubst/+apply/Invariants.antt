@@ -1,3 +1,4 @@
+-- What the loops of `apply` keep.
 use Rattle.std.proofs.Common.{◌≡◌, take}
 use Rattle.fvn_terms.specs.Plain.{terms}
 use Rattle.fvn_terms.specs.Substitution.{value, apply_all}

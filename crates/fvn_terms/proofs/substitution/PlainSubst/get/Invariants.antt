@@ -1,3 +1,4 @@
+-- What the loops of `get` keep.
 use Rattle.std.proofs.Common.{◌≡◌, drop}
 use Rattle.fvn_terms.specs.Substitution.{bound}
 use Rattle.fvn_terms.proofs.substitution.PlainSubst.get.Given as goal

@@ -1,3 +1,4 @@
+-- What `classes_of` promises and requires, where the search does not find it.
 use Rattle.std.proofs.Common.{Option, Some, None, IfSome}
 use Rattle.fvn_tool.proofs.FreeClasses.{IfNone_then}
 use Rattle.fvn_tool.proofs.free.classes.classes_of.Goals as goal

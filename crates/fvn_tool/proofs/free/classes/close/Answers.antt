@@ -1,7 +1,8 @@
+-- What `close` promises and requires, where the search does not find it.
 use Rattle.std.proofs.Common.{◌≡◌, ◌<◌, ℕ, List, length, sum, arith, sym, ap, ◌∙◌, subst}
 use Rattle.std.proofs.lemmas.List.{with_items_is}
 use Rattle.std.specs.Vec.{with_items}
-use Rattle.fvn_tool.specs.FreeClasses.{IsClosed, IsPartition, IsCoarser, MakesEqual, MustMeet, IsImpossible, united}
+use Rattle.fvn_tool.specs.inner.FreeClasses.{IsClosed, IsPartition, IsCoarser, MakesEqual, MustMeet, IsImpossible, united}
 use Rattle.fvn_tool.proofs.FreeClasses.{IsPartition-united, IsCoarser-united, MakesEqual-united, sum-united}
 use Rattle.fvn_tool.proofs.free.classes.close.Goals as goal
 

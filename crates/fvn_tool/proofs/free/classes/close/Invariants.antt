@@ -1,6 +1,7 @@
+-- What holds at each turn of the loops of `close`, and what falls.
 use Rattle.std.proofs.Common.{sum}
 use Rattle.fvn_terms.specs.Substitution.{Substitution}
-use Rattle.fvn_tool.specs.FreeClasses.{IsPartition, IsCoarser, MakesEqual}
+use Rattle.fvn_tool.specs.inner.FreeClasses.{IsPartition, IsCoarser, MakesEqual}
 use Rattle.fvn_tool.proofs.free.classes.close.Given as goal
 
 abbrev pub invariant-rounds : goal.invariant-rounds

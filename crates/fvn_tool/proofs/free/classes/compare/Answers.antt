@@ -1,7 +1,8 @@
+-- What `compare` promises and requires, where the search does not find it.
 use Rattle.std.proofs.Common.{◌≡◌, Bool, true, false, not, nat_eq, refl, ◌<◌, length, get_or, arith, sym, ap, ◌∙◌}
 use Rattle.std.proofs.lemmas.Bool.{eq-eqb, eqb-true}
 use Rattle.fvn_terms.specs.declared.plain.OpId.{OpId}
-use Rattle.fvn_tool.specs.FreeClasses.{class_of}
+use Rattle.fvn_tool.specs.inner.FreeClasses.{class_of}
 use Rattle.fvn_tool.proofs.FreeClasses.{Clash-op, Clash-length, AreForced-at, AreAlike-from}
 use Rattle.fvn_tool.proofs.free.classes.compare.Goals as goal
 use Rattle.fvn_tool.proofs.free.classes.compare.Goals.{then-ne-via-then-ne, then-ne-via-else-ne+then-left-right}

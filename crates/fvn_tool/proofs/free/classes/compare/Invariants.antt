@@ -1,5 +1,6 @@
+-- What holds at each turn of the loops of `compare`, and what falls.
 use Rattle.std.proofs.Common.{◌≡◌, ◌<◌, ℕ, get_or}
-use Rattle.fvn_tool.specs.FreeClasses.{class_of}
+use Rattle.fvn_tool.specs.inner.FreeClasses.{class_of}
 use Rattle.fvn_tool.proofs.free.classes.compare.Given as goal
 
 -- the arguments so far are in the same classes

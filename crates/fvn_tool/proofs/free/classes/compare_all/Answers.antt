@@ -1,3 +1,4 @@
+-- What `compare_all` promises and requires, where the search does not find it.
 use Rattle.std.proofs.Common.{◌+◌, length, arith, inl, inr}
 use Rattle.std.proofs.lemmas.Bool.{cases_lt}
 use Rattle.fvn_tool.proofs.free.classes.compare_all.Goals as goal

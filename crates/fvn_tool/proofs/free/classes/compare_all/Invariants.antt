@@ -1,7 +1,8 @@
+-- What holds at each turn of the loops of `compare_all`, and what falls.
 use Rattle.std.proofs.Common.{◌≡◌, ◌<◌, ◌+◌, ℕ, length}
 use Rattle.fvn_tool.specs.declared.free.table.Application.{Application}
-use Rattle.fvn_tool.specs.FreeTable.{IsAt}
-use Rattle.fvn_tool.specs.FreeClasses.{class_of, AreAlike}
+use Rattle.fvn_tool.specs.inner.FreeTable.{IsAt}
+use Rattle.fvn_tool.specs.inner.FreeClasses.{class_of, AreAlike}
 use Rattle.fvn_tool.proofs.free.classes.compare_all.Given as goal
 
 -- those so far are alike to all of their class

@@ -1,7 +1,8 @@
+-- What `compare_with_all` promises and requires, where the search does not find it.
 use Rattle.std.proofs.Common.{◌≡◌, ◌+◌, length, arith, sym, ap, ◌∙◌, refl, subst, inl, inr}
 use Rattle.std.proofs.lemmas.Bool.{cases_lt}
-use Rattle.fvn_tool.specs.FreeTable.{IsAt}
-use Rattle.fvn_tool.specs.FreeClasses.{class_of, AreAlike}
+use Rattle.fvn_tool.specs.inner.FreeTable.{IsAt}
+use Rattle.fvn_tool.specs.inner.FreeClasses.{class_of, AreAlike}
 use Rattle.fvn_tool.proofs.FreeTables.{IsAt-unique}
 use Rattle.fvn_tool.proofs.FreeClasses.{within-classes, IsImpossible-from, MustMeet-from}
 use Rattle.fvn_tool.proofs.free.classes.compare_with_all.Goals as goal

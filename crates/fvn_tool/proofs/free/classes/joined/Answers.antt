@@ -1,8 +1,9 @@
+-- What `joined` promises and requires, where the search does not find it.
 use Rattle.std.proofs.Common.{◌≡◌, ◌∙◌, ℕ, ◌+◌, ◌<◌, List, length, ap, sym, subst}
 use Rattle.std.proofs.lemmas.List.{with_items_is}
 use Rattle.std.specs.Vec.{with_items}
-use Rattle.fvn_tool.specs.FreeTable.{count}
-use Rattle.fvn_tool.specs.FreeClasses.{class_of, IsPartition, MakesEqual, united}
+use Rattle.fvn_tool.specs.inner.FreeTable.{count}
+use Rattle.fvn_tool.specs.inner.FreeClasses.{class_of, IsPartition, MakesEqual, united}
 use Rattle.fvn_tool.proofs.FreeClasses.{IsPartition-united, MakesEqual-united, united-together, IsPartition-singles, MakesEqual-singles}
 use Rattle.fvn_tool.proofs.free.classes.joined.Goals as goal
 

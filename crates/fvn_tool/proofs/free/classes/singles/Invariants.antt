@@ -1,5 +1,6 @@
+-- What holds at each turn of the loops of `singles`, and what falls.
 use Rattle.std.proofs.Common.{◌≡◌, ◌<◌, ℕ, length}
-use Rattle.fvn_tool.specs.FreeClasses.{class_of}
+use Rattle.fvn_tool.specs.inner.FreeClasses.{class_of}
 use Rattle.fvn_tool.proofs.free.classes.singles.Given as goal
 
 abbrev pub invariant-loop-i : goal.invariant-loop-i

@@ -1,3 +1,4 @@
+-- What `unite` promises and requires, where the search does not find it.
 use Rattle.std.proofs.Common.{sym, ap, ◌∙◌, get_or, set}
 use Rattle.fvn_tool.proofs.FreeClasses.{renamed-same, renamed-other, renamed-step}
 use Rattle.fvn_tool.proofs.free.classes.unite.Goals as goal

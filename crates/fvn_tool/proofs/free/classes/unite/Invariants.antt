@@ -1,3 +1,4 @@
+-- What holds at each turn of the loops of `unite`, and what falls.
 use Rattle.std.proofs.Common.{◌≡◌, ◌++◌, nat_eq, if◌then◌else◌, map, take, drop}
 use Rattle.fvn_tool.proofs.free.classes.unite.Given as goal
 

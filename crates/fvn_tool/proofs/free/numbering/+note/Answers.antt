@@ -1,7 +1,8 @@
+-- What `note` promises and requires, where the search does not find it.
 use Rattle.std.proofs.Common.{◌+◌, drop, sym, ap, ◌∙◌}
 use Rattle.fvn_terms.specs.Plain.{term, terms}
 use Rattle.fvn_tool.specs.Free.{variables_of, variables_among}
-use Rattle.fvn_tool.specs.FreeNumbering.{noted}
+use Rattle.fvn_tool.specs.inner.FreeNumbering.{noted}
 use Rattle.fvn_tool.proofs.FreeTables.{terms-drop_more}
 use Rattle.fvn_tool.proofs.FreeNumbering.{noted-append}
 use Rattle.fvn_tool.proofs.free.numbering.+note.Goals as goal

@@ -1,7 +1,8 @@
+-- What holds at each turn of the loops of `note`, and what falls.
 use Rattle.std.proofs.Common.{◌≡◌, drop}
 use Rattle.fvn_terms.specs.Plain.{terms}
 use Rattle.fvn_tool.specs.Free.{variables_among}
-use Rattle.fvn_tool.specs.FreeNumbering.{noted}
+use Rattle.fvn_tool.specs.inner.FreeNumbering.{noted}
 use Rattle.fvn_tool.proofs.free.numbering.+note.Given as goal
 
 -- the terms that are left add the rest

@@ -1,5 +1,6 @@
+-- What holds at each turn of the loops of `contains`, and what falls.
 use Rattle.std.proofs.Common.{◌≡◌, drop}
-use Rattle.fvn_tool.specs.FreeNumbering.{is_among}
+use Rattle.fvn_tool.specs.inner.FreeNumbering.{is_among}
 use Rattle.fvn_tool.proofs.free.numbering.contains.Given as goal
 
 -- the variables that are left decide

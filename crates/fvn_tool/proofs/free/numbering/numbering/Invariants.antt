@@ -1,5 +1,6 @@
+-- What holds at each turn of the loops of `numbering`, and what falls.
 use Rattle.std.proofs.Common.{◌≡◌, ◌+◌, ◌++◌, drop}
-use Rattle.fvn_tool.specs.FreeNumbering.{numbered_from}
+use Rattle.fvn_tool.specs.inner.FreeNumbering.{numbered_from}
 use Rattle.fvn_tool.proofs.free.numbering.numbering.Given as goal
 
 -- the variables that are left add the rest

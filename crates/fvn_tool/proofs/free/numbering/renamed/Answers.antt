@@ -1,10 +1,11 @@
+-- What `renamed` promises and requires, where the search does not find it.
 use Rattle.std.proofs.Common.{map, ap, ◌∙◌}
 use Rattle.std.proofs.lemmas.Result.{IfOk-weaker}
 use Rattle.fvn_terms.specs.declared.plain.Var.{Var}
 use Rattle.fvn_terms.specs.declared.plain.Plain.{Plain}
 use Rattle.fvn_terms.specs.Plain.{terms}
 use Rattle.fvn_terms.specs.Substitution.{value, apply_all}
-use Rattle.fvn_tool.specs.FreeNumbering.{numbered_from}
+use Rattle.fvn_tool.specs.inner.FreeNumbering.{numbered_from}
 use Rattle.fvn_tool.proofs.FreeNumbering.{AreRenamed-numbered, AreNumbered-renamed}
 use Rattle.fvn_tool.proofs.free.numbering.renamed.Goals as goal
 

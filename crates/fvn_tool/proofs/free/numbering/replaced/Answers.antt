@@ -1,3 +1,4 @@
+-- What `replaced` promises and requires, where the search does not find it.
 use Rattle.std.proofs.Common.{◌≡◌, ◌+◌, List, [], ◌∷◌, ◌++◌, map, take, sym, ap, ◌∙◌}
 use Rattle.std.proofs.lemmas.List.{take_more, map_push}
 use Rattle.fvn_terms.specs.declared.plain.Var.{Var}

@@ -1,3 +1,4 @@
+-- What holds at each turn of the loops of `replaced`, and what falls.
 use Rattle.std.proofs.Common.{◌≡◌, map, take}
 use Rattle.fvn_terms.specs.Plain.{terms}
 use Rattle.fvn_terms.specs.Substitution.{value, apply_all}

@@ -1,10 +1,11 @@
+-- What `seen_in` promises and requires, where the search does not find it.
 use Rattle.std.proofs.Common.{◌+◌, List, ◌∷◌, map, drop, sym, ap, ◌∙◌}
 use Rattle.std.proofs.lemmas.List.{drop_more}
 use Rattle.fvn_terms.specs.declared.plain.Var.{Var}
 use Rattle.fvn_terms.specs.declared.plain.Plain.{Plain}
 use Rattle.fvn_terms.specs.Plain.{term, terms}
 use Rattle.fvn_tool.specs.Free.{variables_of, variables_among}
-use Rattle.fvn_tool.specs.FreeNumbering.{noted}
+use Rattle.fvn_tool.specs.inner.FreeNumbering.{noted}
 use Rattle.fvn_tool.proofs.FreeNumbering.{noted-append}
 use Rattle.fvn_tool.proofs.free.numbering.seen_in.Goals as goal
 

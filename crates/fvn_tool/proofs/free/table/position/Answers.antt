@@ -1,3 +1,4 @@
+-- What `position` promises and requires, where the search does not find it.
 use Rattle.std.proofs.Common.{arith, ◌<◌}
 use Rattle.fvn_tool.proofs.free.table.position.Goals as goal
 

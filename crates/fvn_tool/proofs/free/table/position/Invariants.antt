@@ -1,3 +1,4 @@
+-- What holds at each turn of the loops of `position`, and what falls.
 use Rattle.std.proofs.Common.{◌≡◌, ℕ, ◌<◌, get_or}
 use Rattle.fvn_tool.proofs.free.table.position.Given as goal
 

@@ -1,7 +1,8 @@
+-- What `all_unknown` promises and requires, where the search does not find it.
 use Rattle.std.proofs.Common.{length, arith, ap, ◌∙◌, subst, sym}
 use Rattle.std.proofs.lemmas.List.{length-replicate}
 use Rattle.fvn_tool.specs.declared.free.values.Entry.TheVariants.{Unknown}
-use Rattle.fvn_tool.specs.FreeValues.{IsUnknown}
+use Rattle.fvn_tool.specs.inner.FreeValues.{IsUnknown}
 use Rattle.fvn_tool.proofs.FreeValues.{entry_of-replicate}
 use Rattle.fvn_tool.proofs.free.values.all_unknown.Goals as goal
 

@@ -1,3 +1,4 @@
+-- What holds at each turn of the loops of `all_unknown`, and what falls.
 use Rattle.std.proofs.Common.{◌≡◌}
 use Rattle.std.specs.Prelude.{replicate}
 use Rattle.fvn_tool.specs.declared.free.values.Entry.TheVariants.{Unknown}

@@ -1,3 +1,4 @@
+-- What `add` promises and requires, where the search does not find it.
 use Rattle.std.proofs.Common.{◌≡◌, ◌+◌, ◌<◌, arith, refl, map, sym, ap, ◌∙◌, subst, Contains, All}
 use Rattle.std.proofs.lemmas.List.Elements.{All-push}
 use Rattle.fvn_terms.specs.Term.{nodes_all, pack}
@@ -7,7 +8,7 @@ use Rattle.fvn_terms.specs.Substitution.{Occurs, OccursAmong}
 use Rattle.fvn_module.specs.ModuleText.{the_kind}
 use Rattle.fvn_tool.specs.declared.free.table.Application.{Application}
 use Rattle.fvn_tool.specs.declared.free.table.Table.{Table}
-use Rattle.fvn_tool.specs.FreeTable.{count, subterm}
+use Rattle.fvn_tool.specs.inner.FreeTable.{count, subterm}
 use Rattle.fvn_terms.specs.Falls.{deep_le_nodes}
 use Rattle.fvn_tool.proofs.FreeTables.{nodes-argument, subterm-var, subterm-push, HaveKind-push, Extends-trans, arguments-push, within-Extends, OccursAmong-at, EachHasKind-at, EachHasKind-args}
 use Rattle.fvn_tool.proofs.free.table.Table.+add.Goals as goal

@@ -1,10 +1,11 @@
+-- What holds at each turn of the loops of `add`, and what falls.
 use Rattle.std.proofs.Common.{◌≡◌, ◌<◌, All, map, take}
 use Rattle.fvn_terms.specs.declared.declarations.Declarations.{Declarations}
 use Rattle.fvn_terms.specs.Term.{pack}
 use Rattle.fvn_terms.specs.Plain.{terms}
 use Rattle.fvn_module.specs.ModuleText.{the_kind}
 use Rattle.fvn_module.specs.Facts.{IsFirstForm}
-use Rattle.fvn_tool.specs.FreeTable.{count, subterm, IsOrdered, Extends, HaveKind, EachHasKind}
+use Rattle.fvn_tool.specs.inner.FreeTable.{count, subterm, IsOrdered, Extends, HaveKind, EachHasKind}
 use Rattle.fvn_tool.proofs.free.table.Table.+add.Given as goal
 
 -- the places of the arguments so far, in a table that has grown

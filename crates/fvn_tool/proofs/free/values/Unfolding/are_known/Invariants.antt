@@ -1,6 +1,7 @@
+-- What holds at each turn of the loops of `are_known`, and what falls.
 use Rattle.std.proofs.Common.{◌<◌, ℕ, get_or}
-use Rattle.fvn_tool.specs.FreeClasses.{class_of}
-use Rattle.fvn_tool.specs.FreeValues.{IsKnown}
+use Rattle.fvn_tool.specs.inner.FreeClasses.{class_of}
+use Rattle.fvn_tool.specs.inner.FreeValues.{IsKnown}
 use Rattle.fvn_tool.proofs.free.values.Unfolding.are_known.Given as goal
 
 -- those so far are known

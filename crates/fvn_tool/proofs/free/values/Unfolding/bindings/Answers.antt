@@ -1,3 +1,4 @@
+-- What `bindings` promises and requires, where the search does not find it.
 use Rattle.std.proofs.Common.{◌≡◌, ◌<◌, ◌≤◌, ◌+◌, ℕ, false, List, [], ◌∷◌, ◌++◌, length, map, get_or, take, arith, sym, ap, ◌∙◌, subst, All}
 use Rattle.std.proofs.lemmas.List.{map_push, take_more}
 use Rattle.std.proofs.lemmas.List.Elements.{All-push}
@@ -5,9 +6,9 @@ use Rattle.fvn_terms.specs.declared.plain.Var.{Var}
 use Rattle.fvn_terms.specs.declared.plain.Plain.{Plain}
 use Rattle.fvn_terms.specs.Term.{nodes}
 use Rattle.fvn_terms.specs.Plain.{term, terms}
-use Rattle.fvn_tool.specs.FreeTable.{count}
-use Rattle.fvn_tool.specs.FreeClasses.{class_of}
-use Rattle.fvn_tool.specs.FreeValues.{IsValue, AreValues, IsRight}
+use Rattle.fvn_tool.specs.inner.FreeTable.{count}
+use Rattle.fvn_tool.specs.inner.FreeClasses.{class_of}
+use Rattle.fvn_tool.specs.inner.FreeValues.{IsValue, AreValues, IsRight}
 use Rattle.fvn_tool.proofs.FreeValues.{entry-is, AreValues-more}
 use Rattle.fvn_tool.proofs.free.values.Unfolding.bindings.Goals as goal
 

@@ -1,7 +1,8 @@
+-- What holds at each turn of the loops of `bindings`, and what falls.
 use Rattle.std.proofs.Common.{◌≡◌, ◌≤◌, All, map, take}
 use Rattle.fvn_terms.specs.Term.{nodes}
 use Rattle.fvn_terms.specs.Plain.{term, terms}
-use Rattle.fvn_tool.specs.FreeValues.{AreValues}
+use Rattle.fvn_tool.specs.inner.FreeValues.{AreValues}
 use Rattle.fvn_tool.proofs.free.values.Unfolding.bindings.Given as goal
 
 -- the variables so far with their values

@@ -1,6 +1,7 @@
+-- What holds at each turn of the loops of `entries`, and what falls.
 use Rattle.std.proofs.Common.{◌≡◌, length, count_by}
-use Rattle.fvn_tool.specs.FreeTable.{count}
-use Rattle.fvn_tool.specs.FreeValues.{AreRight, is_unknown}
+use Rattle.fvn_tool.specs.inner.FreeTable.{count}
+use Rattle.fvn_tool.specs.inner.FreeValues.{AreRight, is_unknown}
 use Rattle.fvn_tool.proofs.free.values.Unfolding.entries.Given as goal
 
 abbrev pub invariant-rounds : goal.invariant-rounds

@@ -1,8 +1,9 @@
+-- What `evaluate` promises and requires, where the search does not find it.
 use Rattle.std.proofs.Common.{◌≡◌, ◌<◌, ◌+◌, ◌-◌, length, arith, refl, sym, ap, ◌∙◌, subst, inl, inr}
 use Rattle.std.proofs.lemmas.Bool.{cases_lt}
 use Rattle.std.proofs.lemmas.Result.{IfOk-weaker}
-use Rattle.fvn_tool.specs.FreeClasses.{class_of}
-use Rattle.fvn_tool.specs.FreeValues.{IsRight}
+use Rattle.fvn_tool.specs.inner.FreeClasses.{class_of}
+use Rattle.fvn_tool.specs.inner.FreeValues.{IsRight}
 use Rattle.fvn_tool.proofs.FreeTables.{ApplicationAt, application_at}
 use Rattle.fvn_tool.proofs.FreeValues.{IsRight-free}
 use Rattle.fvn_tool.proofs.free.values.Unfolding.evaluate.Goals as goal

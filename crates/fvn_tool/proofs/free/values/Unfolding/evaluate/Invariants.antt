@@ -1,5 +1,6 @@
+-- What holds at each turn of the loops of `evaluate`, and what falls.
 use Rattle.std.proofs.Common.{◌≡◌, ◌<◌, ◌+◌, ℕ, length}
-use Rattle.fvn_tool.specs.FreeClasses.{class_of}
+use Rattle.fvn_tool.specs.inner.FreeClasses.{class_of}
 use Rattle.fvn_tool.proofs.free.values.Unfolding.evaluate.Given as goal
 
 -- the applications so far are not in the class

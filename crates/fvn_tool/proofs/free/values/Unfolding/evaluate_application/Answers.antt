@@ -1,10 +1,11 @@
+-- What `evaluate_application` promises and requires, where the search does not find it.
 use Rattle.std.proofs.Common.{◌<◌, ◌≤◌, ◌+◌, ◌-◌, length, map, arith, refl, sym, ap, subst}
 use Rattle.std.proofs.Common.{IfSome, IfNone, All}
 use Rattle.fvn_terms.specs.Term.{app, nodes_all}
 use Rattle.fvn_terms.specs.Plain.{terms}
-use Rattle.fvn_tool.specs.FreeTable.{count, IsAt}
-use Rattle.fvn_tool.specs.FreeClasses.{class_of}
-use Rattle.fvn_tool.specs.FreeValues.{AreValues, HaveLargeValues}
+use Rattle.fvn_tool.specs.inner.FreeTable.{count, IsAt}
+use Rattle.fvn_tool.specs.inner.FreeClasses.{class_of}
+use Rattle.fvn_tool.specs.inner.FreeValues.{AreValues, HaveLargeValues}
 use Rattle.fvn_tool.proofs.FreeTables.{before-application}
 use Rattle.fvn_tool.proofs.free.values.Unfolding.evaluate_application.Goals as goal
 

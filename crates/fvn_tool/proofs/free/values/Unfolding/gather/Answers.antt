@@ -1,10 +1,11 @@
+-- What `gather` promises and requires, where the search does not find it.
 use Rattle.std.proofs.Common.{◌+◌, ℕ, length, map, get_or, take, ◌++◌, ◌∷◌, [], arith, refl, sym, ap, ◌∙◌, subst}
 use Rattle.std.proofs.lemmas.List.{map_more}
 use Rattle.fvn_terms.specs.Term.{nodes, nodes_all}
 use Rattle.fvn_terms.specs.Plain.{term, terms}
 use Rattle.fvn_terms.proofs.Plains.{terms-push, nodes_all-push}
-use Rattle.fvn_tool.specs.FreeClasses.{class_of}
-use Rattle.fvn_tool.specs.FreeValues.{IsValue, AreValues, IsRight}
+use Rattle.fvn_tool.specs.inner.FreeClasses.{class_of}
+use Rattle.fvn_tool.specs.inner.FreeValues.{IsValue, AreValues, IsRight}
 use Rattle.fvn_tool.proofs.FreeValues.{entry-is, classes-within, AreValues-more, HaveLargeValues-at}
 use Rattle.fvn_tool.proofs.free.values.Unfolding.gather.Goals as goal
 

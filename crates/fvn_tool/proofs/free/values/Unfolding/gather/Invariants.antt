@@ -1,8 +1,9 @@
+-- What holds at each turn of the loops of `gather`, and what falls.
 use Rattle.std.proofs.Common.{◌≡◌, ◌+◌, map, take}
 use Rattle.fvn_terms.specs.Term.{nodes_all}
 use Rattle.fvn_terms.specs.Plain.{terms}
-use Rattle.fvn_tool.specs.FreeClasses.{class_of}
-use Rattle.fvn_tool.specs.FreeValues.{AreValues}
+use Rattle.fvn_tool.specs.inner.FreeClasses.{class_of}
+use Rattle.fvn_tool.specs.inner.FreeValues.{AreValues}
 use Rattle.fvn_tool.proofs.free.values.Unfolding.gather.Given as goal
 
 -- the values so far, and the room that they leave

@@ -1,7 +1,8 @@
+-- What `next` promises and requires, where the search does not find it.
 use Rattle.std.proofs.Common.{◌≡◌, true, false, arith, sym, ap, ◌∙◌, subst, inl, inr}
 use Rattle.std.proofs.lemmas.Bool.{cases_lt}
-use Rattle.fvn_tool.specs.FreeClasses.{class_of}
-use Rattle.fvn_tool.specs.FreeValues.{IsStuck, IsUnknown, is_unknown}
+use Rattle.fvn_tool.specs.inner.FreeClasses.{class_of}
+use Rattle.fvn_tool.specs.inner.FreeValues.{IsStuck, IsUnknown, is_unknown}
 use Rattle.fvn_tool.proofs.FreeValues.{entry-is}
 use Rattle.fvn_tool.proofs.free.values.Unfolding.next.Goals as goal
 use Rattle.fvn_tool.proofs.free.values.Unfolding.next.Goals.{then-self-class+then-is_unknown+in_ok-entry+else-not-is_unknown, else-self-class, else-self-class-via-then-self-class+else-is_unknown, else-self-class-via-else-self-class}

@@ -1,6 +1,7 @@
+-- What holds at each turn of the loops of `next`, and what falls.
 use Rattle.std.proofs.Common.{◌≡◌, ◌<◌, ℕ}
-use Rattle.fvn_tool.specs.FreeClasses.{class_of}
-use Rattle.fvn_tool.specs.FreeValues.{IsUnknown, IsStuck}
+use Rattle.fvn_tool.specs.inner.FreeClasses.{class_of}
+use Rattle.fvn_tool.specs.inner.FreeValues.{IsUnknown, IsStuck}
 use Rattle.fvn_tool.proofs.free.values.Unfolding.next.Given as goal
 
 -- the classes so far are known or stuck

@@ -1,0 +1,2 @@
+-- What the search for valid choices goes over.
+pub mod Prefix

@@ -1,0 +1,31 @@
+-- What the highest bits of a number tell of every number that begins with them.
+use Rattle.std.specs.Prelude.{◌≡◌, ℕ, ◌/◌, ◌^◌, ◌+◌, ◌<◌, ◌≤◌, Bool, true, false, List, length, slice_index, slice_index_or, All}
+use Rattle.fvn_base.specs.declared.limits.TheConstants.{COMPONENT, MINIMAL_SOLUTIONS}
+use Rattle.fvn_lindio.specs.Systems.{vectors_of}
+use Rattle.fvn_lindio.specs.declared.system.Solution.{Solution}
+use Rattle.fvn_acunify.specs.ValidChoice.{IsValid, column_sum}
+
+-- few solutions, of so many columns and with small components, and constants among these columns
+pub record IsBounded (columns : ℕ) (constants : List ℕ) (basis : List Solution) : Type 0 where
+  pub few : length basis ≤ MINIMAL_SOLUTIONS
+  pub sized : All (λ v. length v.parts ≡ columns) basis
+  pub narrow : All (λ v. All (λ a. a ≤ COMPONENT) v.parts) basis
+  pub among : All (λ c. c < columns) constants
+
+-- no valid choice has the bits of this number from a place on
+abbrev pub IsDead : List ℕ → List Bool → List Solution → ℕ → ℕ → Type 0
+IsDead constants may_be_zero basis number place =
+    (b : ℕ) → b / 2 ^ place ≡ number / 2 ^ place → IsValid constants may_be_zero (vectors_of basis) b → ⊥
+
+-- a column is above zero with its sum and the lower solutions together
+abbrev pub CanBeFilled : List Solution → List ℕ → ℕ → Type 0
+CanBeFilled lower sums j = 0 < slice_index sums j + column_sum j (vectors_of lower)
+
+-- a column has at most 1, and has or can get it
+abbrev pub CanBeOne : List Solution → List ℕ → ℕ → Type 0
+CanBeOne lower sums c = (slice_index sums c ≤ 1) × CanBeFilled lower sums c
+
+-- with these column sums and any of the lower solutions every column can still get what is asked
+pub record IsOpen (constants : List ℕ) (may_be_zero : List Bool) (lower : List Solution) (sums : List ℕ) : Type 0 where
+  pub filled : (j : ℕ) → slice_index_or may_be_zero j true ≡ false → CanBeFilled lower sums j
+  pub once : All (CanBeOne lower sums) constants

@@ -1,0 +1,3 @@
+-- Words that every crate uses.
+pub mod Decided
+pub mod Order

@@ -1,0 +1,2 @@
+-- How the code reads a text.
+pub mod Machine

@@ -1,0 +1,747 @@
+#!/usr/bin/env python3
+"""Writes docs/CONTRACTS.md and docs/DEFINITIONS.md from the sources.
+
+    python3 docs/write.py           writes both
+    python3 docs/write.py --check   fails where the written documents differ from the sources
+    python3 docs/write.py --lint    prints what is missing: comments, first lines, uses, pages of crates, and laws that stand elsewhere
+
+The words come from the sources: the `//!` line of a crate, the `///` line of a call, the `//` comment over
+clauses, the `--` lines over a definition and at the head of a file. To change a document, change them.
+"""
+
+import re
+import sys
+from pathlib import Path
+
+TOP = Path(__file__).resolve().parent.parent
+CRATES = TOP / "crates"
+SHORT = 110  # the longest clause whose text is printed
+TOKEN = re.compile(r"[^\s(){};,.\[\]⟦⟧]+")
+
+CONTRACTS_HEAD = """# Contracts
+
+Crate by crate, what a caller may use: each public call with its clauses. Where a clause is long, the definitions of
+[DEFINITIONS.md](DEFINITIONS.md) that it cites stand in place of its text.
+
+Three things hold everywhere. `result` is what a call returns, and `x.now`, `x.old`, `x.new` are what a reference
+points at. A call that allocates takes the allocator and may answer that memory was refused; no clause says when.
+A law is a call that does nothing and whose contract is a statement about the definitions.
+
+This page is written by `docs/write.py` from the sources.
+"""
+
+DEFINITIONS_HEAD = """# Definitions
+
+What the contracts speak of, crate by crate and file by file. The definitions know nothing of how the program
+computes: they speak of plain terms, of finite lists of steps, and of substitutions that exist. What mirrors the code
+stands in a crate's `specs/inner/` and is not listed.
+
+This page is written by `docs/write.py` from the comments of the sources.
+"""
+
+
+def read(path):
+    return path.read_text(encoding="utf-8")
+
+
+def cell(text):
+    """A text as it may stand in a cell of a table."""
+    return text.replace("|", "\\|")
+
+
+def code(text):
+    """A text in code font."""
+    return "`" + text + "`" if "`" not in text else "`` " + text + " ``"
+
+
+def table(heads, rows):
+    lines = ["| " + " | ".join(heads) + " |", "|" + "---|" * len(heads)]
+    lines += ["| " + " | ".join(cell(c) for c in row) + " |" for row in rows]
+    return "\n".join(lines) + "\n"
+
+
+def crates():
+    """The crates in the order of crates.txt, each with the comment lines of the layer that it begins."""
+    found, comments = [], []
+    for line in read(TOP / "crates.txt").splitlines():
+        if line.startswith("#"):
+            comments.append(line.lstrip("# ").rstrip())
+        elif not line.strip():
+            comments = []
+        else:
+            found.append((re.split(r"[\s:]", line, maxsplit=1)[0], " ".join(comments)))
+            comments = []
+    return found
+
+
+# Sources in Rattle -------------------------------------------------------------------------------
+
+
+class Clause:
+    def __init__(self, kind, name, text, comment):
+        self.kind, self.name, self.comment = kind, name, comment
+        self.text = " ".join(text.split())
+
+
+class Call:
+    def __init__(self, name, doc, clauses, is_empty):
+        self.name, self.doc, self.clauses = name, doc, clauses
+        self.is_empty = is_empty  # the body is empty, or calls laws alone
+        self.words = {}  # the definitions that its file may cite: how it calls them, and their names
+        self.fields = {}  # of those that are records
+
+    def is_law(self):
+        return self.is_empty and any(c.kind == "ensures" for c in self.clauses)
+
+
+def skip_string(text, at):
+    """The place after the string or the character that begins here, or after the quote of a lifetime."""
+    if text[at] == '"':
+        at += 1
+        while text[at] != '"':
+            at += 2 if text[at] == "\\" else 1
+        return at + 1
+    found = re.compile(r"'(?:\\.[^']*|[^'\\])'").match(text, at)
+    return found.end() if found else at + 1
+
+
+def skip_braces(text, at):
+    """The place after the block that begins with the brace here."""
+    depth = 0
+    while True:
+        c = text[at]
+        if c in "\"'":
+            at = skip_string(text, at)
+            continue
+        if text.startswith("//", at):
+            at = text.index("\n", at)
+            continue
+        depth += {"{": 1, "}": -1}.get(c, 0)
+        at += 1
+        if depth == 0:
+            return at
+
+
+def skip_ghost(text, at):
+    """The place after a block of a clause, in which quotes are letters."""
+    depth = 0
+    while True:
+        depth += {"{": 1, "}": -1}.get(text[at], 0)
+        at += 1
+        if depth == 0:
+            return at
+
+
+def skip_head(text, at):
+    """The place where a function's parameters and result end: at a clause, a body or a semicolon."""
+    stop = re.compile(r"\s*(requires|ensures)\b\*?|[{;(\[]")
+    while True:
+        found = stop.search(text, at)
+        if found.group(0) in ("(", "["):
+            depth, at = 1, found.end()
+            while depth:
+                depth += {"(": 1, "[": 1, ")": -1, "]": -1}.get(text[at], 0)
+                at += 1
+            continue
+        return found.start()
+
+
+def parse_function(text, at, name, doc):
+    """The call whose name ends here, and the place after it."""
+    at = skip_head(text, at)
+    clauses, comment = [], ""
+    while True:
+        found = re.compile(r"\s*(?://(.*)\n|(requires|ensures)\*?\s*(\w*)\s*(?=\{)|(\{)|(;))").match(text, at)
+        at = found.end()
+        if found.group(1) is not None:
+            comment = (comment + " " + found.group(1).strip()).strip()
+        elif found.group(2):
+            end = skip_ghost(text, at)
+            clauses.append(Clause(found.group(2), found.group(3), text[at + 1 : end - 1], comment))
+            comment = "" if text[end:].lstrip(" ").startswith("\n\n") else comment
+            at = end
+        elif found.group(4):
+            end = skip_braces(text, at - 1)
+            is_empty = re.fullmatch(r"\s*(?:\w+\(\);\s*)*", text[at : end - 1]) is not None
+            return Call(name, doc, clauses, is_empty), end
+        else:
+            return Call(name, doc, clauses, False), at
+
+
+def is_defined(module):
+    """Whether a module has definitions, and not what rattle makes of types."""
+    return module.startswith("specs.") and not module.startswith("specs.declared")
+
+
+class Source:
+    """What a file of Rattle declares."""
+
+    def __init__(self, path):
+        self.head = ""
+        self.types, self.constants, self.calls, self.methods, self.uses, self.mods = [], [], [], [], [], []
+        text = read(path)
+        self.imports = {w: d for w, d in imports_of(text).items() if d[0] != "std" and is_defined(d[1])}
+        self.words = {w: d[2] for w, d in self.imports.items()}
+        found = re.match(r"//! ?(.*)", text)
+        if found:
+            self.head = found.group(1).strip()
+        self.scan(text, 0, len(text), None)
+
+    def scan(self, text, at, end, owner):
+        doc, is_test = [], False
+        item = re.compile(
+            r"\s*(?:///? ?(?P<doc>.*)\n|//.*\n?|(?P<attribute>#!?\[)|(?P<ghost>ghost\s)"
+            r"|(?P<public>pub(?:\([a-z]+\))?\s+)?(?:(?:unsafe|const)\s+(?=fn))?"
+            r"(?P<word>fn|struct|enum|trait|impl|mod|use|const|static|type|macro_rules!)\b\s*(?P<name>\w*))"
+        )
+        while at < end:
+            found = item.match(text, at)
+            if not found or found.end() > end:
+                break
+            at = found.end()
+            if found.group("doc") is not None and found.group(0).strip().startswith("///"):
+                doc.append(found.group("doc").strip())
+                continue
+            if found.group("attribute"):
+                depth = 1
+                start = at
+                while depth:
+                    if text[at] in "\"'":
+                        at = skip_string(text, at)
+                        continue
+                    depth += {"[": 1, "]": -1}.get(text[at], 0)
+                    at += 1
+                is_test = is_test or text[start:at].startswith("cfg(test)") or text[start:at].startswith("test")
+                continue
+            if found.group("ghost"):
+                stop = re.compile(r"[;{]").search(text, at)
+                at = stop.end()
+                if stop.group(0) == "{":
+                    at = skip_ghost(text, at - 1)
+                    rest = re.compile(r"[^;\n]*;").match(text, at)
+                    at = rest.end() if rest else at
+                doc = []
+                continue
+            if not found.group("word"):
+                continue
+            public = (found.group("public") or "").strip() == "pub"
+            word, name = found.group("word"), found.group("name")
+            words = " ".join(doc[: doc.index("") if "" in doc else len(doc)])
+            shown, doc = not is_test, []
+            is_test = False
+            if word == "fn":
+                call, at = parse_function(text, at, name, words)
+                call.words = self.words
+                if shown and owner is None and public:
+                    self.calls.append(call)
+                elif shown and owner is not None and (public or owner[1]):
+                    self.methods.append((owner, call))
+            elif word in ("use", "mod") and re.compile(r"[^;{]*;").match(text, at) or word == "use":
+                stop = text.index(";", at)
+                if word == "use" and public:
+                    self.uses.append(name + text[at:stop])
+                elif word == "mod":
+                    self.mods.append((name, public, shown))
+                at = stop + 1
+            elif word in ("const", "static", "type"):
+                end_of_item = text.index(";", at)
+                if shown and public and owner is None and word == "const":
+                    value = text[at:end_of_item].partition("=")[2].strip()
+                    self.constants.append((name, value, words))
+                at = end_of_item + 1
+            elif word in ("impl", "trait"):
+                start = text.index("{", at)
+                close = skip_braces(text, start)
+                head = " ".join((name + text[at:start]).split())
+                if shown and word == "trait":
+                    if public:
+                        self.types.append((name, words))
+                    self.scan(text, start + 1, close - 1, (name, "trait"))
+                elif shown:
+                    self.scan(text, start + 1, close - 1, self.owner_of(head))
+                at = close
+            else:
+                stop = re.compile(r"[;{]").search(text, at)
+                at = skip_braces(text, stop.start()) if stop.group(0) == "{" else stop.end()
+                if shown and public:
+                    self.types.append((name, words))
+
+    @staticmethod
+    def owner_of(head):
+        """The type of an impl block, and the trait, of which the name of the type is a first word."""
+        depth, plain = 0, ""
+        for c in head:
+            depth -= c == ">"
+            plain += c if depth == 0 else ""
+            depth += c == "<"
+        plain = plain.replace("<>", " ").replace("<", " ").replace(">", " ")
+        words = plain.split()
+        if "for" in words:
+            return (words[words.index("for") + 1], words[0])
+        return (words[0] if words else "", "")
+
+
+class Crate:
+    """What a crate gives its callers."""
+
+    def __init__(self, name):
+        self.name = name
+        self.folder = CRATES / name
+        self.sources = {}
+        root = self.folder / "src" / "lib.rt"
+        self.is_program = not root.exists()
+        if self.is_program:
+            root = self.folder / "src" / "main.rt"
+        self.head = Source(root).head
+        self.public = []  # names that callers may write, with their path
+        self.modules = []
+        self.elsewhere = []  # what is handed on from other crates
+        self.walk(root, self.folder / "src", "", True)
+
+    def walk(self, path, folder, prefix, is_public):
+        """Takes in a module and the modules below it."""
+        source = Source(path)
+        self.modules.append(source)
+        if is_public:
+            for name, _ in source.types:
+                self.public.append((name, prefix + name))
+            for name, _, _ in source.constants:
+                self.public.append((name, prefix + name))
+            for call in source.calls:
+                self.public.append((call.name, prefix + call.name))
+            for use in source.uses:
+                root, _, names = use.partition("::")
+                listed = re.findall(r"\w+", names.rpartition("::")[2] if "{" not in names else names[names.index("{") :])
+                local = root in [m for m, _, _ in source.mods] or root in ("crate", "self", "super")
+                for name in listed:
+                    if local:
+                        self.public.append((name, prefix + name))
+                    else:
+                        self.elsewhere.append((prefix + name, root))
+        for name, public, shown in source.mods:
+            if not shown:
+                continue
+            below = folder / (name + ".rt")
+            if below.exists():
+                self.walk(below, folder / name, prefix + name + "::", is_public and public)
+
+    def path_of(self, name):
+        for listed, path in self.public:
+            if listed == name:
+                return path
+        return None
+
+    def types(self):
+        for source in self.modules:
+            for name, doc in source.types:
+                if self.path_of(name):
+                    yield self.path_of(name), doc
+
+    def constants(self):
+        for source in self.modules:
+            for name, value, doc in source.constants:
+                if self.path_of(name):
+                    yield self.path_of(name), value, doc
+
+    def calls(self):
+        """Public calls with their paths: laws last."""
+        for source in self.modules:
+            for call in source.calls:
+                if self.path_of(call.name):
+                    yield self.path_of(call.name), call
+            for (owner, of_trait), call in source.methods:
+                path = self.path_of(owner)
+                if not path or (of_trait not in ("", "trait") and not call.clauses):
+                    continue
+                if of_trait not in ("", "trait"):
+                    path = "<" + path + " as " + of_trait + ">"
+                yield path + "::" + call.name, call
+
+
+# Definitions -------------------------------------------------------------------------------------
+
+SIGNATURE = re.compile(
+    r"^(?P<indent>\s*)(?P<modifier>(?:abbrev|unfoldable)\s+)?(?P<public>pub\s+)?(?P<word>data\s+|record\s+)?"
+    r"(?P<name>[^\s(){}:;=.,]+)(?P<rest>.*)$"
+)
+NO_DEFINITION = {"use", "mod", "module", "open", "where", "mutual", "let", "in", "import", "elim", "if", "else", "--"}
+
+
+class Definition:
+    def __init__(self, name, indent, comment, public, line):
+        self.name, self.indent, self.comment, self.public, self.line = name, indent, comment, public, line
+        self.body = []
+        self.fields = []  # of a record, each with the comment over it
+
+
+class Room:
+    """A file of definitions: its head, and its definitions with their comments."""
+
+    def __init__(self, path, folder):
+        self.path = path
+        self.module = ".".join(path.relative_to(folder).with_suffix("").parts)
+        lines = read(path).splitlines()
+        self.head = []
+        for line in lines:
+            if not line.startswith("--"):
+                break
+            self.head.append(line.lstrip("-").strip())
+        self.definitions = []
+        self.imports = {}
+        record, current = None, None
+        for number, line in enumerate(lines):
+            words = line.split()
+            if not words or words[0].startswith("--"):
+                continue
+            indent = len(line) - len(line.lstrip())
+            if words[0] == "use" or words[:2] == ["pub", "use"]:
+                self.imports.update(imports_of(line))
+                continue
+            if record is not None and indent > record:
+                current.body.append(line)
+                if words[0] == "pub":
+                    current.fields.append((words[1], comment_over(lines, number)))
+                continue
+            record = None
+            found = SIGNATURE.match(line)
+            starts = found and (
+                found.group("public")
+                or found.group("modifier")
+                or found.group("word")
+                or re.match(r"\s*(\{[^}]*\}\s*)?:", found.group("rest"))
+            )
+            if starts and found.group("name") not in NO_DEFINITION and not (found.group("public") and words[1] == "mod"):
+                if current is not None and found.group("name") == current.name and not found.group("public"):
+                    current.body.append(line)
+                    continue
+                current = Definition(
+                    found.group("name"), indent, comment_over(lines, number), bool(found.group("public")), line
+                )
+                current.body.append(line)
+                self.definitions.append(current)
+                if (found.group("word") or "").strip() == "record":
+                    record = indent
+            elif current is not None:
+                current.body.append(line)
+
+    def public(self):
+        return [d for d in self.definitions if d.public]
+
+
+def comment_over(lines, number):
+    """The comment right over a definition, or over the block that it begins."""
+    at = number - 1
+    if at >= 0 and lines[at].split() in (["mutual"], ["abbrev", "mutual"], ["unfoldable", "mutual"]):
+        at -= 1
+    found = []
+    while at >= 0 and lines[at].strip().startswith("--"):
+        found.insert(0, lines[at].strip().lstrip("-").strip())
+        at -= 1
+    # The head of the file is no comment of the first definition.
+    return "" if at < 0 else " ".join(found).strip()
+
+
+def imports_of(text):
+    """What use lines bring: the local name, with its crate, module and name."""
+    found = {}
+    for use in re.finditer(r"\buse\s+Rattle\.(\w+)\.(specs|proofs)\.([^;\n{]*?)\.?\{([^}]*)\}", text):
+        for part in use.group(4).split(","):
+            names = part.split()
+            if names:
+                found[names[-1]] = (use.group(1), use.group(2) + "." + use.group(3), names[0])
+    for use in re.finditer(r"\buse\s+Rattle\.(\w+)\.(specs|proofs)\.([^;\s{}]+)", text):
+        parts = use.group(3).rstrip(".").split(".")
+        if not use.group(0).endswith("."):
+            found.setdefault(parts[-1], (use.group(1), use.group(2) + "." + ".".join(parts[:-1]), parts[-1]))
+    return found
+
+
+def rooms(name):
+    """The files of definitions of a crate."""
+    folder = CRATES / name / "specs"
+    listed = []
+    if not folder.exists():
+        return listed
+    for path in sorted(folder.rglob("*.antt")):
+        if path.name != "Lib.antt" and path.name != "inner.antt":
+            listed.append(Room(path, folder))
+    return listed
+
+
+def is_inner(room):
+    return room.module.split(".")[0] == "inner"
+
+
+# Documents ---------------------------------------------------------------------------------------
+
+
+def text_of(clause, call):
+    """What is printed of a clause: its text where it is short, else the definitions that it cites."""
+    if len(clause.text) <= SHORT:
+        return code(clause.text)
+    words = []
+    for token in TOKEN.findall(clause.text):
+        if token in call.words and call.words[token] not in words:
+            words.append(call.words[token])
+    if not words:
+        return code(clause.text)
+    parts = ["by " + ", ".join(code(w) for w in words)]
+    for word in words:
+        fields = call.fields.get(word, [])
+        if len(fields) > 4:
+            parts.append(code(word) + " has " + ", ".join(code(f) for f in fields))
+    return "<br>".join(parts)
+
+
+def name_of(clause):
+    name = code(clause.name) if clause.name else ""
+    return ("needs " + name).strip() if clause.kind == "requires" else name
+
+
+def is_small(call):
+    return len(call.clauses) <= 3 and all(len(c.text) <= SHORT and not c.comment for c in call.clauses)
+
+
+def row_of(path, call):
+    parts = []
+    for clause in call.clauses:
+        name = name_of(clause)
+        parts.append((name + ": " if name else "") + text_of(clause, call))
+    return [code(path), call.doc, "<br>".join(parts)]
+
+
+def block_of(path, call):
+    rows = []
+    for clause in call.clauses:
+        text = text_of(clause, call)
+        rows.append([name_of(clause), (clause.comment + "<br>" if clause.comment else "") + text])
+    return "#### " + code(path) + "\n\n" + (call.doc + "\n\n" if call.doc else "") + table(["clause", "says"], once(rows))
+
+
+def once(rows):
+    """A comment over several clauses is printed at the first of them."""
+    before = None
+    for row in rows:
+        comment = row[1].partition("<br>")[0] if "<br>" in row[1] else None
+        if comment is not None and comment == before:
+            row[1] = row[1].partition("<br>")[2]
+        before = comment
+    return rows
+
+
+def layers(write_crate, head):
+    parts = [head]
+    for name, layer in crates():
+        if layer:
+            title, _, rest = layer.partition(": ")
+            parts.append("## " + title.rstrip(".") + "\n" + ("\n" + rest[:1].upper() + rest[1:] + "\n" if rest else ""))
+        written = write_crate(name)
+        if written:
+            parts.append(written)
+    return "\n".join(parts)
+
+
+def contracts():
+    records = {
+        (name, "specs." + room.module, d.name): [field for field, _ in d.fields]
+        for name, _ in crates()
+        for room in rooms(name)
+        for d in room.definitions
+    }
+
+    def write_crate(name):
+        crate = Crate(name)
+        for source in crate.modules:
+            for call in source.calls + [call for _, call in source.methods]:
+                call.fields = {d[2]: records.get(d, []) for d in source.imports.values()}
+        page = "../crates/" + name + "/README.md"
+        parts = ["### [" + name + "](" + page + ")\n\n" + crate.head + "\n"]
+        if crate.is_program:
+            return parts[0]
+        kinds = [[code(path), doc] for path, doc in crate.types()]
+        if kinds:
+            parts.append(table(["type", "is"], kinds))
+        numbers = [[code(path), value, doc] for path, value, doc in crate.constants()]
+        if numbers:
+            parts.append(table(["constant", "value", "is"], numbers))
+        if crate.elsewhere:
+            parts.append(
+                "Handed on: " + ", ".join(code(n) + " of " + code(c) for n, c in crate.elsewhere) + ".\n"
+            )
+        listed = list(crate.calls())
+        small = [row_of(p, c) for p, c in listed if not c.is_law() and is_small(c)]
+        if small:
+            parts.append(table(["call", "does", "promises"], small))
+        laws = [[code(p), c.doc, ", ".join(text_of(x, c) for x in c.clauses)] for p, c in listed if c.is_law()]
+        parts += [block_of(p, c) for p, c in listed if not c.is_law() and not is_small(c)]
+        if laws:
+            parts.append("#### Laws of " + name + "\n\n" + table(["law", "says", "statement"], laws))
+        return "\n".join(parts)
+
+    return layers(write_crate, CONTRACTS_HEAD)
+
+
+def says(definition):
+    """The comment of a definition, and the fields of a record that are commented."""
+    told = ["- " + code(name) + ": " + comment for name, comment in definition.fields if comment]
+    return "<br>".join([definition.comment] + told)
+
+
+def definitions():
+    def write_crate(name):
+        shown = [room for room in rooms(name) if not is_inner(room) and room.public()]
+        if not shown:
+            return ""
+        parts = ["### " + name + "\n"]
+        for room in shown:
+            rows = [[code(d.name), says(d)] for d in room.public()]
+            path = "../crates/" + name + "/specs/" + room.module.replace(".", "/") + ".antt"
+            head = " ".join(room.head) + "\n\n" if room.head else ""
+            parts.append("#### [" + room.module + "](" + path + ")\n\n" + head + table(["definition", "says"], rows))
+        return "\n".join(parts)
+
+    return layers(write_crate, DEFINITIONS_HEAD)
+
+
+DOCUMENTS = {"CONTRACTS.md": contracts, "DEFINITIONS.md": definitions}
+
+
+# What is missing ---------------------------------------------------------------------------------
+
+
+def source_files():
+    for name, _ in crates():
+        for part in ("src", "specs", "proofs"):
+            folder = CRATES / name / part
+            if folder.exists():
+                for path in sorted(list(folder.rglob("*.rt")) + list(folder.rglob("*.antt"))):
+                    yield name, path
+
+
+def without_page():
+    for name, _ in crates():
+        if not (CRATES / name / "README.md").exists():
+            yield "crates/" + name + " has no README.md"
+
+
+def without_first_line():
+    for _, path in source_files():
+        line = (read(path).splitlines() or [""])[0]
+        if not (re.match(r"//! \S", line) if path.suffix == ".rt" else re.match(r"-- \S", line)):
+            yield str(path.relative_to(TOP)) + " has no first line"
+
+
+def without_comment():
+    for name, _ in crates():
+        for room in rooms(name):
+            for d in room.public():
+                if not d.comment:
+                    yield str(room.path.relative_to(TOP)) + ": " + d.name + " has no comment"
+
+
+def uncommented(text):
+    return "\n".join(re.sub(r"(^|\s)(--|//).*", "", line) for line in text.splitlines())
+
+
+def without_uses(text):
+    return re.sub(r"\b(ghost\s+)?use\s+Rattle\.[^;\n{]*(\{[^}]*\})?", " ", text)
+
+
+def unused():
+    """Public definitions to which no code, no proof and no definition that is used leads."""
+    table_of, waiting, used = {}, [], set()
+    for name, _ in crates():
+        for room in rooms(name):
+            module = "specs." + room.module
+            for d in room.definitions:
+                table_of[(name, module, d.name)] = (room, d)
+
+    def cite(key):
+        if key in table_of and key not in used:
+            used.add(key)
+            waiting.append(key)
+
+    def cite_all(text, imports, own):
+        for token in TOKEN.findall(text):
+            if token in imports:
+                cite(imports[token])
+            if own:
+                cite((own[0], own[1], token))
+        for full in re.finditer(r"Rattle\.(\w+)\.(specs[\w.]*)\.([^\s(){};,.]+)", text):
+            cite((full.group(1), full.group(2), full.group(3)))
+
+    for name, path in source_files():
+        if path.is_relative_to(CRATES / name / "specs"):
+            continue
+        text = uncommented(read(path))
+        cite_all(without_uses(text), imports_of(text), None)
+        for full in re.finditer(r"crate::(specs(?:::\w+)*)::([^\s(){};,.]+)", text):
+            cite((name, full.group(1).replace("::", "."), full.group(2)))
+    while waiting:
+        name, module, word = waiting.pop()
+        room, d = table_of[(name, module, word)]
+        cite_all(uncommented("\n".join(d.body)), room.imports, (name, module))
+    for key, (room, d) in table_of.items():
+        if d.public and key not in used:
+            yield str(room.path.relative_to(TOP)) + ": " + d.name + " is cited by nothing"
+
+
+def hidden_files():
+    """Files of lemmas that are `pub mod` though no other crate cites them and their crate's page does not name them."""
+    cited = set()
+    for name, path in source_files():
+        for found in re.finditer(r"Rattle\.(\w+)\.proofs\.([\w.]*\w)", read(path)):
+            if found.group(1) != name:
+                parts = found.group(2).split(".")
+                cited.update((found.group(1), ".".join(parts[:n])) for n in range(1, len(parts) + 1))
+    for name, _ in crates():
+        path = CRATES / name / "proofs" / "Lib.antt"
+        page = CRATES / name / "README.md"
+        page = read(page) if page.exists() else ""
+        if path.exists():
+            for found in re.finditer(r"^pub mod (\w+)", read(path), re.M):
+                is_named = re.search(r"\b" + found.group(1) + r"(\.antt)?`", page)
+                if (name, found.group(1)) not in cited and not is_named:
+                    yield str(path.relative_to(TOP)) + ": " + found.group(1) + " is public, and nothing asks for it"
+
+
+def scattered_laws():
+    """Laws whose statement stands elsewhere than in specs/Laws.antt."""
+    for name, _ in crates():
+        for source in Crate(name).modules:
+            for call in source.calls:
+                told = " ".join(clause.text for clause in call.clauses)
+                for word in TOKEN.findall(told) if call.is_law() else []:
+                    place = source.imports.get(word)
+                    if place and place[1] != "specs.Laws":
+                        yield "crates/" + name + ": the law " + call.name + " is stated in " + place[1] + ": " + word
+
+
+def main(words):
+    if words == ["--lint"]:
+        missing = [
+            line
+            for find in (without_page, without_first_line, without_comment, unused, hidden_files, scattered_laws)
+            for line in find()
+        ]
+        for line in missing:
+            print(line)
+        print(len(missing), "warnings")
+        return 0
+    if words not in ([], ["--check"]):
+        print(__doc__)
+        return 2
+    status = 0
+    for name, make in DOCUMENTS.items():
+        path = TOP / "docs" / name
+        text = make()
+        if not words:
+            path.write_text(text, encoding="utf-8")
+        elif not path.exists() or read(path) != text:
+            print("docs/" + name + " differs from the sources: run python3 docs/write.py")
+            status = 1
+    return status
+
+
+if __name__ == "__main__":
+    sys.exit(main(sys.argv[1:]))
