@@ -1,8 +1,9 @@
 -- What substitutions bind that are made of others.
-use Rattle.std.proofs.Common.{◌≡◌, Bool, true, false, List, [], ◌∷◌, ◌++◌, map, Option, Some, None, refl, sym, ap, ◌∙◌, subst}
+use Rattle.std.proofs.Common.{◌≡◌, ℕ, ◌+◌, ◌<◌, Bool, true, false, List, [], ◌∷◌, ◌++◌, map, length, take, get_or, Option, Some, None, refl, sym, ap, ◌∙◌, subst}
 use Rattle.std.specs.Prelude.{not, if◌then◌else◌, is_some, filter, Contains}
 use Rattle.std.specs.List.{AllByRecursion}
 use Rattle.std.specs.Option.{option_map}
+use Rattle.std.proofs.lemmas.List.{map_more}
 use Rattle.fvn_terms.specs.declared.plain.Var.{Var}
 use Rattle.fvn_terms.specs.declared.declarations.Declarations.{Declarations}
 use Rattle.fvn_terms.specs.Signature.{kind, IsSort, HasKind}
@@ -33,7 +34,7 @@ bound-changed g (p ∷ s) x = go (same_var p.0 x) (bound-changed g s x)
 pub bound-chosen : (test : Var → Bool) (s : Bindings) (x : Var) → bound (chosen test s) x ≡ (if test x then bound s x else None)
 bound-chosen test [] x = go (test x)
   where
-    go : (c : Bool) → None ≡ (if c then None else None)
+    go : (c : Bool) → bound [] x ≡ (if c then bound [] x else None)
     go true = refl
     go false = refl
 bound-chosen test (p ∷ s) x = go (test p.0) (same_var p.0 x) (test x) refl (λ e. ap test (sym (same_var_is p.0 x e))) (bound-chosen test s x)
@@ -46,6 +47,10 @@ bound-chosen test (p ∷ s) x = go (test p.0) (same_var p.0 x) (test x) refl (λ
     go false true true e k h = let q : true ≡ false = k refl in cc
     go false true false e k h = h
     go false false c e k h = h
+
+-- one more pair
+pub changed-step : (g : FlatTerm → FlatTerm) (s : Bindings) (i : ℕ) (p : Var × FlatTerm) → i < length s → p ≡ get_or s i p → changed g (take (i + 1) s) ≡ changed g (take i s) ++ (p.0, g p.1) ∷ []
+changed-step g s i p within is = map_more (λ (q : Var × FlatTerm). (q.0, g q.1)) s i p within ∙ ap (λ (q : Var × FlatTerm). changed g (take i s) ++ (q.0, g q.1) ∷ []) (sym is)
 
 pub BindsOnce-changed : (g : FlatTerm → FlatTerm) (s : Bindings) → BindsOnce s → BindsOnce (changed g s)
 BindsOnce-changed g [] h = tt
@@ -123,3 +128,37 @@ chosen_is_restriction vars s = record {
     none : (x : Var) → (Contains vars x → ⊥) → (b : Bool) → listed vars x ≡ b → (if listed vars x then bound s x else None) ≡ None
     none x n true e = absurd (n (listed_only vars x e))
     none x n false e = ap (λ b. if b then bound s x else None) e
+
+module _ (d : Declarations) where
+  -- the substitution that binds nothing fits
+  pub empty_fits : BindingsFit d []
+  empty_fits = record { settled = λ x. tt; keeps_kinds = λ x i. (i, refl) }
+
+  -- a restriction of one that fits
+  pub restriction_fits : (vars : List Var) (s r : Bindings) → IsRestriction vars s r → BindingsFit d s → BindingsFit d r
+  restriction_fits vars s r h fit = record {
+    settled = λ x. one x (λ u. Settled d u) (fit.settled x) tt;
+    keeps_kinds = λ x i. one x (λ u. HasKind d (plain u) (kind d x.sort)) (fit.keeps_kinds x i) (i, refl);
+  }
+    where
+      one : (x : Var) (P : FlatTerm → Type 0) → P (value s x) → P (fvar x) → P (value r x)
+      one x P p q = go (listed vars x) refl
+        where
+          go : (b : Bool) → listed vars x ≡ b → P (value r x)
+          go true e = subst (λ o. P (form_or x o)) (sym (h.kept x (listed_only vars x e))) p
+          go false e = subst (λ o. P (form_or x o)) (sym (h.others x (λ k. let f = listed_if vars x k in cc))) q
+
+  -- one more variable, bound to a form that is flat and of the variable's kind
+  pub bind_fits : (s : Bindings) (v : Var) (t : FlatTerm) → BindingsFit d s → Settled d t → (IsSort d v.sort → HasKind d (plain t) (kind d v.sort)) → BindingsFit d (s ++ (v, t) ∷ [])
+  bind_fits s v t fit flat kinded = record {
+    settled = λ x. one x (λ u. Settled d u) (fit.settled x) (λ e. flat);
+    keeps_kinds = λ x i. one x (λ u. HasKind d (plain u) (kind d x.sort)) (fit.keeps_kinds x i) (λ e. subst (λ y. HasKind d (plain t) (kind d y.sort)) e (kinded (subst (λ y. IsSort d y.sort) (sym e) i)));
+  }
+    where
+      one : (x : Var) (P : FlatTerm → Type 0) → P (value s x) → (v ≡ x → P t) → P (value (s ++ (v, t) ∷ []) x)
+      one x P p q = subst (λ o. P (form_or x o)) (sym (bound-append s ((v, t) ∷ []) x)) (go (bound s x) (same_var v x) refl p)
+        where
+          go : (o : Option FlatTerm) (b : Bool) → same_var v x ≡ b → P (form_or x o) → P (form_or x (or_else o (if b then Some t else None)))
+          go (Some u) b e k = k
+          go None true e k = q (same_var_is v x e)
+          go None false e k = k

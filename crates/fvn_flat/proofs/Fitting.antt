@@ -8,21 +8,21 @@ use Rattle.fvn_terms.specs.declared.declarations.Axioms.{Axioms}
 use Rattle.fvn_terms.specs.declared.declarations.Axioms.TheVariants.{Free, Comm, AssocComm, AssocCommId}
 use Rattle.fvn_terms.specs.declared.declarations.Rank.{Rank}
 use Rattle.fvn_terms.specs.declared.declarations.Declarations.{Declarations}
-use Rattle.fvn_terms.specs.Term.{Term}
-use Rattle.fvn_terms.specs.Equality.{IsAssociative}
+use Rattle.fvn_terms.specs.Term.{Term, app}
+use Rattle.fvn_terms.specs.Equality.{IsAssociative, BEqual}
 use Rattle.fvn_terms.specs.Signature.{kind, declared, axioms, HasKind, HaveKinds, IsTerm}
-use Rattle.fvn_forms.specs.Flat.{FlatTerm, FlatTerms, fvar, fapp, fnone, fmore, fpack, funpack, plain, plain_all}
+use Rattle.fvn_forms.specs.Flat.{FlatTerm, FlatTerms, fvar, fapp, fnone, fmore, fpack, funpack, nest, nest_all, plain, plain_all}
 use Rattle.fvn_forms.specs.Canon.{parts, all_parts, empty_sum, sum, build, canon}
 use Rattle.fvn_forms.specs.Settled.{Settled, SettledAll}
 use Rattle.fvn_forms.specs.FitsKinds.{FitsKinds}
 use Rattle.fvn_forms.proofs.InOrder.{each_append}
-use Rattle.fvn_forms.proofs.Sums.{SettledAll-funpack}
+use Rattle.fvn_forms.proofs.Sums.{funpack-fpack, SettledAll-fpack, SettledAll-funpack}
 use Rattle.fvn_forms.proofs.Build.{HasIdentity, build_settled, build_sum, all_parts_nonempty}
-use Rattle.fvn_forms.proofs.Eval.{canon_settled, canon_plain}
-use Rattle.fvn_forms.proofs.ToCanon.{identity_is, canon_of_kind, b_equal_iff_canon}
-use Rattle.fvn_forms.proofs.KindsOfSums.{build_of_kind, nest_parts_of_kind, parts_of_kind, sum_of_forms_of_kind}
+use Rattle.fvn_forms.proofs.Eval.{fvar_settled, canon_settled, eval_nest, canon_plain, canon_plain_all}
+use Rattle.fvn_forms.proofs.ToCanon.{identity_is, build_plain, to_canon, canon_of_kind, b_equal_iff_canon}
+use Rattle.fvn_forms.proofs.KindsOfSums.{build_of_kind, nest_parts_of_kind, parts_of_kind, two_of_kind, sum_of_forms_of_kind}
 use Rattle.fvn_flat.specs.Forms.{args_of}
-use Rattle.fvn_flat.specs.Fits.{Fits, AllFit, AllOfKind, TakesAsDeclared, Takes, FitWhere, IsEqualWhereBothFit}
+use Rattle.fvn_flat.specs.Fits.{Fits, AllFit, AllOfKind, TakesAsDeclared, Takes, operator_over, plain_over, FitWhere, IsEqualWhereBothFit}
 
 module _ (d : Declarations) where
   pub all_fit : (l : List FlatTerm) → AllByRecursion (Settled d) l → AllByRecursion (λ t. IsTerm d (plain t)) l → AllFit d l
@@ -86,6 +86,34 @@ module _ (d : Declarations) where
         go Comm e j = plainly j
         go AssocComm e j = sum_fits (rw e tt) h.rank h.listed l j.0 s j.1
         go (AssocCommId o) e j = sum_fits (rw e tt) h.rank h.listed l j.0 s j.1
+
+    nested_of_kind : IsAssociative (axioms d f) → (r : Rank) → Contains (declared d f).ranks r → (t : FlatTerm) (ts : List FlatTerm) → AllOfKind d (kind d r.result) (t ∷ ts) → HasKind d (nest f (plain t) (plain_all (fpack ts))) (kind d r.result)
+    nested_of_kind assoc r listed t [] h = h.0
+    nested_of_kind assoc r listed t (u ∷ us) h = two_of_kind d fits f assoc (kind d r.result) r listed refl (plain t) (nest f (plain u) (plain_all (fpack us))) h.0 (nested_of_kind assoc r listed u us h.1)
+
+    sum_equal : IsAssociative (axioms d f) → (r : Rank) → Contains (declared d f).ranks r → (l : List FlatTerm) → 2 ≤ length l → AllByRecursion (Settled d) l → AllOfKind d (kind d r.result) l → BEqual d (nest_all f (plain_all (fpack l))) (plain (build d f l))
+    sum_equal assoc r listed [] two h j = absurd (omega arith)
+    sum_equal assoc r listed (t ∷ ts) two h j =
+        let whole = nest f (plain t) (plain_all (fpack ts)) in
+        let flat : canon d whole ≡ build d f (t ∷ ts) =
+            eval_nest d fvar (fvar_settled d) f assoc (plain t) (plain_all (fpack ts))
+            ∙ ap (λ l. sum d f (all_parts d f l)) (canon_plain_all d (fpack (t ∷ ts)) (SettledAll-fpack d (t ∷ ts) h) ∙ funpack-fpack (t ∷ ts))
+            ∙ sym (build_sum d f assoc t ts)
+        in
+        subst (λ u. BEqual d whole (plain u)) flat (to_canon d fits whole (kind d r.result) (nested_of_kind assoc r listed t ts j))
+
+    -- what an operator builds is equal modulo the axioms to the operator over the same forms
+    pub build_equal : (l : List FlatTerm) → AllByRecursion (Settled d) l → Takes d f l → BEqual d (plain_over d f l) (plain (build d f l))
+    build_equal l s h = go (axioms d f) refl h.args
+      where
+        plainly : HaveKinds d (plain_all (fpack l)) (map (kind d) h.rank.args) → BEqual d (app f (plain_all (fpack l))) (plain (build d f l))
+        plainly j = build_plain d fits f l s (kind d h.rank.result) record { rank = h.rank; listed = h.listed; args = j; result = refl }
+
+        go : (a : Axioms) → axioms d f ≡ a → TakesAsDeclared d a h.rank l → BEqual d (operator_over a f (plain_all (fpack l))) (plain (build d f l))
+        go Free e j = plainly j
+        go Comm e j = plainly j
+        go AssocComm e j = sum_equal (rw e tt) h.rank h.listed l j.0 s j.1
+        go (AssocCommId o) e j = sum_equal (rw e tt) h.rank h.listed l j.0 s j.1
 
     -- what an operator builds over forms that it takes fits
     pub build_fits : (l : List FlatTerm) → AllFit d l → Takes d f l → Fits d (build d f l)

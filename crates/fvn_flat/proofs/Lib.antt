@@ -12,7 +12,7 @@ pub mod Rebuilding
 mod Instances
 mod Binding
 mod Listed
-mod Composing
+pub mod Composing
 mod Renamings
 mod SortsOfFlats
 pub mod VariablesKept

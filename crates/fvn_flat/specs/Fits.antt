@@ -8,10 +8,18 @@ use Rattle.fvn_terms.specs.declared.declarations.Axioms.TheVariants.{Free, Comm,
 use Rattle.fvn_terms.specs.declared.declarations.Rank.{Rank}
 use Rattle.fvn_terms.specs.declared.declarations.Declarations.{Declarations}
 use Rattle.fvn_terms.specs.Signature.{kind, declared, axioms, HasKind, HaveKinds, IsTerm}
+use Rattle.fvn_terms.specs.Term.{Term, Terms, app}
 use Rattle.fvn_terms.specs.Equality.{BEqual}
-use Rattle.fvn_forms.specs.Flat.{FlatTerm, fpack, plain, plain_all}
+use Rattle.fvn_forms.specs.Flat.{FlatTerm, fpack, nest_all, plain, plain_all}
 use Rattle.fvn_forms.specs.Settled.{Settled}
 use Rattle.fvn_forms.specs.FitsKinds.{FitsKinds}
+
+-- f over the terms; an associative operator is used between them
+abbrev pub operator_over : Axioms → OpId → Terms → Term
+operator_over Free f ts = app f ts
+operator_over Comm f ts = app f ts
+operator_over AssocComm f ts = nest_all f ts
+operator_over (AssocCommId e) f ts = nest_all f ts
 
 module _ (d : Declarations) where
   -- the form is flat in the signature, and its plain term is well-kinded
@@ -34,6 +42,10 @@ module _ (d : Declarations) where
   TakesAsDeclared Comm r ts = HaveKinds d (plain_all (fpack ts)) (map (kind d) r.args)
   TakesAsDeclared AssocComm r ts = (2 ≤ length ts) × AllOfKind (kind d r.result) ts
   TakesAsDeclared (AssocCommId e) r ts = (2 ≤ length ts) × AllOfKind (kind d r.result) ts
+
+  -- the plain term that f over these forms stands for
+  abbrev pub plain_over : OpId → List FlatTerm → Term
+  plain_over f ts = operator_over (axioms d f) f (plain_all (fpack ts))
 
   -- f is declared to take these forms
   pub record Takes (f : OpId) (ts : List FlatTerm) : Type 0 where

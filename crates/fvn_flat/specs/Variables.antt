@@ -25,8 +25,8 @@ abbrev mutual
   with_all_variables (fmore t ts) vars = with_all_variables ts (with_variables t vars)
 
 -- the variables of a form, each once
-abbrev pub variables_of : FlatTerm → List Var
-variables_of t = with_variables t []
+abbrev pub distinct_variables : FlatTerm → List Var
+distinct_variables t = with_variables t []
 
 -- the fresh variable of a number, of the sort of x
 abbrev pub fresh_for : ℕ → Var → Var
@@ -36,3 +36,12 @@ fresh_for n x = record { name = n; sort = x.sort; fresh = true }
 abbrev pub renaming : ℕ → List Var → Bindings
 renaming n [] = []
 renaming n (x ∷ vars) = (x, fvar (fresh_for n x)) ∷ renaming (n + 1) vars
+
+-- the fresh variables for those of the form, numbered along it from n; other variables stay
+abbrev pub fresh_names : ℕ → FlatTerm → Var → FlatTerm
+fresh_names n t = value (renaming n (distinct_variables t))
+
+-- s sends the variables of the form to fresh ones of the same sorts, numbered from first and below next, distinct ones to distinct ones
+pub record RenamesApart (t : FlatTerm) (first next : ℕ) (s : Var → FlatTerm) : Type 0 where
+  pub fresh : (x : Var) → Occurs x (plain t) → (n : ℕ) × (s x ≡ fvar (fresh_for n x)) × (first ≤ n) × (n < next)
+  pub distinct : (x y : Var) → Occurs x (plain t) → Occurs y (plain t) → s x ≡ s y → x ≡ y

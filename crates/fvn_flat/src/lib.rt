@@ -12,6 +12,8 @@ mod renaming;
 mod solver;
 mod sorting;
 mod substitution;
+#[cfg(test)]
+mod tests;
 
 pub use flat::Flat;
 pub use flattening::flatten;
@@ -19,6 +21,6 @@ pub use laws::{
     answers_to_flattened_pairs, equal_pairs_have_one_answer, flattened_pairs_are_given,
     flattened_pairs_have_one_answer,
 };
-pub use renaming::rename_apart;
+pub use renaming::{MOST_RENAMED, rename_apart};
 pub use solver::{AxiomSolver, Normal, Pairs, SizeCause, SolveEnd, Solved, SolvedList};
-pub use substitution::Subst;
+pub use substitution::{Subst, all_shared};

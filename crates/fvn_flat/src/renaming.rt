@@ -2,9 +2,8 @@
 ghost use Rattle.std.specs.Prelude.{◌≡◌, ◌+◌, ◌<◌, ◌≤◌, ◌^◌, length, IfOk};
 ghost use Rattle.fvn_forms.specs.Flat.{symbols};
 ghost use Rattle.fvn_forms.specs.Canon.{inst};
-ghost use Rattle.fvn_flat.specs.Bindings.{value};
 ghost use Rattle.fvn_flat.specs.Fits.{Fits};
-ghost use Rattle.fvn_flat.specs.Variables.{listed, with_variable, with_variables, variables_of, renaming};
+ghost use Rattle.fvn_flat.specs.Variables.{listed, with_variable, with_variables, distinct_variables, renaming, fresh_names, RenamesApart};
 
 use crate::flat::{Flat, Node};
 use crate::substitution::Subst;
@@ -12,6 +11,10 @@ use fvn_sorts::Signature;
 use fvn_terms::{NoMemory, Var};
 use std::alloc::Global;
 
+/// The greatest first number of fresh variables, and the most symbols of a term that is renamed.
+pub const MOST_RENAMED: u32 = 1_000_000;
+
+// Whether the variable stands in the list.
 pub(crate) fn is_listed(vars: &[Var], x: Var) -> bool
     ensures { result ≡ listed vars.now x }
 {
@@ -23,6 +26,7 @@ pub(crate) fn is_listed(vars: &[Var], x: Var) -> bool
     false
 }
 
+// The variables with one more at the end, if it is not there yet.
 fn with_variable(vars: Vec<Var>, x: Var) -> Result<Vec<Var>, NoMemory>
     ensures { IfOk result (λ all. all.items ≡ with_variable vars.items x) }
 {
@@ -74,13 +78,17 @@ fn renaming(alloc: Global, vars: &[Var], first: u32) -> Result<Vec<(Var, Flat)>,
     Ok(pairs)
 }
 
-/// The term with its variables renamed to fresh ones, numbered along it, and the next free number.
+/// The term with its variables renamed to fresh ones of the same sorts, and the next free number.
+///
+/// They are numbered from `first` in order of first occurrence.
 pub fn rename_apart(alloc: Global, sig: &Signature, t: &Flat, first: u32) -> Result<(Flat, u32), NoMemory>
     requires term { Fits sig.now t.now }
-    requires number { first ≤ 1000000 }
-    requires size { symbols t.now ≤ 1000000 }
-    ensures renamed { IfOk result (λ r. r.0 ≡ inst sig.now (value (renaming first (variables_of t.now))) t.now) }
-    ensures next { IfOk result (λ r. r.1 ≡ first + length (variables_of t.now)) }
+    requires number { first ≤ MOST_RENAMED }
+    requires size { symbols t.now ≤ MOST_RENAMED }
+    // Distinct variables go to distinct fresh ones, numbered from `first` up to below the next number.
+    ensures renamed { IfOk result (λ r. r.0 ≡ inst sig.now (fresh_names first t.now) t.now) }
+    ensures apart { IfOk result (λ r. RenamesApart t.now first r.1 (fresh_names first t.now)) }
+    ensures next { IfOk result (λ r. r.1 ≡ first + length (distinct_variables t.now)) }
     ensures fits { IfOk result (λ r. Fits sig.now r.0) }
 {
     let vars = t.with_variables(Vec::new(alloc))?;
