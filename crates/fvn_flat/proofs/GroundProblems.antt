@@ -19,9 +19,9 @@ use Rattle.fvn_terms.specs.CompleteSets.{IsCompleteSet, IsApart}
 use Rattle.fvn_flat.specs.Bindings.{Bindings, bound, value, BindsOnce, BindingsFit}
 use Rattle.fvn_flat.specs.Fits.{Fits}
 use Rattle.fvn_flat.specs.Problems.{IsGround, variables, variables_of, plain_pairs}
-use Rattle.fvn_flat.specs.FlatLaws.{IsCompleteFor, IsApartFor}
+use Rattle.fvn_flat.specs.OneAnswer.{IsCompleteFor, IsApartFor}
 use Rattle.fvn_flat.specs.Solving.{FlatPairs, substitution, Binds, IsNumbered}
-use Rattle.fvn_flat.proofs.VariablesKept.{variables_occur}
+use Rattle.fvn_flat.proofs.VariableLists.{variables_occur}
 
 abbrev pub AreGround : FlatTerm × FlatTerm → Type 0
 AreGround p = IsGround (plain p.0) × IsGround (plain p.1)
