@@ -12,10 +12,9 @@ use Rattle.fvn_forms.specs.Flat.{FlatTerm, FlatTerms, fapp, fnone, fmore, fpack,
 use Rattle.fvn_forms.specs.Canon.{canon}
 use Rattle.fvn_forms.specs.Good.{IsGood}
 use Rattle.fvn_forms.specs.Ranks.{result}
-use Rattle.fvn_forms.specs.LeastSort.{result_of_two, sum_sort, least_sort, sort_over}
+use Rattle.fvn_forms.specs.LeastSort.{result_of_two, sum_sort, sort_in, sorts_in, least_sort, sort_over}
 use Rattle.fvn_forms.proofs.Sums.{funpack-fpack}
 use Rattle.fvn_forms.proofs.Eval.{canon_plain}
-use Rattle.fvn_forms.proofs.SortsOfSums.{sorts_in-fpack}
 use Rattle.fvn_forms.proofs.LeastSort.{least_sort_is_least}
 use Rattle.fvn_flat.specs.Fits.{Fits, AllFit}
 use Rattle.fvn_flat.specs.inner.Weight.{places, places_all}
@@ -31,6 +30,10 @@ pub places_at : (l : List FlatTerm) (i : ℕ) (t : FlatTerm) → i < length l �
 places_at [] i t within is = absurd (omega arith)
 places_at (u ∷ l) zero t within is = let e = ap places is in omega arith
 places_at (u ∷ l) (suc i) t within is = let e = places_at l i t (omega arith) is in omega arith
+
+sorts_in-fpack : (d : Declarations) (env : Var → SortId) (l : List FlatTerm) → sorts_in d env (fpack l) ≡ map (sort_in d env) l
+sorts_in-fpack d env [] = refl
+sorts_in-fpack d env (t ∷ l) = ap (λ ss. sort_in d env t ∷ ss) (sorts_in-fpack d env l)
 
 fold_push : {A : Type 0} (g : A → A → A) (a : A) (l : List A) (b : A) → fold g a (l ++ b ∷ []) ≡ g (fold g a l) b
 fold_push g a [] b = refl

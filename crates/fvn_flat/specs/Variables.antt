@@ -37,6 +37,10 @@ abbrev pub renaming : ℕ → List Var → Bindings
 renaming n [] = []
 renaming n (x ∷ vars) = (x, fvar (fresh_for n x)) ∷ renaming (n + 1) vars
 
+-- the fresh variables for those of the form, numbered along it from n; other variables stay
+abbrev pub fresh_names : ℕ → FlatTerm → Var → FlatTerm
+fresh_names n t = value (renaming n (distinct_variables t))
+
 -- s sends the variables of the form to fresh ones of the same sorts, numbered from first and below next, distinct ones to distinct ones
 pub record RenamesApart (t : FlatTerm) (first next : ℕ) (s : Var → FlatTerm) : Type 0 where
   pub fresh : (x : Var) → Occurs x (plain t) → (n : ℕ) × (s x ≡ fvar (fresh_for n x)) × (first ≤ n) × (n < next)

@@ -14,6 +14,7 @@ use fvn_sorts::Signature;
 use fvn_terms::{Axioms, NoMemory, OpId};
 use std::alloc::Global;
 
+// The identity of an operator with these axioms.
 fn identity_in(axioms: Axioms) -> Option<OpId>
     ensures { result ≡ identity axioms }
 {
@@ -26,6 +27,7 @@ fn identity_in(axioms: Axioms) -> Option<OpId>
 }
 
 impl Flat {
+    // Whether the term is a sum of the operator.
     fn is_sum_of(&self, f: OpId) -> bool
         ensures { result ≡ is_sum_of f self.now }
     {
@@ -41,6 +43,7 @@ impl Flat {
         }
     }
 
+    // The operator of a constant.
     fn as_constant(&self) -> Option<OpId>
         ensures { result ≡ as_constant self.now }
     {
@@ -55,6 +58,7 @@ impl Flat {
         }
     }
 
+    // The arguments, moved out.
     fn into_args(self, alloc: Global) -> Vec<Flat>
         ensures { result.items ≡ args_of self }
     {
@@ -65,6 +69,7 @@ impl Flat {
         }
     }
 
+    // The operator over the arguments as they are.
     pub(crate) fn unjoined(f: OpId, args: Vec<Flat>) -> Flat
         ensures { result ≡ fapp f false (fpack args.items) }
     {
@@ -98,6 +103,7 @@ fn add_summands(alloc: Global, sig: &Signature, f: OpId, summands: &mut Vec<Flat
     Ok(())
 }
 
+// The terms in order.
 fn sorted(mut ts: Vec<Flat>) -> Result<Vec<Flat>, NoMemory>
     ensures { IfOk result (λ us. us.items ≡ sort ts.items) }
 {
@@ -124,6 +130,7 @@ fn joined(alloc: Global, sig: &Signature, f: OpId, mut summands: Vec<Flat>) -> F
     }
 }
 
+// The sum of all summands of the arguments.
 fn summed(alloc: Global, sig: &Signature, f: OpId, args: Vec<Flat>) -> Result<Flat, NoMemory>
     ensures { IfOk result (λ t. t ≡ sum sig.now f (all_parts sig.now f args.items)) }
 {
@@ -154,6 +161,7 @@ impl Flat {
     pub fn app(alloc: Global, sig: &Signature, op: OpId, args: Vec<Flat>) -> Result<Flat, NoMemory>
         requires fit { AllFit sig.now args.items }
         requires takes { Takes sig.now op args.items }
+        // The flat form, which is equal modulo the axioms to the operator over the plain terms.
         ensures exact { IfOk result (λ t. t ≡ build sig.now op args.items) }
         ensures equal { IfOk result (λ t. BEqual sig.now (plain_over sig.now op args.items) (plain t)) }
         ensures fits { IfOk result (Fits sig.now) }

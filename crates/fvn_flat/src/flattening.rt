@@ -13,6 +13,7 @@ use fvn_sorts::Signature;
 use fvn_terms::{Args, NoMemory, OpId, Plain};
 use std::alloc::Global;
 
+// The flat form, also of what is no well-kinded term.
 fn flat_form(alloc: Global, sig: &Signature, t: &Plain) -> Result<Flat, NoMemory>
     ensures { IfOk result (λ u. u ≡ canon sig.now (term t.now)) }
 {
@@ -41,6 +42,7 @@ pub fn flatten(alloc: Global, sig: &Signature, t: &Plain) -> Result<Flat, NoMemo
     Ok(u)
 }
 
+// The operator over two terms.
 fn pair(alloc: Global, f: OpId, t: Plain, u: Plain) -> Result<Plain, NoMemory>
     ensures { IfOk result (λ v. term v ≡ two f (term t) (term u)) }
 {

@@ -15,7 +15,8 @@ impl Flat {
         ensures exact { IsTrue result ↔ (self.now ≡ other.now) }
         ensures equal { IsEqualWhereBothFit self.now other.now (IsTrue result) }
     {
-        self.compare(other).is_eq()
+        let order = self.compare(other);
+        order.is_eq()
     }
 
     // Which of two terms comes first; it stops at the first difference.

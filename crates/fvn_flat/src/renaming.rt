@@ -2,9 +2,8 @@
 ghost use Rattle.std.specs.Prelude.{◌≡◌, ◌+◌, ◌<◌, ◌≤◌, ◌^◌, length, IfOk};
 ghost use Rattle.fvn_forms.specs.Flat.{symbols};
 ghost use Rattle.fvn_forms.specs.Canon.{inst};
-ghost use Rattle.fvn_flat.specs.Bindings.{value};
 ghost use Rattle.fvn_flat.specs.Fits.{Fits};
-ghost use Rattle.fvn_flat.specs.Variables.{listed, with_variable, with_variables, distinct_variables, renaming, RenamesApart};
+ghost use Rattle.fvn_flat.specs.Variables.{listed, with_variable, with_variables, distinct_variables, renaming, fresh_names, RenamesApart};
 
 use crate::flat::{Flat, Node};
 use crate::substitution::Subst;
@@ -79,13 +78,16 @@ fn renaming(alloc: Global, vars: &[Var], first: u32) -> Result<Vec<(Var, Flat)>,
     Ok(pairs)
 }
 
-/// The term with its variables renamed to fresh ones, numbered along it, and the next free number.
+/// The term with its variables renamed to fresh ones of the same sorts, and the next free number.
+///
+/// They are numbered from `first` in order of first occurrence.
 pub fn rename_apart(alloc: Global, sig: &Signature, t: &Flat, first: u32) -> Result<(Flat, u32), NoMemory>
     requires term { Fits sig.now t.now }
     requires number { first ≤ MOST_RENAMED }
     requires size { symbols t.now ≤ MOST_RENAMED }
-    ensures renamed { IfOk result (λ r. r.0 ≡ inst sig.now (value (renaming first (distinct_variables t.now))) t.now) }
-    ensures apart { IfOk result (λ r. RenamesApart t.now first r.1 (value (renaming first (distinct_variables t.now)))) }
+    // Distinct variables go to distinct fresh ones, numbered from `first` up to below the next number.
+    ensures renamed { IfOk result (λ r. r.0 ≡ inst sig.now (fresh_names first t.now) t.now) }
+    ensures apart { IfOk result (λ r. RenamesApart t.now first r.1 (fresh_names first t.now)) }
     ensures next { IfOk result (λ r. r.1 ≡ first + length (distinct_variables t.now)) }
     ensures fits { IfOk result (λ r. Fits sig.now r.0) }
 {

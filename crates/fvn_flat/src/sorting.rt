@@ -10,6 +10,7 @@ use crate::flat::{Flat, Node};
 use fvn_sorts::Signature;
 use fvn_terms::{OpId, SortId};
 
+// The sort of a sum with one more summand of this sort.
 fn with_summand(sig: &Signature, f: OpId, sum: Option<SortId>, sort: SortId) -> SortId
     ensures { result ≡ with_summand sig.now f sum sort }
 {
@@ -19,6 +20,7 @@ fn with_summand(sig: &Signature, f: OpId, sum: Option<SortId>, sort: SortId) -> 
     }
 }
 
+// The sort of a sum, from that of its summands.
 fn whole_sort(sig: &Signature, f: OpId, sum: Option<SortId>) -> SortId
     ensures { result ≡ whole_sort sig.now f sum }
 {

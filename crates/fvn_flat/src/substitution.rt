@@ -82,6 +82,7 @@ impl Subst {
         None
     }
 
+    // The pairs, in memory of their own.
     fn copied(&self, alloc: Global) -> Result<Vec<(Var, Flat)>, NoMemory>
         ensures { IfOk result (λ pairs. pairs.items ≡ self.now) }
     {
@@ -137,6 +138,7 @@ impl Subst {
         Ok(u)
     }
 
+    // Whether the variable has a pair.
     fn is_bound(&self, v: Var) -> bool
         ensures { result ≡ is_some (bound self.now v) }
     {
@@ -174,6 +176,7 @@ impl Subst {
     pub fn compose(&self, alloc: Global, sig: &Signature, later: &Subst) -> Result<Subst, NoMemory>
         requires first { BindingsFit sig.now self.now }
         requires then { BindingsFit sig.now later.now }
+        // On every term this is one and then the other.
         ensures exact { IfOk result (λ s. s ≡ composed sig.now self.now later.now) }
         ensures both { IfOk result (IsOneThenOther sig.now self.now later.now) }
         ensures fits { IfOk result (BindingsFit sig.now) }
@@ -187,7 +190,7 @@ impl Subst {
         Ok(s)
     }
 
-    /// The pairs of the listed variables.
+    /// The substitution with just the pairs of the listed variables.
     pub fn restrict(&self, alloc: Global, vars: &[Var]) -> Result<Subst, NoMemory>
         ensures { IfOk result (IsRestriction vars.now self.now) }
     {

@@ -6,7 +6,7 @@ use Rattle.fvn_flat.proofs.Fitting.{equal_where_both_fit}
 use Rattle.fvn_flat.proofs.flat.Flat.same.Goals as goal
 
 pub returns-clause-exact : goal.returns-clause-exact
-returns-clause-exact c = same_exact c.args.self.now c.args.other.now c.is_eq.result (c.is_eq.ensures ∙ ap is_eq c.compare.ensures)
+returns-clause-exact c = same_exact c.args.self.now c.args.other.now c.is_eq.result (c.is_eq.ensures ∙ ap is_eq c.compare-order.ensures)
 
 pub returns-clause-equal : goal.returns-clause-equal
 returns-clause-equal c = equal_where_both_fit c.args.self.now c.args.other.now _ (returns-clause-exact c)
