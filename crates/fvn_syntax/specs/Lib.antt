@@ -1,0 +1,5 @@
+pub mod Names
+pub mod Pieces
+pub mod Raw
+pub mod Resolve
+pub mod Texts
