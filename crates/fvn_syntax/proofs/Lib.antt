@@ -1,0 +1,5 @@
+pub mod PieceLemmas
+pub mod FormReading
+pub mod FormSound
+pub mod FormExact
+pub mod TextLemmas

@@ -6,8 +6,10 @@ use Rattle.fvn_terms.specs.declared.declarations.Rank.{Rank}
 use Rattle.fvn_terms.specs.declared.declarations.Axioms.{Axioms}
 use Rattle.fvn_terms.specs.declared.declarations.Axioms.TheVariants.{Free, Comm, AssocComm, AssocCommId}
 use Rattle.fvn_terms.specs.declared.declarations.Declarations.{Declarations}
-use Rattle.fvn_terms.specs.Signature.{kind, declared, axioms}
+use Rattle.fvn_terms.specs.Signature.{kind, declared}
 use Rattle.fvn_syntax.specs.declared.names.Names.{Names}
+use Rattle.fvn_syntax.specs.declared.naming.Meaning.{Meaning}
+use Rattle.fvn_syntax.specs.declared.naming.Meaning.TheVariants.{Constant, Variable}
 use Rattle.fvn_syntax.specs.declared.sorts.RawSort.{RawSort}
 use Rattle.fvn_syntax.specs.declared.sorts.RawSort.TheVariants.{Name, Kind}
 use Rattle.fvn_syntax.specs.Pieces.{Text}
@@ -58,39 +60,39 @@ module _ (sorts : List Text) where
   abbrev pub sorted_name : Text → Option (Text × SortId)
   sorted_name w = split_at w (last_colon w)
 
-  module _ (kinds : List SortId) where
-    -- the kind, where the sort is of it
-    abbrev pub if_of_kind : SortId → Option SortId → Option SortId
-    if_of_kind k None = None
-    if_of_kind k (Some s) = if same_sort (kind_in kinds s) k then Some k else None
+-- the kind, where the sort is of it
+abbrev pub if_of_kind : List SortId → SortId → Option SortId → Option SortId
+if_of_kind kinds k None = None
+if_of_kind kinds k (Some s) = if same_sort (kind_in kinds s) k then Some k else None
 
-    -- the kind, where all these are sorts of it
-    abbrev pub kind_of_all : Option SortId → List Text → Option SortId
-    kind_of_all None ss = None
-    kind_of_all (Some k) [] = Some k
-    kind_of_all (Some k) (s ∷ ss) = kind_of_all (if_of_kind k (sort_named s)) ss
+abbrev pub kind_of : List SortId → Option SortId → Option SortId
+kind_of kinds None = None
+kind_of kinds (Some s) = Some (kind_in kinds s)
 
-    abbrev pub kind_of : Option SortId → Option SortId
-    kind_of None = None
-    kind_of (Some s) = Some (kind_in kinds s)
+module _ (sorts : List Text) (kinds : List SortId) where
+  -- the kind, where all these are sorts of it
+  abbrev pub kind_of_all : Option SortId → List Text → Option SortId
+  kind_of_all None ss = None
+  kind_of_all (Some k) [] = Some k
+  kind_of_all (Some k) (s ∷ ss) = kind_of_all (if_of_kind kinds k (sort_named sorts s)) ss
 
-    -- the kind of the sorts of a bracket, which are all of one kind
-    abbrev pub bracket : Text → List Text → Option SortId
-    bracket s ss = kind_of_all (kind_of (sort_named s)) ss
+  -- the kind of the sorts of a bracket, which are all of one kind
+  abbrev pub bracket : Text → List Text → Option SortId
+  bracket s ss = kind_of_all (kind_of kinds (sort_named sorts s)) ss
 
-    -- the sort that is written
-    abbrev pub resolve_sort : RawSort → Option SortId
-    resolve_sort (Name s) = sort_named s
-    resolve_sort (Kind s ss) = bracket s ss
-
--- What a name alone stands for: a constant, or the variable of a name and a sort.
-pub data Meaning : Type 0 where
-  a_constant : OpId → Meaning
-  a_variable : Text → SortId → Meaning
+  -- the sort that is written
+  abbrev pub resolve_sort : RawSort → Option SortId
+  resolve_sort (Name s) = sort_named sorts s
+  resolve_sort (Kind s ss) = bracket s ss
 
 abbrev pub variable_of : Option (Text × SortId) → Option Meaning
 variable_of None = None
-variable_of (Some x) = Some (a_variable x.0 x.1)
+variable_of (Some x) = Some (Variable x.0 x.1)
+
+-- the sort of the declared variable at a place
+abbrev pub declared_sort : List SortId → Option ℕ → Option SortId
+declared_sort sorts None = None
+declared_sort sorts (Some i) = slice_get sorts i
 
 abbrev pub first_args : List Rank → List SortId
 first_args [] = []
@@ -108,47 +110,43 @@ is_sum AssocComm = true
 is_sum (AssocCommId e) = true
 
 module _ (d : Declarations) where
-  -- the kinds of an operator's arguments and of its result
+  -- the sorts of an operator's arguments, in its first declaration
   abbrev pub args_of : OpId → List SortId
   args_of f = first_args (declared d f).ranks
 
   abbrev pub arity_of : OpId → ℕ
   arity_of f = length (args_of f)
 
+  -- the kind of an operator's results
   abbrev pub result_of : OpId → SortId
   result_of f = kind d (first_result (declared d f).ranks)
 
-  module _ (names : Names) where
-    -- the operator of a name
-    abbrev pub op_named : Text → Option OpId
-    op_named w = op_at (place names.ops w)
+  abbrev pub if_constant : Option OpId → Option OpId
+  if_constant None = None
+  if_constant (Some f) = if arity_of f == 0 then Some f else None
 
-    abbrev pub if_constant : Option OpId → Option OpId
-    if_constant None = None
-    if_constant (Some f) = if arity_of f == 0 then Some f else None
+module _ (names : Names) where
+  -- the operator of a name
+  abbrev pub op_named : Text → Option OpId
+  op_named w = op_at (place names.ops w)
 
-    -- the constant of a name
-    abbrev pub constant_named : Text → Option OpId
-    constant_named w = if_constant (op_named w)
+  -- a declared variable, or else NAME:SORT
+  abbrev pub variable_or : Text → Option SortId → Option (Text × SortId)
+  variable_or w None = sorted_name names.sorts w
+  variable_or w (Some s) = Some (w, s)
 
-    -- the declared variable of a name: its sort
-    abbrev pub declared_sort : Option ℕ → Option SortId
-    declared_sort None = None
-    declared_sort (Some i) = slice_get names.variables.sorts i
+  abbrev pub variable_named : Text → Option (Text × SortId)
+  variable_named w = variable_or w (declared_sort names.variables.sorts (place names.variables.texts w))
 
-    -- a declared variable, or else NAME:SORT
-    abbrev pub variable_or : Text → Option (Text × SortId) → Option (Text × SortId)
-    variable_or w None = sorted_name names.sorts w
-    variable_or w (Some x) = Some x
+  -- a constant, or else a variable
+  abbrev pub constant_or : Text → Option OpId → Option Meaning
+  constant_or w None = variable_of (variable_named w)
+  constant_or w (Some f) = Some (Constant f)
 
-    abbrev pub variable_named : Text → Option (Text × SortId)
-    variable_named w = variable_or w (of_sort w (declared_sort (place names.variables.texts w)))
+-- the constant of a name
+abbrev pub constant_named : Declarations → Names → Text → Option OpId
+constant_named d names w = if_constant d (op_named names w)
 
-    -- a constant, or else a variable
-    abbrev pub constant_or : Text → Option OpId → Option Meaning
-    constant_or w None = variable_of (variable_named w)
-    constant_or w (Some f) = Some (a_constant f)
-
-    -- A name alone is a declared constant, or else a declared variable, or else NAME:SORT.
-    abbrev pub resolve_name : Text → Option Meaning
-    resolve_name w = constant_or w (constant_named w)
+-- A name alone is a declared constant, or else a declared variable, or else NAME:SORT.
+abbrev pub resolve_name : Declarations → Names → Text → Option Meaning
+resolve_name d names w = constant_or names w (constant_named d names w)

@@ -9,13 +9,15 @@ use Rattle.fvn_terms.specs.declared.declarations.Declarations.{Declarations}
 use Rattle.fvn_terms.specs.Signature.{kind, axioms}
 use Rattle.fvn_terms.specs.Term.{none}
 use Rattle.fvn_terms.specs.Plain.{terms}
-use Rattle.fvn_syntax.specs.declared.names.Names.{Names}
 use Rattle.fvn_syntax.specs.declared.fault.TermFault.{TermFault}
 use Rattle.fvn_syntax.specs.declared.fault.TermFault.TheVariants.{ReservedName, UnknownName, Arity, WrongKind}
+use Rattle.fvn_syntax.specs.Scope.{Scope}
 use Rattle.fvn_syntax.specs.Pieces.{Text, is_reserved, without_last}
 use Rattle.fvn_syntax.specs.Raw.{RawTerm, RawTerms, name, call, round, kind_variable, last, and}
 use Rattle.fvn_syntax.specs.Texts.{place_or_end, with_text}
-use Rattle.fvn_syntax.specs.Names.{Meaning, a_constant, a_variable, resolve_name, op_named, bracket, args_of, arity_of, result_of, is_sum, same_sort}
+use Rattle.fvn_syntax.specs.declared.naming.Meaning.{Meaning}
+use Rattle.fvn_syntax.specs.declared.naming.Meaning.TheVariants.{Constant, Variable}
+use Rattle.fvn_syntax.specs.Names.{resolve_name, op_named, bracket, args_of, arity_of, result_of, is_sum, same_sort}
 
 -- a term with its kind, and the names of the variables so far, in order of first occurrence
 pub record Resolved : Type 0 where
@@ -30,9 +32,9 @@ pub record AllResolved : Type 0 where
   pub texts : List Text
 
 -- the first fault, or what follows
-abbrev pub then : {A B : Type 0} → Result A TermFault → (A → Result B TermFault) → Result B TermFault
-then (Ok a) next = next a
-then (Err fault) next = Err fault
+abbrev pub bind : {A B : Type 0} → Result A TermFault → (A → Result B TermFault) → Result B TermFault
+bind (Ok a) next = next a
+bind (Err fault) next = Err fault
 
 -- the value, or this fault
 abbrev pub or_fault : {A : Type 0} → TermFault → Option A → Result A TermFault
@@ -98,30 +100,33 @@ module _ (d : Declarations) where
       unless (application_fault (is_sum (axioms d f)) f r.kinds)
       (record { term = applied (is_sum (axioms d f)) f r.terms; kind = result_of d f; texts = r.texts })
 
-  module _ (names : Names) (guarded : Bool) where
-    abbrev pub resolve_meaning : List Text → Option Meaning → Result Resolved TermFault
-    resolve_meaning texts None = Err UnknownName
-    resolve_meaning texts (Some (a_constant f)) = Ok (record { term = App f none; kind = result_of d f; texts = texts })
-    resolve_meaning texts (Some (a_variable x s)) = checked guarded x (Ok (the_variable texts x s (kind d s)))
+module _ (s : Scope) where
+  abbrev pub the_constant : List Text → OpId → Resolved
+  the_constant texts f = record { term = App f none; kind = result_of s.declarations f; texts = texts }
 
-    abbrev pub resolve_kind : List Text → Text → Option SortId → Result Resolved TermFault
-    resolve_kind texts x None = Err UnknownName
-    resolve_kind texts x (Some k) = Ok (the_variable texts x k (kind d k))
+  abbrev pub resolve_meaning : List Text → Option Meaning → Result Resolved TermFault
+  resolve_meaning texts None = Err UnknownName
+  resolve_meaning texts (Some (Constant f)) = Ok (the_constant texts f)
+  resolve_meaning texts (Some (Variable x q)) = checked s.guarded x (Ok (the_variable texts x q (kind s.declarations q)))
 
-    -- What a written term stands for, or its first fault from left to right: a name is tested where it
-    -- stands, an application after its arguments.
-    abbrev mutual
-      pub resolve : List Text → RawTerm → Result Resolved TermFault
-      resolve texts (name w) = resolve_meaning texts (resolve_name d names w)
-      resolve texts (round t) = resolve texts t
-      resolve texts (kind_variable x s ss) =
-          checked guarded (without_last x) (resolve_kind texts (without_last x) (bracket names.sorts d.kinds s ss))
-      resolve texts (call w ts) =
-          then (or_fault UnknownName (op_named d names w)) (λ f. then (resolve_all texts ts) (apply f))
+  abbrev pub resolve_kind : List Text → Text → Option SortId → Result Resolved TermFault
+  resolve_kind texts x None = Err UnknownName
+  resolve_kind texts x (Some k) = Ok (the_variable texts x k (kind s.declarations k))
 
-      pub resolve_all : List Text → RawTerms → Result AllResolved TermFault
-      resolve_all texts (last t) =
-          then (resolve texts t) (λ r. Ok (record { terms = r.term ∷ []; kinds = r.kind ∷ []; texts = r.texts }))
-      resolve_all texts (and t ts) =
-          then (resolve texts t) (λ r. then (resolve_all r.texts ts)
-          (λ rs. Ok (record { terms = r.term ∷ rs.terms; kinds = r.kind ∷ rs.kinds; texts = rs.texts })))
+  -- What a written term stands for, or its first fault from left to right: a name is tested where it
+  -- stands, an application after its arguments.
+  abbrev mutual
+    pub resolve : List Text → RawTerm → Result Resolved TermFault
+    resolve texts (name w) = resolve_meaning texts (resolve_name s.declarations s.names w)
+    resolve texts (round t) = resolve texts t
+    resolve texts (kind_variable x first others) =
+        checked s.guarded (without_last x) (resolve_kind texts (without_last x) (bracket s.names.sorts s.declarations.kinds first others))
+    resolve texts (call w ts) =
+        bind (or_fault UnknownName (op_named s.names w)) (λ f. bind (resolve_all texts ts) (apply s.declarations f))
+
+    pub resolve_all : List Text → RawTerms → Result AllResolved TermFault
+    resolve_all texts (last t) =
+        bind (resolve texts t) (λ r. Ok (record { terms = r.term ∷ []; kinds = r.kind ∷ []; texts = r.texts }))
+    resolve_all texts (and t ts) =
+        bind (resolve texts t) (λ r. bind (resolve_all r.texts ts)
+        (λ rs. Ok (record { terms = r.term ∷ rs.terms; kinds = r.kind ∷ rs.kinds; texts = rs.texts })))

@@ -1,9 +1,10 @@
 //! Lists of different texts, in which a text is found by its hash.
-ghost use Rattle.std.specs.Prelude.{◌≡◌, ◌≢◌, ◌<◌, ◌^◌, [], length, slice_get, Some, IfOk, IfErr, OnErr, AllPairs, alloc_error};
+ghost use Rattle.std.specs.Prelude.{◌≡◌, ◌≢◌, ◌<◌, ◌^◌, [], length, slice_get, Some, IfOk, OnErr, AllPairs};
 ghost use Rattle.fvn_syntax.specs.Texts.{place, place_or_end, with_text};
 
+use fvn_terms::NoMemory;
 use indexmap::IndexSet;
-use std::alloc::{AllocError, AllocFailed, Global};
+use std::alloc::Global;
 use std::marker::Model;
 
 /// Different texts in their order; contracts see the list of them.
@@ -69,7 +70,7 @@ impl Texts {
     }
 
     /// The place of a text, which is put at the end where it is new.
-    pub fn insert(&mut self, alloc: Global, text: &[u8]) -> Result<usize, AllocError>
+    pub fn insert(&mut self, alloc: Global, text: &[u8]) -> Result<usize, NoMemory>
         ensures place { IfOk result (λ i. i ≡ place_or_end self.old text.now) }
         ensures texts { IfOk result (λ i. self.new ≡ with_text self.old text.now) }
         ensures err { OnErr result (self.new ≡ self.old) }
@@ -79,9 +80,7 @@ impl Texts {
         }
         let i = self.len();
         let copy = Vec::from_slice(alloc, text)?;
-        match self.set.insert(copy) {
-            Ok(_) => Ok(i),
-            Err(_) => Err(AllocError),
-        }
+        self.set.insert(copy)?;
+        Ok(i)
     }
 }
