@@ -3,3 +3,5 @@ pub mod FormReading
 pub mod FormSound
 pub mod FormExact
 pub mod TextLemmas
+pub mod TermReading
+pub mod TermMeaning

@@ -1,8 +1,11 @@
 //! Tokens with their texts, which are parts of the text that was cut.
-ghost use Rattle.std.specs.Prelude.{◌≡◌, Some, slice_get, codes};
-ghost use Rattle.fvn_syntax.specs.Pieces.{is_word, is_name, is_special, is_dot, passes};
+ghost use Rattle.std.specs.Prelude.{◌≡◌, ◌⊎◌, Some, Err, IfOk, IfErr};
+ghost use Rattle.fvn_lex.specs.declared.token.LexFault.TheVariants.{NoMemory as OutOfMemory};
+ghost use Rattle.fvn_lex.specs.Cut.{lex, pieces_of};
+ghost use Rattle.fvn_syntax.specs.Pieces.{is_word, is_name, is_special, is_dot};
 
-use fvn_lex::Class;
+use fvn_lex::{Class, LexFault, tokens};
+use std::alloc::Global;
 use std::marker::Model;
 
 /// Bytes of a text.
@@ -130,4 +133,18 @@ impl<'a> Row<'a> {
     {
         self.pieces
     }
+}
+
+/// The pieces of a text, or the fault for which it has none.
+pub fn cut<'a>(alloc: Global, bytes: &'a [u8]) -> Result<Vec<Piece<'a>>, LexFault>
+    ensures ok { IfOk result (λ list. pieces_of bytes.now ≡ Some list.items) }
+    ensures err { IfErr result (λ fault. (fault ≡ OutOfMemory) ⊎ (lex bytes.now ≡ Err fault)) }
+{
+    let list = tokens(alloc, bytes)?;
+    let mut pieces = Vec::new(alloc);
+    for token in &list {
+        let text = &bytes[token.start..token.end];
+        pieces.push(Piece::new(token.class, text))?;
+    }
+    Ok(pieces)
 }

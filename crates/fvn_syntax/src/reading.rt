@@ -5,6 +5,7 @@ ghost use Rattle.fvn_syntax.specs.declared.fault.TermFault.TheVariants.{NoMemory
 ghost use Rattle.fvn_syntax.specs.Pieces.{without_last, is_reserved};
 ghost use Rattle.fvn_syntax.specs.Names.{op_named};
 ghost use Rattle.fvn_syntax.specs.Resolve.{the_constant, the_variable, applied, checked};
+ghost use Rattle.fvn_syntax.specs.Readings.{Reads, Refuses};
 ghost use Rattle.fvn_syntax.specs.inner.Reading.{
   state,
   start,
@@ -462,4 +463,22 @@ fn read_row(
         reading = reading.read(alloc, limit, scope, piece)?;
     }
     reading.finish(alloc, limit, scope)
+}
+
+/// What a written term stands for, after what was seen before, or its first fault from left to right.
+///
+/// A term with which there are more symbols than the limit is tested and counted to its end, and not built. The
+/// depth of the term costs no call depth.
+pub fn read_term(
+    alloc: Global,
+    limit: usize,
+    scope: &Scope<'_>,
+    seen: Seen,
+    row: &[Piece<'_>],
+) -> Result<(Kinded, Seen), TermFault>
+    ensures ok { IfOk result (Reads scope.now limit seen row.now) }
+    ensures err { IfErr result (λ fault. (fault ≡ OutOfMemory) ⊎ Refuses scope.now seen.texts row.now fault) }
+{
+    let read = read_row(alloc, limit, scope, seen, row)?;
+    Ok(read)
 }

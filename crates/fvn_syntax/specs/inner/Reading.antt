@@ -1,5 +1,5 @@
 -- The reader of what a term stands for, piece by piece, with what is not closed on a stack.
-use Rattle.std.specs.Prelude.{ℕ, ◌≡◌, ◌+◌, ◌^◌, ◌-◌, Bool, true, false, ◌&&◌, nat_le, min, if◌then◌else◌, List, [], ◌∷◌, ◌++◌, length, reverse, Result, Ok, Err, Option, Some, None, codes}
+use Rattle.std.specs.Prelude.{ℕ, ◌≡◌, ◌-◌, Bool, true, false, ◌&&◌, nat_le, if◌then◌else◌, List, [], ◌∷◌, ◌++◌, length, reverse, Result, Ok, Err, Option, Some, None, codes}
 use Rattle.fvn_lex.specs.Cut.{Piece}
 use Rattle.fvn_terms.specs.declared.plain.OpId.{OpId}
 use Rattle.fvn_terms.specs.declared.plain.SortId.{SortId}
@@ -19,6 +19,7 @@ use Rattle.fvn_syntax.specs.Scope.{Scope}
 use Rattle.fvn_syntax.specs.Pieces.{Text, is_special, is_colon_name, without_last}
 use Rattle.fvn_syntax.specs.Names.{resolve_name, op_named, sort_named, kind_of, if_of_kind, is_sum}
 use Rattle.fvn_syntax.specs.Resolve.{Resolved, bind, or_fault, checked, the_variable, resolve_meaning, apply}
+use Rattle.fvn_syntax.specs.Readings.{sum_or_most}
 
 -- what is not closed, the innermost first, what was read last, and what was seen so far
 pub record State : Type 0 where
@@ -39,10 +40,6 @@ start seen = state [] Wanted seen
 abbrev pub result_view : Result Reading TermFault → Result State TermFault
 result_view (Ok r) = Ok (view r)
 result_view (Err fault) = Err fault
-
--- the sum, or the greatest number
-abbrev pub sum_or_most : ℕ → ℕ → ℕ
-sum_or_most a b = min (a + b) (2 ^ 64 - 1)
 
 -- a term in place of those that are not built
 abbrev pub unbuilt : Plain
