@@ -5,3 +5,4 @@ pub mod FormExact
 pub mod TextLemmas
 pub mod TermReading
 pub mod TermMeaning
+pub mod Nesting

@@ -143,8 +143,8 @@ module _ (limit : ℕ) where
                 (b (sum-below seen.count (own_symbols (is_sum (axioms c.declarations f)) (length r.kinds)) limit most h));
           }
 
-    agree-call : (s : Seen) (f : OpId) (as : Result Arguments TermFault) (rs : Result AllResolved TermFault) → AgreeAll s [] [] as rs →
-        Agree s (bind as (λ a. closed limit c a.seen f a.kinds a.terms)) (bind rs (apply c.declarations f))
+    agree-call : (s : Seen) (f : OpId) (args : Result Arguments TermFault) (rs : Result AllResolved TermFault) → AgreeAll s [] [] args rs →
+        Agree s (bind args (λ a. closed limit c a.seen f a.kinds a.terms)) (bind rs (apply c.declarations f))
     agree-call s f (Ok a) (Ok r) h =
         subst (λ ks. Agree s (closed limit c a.seen f ks a.terms) (apply c.declarations f r)) (sym h.kinds)
         (closed-same s a.seen a.terms r f h.texts h.count h.built h.lengths h.some)
@@ -169,9 +169,9 @@ module _ (limit : ℕ) where
     agree-last s ks us (Err e) (Err f) h = h
 
     joined : (s : Seen) (ks : List SortId) (us : List Plain) (v : Kinded × Seen) (r : Resolved) → Same s v r →
-        (as : Result Arguments TermFault) (rs : Result AllResolved TermFault) →
-        AgreeAll v.1 (ks ++ (v.0.kind ∷ [])) (us ++ (v.0.term ∷ [])) as rs →
-        AgreeAll s ks us as (bind rs (λ x. Ok (record { terms = r.term ∷ x.terms; kinds = r.kind ∷ x.kinds; texts = x.texts })))
+        (args : Result Arguments TermFault) (rs : Result AllResolved TermFault) →
+        AgreeAll v.1 (ks ++ (v.0.kind ∷ [])) (us ++ (v.0.term ∷ [])) args rs →
+        AgreeAll s ks us args (bind rs (λ x. Ok (record { terms = r.term ∷ x.terms; kinds = r.kind ∷ x.kinds; texts = x.texts })))
     joined s ks us v r h (Ok a) (Ok x) g =
         record {
           kinds = g.kinds ∙ append_assoc ks (v.0.kind ∷ []) x.kinds ∙ ap (λ k. ks ++ (k ∷ x.kinds)) h.kind;

@@ -110,7 +110,7 @@ module _ (limit : ℕ) (c : Scope) where
       go : (o : Option SortId) →
           ((n : SortId) → run limit c (state fs (Sorts x (Some n)) s) (spell_others qs ++ rest)
           ≡ bind (kind_value s x (kind_of_all c.names.sorts c.declarations.kinds (Some n) qs)) (goes_on fs rest)) →
-          bind (read_sort limit c fs s x o) (λ next. run limit c next (spell_others qs ++ rest))
+          bind (read_sort fs s x o) (λ next. run limit c next (spell_others qs ++ rest))
           ≡ bind (kind_value s x (kind_of_all c.names.sorts c.declarations.kinds o qs)) (goes_on fs rest)
       go None later = refl
       go (Some n) later = later n
@@ -123,7 +123,7 @@ module _ (limit : ℕ) (c : Scope) where
       ∙ go (kind_of c.declarations.kinds (sort_named c.names.sorts q))
     where
       go : (o : Option SortId) →
-          bind (read_sort limit c fs s x o) (λ next. run limit c next (spell_others qs ++ rest))
+          bind (read_sort fs s x o) (λ next. run limit c next (spell_others qs ++ rest))
           ≡ bind (kind_value s x (kind_of_all c.names.sorts c.declarations.kinds o qs)) (goes_on fs rest)
       go None = refl
       go (Some n) = more-sorts qs n x fs s rest
@@ -140,6 +140,17 @@ module _ (limit : ℕ) (c : Scope) where
           ≡ bind (if b then Err ReservedName else kind_value s (without_last x) (bracket c.names.sorts c.declarations.kinds q qs)) (goes_on fs rest)
       go true = refl
       go false = first-sort q qs (without_last x) fs s rest
+
+  opened : (o : Option OpId) (ts : RawTerms) (fs : List Frame) (s : Seen) (rest : List Piece) →
+      ((f : OpId) → run limit c (state (Call f [] [] ∷ fs) Wanted s) (spell_all ts ++ (right_paren ∷ rest))
+      ≡ bind (values s [] [] ts) (λ a. bind (closed limit c a.seen f a.kinds a.terms) (goes_on fs rest))) →
+      bind (open_call fs s o) (λ next. run limit c next ((spell_all ts ++ (right_paren ∷ [])) ++ rest))
+      ≡ bind (bind (or_fault UnknownName o) (λ f. bind (values s [] [] ts) (λ a. closed limit c a.seen f a.kinds a.terms))) (goes_on fs rest)
+  opened None ts fs s rest later = refl
+  opened (Some f) ts fs s rest later =
+      ap (run limit c (state (Call f [] [] ∷ fs) Wanted s)) (append_assoc (spell_all ts) (right_paren ∷ []) rest)
+      ∙ later f
+      ∙ sym (bind-bind (values s [] [] ts) (λ a. closed limit c a.seen f a.kinds a.terms) (goes_on fs rest))
 
   mutual
     pub read-term : (t : RawTerm) → IsWritten t → (fs : List Frame) (s : Seen) (rest : List Piece) → EndsBefore rest t →
@@ -159,17 +170,6 @@ module _ (limit : ℕ) (c : Scope) where
         ∙ run-cons (state fs (Named w) s) left_paren ((spell_all ts ++ (right_paren ∷ [])) ++ rest)
         ∙ opened (op_named c.names w) ts fs s rest (λ f. read-all ts h f fs s [] [] rest)
 
-    opened : (o : Option OpId) (ts : RawTerms) (fs : List Frame) (s : Seen) (rest : List Piece) →
-        ((f : OpId) → run limit c (state (Call f [] [] ∷ fs) Wanted s) (spell_all ts ++ (right_paren ∷ rest))
-        ≡ bind (values s [] [] ts) (λ a. bind (closed limit c a.seen f a.kinds a.terms) (goes_on fs rest))) →
-        bind (open_call limit c fs s o) (λ next. run limit c next ((spell_all ts ++ (right_paren ∷ [])) ++ rest))
-        ≡ bind (bind (or_fault UnknownName o) (λ f. bind (values s [] [] ts) (λ a. closed limit c a.seen f a.kinds a.terms))) (goes_on fs rest)
-    opened None ts fs s rest later = refl
-    opened (Some f) ts fs s rest later =
-        ap (run limit c (state (Call f [] [] ∷ fs) Wanted s)) (append_assoc (spell_all ts) (right_paren ∷ []) rest)
-        ∙ later f
-        ∙ sym (bind-bind (values s [] [] ts) (λ a. closed limit c a.seen f a.kinds a.terms) (goes_on fs rest))
-
     pub read-all : (ts : RawTerms) → AreWritten ts → (f : OpId) (fs : List Frame) (s : Seen) (ks : List SortId) (us : List Plain) (rest : List Piece) →
         run limit c (state (Call f ks us ∷ fs) Wanted s) (spell_all ts ++ (right_paren ∷ rest))
         ≡ bind (values s ks us ts) (λ a. bind (closed limit c a.seen f a.kinds a.terms) (goes_on fs rest))
@@ -178,7 +178,7 @@ module _ (limit : ℕ) (c : Scope) where
         ∙ bind-same (value s t) (goes_on (Call f ks us ∷ fs) (right_paren ∷ rest))
         (λ v. bind (closed limit c v.1 f (ks ++ (v.0.kind ∷ [])) (us ++ (v.0.term ∷ []))) (goes_on fs rest))
         (λ v. run-cons (state (Call f ks us ∷ fs) (Whole v.0) v.1) right_paren rest
-        ∙ bind-bind (closed limit c v.1 f (ks ++ (v.0.kind ∷ [])) (us ++ (v.0.term ∷ []))) (whole limit c fs) (λ next. run limit c next rest))
+        ∙ bind-bind (closed limit c v.1 f (ks ++ (v.0.kind ∷ [])) (us ++ (v.0.term ∷ []))) (whole fs) (λ next. run limit c next rest))
         ∙ sym (bind-bind (value s t) (λ v. Ok (arguments v.1 (ks ++ (v.0.kind ∷ [])) (us ++ (v.0.term ∷ []))))
         (λ a. bind (closed limit c a.seen f a.kinds a.terms) (goes_on fs rest)))
     read-all (and t ts) h f fs s ks us rest =

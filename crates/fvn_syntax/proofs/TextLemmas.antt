@@ -5,6 +5,7 @@ use Rattle.std.specs.List.{list_any, position_from, IsDistinct, AllByRecursion}
 use Rattle.std.specs.Str.{bytes_eq}
 use Rattle.std.proofs.lemmas.Slice.Eq.{bytes_eq-Decides}
 use Rattle.std.proofs.lemmas.Map.Made.{AllPairs-from_IsDistinct}
+use Rattle.indexmap.specs.IndexSet.{insert_key}
 use Rattle.fvn_syntax.specs.Pieces.{Text}
 use Rattle.fvn_syntax.specs.Texts.{place, with_text}
 
@@ -49,3 +50,22 @@ Key = Vec ℕ Global
 
 abbrev pub bytes_in : Key → Text
 bytes_in v = v.items
+
+map-push : (keys : List Key) (key : Key) → map bytes_in (keys ++ (key ∷ [])) ≡ map bytes_in keys ++ (key.items ∷ [])
+map-push [] key = refl
+map-push (k ∷ keys) key = ap (λ ts. k.items ∷ ts) (map-push keys key)
+
+abbrev same_bytes : Key → Key → Bool
+same_bytes v w = bytes_eq v.items w.items
+
+-- a new key goes to the end
+pub inserted : (keys news : List Key) (copy : Key) (old : List Text) (text : Text) → map bytes_in keys ≡ old → copy.items ≡ text →
+    place old text ≡ None → news ≡ insert_key same_bytes keys copy → map bytes_in news ≡ old ++ (text ∷ [])
+inserted keys news copy old text h e none n = ap (map bytes_in) (n ∙ last) ∙ map-push keys copy ∙ ap (λ ts. ts ++ (copy.items ∷ [])) h ∙ ap (λ t. old ++ (t ∷ [])) e where
+  absent : list_any (same_bytes copy) keys ≡ false
+  absent =
+      position-any (λ w. bytes_eq copy.items (bytes_in w)) 0 keys
+      ∙ ap (λ o. not (is_none o)) (sym (position-map (bytes_eq copy.items) bytes_in 0 keys) ∙ ap (λ ts. place ts copy.items) h ∙ ap (place old) e ∙ none)
+
+  last : insert_key same_bytes keys copy ≡ keys ++ (copy ∷ [])
+  last = rw absent refl

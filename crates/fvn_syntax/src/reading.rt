@@ -1,5 +1,5 @@
 //! Reading what a term stands for, piece by piece, with what is not closed on a stack.
-ghost use Rattle.std.specs.Prelude.{◌≡◌, ◌⊎◌, ◌&&◌, [], ◌∷◌, reverse, Ok, Err, None, IfOk, IfErr};
+ghost use Rattle.std.specs.Prelude.{◌≡◌, ◌⊎◌, ◌&&◌, ◌++◌, [], ◌∷◌, reverse, Ok, Err, None, IfOk, IfErr};
 ghost use Rattle.fvn_terms.specs.Signature.{kind};
 ghost use Rattle.fvn_syntax.specs.declared.fault.TermFault.TheVariants.{NoMemory as OutOfMemory};
 ghost use Rattle.fvn_syntax.specs.Pieces.{without_last, is_reserved};
@@ -67,7 +67,7 @@ pub struct Reading<'a> {
 
 // The reading that goes on here.
 fn reading_at<'a>(frames: Vec<Frame>, spot: Spot<'a>, seen: Seen) -> Reading<'a>
-    ensures { view result ≡ state (reverse frames.items) spot seen }
+    ensures { view result ≡ state (reverse frames.items) spot.entry seen }
 {
     Reading { frames, spot, seen }
 }
@@ -248,6 +248,32 @@ fn read_behind_argument<'a>(
     Ok(reading_at(frames, Spot::Whole(term), seen))
 }
 
+// Puts a whole term behind these arguments, and reads the piece behind it.
+fn add_argument<'a>(
+    alloc: Global,
+    limit: usize,
+    scope: &Scope<'_>,
+    frames: Vec<Frame>,
+    seen: Seen,
+    piece: &Piece<'a>,
+    op: OpId,
+    kinds: Seq<SortId>,
+    terms: Seq<Plain>,
+    whole: Kinded,
+) -> Result<Reading<'a>, TermFault>
+    ensures ok { IfOk result (λ next. behind_argument limit scope.now (reverse frames.items) seen piece.now op (kinds ++ (whole.kind ∷ [])) (terms ++ (whole.term ∷ [])) ≡ Ok (view next)) }
+    ensures err { IfErr result (λ fault. (fault ≡ OutOfMemory) ⊎ (behind_argument limit scope.now (reverse frames.items) seen piece.now op (kinds ++ (whole.kind ∷ [])) (terms ++ (whole.term ∷ [])) ≡ Err fault)) }
+{
+    let Kinded { term, kind } = whole;
+    let mut kinds = kinds.into_vec();
+    kinds.push(kind)?;
+    let mut terms = terms.into_vec();
+    terms.push(term)?;
+    read_behind_argument(
+        alloc, limit, scope, frames, seen, piece, op, kinds, terms,
+    )
+}
+
 // Reads a piece behind a whole term.
 fn read_behind<'a>(
     alloc: Global,
@@ -265,12 +291,7 @@ fn read_behind<'a>(
         None => Ok(reading_at(frames, Spot::Whole(whole), seen)),
         Some(Frame::Round) => Ok(reading_at(frames, Spot::Whole(whole), seen)),
         Some(Frame::Call(op, kinds, terms)) => {
-            let Kinded { term, kind } = whole;
-            let mut kinds = kinds.into_vec();
-            kinds.push(kind)?;
-            let mut terms = terms.into_vec();
-            terms.push(term)?;
-            read_behind_argument(alloc, limit, scope, frames, seen, piece, op, kinds, terms)
+            add_argument(alloc, limit, scope, frames, seen, piece, op, kinds, terms, whole)
         }
     }
 }
@@ -368,8 +389,8 @@ fn read_sorts<'a>(
     kind: Option<SortId>,
     piece: &Piece<'a>,
 ) -> Result<Reading<'a>, TermFault>
-    ensures ok { IfOk result (λ next. step_at limit scope.now (reverse frames.items) seen piece.now (Spot.Sorts name kind) ≡ Ok (view next)) }
-    ensures err { IfErr result (λ fault. (fault ≡ OutOfMemory) ⊎ (step_at limit scope.now (reverse frames.items) seen piece.now (Spot.Sorts name kind) ≡ Err fault)) }
+    ensures ok { IfOk result (λ next. step_at limit scope.now (reverse frames.items) seen piece.now (Spot.Sorts name.entry kind) ≡ Ok (view next)) }
+    ensures err { IfErr result (λ fault. (fault ≡ OutOfMemory) ⊎ (step_at limit scope.now (reverse frames.items) seen piece.now (Spot.Sorts name.entry kind) ≡ Err fault)) }
 {
     if piece.is_special(b"]") {
         return match kind {
@@ -398,8 +419,8 @@ impl<'a> Reading<'a> {
         scope: &Scope<'_>,
         piece: &Piece<'a>,
     ) -> Result<Reading<'a>, TermFault>
-        ensures ok { IfOk result (λ next. step limit scope.now (view self) piece.now ≡ Ok (view next)) }
-        ensures err { IfErr result (λ fault. (fault ≡ OutOfMemory) ⊎ (step limit scope.now (view self) piece.now ≡ Err fault)) }
+        ensures ok { IfOk result (λ next. step limit scope.now (view self.entry) piece.now ≡ Ok (view next)) }
+        ensures err { IfErr result (λ fault. (fault ≡ OutOfMemory) ⊎ (step limit scope.now (view self.entry) piece.now ≡ Err fault)) }
     {
         let Reading { frames, spot, seen } = self;
         match spot {
@@ -429,8 +450,8 @@ impl<'a> Reading<'a> {
         limit: usize,
         scope: &Scope<'_>,
     ) -> Result<(Kinded, Seen), TermFault>
-        ensures ok { IfOk result (λ x. finish_at limit scope.now self.seen self.spot ≡ Ok x) }
-        ensures err { IfErr result (λ fault. (fault ≡ OutOfMemory) ⊎ (finish_at limit scope.now self.seen self.spot ≡ Err fault)) }
+        ensures ok { IfOk result (λ x. finish_at limit scope.now self.entry.seen self.entry.spot ≡ Ok x) }
+        ensures err { IfErr result (λ fault. (fault ≡ OutOfMemory) ⊎ (finish_at limit scope.now self.entry.seen self.entry.spot ≡ Err fault)) }
     {
         let Reading { spot, seen, .. } = self;
         match spot {

@@ -1,5 +1,5 @@
 //! Lists of different texts, in which a text is found by its hash.
-ghost use Rattle.std.specs.Prelude.{◌≡◌, ◌≢◌, ◌<◌, ◌^◌, [], length, slice_get, Some, IfOk, OnErr, AllPairs};
+ghost use Rattle.std.specs.Prelude.{◌≡◌, ◌≢◌, ◌<◌, ◌^◌, ◌++◌, [], ◌∷◌, length, slice_get, Some, None, IfOk, OnErr, AllPairs};
 ghost use Rattle.fvn_syntax.specs.Texts.{place, place_or_end, with_text};
 
 use fvn_terms::NoMemory;
@@ -75,9 +75,19 @@ impl Texts {
         ensures texts { IfOk result (λ i. self.new ≡ with_text self.old text.now) }
         ensures err { OnErr result (self.new ≡ self.old) }
     {
-        if let Some(i) = self.place(text) {
-            return Ok(i);
+        match self.place(text) {
+            Some(i) => Ok(i),
+            None => self.push(alloc, text),
         }
+    }
+
+    // Puts a new text at the end, and tells its place.
+    fn push(&mut self, alloc: Global, text: &[u8]) -> Result<usize, NoMemory>
+        requires { place self.old text.now ≡ None }
+        ensures place { IfOk result (λ i. i ≡ length self.old) }
+        ensures texts { IfOk result (λ i. self.new ≡ self.old ++ (text.now ∷ [])) }
+        ensures err { OnErr result (self.new ≡ self.old) }
+    {
         let i = self.len();
         let copy = Vec::from_slice(alloc, text)?;
         self.set.insert(copy)?;

@@ -50,6 +50,23 @@ abbrev pub own_symbols : (sum : Bool) → ℕ → ℕ
 own_symbols true n = n - 1
 own_symbols false n = 1
 
+abbrev pub whole : List Frame → Kinded × Seen → Result State TermFault
+whole fs x = Ok (state fs (Whole x.0) x.1)
+
+abbrev pub open_call : List Frame → Seen → Option OpId → Result State TermFault
+open_call fs s None = Err UnknownName
+open_call fs s (Some f) = Ok (state (Call f [] [] ∷ fs) Wanted s)
+
+abbrev pub read_sort : List Frame → Seen → Text → Option SortId → Result State TermFault
+read_sort fs s x None = Err UnknownName
+read_sort fs s x (Some k) = Ok (state fs (Sorts x (Some k)) s)
+
+module _ (c : Scope) where
+  -- the kind of a bracket, with one more of its sorts
+  abbrev pub next_kind : Option SortId → Text → Option SortId
+  next_kind None w = kind_of c.declarations.kinds (sort_named c.names.sorts w)
+  next_kind (Some k) w = if_of_kind c.declarations.kinds k (sort_named c.names.sorts w)
+
 module _ (limit : ℕ) where
   -- the term, where there are no more symbols than the limit
   abbrev pub kept : (count : ℕ) → Plain → Plain
@@ -75,9 +92,6 @@ module _ (limit : ℕ) where
         bind (apply c.declarations f (record { terms = ts; kinds = ks; texts = s.texts }))
         (λ r. Ok (grown (own_symbols (is_sum (axioms c.declarations f)) (length ks)) s r))
 
-    abbrev pub whole : List Frame → Kinded × Seen → Result State TermFault
-    whole fs x = Ok (state fs (Whole x.0) x.1)
-
     -- a piece behind the last of these arguments
     abbrev pub behind_argument : List Frame → Seen → Piece → OpId → List SortId → List Plain → Result State TermFault
     behind_argument fs s p f ks ts =
@@ -89,22 +103,9 @@ module _ (limit : ℕ) where
     behind x p (Round ∷ fs) = Ok (state fs (Whole x.0) x.1)
     behind x p (Call f ks ts ∷ fs) = behind_argument fs x.1 p f (ks ++ (x.0.kind ∷ [])) (ts ++ (x.0.term ∷ []))
 
-    -- the kind of a bracket, with one more of its sorts
-    abbrev pub next_kind : Option SortId → Text → Option SortId
-    next_kind None w = kind_of c.declarations.kinds (sort_named c.names.sorts w)
-    next_kind (Some k) w = if_of_kind c.declarations.kinds k (sort_named c.names.sorts w)
-
     abbrev pub end_sorts : List Frame → Seen → Text → Option SortId → Result State TermFault
     end_sorts fs s x None = Err UnknownName
     end_sorts fs s x (Some k) = whole fs (kind_leaf s x k)
-
-    abbrev pub open_call : List Frame → Seen → Option OpId → Result State TermFault
-    open_call fs s None = Err UnknownName
-    open_call fs s (Some f) = Ok (state (Call f [] [] ∷ fs) Wanted s)
-
-    abbrev pub read_sort : List Frame → Seen → Text → Option SortId → Result State TermFault
-    read_sort fs s x None = Err UnknownName
-    read_sort fs s x (Some k) = Ok (state fs (Sorts x (Some k)) s)
 
     -- one more piece
     abbrev pub step_at : List Frame → Seen → Piece → Spot → Result State TermFault
@@ -118,7 +119,7 @@ module _ (limit : ℕ) where
     step_at fs s p (Sorts x k) =
         if is_special (codes "]") p then end_sorts fs s x k
         else if is_special (codes ",") p then Ok (state fs (Sorts x k) s)
-        else read_sort fs s x (next_kind k p.text)
+        else read_sort fs s x (next_kind c k p.text)
     step_at fs s p (Whole v) = behind (v, s) p fs
 
     abbrev pub step : State → Piece → Result State TermFault

@@ -1,9 +1,0 @@
-use Rattle.std.proofs.Common.{◌≡◌, ◌≢◌, List, [], ◌∷◌, ◌++◌, length, map, Option, Some, None, sym, ap, subst, ◌∙◌}
-use Rattle.std.specs.Prelude.{AllPairs}
-use Rattle.std.specs.Str.{bytes_eq}
-use Rattle.fvn_syntax.specs.Texts.{place, place_or_end, with_text}
-use Rattle.fvn_syntax.proofs.TextLemmas.{position-map, position-any, distinct-pairs, bytes_in}
-use Rattle.fvn_syntax.proofs.texts.Texts.insert.Goals as goal
-
-pub returns-clause-texts : goal.returns-clause-texts
-returns-clause-texts c = ?
