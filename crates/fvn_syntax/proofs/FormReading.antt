@@ -44,6 +44,12 @@ ends-comma (call w ts) rest = tt
 ends-comma (round t) rest = tt
 ends-comma (kind_variable x s ss) rest = tt
 
+pub ends-nil : (t : RawTerm) → EndsBefore [] t
+ends-nil (name w) = (tt, λ _. tt)
+ends-nil (call w ts) = tt
+ends-nil (round t) = tt
+ends-nil (kind_variable x s ss) = tt
+
 read-others : (ss : List Text) (ms : List Mark) (rest : List Piece) → left_behind ms SortNamed (spell_others ss ++ rest) ≡ left_behind ms Whole rest
 read-others [] ms rest = left_behind-cons ms SortNamed right_bracket rest
 read-others (s ∷ ss) ms rest =

@@ -6,3 +6,4 @@ pub mod TextLemmas
 pub mod TermReading
 pub mod TermMeaning
 pub mod Nesting
+pub mod WellKinded

@@ -1,6 +1,7 @@
 -- What a written term is read as is what it stands for.
-use Rattle.std.proofs.Common.{◌≡◌, ℕ, ◌+◌, ◌-◌, ◌^◌, ◌≤◌, Bool, true, false, ◌&&◌, List, [], ◌∷◌, ◌++◌, length, min, Option, Some, None, Result, Ok, Err, refl, sym, ap, ◌∙◌, subst, append_assoc, arith, ◌⊎◌, inl, inr}
-use Rattle.std.specs.Prelude.{nat_le, if◌then◌else◌}
+use Rattle.std.proofs.Common.{◌≡◌, ℕ, ◌+◌, ◌-◌, ◌^◌, ◌≤◌, Bool, true, false, ◌&&◌, List, [], ◌∷◌, ◌++◌, length, min, Option, Some, None, Result, Ok, Err, refl, sym, ap, ◌∙◌, subst, append_assoc, suc, arith, ◌⊎◌, inl, inr}
+use Rattle.std.specs.Prelude.{nat_le, if◌then◌else◌, IfOk, IfErr}
+use Rattle.std.proofs.lemmas.Bool.{le-leb}
 use Rattle.fvn_lex.specs.Cut.{Piece}
 use Rattle.fvn_terms.specs.declared.plain.OpId.{OpId}
 use Rattle.fvn_terms.specs.declared.plain.SortId.{SortId}
@@ -71,10 +72,7 @@ module _ (limit : ℕ) where
   AgreeAll s ks us (Err e) (Err f) = e ≡ f
 
   kept-within : (n : ℕ) (t : Plain) → n ≤ limit → kept limit n t ≡ t
-  kept-within n t h = go (nat_le n limit) refl where
-    go : (b : Bool) → nat_le n limit ≡ b → kept limit n t ≡ t
-    go true e = rw e refl
-    go false e = absurd (omega (arith, h, e))
+  kept-within n t h = let e : nat_le n limit ≡ true = le-leb n limit h in rw e refl
 
   grown-same : (n : ℕ) (s : Seen) (r : Resolved) → nodes (term r.term) ≡ n → Same s (grown limit n s r) r
   grown-same n s r e =
@@ -181,8 +179,8 @@ module _ (limit : ℕ) where
               ∙ sum-sum s.count (nodes (term r.term)) (nodes_all (terms x.terms));
           built = λ b.
               g.built b ∙ append_assoc us (v.0.term ∷ []) x.terms
-              ∙ ap (λ t. us ++ (t ∷ x.terms)) (h.built (sum-below v.1.count (nodes_all (terms x.terms)) limit most (rw ← g.count b)));
-          lengths = ap (λ n. n + 1) g.lengths;
+              ∙ ap (λ t. us ++ (t ∷ x.terms)) (h.built (sum-below v.1.count (nodes_all (terms x.terms)) limit most (subst (λ n. n ≤ limit) g.count b)));
+          lengths = ap suc g.lengths;
           some = omega arith;
         }
       where
@@ -249,7 +247,13 @@ module _ (limit : ℕ) where
     pub refuses : (s : Seen) (row : List Piece) (fault : TermFault) → run limit c (start s) row ≡ Err fault → Refuses c s.texts row fault
     refuses s row fault h t w is = refused-as s t fault (sym (read-whole limit c t w s) ∙ ap (run limit c (start s)) (sym is) ∙ h)
 
-    pub refuses-or : (s : Seen) (row : List Piece) (fault : TermFault) → (fault ≡ NoMemory) ⊎ (run limit c (start s) row ≡ Err fault) →
-        (fault ≡ NoMemory) ⊎ Refuses c s.texts row fault
-    refuses-or s row fault (inl e) = inl e
-    refuses-or s row fault (inr e) = inr (refuses s row fault e)
+    pub reads-ok : (s : Seen) (row : List Piece) (r : Result (Kinded × Seen) TermFault) → IfOk r (λ v. run limit c (start s) row ≡ Ok v) →
+        IfOk r (Reads c limit s row)
+    reads-ok s row (Ok v) h = reads s row v h
+    reads-ok s row (Err fault) h = tt
+
+    pub refuses-err : (s : Seen) (row : List Piece) (r : Result (Kinded × Seen) TermFault) →
+        IfErr r (λ fault. (fault ≡ NoMemory) ⊎ (run limit c (start s) row ≡ Err fault)) → IfErr r (λ fault. (fault ≡ NoMemory) ⊎ Refuses c s.texts row fault)
+    refuses-err s row (Ok v) h = tt
+    refuses-err s row (Err fault) (inl e) = inl e
+    refuses-err s row (Err fault) (inr e) = inr (refuses s row fault e)

@@ -19,7 +19,7 @@ use Rattle.fvn_syntax.specs.Names.{op_named, sort_named, kind_of, if_of_kind, ki
 use Rattle.fvn_syntax.specs.Scope.{Scope}
 use Rattle.fvn_syntax.specs.Resolve.{bind, or_fault, checked}
 use Rattle.fvn_syntax.specs.inner.Reading.{State, state, start, leaf, kind_leaf, closed, whole, behind, step, step_at, finish_at, end_sorts, read_sort, next_kind, open_call, run}
-use Rattle.fvn_syntax.proofs.FormReading.{ends-close, ends-comma}
+use Rattle.fvn_syntax.proofs.FormReading.{ends-close, ends-comma, ends-nil}
 
 -- arguments that were read: what was seen, their kinds and their terms
 pub record Arguments : Type 0 where
@@ -27,7 +27,7 @@ pub record Arguments : Type 0 where
   pub kinds : List SortId
   pub terms : List Plain
 
-abbrev arguments : Seen → List SortId → List Plain → Arguments
+abbrev pub arguments : Seen → List SortId → List Plain → Arguments
 arguments s ks us = record { seen = s; kinds = ks; terms = us }
 
 bind-bind : {A B C : Type 0} (r : Result A TermFault) (f : A → Result B TermFault) (g : B → Result C TermFault) →
@@ -56,7 +56,7 @@ module _ (limit : ℕ) (c : Scope) where
   unfolding run
   run-cons st p ps = refl
 
-  abbrev kind_value : Seen → Text → Option SortId → Result (Kinded × Seen) TermFault
+  abbrev pub kind_value : Seen → Text → Option SortId → Result (Kinded × Seen) TermFault
   kind_value s x None = Err UnknownName
   kind_value s x (Some k) = Ok (kind_leaf limit c s x k)
 
@@ -190,12 +190,6 @@ module _ (limit : ℕ) (c : Scope) where
         ∙ read-all ts h.1 f fs v.1 (ks ++ (v.0.kind ∷ [])) (us ++ (v.0.term ∷ [])) rest)
         ∙ sym (bind-bind (value s t) (λ v. values v.1 (ks ++ (v.0.kind ∷ [])) (us ++ (v.0.term ∷ [])) ts)
         (λ a. bind (closed limit c a.seen f a.kinds a.terms) (goes_on fs rest)))
-
-  ends-nil : (t : RawTerm) → EndsBefore [] t
-  ends-nil (name w) = (tt, λ _. tt)
-  ends-nil (call w ts) = tt
-  ends-nil (round t) = tt
-  ends-nil (kind_variable x q qs) = tt
 
   -- a whole term is read as its value
   pub read-whole : (t : RawTerm) → IsWritten t → (s : Seen) → run limit c (start s) (spell t) ≡ value s t

@@ -1,3 +1,5 @@
+-- How sorts and terms are written, and what they stand for.
+pub mod Laws
 pub mod Names
 pub mod Pieces
 pub mod Raw

@@ -43,6 +43,7 @@ of_sort name (Some s) = Some (name, s)
 abbrev pub kind_in : List SortId → SortId → SortId
 kind_in kinds s = slice_index_or kinds s.0 s
 
+-- the two sorts are one
 abbrev pub same_sort : SortId → SortId → Bool
 same_sort s q = s.0 == q.0
 
@@ -65,6 +66,7 @@ abbrev pub if_of_kind : List SortId → SortId → Option SortId → Option Sort
 if_of_kind kinds k None = None
 if_of_kind kinds k (Some s) = if same_sort (kind_in kinds s) k then Some k else None
 
+-- the kind of a sort, where there is one
 abbrev pub kind_of : List SortId → Option SortId → Option SortId
 kind_of kinds None = None
 kind_of kinds (Some s) = Some (kind_in kinds s)
@@ -85,6 +87,7 @@ module _ (sorts : List Text) (kinds : List SortId) where
   resolve_sort (Name s) = sort_named sorts s
   resolve_sort (Kind s ss) = bracket s ss
 
+-- what a variable's name stands for
 abbrev pub variable_of : Option (Text × SortId) → Option Meaning
 variable_of None = None
 variable_of (Some x) = Some (Variable x.0 x.1)
@@ -94,10 +97,12 @@ abbrev pub declared_sort : List SortId → Option ℕ → Option SortId
 declared_sort sorts None = None
 declared_sort sorts (Some i) = slice_get sorts i
 
+-- the sorts of the arguments in the first declaration
 abbrev pub first_args : List Rank → List SortId
 first_args [] = []
 first_args (r ∷ rs) = r.args
 
+-- the sort of the result in the first declaration
 abbrev pub first_result : List Rank → SortId
 first_result [] = record { 0 = 0 }
 first_result (r ∷ rs) = r.result
@@ -114,6 +119,7 @@ module _ (d : Declarations) where
   abbrev pub args_of : OpId → List SortId
   args_of f = first_args (declared d f).ranks
 
+  -- the number of an operator's arguments
   abbrev pub arity_of : OpId → ℕ
   arity_of f = length (args_of f)
 
@@ -121,6 +127,7 @@ module _ (d : Declarations) where
   abbrev pub result_of : OpId → SortId
   result_of f = kind d (first_result (declared d f).ranks)
 
+  -- the operator, where it takes no arguments
   abbrev pub if_constant : Option OpId → Option OpId
   if_constant None = None
   if_constant (Some f) = if arity_of f == 0 then Some f else None
@@ -135,6 +142,7 @@ module _ (names : Names) where
   variable_or w None = sorted_name names.sorts w
   variable_or w (Some s) = Some (w, s)
 
+  -- the variable of a name
   abbrev pub variable_named : Text → Option (Text × SortId)
   variable_named w = variable_or w (declared_sort names.variables.sorts (place names.variables.texts w))
 

@@ -54,6 +54,7 @@ abbrev pub nested : OpId → Plain → List Plain → Plain
 nested f t [] = t
 nested f t (u ∷ us) = App f (terms (t ∷ nested f u us ∷ []))
 
+-- one or more terms, right-nested
 abbrev pub nested_all : OpId → List Plain → Plain
 nested_all f [] = App f none
 nested_all f (t ∷ ts) = nested f t ts
@@ -90,6 +91,7 @@ module _ (d : Declarations) where
       else if not (fit_from sum f 0 ks) then Some WrongKind
       else None
 
+  -- the value, where there is no fault
   abbrev pub unless : {A : Type 0} → Option TermFault → A → Result A TermFault
   unless None a = Ok a
   unless (Some fault) a = Err fault
@@ -101,14 +103,17 @@ module _ (d : Declarations) where
       (record { term = applied (is_sum (axioms d f)) f r.terms; kind = result_of d f; texts = r.texts })
 
 module _ (s : Scope) where
+  -- a constant with its kind
   abbrev pub the_constant : List Text → OpId → Resolved
   the_constant texts f = record { term = App f none; kind = result_of s.declarations f; texts = texts }
 
+  -- the term of what a name alone stands for
   abbrev pub resolve_meaning : List Text → Option Meaning → Result Resolved TermFault
   resolve_meaning texts None = Err UnknownName
   resolve_meaning texts (Some (Constant f)) = Ok (the_constant texts f)
   resolve_meaning texts (Some (Variable x q)) = checked s.guarded x (Ok (the_variable texts x q (kind s.declarations q)))
 
+  -- the variable of a name and a kind
   abbrev pub resolve_kind : List Text → Text → Option SortId → Result Resolved TermFault
   resolve_kind texts x None = Err UnknownName
   resolve_kind texts x (Some k) = Ok (the_variable texts x k (kind s.declarations k))

@@ -17,6 +17,7 @@ or_end texts (Some i) = i
 abbrev pub place_or_end : List Text → Text → ℕ
 place_or_end texts text = or_end texts (place texts text)
 
+-- the texts, with this one at the end where it has no place
 abbrev pub unless_at : List Text → Text → Option ℕ → List Text
 unless_at texts text None = texts ++ (text ∷ [])
 unless_at texts text (Some i) = texts

@@ -1,5 +1,5 @@
 //! Where a written term ends, by its form alone, with the parentheses that are open on a stack.
-ghost use Rattle.std.specs.Prelude.{◌≡◌, ◌≤◌, [], ◌∷◌, length, drop, reverse, option_map, List, IfOk, IfSome, IfNone};
+ghost use Rattle.std.specs.Prelude.{◌≡◌, ◌≤◌, [], ◌∷◌, length, take, drop, reverse, option_map, List, IfOk, IfSome, IfNone};
 ghost use Rattle.fvn_lex.specs.Cut.{Piece as LexPiece};
 ghost use Rattle.fvn_syntax.specs.Pieces.{is_colon_name};
 ghost use Rattle.fvn_syntax.specs.Raw.{IsTermBefore};
@@ -169,6 +169,7 @@ fn skip(alloc: Global, row: &[Piece<'_>]) -> Result<Option<usize>, NoMemory>
 pub fn skip_term(alloc: Global, row: &[Piece<'_>]) -> Result<Option<usize>, NoMemory>
     ensures within { IfOk result (λ r. IfSome r (λ n. n ≤ length row.now)) }
     ensures term { IfOk result (λ r. IfSome r (λ n. IsTermBefore (drop n row.now) row.now)) }
+    ensures alone { IfOk result (λ r. IfSome r (λ n. IsTermBefore [] (take n row.now))) }
     ensures only { IfOk result (λ r. IfSome r (λ n. (rest : List LexPiece) → IsTermBefore rest row.now → rest ≡ drop n row.now)) }
     ensures none { IfOk result (λ r. IfNone r ((rest : List LexPiece) → IsTermBefore rest row.now → ⊥)) }
 {

@@ -3,6 +3,7 @@ ghost use Rattle.std.specs.Prelude.{◌≡◌, ◌⊎◌, ◌&&◌, ◌++◌, []
 ghost use Rattle.fvn_terms.specs.Signature.{kind};
 ghost use Rattle.fvn_syntax.specs.declared.fault.TermFault.TheVariants.{NoMemory as OutOfMemory};
 ghost use Rattle.fvn_syntax.specs.Pieces.{without_last, is_reserved};
+ghost use Rattle.fvn_syntax.specs.Raw.{IsTermBefore};
 ghost use Rattle.fvn_syntax.specs.Names.{op_named};
 ghost use Rattle.fvn_syntax.specs.Resolve.{the_constant, the_variable, applied, checked};
 ghost use Rattle.fvn_syntax.specs.Readings.{Reads, Refuses};
@@ -274,6 +275,28 @@ fn add_argument<'a>(
     )
 }
 
+// Reads a piece behind a whole term in an open frame.
+fn read_in_frame<'a>(
+    alloc: Global,
+    limit: usize,
+    scope: &Scope<'_>,
+    frames: Vec<Frame>,
+    frame: Frame,
+    given: (Kinded, Seen),
+    piece: &Piece<'a>,
+) -> Result<Reading<'a>, TermFault>
+    ensures ok { IfOk result (λ next. behind limit scope.now given piece.now (frame ∷ reverse frames.items) ≡ Ok (view next)) }
+    ensures err { IfErr result (λ fault. (fault ≡ OutOfMemory) ⊎ (behind limit scope.now given piece.now (frame ∷ reverse frames.items) ≡ Err fault)) }
+{
+    let (whole, seen) = given;
+    match frame {
+        Frame::Round => Ok(reading_at(frames, Spot::Whole(whole), seen)),
+        Frame::Call(op, kinds, terms) => {
+            add_argument(alloc, limit, scope, frames, seen, piece, op, kinds, terms, whole)
+        }
+    }
+}
+
 // Reads a piece behind a whole term.
 fn read_behind<'a>(
     alloc: Global,
@@ -286,13 +309,12 @@ fn read_behind<'a>(
     ensures ok { IfOk result (λ next. behind limit scope.now given piece.now (reverse frames.items) ≡ Ok (view next)) }
     ensures err { IfErr result (λ fault. (fault ≡ OutOfMemory) ⊎ (behind limit scope.now given piece.now (reverse frames.items) ≡ Err fault)) }
 {
-    let (whole, seen) = given;
     match frames.pop() {
-        None => Ok(reading_at(frames, Spot::Whole(whole), seen)),
-        Some(Frame::Round) => Ok(reading_at(frames, Spot::Whole(whole), seen)),
-        Some(Frame::Call(op, kinds, terms)) => {
-            add_argument(alloc, limit, scope, frames, seen, piece, op, kinds, terms, whole)
+        None => {
+            let (whole, seen) = given;
+            Ok(reading_at(frames, Spot::Whole(whole), seen))
         }
+        Some(frame) => read_in_frame(alloc, limit, scope, frames, frame, given, piece),
     }
 }
 
@@ -497,9 +519,9 @@ pub fn read_term(
     seen: Seen,
     row: &[Piece<'_>],
 ) -> Result<(Kinded, Seen), TermFault>
+    requires { IsTermBefore [] row.now }
     ensures ok { IfOk result (Reads scope.now limit seen row.now) }
     ensures err { IfErr result (λ fault. (fault ≡ OutOfMemory) ⊎ Refuses scope.now seen.texts row.now fault) }
 {
-    let read = read_row(alloc, limit, scope, seen, row)?;
-    Ok(read)
+    read_row(alloc, limit, scope, seen, row)
 }

@@ -277,7 +277,11 @@ fn shown(
         Ok(row) => row,
         Err(_) => return Ok((format!(in alloc; "no tokens")?, 0)),
     };
-    match read_term(alloc, limit, &scope, seen, row.as_slice()) {
+    let taken = match skip_term(alloc, row.as_slice())? {
+        Some(n) => n,
+        None => return Ok((format!(in alloc; "no term")?, 0)),
+    };
+    match read_term(alloc, limit, &scope, seen, &row[..taken]) {
         Ok((term, seen)) => Ok((shown_read(alloc, &term, &seen.texts)?, seen.count)),
         Err(fault) => Ok((shown_fault(alloc, fault)?, 0)),
     }
