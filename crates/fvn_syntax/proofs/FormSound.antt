@@ -161,12 +161,12 @@ read-stands ms spot ps [] rest h s =
 read-stands ms spot ps (q ∷ qs) rest h s =
     go (step ms q spot) (sym (left_behind-cons ms spot q qs) ∙ h) (stepped ms ps q spot s)
     (λ next at. read-stands next at (ps ++ (q ∷ [])) qs rest) where
-  go : (x : Step) → follow (q ∷ qs) x (λ next at. left_behind next at qs) ≡ Some rest → After ps q x →
-      ((next : List Mark) (at : Spot) → left_behind next at qs ≡ Some rest → Stands next (ps ++ (q ∷ [])) at → IsTermBefore rest ((ps ++ (q ∷ [])) ++ qs)) →
-      IsTermBefore rest (ps ++ (q ∷ qs))
-  go (Goes next at) f a later = subst (IsTermBefore rest) (append_assoc ps (q ∷ []) qs) (later next at f a)
-  go Ends f a later = let e : q ∷ qs ≡ rest = (let g = f in cc) in subst (λ r. IsTermBefore r (ps ++ (q ∷ qs))) e (a qs)
-  go Stops f a later = cc
+      go : (x : Step) → follow (q ∷ qs) x (λ next at. left_behind next at qs) ≡ Some rest → After ps q x →
+          ((next : List Mark) (at : Spot) → left_behind next at qs ≡ Some rest → Stands next (ps ++ (q ∷ [])) at → IsTermBefore rest ((ps ++ (q ∷ [])) ++ qs)) →
+          IsTermBefore rest (ps ++ (q ∷ qs))
+      go (Goes next at) f a later = subst (IsTermBefore rest) (append_assoc ps (q ∷ []) qs) (later next at f a)
+      go Ends f a later = let e : q ∷ qs ≡ rest = (let g = f in cc) in subst (λ r. IsTermBefore r (ps ++ (q ∷ qs))) e (a qs)
+      go Stops f a later = cc
 
 -- what is read is a term
 pub read-is_term : (rest ps : List Piece) → left_behind [] Wanted ps ≡ Some rest → IsTermBefore rest ps

@@ -7,3 +7,4 @@ pub mod TermReading
 pub mod TermMeaning
 pub mod Nesting
 pub mod WellKinded
+pub mod Colons

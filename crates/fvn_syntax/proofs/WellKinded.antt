@@ -163,16 +163,16 @@ module _ (c : Scope) (fit : IsFitting c) where
   -- the kind of a bracket is a sort
   of-all-is : (ss : List Text) (k q : SortId) → IsSort c.declarations k → kind_of_all c.names.sorts c.declarations.kinds (Some k) ss ≡ Some q → IsSort c.declarations q
   of-all-is [] k q h e = let is : k ≡ q = (let g = e in cc) in subst (IsSort c.declarations) is h
-  of-all-is (s ∷ ss) k q h e = go (sort_named c.names.sorts s) refl (λ f. of-all-is ss k q h f) where
-    same : (n : SortId) (b : Bool) → same_sort (kind_in c.declarations.kinds n) k ≡ b → sort_named c.names.sorts s ≡ Some n →
+  of-all-is (s ∷ ss) k q h e = go (sort_named c.names.sorts s) e (λ f. of-all-is ss k q h f) where
+    same : (b : Bool) → kind_of_all c.names.sorts c.declarations.kinds (if b then Some k else None) ss ≡ Some q →
         (kind_of_all c.names.sorts c.declarations.kinds (Some k) ss ≡ Some q → IsSort c.declarations q) → IsSort c.declarations q
-    same n true f g later = later (rw (g, f) at e)
-    same n false f g later = let d = rw (g, f) at e in cc
+    same true f later = later f
+    same false f later = cc
 
-    go : (o : Option SortId) → sort_named c.names.sorts s ≡ o →
+    go : (o : Option SortId) → kind_of_all c.names.sorts c.declarations.kinds (if_of_kind c.declarations.kinds k o) ss ≡ Some q →
         (kind_of_all c.names.sorts c.declarations.kinds (Some k) ss ≡ Some q → IsSort c.declarations q) → IsSort c.declarations q
-    go None f later = let g = rw f at e in cc
-    go (Some n) f later = same n (same_sort (kind_in c.declarations.kinds n) k) refl f later
+    go None f later = cc
+    go (Some n) f later = same (same_sort (kind_in c.declarations.kinds n) k) f later
 
   bracket-is : (s : Text) (ss : List Text) (q : SortId) → bracket c.names.sorts c.declarations.kinds s ss ≡ Some q → IsSort c.declarations q
   bracket-is s ss q h = go (sort_named c.names.sorts s) refl where
@@ -212,9 +212,10 @@ module _ (c : Scope) (fit : IsFitting c) where
   all-same f k i [] (q ∷ ks) w h a = absurd a
   all-same f k i (t ∷ ts) [] w h a = absurd a
   all-same f k i (t ∷ ts) (q ∷ ks) w h a =
-      let e = same-sort q (wanted c.declarations true f i) (and-left (same_sort q (wanted c.declarations true f i)) (fit_from c.declarations true f (i + 1) ks) h) in
-      (subst (Kinded t) (e ∙ w) a.0,
-      all-same f k (i + 1) ts ks w (and-right (same_sort q (wanted c.declarations true f i)) (fit_from c.declarations true f (i + 1) ks) h) a.1)
+      let e = same-sort q (wanted c.declarations true f i) (and-left (same_sort q (wanted c.declarations true f i)) (fit_from c.declarations true f (i + 1) ks) h) in (
+        subst (Kinded t) (e ∙ w) a.0,
+        all-same f k (i + 1) ts ks w (and-right (same_sort q (wanted c.declarations true f i)) (fit_from c.declarations true f (i + 1) ks) h) a.1,
+      )
 
   -- kinds that fit the others' places
   kinds-same : (f : OpId) (i : ℕ) (ks qs : List SortId) → length ks ≡ length qs →

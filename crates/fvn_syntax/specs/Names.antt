@@ -15,14 +15,16 @@ use Rattle.fvn_syntax.specs.declared.sorts.RawSort.TheVariants.{Name, Kind}
 use Rattle.fvn_syntax.specs.Pieces.{Text}
 use Rattle.fvn_syntax.specs.Texts.{place}
 
--- the place of the last colon of a text, where i bytes were passed and the last colon so far is found
-abbrev pub last_colon_from : (found : Option ℕ) → ℕ → Text → Option ℕ
-last_colon_from found i [] = found
-last_colon_from found i (b ∷ w) = last_colon_from (if b == 58 then Some i else found) (i + 1) w
+-- a place in what is behind a byte, or else the byte's own where it is a colon
+abbrev pub behind_byte : (colon : Bool) → Option ℕ → Option ℕ
+behind_byte colon (Some i) = Some (i + 1)
+behind_byte true None = Some 0
+behind_byte false None = None
 
 -- the place of the last colon of a text
 abbrev pub last_colon : Text → Option ℕ
-last_colon w = last_colon_from None 0 w
+last_colon [] = None
+last_colon (b ∷ w) = behind_byte (b == 58) (last_colon w)
 
 -- the sort at a place
 abbrev pub sort_at : Option ℕ → Option SortId

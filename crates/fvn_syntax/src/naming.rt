@@ -37,6 +37,7 @@ pub enum Meaning<'a> {
 }
 
 /// The place of the last colon of a text.
+#[tactic(auto, using(crate::proofs::Colons::last_from))]
 pub fn find_last_colon(text: &[u8]) -> Option<usize>
     ensures exact { result ≡ last_colon text.now }
     ensures within { IfSome result (λ i. i < length text.now) }
@@ -126,11 +127,7 @@ fn find_bracket(
 /// The sort that is written: a declared one, or the kind of sorts that are all of one kind.
 ///
 /// `kinds` has the kind of each sort.
-pub fn find_written_sort(
-    sorts: &Texts,
-    kinds: &[SortId],
-    written: &RawSort<'_>,
-) -> Option<SortId>
+pub fn find_written_sort(sorts: &Texts, kinds: &[SortId], written: &RawSort<'_>) -> Option<SortId>
     requires { length sorts.now ≤ 65536 }
     ensures { result ≡ resolve_sort sorts.now kinds.now written.now }
 {
@@ -173,10 +170,7 @@ pub fn is_sum_operator(d: &Declarations, op: OpId) -> bool
     ensures { result ≡ is_sum (axioms d.now op) }
 {
     match d.declared(op) {
-        Some(declared) => matches!(
-            declared.axioms,
-            Axioms::AssocComm | Axioms::AssocCommId(_)
-        ),
+        Some(declared) => matches!(declared.axioms, Axioms::AssocComm | Axioms::AssocCommId(_)),
         None => false,
     }
 }
@@ -225,11 +219,7 @@ pub fn find_variable<'a>(names: &Names, name: &'a [u8]) -> Option<(Text<'a>, Sor
 }
 
 /// What a name alone stands for: a declared constant, or else a declared variable, or else NAME:SORT.
-pub fn find_meaning<'a>(
-    d: &Declarations,
-    names: &Names,
-    name: &'a [u8],
-) -> Option<Meaning<'a>>
+pub fn find_meaning<'a>(d: &Declarations, names: &Names, name: &'a [u8]) -> Option<Meaning<'a>>
     requires sorts { length names.now.sorts ≤ 65536 }
     requires ops { length names.now.ops ≤ 65536 }
     ensures { result ≡ resolve_name d.now names.now name.now }

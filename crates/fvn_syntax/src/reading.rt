@@ -270,9 +270,7 @@ fn add_argument<'a>(
     kinds.push(kind)?;
     let mut terms = terms.into_vec();
     terms.push(term)?;
-    read_behind_argument(
-        alloc, limit, scope, frames, seen, piece, op, kinds, terms,
-    )
+    read_behind_argument(alloc, limit, scope, frames, seen, piece, op, kinds, terms)
 }
 
 // Reads a piece behind a whole term in an open frame.
@@ -292,7 +290,9 @@ fn read_in_frame<'a>(
     match frame {
         Frame::Round => Ok(reading_at(frames, Spot::Whole(whole), seen)),
         Frame::Call(op, kinds, terms) => {
-            add_argument(alloc, limit, scope, frames, seen, piece, op, kinds, terms, whole)
+            add_argument(
+                alloc, limit, scope, frames, seen, piece, op, kinds, terms, whole,
+            )
         }
     }
 }
@@ -358,11 +358,7 @@ fn open_bracket<'a>(
     if is_refused(scope, name) {
         return Err(TermFault::ReservedName);
     }
-    Ok(reading_at(
-        frames,
-        Spot::Sorts(Text::new(name), None),
-        seen,
-    ))
+    Ok(reading_at(frames, Spot::Sorts(Text::new(name), None), seen))
 }
 
 // Reads a piece behind a name.
@@ -459,9 +455,7 @@ impl<'a> Reading<'a> {
             Spot::Sorts(name, kind) => {
                 read_sorts(alloc, limit, scope, frames, seen, name, kind, piece)
             }
-            Spot::Whole(term) => {
-                read_behind(alloc, limit, scope, frames, (term, seen), piece)
-            }
+            Spot::Whole(term) => { read_behind(alloc, limit, scope, frames, (term, seen), piece) }
         }
     }
 

@@ -1,10 +1,10 @@
 //! Terms and names, each rule with its edges.
+use crate::piece::Text;
+use crate::sorts::RawSort;
 use crate::{
     Kinded, Names, Scope, Seen, TermFault, Texts, Variables, cut, find_written_sort, read_term,
     skip_term,
 };
-use crate::piece::Text;
-use crate::sorts::RawSort;
 use fvn_base::Seq;
 use fvn_terms::{Args, Axioms, Declarations, OpDecl, OpId, Plain, Rank, SortId};
 use std::alloc::Global;
@@ -257,12 +257,7 @@ fn shown_fault(alloc: Global, fault: TermFault) -> Result<String, Fail> {
 }
 
 // The term of a text with its kind and the names of its variables, or its fault; and the number of symbols.
-fn shown(
-    alloc: Global,
-    text: &str,
-    limit: usize,
-    guarded: bool,
-) -> Result<(String, usize), Fail> {
+fn shown(alloc: Global, text: &str, limit: usize, guarded: bool) -> Result<(String, usize), Fail> {
     let d = declarations(alloc)?;
     let names = names(alloc)?;
     if 65536 < names.sorts.len() || 65536 < names.ops.len() {
@@ -345,12 +340,7 @@ fn written_sorts(rt: HostRuntime) -> Result<(), Fail> {
     Ok(())
 }
 
-fn shown_sort(
-    alloc: Global,
-    sorts: &Texts,
-    kinds: &[SortId],
-    text: &str,
-) -> Result<String, Fail> {
+fn shown_sort(alloc: Global, sorts: &Texts, kinds: &[SortId], text: &str) -> Result<String, Fail> {
     let bytes = text.as_bytes();
     let mut others = Vec::new(alloc);
     let mut first = Text::new(bytes);

@@ -1,6 +1,7 @@
 use Rattle.std.proofs.Common.{◌≡◌, ◌<◌, drop, length}
 use Rattle.std.specs.Prelude.{IfSome}
-use Rattle.fvn_syntax.specs.Names.{last_colon, last_colon_from}
+use Rattle.fvn_syntax.specs.Names.{last_colon}
+use Rattle.fvn_syntax.specs.inner.Colons.{last_colon_from}
 use Rattle.fvn_syntax.proofs.naming.find_last_colon.Given as goal
 
 -- the bytes that are left decide
