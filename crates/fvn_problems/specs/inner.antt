@@ -1,0 +1,2 @@
+-- What parts of the readers answer.
+pub mod Steps
