@@ -1,0 +1,10 @@
+-- Lemmas of this crate.
+mod Tests
+mod GatherExact
+mod SortExact
+mod AttributeExact
+mod NamesExact
+mod OperatorNamesExact
+mod StatementExact
+mod Results
+mod FormExact

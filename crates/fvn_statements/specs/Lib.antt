@@ -1,0 +1,5 @@
+-- What contracts of statements speak of.
+pub mod Spelling
+pub mod Written
+pub mod Forms
+pub mod inner
