@@ -14,7 +14,8 @@ use Rattle.fvn_statements.specs.declared.statement.Reading.TheVariants.{Read, Le
 use Rattle.fvn_statements.specs.Spelling.{each, spell_word, words, in_parens, spell_attribute, bracketed}
 use Rattle.fvn_statements.specs.Written.{NotEmpty, IsAttribute, AreAttributes}
 use Rattle.fvn_statements.specs.inner.Gather.{gather}
-use Rattle.fvn_statements.specs.inner.Attributes.{word_of, words_before, words_in_parens, identity_of, made, attribute_named, attribute_of, left_out_in, is_close, is_some, attributes_before, attributes_of}
+use Rattle.fvn_statements.specs.inner.Attributes.{word_of, words_before, words_in_parens, identity_of, made, attribute_named, attribute_of, is_close, is_some, attributes_before, attributes_of}
+use Rattle.fvn_statements.specs.LeftOut.{left_out_in}
 use Rattle.fvn_statements.proofs.GatherExact.{Gathered, gather-sound, gather-spelled}
 use Rattle.fvn_statements.proofs.SortExact.{Any, all_any}
 
@@ -153,11 +154,11 @@ attribute-sound (p ∷ ps) r h = go (is_word p) refl where
       (ap (λ x. x ∷ ps) (word-is p e) ∙ k.0, k.1)
 
 -- behind an attribute stands another one, or a bracket that closes
-abbrev AttributeEnds : List Piece → Type 0
+abbrev pub AttributeEnds : List Piece → Type 0
 AttributeEnds [] = ⊥
 AttributeEnds (q ∷ qs) = is_word q || is_special (codes "]") q ≡ true
 
-attribute-complete : (a : Attribute) (qs : List Piece) → IsAttribute a → AttributeEnds qs →
+pub attribute-complete : (a : Attribute) (qs : List Piece) → IsAttribute a → AttributeEnds qs →
     (attribute_of (spell_attribute a ++ qs) ≡ Some (a, qs)) × AttributeEnds (spell_attribute a ++ qs)
 attribute-complete Assoc qs h e = (refl, refl)
 attribute-complete Comm qs h e = (refl, refl)
@@ -169,7 +170,7 @@ attribute-complete (Precedence w) qs h e = (refl, refl)
 attribute-complete (Gather ws) qs h e = (rw (words_in_parens-complete ws qs h) refl, refl)
 attribute-complete (Format ws) qs h e = (rw (words_in_parens-complete ws qs h) refl, refl)
 
-attribute_some : (a : Attribute) → 1 ≤ length (spell_attribute a)
+pub attribute_some : (a : Attribute) → 1 ≤ length (spell_attribute a)
 attribute_some Assoc = omega arith
 attribute_some Comm = omega arith
 attribute_some Constructor = omega arith

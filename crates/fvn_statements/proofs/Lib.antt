@@ -8,3 +8,4 @@ mod OperatorNamesExact
 mod StatementExact
 mod Results
 mod FormExact
+mod LeftOutLaws

@@ -23,8 +23,10 @@ use Rattle.fvn_statements.specs.Written.{NotEmpty, IsRank, AreAttributes, IsName
 use Rattle.fvn_statements.specs.inner.Gather.{gather}
 use Rattle.fvn_statements.specs.inner.Sorts.{rank_of}
 use Rattle.fvn_statements.specs.inner.Attributes.{is_some, attributes_of}
-use Rattle.fvn_statements.specs.inner.Names.{is_empty, sort_names_of, groups_of, variables_of, split_colon, touch, name_of, names_touch}
-use Rattle.fvn_statements.specs.inner.Statements.{with_attributes, with_rank, operator_of, operators_behind, operators_at, operators_of, keyword_of, feature_of, statement_behind, statement_of}
+use Rattle.fvn_statements.specs.inner.Names.{is_empty, sort_names_of, groups_of, variables_of, split_colon, name_of}
+use Rattle.fvn_statements.specs.Words.{touch, names_touch}
+use Rattle.fvn_statements.specs.inner.Statements.{with_attributes, with_rank, operator_of, operators_behind, operators_at, operators_of, keyword_of, statement_behind, statement_of}
+use Rattle.fvn_statements.specs.LeftOut.{feature_of}
 use Rattle.fvn_statements.proofs.GatherExact.{Gathered, gather-sound, gather-spelled}
 use Rattle.fvn_statements.proofs.SortExact.{Any, rank-sound, rank-complete}
 use Rattle.fvn_statements.proofs.AttributeExact.{by_text, some-is, attributes-sound, attributes-complete}
@@ -78,7 +80,7 @@ no_feature (Variables true) = refl
 behind-keyword : (k : Keyword) (ps : List Piece) → statement_of (word (keyword_word k) ∷ ps) ≡ statement_behind ps (Some k)
 behind-keyword k ps = rw (no_feature k, keyword-complete k) refl
 
-not_empty : (ps : List Piece) → NotEmpty ps → is_empty ps ≡ false
+pub not_empty : (ps : List Piece) → NotEmpty ps → is_empty ps ≡ false
 not_empty [] h = absurd h
 not_empty (p ∷ ps) h = refl
 

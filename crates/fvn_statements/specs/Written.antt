@@ -12,8 +12,8 @@ use Rattle.fvn_statements.specs.declared.statement.OperatorName.{OperatorName}
 use Rattle.fvn_statements.specs.declared.statement.OperatorName.TheVariants.{Single, Round}
 use Rattle.fvn_statements.specs.declared.statement.Statement.{Statement}
 use Rattle.fvn_statements.specs.declared.statement.Statement.TheVariants.{Sorts, Subsorts, Operator, Operators, Variables}
-use Rattle.fvn_statements.specs.inner.Attributes.{left_out_in}
-use Rattle.fvn_statements.specs.inner.Names.{has_colon, touch, names_touch, depth_behind}
+use Rattle.fvn_statements.specs.Words.{has_colon, touch, names_touch, depth_behind}
+use Rattle.fvn_statements.specs.LeftOut.{left_out_in}
 
 -- there is one or more
 abbrev pub NotEmpty : {A : Type 0} → List A → Type 0

@@ -1,10 +1,8 @@
 //! Reading attributes of operators.
 ghost use Rattle.std.specs.Prelude.{◌≡◌, ◌||◌, IfOk, codes};
 ghost use Rattle.std.specs.List.{list_any};
-ghost use Rattle.fvn_statements.specs.inner.Attributes.{
-  words_before, words_in_parens, identity_of, attribute_named, attribute_of, is_assoc, is_comm, is_ditto, stands,
-  left_out, first_left_out, begins_identity, left_out_at_word, left_out_at, left_out_in, is_close, attributes_of,
-};
+ghost use Rattle.fvn_statements.specs.inner.Attributes.{words_before, words_in_parens, identity_of, attribute_named, attribute_of, is_close, attributes_of};
+ghost use Rattle.fvn_statements.specs.LeftOut.{is_assoc, is_comm, is_ditto, stands, left_out, first_left_out, begins_identity, left_out_at_word, left_out_at, left_out_in};
 
 use crate::reader::{Reader, read_all};
 use crate::statement::{Attribute, Feature, Reading};

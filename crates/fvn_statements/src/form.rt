@@ -1,7 +1,5 @@
 //! Cutting a module into statements, and reading them.
-ghost use Rattle.std.specs.Prelude.{◌≡◌, ◌⊎◌, Some, None, Ok, Err, map, IfOk, IfErr, codes};
-ghost use Rattle.fvn_lex.specs.Cut.{lex, pieces_of};
-ghost use Rattle.fvn_lex.specs.declared.token.LexFault.TheVariants.{NoMemory as LexNoMemory};
+ghost use Rattle.std.specs.Prelude.{◌≡◌, ◌⊎◌, Ok, Err, IfOk, IfErr};
 ghost use Rattle.fvn_statements.specs.declared.form.FormFault.TheVariants.{NoMemory as OutOfMemory};
 ghost use Rattle.fvn_statements.specs.declared.form.Form.{Form};
 ghost use Rattle.fvn_statements.specs.Forms.{IsFormOf, HasNoForm, IsFirstFault};
@@ -11,7 +9,6 @@ use crate::attributes::read_word;
 use crate::reading::read_statement;
 use crate::statement::{Feature, Reading, Statement};
 use fvn_base::Seq;
-use fvn_lex::{LexFault, tokens};
 use fvn_syntax::{Piece, Row, Text};
 use fvn_terms::NoMemory;
 use std::alloc::{AllocFailed, Global};
@@ -53,22 +50,6 @@ impl From<NoMemory> for FormFault {
     fn from(_error: NoMemory) -> FormFault {
         FormFault::NoMemory
     }
-}
-
-/// The tokens of a text with their texts.
-pub fn cut<'a>(alloc: Global, bytes: &'a [u8]) -> Result<Vec<Piece<'a>>, LexFault>
-    ensures ok { IfOk result (λ list. pieces_of bytes.now ≡ Some list.items) }
-    ensures err { IfErr result (λ fault. (fault ≡ LexNoMemory) ⊎ (lex bytes.now ≡ Err fault)) }
-{
-    let list = match tokens(alloc, bytes) {
-        Ok(list) => list,
-        Err(fault) => return Err(fault),
-    };
-    let mut pieces = Vec::new(alloc);
-    for token in &list {
-        pieces.push(Piece::new(token.class, &bytes[token.start..token.end]))?;
-    }
-    Ok(pieces)
 }
 
 // What stands behind a first word of this text.

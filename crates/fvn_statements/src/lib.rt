@@ -3,6 +3,7 @@
 
 mod attributes;
 mod form;
+mod laws;
 mod names;
 mod reader;
 mod reading;
@@ -11,6 +12,8 @@ mod statement;
 #[cfg(test)]
 mod tests;
 
-pub use form::{Form, FormFault, cut, read_form};
-pub use reading::read_statement;
+pub use form::{Form, FormFault, read_form};
+pub use laws::{
+    attributes_are_left_out, first_words_are_left_out, names_are_left_out, statements_are_exact,
+};
 pub use statement::{Attribute, Feature, OperatorName, RawRank, Reading, Statement};

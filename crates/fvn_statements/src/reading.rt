@@ -1,9 +1,7 @@
 //! Reading a statement.
 ghost use Rattle.std.specs.Prelude.{◌≡◌, IfOk};
-ghost use Rattle.fvn_statements.specs.inner.Statements.{
-  operator_with, operators_with, operator_of, operators_of, operators_at, keyword_of, feature_of, statement_of,
-  statement_behind,
-};
+ghost use Rattle.fvn_statements.specs.inner.Statements.{operator_with, operators_with, operator_of, operators_of, operators_at, keyword_of, statement_of, statement_behind};
+ghost use Rattle.fvn_statements.specs.LeftOut.{feature_of};
 
 use crate::attributes::read_attributes;
 use crate::names::{
@@ -204,7 +202,7 @@ fn read_behind<'a>(
     }
 }
 
-/// What the tokens of a statement are.
+// What the tokens of a statement are.
 pub fn read_statement<'a>(
     alloc: Global,
     row: &'a [Piece<'a>],

@@ -1,7 +1,7 @@
 //! Statements at the edges of their forms.
-use crate::{Feature, Form, FormFault, Statement, cut, read_form};
+use crate::{Form, FormFault, Statement, read_form};
 use fvn_lex::LexFault;
-use fvn_syntax::RawSort;
+use fvn_syntax::{RawSort, cut};
 use std::alloc::Global;
 use std::test::Fail;
 

@@ -6,17 +6,12 @@ use Rattle.fvn_syntax.specs.Pieces.{Text, is_word, is_name, is_special}
 use Rattle.fvn_syntax.specs.declared.sorts.RawSort.{RawSort}
 use Rattle.fvn_statements.specs.declared.statement.OperatorName.{OperatorName}
 use Rattle.fvn_statements.specs.declared.statement.OperatorName.TheVariants.{Single, Round}
+use Rattle.fvn_statements.specs.Words.{has_colon, depth_behind}
 use Rattle.fvn_statements.specs.inner.Gather.{bind, gather}
 use Rattle.fvn_statements.specs.inner.Sorts.{sort_of}
 use Rattle.fvn_statements.specs.inner.Attributes.{is_some, word_of}
 
 -- Sorts.
-
-abbrev pub is_colon : ℕ → Bool
-is_colon b = b == 58
-
-abbrev pub has_colon : Text → Bool
-has_colon w = list_any is_colon w
 
 -- WORD, which holds no colon
 abbrev pub sort_name_of : List Piece → Option (Text × List Piece)
@@ -99,31 +94,6 @@ split_colon [] = None
 split_colon (p ∷ ps) =
     if is_name (codes ":") p then Some ([], ps) else bind (split_colon ps) (λ r. Some (p ∷ r.0, r.1))
 
-abbrev pub begins_with_underscore : Text → Bool
-begins_with_underscore w = not (length w == 0) && (slice_index_or w 0 0 == 95)
-
-abbrev pub ends_with_underscore : Text → Bool
-ends_with_underscore w = not (length w == 0) && (slice_index_or w (length w - 1) 0 == 95)
-
--- whether two pieces are words that do not touch at an underscore
-abbrev pub are_apart : Piece → Piece → Bool
-are_apart p q = is_word p && is_word q && not (ends_with_underscore p.text) && not (begins_with_underscore q.text)
-
--- whether each piece touches the one before it
-abbrev pub touch_after : Piece → List Piece → Bool
-touch_after p [] = true
-touch_after p (q ∷ ps) = if are_apart p q then false else touch_after q ps
-
-abbrev pub touch : List Piece → Bool
-touch [] = true
-touch (p ∷ ps) = touch_after p ps
-
--- how many parentheses are open behind a piece
-abbrev pub depth_behind : ℕ → Piece → ℕ
-depth_behind n p =
-    if is_special (codes ")") p then n - 1
-    else if is_special (codes "(") p then n + 1 else n
-
 -- what stands before the parenthesis that closes, where so many are open inside, and behind it; none where a colon comes before
 abbrev pub before_close : ℕ → List Piece → Option (List Piece × List Piece)
 before_close n [] = None
@@ -142,7 +112,3 @@ name_of [] = None
 name_of (p ∷ ps) =
     if is_special (codes "(") p then bind (before_close 0 ps) (λ r. round_name r.0 r.1)
     else if is_word p && not (is_name (codes ":") p) then Some (Single p.text, ps) else None
-
-abbrev pub names_touch : OperatorName → Bool
-names_touch (Single w) = true
-names_touch (Round ps) = touch ps

@@ -16,10 +16,12 @@ use Rattle.fvn_statements.specs.declared.statement.Reading.{Reading}
 use Rattle.fvn_statements.specs.declared.statement.Reading.TheVariants.{Read, LeftOut, NoForm}
 use Rattle.fvn_statements.specs.declared.reading.Keyword.{Keyword}
 use Rattle.fvn_statements.specs.declared.reading.Keyword.TheVariants.{Sorts, Subsorts, Operator, Operators, Variables}
+use Rattle.fvn_statements.specs.Words.{touch, names_touch}
+use Rattle.fvn_statements.specs.LeftOut.{feature_of}
 use Rattle.fvn_statements.specs.inner.Gather.{gather}
 use Rattle.fvn_statements.specs.inner.Sorts.{rank_of}
 use Rattle.fvn_statements.specs.inner.Attributes.{is_some, attributes_of}
-use Rattle.fvn_statements.specs.inner.Names.{is_empty, sort_names_of, groups_of, variables_of, split_colon, touch, name_of, names_touch}
+use Rattle.fvn_statements.specs.inner.Names.{is_empty, sort_names_of, groups_of, variables_of, split_colon, name_of}
 
 -- the statement with what is read behind it
 abbrev pub with_attributes : (List Attribute → Statement) → Reading (List Attribute) → Reading Statement
@@ -85,17 +87,6 @@ keyword_of w =
     else if bytes_eq w (codes "ops") then Some Operators
     else if bytes_eq w (codes "var") then Some (Variables false)
     else if bytes_eq w (codes "vars") then Some (Variables true)
-    else None
-
--- the left-out form that a word begins
-abbrev pub feature_of : Text → Option Feature
-feature_of w =
-    if bytes_eq w (codes "protecting") || bytes_eq w (codes "pr") || bytes_eq w (codes "including") || bytes_eq w (codes "inc")
-    || bytes_eq w (codes "extending") || bytes_eq w (codes "ex") then Some feature.Import
-    else if bytes_eq w (codes "mb") || bytes_eq w (codes "cmb") then Some feature.Membership
-    else if bytes_eq w (codes "ceq") || bytes_eq w (codes "cq") then Some feature.Condition
-    else if bytes_eq w (codes "rl") || bytes_eq w (codes "crl") then Some feature.Rule
-    else if bytes_eq w (codes "eq") then Some feature.Later
     else None
 
 -- what follows the word that begins a statement

@@ -1,5 +1,5 @@
 use Rattle.std.proofs.Common.{◌≡◌, drop}
-use Rattle.fvn_statements.specs.inner.Attributes.{first_left_out}
+use Rattle.fvn_statements.specs.LeftOut.{first_left_out}
 use Rattle.fvn_statements.proofs.attributes.first_left_out.Given as goal
 
 -- what is left decides

@@ -1,5 +1,5 @@
 use Rattle.std.proofs.Common.{◌≡◌, drop}
-use Rattle.fvn_statements.specs.inner.Attributes.{stands}
+use Rattle.fvn_statements.specs.LeftOut.{stands}
 use Rattle.fvn_statements.proofs.attributes.stands.Given as goal
 
 -- what is left decides

@@ -1,5 +1,5 @@
 use Rattle.std.proofs.Common.{◌≡◌, drop}
-use Rattle.fvn_statements.specs.inner.Names.{touch, touch_after}
+use Rattle.fvn_statements.specs.Words.{touch, touch_after}
 use Rattle.fvn_statements.proofs.names.touch.Given as goal
 
 -- what is left decides

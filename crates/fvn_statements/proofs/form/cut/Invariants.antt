@@ -1,7 +1,0 @@
-use Rattle.std.proofs.Common.{◌≡◌, map, take}
-use Rattle.fvn_lex.specs.Cut.{piece_at}
-use Rattle.fvn_statements.proofs.form.cut.Given as goal
-
--- the pieces of the tokens so far
-abbrev pub invariant-loop-token : goal.invariant-loop-token
-invariant-loop-token l = l.pieces.items ≡ map (piece_at l.bytes) (take l.token-index l.token-items)
