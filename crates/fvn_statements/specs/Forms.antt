@@ -18,6 +18,7 @@ use Rattle.fvn_statements.specs.inner.Forms.{is_stop}
 abbrev pub dotted : Statement → List Piece
 dotted st = spell_statement st ++ (dot ∷ [])
 
+-- the word `endfm`
 abbrev pub end : Piece
 end = word (codes "endfm")
 

@@ -22,15 +22,17 @@ feature_of w =
 
 -- Attributes.
 
--- the attributes `assoc`, `comm` and `ditto`
+-- the attribute `assoc`
 abbrev pub is_assoc : Attribute → Bool
 is_assoc Assoc = true
 is_assoc a = false
 
+-- the attribute `comm`
 abbrev pub is_comm : Attribute → Bool
 is_comm Comm = true
 is_comm a = false
 
+-- the attribute `ditto`
 abbrev pub is_ditto : Attribute → Bool
 is_ditto Ditto = true
 is_ditto a = false

@@ -18,6 +18,7 @@ abbrev pub each : {A : Type 0} → (A → List Piece) → List A → List Piece
 each spell [] = []
 each spell (x ∷ xs) = spell x ++ each spell xs
 
+-- WORD
 abbrev pub spell_word : Text → List Piece
 spell_word w = word w ∷ []
 
@@ -25,9 +26,11 @@ spell_word w = word w ∷ []
 abbrev pub words : List Text → List Piece
 words = each spell_word
 
+-- a colon alone
 abbrev pub colon : Piece
 colon = word (codes ":")
 
+-- -> or ~>
 abbrev pub arrow : (partial : Bool) → Piece
 arrow false = word (codes "->")
 arrow true = word (codes "~>")
@@ -36,6 +39,7 @@ arrow true = word (codes "~>")
 abbrev pub spell_rank : RawRank → List Piece
 spell_rank r = each spell_sort r.args ++ (arrow r.partial ∷ spell_sort r.result)
 
+-- ( tokens )
 abbrev pub in_parens : List Piece → List Piece
 in_parens ps = left_paren ∷ ps ++ (right_paren ∷ [])
 
@@ -69,14 +73,17 @@ abbrev pub spell_groups : List (List Text) → List Piece
 spell_groups [] = []
 spell_groups (g ∷ gs) = words g ++ each spell_above gs
 
+-- sort or sorts
 abbrev pub sort_word : (plural : Bool) → Text
 sort_word false = codes "sort"
 sort_word true = codes "sorts"
 
+-- subsort or subsorts
 abbrev pub subsort_word : (plural : Bool) → Text
 subsort_word false = codes "subsort"
 subsort_word true = codes "subsorts"
 
+-- var or vars
 abbrev pub variable_word : (plural : Bool) → Text
 variable_word false = codes "var"
 variable_word true = codes "vars"

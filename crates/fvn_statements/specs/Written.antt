@@ -25,6 +25,7 @@ abbrev pub IsArgument : RawSort → Type 0
 IsArgument (Name s) = (s ≢ codes "->") × (s ≢ codes "~>")
 IsArgument (Kind s ss) = Unit {0}
 
+-- no argument is an arrow
 abbrev pub IsRank : RawRank → Type 0
 IsRank r = AllByRecursion IsArgument r.args
 
@@ -51,6 +52,7 @@ IsSortName w = has_colon w ≡ false
 abbrev pub IsMember : Text → Type 0
 IsMember w = w ≢ codes "<"
 
+-- a group of sorts: one word or more, none of them <
 abbrev pub IsGroup : List Text → Type 0
 IsGroup ws = NotEmpty ws × AllByRecursion IsMember ws
 

@@ -65,10 +65,12 @@ is_close [] = false
 is_close (p ∷ []) = is_special (codes "]") p
 is_close (p ∷ q ∷ ps) = false
 
+-- there is one or more
 abbrev pub is_some : {A : Type 0} → List A → Bool
 is_some [] = false
 is_some (x ∷ xs) = true
 
+-- attributes before a bracket that closes, where none is left out
 abbrev pub attributes_before : List Attribute → List Piece → Option Feature → Reading (List Attribute)
 attributes_before xs ps (Some f) = LeftOut f
 attributes_before xs ps None = if is_some xs && is_close ps then Read xs else NoForm

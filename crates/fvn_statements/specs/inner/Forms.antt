@@ -27,6 +27,7 @@ before_end (p ∷ ps) =
     if is_name (codes "endfm") p then (if is_empty ps then Some [] else None)
     else bind (before_end ps) (λ r. Some (p ∷ r))
 
+-- a name other than `endfm`, with its body
 abbrev pub named_frame : Text → Option (List Piece) → Option (Text × List Piece)
 named_frame name None = None
 named_frame name (Some body) = if bytes_eq name (codes "endfm") then None else Some (name, body)
@@ -54,11 +55,13 @@ abbrev pub end_at : ℕ → List Statement → List Piece → Result (List State
 end_at n sts [] = Ok sts
 end_at n sts (p ∷ ps) = Err (fault.Statement n)
 
+-- what was read of a statement, and then the later ones
 abbrev pub on_reading : ℕ → List Statement → List Piece → Reading Statement → (ℕ → List Statement → List Piece → Result (List Statement) FormFault) → Result (List Statement) FormFault
 on_reading n sts ps (Read st) later = later (n + 1) (sts ++ (st ∷ [])) ps
 on_reading n sts ps (LeftOut f) later = Err (fault.LeftOut n f)
 on_reading n sts ps NoForm later = Err (fault.Statement n)
 
+-- a statement before a dot, and then the later ones
 abbrev pub on_dot : ℕ → List Statement → List Piece → Option (List Piece × List Piece) → (ℕ → List Statement → List Piece → Result (List Statement) FormFault) → Result (List Statement) FormFault
 on_dot n sts ps None later = end_at n sts ps
 on_dot n sts ps (Some r) later = on_reading n sts r.1 (statement_of r.0) later
@@ -68,13 +71,16 @@ abbrev pub statements_from : List Piece → ℕ → List Statement → List Piec
 statements_from [] n sts ps = Ok sts
 statements_from (f ∷ fs) n sts ps = on_dot n sts ps (split_dot ps) (λ m more rest. statements_from fs m more rest)
 
+-- all statements
 abbrev pub body_of : List Piece → Result (List Statement) FormFault
 body_of ps = statements_from ps 1 [] ps
 
+-- the module of this name
 abbrev pub form_with : Text → Result (List Statement) FormFault → Result Form FormFault
 form_with name (Ok sts) = Ok (record { name = name; statements = sts })
 form_with name (Err f) = Err f
 
+-- the module in this frame
 abbrev pub form_in : Option (Text × List Piece) → Result Form FormFault
 form_in None = Err fault.Header
 form_in (Some r) = form_with r.0 (body_of r.1)

@@ -37,6 +37,7 @@ abbrev pub group_above : List Piece → Option (List Text × List Piece)
 group_above [] = None
 group_above (p ∷ ps) = if is_name (codes "<") p then group_of ps else None
 
+-- nothing is left
 abbrev pub is_empty : List Piece → Bool
 is_empty [] = true
 is_empty (p ∷ ps) = false
@@ -47,6 +48,7 @@ sort_names_of ps =
     if is_some (gather sort_name_of ps [] ps).0 && is_empty (gather sort_name_of ps [] ps).1
     then Some (gather sort_name_of ps [] ps).0 else None
 
+-- a group and those above it, to the end
 abbrev pub groups_with : List Text → List (List Text) → List Piece → Option (List (List Text))
 groups_with g gs ps = if is_some gs && is_empty ps then Some (g ∷ gs) else None
 
@@ -56,6 +58,7 @@ groups_of ps = bind (group_of ps) (λ g. groups_with g.0 (gather group_above g.1
 
 -- Variables.
 
+-- a sort that nothing follows
 abbrev pub alone : Option (RawSort × List Piece) → Option RawSort
 alone None = None
 alone (Some r) = if is_empty r.1 then Some r.0 else None
@@ -69,6 +72,7 @@ abbrev pub declared_sort : List Piece → Option RawSort
 declared_sort [] = None
 declared_sort (p ∷ ps) = if is_name (codes ":") p then whole_sort ps else None
 
+-- there is no sort
 abbrev pub is_none : Option RawSort → Bool
 is_none None = true
 is_none (Some s) = false
@@ -83,6 +87,7 @@ abbrev pub variables_with : List Text → Option RawSort → Option (List Text �
 variables_with names None = None
 variables_with names (Some s) = if is_some names then Some (names, s) else None
 
+-- variables and their sort
 abbrev pub variables_of : List Piece → Option (List Text × RawSort)
 variables_of ps = variables_with (gather variable_of ps [] ps).0 (declared_sort (gather variable_of ps [] ps).1)
 
@@ -102,6 +107,7 @@ before_close n (p ∷ ps) =
     else if is_special (codes ")") p && (n == 0) then Some ([], ps)
     else bind (before_close (depth_behind n p) ps) (λ r. Some (p ∷ r.0, r.1))
 
+-- a name in parentheses that holds a piece
 abbrev pub round_name : List Piece → List Piece → Option (OperatorName × List Piece)
 round_name [] ps = None
 round_name (q ∷ qs) ps = Some (Round (q ∷ qs), ps)

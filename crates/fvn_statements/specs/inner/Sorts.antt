@@ -43,6 +43,7 @@ abbrev pub argument_of : List Piece → Option (RawSort × List Piece)
 argument_of [] = None
 argument_of (p ∷ ps) = if is_name (codes "->") p || is_name (codes "~>") p then None else sort_of (p ∷ ps)
 
+-- arguments, an arrow and a result
 abbrev pub rank_before : List RawSort → List Piece → Option (RawRank × List Piece)
 rank_before ss ps =
     bind (arrow_of ps) (λ a. bind (sort_of a.1) (λ s. Some (record { args = ss; partial = a.0; result = s.0 }, s.1)))

@@ -29,6 +29,7 @@ with_attributes make (Read xs) = Read (make xs)
 with_attributes make (LeftOut f) = LeftOut f
 with_attributes make NoForm = NoForm
 
+-- sorts and attributes of an operator
 abbrev pub with_rank : (RawRank → List Attribute → Statement) → Option (RawRank × List Piece) → Reading Statement
 with_rank make None = NoForm
 with_rank make (Some r) = with_attributes (make r.0) (attributes_of r.1)
@@ -48,9 +49,11 @@ operator_at ps (Some r) =
     if is_empty r.0 then NoForm
     else if touch r.0 then operator_with r.0 r.1 else LeftOut feature.Name
 
+-- what follows `op`
 abbrev pub operator_of : List Piece → Reading Statement
 operator_of ps = operator_at ps (split_colon ps)
 
+-- a colon behind several names, and what follows it
 abbrev pub operators_behind : List OperatorName → List Piece → Reading Statement
 operators_behind names [] = NoForm
 operators_behind names (p ∷ ps) = if is_name (codes ":") p then operators_with names ps else NoForm
@@ -61,17 +64,21 @@ operators_at names ps =
     if list_all names_touch names then (if is_some names then operators_behind names ps else NoForm)
     else LeftOut feature.Name
 
+-- what follows `ops`
 abbrev pub operators_of : List Piece → Reading Statement
 operators_of ps = operators_at (gather name_of ps [] ps).0 (gather name_of ps [] ps).1
 
+-- what follows `sort`
 abbrev pub sorts_read : Bool → Option (List Text) → Reading Statement
 sorts_read plural None = NoForm
 sorts_read plural (Some names) = Read (statement.Sorts plural names)
 
+-- what follows `subsort`
 abbrev pub groups_read : Bool → Option (List (List Text)) → Reading Statement
 groups_read plural None = NoForm
 groups_read plural (Some groups) = Read (statement.Subsorts plural groups)
 
+-- what follows `var`
 abbrev pub variables_read : Bool → Option (List Text × RawSort) → Reading Statement
 variables_read plural None = NoForm
 variables_read plural (Some r) = Read (statement.Variables plural r.0 r.1)
@@ -98,6 +105,7 @@ statement_behind ps (Some Operator) = operator_of ps
 statement_behind ps (Some Operators) = operators_of ps
 statement_behind ps (Some (Variables plural)) = variables_read plural (variables_of ps)
 
+-- a left-out form, or else the statement
 abbrev pub unless_left_out : Option Feature → Reading Statement → Reading Statement
 unless_left_out None r = r
 unless_left_out (Some f) r = LeftOut f

@@ -1,3 +1,4 @@
+-- What holds in the loop.
 use Rattle.std.proofs.Common.{◌≡◌, drop}
 use Rattle.fvn_statements.specs.LeftOut.{first_left_out}
 use Rattle.fvn_statements.proofs.attributes.first_left_out.Given as goal

@@ -1,3 +1,4 @@
+-- What holds in the loop.
 use Rattle.std.proofs.Common.{◌≡◌, drop}
 use Rattle.fvn_statements.specs.LeftOut.{stands}
 use Rattle.fvn_statements.proofs.attributes.stands.Given as goal

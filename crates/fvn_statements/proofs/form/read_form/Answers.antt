@@ -1,3 +1,4 @@
+-- What is left to prove.
 use Rattle.std.proofs.Common.{◌≡◌, ◌⊎◌, Ok, Err}
 use Rattle.fvn_statements.specs.declared.form.Form.{Form}
 use Rattle.fvn_statements.specs.declared.form.FormFault.TheVariants.{NoMemory}

@@ -1,3 +1,4 @@
+-- What holds in the loop.
 use Rattle.std.proofs.Common.{◌≡◌, ◌++◌, take, drop, Some}
 use Rattle.fvn_statements.specs.inner.Gather.{bind}
 use Rattle.fvn_statements.specs.inner.Forms.{split_dot}

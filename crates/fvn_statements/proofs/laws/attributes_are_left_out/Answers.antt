@@ -1,3 +1,4 @@
+-- What is left to prove.
 use Rattle.fvn_statements.proofs.LeftOutLaws.{attributes_out}
 use Rattle.fvn_statements.proofs.laws.attributes_are_left_out.Goals as goal
 

@@ -1,3 +1,4 @@
+-- What holds in the loop.
 use Rattle.std.proofs.Common.{◌≡◌, drop}
 use Rattle.fvn_statements.specs.Words.{touch, touch_after}
 use Rattle.fvn_statements.proofs.names.touch.Given as goal

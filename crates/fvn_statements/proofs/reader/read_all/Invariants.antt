@@ -1,3 +1,4 @@
+-- What holds in the loop.
 use Rattle.std.proofs.Common.{◌≡◌, [], drop}
 use Rattle.fvn_statements.specs.inner.Gather.{gather}
 use Rattle.fvn_statements.proofs.reader.read_all.Given as goal
