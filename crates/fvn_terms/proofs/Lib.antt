@@ -10,5 +10,5 @@ mod TheoryLaws
 pub mod CompleteSets
 pub mod Instances
 pub mod Occurrences
-pub mod Rewriting
-pub mod Covering
+mod Rewriting
+mod Covering

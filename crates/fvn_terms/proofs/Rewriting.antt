@@ -1,17 +1,18 @@
 -- Laws of rewriting modulo the axioms.
 use Rattle.std.proofs.Common.{◌≡◌, ◌≤◌, ◌+◌, ◌↔◌, ℕ, zero, suc, List, [], ◌∷◌, map, All, refl, sym, subst, ◌∙◌, inl, inr, arith}
-use Rattle.std.specs.List.{AllZip}
+use Rattle.std.specs.List.{AllZip, Contains}
 use Rattle.std.proofs.lemmas.List.Elements.{All-nil, All-cons, All-head, All-tail}
 use Rattle.fvn_terms.specs.declared.plain.Var.{Var}
+use Rattle.fvn_terms.specs.declared.plain.SortId.{SortId}
 use Rattle.fvn_terms.specs.declared.declarations.Declarations.{Declarations}
 use Rattle.fvn_terms.specs.Term.{Term, Terms, var, app, none, more}
 use Rattle.fvn_terms.specs.Substitution.{Substitution, apply, apply_all, Occurs, OccursAmong}
 use Rattle.fvn_terms.specs.Signature.{IsTerm}
 use Rattle.fvn_terms.specs.Places.{AtOnePlace, AmongOnePlace, here, inside, first, later, Leads, stop, step}
 use Rattle.fvn_terms.specs.Equality.{IsAxiomEitherWay, BEqual}
-use Rattle.fvn_terms.specs.Sorts.{IsWellSorted}
+use Rattle.fvn_terms.specs.Sorts.{HasSort, IsWellSorted}
 use Rattle.fvn_terms.specs.Theory.{Equations, IsRule, TEqual}
-use Rattle.fvn_terms.specs.Rewriting.{Rewrites, TermSequence, ListRewrites, ListSequence, IsIrreducible, IsIrreducibleList, IsTerminating, IsConfluent}
+use Rattle.fvn_terms.specs.Rewriting.{Rewrites, TermSequence, ListRewrites, ListSequence, IsReducible, IsSortDecreasing, IsIrreducible, IsIrreducibleList, IsTerminating, IsConfluent}
 use Rattle.fvn_terms.specs.Variants.{IsVariant, IsWithin}
 use Rattle.fvn_terms.specs.Laws.{RewritingLaws}
 use Rattle.fvn_terms.proofs.Steps.{Leads-append, Leads-map, AtOnePlace-apply, AtOnePlace-weaker}
@@ -68,6 +69,13 @@ module _ (d : Declarations) (equations : Equations) where
 
   pub irreducible_value : (s : Substitution) (t : Term) (x : Var) → Occurs x t → IsIrreducible d equations (apply s t) → IsIrreducible d equations (s x)
   irreducible_value s t x o stays v r = let q = at_variable s t x o v r in stays q.0 (Rewrites-inside (apply s t) q.0 q.1)
+
+  pub reducible_value : (s : Substitution) (t : Term) (x : Var) → Occurs x t → IsReducible d equations (s x) → IsReducible d equations (apply s t)
+  reducible_value s t x o r = let q = at_variable s t x o r.0 r.1 in (q.0, Rewrites-inside (apply s t) q.0 q.1)
+
+  pub sorts_kept : ((left right : Term) → Contains equations (left, right) → IsSortDecreasing d left right) → (t u : Term) → IsRule d equations t u → (q : SortId) → HasSort d t q → HasSort d u q
+  sorts_kept decreasing t u r q h =
+      subst (λ v. HasSort d v q) (sym r.to) (decreasing r.left r.right r.listed r.by r.well_sorted q (subst (λ v. HasSort d v q) r.from h))
 
   pub TermSequence-modulo : (k : ℕ) (t v u : Term) → BEqual d t v → TermSequence d equations k t u → TermSequence d equations k v u
   TermSequence-modulo zero t v u e q = BEqual-trans d (BEqual-sym d e) q
@@ -227,6 +235,8 @@ module _ (d : Declarations) (equations : Equations) where
     joined = TermSequence-append;
     ended = irreducible_ends;
     values = irreducible_value;
+    reducible = reducible_value;
+    sorts = sorts_kept;
     theory = TermSequence-theory;
     lists = λ ts. (each_irreducible ts, irreducible_list ts);
     sequences = TermSequence-apply;

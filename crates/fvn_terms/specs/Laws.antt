@@ -1,7 +1,8 @@
 -- Laws of the definitions.
-use Rattle.std.specs.Prelude.{◌≡◌, ◌≤◌, ◌+◌, ◌↔◌, ℕ, List, map, All}
+use Rattle.std.specs.Prelude.{◌≡◌, ◌≤◌, ◌+◌, ◌↔◌, ℕ, List, map, All, Contains}
 use Rattle.std.specs.List.{AllZip}
 use Rattle.fvn_terms.specs.declared.plain.OpId.{OpId}
+use Rattle.fvn_terms.specs.declared.plain.SortId.{SortId}
 use Rattle.fvn_terms.specs.declared.plain.Var.{Var}
 use Rattle.fvn_terms.specs.declared.declarations.Axioms.TheVariants.{Free}
 use Rattle.fvn_terms.specs.declared.declarations.Declarations.{Declarations}
@@ -10,11 +11,11 @@ use Rattle.fvn_terms.specs.Substitution.{Substitution, apply, followed_by, Occur
 use Rattle.fvn_terms.specs.Signature.{axioms, KeepsKinds, IsTerm}
 use Rattle.fvn_terms.specs.Places.{AtOnePlace}
 use Rattle.fvn_terms.specs.Equality.{BEqual}
-use Rattle.fvn_terms.specs.Sorts.{IsWellSorted}
+use Rattle.fvn_terms.specs.Sorts.{HasSort, IsWellSorted}
 use Rattle.fvn_terms.specs.Unifiers.{Problem, IsUnifier, IsInstance}
-use Rattle.fvn_terms.specs.Theory.{Equations, TEqual, IsTheoryUnifier, IsTheoryInstance}
+use Rattle.fvn_terms.specs.Theory.{Equations, IsRule, TEqual, IsTheoryUnifier, IsTheoryInstance}
 use Rattle.fvn_terms.specs.CompleteSets.{IsCompleteSet, IsApart, IsShortest}
-use Rattle.fvn_terms.specs.Rewriting.{Rewrites, TermSequence, ListSequence, IsIrreducible, IsIrreducibleList, IsTerminating, IsConfluent, BringsNoVariable}
+use Rattle.fvn_terms.specs.Rewriting.{Rewrites, TermSequence, ListSequence, IsReducible, IsSortDecreasing, IsIrreducible, IsIrreducibleList, IsTerminating, IsConfluent, BringsNoVariable}
 use Rattle.fvn_terms.specs.Variants.{IsVariant, IsWithin, Covers}
 
 -- each term is related to itself, the other way round too, and along two steps
@@ -94,6 +95,10 @@ pub record RewritingLaws (d : Declarations) (equations : Equations) : Type 0 whe
   pub ended : (k : ℕ) (t u : Term) → IsIrreducible d equations t → TermSequence d equations k t u → (k ≡ 0) × BEqual d t u
   -- what stands at a variable in an irreducible instance is irreducible
   pub values : (s : Substitution) (t : Term) (x : Var) → Occurs x t → IsIrreducible d equations (apply s t) → IsIrreducible d equations (s x)
+  -- a term is reducible where what stands at one of its variables is
+  pub reducible : (s : Substitution) (t : Term) (x : Var) → Occurs x t → IsReducible d equations (s x) → IsReducible d equations (apply s t)
+  -- where each equation is sort-decreasing, what an instance of a left side is replaced by has all its sorts
+  pub sorts : ((left right : Term) → Contains equations (left, right) → IsSortDecreasing d left right) → (t u : Term) → IsRule d equations t u → (q : SortId) → HasSort d t q → HasSort d u q
   -- a sequence stays within the theory
   pub theory : (k : ℕ) (t u : Term) → TermSequence d equations k t u → TEqual d equations t u
   -- a list is irreducible where each member is
