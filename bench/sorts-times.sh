@@ -256,11 +256,16 @@ fn sums(rt: HostRuntime) -> Result<(), NoMemory> {
     Ok(())
 }
 
-fn spread(rt: &HostRuntime, operators: u16, row: &str) -> Result<(), NoMemory> {
+fn spread(
+    abort: &impl Abort,
+    rt: &HostRuntime,
+    operators: u16,
+    row: &str,
+) -> Result<(), NoMemory> {
     for order in [Order::Chain, Order::Tree, Order::Random] {
         for args in [Args::Same, Args::OnePlace, Args::Mixed] {
             for reversed in [false, true] {
-                let builder = hostile(rt, rt.alloc(), order, args, reversed, operators)?;
+                let builder = hostile(abort, rt.alloc(), order, args, reversed, operators)?;
                 let what = match args {
                     Args::Same => {
                         if reversed {
@@ -293,12 +298,12 @@ fn spread(rt: &HostRuntime, operators: u16, row: &str) -> Result<(), NoMemory> {
 
 #[test]
 fn spread_one(rt: HostRuntime) -> Result<(), NoMemory> {
-    spread(&rt, 1, "spread-1")
+    spread(&rt, &rt, 1, "spread-1")
 }
 
 #[test]
 fn spread_all(rt: HostRuntime) -> Result<(), NoMemory> {
-    spread(&rt, 256, "spread-256")
+    spread(&rt, &rt, 256, "spread-256")
 }
 PROGRAM
 
