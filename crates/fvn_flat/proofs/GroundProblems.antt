@@ -19,9 +19,9 @@ use Rattle.fvn_terms.specs.CompleteSets.{IsCompleteSet, IsApart}
 use Rattle.fvn_flat.specs.Bindings.{Bindings, bound, value, BindsOnce, BindingsFit}
 use Rattle.fvn_flat.specs.Fits.{Fits}
 use Rattle.fvn_flat.specs.Problems.{IsGround, variables, variables_of, plain_pairs}
-use Rattle.fvn_flat.specs.FlatLaws.{IsCompleteFor, IsApartFor}
+use Rattle.fvn_flat.specs.OneAnswer.{IsCompleteFor, IsApartFor}
 use Rattle.fvn_flat.specs.Solving.{FlatPairs, substitution, Binds, IsNumbered}
-use Rattle.fvn_flat.proofs.VariablesKept.{variables_occur}
+use Rattle.fvn_flat.proofs.VariableLists.{variables_occur}
 
 abbrev pub AreGround : FlatTerm × FlatTerm → Type 0
 AreGround p = IsGround (plain p.0) × IsGround (plain p.1)
@@ -105,7 +105,7 @@ module _ (d : Declarations) where
     IsOne s = IsUnifier d (plain_pairs pairs) (substitution s)
 
     pub answer_sound : (b : Bool) → (IsTrue b → All Same pairs) → All IsOne (answer b)
-    answer_sound true h = All-cons IsOne [] [] (nothing_is_well_sorted, same_unified (substitution []) pairs (h tt)) (All-nil IsOne)
+    answer_sound true h = All-cons IsOne [] [] (nothing_is_well_sorted, same_unified (substitution []) pairs (h refl)) (All-nil IsOne)
     answer_sound false h = All-nil IsOne
 
     abbrev IsBinding : Bindings → Type 0
@@ -124,8 +124,8 @@ module _ (d : Declarations) where
     answer_apart false i j x l m = absurd (omega (arith, m))
 
     pub answer_complete : All Fit pairs → (b : Bool) → (IsTrue b → All Same pairs) → (IsFalse b → Any Differ pairs) → IsCompleteFor d (plain_pairs pairs) (map substitution (answer b))
-    answer_complete f true h n = same_complete (h tt)
-    answer_complete f false h n = differ_complete f (n tt)
+    answer_complete f true h n = same_complete (h refl)
+    answer_complete f false h n = differ_complete f (n refl)
 
 -- what holds of the first elements, all of them
 pub all_taken : {A : Type 0} (P : A → Type 0) (xs : List A) (i : ℕ) → length xs ≤ i → All P (take i xs) → All P xs

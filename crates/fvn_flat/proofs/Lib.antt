@@ -15,11 +15,11 @@ mod Listed
 pub mod Composing
 mod Renamings
 mod SortsOfFlats
-pub mod VariablesKept
-pub mod OneAnswer
-pub mod PlainAnswers
+mod VariableLists
+mod OneAnswer
+mod PlainAnswers
 mod GroundProblems
-pub mod Examples
+mod Examples
 mod ExampleLists
 mod ExampleSystems
 mod ExampleSums

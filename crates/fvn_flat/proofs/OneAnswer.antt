@@ -16,8 +16,10 @@ use Rattle.fvn_terms.proofs.Equal.{BEqual-sym, BEqual-trans, BEqual-apply}
 use Rattle.fvn_forms.specs.FitsKinds.{FitsKinds}
 use Rattle.fvn_forms.proofs.ToCanon.{to_canon}
 use Rattle.fvn_flat.specs.Problems.{variables, variables_of, IsProblem, plain_pairs, flat_pairs, ArePairsEqual}
-use Rattle.fvn_flat.specs.FlatLaws.{IsCompleteFor, IsApartFor, IsShortestFor, HaveOneAnswer, EqualPairsHaveOneAnswer, FlattenedPairsHaveOneAnswer}
-use Rattle.fvn_flat.proofs.VariablesKept.{Occurs-BEqual, variables_list, variables_occur}
+use Rattle.fvn_flat.specs.OneAnswer.{IsCompleteFor, IsApartFor, IsShortestFor, HaveOneAnswer}
+use Rattle.fvn_flat.specs.Laws.{EqualPairsHaveOneAnswer, FlattenedPairsHaveOneAnswer}
+use Rattle.fvn_terms.proofs.Occurrences.{BEqual-occurs}
+use Rattle.fvn_flat.proofs.VariableLists.{variables_list, variables_occur}
 
 abbrev Pair : Type 0
 Pair = Term × Term
@@ -47,7 +49,7 @@ module _ (d : Declarations) where
   unifier_along ps qs e s h = (h.0, solves_along s h.0.0 ps qs e h.1)
 
   term_variables : (x : Var) (t u : Term) → BEqual d t u → Contains (variables t) x → Contains (variables u) x
-  term_variables x t u e c = variables_list x u (Occurs-BEqual d x e (variables_occur x t c))
+  term_variables x t u e c = variables_list x u (BEqual-occurs x d u t (BEqual-sym d e) (variables_occur x t c))
 
   variables_along : (x : Var) (ps qs : Problem) → ArePairsEqual d ps qs → Contains (variables_of ps) x → Contains (variables_of qs) x
   variables_along x [] [] e c = c

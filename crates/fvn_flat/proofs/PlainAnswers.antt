@@ -15,9 +15,9 @@ use Rattle.fvn_forms.proofs.ToCanon.{canon_of_kind}
 use Rattle.fvn_flat.specs.Bindings.{Bindings}
 use Rattle.fvn_flat.specs.Fits.{Fits}
 use Rattle.fvn_flat.specs.Problems.{variables_of, IsProblem, plain_pairs, flat_pairs}
-use Rattle.fvn_flat.specs.FlatLaws.{HaveOneAnswer}
+use Rattle.fvn_flat.specs.OneAnswer.{HaveOneAnswer}
 use Rattle.fvn_flat.specs.Solving.{FlatPairs, substitution, problem_of}
-use Rattle.fvn_flat.specs.PlainPairs.{FlattenedPairsAreGiven, AnswersToFlattenedPairs}
+use Rattle.fvn_flat.specs.Laws.{FlattenedPairsAreGiven, AnswersToFlattenedPairs}
 use Rattle.fvn_flat.specs.declared.solver.Pairs.{Pairs}
 use Rattle.fvn_flat.proofs.OneAnswer.{flattened_pairs_have_one_answer}
 

@@ -35,6 +35,10 @@ places_at [] i t within is = absurd (omega arith)
 places_at (u ∷ l) zero t within is = let e = ap places is in omega arith
 places_at (u ∷ l) (suc i) t within is = let e = places_at l i t (omega arith) is in omega arith
 
+sorts_in-fpack : (d : Declarations) (env : Var → SortId) (l : List FlatTerm) → sorts_in d env (fpack l) ≡ map (sort_in d env) l
+sorts_in-fpack d env [] = refl
+sorts_in-fpack d env (t ∷ l) = ap (λ ss. sort_in d env t ∷ ss) (sorts_in-fpack d env l)
+
 fold_push : {A : Type 0} (g : A → A → A) (a : A) (l : List A) (b : A) → fold g a (l ++ b ∷ []) ≡ g (fold g a l) b
 fold_push g a [] b = refl
 fold_push g a (c ∷ l) b = fold_push g (g a c) l b

@@ -12,6 +12,7 @@ pub mod Drawn
 pub mod Rules
 pub mod FlatPlaces
 pub mod Successors
-pub mod FlatLaws
+pub mod OneAnswer
 pub mod Solving
 pub mod PlainPairs
+pub mod Laws

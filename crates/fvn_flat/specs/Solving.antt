@@ -18,7 +18,7 @@ use Rattle.fvn_flat.specs.Problems.{variables_of, plain_pairs, IsProblem}
 use Rattle.fvn_flat.specs.Partitions.{IsPartition}
 use Rattle.fvn_flat.specs.SumSystems.{IsSumSystem}
 use Rattle.fvn_flat.specs.SolvedLists.{unfolded, IsSolvedList}
-use Rattle.fvn_flat.specs.FlatLaws.{IsCompleteFor, IsApartFor}
+use Rattle.fvn_flat.specs.OneAnswer.{IsCompleteFor, IsApartFor}
 use Rattle.fvn_flat.specs.declared.solver.Pairs.{Pairs}
 use Rattle.fvn_flat.specs.declared.solver.Solved.{Solved}
 use Rattle.fvn_flat.specs.declared.solver.SolveEnd.{SolveEnd}

@@ -1,6 +1,10 @@
 //! Laws of flat pairs and of answers to them, each the contract of a function that does nothing.
-ghost use Rattle.fvn_flat.specs.FlatLaws.{EqualPairsHaveOneAnswer, FlattenedPairsHaveOneAnswer};
-ghost use Rattle.fvn_flat.specs.PlainPairs.{AnswersToFlattenedPairs, FlattenedPairsAreGiven};
+ghost use Rattle.fvn_flat.specs.Laws.{
+  AnswersToFlattenedPairs,
+  EqualPairsHaveOneAnswer,
+  FlattenedPairsAreGiven,
+  FlattenedPairsHaveOneAnswer,
+};
 
 /// Problems whose pairs are equal modulo the axioms have the same variables, unifiers and complete sets.
 pub fn equal_pairs_have_one_answer()

@@ -11,7 +11,7 @@ use Rattle.fvn_terms.specs.Signature.{kind, IsSort}
 use Rattle.fvn_forms.specs.SortOrder.{sort_number, at_or_below}
 use Rattle.fvn_forms.specs.Ranks.{results, is_lowest, pass_together}
 use Rattle.fvn_forms.specs.Good.{IsKinded}
-use Rattle.fvn_forms.proofs.Among.{contains_here, contains_later, contains_cases, contains_none, contains_filter, filter_contains, contains_map, map_contains, list_all_from}
+use Rattle.fvn_base.proofs.Membership.{contains_here, contains_later, contains_cases, contains_none, contains_filter, filter_contains, contains_map, map_contains, list_all_from}
 use Rattle.fvn_forms.proofs.SortOrder.{AtOrBelow-kind}
 use Rattle.fvn_forms.proofs.SortTests.{at_or_below-complete}
 use Rattle.fvn_sorts.specs.Searches.{has_lowest}

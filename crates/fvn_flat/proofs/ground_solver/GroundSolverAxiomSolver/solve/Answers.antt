@@ -2,7 +2,7 @@
 use Rattle.std.proofs.Common.{rules, ◌≡◌, sym, subst, ap}
 use Rattle.std.specs.Prelude.{All, Any, IsTrue, IsFalse, map}
 use Rattle.fvn_flat.specs.Solving.{AreUnifiers, AreBindings, IsNumbered, problem_of, substitution}
-use Rattle.fvn_flat.specs.FlatLaws.{IsCompleteFor}
+use Rattle.fvn_flat.specs.OneAnswer.{IsCompleteFor}
 use Rattle.fvn_flat.proofs.GroundProblems.{AreGround, Same, Differ, answer_sound, answer_binds, answer_fresh, answer_complete}
 use Rattle.fvn_flat.proofs.ground_solver.GroundSolverAxiomSolver.solve.Goals as goal
 

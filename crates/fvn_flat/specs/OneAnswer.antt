@@ -1,12 +1,11 @@
--- What is solved for flattened pairs is solved for the pairs.
+-- Complete sets of unifiers of a problem, and problems that have one answer.
 use Rattle.std.specs.Prelude.{◌↔◌, List, Contains}
 use Rattle.fvn_terms.specs.declared.plain.Var.{Var}
 use Rattle.fvn_terms.specs.declared.declarations.Declarations.{Declarations}
 use Rattle.fvn_terms.specs.Substitution.{Substitution}
 use Rattle.fvn_terms.specs.Unifiers.{Problem, IsUnifier, IsInstance}
 use Rattle.fvn_terms.specs.CompleteSets.{IsCompleteSet, IsApart, IsShortest}
-use Rattle.fvn_forms.specs.FitsKinds.{FitsKinds}
-use Rattle.fvn_flat.specs.Problems.{variables_of, IsProblem, plain_pairs, flat_pairs, ArePairsEqual}
+use Rattle.fvn_flat.specs.Problems.{variables_of}
 
 -- these are unifiers of the problem, and every unifier is an instance of one of them on the problem's variables
 abbrev pub IsCompleteFor : Declarations → Problem → List Substitution → Type 0
@@ -28,11 +27,3 @@ pub record HaveOneAnswer (d : Declarations) (problem other : Problem) : Type 0 w
   pub complete : (set : List Substitution) → IsCompleteFor d problem set ↔ IsCompleteFor d other set
   pub apart : (set : List Substitution) → IsApartFor d problem set ↔ IsApartFor d other set
   pub shortest : (set : List Substitution) → IsShortestFor d problem set ↔ IsShortestFor d other set
-
--- problems whose pairs are equal modulo the axioms have one answer
-abbrev pub EqualPairsHaveOneAnswer : Type 0
-EqualPairsHaveOneAnswer = (d : Declarations) (problem other : Problem) → ArePairsEqual d problem other → HaveOneAnswer d problem other
-
--- flattened pairs have the answer of the plain pairs
-abbrev pub FlattenedPairsHaveOneAnswer : Type 0
-FlattenedPairsHaveOneAnswer = (d : Declarations) → FitsKinds d → (problem : Problem) → IsProblem d problem → HaveOneAnswer d problem (plain_pairs (flat_pairs d problem))

@@ -1,0 +1,19 @@
+//! The statements of a module text, cut and read exactly.
+#![tactic(auto)]
+
+mod attributes;
+mod form;
+mod laws;
+mod names;
+mod reader;
+mod reading;
+mod sorts;
+mod statement;
+#[cfg(test)]
+mod tests;
+
+pub use form::{Form, FormFault, read_form};
+pub use laws::{
+    attributes_are_left_out, first_words_are_left_out, names_are_left_out, statements_are_exact,
+};
+pub use statement::{Attribute, Feature, OperatorName, RawRank, Reading, Statement};

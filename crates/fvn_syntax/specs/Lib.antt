@@ -1,0 +1,10 @@
+-- How sorts and terms are written, and what they stand for.
+pub mod Laws
+pub mod Names
+pub mod Pieces
+pub mod Raw
+pub mod Readings
+pub mod Resolve
+pub mod Scope
+pub mod Texts
+pub mod inner

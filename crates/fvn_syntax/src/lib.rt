@@ -1,0 +1,31 @@
+//! Sorts, terms and their names: how they are written, and what they stand for.
+#![tactic(auto)]
+
+mod applying;
+mod fault;
+mod form;
+mod laws;
+mod names;
+mod naming;
+mod piece;
+mod reading;
+mod scope;
+mod seen;
+mod sorts;
+#[cfg(test)]
+mod tests;
+mod texts;
+
+pub use fault::TermFault;
+pub use form::skip_term;
+pub use laws::terms_are_well_kinded;
+pub use names::{Names, VarNames, Variables};
+pub use naming::{
+    find_constant, find_last_colon, find_operator, find_sort, find_written_sort, split_sorted,
+};
+pub use piece::{Piece, Row, Text, cut};
+pub use reading::read_term;
+pub use scope::Scope;
+pub use seen::{Kinded, Seen};
+pub use sorts::RawSort;
+pub use texts::Texts;
