@@ -16,6 +16,7 @@ use Rattle.fvn_forms.specs.LeastSort.{IsFlatSubstitution}
 use Rattle.fvn_forms.proofs.Eval.{eval_settled}
 use Rattle.fvn_forms.proofs.Instances.{inst-inst}
 use Rattle.fvn_forms.proofs.LeastSort.{inst_of_kind}
+use Rattle.fvn_flat.specs.Fits.{Fits}
 use Rattle.fvn_flat.specs.Bindings.{Bindings, bound, form_or, value, BindsOnce, BindingsFit, changed, chosen, is_free, composed, IsOneThenOther, IsRestriction}
 use Rattle.fvn_flat.specs.inner.Rebuilt.{rebuilt}
 use Rattle.fvn_flat.proofs.Binding.{same_var_is, or_else, bound-append, bound_first, Apart, BindsOnce-append}
@@ -162,3 +163,9 @@ module _ (d : Declarations) where
           go (Some u) b e k = k
           go None true e k = q (same_var_is v x e)
           go None false e k = k
+
+  -- what a variable of a known sort is bound to fits
+  pub bound_fits : (s : Bindings) (x : Var) (t : FlatTerm) → BindingsFit d s → IsSort d x.sort → bound s x ≡ Some t → Fits d t
+  bound_fits s x t fit i e =
+      let is : value s x ≡ t = ap (form_or x) e in
+      subst (Fits d) is record { flat = fit.settled x; kinded = (kind d x.sort, fit.keeps_kinds x i) }

@@ -2,6 +2,7 @@
 use Rattle.std.proofs.Common.{◌≡◌, ◌≤◌, Bool, true, false, List, [], ◌∷◌, map, length, refl, sym, ap, ◌∙◌, subst, arith}
 use Rattle.std.specs.Prelude.{◌↔◌, Contains}
 use Rattle.std.specs.List.{AllByRecursion}
+use Rattle.fvn_terms.specs.declared.plain.Var.{Var}
 use Rattle.fvn_terms.specs.declared.plain.OpId.{OpId}
 use Rattle.fvn_terms.specs.declared.plain.SortId.{SortId}
 use Rattle.fvn_terms.specs.declared.declarations.Axioms.{Axioms}
@@ -10,7 +11,7 @@ use Rattle.fvn_terms.specs.declared.declarations.Rank.{Rank}
 use Rattle.fvn_terms.specs.declared.declarations.Declarations.{Declarations}
 use Rattle.fvn_terms.specs.Term.{Term, app}
 use Rattle.fvn_terms.specs.Equality.{IsAssociative, BEqual}
-use Rattle.fvn_terms.specs.Signature.{kind, declared, axioms, HasKind, HaveKinds, IsTerm}
+use Rattle.fvn_terms.specs.Signature.{kind, declared, axioms, IsSort, HasKind, HaveKinds, IsTerm}
 use Rattle.fvn_forms.specs.Flat.{FlatTerm, FlatTerms, fvar, fapp, fnone, fmore, fpack, funpack, nest, nest_all, plain, plain_all}
 use Rattle.fvn_forms.specs.Canon.{parts, all_parts, empty_sum, sum, build, canon}
 use Rattle.fvn_forms.specs.Settled.{Settled, SettledAll}
@@ -122,3 +123,7 @@ module _ (d : Declarations) where
   -- the flat form of a term fits
   pub canon_fits : FitsKinds d → (t : Term) → IsTerm d t → Fits d (canon d t)
   canon_fits fits t h = record { flat = canon_settled d t; kinded = (h.0, canon_of_kind d fits t h.0 h.1) }
+
+  -- a variable of a known sort fits
+  pub var_fits : (x : Var) → IsSort d x.sort → Fits d (fvar x)
+  var_fits x i = record { flat = tt; kinded = (kind d x.sort, (i, refl)) }

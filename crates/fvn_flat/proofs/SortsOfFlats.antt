@@ -21,6 +21,10 @@ use Rattle.fvn_flat.specs.inner.Weight.{places, places_all}
 use Rattle.fvn_flat.specs.inner.SumSorts.{with_summand, sort_so_far, whole_sort}
 use Rattle.fvn_flat.proofs.Fitting.{args_fit}
 
+sorts_of_list : (d : Declarations) (env : Var → SortId) (l : List FlatTerm) → sorts_in d env (fpack l) ≡ map (sort_in d env) l
+sorts_of_list d env [] = refl
+sorts_of_list d env (t ∷ l) = ap (λ ss. sort_in d env t ∷ ss) (sorts_of_list d env l)
+
 each_at : {A : Type 0} (P : A → Type 0) (l : List A) → AllByRecursion P l → (i : ℕ) (t : A) → i < length l → t ≡ get_or l i t → P t
 each_at P [] h i t within is = absurd (omega arith)
 each_at P (u ∷ l) h zero t within is = subst P (sym is) h.0
@@ -58,7 +62,7 @@ module _ (d : Declarations) where
 
   module _ (f : OpId) (joined : Bool) (l : List FlatTerm) (t : FlatTerm) (view : t ≡ fapp f joined (fpack l)) where
     pub sort_of_app : (b : Bool) → joined ≡ b → least_sort d t ≡ sort_over d f b (map (least_sort d) l)
-    sort_of_app b j = ap (least_sort d) view ∙ ap (sort_over d f joined) (sorts_in-fpack d (λ x. x.sort) l) ∙ ap (λ c. sort_over d f c (map (least_sort d) l)) j
+    sort_of_app b j = ap (least_sort d) view ∙ ap (sort_over d f joined) (sorts_of_list d (λ x. x.sort) l) ∙ ap (λ c. sort_over d f c (map (least_sort d) l)) j
 
     pub whole_sort_of : joined ≡ true → whole_sort d f (sort_so_far d f (map (least_sort d) l)) ≡ least_sort d t
     whole_sort_of j = whole_sort_is f (map (least_sort d) l) ∙ sym (sort_of_app true j)
