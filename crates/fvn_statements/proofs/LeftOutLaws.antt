@@ -19,7 +19,7 @@ use Rattle.fvn_statements.specs.inner.Gather.{gather}
 use Rattle.fvn_statements.specs.inner.Attributes.{identity_of, attribute_of, attributes_of}
 use Rattle.fvn_statements.specs.inner.Statements.{with_rank, statement_of}
 use Rattle.fvn_statements.specs.inner.Sorts.{rank_of}
-use Rattle.fvn_statements.proofs.Tests.{bytes_eq-not}
+use Rattle.fvn_statements.proofs.Unequal.{bytes_eq-not}
 use Rattle.fvn_statements.proofs.GatherExact.{gather-spelled}
 use Rattle.fvn_statements.proofs.SortExact.{rank-complete}
 use Rattle.fvn_statements.proofs.AttributeExact.{AttributeEnds, attribute-complete, attribute_some}

@@ -1,5 +1,5 @@
 -- Lemmas of this crate.
-mod Tests
+mod Unequal
 mod GatherExact
 mod SortExact
 mod AttributeExact

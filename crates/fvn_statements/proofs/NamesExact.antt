@@ -19,7 +19,7 @@ use Rattle.fvn_statements.specs.inner.Sorts.{sort_of}
 use Rattle.fvn_statements.specs.inner.Attributes.{is_some}
 use Rattle.fvn_statements.specs.inner.Names.{sort_name_of, member_of, if_some, group_of, group_above, is_empty, sort_names_of, groups_with, groups_of, alone, whole_sort, declared_sort, is_none, variable_of, variables_with, variables_of, split_colon, before_close, round_name, name_of}
 use Rattle.fvn_statements.specs.Words.{has_colon, depth_behind}
-use Rattle.fvn_statements.proofs.Tests.{bytes_eq-not}
+use Rattle.fvn_statements.proofs.Unequal.{bytes_eq-not}
 use Rattle.fvn_statements.proofs.GatherExact.{Gathered, gather-sound, gather-spelled, gather-whole}
 use Rattle.fvn_statements.proofs.SortExact.{Any, all_any, sort-sound, sort-complete}
 use Rattle.fvn_statements.proofs.AttributeExact.{some-is}

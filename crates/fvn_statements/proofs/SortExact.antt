@@ -13,7 +13,7 @@ use Rattle.fvn_statements.specs.Spelling.{each, arrow, spell_rank}
 use Rattle.fvn_statements.specs.Written.{IsArgument, IsRank}
 use Rattle.fvn_statements.specs.inner.Gather.{bind, gather}
 use Rattle.fvn_statements.specs.inner.Sorts.{after_comma, kind_before, bracket_sort, sort_of, arrow_of, argument_of, rank_before, rank_of}
-use Rattle.fvn_statements.proofs.Tests.{bytes_eq-not}
+use Rattle.fvn_statements.proofs.Unequal.{bytes_eq-not}
 use Rattle.fvn_statements.proofs.GatherExact.{Gathered, gather-sound, gather-spelled}
 
 abbrev pub spell_after_comma : Text → List Piece

@@ -1,4 +1,4 @@
--- Tests of texts that fail.
+-- Texts that are not equal.
 use Rattle.std.proofs.Common.{◌≡◌, ◌≢◌, Bool, true, false, refl}
 use Rattle.std.specs.Str.{bytes_eq}
 use Rattle.fvn_syntax.specs.Pieces.{Text}
