@@ -110,11 +110,11 @@ module _ (d : Declarations) where
         let m : length (drop place args) ≡ length args - place = length-drop place args in
         let long = t.long in
         take_from (drop place args) ss (omega arith) (λ k l.
-          let in_bounds : k < length (drop place mss) = omega (arith, length-drop place mss) in
-          let w = any_element _ _ (below_at (drop place mss) ss h k in_bounds) in
-          let here : Contains (get_or mss (place + k) []) w.0 = subst (λ ms. Contains ms w.0) (get_or-drop place mss k []) w.1.0 in
-          let taken : at_or_below d w.0 (get_or args (place + k) zeroth) ≡ true = All-contains (λ m. at_or_below d m (get_or args (place + k) zeroth) ≡ true) (get_or mss (place + k) []) w.0 (t.takes (place + k) (omega arith) (omega arith)) here in
-          subst (λ x. at_or_below d (get_or ss k zeroth) x ≡ true) (sym (get_or-drop place args k zeroth)) (below_trans (get_or ss k zeroth) w.0 (get_or args (place + k) zeroth) w.1.1 taken)
+        let in_bounds : k < length (drop place mss) = omega (arith, length-drop place mss) in
+        let w = any_element _ _ (below_at (drop place mss) ss h k in_bounds) in
+        let here : Contains (get_or mss (place + k) []) w.0 = subst (λ ms. Contains ms w.0) (get_or-drop place mss k []) w.1.0 in
+        let taken : at_or_below d w.0 (get_or args (place + k) zeroth) ≡ true = All-contains (λ m. at_or_below d m (get_or args (place + k) zeroth) ≡ true) (get_or mss (place + k) []) w.0 (t.takes (place + k) (omega arith) (omega arith)) here in
+        subst (λ x. at_or_below d (get_or ss k zeroth) x ≡ true) (sym (get_or-drop place args k zeroth)) (below_trans (get_or ss k zeroth) w.0 (get_or args (place + k) zeroth) w.1.1 taken)
         )
 
     pub covered_by_one : (left : List ℕ) → Any (TakesBounds d rs mss place) left → Cover d rs mss place left

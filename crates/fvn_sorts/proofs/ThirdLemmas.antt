@@ -38,8 +38,8 @@ module _ (d : Declarations) where
         let i : ℕ = w.0 in
         let g = gives_at left gives i w.1.0 in
         (rank_at rs i, (g.0, (w.1.1, g.1))) where
-      gives_at : (left : List ℕ) → All (λ i. Contains rs (rank_at rs i) × GivesBelow d r.result q.result (rank_at rs i)) left → (i : ℕ) → Contains left i → Contains rs (rank_at rs i) × GivesBelow d r.result q.result (rank_at rs i)
-      gives_at left all i h = subst (λ j. Contains rs (rank_at rs j) × GivesBelow d r.result q.result (rank_at rs j)) h.2 (all h.0 i h.1)
+          gives_at : (left : List ℕ) → All (λ i. Contains rs (rank_at rs i) × GivesBelow d r.result q.result (rank_at rs i)) left → (i : ℕ) → Contains left i → Contains rs (rank_at rs i) × GivesBelow d r.result q.result (rank_at rs i)
+          gives_at left all i h = subst (λ j. Contains rs (rank_at rs j) × GivesBelow d r.result q.result (rank_at rs j)) h.2 (all h.0 i h.1)
 
   third-swapped : (rs : List Rank) (r q : Rank) → HaveThird d rs r q → HaveThird d rs q r
   third-swapped rs r q h ss listed one other = let w = h ss listed other one in (w.0, (w.1.0, (w.1.1.0, (w.1.1.1.1, w.1.1.1.0))))
@@ -67,11 +67,19 @@ module _ (d : Declarations) where
     lower r h k (x ∷ xs) each =
         let rest = lower r h k xs (λ y c. each y (contains_later x xs y c)) in
         let here = each x (contains_here x xs) in
-        let w = two rest.0 x rest.1.0 here.0 ss listed rest.1.1.0 here.1 in
-        (w.0, (w.1.0, (w.1.1.0, λ y c. elim (contains_cases x xs y c) [
-          | inl e ↦ subst (λ (z : Rank). at_or_below d w.0.result z.result ≡ true) e w.1.1.1.1
-          | inr i ↦ below_trans d w.0.result rest.0.result y.result w.1.1.1.0 (rest.1.1.1 y i)
-        ])))
+        let w = two rest.0 x rest.1.0 here.0 ss listed rest.1.1.0 here.1 in (
+          w.0,
+          (
+            w.1.0,
+            (
+              w.1.1.0,
+              λ y c. elim (contains_cases x xs y c) [
+                | inl e ↦ subst (λ (z : Rank). at_or_below d w.0.result z.result ≡ true) e w.1.1.1.1
+                | inr i ↦ below_trans d w.0.result rest.0.result y.result w.1.1.1.0 (rest.1.1.1 y i)
+              ],
+            ),
+          ),
+        )
 
     lowest_of : (r : Rank) → Contains rs r → Take d r.args ss → has_lowest d rs ss ≡ true
     lowest_of r h k =

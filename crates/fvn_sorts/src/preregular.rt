@@ -87,12 +87,7 @@ fn have_lowest(
 }
 
 /// The rank one argument further, where it takes one of the sort first.
-fn advanced_one(
-    alloc: Global,
-    draft: &Draft,
-    s: SortId,
-    rank: &Rank,
-) -> Result<Vec<Rank>, NoMemory>
+fn advanced_one(alloc: Global, draft: &Draft, s: SortId, rank: &Rank) -> Result<Vec<Rank>, NoMemory>
     requires { IsDraft draft.now }
     ensures { IfOk result (λ v. v.items ≡ advanced_one draft.now.declarations s rank.now.args rank.now.result) }
 {
@@ -112,12 +107,7 @@ fn advanced_one(
 }
 
 /// The ranks that take an argument of the sort first, without this argument.
-fn advanced(
-    alloc: Global,
-    draft: &Draft,
-    s: SortId,
-    ranks: &[Rank],
-) -> Result<Vec<Rank>, NoMemory>
+fn advanced(alloc: Global, draft: &Draft, s: SortId, ranks: &[Rank]) -> Result<Vec<Rank>, NoMemory>
     requires { IsDraft draft.now }
     ensures { IfOk result (λ v. v.items ≡ advanced draft.now.declarations s ranks.now) }
 {
