@@ -12,7 +12,8 @@ use Rattle.fvn_forms.specs.SortOrder.{at_or_below}
 use Rattle.fvn_forms.specs.Ranks.{results, is_lowest, pass_together}
 use Rattle.fvn_forms.specs.Good.{IsKinded}
 use Rattle.fvn_forms.specs.SortOrder.{sort_number}
-use Rattle.fvn_sorts.specs.Faults.{IsBefore, sort_numbers}
+use Rattle.fvn_base.specs.Order.{IsBefore}
+use Rattle.fvn_sorts.specs.Faults.{sort_numbers}
 use Rattle.fvn_sorts.specs.Searches.{IsFirstList, the_list, advanced_one, advanced, has_lowest, HasNoLowest}
 
 module _ (d : Declarations) (s : SortId) where

@@ -16,7 +16,8 @@ use Rattle.fvn_sorts.specs.declared.fault.SigFault.{SigFault}
 use Rattle.fvn_sorts.specs.declared.fault.SigFault.TheVariants.{KindsDiffer, AxiomShape, AxiomsDiffer, IdentityBad}
 use Rattle.fvn_sorts.specs.declared.fault.Triple.{Triple}
 use Rattle.fvn_sorts.specs.Collected.{completed}
-use Rattle.fvn_sorts.specs.Faults.{Differ, HasFault, condition, IsBefore, sort_numbers, IsEarlier}
+use Rattle.fvn_sorts.specs.Faults.{Differ, HasFault, condition, sort_numbers, IsEarlier}
+use Rattle.fvn_base.specs.Order.{IsBefore}
 
 -- the first fault among those of the conditions from n up to m
 abbrev pub IsFirstFrom : Collected → ℕ → ℕ → Option SigFault → Type 0
