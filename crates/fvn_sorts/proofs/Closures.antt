@@ -12,7 +12,7 @@ use Rattle.fvn_terms.specs.declared.plain.SortId.{SortId}
 use Rattle.fvn_forms.specs.SortOrder.{sort_number, same_sort, reaches}
 use Rattle.fvn_base.proofs.Membership.{contains_here, contains_later, contains_cases, contains_none}
 use Rattle.fvn_forms.proofs.SortTests.{reaches-self, reaches-cases, reaches-trans, reaches-one, reaches-sound}
-use Rattle.fvn_sorts.specs.Words.{Has, IsClosure, gaining}
+use Rattle.fvn_sorts.specs.inner.Words.{Has, IsClosure, gaining}
 
 -- more pairs lead further
 pub reaches-more : (ps qs : List (SortId × SortId)) → ((s q : SortId) → Contains ps (s, q) → Contains qs (s, q)) → (s q : SortId) → reaches ps s q ≡ true → reaches qs s q ≡ true

@@ -22,7 +22,7 @@ use Rattle.fvn_sorts.specs.declared.fault.SigFault.TheVariants.{SortCycle, Kinds
 use Rattle.fvn_sorts.specs.Collected.{IsClosed, declarations_of, first_axioms, rank_meant, meant_or_kind, completed}
 use Rattle.fvn_forms.specs.FitsKinds.{TakesTwoAlike, TakesTwoOfItsKind}
 use Rattle.fvn_sorts.specs.Faults.{HasNoFault, HasBadShape}
-use Rattle.fvn_sorts.specs.Searches.{has_lowest}
+use Rattle.fvn_sorts.specs.inner.Searches.{has_lowest}
 use Rattle.fvn_base.proofs.Decided.{unrefuted, decided_by, both_or, some_or_none}
 use Rattle.fvn_sorts.proofs.CompletedKinds.{declared-is, rank-declared, completed-kinded}
 use Rattle.fvn_sorts.proofs.ShapeLemmas.{same_axioms, differ_from_first}

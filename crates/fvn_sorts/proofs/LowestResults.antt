@@ -14,7 +14,7 @@ use Rattle.fvn_forms.specs.Good.{IsKinded}
 use Rattle.fvn_forms.specs.SortOrder.{sort_number}
 use Rattle.fvn_base.specs.Order.{IsBefore}
 use Rattle.fvn_sorts.specs.Faults.{sort_numbers}
-use Rattle.fvn_sorts.specs.Searches.{IsFirstList, the_list, advanced_one, advanced, has_lowest, HasNoLowest}
+use Rattle.fvn_sorts.specs.inner.Searches.{IsFirstList, the_list, advanced_one, advanced, has_lowest, HasNoLowest}
 
 module _ (d : Declarations) (s : SortId) where
   -- the ranks one argument further, with one rank more

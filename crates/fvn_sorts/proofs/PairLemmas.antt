@@ -11,7 +11,7 @@ use Rattle.fvn_terms.specs.Signature.{IsSort, same}
 use Rattle.fvn_forms.specs.SortOrder.{sort_number, at_or_below}
 use Rattle.fvn_forms.proofs.SortOrder.{AtOrBelow-trans}
 use Rattle.fvn_forms.proofs.SortTests.{at_or_below-true, at_or_below-complete}
-use Rattle.fvn_sorts.specs.Pairs.{rank_at, Take, IsBelowOne, AreBounds, AreBelow, BoundAll, AreApart, TakesBounds, TakesAt, Cover}
+use Rattle.fvn_sorts.specs.inner.Pairs.{rank_at, Take, IsBelowOne, AreBounds, AreBelow, BoundAll, AreApart, TakesBounds, TakesAt, Cover}
 
 -- something of which a fact holds, as an element
 pub any_element : {A : Type 0} (P : A → Type 0) (xs : List A) → Any P xs → (x : A) × (Contains xs x × P x)

@@ -20,12 +20,12 @@ use Rattle.fvn_forms.proofs.SortTests.{at_or_below-true, at_or_below-complete}
 use Rattle.fvn_forms.proofs.Results.{Serves-contains, contains-Serves}
 use Rattle.fvn_sorts.specs.declared.collected.Collected.{Collected}
 use Rattle.fvn_sorts.specs.declared.draft.Draft.{Draft}
-use Rattle.fvn_sorts.specs.declared.fault.Triple.{Triple}
+use Rattle.fvn_sorts.specs.declared.brackets.Triple.{Triple}
 use Rattle.fvn_sorts.specs.Collected.{completed}
-use Rattle.fvn_sorts.specs.Drafts.{IsDraft}
+use Rattle.fvn_sorts.specs.inner.Drafts.{IsDraft}
 use Rattle.fvn_forms.specs.FitsKinds.{HaveOneKind}
 use Rattle.fvn_sorts.specs.Faults.{Differ, HasNoResult, HasBadBrackets, HasBadCollapse}
-use Rattle.fvn_sorts.specs.Searches.{AgreeInKinds, has_lowest, HasNoLowest, AreBad, DoesNotCollapse}
+use Rattle.fvn_sorts.specs.inner.Searches.{AgreeInKinds, has_lowest, HasNoLowest, AreBad, DoesNotCollapse}
 use Rattle.fvn_base.proofs.Decided.{unrefuted, both_or}
 
 -- equality of lists of sorts is decided

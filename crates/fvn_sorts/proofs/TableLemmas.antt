@@ -7,7 +7,7 @@ use Rattle.fvn_terms.specs.declared.declarations.Declarations.{Declarations}
 use Rattle.fvn_forms.specs.SortOrder.{sort_number}
 use Rattle.fvn_forms.specs.Ranks.{result}
 use Rattle.fvn_sorts.specs.Collected.{first_sorts}
-use Rattle.fvn_sorts.specs.Drafts.{IsTable}
+use Rattle.fvn_sorts.specs.inner.Drafts.{IsTable}
 use Rattle.fvn_sorts.proofs.Parts.{map_sorts-at, map_sorts-length}
 
 -- what a look-up finds, at the place and in the list that it was asked for

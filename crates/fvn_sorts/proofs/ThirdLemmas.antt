@@ -14,8 +14,8 @@ use Rattle.fvn_forms.specs.Good.{IsKinded}
 use Rattle.fvn_base.proofs.Membership.{contains_here, contains_later, contains_cases, contains_none, contains_filter, filter_contains, contains_map, map_contains, list_all_from}
 use Rattle.fvn_forms.proofs.SortOrder.{AtOrBelow-kind}
 use Rattle.fvn_forms.proofs.SortTests.{at_or_below-complete}
-use Rattle.fvn_sorts.specs.Searches.{has_lowest}
-use Rattle.fvn_sorts.specs.Pairs.{no_rank, rank_at, Take, AreApart, BoundAll, Cover, GivesBelow, HaveThird, HaveLowest}
+use Rattle.fvn_sorts.specs.inner.Searches.{has_lowest}
+use Rattle.fvn_sorts.specs.inner.Pairs.{no_rank, rank_at, Take, AreApart, BoundAll, Cover, GivesBelow, HaveThird, HaveLowest}
 use Rattle.fvn_sorts.proofs.LowestResults.{of_kind_listed}
 use Rattle.fvn_sorts.proofs.PairLemmas.{any_element, below_trans, below_self, take_long, take_at, take_from}
 use Rattle.fvn_sorts.proofs.ResultLemmas.{find_some}

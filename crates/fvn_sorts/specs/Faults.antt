@@ -1,5 +1,6 @@
 -- The faults of what was collected, and which of them comes first.
 use Rattle.std.specs.Prelude.{◌≡◌, ◌<◌, ◌⊎◌, ℕ, List, [], ◌∷◌, map, length, Any, Contains}
+use Rattle.fvn_base.specs.declared.limits.TheConstants.{SORTS, OPERATORS, ARGUMENTS}
 use Rattle.fvn_terms.specs.declared.plain.OpId.{OpId}
 use Rattle.fvn_terms.specs.declared.plain.SortId.{SortId}
 use Rattle.fvn_terms.specs.declared.declarations.Axioms.TheVariants.{AssocCommId}
@@ -25,6 +26,7 @@ pub record Differ {A : Type 0} (R : A → A → Type 0) (xs : List A) : Type 0 w
   pub differ : R one other → ⊥
 
 module _ (c : Collected) where
+  -- a pair leads up from the sort, and the order back to it
   abbrev pub IsOnCycle : SortId → Type 0
   IsOnCycle s = (q : SortId) × (Contains c.below (s, q) × AtOrBelow (completed c) q s)
 
@@ -61,8 +63,9 @@ module _ (c : Collected) where
     pub of_kind : IsOfKind (completed c) f s
     pub bad : Collapses (completed c) f identity s → ⊥
 
+  -- there are more sorts, operators, or arguments of one operator than a signature may have
   abbrev pub IsTooLarge : Type 0
-  IsTooLarge = (64 < c.sorts) ⊎ ((256 < c.operators) ⊎ Any (λ e. 8 < length e.rank.args) c.declarations)
+  IsTooLarge = (SORTS < c.sorts) ⊎ ((OPERATORS < c.operators) ⊎ Any (λ e. ARGUMENTS < length e.rank.args) c.declarations)
 
   -- what was collected has this fault
   abbrev pub HasFault : SigFault → Type 0
@@ -90,9 +93,11 @@ condition (NotAssocSorts f s q r) = 7
 condition (NotCollapsing f s) = 8
 condition NoMemory = 9
 
+-- the numbers of sorts
 abbrev pub sort_numbers : List SortId → List ℕ
 sort_numbers = map (λ s. s.0)
 
+-- what shows a fault: its operator and its sorts, by their numbers
 abbrev pub witness : SigFault → List ℕ
 witness TooMany = []
 witness (SortCycle s) = s.0 ∷ []
@@ -105,6 +110,7 @@ witness (NotAssocSorts f s q r) = f.0 ∷ sort_numbers (s ∷ q ∷ r ∷ [])
 witness (NotCollapsing f s) = f.0 ∷ sort_numbers (s ∷ [])
 witness NoMemory = []
 
+-- the fault is told before the other
 abbrev pub IsEarlier : SigFault → SigFault → Type 0
 IsEarlier j k = IsBefore (condition j ∷ witness j) (condition k ∷ witness k)
 
@@ -112,5 +118,6 @@ IsEarlier j k = IsBefore (condition j ∷ witness j) (condition k ∷ witness k)
 abbrev pub IsFirstFault : Collected → SigFault → Type 0
 IsFirstFault c = IsFirst IsEarlier (HasFault c)
 
+-- what was collected has no fault
 abbrev pub HasNoFault : Collected → Type 0
 HasNoFault c = (k : SigFault) → HasFault c k → ⊥

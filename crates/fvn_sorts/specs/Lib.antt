@@ -1,9 +1,7 @@
+-- Signatures as they are collected, their faults, queries and laws.
 pub mod Collected
 pub mod Faults
-pub mod Words
-pub mod Drafts
 pub mod Queries
-pub mod Searches
-pub mod Pairs
 pub mod Joined
 pub mod Laws
+pub mod inner

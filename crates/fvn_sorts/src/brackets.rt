@@ -1,8 +1,8 @@
 //! The conditions on the sorts of sums.
 ghost use Rattle.std.specs.Prelude.{◌≡◌, ◌↔◌, ◌<◌, IsTrue};
 ghost use Rattle.fvn_terms.specs.Signature.{kind};
-ghost use Rattle.fvn_sorts.specs.Drafts.{IsDraft};
-ghost use Rattle.fvn_sorts.specs.Searches.{
+ghost use Rattle.fvn_sorts.specs.inner.Drafts.{IsDraft};
+ghost use Rattle.fvn_sorts.specs.inner.Searches.{
   IsFirstList,
   one_sort,
   two_sorts,
@@ -14,8 +14,16 @@ ghost use Rattle.fvn_sorts.specs.Searches.{
 };
 
 use crate::draft::Draft;
-use crate::fault::Triple;
+use crate::twins::{are_listed, has_twin};
 use fvn_terms::{OpId, SortId};
+
+/// Three sorts.
+#[derive(Clone, Copy)]
+pub struct Triple {
+    pub first: SortId,
+    pub second: SortId,
+    pub third: SortId,
+}
 
 /// Whether the sort is of the kind, and the sort of the sum of the three depends on its brackets.
 fn is_bad_third(draft: &Draft, op: OpId, of: SortId, s: SortId, q: SortId, r: SortId) -> bool
@@ -87,7 +95,13 @@ pub fn bad_triple(draft: &Draft, op: OpId, of: SortId) -> Option<Triple>
     requires listed { of.0 < draft.now.total }
     ensures { IsFirstList three_sorts (AreBad draft.now.declarations op of) result }
 {
+    let listed = are_listed(draft, op);
     for s in 0..draft.total {
+        if listed {
+            if has_twin(draft, op, of, SortId(s)) {
+                continue;
+            }
+        }
         match bad_pair_of(draft, op, of, SortId(s)) {
             Some((second, third)) => {
                 return Some(Triple {

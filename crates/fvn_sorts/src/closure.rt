@@ -1,8 +1,9 @@
 //! Where pairs of sorts lead, one word a sort.
 ghost use Rattle.std.specs.Prelude.{◌≡◌, ◌↔◌, ◌<◌, ◌≤◌, ◌++◌, ◌^◌, length, map, All, IfOk, IsTrue, slice_index_or};
 ghost use Rattle.std.specs.List.{range_with_len};
+ghost use Rattle.fvn_base.specs.declared.limits.TheConstants.{SORTS};
 ghost use Rattle.fvn_sorts.specs.Collected.{both_ways};
-ghost use Rattle.fvn_sorts.specs.Words.{Has, IsClosure, gaining};
+ghost use Rattle.fvn_sorts.specs.inner.Words.{Has, IsClosure, gaining};
 
 use fvn_terms::{NoMemory, SortId};
 use std::alloc::{AllocFailed, Global};
@@ -25,7 +26,7 @@ fn gaining(word: u64, k: u16, other: u64) -> u64
 
 /// For each sort the word of it alone.
 fn single_bits(alloc: Global, sorts: u16) -> Result<Vec<u64>, NoMemory>
-    requires { sorts ≤ 64 }
+    requires { sorts ≤ SORTS }
     ensures { IfOk result (λ v. v.items ≡ map (λ k. 2 ^ k) (range_with_len 0 sorts)) }
 {
     let mut words = Vec::new(alloc);
@@ -51,7 +52,7 @@ fn gain(words: &mut Vec<u64>, low: u16, high: usize)
 ///
 /// One step for each pair: what reaches its lower sort reaches all that its upper sort does.
 pub fn closure(alloc: Global, sorts: u16, pairs: &[(SortId, SortId)]) -> Result<Vec<u64>, NoMemory>
-    requires few { sorts ≤ 64 }
+    requires few { sorts ≤ SORTS }
     requires in_range { All (λ p. (p.0.0 < sorts) × (p.1.0 < sorts)) pairs.now }
     ensures { IfOk result (λ v. IsClosure sorts pairs.now v.items) }
 {

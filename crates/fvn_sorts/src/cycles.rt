@@ -2,22 +2,23 @@
 ghost use Rattle.std.specs.Prelude.{◌≡◌, ◌↔◌, ◌<◌, Any, IsTrue, MatchOption};
 ghost use Rattle.fvn_terms.specs.Signature.{AtOrBelow};
 ghost use Rattle.fvn_terms.specs.declared.plain.SortId.{SortId};
-ghost use Rattle.fvn_sorts.specs.Drafts.{IsDraft, IsDraftOf};
+ghost use Rattle.fvn_sorts.specs.inner.Drafts.{IsDraft, IsDraftOf};
 ghost use Rattle.fvn_sorts.specs.Faults.{IsOnCycle, IsTooLarge};
 
 use crate::collected::{Collected, Declaration};
 use crate::draft::Draft;
+use fvn_base::limits::{ARGUMENTS, OPERATORS, SORTS};
 use fvn_terms::SortId;
 
 /// Whether more was collected than a signature may have.
 pub fn is_too_large(collected: &Collected) -> bool
     ensures { IsTrue result ↔ IsTooLarge collected.now }
 {
-    if collected.sorts > 64 || collected.operators > 256 {
+    if collected.sorts > SORTS || collected.operators > OPERATORS {
         return true;
     }
     for declaration in collected.declarations.as_slice() {
-        if declaration.rank.args.len() > 8 {
+        if declaration.rank.args.len() > ARGUMENTS {
             return true;
         }
     }

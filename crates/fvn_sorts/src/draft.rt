@@ -10,7 +10,7 @@ ghost use Rattle.fvn_forms.specs.Ranks.{
   first_result,
   result as least_result,
 };
-ghost use Rattle.fvn_sorts.specs.Drafts.{IsDraft};
+ghost use Rattle.fvn_sorts.specs.inner.Drafts.{IsDraft};
 
 use crate::closure::has;
 use fvn_base::Seq;

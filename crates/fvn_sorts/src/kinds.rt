@@ -1,7 +1,8 @@
 //! The kinds of what was collected.
 ghost use Rattle.std.specs.Prelude.{◌≡◌, ◌↔◌, ◌<◌, ◌≤◌, ◌+◌, ℕ, All, map, length, IfOk, IsTrue, true};
+ghost use Rattle.fvn_base.specs.declared.limits.TheConstants.{SORTS};
 ghost use Rattle.fvn_forms.specs.SortOrder.{sort_number};
-ghost use Rattle.fvn_sorts.specs.Words.{Has, IsClosure};
+ghost use Rattle.fvn_sorts.specs.inner.Words.{Has, IsClosure};
 ghost use Rattle.fvn_sorts.specs.Collected.{
   IsClosed,
   both_ways,
@@ -27,7 +28,7 @@ struct SortKinds {
 
 /// The first sort that the order joins with `s`, by the word of those that it does.
 fn first_joined(collected: &Collected, word: u64, s: u16) -> u16
-    requires few { collected.now.sorts ≤ 64 }
+    requires few { collected.now.sorts ≤ SORTS }
     requires word { (q : ℕ) → q < collected.now.sorts → Has word q ↔ (joins collected.now (sort_number s) (sort_number q) ≡ true) }
     ensures { sort_number result ≡ first_joined collected.now (sort_number s) }
 {
@@ -40,7 +41,7 @@ fn first_joined(collected: &Collected, word: u64, s: u16) -> u16
 }
 
 fn sort_kinds(alloc: Global, collected: &Collected, joined: &[u64]) -> Result<SortKinds, NoMemory>
-    requires few { collected.now.sorts ≤ 64 }
+    requires few { collected.now.sorts ≤ SORTS }
     requires joined { IsClosure collected.now.sorts (both_ways collected.now.below) joined.now }
     ensures kinds { IfOk result (λ k. k.kinds.items ≡ map (kind_of collected.now) (first_sorts collected.now.sorts)) }
     ensures next { IfOk result (λ k. k.next ≡ collected.now.sorts + parts_before collected.now collected.now.sorts) }
@@ -62,7 +63,7 @@ fn sort_kinds(alloc: Global, collected: &Collected, joined: &[u64]) -> Result<So
 
 /// The kind of each sort, and then of each kind.
 pub fn kinds_of(alloc: Global, collected: &Collected) -> Result<Vec<SortId>, NoMemory>
-    requires few { collected.now.sorts ≤ 64 }
+    requires few { collected.now.sorts ≤ SORTS }
     requires closed { IsClosed collected.now }
     ensures { IfOk result (λ v. v.items ≡ kinds collected.now) }
 {

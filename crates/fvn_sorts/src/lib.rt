@@ -23,6 +23,7 @@ mod sorting;
 mod stages;
 mod subsorts;
 mod tables;
+mod twins;
 
 pub use builder::SignatureBuilder;
 pub use collected::{Collected, Declaration};

@@ -1,7 +1,8 @@
 //! The draft of what was collected.
 ghost use Rattle.std.specs.Prelude.{◌≤◌, IfOk};
+ghost use Rattle.fvn_base.specs.declared.limits.TheConstants.{SORTS, OPERATORS};
 ghost use Rattle.fvn_sorts.specs.Collected.{IsClosed};
-ghost use Rattle.fvn_sorts.specs.Drafts.{IsDraftOf};
+ghost use Rattle.fvn_sorts.specs.inner.Drafts.{IsDraftOf};
 
 use crate::closure::closure;
 use crate::collected::Collected;
@@ -15,8 +16,8 @@ use std::alloc::Global;
 
 /// What was collected with its kinds, before its results are known.
 fn draft_without_tables(alloc: Global, collected: &Collected) -> Result<Draft, NoMemory>
-    requires few { collected.now.sorts ≤ 64 }
-    requires operators { collected.now.operators ≤ 256 }
+    requires few { collected.now.sorts ≤ SORTS }
+    requires operators { collected.now.operators ≤ OPERATORS }
     requires closed { IsClosed collected.now }
     ensures { IfOk result (IsDraftOf collected.now) }
 {
@@ -36,8 +37,8 @@ fn draft_without_tables(alloc: Global, collected: &Collected) -> Result<Draft, N
 
 /// What was collected with its kinds, and the tables beside it.
 pub fn draft_of(alloc: Global, collected: &Collected) -> Result<Draft, NoMemory>
-    requires few { collected.now.sorts ≤ 64 }
-    requires operators { collected.now.operators ≤ 256 }
+    requires few { collected.now.sorts ≤ SORTS }
+    requires operators { collected.now.operators ≤ OPERATORS }
     requires closed { IsClosed collected.now }
     ensures { IfOk result (IsDraftOf collected.now) }
 {

@@ -3,8 +3,8 @@ ghost use Rattle.std.specs.Prelude.{◌≡◌, ◌≤◌, [], ◌∷◌, All, An
 ghost use Rattle.fvn_terms.specs.declared.plain.SortId.{SortId};
 ghost use Rattle.fvn_terms.specs.Signature.{IsSort};
 ghost use Rattle.fvn_forms.specs.SortOrder.{at_or_below};
-ghost use Rattle.fvn_sorts.specs.Drafts.{IsDraft};
-ghost use Rattle.fvn_sorts.specs.Pairs.{
+ghost use Rattle.fvn_sorts.specs.inner.Drafts.{IsDraft};
+ghost use Rattle.fvn_sorts.specs.inner.Pairs.{
   rank_at,
   IsBelowOne,
   AreBounds,

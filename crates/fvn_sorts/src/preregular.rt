@@ -1,9 +1,9 @@
 //! Whether arguments of all sorts have a least result, and the first without one.
 ghost use Rattle.std.specs.Prelude.{◌≡◌, ◌<◌, [], ◌∷◌, ℕ, All, Any, IsTrue, IfOk, length};
 ghost use Rattle.fvn_terms.specs.declared.declarations.Rank.{Rank};
-ghost use Rattle.fvn_sorts.specs.Drafts.{IsDraft};
-ghost use Rattle.fvn_sorts.specs.Searches.{IsFirstList, the_list, advanced_one, advanced, HasNoLowest};
-ghost use Rattle.fvn_sorts.specs.Pairs.{rank_at, Take, HaveThird, HaveLowest};
+ghost use Rattle.fvn_sorts.specs.inner.Drafts.{IsDraft};
+ghost use Rattle.fvn_sorts.specs.inner.Searches.{IsFirstList, the_list, advanced_one, advanced, HasNoLowest};
+ghost use Rattle.fvn_sorts.specs.inner.Pairs.{rank_at, Take, HaveThird, HaveLowest};
 
 use crate::draft::Draft;
 use crate::pairs::have_third;

@@ -3,17 +3,25 @@ ghost use Rattle.std.specs.Prelude.{◌≡◌, ◌↔◌, [], ◌∷◌, map, An
 ghost use Rattle.fvn_terms.specs.Signature.{kind, declared, axioms, HasKind};
 ghost use Rattle.fvn_terms.specs.Equality.{constant as constant_term};
 ghost use Rattle.fvn_sorts.specs.Collected.{declarations_of, completed, meant_or_kind, rank_meant};
-ghost use Rattle.fvn_sorts.specs.Drafts.{IsDraftOf};
+ghost use Rattle.fvn_sorts.specs.inner.Drafts.{IsDraftOf};
 ghost use Rattle.fvn_forms.specs.FitsKinds.{HaveOneKind, TakesTwoAlike};
 ghost use Rattle.fvn_sorts.specs.Faults.{Differ, HasBadShape, HasBadIdentity, HasFault};
-ghost use Rattle.fvn_sorts.specs.Searches.{fault_at, IsFirstOperator};
+ghost use Rattle.fvn_sorts.specs.inner.Searches.{fault_at, IsFirstOperator};
 
 use crate::axioms::{identity_of, is_associative, is_commutative};
 use crate::collected::{Collected, Declaration};
 use crate::completing::{first_axioms, meant_or_kind};
 use crate::draft::Draft;
-use crate::fault::Condition;
 use fvn_terms::{Axioms, Declarations, OpDecl, OpId, Rank, SortId};
+
+/// A condition that speaks of the declarations of one operator alone.
+#[derive(Clone, Copy)]
+pub enum Condition {
+    Kinds,
+    Shape,
+    Same,
+    Identity,
+}
 
 /// Whether two lists of sorts have the same kinds.
 fn have_same_kinds(declarations: &Declarations, some: &[SortId], others: &[SortId]) -> bool

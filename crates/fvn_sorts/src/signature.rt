@@ -31,13 +31,9 @@ impl Model for Signature {
 
     ghost view = { λ s. s.draft.declarations };
 
-    ghost use Rattle.std.specs.Prelude.{◌≡◌, map};
-    ghost use Rattle.fvn_forms.specs.Good.{IsGood};
-    ghost use Rattle.fvn_sorts.specs.Collected.{first_sorts};
-    ghost use Rattle.fvn_sorts.specs.Drafts.{IsDraft};
-    ghost use Rattle.fvn_sorts.specs.Queries.{direct_subsorts, IsCompleted};
+    ghost use Rattle.fvn_sorts.specs.inner.Drafts.{IsKept};
 
-    ghost invariant = { λ s. IsGood s.draft.declarations × (IsDraft s.draft × ((s.direct.items ≡ map (direct_subsorts s.draft.declarations) (first_sorts s.draft.total)) × IsCompleted s.draft.declarations)) };
+    ghost invariant = { λ s. IsKept s.draft s.direct.items };
 }
 
 impl Signature {

@@ -11,6 +11,7 @@ ghost use Rattle.fvn_forms.specs.LeastSort.{least_sort};
 
 use crate::axioms::is_associative;
 use crate::signature::Signature;
+use fvn_base::limits::ARGUMENTS;
 use fvn_terms::{Args, Axioms, OpId, Plain, SortId};
 
 /// The least sort of a term, and the operator of its flat form where this is a constant.
@@ -95,7 +96,7 @@ fn sort_plain(signature: &Signature, f: OpId, us: &Args) -> Sorted
     ensures constant { result.constant ≡ as_constant (canon signature.now (app f us.now)) }
 {
     signature.is_good();
-    let mut sorts = [SortId(0); 8];
+    let mut sorts = [SortId(0); ARGUMENTS];
     let mut i: usize = 0;
     for u in &us.items {
         sorts[i] = sort_term(signature, u).sort;

@@ -2,18 +2,18 @@
 ghost use Rattle.std.specs.Prelude.{◌≡◌, ◌+◌, IfOk, map};
 ghost use Rattle.fvn_terms.specs.declared.plain.OpId.{OpId};
 ghost use Rattle.fvn_terms.specs.Signature.{kind};
-ghost use Rattle.fvn_sorts.specs.Drafts.{IsDraftOf};
+ghost use Rattle.fvn_sorts.specs.inner.Drafts.{IsDraftOf};
 ghost use Rattle.fvn_sorts.specs.Faults.{HasNoResult, HasBadBrackets, HasBadCollapse};
-ghost use Rattle.fvn_sorts.specs.Searches.{IsFirstFrom, AgreeInKinds, fault_at, place_of, IsFirstList, the_list, one_sort, three_sorts};
+ghost use Rattle.fvn_sorts.specs.inner.Searches.{IsFirstFrom, AgreeInKinds, fault_at, place_of, IsFirstList, the_list, one_sort, three_sorts};
 
 use crate::axioms::{identity_of, is_associative};
-use crate::brackets::{bad_triple, first_not_collapsing};
+use crate::brackets::{Triple, bad_triple, first_not_collapsing};
 use crate::collected::Collected;
 use crate::cycles::first_cycle;
 use crate::draft::Draft;
-use crate::fault::{Condition, SigFault, Triple};
+use crate::fault::SigFault;
 use crate::preregular::first_without;
-use crate::shapes::first_failing;
+use crate::shapes::{Condition, first_failing};
 use fvn_base::Seq;
 use fvn_terms::{Axioms, Declarations, NoMemory, OpId, Rank, SortId};
 use std::alloc::{AllocFailed, Global};

@@ -3,7 +3,7 @@ ghost use Rattle.std.specs.Prelude.{◌≡◌, ◌&&◌, not, map, IfOk, ◌↔�
 ghost use Rattle.fvn_terms.specs.declared.plain.SortId.{SortId};
 ghost use Rattle.std.specs.List.{list_all};
 ghost use Rattle.fvn_sorts.specs.Collected.{first_sorts};
-ghost use Rattle.fvn_sorts.specs.Drafts.{IsDraft};
+ghost use Rattle.fvn_sorts.specs.inner.Drafts.{IsDraft};
 ghost use Rattle.fvn_sorts.specs.Queries.{is_below, is_direct, direct_subsorts, IsMaximalOf, IsTop};
 
 use crate::draft::Draft;

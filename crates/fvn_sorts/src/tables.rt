@@ -3,7 +3,7 @@ ghost use Rattle.std.specs.Prelude.{◌≡◌, [], ◌∷◌, map, length, IfOk,
 ghost use Rattle.fvn_terms.specs.declared.plain.OpId.{OpId};
 ghost use Rattle.fvn_forms.specs.Ranks.{result as least_result};
 ghost use Rattle.fvn_sorts.specs.Collected.{first_sorts};
-ghost use Rattle.fvn_sorts.specs.Drafts.{IsDraft, IsTable, results_of_two};
+ghost use Rattle.fvn_sorts.specs.inner.Drafts.{IsDraft, IsTable, results_of_two};
 
 use crate::draft::Draft;
 use fvn_base::Seq;

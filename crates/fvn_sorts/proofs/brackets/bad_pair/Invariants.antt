@@ -1,7 +1,7 @@
 -- The invariant of the search for a second and a third sort.
 use Rattle.std.proofs.Common.{◌<◌}
 use Rattle.fvn_terms.specs.declared.plain.SortId.{SortId}
-use Rattle.fvn_sorts.specs.Searches.{AreBadAfter}
+use Rattle.fvn_sorts.specs.inner.Searches.{AreBadAfter}
 use Rattle.fvn_sorts.proofs.brackets.bad_pair.Given as goal
 
 -- none so far is bad

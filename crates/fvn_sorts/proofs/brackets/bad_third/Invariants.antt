@@ -1,7 +1,7 @@
 -- The invariant of the search for a third sort.
 use Rattle.std.proofs.Common.{◌<◌}
 use Rattle.fvn_terms.specs.declared.plain.SortId.{SortId}
-use Rattle.fvn_sorts.specs.Searches.{IsBadThird}
+use Rattle.fvn_sorts.specs.inner.Searches.{IsBadThird}
 use Rattle.fvn_sorts.proofs.brackets.bad_third.Given as goal
 
 -- none so far is bad

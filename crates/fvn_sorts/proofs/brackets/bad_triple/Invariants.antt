@@ -1,7 +1,7 @@
 -- The invariant of the search for three sorts.
 use Rattle.std.proofs.Common.{◌<◌}
-use Rattle.fvn_sorts.specs.declared.fault.Triple.{Triple}
-use Rattle.fvn_sorts.specs.Searches.{AreBad}
+use Rattle.fvn_sorts.specs.declared.brackets.Triple.{Triple}
+use Rattle.fvn_sorts.specs.inner.Searches.{AreBad}
 use Rattle.fvn_sorts.proofs.brackets.bad_triple.Given as goal
 
 -- none so far is bad

@@ -1,7 +1,7 @@
 -- The invariant of the search for a sort that does not collapse.
 use Rattle.std.proofs.Common.{◌<◌}
 use Rattle.fvn_terms.specs.declared.plain.SortId.{SortId}
-use Rattle.fvn_sorts.specs.Searches.{DoesNotCollapse}
+use Rattle.fvn_sorts.specs.inner.Searches.{DoesNotCollapse}
 use Rattle.fvn_sorts.proofs.brackets.first_not_collapsing.Given as goal
 
 -- none so far fails to collapse

@@ -1,6 +1,6 @@
 -- The invariant of the closure under the first pairs.
 use Rattle.std.proofs.Common.{take}
-use Rattle.fvn_sorts.specs.Words.{IsClosure}
+use Rattle.fvn_sorts.specs.inner.Words.{IsClosure}
 use Rattle.fvn_sorts.proofs.closure.closure.Given as goal
 
 -- where the first pairs lead

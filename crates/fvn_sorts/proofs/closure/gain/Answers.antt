@@ -2,7 +2,7 @@
 use Rattle.std.proofs.Common.{◌<◌, arith, get_or, length, ℕ}
 use Rattle.std.proofs.lemmas.List.{get_or_default}
 use Rattle.std.proofs.lemmas.List.Edits.{map_over_more}
-use Rattle.fvn_sorts.specs.Words.{gaining}
+use Rattle.fvn_sorts.specs.inner.Words.{gaining}
 use Rattle.fvn_sorts.proofs.closure.gain.Goals as goal
 
 pub loop-word-preserved : goal.loop-word-preserved

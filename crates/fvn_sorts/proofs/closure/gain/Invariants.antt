@@ -1,6 +1,6 @@
 -- The invariant of the words that gain a bit each.
 use Rattle.std.proofs.Common.{◌≡◌, ◌++◌, map, take, drop}
-use Rattle.fvn_sorts.specs.Words.{gaining}
+use Rattle.fvn_sorts.specs.inner.Words.{gaining}
 use Rattle.fvn_sorts.proofs.closure.gain.Given as goal
 
 -- the first words have gained, the others are as they were

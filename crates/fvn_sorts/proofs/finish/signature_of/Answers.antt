@@ -3,7 +3,7 @@ use Rattle.std.proofs.Common.{Option, sym, subst}
 use Rattle.std.proofs.lemmas.Bool.{false≢true}
 use Rattle.fvn_forms.specs.Good.{IsGood}
 use Rattle.fvn_sorts.specs.declared.fault.SigFault.{SigFault}
-use Rattle.fvn_sorts.specs.Searches.{IsFirstFrom}
+use Rattle.fvn_sorts.specs.inner.Searches.{IsFirstFrom}
 use Rattle.fvn_sorts.specs.Queries.{IsCompleted}
 use Rattle.fvn_sorts.proofs.Components.{completed-is}
 use Rattle.fvn_sorts.proofs.GoodFrom.{good_from}
@@ -17,4 +17,9 @@ returns-clause-good c =
     subst IsGood (sym c.in_ok-draft.ensures.is) (good_from coll c.requires clean)
 
 pub invariant_of-result : goal.invariant_of-result
-invariant_of-result c = (returns-clause-good c, (c.in_ok-draft.ensures.draft, (c.in_ok-direct.ensures, subst IsCompleted (sym c.in_ok-draft.ensures.is) (completed-is c.args.collected.now c.requires))))
+invariant_of-result c = record {
+  good = returns-clause-good c;
+  draft = c.in_ok-draft.ensures.draft;
+  direct = c.in_ok-direct.ensures;
+  completed = subst IsCompleted (sym c.in_ok-draft.ensures.is) (completed-is c.args.collected.now c.requires);
+}

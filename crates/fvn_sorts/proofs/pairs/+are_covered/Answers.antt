@@ -4,7 +4,7 @@ use Rattle.std.specs.List.{All}
 use Rattle.std.proofs.lemmas.List.{get_or_default, take_all}
 use Rattle.std.proofs.lemmas.List.Elements.{All-more}
 use Rattle.fvn_forms.specs.SortOrder.{sort_number}
-use Rattle.fvn_sorts.specs.Pairs.{Cover}
+use Rattle.fvn_sorts.specs.inner.Pairs.{Cover}
 use Rattle.fvn_sorts.proofs.PairLemmas.{IsCovered, covered_by_one, covered_place}
 use Rattle.fvn_sorts.proofs.pairs.+are_covered.Goals as goal
 

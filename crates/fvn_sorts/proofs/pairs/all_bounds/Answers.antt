@@ -3,7 +3,7 @@ use Rattle.std.proofs.Common.{◌≡◌, ℕ, ◌<◌, ◌+◌, ◌-◌, List, [
 use Rattle.std.proofs.lemmas.Bool.{cases_lt, eqb-true}
 use Rattle.std.proofs.lemmas.List.{get_or_append_left, get_or-append_right, length-append}
 use Rattle.fvn_forms.specs.SortOrder.{sort_number}
-use Rattle.fvn_sorts.specs.Pairs.{AreBounds}
+use Rattle.fvn_sorts.specs.inner.Pairs.{AreBounds}
 use Rattle.fvn_sorts.proofs.PairLemmas.{apart_long, apart_at, bound_all}
 use Rattle.fvn_sorts.proofs.pairs.all_bounds.Goals as goal
 

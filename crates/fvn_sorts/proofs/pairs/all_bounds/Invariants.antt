@@ -1,7 +1,7 @@
 -- The invariant of the bounds at each place.
 use Rattle.std.proofs.Common.{◌≡◌, ℕ, ◌<◌, [], length, get_or}
 use Rattle.fvn_forms.specs.SortOrder.{sort_number}
-use Rattle.fvn_sorts.specs.Pairs.{AreBounds}
+use Rattle.fvn_sorts.specs.inner.Pairs.{AreBounds}
 use Rattle.fvn_sorts.proofs.pairs.all_bounds.Given as goal
 
 -- the places so far

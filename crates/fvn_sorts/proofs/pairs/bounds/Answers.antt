@@ -1,5 +1,5 @@
 -- What is thinned twice is thinned.
-use Rattle.fvn_sorts.specs.Pairs.{IsBelowOne}
+use Rattle.fvn_sorts.specs.inner.Pairs.{IsBelowOne}
 use Rattle.fvn_sorts.proofs.PairLemmas.{any_element, IsBelowOne-trans}
 use Rattle.fvn_sorts.proofs.pairs.bounds.Goals as goal
 

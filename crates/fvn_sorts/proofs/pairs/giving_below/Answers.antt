@@ -3,7 +3,7 @@ use Rattle.std.proofs.Common.{◌≡◌, subst, ◌∙◌}
 use Rattle.std.specs.List.{Contains}
 use Rattle.std.proofs.lemmas.List.{get_or_default}
 use Rattle.std.proofs.lemmas.List.Elements.{All-push}
-use Rattle.fvn_sorts.specs.Pairs.{no_rank, rank_at, GivesBelow}
+use Rattle.fvn_sorts.specs.inner.Pairs.{no_rank, rank_at, GivesBelow}
 use Rattle.fvn_sorts.proofs.PairLemmas.{contains_at}
 use Rattle.fvn_sorts.proofs.pairs.giving_below.Goals as goal
 use Rattle.fvn_sorts.proofs.pairs.giving_below.Goals.{then-gives_below+in_ok-push, else-gives_below}

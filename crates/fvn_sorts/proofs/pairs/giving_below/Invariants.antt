@@ -1,6 +1,6 @@
 -- The invariant of the choice of ranks by their results.
 use Rattle.std.specs.List.{All, Contains}
-use Rattle.fvn_sorts.specs.Pairs.{rank_at, GivesBelow}
+use Rattle.fvn_sorts.specs.inner.Pairs.{rank_at, GivesBelow}
 use Rattle.fvn_sorts.proofs.pairs.giving_below.Given as goal
 
 -- those so far

@@ -1,7 +1,7 @@
 -- One rank more that is left.
 use Rattle.std.specs.List.{Contains}
 use Rattle.std.proofs.lemmas.List.Elements.{All-push}
-use Rattle.fvn_sorts.specs.Pairs.{TakesAt}
+use Rattle.fvn_sorts.specs.inner.Pairs.{TakesAt}
 use Rattle.fvn_sorts.proofs.PairLemmas.{contains_at}
 use Rattle.fvn_sorts.proofs.pairs.still_left.Goals as goal
 use Rattle.fvn_sorts.proofs.pairs.still_left.Goals.{then-takes+in_ok-push, else-takes}

@@ -1,6 +1,6 @@
 -- The invariant of the choice of the ranks that are left.
 use Rattle.std.specs.List.{All, Contains}
-use Rattle.fvn_sorts.specs.Pairs.{TakesAt}
+use Rattle.fvn_sorts.specs.inner.Pairs.{TakesAt}
 use Rattle.fvn_sorts.proofs.pairs.still_left.Given as goal
 
 -- those so far

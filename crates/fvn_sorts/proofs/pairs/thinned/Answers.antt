@@ -2,7 +2,7 @@
 use Rattle.std.proofs.Common.{ℕ, ◌-◌, ◌∙◌, length, get_or, refl, subst, arith}
 use Rattle.std.proofs.lemmas.List.{get_or_default}
 use Rattle.fvn_forms.specs.SortOrder.{sort_number}
-use Rattle.fvn_sorts.specs.Pairs.{IsBelowOne}
+use Rattle.fvn_sorts.specs.inner.Pairs.{IsBelowOne}
 use Rattle.fvn_sorts.proofs.PairLemmas.{thin_more, IsBelowOne-push, IsBelowOne-last}
 use Rattle.fvn_sorts.proofs.pairs.thinned.Goals as goal
 

@@ -1,7 +1,7 @@
 -- The invariant of thinning.
 use Rattle.std.proofs.Common.{ℕ, ◌+◌, ◌<◌, ◌≤◌, length, get_or}
 use Rattle.fvn_forms.specs.SortOrder.{sort_number}
-use Rattle.fvn_sorts.specs.Pairs.{IsBelowOne}
+use Rattle.fvn_sorts.specs.inner.Pairs.{IsBelowOne}
 use Rattle.fvn_sorts.proofs.pairs.thinned.Given as goal
 
 -- those so far, from the end, are at or below one that was kept

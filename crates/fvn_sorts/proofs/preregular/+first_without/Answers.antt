@@ -5,7 +5,7 @@ use Rattle.std.proofs.lemmas.List.{get_or_default, take_rest}
 use Rattle.fvn_terms.specs.declared.plain.SortId.{SortId}
 use Rattle.fvn_forms.specs.SortOrder.{sort_number}
 use Rattle.fvn_forms.proofs.SortTests.{same_sort-true}
-use Rattle.fvn_sorts.specs.Searches.{IsFirstList, the_list, HasNoLowest}
+use Rattle.fvn_sorts.specs.inner.Searches.{IsFirstList, the_list, HasNoLowest}
 use Rattle.fvn_sorts.proofs.LowestResults.{NoneBefore, first_found, none_found, none_at_end, nil}
 use Rattle.fvn_sorts.proofs.ResultLemmas.{positive}
 use Rattle.fvn_sorts.proofs.preregular.+first_without.Goals as goal

@@ -2,7 +2,7 @@
 use Rattle.std.proofs.Common.{◌≡◌, ◌++◌, [], ◌∷◌, ap, sym, ◌∙◌, ◌+◌, List, take}
 use Rattle.std.proofs.lemmas.List.{take_more}
 use Rattle.fvn_terms.specs.declared.declarations.Rank.{Rank}
-use Rattle.fvn_sorts.specs.Searches.{advanced_one, advanced}
+use Rattle.fvn_sorts.specs.inner.Searches.{advanced_one, advanced}
 use Rattle.fvn_sorts.proofs.LowestResults.{advanced-push}
 use Rattle.fvn_sorts.proofs.preregular.advanced.Goals as goal
 

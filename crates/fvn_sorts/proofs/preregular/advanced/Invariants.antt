@@ -1,6 +1,6 @@
 -- The invariant of the ranks one argument further.
 use Rattle.std.proofs.Common.{◌≡◌, take}
-use Rattle.fvn_sorts.specs.Searches.{advanced}
+use Rattle.fvn_sorts.specs.inner.Searches.{advanced}
 use Rattle.fvn_sorts.proofs.preregular.advanced.Given as goal
 
 -- the ranks so far

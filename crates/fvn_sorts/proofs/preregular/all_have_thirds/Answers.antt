@@ -1,6 +1,6 @@
 -- One rank more has a third with each before it.
 use Rattle.std.proofs.Common.{ℕ, ◌<◌, below_more}
-use Rattle.fvn_sorts.specs.Pairs.{rank_at, HaveThird}
+use Rattle.fvn_sorts.specs.inner.Pairs.{rank_at, HaveThird}
 use Rattle.fvn_sorts.proofs.preregular.all_have_thirds.Goals as goal
 
 pub loop-number-preserved : goal.loop-number-preserved

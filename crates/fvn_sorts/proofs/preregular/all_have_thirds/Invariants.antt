@@ -1,6 +1,6 @@
 -- The invariant of the comparison of all ranks.
 use Rattle.std.proofs.Common.{ℕ, ◌<◌}
-use Rattle.fvn_sorts.specs.Pairs.{rank_at, HaveThird}
+use Rattle.fvn_sorts.specs.inner.Pairs.{rank_at, HaveThird}
 use Rattle.fvn_sorts.proofs.preregular.all_have_thirds.Given as goal
 
 -- those so far

@@ -2,7 +2,7 @@
 use Rattle.std.proofs.Common.{◌≡◌, subst, ◌∙◌, below_more, arith}
 use Rattle.std.proofs.lemmas.List.{get_or_default}
 use Rattle.fvn_terms.specs.declared.declarations.Rank.{Rank}
-use Rattle.fvn_sorts.specs.Pairs.{no_rank, rank_at, HaveThird}
+use Rattle.fvn_sorts.specs.inner.Pairs.{no_rank, rank_at, HaveThird}
 use Rattle.fvn_sorts.proofs.preregular.have_thirds.Goals as goal
 
 pub loop-earlier-preserved : goal.loop-earlier-preserved

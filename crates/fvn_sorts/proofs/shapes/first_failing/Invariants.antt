@@ -2,7 +2,7 @@
 use Rattle.std.proofs.Common.{◌<◌}
 use Rattle.fvn_terms.specs.declared.plain.OpId.{OpId}
 use Rattle.fvn_sorts.specs.Faults.{HasFault}
-use Rattle.fvn_sorts.specs.Searches.{fault_at}
+use Rattle.fvn_sorts.specs.inner.Searches.{fault_at}
 use Rattle.fvn_sorts.proofs.shapes.first_failing.Given as goal
 
 -- no operator so far fails

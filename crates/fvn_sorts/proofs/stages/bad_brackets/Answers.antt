@@ -3,9 +3,9 @@ use Rattle.std.proofs.Common.{get_or, refl, subst}
 use Rattle.fvn_terms.specs.declared.declarations.Rank.{Rank}
 use Rattle.fvn_terms.specs.Signature.{kind, declared, axioms}
 use Rattle.fvn_terms.specs.Equality.{IsAssociative}
-use Rattle.fvn_sorts.specs.declared.fault.Triple.{Triple}
+use Rattle.fvn_sorts.specs.declared.brackets.Triple.{Triple}
 use Rattle.fvn_sorts.specs.Faults.{HasBadBrackets}
-use Rattle.fvn_sorts.specs.Searches.{three_sorts, AreBad}
+use Rattle.fvn_sorts.specs.inner.Searches.{three_sorts, AreBad}
 use Rattle.fvn_sorts.proofs.FaultOrder.{IsFirstList-same}
 use Rattle.fvn_sorts.proofs.ResultLemmas.{first_listed, first_kind_listed, bad_brackets}
 use Rattle.fvn_sorts.proofs.stages.bad_brackets.Goals as goal

@@ -3,7 +3,7 @@ use Rattle.std.proofs.Common.{get_or, sym, ◌∙◌}
 use Rattle.fvn_terms.specs.declared.declarations.Rank.{Rank}
 use Rattle.fvn_terms.specs.Signature.{kind, declared}
 use Rattle.fvn_sorts.specs.Faults.{HasBadCollapse}
-use Rattle.fvn_sorts.specs.Searches.{one_sort, DoesNotCollapse}
+use Rattle.fvn_sorts.specs.inner.Searches.{one_sort, DoesNotCollapse}
 use Rattle.fvn_sorts.proofs.FaultOrder.{IsFirstList-same}
 use Rattle.fvn_sorts.proofs.ResultLemmas.{first_listed, first_kind_listed, bad_collapse}
 use Rattle.fvn_sorts.proofs.stages.bad_collapse.Goals as goal

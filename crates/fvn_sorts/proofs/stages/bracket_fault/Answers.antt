@@ -1,9 +1,9 @@
 -- The first operator over whose sums the sorts depend on brackets, or none.
 use Rattle.std.proofs.Common.{refl}
-use Rattle.fvn_sorts.specs.declared.fault.Triple.{Triple}
+use Rattle.fvn_sorts.specs.declared.brackets.Triple.{Triple}
 use Rattle.fvn_sorts.specs.declared.fault.SigFault.TheVariants.{NotAssocSorts}
 use Rattle.fvn_sorts.specs.Faults.{HasBadBrackets, sort_numbers}
-use Rattle.fvn_sorts.specs.Searches.{three_sorts}
+use Rattle.fvn_sorts.specs.inner.Searches.{three_sorts}
 use Rattle.fvn_sorts.proofs.Operators.{more_operators}
 use Rattle.fvn_sorts.proofs.FaultOrder.{only, none_of_operators, first_of_operators}
 use Rattle.fvn_sorts.proofs.stages.bracket_fault.Goals as goal

@@ -1,7 +1,7 @@
 -- The invariant of the search for bad brackets.
 use Rattle.std.proofs.Common.{◌<◌}
 use Rattle.fvn_terms.specs.declared.plain.OpId.{OpId}
-use Rattle.fvn_sorts.specs.declared.fault.Triple.{Triple}
+use Rattle.fvn_sorts.specs.declared.brackets.Triple.{Triple}
 use Rattle.fvn_sorts.specs.Faults.{HasBadBrackets}
 use Rattle.fvn_sorts.proofs.stages.bracket_fault.Given as goal
 

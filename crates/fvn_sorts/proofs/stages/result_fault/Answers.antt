@@ -4,7 +4,7 @@ use Rattle.fvn_terms.specs.declared.plain.SortId.{SortId}
 use Rattle.fvn_sorts.specs.declared.fault.SigFault.TheVariants.{NotPreregular}
 use Rattle.fvn_sorts.specs.Collected.{op_number}
 use Rattle.fvn_sorts.specs.Faults.{HasNoResult, sort_numbers}
-use Rattle.fvn_sorts.specs.Searches.{IsFirstList, the_list}
+use Rattle.fvn_sorts.specs.inner.Searches.{IsFirstList, the_list}
 use Rattle.fvn_sorts.proofs.Operators.{more_operators}
 use Rattle.fvn_sorts.proofs.FaultOrder.{only, none_of_operators, first_of_operators}
 use Rattle.fvn_sorts.proofs.stages.result_fault.Goals as goal

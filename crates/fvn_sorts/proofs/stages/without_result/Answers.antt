@@ -5,7 +5,7 @@ use Rattle.fvn_terms.specs.declared.declarations.Rank.{Rank}
 use Rattle.fvn_terms.specs.Signature.{kind, declared}
 use Rattle.fvn_forms.specs.Ranks.{ranks_of}
 use Rattle.fvn_sorts.specs.Faults.{HasNoResult}
-use Rattle.fvn_sorts.specs.Searches.{the_list, HasNoLowest}
+use Rattle.fvn_sorts.specs.inner.Searches.{the_list, HasNoLowest}
 use Rattle.fvn_sorts.proofs.FaultOrder.{IsFirstList-same}
 use Rattle.fvn_sorts.proofs.ResultLemmas.{first_listed, arg_kinds_listed, no_result}
 use Rattle.fvn_sorts.proofs.stages.without_result.Goals as goal

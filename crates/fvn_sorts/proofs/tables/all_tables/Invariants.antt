@@ -1,7 +1,7 @@
 -- The invariant of the tables of all operators.
 use Rattle.std.proofs.Common.{◌≡◌, [], length, get_or}
 use Rattle.fvn_terms.specs.declared.plain.OpId.{OpId}
-use Rattle.fvn_sorts.specs.Drafts.{IsTable}
+use Rattle.fvn_sorts.specs.inner.Drafts.{IsTable}
 use Rattle.fvn_sorts.proofs.tables.all_tables.Given as goal
 
 -- the operators so far have their tables

@@ -2,7 +2,7 @@
 use Rattle.std.proofs.Common.{◌≡◌, ℕ, List, [], get_or, sym, subst, ◌∙◌}
 use Rattle.std.proofs.lemmas.List.{get_or_default}
 use Rattle.fvn_terms.specs.declared.plain.SortId.{SortId}
-use Rattle.fvn_sorts.specs.Drafts.{IsTable}
+use Rattle.fvn_sorts.specs.inner.Drafts.{IsTable}
 use Rattle.fvn_sorts.proofs.TableLemmas.{looked_up, table-at}
 use Rattle.fvn_sorts.proofs.draft.Draft.tabled.Goals as goal
 

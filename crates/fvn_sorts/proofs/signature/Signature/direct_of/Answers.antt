@@ -10,12 +10,12 @@ use Rattle.fvn_sorts.proofs.signature.Signature.direct_of.Goals as goal
 use Rattle.fvn_sorts.proofs.signature.Signature.direct_of.Goals.{After-from}
 
 lists : (c : After-from) → c.deref.result.now ≡ map (direct_subsorts c.self.inside.draft.declarations) (first_sorts c.self.inside.draft.total)
-lists c = c.deref.ensures.value ∙ c.self.invariant.1.1.0
+lists c = c.deref.ensures.value ∙ c.self.invariant.direct
 
 within : (c : After-from) → c.args.s.0 < c.self.inside.draft.total
 within c =
     let kinds : length c.self.inside.draft.declarations.kinds ≡ length c.args.self.now.kinds = ap (λ (x : Declarations). length x.kinds) c.self.view_is in
-    omega (arith, c.self.invariant.1.0.total, c.requires)
+    omega (arith, c.self.invariant.draft.total, c.requires)
 
 pub returns-in-Some : goal.returns-in-Some
 returns-in-Some c =

@@ -6,4 +6,4 @@ use Rattle.fvn_sorts.specs.Queries.{IsKind}
 use Rattle.fvn_sorts.proofs.signature.Signature.kind.Goals as goal
 
 pub returns-clause-is_kind : goal.returns-clause-is_kind
-returns-clause-is_kind c = subst (λ (x : Declarations). IsSort x c.args.s → IsKind x c.kind.result) c.self.view_is (λ h. subst (IsKind c.self.inside.draft.declarations) (sym c.kind.ensures) (c.self.invariant.1.1.1.kind_of_sort c.args.s h))
+returns-clause-is_kind c = subst (λ (x : Declarations). IsSort x c.args.s → IsKind x c.kind.result) c.self.view_is (λ h. subst (IsKind c.self.inside.draft.declarations) (sym c.kind.ensures) (c.self.invariant.completed.kind_of_sort c.args.s h))

@@ -10,4 +10,4 @@ pub returns-clause-least : goal.returns-clause-least
 returns-clause-least c =
     let d = c.self.inside.draft.declarations in
     subst (λ (x : Declarations). TakesKinds x c.args.op c.args.args.now → IsResult x c.args.op c.args.args.now c.result.result) c.self.view_is
-    (λ t. subst (IsResult d c.args.op c.args.args.now) (sym c.result.ensures) (result-is d c.self.invariant.0 c.args.op c.args.args.now t))
+    (λ t. subst (IsResult d c.args.op c.args.args.now) (sym c.result.ensures) (result-is d c.self.invariant.good c.args.op c.args.args.now t))

@@ -11,6 +11,6 @@ returns-in-Some c is = subst (λ (d : Declarations). IsTop d c.args.kind c.in-So
 pub returns-in-None : goal.returns-in-None
 returns-in-None c is = absurd (
     let d : Declarations = c.self.inside.draft.declarations in
-    let w = some_maximal d c.self.invariant.0 c.self.invariant.1.1.1 c.args.kind (subst (λ (x : Declarations). IsKind x c.args.kind) (sym c.self.view_is) is) in
+    let w = some_maximal d c.self.invariant.good c.self.invariant.completed c.args.kind (subst (λ (x : Declarations). IsKind x c.args.kind) (sym c.self.view_is) is) in
     c.in-None.ensures w.0 w.1
     )

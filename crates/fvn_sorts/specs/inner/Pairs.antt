@@ -6,7 +6,7 @@ use Rattle.fvn_terms.specs.declared.declarations.Declarations.{Declarations}
 use Rattle.fvn_terms.specs.Signature.{IsSort}
 use Rattle.fvn_forms.specs.SortOrder.{sort_number, at_or_below}
 use Rattle.fvn_forms.specs.Ranks.{pass_together}
-use Rattle.fvn_sorts.specs.Searches.{HasNoLowest}
+use Rattle.fvn_sorts.specs.inner.Searches.{HasNoLowest}
 
 -- what stands for a rank that is not listed: without arguments, to sort 0
 abbrev pub no_rank : Rank

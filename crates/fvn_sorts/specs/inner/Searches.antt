@@ -6,15 +6,15 @@ use Rattle.fvn_terms.specs.declared.declarations.Rank.{Rank}
 use Rattle.fvn_terms.specs.declared.declarations.Declarations.{Declarations}
 use Rattle.fvn_terms.specs.Signature.{kind, declared}
 use Rattle.fvn_forms.specs.SortOrder.{at_or_below}
-use Rattle.fvn_forms.specs.Ranks.{results, is_lowest}
+use Rattle.fvn_forms.specs.Ranks.{results, is_lowest, result}
 use Rattle.fvn_forms.specs.FitsKinds.{HaveOneKind}
 use Rattle.fvn_forms.specs.Good.{Associates, Collapses}
 use Rattle.fvn_sorts.specs.declared.collected.Collected.{Collected}
-use Rattle.fvn_sorts.specs.declared.fault.Condition.{Condition}
-use Rattle.fvn_sorts.specs.declared.fault.Condition.TheVariants.{Kinds, Shape, Same, Identity}
+use Rattle.fvn_sorts.specs.declared.shapes.Condition.{Condition}
+use Rattle.fvn_sorts.specs.declared.shapes.Condition.TheVariants.{Kinds, Shape, Same, Identity}
 use Rattle.fvn_sorts.specs.declared.fault.SigFault.{SigFault}
 use Rattle.fvn_sorts.specs.declared.fault.SigFault.TheVariants.{KindsDiffer, AxiomShape, AxiomsDiffer, IdentityBad}
-use Rattle.fvn_sorts.specs.declared.fault.Triple.{Triple}
+use Rattle.fvn_sorts.specs.declared.brackets.Triple.{Triple}
 use Rattle.fvn_sorts.specs.Collected.{completed}
 use Rattle.fvn_sorts.specs.Faults.{Differ, HasFault, condition, sort_numbers, IsEarlier}
 use Rattle.fvn_base.specs.Order.{IsBefore}
@@ -33,6 +33,7 @@ fault_at Shape f = AxiomShape f
 fault_at Same f = AxiomsDiffer f
 fault_at Identity f = IdentityBad f
 
+-- the place of such a condition among all
 abbrev pub place_of : Condition → ℕ
 place_of Kinds = 2
 place_of Shape = 3
@@ -51,15 +52,19 @@ AgreeInKinds c = (f : OpId) → Differ (HaveOneKind (completed c)) (declared (co
 abbrev pub IsFirstList : {A : Type 0} → (A → List SortId) → (A → Type 0) → Option A → Type 0
 IsFirstList {A} sorts P r = MatchOption r ((a : A) → P a → ⊥) (λ a. P a × ((b : A) → IsBefore (sort_numbers (sorts b)) (sort_numbers (sorts a)) → P b → ⊥))
 
+-- the sorts of a list
 abbrev pub the_list : List SortId → List SortId
 the_list ss = ss
 
+-- the sorts of one
 abbrev pub one_sort : SortId → List SortId
 one_sort s = s ∷ []
 
+-- the sorts of a pair
 abbrev pub two_sorts : SortId × SortId → List SortId
 two_sorts p = p.0 ∷ p.1 ∷ []
 
+-- the sorts of three
 abbrev pub three_sorts : Triple → List SortId
 three_sorts t = t.first ∷ t.second ∷ t.third ∷ []
 
@@ -68,11 +73,29 @@ module _ (d : Declarations) (f : OpId) where
   abbrev pub IsBadThird : SortId → SortId → SortId → SortId → Type 0
   IsBadThird k s q r = (kind d r ≡ k) × (Associates d f s q r → ⊥)
 
+  -- the two have the kind, and over them after s the sort of the sum depends on its brackets
   abbrev pub AreBadAfter : SortId → SortId → SortId × SortId → Type 0
   AreBadAfter k s p = (kind d p.0 ≡ k) × IsBadThird k s p.0 p.1
 
+  -- the three have the kind, and over them the sort of the sum depends on its brackets
   abbrev pub AreBad : SortId → Triple → Type 0
   AreBad k t = (kind d t.first ≡ k) × AreBadAfter k t.first (t.second, t.third)
+
+  -- of the first n sorts, results with q first are among them
+  abbrev pub GivesListed : ℕ → SortId → Type 0
+  GivesListed n q = (r : SortId) → r.0 < n → (result d f (q ∷ r ∷ [])).0 < n
+
+  -- results over two of the first n sorts are among them
+  abbrev pub AreListed : ℕ → Type 0
+  AreListed n = (q : SortId) → q.0 < n → GivesListed n q
+
+  -- with each of the first n sorts after them the two give the same results
+  abbrev pub AreTwins : ℕ → SortId → SortId → Type 0
+  AreTwins n q s = (r : SortId) → r.0 < n → result d f (q ∷ r ∷ []) ≡ result d f (s ∷ r ∷ [])
+
+  -- an earlier sort of the kind gives the same results
+  abbrev pub HasTwin : ℕ → SortId → SortId → Type 0
+  HasTwin n k s = (q : SortId) × ((q.0 < s.0) × ((kind d q ≡ k) × AreTwins n q s))
 
   -- the sort has the kind, and is not at or below that of its sum by f with the constant e
   abbrev pub DoesNotCollapse : OpId → SortId → SortId → Type 0

@@ -1,13 +1,15 @@
 -- A signature with its kinds, and what is kept beside it.
 use Rattle.std.specs.Prelude.{◌≡◌, ◌≤◌, ◌<◌, ◌⊎◌, ℕ, List, [], ◌∷◌, map, length, All, slice_index_or}
+use Rattle.fvn_base.specs.declared.limits.TheConstants.{SORTS, OPERATORS}
 use Rattle.fvn_terms.specs.declared.plain.OpId.{OpId}
 use Rattle.fvn_terms.specs.declared.plain.SortId.{SortId}
 use Rattle.fvn_terms.specs.declared.declarations.Declarations.{Declarations}
-use Rattle.fvn_forms.specs.Good.{IsKinded}
+use Rattle.fvn_forms.specs.Good.{IsKinded, IsGood}
 use Rattle.fvn_forms.specs.Ranks.{ranks_of, result}
-use Rattle.fvn_sorts.specs.Words.{IsClosure}
+use Rattle.fvn_sorts.specs.inner.Words.{IsClosure}
 use Rattle.fvn_sorts.specs.declared.collected.Collected.{Collected}
 use Rattle.fvn_sorts.specs.Collected.{IsClosed, first_sorts, completed}
+use Rattle.fvn_sorts.specs.Queries.{direct_subsorts, IsCompleted}
 use Rattle.fvn_sorts.specs.declared.draft.Draft.{Draft}
 
 -- for each of the first n sorts a row: the results of f over it and each of the first n sorts, as first and second argument
@@ -22,7 +24,7 @@ IsTable d f n rows = (rows ≡ []) ⊎ (rows ≡ results_of_two d f n)
 pub record IsDraft (t : Draft) : Type 0 where
   pub kinded : IsKinded t.declarations
   pub in_range : All (λ p. (p.0.0 < t.declarations.sorts) × (p.1.0 < t.declarations.sorts)) t.declarations.below
-  pub few : t.declarations.sorts ≤ 64
+  pub few : t.declarations.sorts ≤ SORTS
   pub total : t.total ≡ length t.declarations.kinds
   pub more : t.declarations.sorts ≤ t.total
   pub words : IsClosure t.declarations.sorts t.declarations.below t.words.items
@@ -34,4 +36,11 @@ pub record IsDraftOf (c : Collected) (t : Draft) : Type 0 where
   pub draft : IsDraft t
   pub is : t.declarations ≡ completed c
   pub closed : IsClosed c
-  pub operators : c.operators ≤ 256
+  pub operators : c.operators ≤ OPERATORS
+
+-- what a signature keeps: a good draft, and for each sort and kind the declared sorts right below it
+pub record IsKept (t : Draft) (below : List (List SortId)) : Type 0 where
+  pub good : IsGood t.declarations
+  pub draft : IsDraft t
+  pub direct : below ≡ map (direct_subsorts t.declarations) (first_sorts t.total)
+  pub completed : IsCompleted t.declarations

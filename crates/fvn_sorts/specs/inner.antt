@@ -1,0 +1,5 @@
+-- What the code keeps and searches.
+pub mod Words
+pub mod Drafts
+pub mod Searches
+pub mod Pairs
