@@ -4,10 +4,11 @@
 # Rows: 256 operators of eight arguments over 64 sorts with some ranks each; 256 sums over one kind of 64
 # sorts; 64 ranks spread over eight places of a chain, a tree and a random order, of one operator and of
 # 256. Times in microseconds; Maude's are of its whole run, and end at LIMIT seconds (60). Run at the top of
-# the repository; it works in a copy, which it proves first.
+# the repository; it works in a copy, which it proves first. ROWS=sums shows the rows that begin so alone.
 set -e
 here=$(cd "$(dirname "$0")/.." && pwd)
 limit=${LIMIT:-60}
+rows=${ROWS:-}
 there=$(mktemp -d)
 trap 'rm -rf "$there"' EXIT
 mkdir -p "$there/crates/sorts_times/src" "$there/crates/sorts_times/proofs/tests/all_names"
@@ -359,6 +360,7 @@ module() {
 rt test 2>&1 | grep -E '^ *(plain|sums|spread-[0-9]+) |not proved|error|test result' | sed 's/^ *//' | while read -r row order what answer spent; do
   case $row in
     plain | sums | spread-*)
+      case $row in "$rows"*) ;; *) continue ;; esac
       module "$row" "$order" "$what" > module.maude
       start=$(date +%s%N)
       if timeout "$limit" maude -no-banner -batch module.maude < /dev/null > /dev/null 2>&1; then
