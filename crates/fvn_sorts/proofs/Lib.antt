@@ -1,20 +1,20 @@
 -- The lemmas of the crate.
-pub mod Operators
-pub mod Collecting
-pub mod Closures
-pub mod Parts
-pub mod TableLemmas
-pub mod CompletedKinds
-pub mod Orders
-pub mod Serving
-pub mod ShapeLemmas
-pub mod LowestResults
-pub mod PairLemmas
-pub mod ThirdLemmas
-pub mod FaultOrder
-pub mod ResultLemmas
-pub mod GoodFrom
-pub mod SortLemmas
-pub mod Components
-pub mod DirectSubsorts
-pub mod Examples
+mod Operators
+mod Collecting
+mod Closures
+mod Parts
+mod TableLemmas
+mod CompletedKinds
+mod Orders
+mod Serving
+mod ShapeLemmas
+mod LowestResults
+mod PairLemmas
+mod ThirdLemmas
+mod FaultOrder
+mod ResultLemmas
+mod GoodFrom
+mod SortLemmas
+mod Components
+mod DirectSubsorts
+mod Examples

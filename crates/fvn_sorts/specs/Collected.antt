@@ -12,9 +12,11 @@ use Rattle.fvn_forms.specs.SortOrder.{sort_number, same_sort, reaches}
 use Rattle.fvn_sorts.specs.declared.collected.Declaration.{Declaration}
 use Rattle.fvn_sorts.specs.declared.collected.Collected.{Collected}
 
+-- the operator with this number
 abbrev pub op_number : ℕ → OpId
 op_number n = record { 0 = n }
 
+-- whether two operators have the same number
 abbrev pub same_op : OpId → OpId → Bool
 same_op f g = nat_eq f.0 g.0
 
@@ -36,6 +38,7 @@ pub record IsClosed (c : Collected) : Type 0 where
   -- each operator has a declaration
   pub each_declared : (f : OpId) → f.0 < c.operators → (e : Declaration) × (Contains c.declarations e × (e.op ≡ f))
 
+-- the pair turned round
 abbrev pub turned : SortId × SortId → SortId × SortId
 turned p = (p.1, p.0)
 
@@ -47,10 +50,12 @@ both_ways ps = ps ++ map turned ps
 abbrev pub first_sorts : ℕ → List SortId
 first_sorts n = map sort_number (range_with_len 0 n)
 
+-- the axioms of the first declaration, or none where there is no declaration
 abbrev pub first_axioms : List Declaration → Axioms
 first_axioms [] = Free
 first_axioms (e ∷ es) = e.axioms
 
+-- the rank with each of its sorts replaced by what f gives for it
 abbrev pub rank_on : (SortId → SortId) → Rank → Rank
 rank_on f r = record { args = map f r.args; result = f r.result }
 
@@ -67,6 +72,7 @@ module _ (c : Collected) where
   abbrev pub first_joined : SortId → SortId
   first_joined s = unwrap_or (find (joins s) (first_sorts c.sorts)) s
 
+  -- whether s is the first of the sorts that the order joins with it
   abbrev pub is_first : SortId → Bool
   is_first s = same_sort (first_joined s) s
 
@@ -86,6 +92,7 @@ module _ (c : Collected) where
   abbrev pub meant : SortId → SortId
   meant s = if nat_lt s.0 first_kind_number then s else slice_index_or kinds (s.0 - first_kind_number) s
 
+  -- the sort that a number in a rank names, or its kind if the declaration is partial
   abbrev pub meant_or_kind : Bool → SortId → SortId
   meant_or_kind partial s = if partial then slice_index_or kinds (meant s).0 (meant s) else meant s
 
@@ -93,6 +100,7 @@ module _ (c : Collected) where
   abbrev pub rank_meant : Declaration → Rank
   rank_meant e = rank_on (meant_or_kind e.partial) e.rank
 
+  -- the operator of these declarations: the axioms of the first, and the rank that each of them means
   abbrev pub operator_meant : List Declaration → OpDecl
   operator_meant es = record { axioms = first_axioms es; ranks = map rank_meant es }
 

@@ -24,6 +24,7 @@ pub record Differ {A : Type 0} (R : A → A → Type 0) (xs : List A) : Type 0 w
   pub differ : R one other → ⊥
 
 module _ (c : Collected) where
+  -- a pair of the order leads up from s to a sort that is at or below s
   abbrev pub IsOnCycle : SortId → Type 0
   IsOnCycle s = (q : SortId) × (Contains c.below (s, q) × AtOrBelow (completed c) q s)
 
@@ -60,6 +61,7 @@ module _ (c : Collected) where
     pub of_kind : IsOfKind (completed c) f s
     pub bad : Collapses (completed c) f identity s → ⊥
 
+  -- there are more sorts, operators or arguments than a signature may have
   abbrev pub IsTooLarge : Type 0
   IsTooLarge = (64 < c.sorts) ⊎ ((256 < c.operators) ⊎ Any (λ e. 8 < length e.rank.args) c.declarations)
 
@@ -89,9 +91,11 @@ condition (NotAssocSorts f s q r) = 7
 condition (NotCollapsing f s) = 8
 condition NoMemory = 9
 
+-- the numbers of the sorts in a list
 abbrev pub sort_numbers : List SortId → List ℕ
 sort_numbers = map (λ s. s.0)
 
+-- what a fault names, as numbers: the operator or the sort it is about, then its further sorts
 abbrev pub witness : SigFault → List ℕ
 witness TooMany = []
 witness (SortCycle s) = s.0 ∷ []
@@ -111,6 +115,7 @@ IsBefore [] (y ∷ ys) = Unit {0}
 IsBefore (x ∷ xs) [] = ⊥
 IsBefore (x ∷ xs) (y ∷ ys) = (x < y) ⊎ ((x ≡ y) × IsBefore xs ys)
 
+-- the first fault is told before the second: by condition, then by what they name
 abbrev pub IsEarlier : SigFault → SigFault → Type 0
 IsEarlier j k = IsBefore (condition j ∷ witness j) (condition k ∷ witness k)
 
@@ -122,5 +127,6 @@ IsFirst {A} Before P x = P x × ((y : A) → Before y x → P y → ⊥)
 abbrev pub IsFirstFault : Collected → SigFault → Type 0
 IsFirstFault c = IsFirst IsEarlier (HasFault c)
 
+-- what was collected has no fault
 abbrev pub HasNoFault : Collected → Type 0
 HasNoFault c = (k : SigFault) → HasFault c k → ⊥

@@ -1,3 +1,4 @@
+-- The words of signatures: what a builder collects, its faults, and what a signature answers.
 pub mod Collected
 pub mod Faults
 pub mod Words

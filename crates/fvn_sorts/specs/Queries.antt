@@ -10,6 +10,7 @@ use Rattle.fvn_forms.specs.SortOrder.{same_sort, at_or_below}
 use Rattle.fvn_sorts.specs.Collected.{first_sorts}
 use Rattle.fvn_sorts.specs.Joined.{Joined}
 
+-- the number of arguments of the first rank; without one it is zero
 abbrev pub first_length : List Rank → ℕ
 first_length [] = 0
 first_length (r ∷ rs) = length r.args

@@ -32,6 +32,7 @@ fault_at Shape f = AxiomShape f
 fault_at Same f = AxiomsDiffer f
 fault_at Identity f = IdentityBad f
 
+-- the place of such a condition in the order in which faults are told
 abbrev pub place_of : Condition → ℕ
 place_of Kinds = 2
 place_of Shape = 3
@@ -50,15 +51,19 @@ AgreeInKinds c = (f : OpId) → Differ (HaveOneKind (completed c)) (declared (co
 abbrev pub IsFirstList : {A : Type 0} → (A → List SortId) → (A → Type 0) → Option A → Type 0
 IsFirstList {A} sorts P r = MatchOption r ((a : A) → P a → ⊥) (λ a. P a × ((b : A) → IsBefore (sort_numbers (sorts b)) (sort_numbers (sorts a)) → P b → ⊥))
 
+-- the sorts of a list of sorts: the list itself
 abbrev pub the_list : List SortId → List SortId
 the_list ss = ss
 
+-- the sorts of one sort: a list of it alone
 abbrev pub one_sort : SortId → List SortId
 one_sort s = s ∷ []
 
+-- the sorts of a pair, in order
 abbrev pub two_sorts : SortId × SortId → List SortId
 two_sorts p = p.0 ∷ p.1 ∷ []
 
+-- the sorts of a triple, in order
 abbrev pub three_sorts : Triple → List SortId
 three_sorts t = t.first ∷ t.second ∷ t.third ∷ []
 
@@ -67,9 +72,11 @@ module _ (d : Declarations) (f : OpId) where
   abbrev pub IsBadThird : SortId → SortId → SortId → SortId → Type 0
   IsBadThird k s q r = (kind d r ≡ k) × (Associates d f s q r → ⊥)
 
+  -- both sorts have the kind, and over s and the two the sort of the sum depends on its brackets
   abbrev pub AreBadAfter : SortId → SortId → SortId × SortId → Type 0
   AreBadAfter k s p = (kind d p.0 ≡ k) × IsBadThird k s p.0 p.1
 
+  -- the three sorts have the kind, and over them the sort of the sum depends on its brackets
   abbrev pub AreBad : SortId → Triple → Type 0
   AreBad k t = (kind d t.first ≡ k) × AreBadAfter k t.first (t.second, t.third)
 
