@@ -1,15 +1,16 @@
-pub mod TextLemmas
-pub mod PieceLemmas
-pub mod TermReading
-pub mod ModuleSteps
-pub mod TermSound
-pub mod Dots
-pub mod Places
-pub mod Denoting
-pub mod ProblemExact
-pub mod StatementExact
-pub mod BodyExact
-pub mod DeclaredExact
-pub mod ModuleExact
-pub mod Results
-pub mod FactLemmas
+-- The lemmas of the crate.
+mod TextLemmas
+mod PieceLemmas
+mod TermReading
+mod ModuleSteps
+mod TermSound
+mod Dots
+mod Places
+mod Denoting
+mod ProblemExact
+mod StatementExact
+mod BodyExact
+mod DeclaredExact
+mod ModuleExact
+mod Results
+mod FactLemmas

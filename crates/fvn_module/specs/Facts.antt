@@ -23,6 +23,7 @@ pub record IsFirstForm (d : Declarations) : Type 0 where
   pub below : d.below ≡ []
   pub operators : All IsFreeOperator d.ops
 
+-- one sort and free operators, not too many, each with a name of its own
 pub record IsFirstModule (m : FirstModule) : Type 0 where
   pub form : IsFirstForm m.declarations
   pub sort_names : length m.names.sorts ≡ 1
@@ -30,6 +31,7 @@ pub record IsFirstModule (m : FirstModule) : Type 0 where
   pub few : length m.names.ops ≤ 256
   pub distinct : AllPairs (λ f g. f ≢ g) m.names.ops
 
+-- both sides are terms of the one kind, and their variables are listed, numbered in order, each with a text of its own
 pub record IsFirstProblem (m : FirstModule) (p : FirstProblem) : Type 0 where
   pub left : HasKind m.declarations (term p.left) the_kind
   pub right : HasKind m.declarations (term p.right) the_kind
@@ -38,15 +40,19 @@ pub record IsFirstProblem (m : FirstModule) (p : FirstProblem) : Type 0 where
   pub vars : p.vars ≡ numbered 0 p.names.texts
   pub distinct : AllPairs (λ x y. x ≢ y) p.names.texts
 
+-- a text declares at most one module
 abbrev pub ModulesAreDetermined : Type 0
 ModulesAreDetermined = (bytes : Text) (m n : FirstModule) → IsModuleText bytes m → IsModuleText bytes n → m ≡ n
 
+-- every module that a text declares has one sort and free operators, with distinct names
 abbrev pub ModulesAreFirst : Type 0
 ModulesAreFirst = (bytes : Text) (m : FirstModule) → IsModuleText bytes m → IsFirstModule m
 
+-- in a module, a text asks at most one problem
 abbrev pub ProblemsAreDetermined : Type 0
 ProblemsAreDetermined = (m : FirstModule) (bytes : Text) (p q : FirstProblem) → IsProblemText m bytes p → IsProblemText m bytes q → p ≡ q
 
+-- every problem that a text asks in a module has terms of its kind as sides, and lists their variables
 abbrev pub ProblemsAreFirst : Type 0
 ProblemsAreFirst =
     (text : Text) (m : FirstModule) → IsModuleText text m → (bytes : Text) (p : FirstProblem) → IsProblemText m bytes p → IsFirstProblem m p

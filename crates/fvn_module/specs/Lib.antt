@@ -1,3 +1,4 @@
+-- The words of modules and problems: their texts, what these say, and how they are read.
 pub mod Pieces
 pub mod Spelling
 pub mod Tests

@@ -20,6 +20,7 @@ place texts text = position_from (λ t. bytes_eq t text) 0 texts
 abbrev pub with_text : List Text → Text → List Text
 with_text texts text = if list_any (λ t. bytes_eq t text) texts then texts else texts ++ (text ∷ [])
 
+-- the texts of a list, each once, where it occurs first
 abbrev pub each_once : List Text → List Text
 each_once texts = fold with_text [] texts
 
@@ -28,6 +29,7 @@ abbrev pub op_at : Option ℕ → Option OpId
 op_at None = None
 op_at (Some i) = Some (record { 0 = i })
 
+-- the number of arguments of the first rank; without one it is zero
 abbrev pub arguments : List Rank → ℕ
 arguments [] = 0
 arguments (r ∷ ranks) = length r.args
@@ -37,6 +39,7 @@ pub data Meaning : Type 0 where
   a_constant : OpId → Meaning
   a_variable : Text → Meaning
 
+-- the constant if there is one, or else the variable if there is one
 abbrev pub meaning : (constant : Option OpId) → (variable : Option Text) → Option Meaning
 meaning (Some f) x = Some (a_constant f)
 meaning None (Some x) = Some (a_variable x)
@@ -62,9 +65,11 @@ module _ (m : FirstModule) where
   abbrev pub op_of : Text → Option OpId
   op_of f = op_at (place m.names.ops f)
 
+  -- the number of arguments of an operator of the module
   abbrev pub arity : OpId → ℕ
   arity f = arguments (declared m.declarations f).ranks
 
+  -- the operator, if it takes no arguments
   abbrev pub if_constant : Option OpId → Option OpId
   if_constant None = None
   if_constant (Some f) = if arity f == 0 then Some f else None
@@ -85,6 +90,7 @@ module _ (m : FirstModule) where
     texts_in (call w ts) = texts_in_all ts
     texts_in (round t) = texts_in t
 
+    -- the texts of the variables in a list of terms, from left to right
     pub texts_in_all : Raws → List Text
     texts_in_all (last t) = texts_in t
     texts_in_all (and t ts) = texts_in t ++ texts_in_all ts
@@ -105,6 +111,7 @@ module _ (m : FirstModule) where
       Denotes (call w rs) (var x) = ⊥
       Denotes (call w rs) (app f us) = (op_of w ≡ Some f) × (arity f ≡ count rs) × DenoteAll rs us
 
+      -- the terms that written terms denote, one for each
       pub DenoteAll : Raws → Terms → Type 0
       DenoteAll (last r) none = ⊥
       DenoteAll (last r) (more u none) = Denotes r u

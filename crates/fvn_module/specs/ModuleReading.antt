@@ -14,6 +14,7 @@ pub record Known : Type 0 where
   pub operators : List Operator
   pub variables : List Text
 
+-- what is known before the first statement: no operators and no variables
 abbrev pub nothing : Known
 nothing = record { operators = []; variables = [] }
 
@@ -22,23 +23,28 @@ abbrev pub bind : {A B : Type 0} → Option A → (A → Option B) → Option B
 bind None f = None
 bind (Some x) f = f x
 
+-- whether an operator with n arguments may have this name
 abbrev pub allowed : (sort : Text) → Text → ℕ → Bool
 allowed sort f n =
     if bytes_eq f (codes ":") || nat_lt 8 n then false
     else (not (n == 0) || (is_none (before (codes ":") f) && is_none (sorted_name sort f)))
 
+-- the operators with f of n arguments: one that is there must have as many, and a new one goes to the end while there is room
 abbrev pub declare_known : ℕ → List Operator → Text → Option ℕ → Option (List Operator)
 declare_known n ops f (Some k) = if k == n then Some ops else None
 declare_known n ops f None = if nat_le 256 (length ops) then None else Some (ops ++ (record { name = f; arity = n } ∷ []))
 
+-- the operators with f of n arguments, where it may be declared beside them
 abbrev pub declare : (sort : Text) → ℕ → List Operator → Text → Option (List Operator)
 declare sort n ops f = if allowed sort f n then declare_known n ops f (arity_in ops f) else None
 
+-- the operators with each of these names, all of n arguments, where they may be declared
 abbrev pub declare_all : (sort : Text) → ℕ → List Operator → List Piece → Option (List Operator)
 declare_all sort n ops [] = Some ops
 declare_all sort n ops (p ∷ ps) =
     if is_word p then bind (declare sort n ops p.text) (λ more. declare_all sort n more ps) else None
 
+-- the variables with these names behind them, where each piece is a word
 abbrev pub declare_variables : List Text → List Piece → Option (List Text)
 declare_variables xs [] = Some xs
 declare_variables xs (p ∷ ps) = if is_word p then declare_variables (xs ++ (p.text ∷ [])) ps else None
@@ -61,6 +67,7 @@ abbrev pub before_end : (sign sort : Text) → List Piece → Option (List Piece
 before_end sign sort ps =
     if is_end sign sort (drop (length ps - 2) ps) then Some (take (length ps - 2) ps) else None
 
+-- the number of arguments of a rank, where the pieces spell one
 abbrev pub rank_arity : (sort : Text) → List Piece → Option ℕ
 rank_arity sort ps =
     bind (before_end (codes "->") sort ps) (λ args. if list_all (is_name sort) args then Some (length args) else None)
@@ -71,20 +78,24 @@ fits_number single [] = false
 fits_number single (p ∷ []) = true
 fits_number single (p ∷ q ∷ ps) = not single
 
+-- the operators with those of a statement, read from what stands behind its first word
 abbrev pub read_operators : (sort : Text) → Bool → List Operator → List Piece → Option (List Operator)
 read_operators sort single ops ps =
     bind (split_colon ps) (λ r.
     bind (rank_arity sort r.1) (λ n.
     if fits_number single r.0 then declare_all sort n ops r.0 else None))
 
+-- whether there are no pieces
 abbrev pub is_empty : List Piece → Bool
 is_empty [] = true
 is_empty (p ∷ ps) = false
 
+-- the variables with those of a statement, read from what stands behind its first word
 abbrev pub read_variables : (sort : Text) → List Text → List Piece → Option (List Text)
 read_variables sort xs ps =
     bind (before_end (codes ":") sort ps) (λ names. if is_empty names then None else declare_variables xs names)
 
+-- what is known after one more statement, where the pieces are one that may stand here
 abbrev pub read_statement : (sort : Text) → Known → List Piece → Option Known
 read_statement sort k [] = None
 read_statement sort k (p ∷ ps) =
@@ -93,6 +104,7 @@ read_statement sort k (p ∷ ps) =
     else if is_name (codes "var") p || is_name (codes "vars") p then bind (read_variables sort k.variables ps) (λ xs. Some (record { operators = k.operators; variables = xs }))
     else None
 
+-- whether the pieces are the word that ends a module
 abbrev pub is_last : List Piece → Bool
 is_last [] = false
 is_last (p ∷ []) = is_name (codes "endfm") p
@@ -105,6 +117,7 @@ read_body sort k before (p ∷ ps) =
     if is_dot p then bind (read_statement sort k before) (λ more. read_body sort more [] ps)
     else read_body sort k (before ++ (p ∷ [])) ps
 
+-- whether there is a number and it is zero
 abbrev pub is_zero : Option ℕ → Bool
 is_zero None = false
 is_zero (Some n) = n == 0
@@ -113,6 +126,7 @@ is_zero (Some n) = n == 0
 abbrev pub is_apart : List Operator → List Text → Bool
 is_apart ops xs = list_all (λ x. not (is_zero (arity_in ops x))) xs
 
+-- whether the byte is a colon
 abbrev pub is_colon : ℕ → Bool
 is_colon b = b == colon
 
@@ -126,6 +140,7 @@ abbrev pub split_word : List Piece → Option (Text × List Piece)
 split_word [] = None
 split_word (p ∷ ps) = if is_word p then Some (p.text, ps) else None
 
+-- the names of module and sort, and what stands behind the dot, where a dot is next and the sort has no colon
 abbrev pub end_header : Text → Text → List Piece → Option (Text × Text × List Piece)
 end_header name sort [] = None
 end_header name sort (p ∷ ps) = if is_dot p && not (list_any is_colon sort) then Some (name, sort, ps) else None
@@ -140,6 +155,7 @@ header ps =
     bind (split_word c) (λ s.
     end_header n.0 s.0 s.1)))))
 
+-- the module that the pieces declare, where they declare one
 abbrev pub read_pieces : List Piece → Option FirstModule
 read_pieces ps =
     bind (header ps) (λ h.

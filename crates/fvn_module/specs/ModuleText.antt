@@ -10,6 +10,7 @@ use Rattle.fvn_module.specs.declared.first.module_text.FirstModule.{FirstModule}
 use Rattle.fvn_module.specs.Pieces.{Text, pieces_of}
 use Rattle.fvn_module.specs.Spelling.{Statement, operator, operators, variables, spell_module}
 
+-- the byte of a colon
 abbrev pub colon : ℕ
 colon = 58
 
@@ -18,6 +19,7 @@ abbrev pub before : (ending : Text) → Text → Option Text
 before ending text =
     if bytes_eq (drop (length text - length ending) text) ending then Some (take (length text - length ending) text) else None
 
+-- the text, where it is not empty
 abbrev pub not_empty : Option Text → Option Text
 not_empty None = None
 not_empty (Some []) = None
@@ -75,6 +77,7 @@ HasNames (variables plural xs) = xs ≢ []
 abbrev pub the_sort : SortId
 the_sort = record { 0 = 0 }
 
+-- the kind of the one sort
 abbrev pub the_kind : SortId
 the_kind = record { 0 = 1 }
 
@@ -82,10 +85,12 @@ the_kind = record { 0 = 1 }
 abbrev pub free_operator : ℕ → OpDecl
 free_operator n = record { axioms = Free; ranks = record { args = replicate n the_sort; result = the_sort } ∷ [] }
 
+-- the declarations of one sort, its kind and these operators, all free
 abbrev pub free_operators : List Operator → Declarations
 free_operators ops =
     record { sorts = 1; kinds = the_kind ∷ the_kind ∷ []; below = []; ops = map (λ o. free_operator o.arity) ops }
 
+-- the module with these names of module and sort, these operators and these variables
 abbrev pub module_of : (name sort : Text) → List Operator → List Text → FirstModule
 module_of name sort ops xs =
     record { declarations = free_operators ops; names = record { module_name = name; sorts = sort ∷ []; ops = map (λ o. o.name) ops }; variables = xs }

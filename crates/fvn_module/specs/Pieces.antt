@@ -14,6 +14,7 @@ Text = List ℕ
 abbrev pub piece_at : Text → Token → Piece
 piece_at bytes t = record { class = t.class; text = slice_range bytes t.start t.end }
 
+-- the pieces of the tokens, where cutting the text gave tokens
 abbrev pub pieces_in : Text → Lexed → Option (List Piece)
 pieces_in bytes (Ok list) = Some (map (piece_at bytes) list)
 pieces_in bytes (Err fault) = None
@@ -26,17 +27,22 @@ pieces_of bytes = pieces_in bytes (lex bytes)
 abbrev pub word : Text → Piece
 word text = record { class = Word; text = text }
 
+-- a special token of this text
 abbrev pub special : Text → Piece
 special text = record { class = Special; text = text }
 
+-- the opening parenthesis
 abbrev pub left_paren : Piece
 left_paren = special (codes "(")
 
+-- the closing parenthesis
 abbrev pub right_paren : Piece
 right_paren = special (codes ")")
 
+-- the comma between arguments
 abbrev pub comma : Piece
 comma = special (codes ",")
 
+-- the dot that ends a statement or a problem
 abbrev pub dot : Piece
 dot = record { class = Dot; text = codes "." }

@@ -52,6 +52,7 @@ abbrev mutual
   spell (call w ts) = word w ∷ left_paren ∷ spell_all ts ++ (right_paren ∷ [])
   spell (round t) = left_paren ∷ spell t ++ (right_paren ∷ [])
 
+  -- the terms of a list, with commas between them
   pub spell_all : Raws → List Piece
   spell_all (last t) = spell t
   spell_all (and t ts) = spell t ++ (comma ∷ spell_all ts)

@@ -1,3 +1,4 @@
+-- The invariant of the search for an operator of the name.
 use Rattle.std.proofs.Common.{◌≡◌, drop}
 use Rattle.fvn_module.specs.ModuleText.{arity_in}
 use Rattle.fvn_module.proofs.first.declared.arity_of.Given as goal

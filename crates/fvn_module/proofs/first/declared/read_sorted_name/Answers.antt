@@ -1,3 +1,4 @@
+-- A name is found exactly where a colon and the sort end the text and something stands before them.
 use Rattle.fvn_module.proofs.TextLemmas.{none_at_sort, none_at_colon, some_name}
 use Rattle.fvn_module.proofs.first.declared.read_sorted_name.Goals as goal
 

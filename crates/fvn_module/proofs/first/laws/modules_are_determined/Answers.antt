@@ -1,3 +1,4 @@
+-- A text declares at most one module.
 use Rattle.fvn_module.proofs.ModuleExact.{determined}
 use Rattle.fvn_module.proofs.first.laws.modules_are_determined.Goals as goal
 

@@ -1,3 +1,4 @@
+-- A problem that a text asks in a module has terms of its kind as sides.
 use Rattle.fvn_module.proofs.FactLemmas.{problem_facts}
 use Rattle.fvn_module.proofs.first.laws.problems_are_first.Goals as goal
 

@@ -1,3 +1,4 @@
+-- The place of an operator fits into its number.
 use Rattle.std.proofs.Common.{length, sym, ap, arith}
 use Rattle.fvn_module.proofs.TextLemmas.{place-below}
 use Rattle.fvn_module.proofs.first.meaning.find_operator.Goals as goal

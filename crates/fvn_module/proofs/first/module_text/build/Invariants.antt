@@ -1,3 +1,4 @@
+-- The invariant of the names and declarations of the operators.
 use Rattle.std.proofs.Common.{◌≡◌, map}
 use Rattle.fvn_module.specs.declared.first.declared.Operator.{Operator}
 use Rattle.fvn_module.specs.ModuleText.{free_operator}

@@ -1,3 +1,4 @@
+-- What is read is what the text declares, and a text that is not of the form declares nothing.
 use Rattle.std.proofs.Common.{◌≡◌, Some, None, sym, ap, ◌∙◌}
 use Rattle.fvn_module.specs.declared.first.fault.FirstFault.TheVariants.{NotOfForm}
 use Rattle.fvn_module.specs.ModuleText.{IsModuleText}

@@ -1,3 +1,4 @@
+-- At a dot a statement is read, and any other piece waits for the next dot.
 use Rattle.std.proofs.Common.{sym, ◌∙◌, arith}
 use Rattle.fvn_module.specs.ModuleReading.{Known}
 use Rattle.fvn_module.specs.declared.first.declared.Declared.{Declared}

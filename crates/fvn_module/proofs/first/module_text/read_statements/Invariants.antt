@@ -1,3 +1,4 @@
+-- The invariant of the statements, read up to the last dot.
 use Rattle.std.proofs.Common.{◌≡◌, ◌≤◌, [], drop}
 use Rattle.std.specs.Prelude.{slice_range}
 use Rattle.fvn_module.specs.ModuleReading.{read_body, nothing}

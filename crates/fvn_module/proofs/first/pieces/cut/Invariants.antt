@@ -1,3 +1,4 @@
+-- The invariant of the pieces of the tokens.
 use Rattle.std.proofs.Common.{◌≡◌, map, take}
 use Rattle.fvn_module.specs.Pieces.{piece_at}
 use Rattle.fvn_module.proofs.first.pieces.cut.Given as goal

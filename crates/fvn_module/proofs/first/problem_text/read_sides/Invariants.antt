@@ -1,3 +1,4 @@
+-- The invariant of the reading, piece by piece.
 use Rattle.std.proofs.Common.{◌≡◌, drop}
 use Rattle.fvn_module.specs.ProblemReading.{run, start, view}
 use Rattle.fvn_module.proofs.first.problem_text.read_sides.Given as goal

@@ -1,3 +1,4 @@
+-- The invariant of the variables that are numbered one by one.
 use Rattle.std.proofs.Common.{◌≡◌}
 use Rattle.fvn_module.specs.ProblemReading.{numbered_to}
 use Rattle.fvn_module.proofs.first.terms.number_all.Given as goal
