@@ -8,6 +8,7 @@ use Rattle.fvn_forms.specs.Canon.{inst}
 use Rattle.fvn_forms.specs.Settled.{Settled}
 use Rattle.fvn_forms.specs.LeastSort.{IsFlatSubstitution}
 
+-- variables with the flat forms that they are sent to
 abbrev pub Bindings : Type 0
 Bindings = List (Var × FlatTerm)
 
@@ -16,6 +17,7 @@ abbrev pub bound : Bindings → Var → Option FlatTerm
 bound [] x = None
 bound (p ∷ s) x = if same_var p.0 x then Some p.1 else bound s x
 
+-- the form that is given, or else x itself
 abbrev pub form_or : Var → Option FlatTerm → FlatTerm
 form_or x None = fvar x
 form_or x (Some t) = t

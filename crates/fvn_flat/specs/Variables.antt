@@ -20,6 +20,7 @@ abbrev mutual
   with_variables (fvar x) vars = with_variable vars x
   with_variables (fapp f joined ts) vars = with_all_variables ts vars
 
+  -- the same for a list of forms, one after another
   pub with_all_variables : FlatTerms → List Var → List Var
   with_all_variables fnone vars = vars
   with_all_variables (fmore t ts) vars = with_all_variables ts (with_variables t vars)

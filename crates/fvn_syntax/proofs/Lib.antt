@@ -1,10 +1,11 @@
+-- Lemmas on forms and terms as they are read, and on names; the public ones are for callers.
 pub mod PieceLemmas
-pub mod FormReading
-pub mod FormSound
-pub mod FormExact
-pub mod TextLemmas
-pub mod TermReading
-pub mod TermMeaning
-pub mod Nesting
-pub mod WellKinded
-pub mod Colons
+mod FormReading
+mod FormSound
+mod FormExact
+mod TextLemmas
+mod TermReading
+mod TermMeaning
+mod Nesting
+mod WellKinded
+mod Colons

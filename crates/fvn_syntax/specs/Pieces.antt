@@ -17,40 +17,51 @@ word text = record { class = Word; text = text }
 abbrev pub special : Text → Piece
 special text = record { class = Special; text = text }
 
+-- the special byte that opens a parenthesis
 abbrev pub left_paren : Piece
 left_paren = special (codes "(")
 
+-- the special byte that closes a parenthesis
 abbrev pub right_paren : Piece
 right_paren = special (codes ")")
 
+-- the special byte that opens a bracket
 abbrev pub left_bracket : Piece
 left_bracket = special (codes "[")
 
+-- the special byte that closes a bracket
 abbrev pub right_bracket : Piece
 right_bracket = special (codes "]")
 
+-- the special byte that opens a brace
 abbrev pub left_brace : Piece
 left_brace = special (codes "{")
 
+-- the special byte that closes a brace
 abbrev pub right_brace : Piece
 right_brace = special (codes "}")
 
+-- the special byte between arguments, and between the sorts in a bracket
 abbrev pub comma : Piece
 comma = special (codes ",")
 
+-- the word `.` alone
 abbrev pub dot : Piece
 dot = record { class = Dot; text = codes "." }
 
+-- the class of words
 abbrev pub is_word_class : Class → Bool
 is_word_class Word = true
 is_word_class Special = false
 is_word_class Dot = false
 
+-- the class of special bytes
 abbrev pub is_special_class : Class → Bool
 is_special_class Word = false
 is_special_class Special = true
 is_special_class Dot = false
 
+-- the class of the dot
 abbrev pub is_dot_class : Class → Bool
 is_dot_class Word = false
 is_dot_class Special = false

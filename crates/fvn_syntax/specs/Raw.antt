@@ -37,6 +37,7 @@ abbrev mutual
   spell (round t) = left_paren ∷ spell t ++ (right_paren ∷ [])
   spell (kind_variable x s ss) = word x ∷ left_bracket ∷ word s ∷ spell_others ss
 
+  -- the pieces of the arguments, with a comma between each two
   pub spell_all : RawTerms → List Piece
   spell_all (last t) = spell t
   spell_all (and t ts) = spell t ++ (comma ∷ spell_all ts)
@@ -49,6 +50,7 @@ abbrev mutual
   IsWritten (round t) = IsWritten t
   IsWritten (kind_variable x s ss) = is_colon_name x ≡ true
 
+  -- so it is in each of these terms
   pub AreWritten : RawTerms → Type 0
   AreWritten (last t) = IsWritten t
   AreWritten (and t ts) = IsWritten t × AreWritten ts

@@ -129,6 +129,7 @@ module _ (s : Scope) where
     resolve texts (call w ts) =
         bind (or_fault UnknownName (op_named s.names w)) (λ f. bind (resolve_all texts ts) (apply s.declarations f))
 
+    -- the same of one or more written terms, each with the names of those before it
     pub resolve_all : List Text → RawTerms → Result AllResolved TermFault
     resolve_all texts (last t) =
         bind (resolve texts t) (λ r. Ok (record { terms = r.term ∷ []; kinds = r.kind ∷ []; texts = r.texts }))

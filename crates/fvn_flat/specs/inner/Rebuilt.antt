@@ -7,10 +7,12 @@ use Rattle.fvn_forms.specs.Canon.{build}
 
 module _ (d : Declarations) (s : Var → FlatTerm) where
   abbrev mutual
+    -- the form with its variables replaced, and its operators built anew over the arguments
     pub rebuilt : FlatTerm → FlatTerm
     rebuilt (fvar x) = s x
     rebuilt (fapp f joined ts) = build d f (rebuilt_all ts)
 
+    -- each form of a list, rebuilt
     pub rebuilt_all : FlatTerms → List FlatTerm
     rebuilt_all fnone = []
     rebuilt_all (fmore t ts) = rebuilt t ∷ rebuilt_all ts

@@ -18,6 +18,7 @@ module _ (d : Declarations) (f : OpId) where
   sort_so_far [] = None
   sort_so_far (s ∷ ss) = Some (fold (result_of_two d f) s ss)
 
+  -- the sort of the whole sum; with no summand that of f over no arguments
   abbrev pub whole_sort : Option SortId → SortId
   whole_sort None = result d f []
   whole_sort (Some s) = s

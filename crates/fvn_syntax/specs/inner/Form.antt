@@ -15,6 +15,7 @@ pub data Step : Type 0 where
   Ends : Step
   Stops : Step
 
+-- the move of the program as a step
 abbrev pub view : Move → Step
 view (On f) = Goes (reverse f.marks.items) f.spot
 view End = Ends
@@ -46,6 +47,7 @@ step ms p SortNamed =
     else Stops
 step ms p Whole = behind p ms
 
+-- whether a term may end after what was read last
 abbrev pub is_whole : Spot → Bool
 is_whole Wanted = false
 is_whole (Named colon) = true
@@ -58,6 +60,7 @@ abbrev pub is_closed : List Mark → Bool
 is_closed [] = true
 is_closed (m ∷ ms) = false
 
+-- goes on from these pieces as the step tells
 abbrev pub follow : List Piece → Step → (List Mark → Spot → Option (List Piece)) → Option (List Piece)
 follow ps (Goes ms spot) next = next ms spot
 follow ps Ends next = Some ps

@@ -27,9 +27,11 @@ pub record State : Type 0 where
   pub spot : Spot
   pub seen : Seen
 
+-- the state of these frames, what was read last and what was seen
 abbrev pub state : List Frame → Spot → Seen → State
 state frames spot seen = record { frames = frames; spot = spot; seen = seen }
 
+-- the reading of the program as a state
 abbrev pub view : Reading → State
 view r = state (reverse r.frames.items) r.spot r.seen
 
@@ -37,6 +39,7 @@ view r = state (reverse r.frames.items) r.spot r.seen
 abbrev pub start : Seen → State
 start seen = state [] Wanted seen
 
+-- the same of a reading or a fault
 abbrev pub result_view : Result Reading TermFault → Result State TermFault
 result_view (Ok r) = Ok (view r)
 result_view (Err fault) = Err fault
@@ -50,13 +53,16 @@ abbrev pub own_symbols : (sum : Bool) → ℕ → ℕ
 own_symbols true n = n - 1
 own_symbols false n = 1
 
+-- the state behind a whole term
 abbrev pub whole : List Frame → Kinded × Seen → Result State TermFault
 whole fs x = Ok (state fs (Whole x.0) x.1)
 
+-- the state behind a name and the parenthesis that opens its arguments
 abbrev pub open_call : List Frame → Seen → Option OpId → Result State TermFault
 open_call fs s None = Err UnknownName
 open_call fs s (Some f) = Ok (state (Call f [] [] ∷ fs) Wanted s)
 
+-- the state behind one more sort of a bracket, where the sorts so far are of one kind
 abbrev pub read_sort : List Frame → Seen → Text → Option SortId → Result State TermFault
 read_sort fs s x None = Err UnknownName
 read_sort fs s x (Some k) = Ok (state fs (Sorts x (Some k)) s)
@@ -103,6 +109,7 @@ module _ (limit : ℕ) where
     behind x p (Round ∷ fs) = Ok (state fs (Whole x.0) x.1)
     behind x p (Call f ks ts ∷ fs) = behind_argument fs x.1 p f (ks ++ (x.0.kind ∷ [])) (ts ++ (x.0.term ∷ []))
 
+    -- the state behind the end of a bracket, a variable of its kind
     abbrev pub end_sorts : List Frame → Seen → Text → Option SortId → Result State TermFault
     end_sorts fs s x None = Err UnknownName
     end_sorts fs s x (Some k) = whole fs (kind_leaf s x k)
@@ -122,9 +129,11 @@ module _ (limit : ℕ) where
         else read_sort fs s x (next_kind c k p.text)
     step_at fs s p (Whole v) = behind (v, s) p fs
 
+    -- one more piece of the reading
     abbrev pub step : State → Piece → Result State TermFault
     step st p = step_at st.frames st.seen p st.spot
 
+    -- the term that ends after what was read last
     abbrev pub finish_at : Seen → Spot → Result (Kinded × Seen) TermFault
     finish_at s Wanted = Err UnknownName
     finish_at s (Named w) = leaf s w

@@ -1,3 +1,4 @@
+-- The kinds that are left decide.
 use Rattle.std.proofs.Common.{◌≡◌, drop}
 use Rattle.fvn_syntax.specs.Resolve.{fit_from}
 use Rattle.fvn_syntax.proofs.applying.kinds_fit.Given as goal

@@ -1,3 +1,4 @@
+-- The term that is taken and the sum so far are one sum, so the whole stays the same.
 use Rattle.std.proofs.Common.{◌∷◌, ◌++◌, [], sym, ap, ◌∙◌}
 use Rattle.fvn_syntax.specs.Resolve.{nested_all}
 use Rattle.fvn_syntax.proofs.Nesting.{nested_all-two}

@@ -1,3 +1,4 @@
+-- The terms that are left, and then the sum of the others, give the whole; and they become fewer.
 use Rattle.std.proofs.Common.{◌≡◌, ◌∷◌, ◌++◌, [], length}
 use Rattle.fvn_syntax.specs.Resolve.{nested_all}
 use Rattle.fvn_syntax.proofs.applying.nest.Given as goal

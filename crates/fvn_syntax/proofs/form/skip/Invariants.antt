@@ -1,3 +1,4 @@
+-- The pieces that are left decide.
 use Rattle.std.proofs.Common.{◌≡◌, [], drop}
 use Rattle.std.specs.Prelude.{reverse}
 use Rattle.fvn_syntax.specs.declared.form.Spot.TheVariants.{Wanted}

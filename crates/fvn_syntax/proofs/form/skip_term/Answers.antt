@@ -1,3 +1,4 @@
+-- The number of pieces taken is that of the only term with which they begin; where none is taken, they begin with none.
 use Rattle.fvn_syntax.proofs.FormExact.{taken-term, taken-alone, taken-only, taken-none}
 use Rattle.fvn_syntax.proofs.form.skip_term.Goals as goal
 

@@ -1,3 +1,4 @@
+-- The sorts that are left decide.
 use Rattle.std.proofs.Common.{◌≡◌, drop, Some}
 use Rattle.fvn_syntax.specs.Names.{bracket, kind_of_all}
 use Rattle.fvn_syntax.proofs.naming.find_bracket.Given as goal

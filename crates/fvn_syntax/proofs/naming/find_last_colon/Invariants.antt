@@ -1,3 +1,4 @@
+-- The bytes that are left decide, and a colon found is within the text.
 use Rattle.std.proofs.Common.{◌≡◌, ◌<◌, drop, length}
 use Rattle.std.specs.Prelude.{IfSome}
 use Rattle.fvn_syntax.specs.Names.{last_colon}

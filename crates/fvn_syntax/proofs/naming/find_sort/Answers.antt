@@ -1,3 +1,4 @@
+-- The place of a name is below the number of sorts, and so it is small enough.
 use Rattle.std.proofs.Common.{sym, arith}
 use Rattle.fvn_syntax.proofs.TextLemmas.{place-below}
 use Rattle.fvn_syntax.proofs.naming.find_sort.Goals as goal

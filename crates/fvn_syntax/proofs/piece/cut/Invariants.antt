@@ -1,3 +1,4 @@
+-- The pieces of the tokens so far.
 use Rattle.std.proofs.Common.{◌≡◌, map, take}
 use Rattle.fvn_lex.specs.Cut.{piece_at}
 use Rattle.fvn_syntax.proofs.piece.cut.Given as goal

@@ -1,3 +1,4 @@
+-- The pieces that are left decide.
 use Rattle.std.proofs.Common.{◌≡◌, drop}
 use Rattle.fvn_syntax.specs.inner.Reading.{run, start, view}
 use Rattle.fvn_syntax.proofs.reading.read_row.Given as goal

@@ -1,3 +1,4 @@
+-- What is read is what each written term of the pieces stands for, and a fault is the first of it.
 use Rattle.fvn_syntax.proofs.TermMeaning.{reads-ok, refuses-err}
 use Rattle.fvn_syntax.proofs.reading.read_term.Goals as goal
 

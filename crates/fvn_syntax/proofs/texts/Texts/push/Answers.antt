@@ -1,3 +1,4 @@
+-- A new text comes after the others.
 use Rattle.fvn_syntax.proofs.TextLemmas.{inserted}
 use Rattle.fvn_syntax.proofs.texts.Texts.push.Goals as goal
 
