@@ -17,7 +17,7 @@ use Rattle.fvn_tool.specs.Lines.{bindings_line}
 use Rattle.fvn_tool.specs.Spellings.{spelling}
 use Rattle.fvn_tool.specs.Words.{Command, unify}
 use Rattle.fvn_tool.specs.Replies.{answer_text, complete, IsInstanceOf, ExceedsSize, IsPrintable, IsAnswer, unified, not_unified, too_large, IsReply, IsUnifyReply, no_module, no_problem, answered}
-use Rattle.fvn_tool.specs.Outcomes.{IsOutcome, no_command, too_long, replied}
+use Rattle.fvn_tool.specs.Outcomes.{no_command, too_long, replied}
 use Rattle.fvn_tool.specs.Claims.{Is}
 use Rattle.fvn_tool.specs.Laws.{OutcomesAreDetermined}
 use Rattle.fvn_tool.proofs.NumberedAlike.{more-head, more-tail, numbered_alike}
