@@ -51,9 +51,11 @@ words_before-sound (w ∷ ws) (p ∷ ps) r h = go (is_special (codes ")") p) ref
   go false e = let g = rw e at h in cc
   go true e =
       let g : Some (w ∷ ws, ps) ≡ Some r = rw e at h in
-      let i : (w ∷ ws, ps) ≡ r = cc in
-      (sym (ap (λ (x : List Text × List Piece). x.0) i),
-        ap (λ x. x ∷ ps) (special-is (codes ")") p e) ∙ ap (λ (x : List Text × List Piece). right_paren ∷ x.1) i, tt)
+      let i : (w ∷ ws, ps) ≡ r = cc in (
+        sym (ap (λ (x : List Text × List Piece). x.0) i),
+        ap (λ x. x ∷ ps) (special-is (codes ")") p e) ∙ ap (λ (x : List Text × List Piece). right_paren ∷ x.1) i,
+        tt,
+      )
 
 words_in_parens-sound : (ps : List Piece) (r : List Text × List Piece) → words_in_parens ps ≡ Some r →
     (ps ≡ in_parens (words r.0) ++ r.1) × NotEmpty r.0
@@ -64,12 +66,13 @@ words_in_parens-sound (p ∷ ps) r h = go (is_special (codes "(") p) refl where
   go true e =
       let g = gather-sound word_of spell_word Any word_of-sound ps [] ps in
       let k = words_before-sound (gather word_of ps [] ps).0 (gather word_of ps [] ps).1 r (rw e at h) in
-      let same : g.more ≡ r.0 = sym g.is ∙ sym k.0 in
-      (ap (λ x. x ∷ ps) (special-is (codes "(") p e)
-        ∙ ap (λ x. left_paren ∷ x)
-        (g.left ∙ ap (λ x. words g.more ++ x) k.1 ∙ ap (λ ws. words ws ++ (right_paren ∷ r.1)) same
-        ∙ sym (append_assoc (words r.0) (right_paren ∷ []) r.1)),
-        subst NotEmpty (sym k.0) k.2)
+      let same : g.more ≡ r.0 = sym g.is ∙ sym k.0 in (
+        ap (λ x. x ∷ ps) (special-is (codes "(") p e)
+            ∙ ap (λ x. left_paren ∷ x)
+            (g.left ∙ ap (λ x. words g.more ++ x) k.1 ∙ ap (λ ws. words ws ++ (right_paren ∷ r.1)) same
+            ∙ sym (append_assoc (words r.0) (right_paren ∷ []) r.1)),
+        subst NotEmpty (sym k.0) k.2,
+      )
 
 closing : (ws : List Text) (rest : List Piece) → NotEmpty ws → words_before ws (right_paren ∷ rest) ≡ Some (ws, rest)
 closing [] rest h = absurd h
@@ -215,11 +218,12 @@ attributes-sound (p ∷ ps) xs h = go (is_special (codes "[") p) refl where
       (left_out_in (gather attribute_of ps [] ps).0 (gather attribute_of ps [] ps).1) xs (rw e at h) in
       let same : g.more ≡ xs = sym g.is ∙ k.1 in
       let fits : left_out_in xs (right_bracket ∷ []) ≡ None =
-      ap (λ x. left_out_in xs x) (sym k.2) ∙ ap (λ x. left_out_in x (gather attribute_of ps [] ps).1) (sym k.1) ∙ k.0 in
-      (ap (λ x. x ∷ ps) (special-is (codes "[") p e)
-        ∙ ap (λ x. left_bracket ∷ x) (g.left ∙ ap (λ x. each spell_attribute g.more ++ x) k.2 ∙ ap (λ x. each spell_attribute x ++ (right_bracket ∷ [])) same)
-        ∙ sym (bracketed-is spell_attribute xs (subst NotEmpty k.1 k.3)),
-        (subst (AllByRecursion IsAttribute) same g.fit, fits))
+      ap (λ x. left_out_in xs x) (sym k.2) ∙ ap (λ x. left_out_in x (gather attribute_of ps [] ps).1) (sym k.1) ∙ k.0 in (
+        ap (λ x. x ∷ ps) (special-is (codes "[") p e)
+            ∙ ap (λ x. left_bracket ∷ x) (g.left ∙ ap (λ x. each spell_attribute g.more ++ x) k.2 ∙ ap (λ x. each spell_attribute x ++ (right_bracket ∷ [])) same)
+            ∙ sym (bracketed-is spell_attribute xs (subst NotEmpty k.1 k.3)),
+        (subst (AllByRecursion IsAttribute) same g.fit, fits),
+      )
 
 pub attributes-complete : (xs : List Attribute) → AreAttributes xs → attributes_of (bracketed spell_attribute xs) ≡ Read xs
 attributes-complete [] h = refl

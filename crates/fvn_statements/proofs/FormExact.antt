@@ -94,19 +94,27 @@ dotted-assoc st ps = append_assoc (spell_statement st) (dot ∷ []) ps
 
 one_more : (n : ℕ) (sts : List Statement) (st : Statement) (ps rest : List Piece) → ps ≡ spell_statement st ++ (dot ∷ rest) → IsStatement st →
     (x : Result (List Statement) FormFault) → Outcome (n + 1) (sts ++ (st ∷ [])) rest x → Outcome n sts ps x
-one_more n sts st ps rest e s (Ok out) o =
-    (st ∷ o.0,
-      (o.1.0 ∙ append_assoc sts (st ∷ []) o.0,
-        e ∙ ap (λ x. spell_statement st ++ (dot ∷ x)) o.1.1 ∙ sym (dotted-assoc st (each dotted o.0)),
-        (s, o.1.2)))
+one_more n sts st ps rest e s (Ok out) o = (
+  st ∷ o.0,
+  (
+    o.1.0 ∙ append_assoc sts (st ∷ []) o.0,
+    e ∙ ap (λ x. spell_statement st ++ (dot ∷ x)) o.1.1 ∙ sym (dotted-assoc st (each dotted o.0)),
+    (s, o.1.2),
+  ),
+)
 one_more n sts st ps rest e s (Err f) o =
     let P : ℕ → Type 0 = λ i. StopsAt i o.1.0 f in
-    let q : n + 1 + length o.0 ≡ n + length (st ∷ o.0) = omega arith in
-    (st ∷ o.0,
-      (o.1.0,
-        (e ∙ ap (λ x. spell_statement st ++ (dot ∷ x)) o.1.1.0 ∙ sym (dotted-assoc st (each dotted o.0 ++ o.1.0)) ∙ sym (append_assoc (dotted st) (each dotted o.0) o.1.0),
+    let q : n + 1 + length o.0 ≡ n + length (st ∷ o.0) = omega arith in (
+      st ∷ o.0,
+      (
+        o.1.0,
+        (
+          e ∙ ap (λ x. spell_statement st ++ (dot ∷ x)) o.1.1.0 ∙ sym (dotted-assoc st (each dotted o.0 ++ o.1.0)) ∙ sym (append_assoc (dotted st) (each dotted o.0) o.1.0),
           (s, o.1.1.1),
-          subst P q o.1.1.2)))
+          subst P q o.1.1.2,
+        ),
+      ),
+    )
 
 shorter : (ps a b : List Piece) (p : Piece) → ps ≡ a ++ (p ∷ b) → length b + 1 ≤ length ps
 shorter ps a b p e = let k : length ps ≡ length (a ++ (p ∷ b)) = ap length e in let j = length-append a (p ∷ b) in omega arith
@@ -232,8 +240,10 @@ not_both (Some y) x e h = cc
 
 pub form-complete : (ps : List Piece) (m : Form) → IsFormOf ps m → form_of ps ≡ Ok m
 form-complete ps m h =
-    rw (frame-complete ps m.name (each dotted m.statements) h.frame,
-    body-complete (each dotted m.statements) 1 [] m.statements h.statements (le_refl (length (each dotted m.statements)))) refl
+    rw (
+      frame-complete ps m.name (each dotted m.statements) h.frame,
+      body-complete (each dotted m.statements) 1 [] m.statements h.statements (le_refl (length (each dotted m.statements))),
+    ) refl
 
 -- the reading of a module: it is the module, or its fault is the first
 abbrev pub Answers : List Piece → Result Form FormFault → Type 0
@@ -244,12 +254,18 @@ refused-is : (ps : List Piece) (r : Text × List Piece) → frame_of ps ≡ Some
 refused-is ps r e fault.Header o = absurd o.1.1.2
 refused-is ps r e fault.NoMemory o = absurd o.1.1.2
 refused-is ps r e (fault.Statement n) o = record {
-  name = r.0; body = r.1; frame = frame-sound ps r e; left = o.1.0;
+  name = r.0;
+  body = r.1;
+  frame = frame-sound ps r e;
+  left = o.1.0;
   leads = record { before = o.0; is = o.1.1.0; number = omega (arith, o.1.1.2.0); statements = o.1.1.1 };
   wrong = o.1.1.2.1;
 }
 refused-is ps r e (fault.LeftOut n f) o = record {
-  name = r.0; body = r.1; frame = frame-sound ps r e; left = o.1.0;
+  name = r.0;
+  body = r.1;
+  frame = frame-sound ps r e;
+  left = o.1.0;
   leads = record { before = o.0; is = o.1.1.0; number = omega (arith, o.1.1.2.0); statements = o.1.1.1 };
   wrong = o.1.1.2.1;
 }

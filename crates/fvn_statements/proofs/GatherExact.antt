@@ -31,9 +31,8 @@ module _ {A : Type 0} (item : List Piece → Option (A × List Piece)) (spell : 
         }
 
   module _ (Fits : A → Type 0) (Ends : List Piece → Type 0)
-    (step : (x : A) (qs : List Piece) → Fits x → Ends qs → (item (spell x ++ qs) ≡ Some (x, qs)) × Ends (spell x ++ qs))
-    (rest : List Piece) (ends : Ends rest) (stops : item rest ≡ None) where
-
+      (step : (x : A) (qs : List Piece) → Fits x → Ends qs → (item (spell x ++ qs) ≡ Some (x, qs)) × Ends (spell x ++ qs))
+      (rest : List Piece) (ends : Ends rest) (stops : item rest ≡ None) where
     ends_each : (more : List A) → AllByRecursion Fits more → Ends (each spell more ++ rest)
     ends_each [] h = ends
     ends_each (x ∷ more) h = rw (append_assoc (spell x) (each spell more) rest) ((step x (each spell more ++ rest) h.0 (ends_each more h.1)).1)

@@ -55,9 +55,16 @@ ends_there rest (inr (inl n)) =
     let o = n.other in
     subst P (sym n.is) (record {
       ends = refl;
-      stops = rw (bytes_eq-not n.first (codes "assoc") o.0, bytes_eq-not n.first (codes "comm") o.1.0, bytes_eq-not n.first (codes "ctor") o.1.1.0,
-          bytes_eq-not n.first (codes "ditto") o.1.1.1.0, bytes_eq-not n.first (codes "id:") o.1.1.1.1.0, bytes_eq-not n.first (codes "prec") o.1.1.1.1.1.0,
-          bytes_eq-not n.first (codes "gather") o.1.1.1.1.1.1.0, bytes_eq-not n.first (codes "format") o.1.1.1.1.1.1.1.0) refl;
+      stops = rw (
+        bytes_eq-not n.first (codes "assoc") o.0,
+        bytes_eq-not n.first (codes "comm") o.1.0,
+        bytes_eq-not n.first (codes "ctor") o.1.1.0,
+        bytes_eq-not n.first (codes "ditto") o.1.1.1.0,
+        bytes_eq-not n.first (codes "id:") o.1.1.1.1.0,
+        bytes_eq-not n.first (codes "prec") o.1.1.1.1.1.0,
+        bytes_eq-not n.first (codes "gather") o.1.1.1.1.1.1.0,
+        bytes_eq-not n.first (codes "format") o.1.1.1.1.1.1.1.0,
+      ) refl;
     })
 ends_there rest (inr (inr i)) =
     let P : List Piece → Type 0 = λ x. Ends x in

@@ -49,9 +49,10 @@ sort_name-sound (p ∷ ps) r h = go (is_word p && not (has_colon p.text)) refl w
       let g : Some (p.text, ps) ≡ Some r = rw e at h in
       let i : (p.text, ps) ≡ r = cc in
       let P : Text × List Piece → Type 0 = λ x. (p ∷ ps ≡ spell_word x.0 ++ x.1) × IsSortName x.0 in
-      subst P i
-      (ap (λ x. x ∷ ps) (word-is p (and-left (is_word p) (not (has_colon p.text)) e)),
-        not-true (has_colon p.text) (and-right (is_word p) (not (has_colon p.text)) e))
+      subst P i (
+        ap (λ x. x ∷ ps) (word-is p (and-left (is_word p) (not (has_colon p.text)) e)),
+        not-true (has_colon p.text) (and-right (is_word p) (not (has_colon p.text)) e),
+      )
 
 sort_name-complete : (w : Text) (qs : List Piece) → IsSortName w → Unit {0} → (sort_name_of (spell_word w ++ qs) ≡ Some (w, qs)) × Unit {0}
 sort_name-complete w qs h u = (rw h refl, tt)
@@ -66,10 +67,11 @@ sort_names-sound ps ws h = go (is_some (gather sort_name_of ps [] ps).0 && is_em
       let k : Some ((gather sort_name_of ps [] ps).0) ≡ Some ws = rw e at h in
       let i : (gather sort_name_of ps [] ps).0 ≡ ws = cc in
       let same : g.more ≡ ws = sym g.is ∙ i in
-      let nil = empty-is (gather sort_name_of ps [] ps).1 (and-right (is_some (gather sort_name_of ps [] ps).0) (is_empty (gather sort_name_of ps [] ps).1) e) in
-      (g.left ∙ ap (λ x. words g.more ++ x) nil ∙ append-nil (words g.more) ∙ ap words same,
+      let nil = empty-is (gather sort_name_of ps [] ps).1 (and-right (is_some (gather sort_name_of ps [] ps).0) (is_empty (gather sort_name_of ps [] ps).1) e) in (
+        g.left ∙ ap (λ x. words g.more ++ x) nil ∙ append-nil (words g.more) ∙ ap words same,
         subst NotEmpty i (some-is (gather sort_name_of ps [] ps).0 (and-left (is_some (gather sort_name_of ps [] ps).0) (is_empty (gather sort_name_of ps [] ps).1) e)),
-        subst (AllByRecursion IsSortName) same g.fit)
+        subst (AllByRecursion IsSortName) same g.fit,
+      )
 
 pub sort_names-complete : (ws : List Text) → NotEmpty ws → AllByRecursion IsSortName ws → sort_names_of (words ws) ≡ Some ws
 sort_names-complete ws some h =
@@ -112,9 +114,10 @@ group-sound : (ps : List Piece) (r : List Text × List Piece) → group_of ps �
 group-sound ps r h =
     let g = gather-sound member_of spell_word IsMember member-sound ps [] ps in
     let k = if_some-sound (gather member_of ps [] ps).0 (gather member_of ps [] ps).1 r h in
-    let same : g.more ≡ r.0 = sym g.is ∙ sym k.0 in
-    (g.left ∙ ap (λ x. words g.more ++ x) (sym k.1) ∙ ap (λ x. words x ++ r.1) same,
-      (subst NotEmpty (sym k.0) k.2, subst (AllByRecursion IsMember) same g.fit))
+    let same : g.more ≡ r.0 = sym g.is ∙ sym k.0 in (
+      g.left ∙ ap (λ x. words g.more ++ x) (sym k.1) ∙ ap (λ x. words x ++ r.1) same,
+      (subst NotEmpty (sym k.0) k.2, subst (AllByRecursion IsMember) same g.fit),
+    )
 
 group-complete : (ws : List Text) (rest : List Piece) → IsGroup ws → GroupEnds rest → group_of (words ws ++ rest) ≡ Some (ws, rest)
 group-complete ws rest h e =
@@ -151,9 +154,11 @@ groups-sound ps gs h = go (group_of ps) refl where
       let nil = empty-is (gather group_above g.1 [] g.1).1 (and-right (is_some (gather group_above g.1 [] g.1).0) (is_empty (gather group_above g.1 [] g.1).1) f) in
       let some = some-is (gather group_above g.1 [] g.1).0 (and-left (is_some (gather group_above g.1 [] g.1).0) (is_empty (gather group_above g.1 [] g.1).1) f) in
       let P : List (List Text) → Type 0 = λ x. (ps ≡ spell_groups x) × (2 ≤ length x) × AllByRecursion IsGroup x in
-      subst P (ap (λ x. g.0 ∷ x) (sym a.is) ∙ i)
-      (s.0 ∙ ap (λ x. words g.0 ++ x) (a.left ∙ ap (λ x. each spell_above a.more ++ x) nil ∙ append-nil (each spell_above a.more)),
-        two (g.0) a.more (subst NotEmpty a.is some), (s.1, a.fit))
+      subst P (ap (λ x. g.0 ∷ x) (sym a.is) ∙ i) (
+        s.0 ∙ ap (λ x. words g.0 ++ x) (a.left ∙ ap (λ x. each spell_above a.more ++ x) nil ∙ append-nil (each spell_above a.more)),
+        two (g.0) a.more (subst NotEmpty a.is some),
+        (s.1, a.fit),
+      )
     where
       two : (x : List Text) (xs : List (List Text)) → NotEmpty xs → 2 ≤ length (x ∷ xs)
       two x [] n = absurd n

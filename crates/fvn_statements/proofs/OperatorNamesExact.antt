@@ -97,10 +97,11 @@ variables-sound ps r h = go (declared_sort (gather variable_of ps [] ps).1) refl
       let i : ((gather variable_of ps [] ps).0, s) ≡ r = cc in
       let a = gather-sound variable_of spell_word Any variable-sound ps [] ps in
       let P : List Text × RawSort → Type 0 = λ x. (ps ≡ words x.0 ++ (colon ∷ spell_sort x.1)) × NotEmpty x.0 in
-      subst P i
-      (a.left ∙ ap (λ x. words a.more ++ x) (declared_sort-sound (gather variable_of ps [] ps).1 s e)
-        ∙ ap (λ x. words x ++ (colon ∷ spell_sort s)) (sym a.is),
-        some-is (gather variable_of ps [] ps).0 f)
+      subst P i (
+        a.left ∙ ap (λ x. words a.more ++ x) (declared_sort-sound (gather variable_of ps [] ps).1 s e)
+            ∙ ap (λ x. words x ++ (colon ∷ spell_sort s)) (sym a.is),
+        some-is (gather variable_of ps [] ps).0 f,
+      )
 
   go : (o : Option RawSort) → declared_sort (gather variable_of ps [] ps).1 ≡ o → (ps ≡ words r.0 ++ (colon ∷ spell_sort r.1)) × NotEmpty r.0
   go None e = let g = rw e at h in cc
@@ -141,23 +142,23 @@ before_close-sound n [] a b h = cc
 before_close-sound n (p ∷ ps) a b h =
     go (is_name (codes ":") p) (is_special (codes ")") p && (n == 0)) (before_close (depth_behind n p) ps) refl refl refl
     (before_close-sound (depth_behind n p) ps) where
-  go : (c d : Bool) (o : Option (List Piece × List Piece)) → is_name (codes ":") p ≡ c → is_special (codes ")") p && (n == 0) ≡ d →
-      before_close (depth_behind n p) ps ≡ o →
-      ((x y : List Piece) → before_close (depth_behind n p) ps ≡ Some (x, y) → (ps ≡ x ++ (right_paren ∷ y)) × IsBalanced (depth_behind n p) x) →
-      (p ∷ ps ≡ a ++ (right_paren ∷ b)) × IsBalanced n a
-  go true d o e f g later = let k = rw e at h in cc
-  go false true o e f g later =
-      let k : Some ([], ps) ≡ Some (a, b) = rw (e, f) at h in
-      let i : ([], ps) ≡ (a, b) = cc in
-      let Q : List Piece × List Piece → Type 0 = λ x. (p ∷ ps ≡ x.0 ++ (right_paren ∷ x.1)) × IsBalanced n x.0 in
-      subst Q i (ap (λ x. x ∷ ps) (special-is (codes ")") p (and-left (is_special (codes ")") p) (n == 0) f)), and-right (is_special (codes ")") p) (n == 0) f)
-  go false false None e f g later = let k = rw (e, f, g) at h in cc
-  go false false (Some r) e f g later =
-      let k : Some (p ∷ r.0, r.1) ≡ Some (a, b) = rw (e, f, g) at h in
-      let i : (p ∷ r.0, r.1) ≡ (a, b) = cc in
-      let j = later r.0 r.1 g in
-      let Q : List Piece × List Piece → Type 0 = λ x. (p ∷ ps ≡ x.0 ++ (right_paren ∷ x.1)) × IsBalanced n x.0 in
-      subst Q i (ap (λ x. p ∷ x) j.0, (e, f, j.1))
+      go : (c d : Bool) (o : Option (List Piece × List Piece)) → is_name (codes ":") p ≡ c → is_special (codes ")") p && (n == 0) ≡ d →
+          before_close (depth_behind n p) ps ≡ o →
+          ((x y : List Piece) → before_close (depth_behind n p) ps ≡ Some (x, y) → (ps ≡ x ++ (right_paren ∷ y)) × IsBalanced (depth_behind n p) x) →
+          (p ∷ ps ≡ a ++ (right_paren ∷ b)) × IsBalanced n a
+      go true d o e f g later = let k = rw e at h in cc
+      go false true o e f g later =
+          let k : Some ([], ps) ≡ Some (a, b) = rw (e, f) at h in
+          let i : ([], ps) ≡ (a, b) = cc in
+          let Q : List Piece × List Piece → Type 0 = λ x. (p ∷ ps ≡ x.0 ++ (right_paren ∷ x.1)) × IsBalanced n x.0 in
+          subst Q i (ap (λ x. x ∷ ps) (special-is (codes ")") p (and-left (is_special (codes ")") p) (n == 0) f)), and-right (is_special (codes ")") p) (n == 0) f)
+      go false false None e f g later = let k = rw (e, f, g) at h in cc
+      go false false (Some r) e f g later =
+          let k : Some (p ∷ r.0, r.1) ≡ Some (a, b) = rw (e, f, g) at h in
+          let i : (p ∷ r.0, r.1) ≡ (a, b) = cc in
+          let j = later r.0 r.1 g in
+          let Q : List Piece × List Piece → Type 0 = λ x. (p ∷ ps ≡ x.0 ++ (right_paren ∷ x.1)) × IsBalanced n x.0 in
+          subst Q i (ap (λ x. p ∷ x) j.0, (e, f, j.1))
 
 before_close-complete : (n : ℕ) (a b : List Piece) → IsBalanced n a → before_close n (a ++ (right_paren ∷ b)) ≡ Some (a, b)
 before_close-complete n [] b h = rw h refl
@@ -181,9 +182,10 @@ name-sound (p ∷ ps) r h = go (is_special (codes "(") p) refl where
       let s = round-sound x.0 x.1 r k in
       let b = before_close-sound 0 ps x.0 x.1 f in
       let Q : OperatorName × List Piece → Type 0 = λ y. (p ∷ ps ≡ spell_name y.0 ++ y.1) × IsName y.0 in
-      subst Q s.0
-      (ap (λ y. y ∷ ps) (special-is (codes "(") p e) ∙ ap (λ y. left_paren ∷ y) (b.0 ∙ sym (append_assoc x.0 (right_paren ∷ []) x.1)),
-        (s.1, b.1))
+      subst Q s.0 (
+        ap (λ y. y ∷ ps) (special-is (codes "(") p e) ∙ ap (λ y. left_paren ∷ y) (b.0 ∙ sym (append_assoc x.0 (right_paren ∷ []) x.1)),
+        (s.1, b.1),
+      )
 
   plain : is_special (codes "(") p ≡ false → (c : Bool) → is_word p && not (is_name (codes ":") p) ≡ c → (p ∷ ps ≡ spell_name r.0 ++ r.1) × IsName r.0
   plain e false f = let g = rw (e, f) at h in cc

@@ -63,9 +63,10 @@ kind_before-sound s ss (p ∷ ps) r h = go (is_special (codes "]") p) refl where
   go false e = let g = rw e at h in cc
   go true e =
       let g : Some (Kind s ss, ps) ≡ Some r = rw e at h in
-      let i : (Kind s ss, ps) ≡ r = cc in
-      (sym (ap (λ (x : RawSort × List Piece). x.0) i),
-        ap (λ x. x ∷ ps) (special-is (codes "]") p e) ∙ ap (λ (x : RawSort × List Piece). right_bracket ∷ x.1) i)
+      let i : (Kind s ss, ps) ≡ r = cc in (
+        sym (ap (λ (x : RawSort × List Piece). x.0) i),
+        ap (λ x. x ∷ ps) (special-is (codes "]") p e) ∙ ap (λ (x : RawSort × List Piece). right_bracket ∷ x.1) i,
+      )
 
 bracket_sort-sound : (ps : List Piece) (r : RawSort × List Piece) → bracket_sort ps ≡ Some r → left_bracket ∷ ps ≡ spell_sort r.0 ++ r.1
 bracket_sort-sound [] r h = cc
@@ -110,9 +111,10 @@ argument-sound (p ∷ ps) r h = go (is_name (codes "->") p) (is_name (codes "~>"
       fits (Kind s ss) i = tt
       fits (Name s) i =
           let k : p ∷ ps ≡ word s ∷ r.1 = i in
-          let j : p ≡ word s = cc in
-          (λ is. let k : is_name (codes "->") p ≡ true = ap (is_name (codes "->")) (j ∙ ap word is) ∙ bytes_eq-refl (codes "->") in cc,
-            λ is. let k : is_name (codes "~>") p ≡ true = ap (is_name (codes "~>")) (j ∙ ap word is) ∙ bytes_eq-refl (codes "~>") in cc)
+          let j : p ≡ word s = cc in (
+            λ is. let k : is_name (codes "->") p ≡ true = ap (is_name (codes "->")) (j ∙ ap word is) ∙ bytes_eq-refl (codes "->") in cc,
+            λ is. let k : is_name (codes "~>") p ≡ true = ap (is_name (codes "~>")) (j ∙ ap word is) ∙ bytes_eq-refl (codes "~>") in cc,
+          )
 
 argument-complete : (s : RawSort) (qs : List Piece) → IsArgument s → argument_of (spell_sort s ++ qs) ≡ Some (s, qs)
 argument-complete (Name s) qs h = rw (bytes_eq-not s (codes "->") h.0, bytes_eq-not s (codes "~>") h.1) refl
@@ -154,10 +156,11 @@ rank_before-sound ss ps r h = go (arrow_of ps) refl where
   inner a e (Some s) f =
       let g = rw (e, f) at h in
       let rank : RawRank = record { args = ss; partial = a.0; result = s.0 } in
-      let i : (rank, s.1) ≡ r = cc in
-      (sym (ap (λ (x : RawRank × List Piece). x.0.args) i),
+      let i : (rank, s.1) ≡ r = cc in (
+        sym (ap (λ (x : RawRank × List Piece). x.0.args) i),
         arrow-sound ps a e ∙ ap (λ x. arrow a.0 ∷ x) (sort-sound a.1 s f)
-        ∙ ap (λ (x : RawRank × List Piece). arrow x.0.partial ∷ spell_sort x.0.result ++ x.1) i)
+            ∙ ap (λ (x : RawRank × List Piece). arrow x.0.partial ∷ spell_sort x.0.result ++ x.1) i,
+      )
 
   go : (o : Option (Bool × List Piece)) → arrow_of ps ≡ o → (r.0.args ≡ ss) × (ps ≡ arrow r.0.partial ∷ spell_sort r.0.result ++ r.1)
   go None e = let g = rw e at h in cc
@@ -170,11 +173,12 @@ pub rank-sound : (ps : List Piece) (r : RawRank × List Piece) → rank_of ps �
 rank-sound ps r h =
     let g = gather-sound argument_of spell_sort IsArgument argument-sound ps [] ps in
     let k = rank_before-sound (gather argument_of ps [] ps).0 (gather argument_of ps [] ps).1 r h in
-    let same : g.more ≡ r.0.args = sym g.is ∙ sym k.0 in
-    (g.left ∙ ap (λ x. each spell_sort g.more ++ x) k.1
-      ∙ ap (λ ss. each spell_sort ss ++ (arrow r.0.partial ∷ spell_sort r.0.result ++ r.1)) same
-      ∙ sym (rank-assoc r.0 r.1),
-      subst (AllByRecursion IsArgument) same g.fit)
+    let same : g.more ≡ r.0.args = sym g.is ∙ sym k.0 in (
+      g.left ∙ ap (λ x. each spell_sort g.more ++ x) k.1
+          ∙ ap (λ ss. each spell_sort ss ++ (arrow r.0.partial ∷ spell_sort r.0.result ++ r.1)) same
+          ∙ sym (rank-assoc r.0 r.1),
+      subst (AllByRecursion IsArgument) same g.fit,
+    )
 
 pub rank-complete : (r : RawRank) (rest : List Piece) → IsRank r → rank_of (spell_rank r ++ rest) ≡ Some (r, rest)
 rank-complete r rest h =

@@ -158,20 +158,21 @@ operators_behind-sound names (p ∷ ps) st h = go (is_name (codes ":") p) refl w
 operators-sound : (ps : List Piece) (st : Statement) → operators_of ps ≡ Read st → (word (codes "ops") ∷ ps ≡ spell_statement st) × IsWritten st
 operators-sound ps st h =
     go (gather name_of ps [] ps).0 refl (list_all names_touch (gather name_of ps [] ps).0) (is_some (gather name_of ps [] ps).0) refl refl where
-  go : (names : List OperatorName) → (gather name_of ps [] ps).0 ≡ names → (b c : Bool) → list_all names_touch (gather name_of ps [] ps).0 ≡ b → is_some (gather name_of ps [] ps).0 ≡ c →
-      (word (codes "ops") ∷ ps ≡ spell_statement st) × IsWritten st
-  go names i false c e f = let k = rw e at h in cc
-  go names i true false e f = let k = rw (e, f) at h in cc
-  go names i true true e f =
-      let g = gather-sound name_of spell_name IsName name-sound ps [] ps in
-      let m = operators_behind-sound (gather name_of ps [] ps).0 (gather name_of ps [] ps).1 st (rw (e, f) at h) in
-      let Q : Statement → Type 0 = λ x. (word (codes "ops") ∷ ps ≡ spell_statement x) × IsWritten x in
-      let same : g.more ≡ (gather name_of ps [] ps).0 = sym g.is in
-      subst Q m.1.1.is
-      (ap (λ x. word (codes "ops") ∷ x)
-        (g.left ∙ ap (λ x. each spell_name x ++ (gather name_of ps [] ps).1) same
-        ∙ ap (λ x. each spell_name (gather name_of ps [] ps).0 ++ x) (m.1.0 ∙ ap (λ x. colon ∷ x) m.1.1.spelled)),
-        (some-is (gather name_of ps [] ps).0 f, subst (AllByRecursion IsName) same g.fit, all-true names_touch (gather name_of ps [] ps).0 e, m.1.1.is_rank, m.1.1.are_attributes))
+      go : (names : List OperatorName) → (gather name_of ps [] ps).0 ≡ names → (b c : Bool) → list_all names_touch (gather name_of ps [] ps).0 ≡ b → is_some (gather name_of ps [] ps).0 ≡ c →
+          (word (codes "ops") ∷ ps ≡ spell_statement st) × IsWritten st
+      go names i false c e f = let k = rw e at h in cc
+      go names i true false e f = let k = rw (e, f) at h in cc
+      go names i true true e f =
+          let g = gather-sound name_of spell_name IsName name-sound ps [] ps in
+          let m = operators_behind-sound (gather name_of ps [] ps).0 (gather name_of ps [] ps).1 st (rw (e, f) at h) in
+          let Q : Statement → Type 0 = λ x. (word (codes "ops") ∷ ps ≡ spell_statement x) × IsWritten x in
+          let same : g.more ≡ (gather name_of ps [] ps).0 = sym g.is in
+          subst Q m.1.1.is (
+            ap (λ x. word (codes "ops") ∷ x)
+                (g.left ∙ ap (λ x. each spell_name x ++ (gather name_of ps [] ps).1) same
+                ∙ ap (λ x. each spell_name (gather name_of ps [] ps).0 ++ x) (m.1.0 ∙ ap (λ x. colon ∷ x) m.1.1.spelled)),
+            (some-is (gather name_of ps [] ps).0 f, subst (AllByRecursion IsName) same g.fit, all-true names_touch (gather name_of ps [] ps).0 e, m.1.1.is_rank, m.1.1.are_attributes),
+          )
 
 behind-sound : (k : Keyword) (ps : List Piece) (st : Statement) → statement_behind ps (Some k) ≡ Read st →
     (word (keyword_word k) ∷ ps ≡ spell_statement st) × IsWritten st

@@ -41,10 +41,7 @@ pub fn read_word<'a>(row: &'a [Piece<'a>]) -> Option<(Text<'a>, Row<'a>)>
 }
 
 // One word or more, before a parenthesis that closes.
-fn words_before<'a>(
-    words: Seq<Text<'a>>,
-    row: &'a [Piece<'a>],
-) -> Option<(Seq<Text<'a>>, Row<'a>)>
+fn words_before<'a>(words: Seq<Text<'a>>, row: &'a [Piece<'a>]) -> Option<(Seq<Text<'a>>, Row<'a>)>
     ensures { result ≡ words_before words.entry row.now }
 {
     if words.is_empty() {

@@ -1,6 +1,9 @@
 //! What is proved of all statements, each law carried by a function that does nothing.
 ghost use Rattle.fvn_statements.specs.Laws.{
-  StatementsAreExact, FirstWordsAreLeftOut, NamesAreLeftOut, AttributesAreLeftOut,
+  StatementsAreExact,
+  FirstWordsAreLeftOut,
+  NamesAreLeftOut,
+  AttributesAreLeftOut,
 };
 
 /// Tokens are read as a statement exactly where they are its spelling and it can be written.

@@ -130,10 +130,7 @@ pub fn read_groups<'a>(
 }
 
 // The sort that is the tokens.
-fn read_whole_sort<'a>(
-    alloc: Global,
-    row: &'a [Piece<'a>],
-) -> Result<Option<RawSort<'a>>, NoMemory>
+fn read_whole_sort<'a>(alloc: Global, row: &'a [Piece<'a>]) -> Result<Option<RawSort<'a>>, NoMemory>
     ensures { IfOk result (λ r. r ≡ whole_sort row.now) }
 {
     match read_sort(alloc, row)? {

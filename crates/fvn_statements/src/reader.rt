@@ -14,11 +14,7 @@ pub trait Reader<'a, T> {
 
     ghost reads: { List LexPiece → Option (T × List LexPiece) };
 
-    fn read(
-        &self,
-        alloc: Global,
-        row: &'a [Piece<'a>],
-    ) -> Result<Option<(T, Row<'a>)>, NoMemory>
+    fn read(&self, alloc: Global, row: &'a [Piece<'a>]) -> Result<Option<(T, Row<'a>)>, NoMemory>
         ensures { IfOk result (λ r. r ≡ reads row.now) };
 }
 

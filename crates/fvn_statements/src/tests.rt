@@ -235,7 +235,11 @@ fmod M is ---( endfm => byte 10";
 fn texts(rt: HostRuntime) -> Result<(), Fail> {
     for line in TEXTS.lines() {
         if let Some((text, want)) = line.rsplit_once(" => ") {
-            assert_eq!(rt; shown(rt.alloc(), text.as_bytes())?.as_str(), want, "at {text}");
+            assert_eq!(rt;
+                shown(rt.alloc(), text.as_bytes())?.as_str(),
+                want,
+                "at {text}"
+            );
         }
     }
     Ok(())
