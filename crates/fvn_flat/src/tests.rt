@@ -1,12 +1,10 @@
 //! Flat forms of terms, and substitutions of them.
 mod reading;
 mod showing;
-mod substituting;
 mod terms;
 
 use self::reading::collected;
 use self::showing::{push_flat, push_sort};
-use self::substituting::shown_instance;
 use self::terms::{is_term, term_of};
 use crate::{flatten, rename_apart};
 use fvn_sorts::Signature;
@@ -114,15 +112,6 @@ A0 A0 g => g(#A3 #A3) 4
 A0 B0 g A0 g => g(g(#A3 #B4) #A3) 5
 B2 A0 h A0 B2 g h => h[#A3 #B4 g(#A3 #B4)] 5";
 
-// A signature, and then substitutions with a term and what they make of it.
-const INSTANCES: &str = "A B; A < B; f : -> A; g : B B -> B; h : B B -> B [assoc comm]
-B0 f | B0 B1 h => h[B1 f]
-B0 A0 A1 h | B0 A2 h => h[A0 A1 A2]
-B0 B1; B1 f | B0 B1 g => g(B1 f)
-B0 B1 then B1 f | B0 B1 g => g(f f)
-B0 A0 A1 h then A0 f | B0 A0 g => g(h[A1 f] f)
-B0 f; B1 f only B1 | B0 B1 g => g(B0 f)";
-
 /// The flat form of the term, its size and its least sort.
 fn shown_form(alloc: Global, sig: &Signature, text: &str) -> Result<String, NoMemory> {
     let mut out = String::new(alloc);
@@ -184,20 +173,6 @@ fn assert_renamed(
     Ok(())
 }
 
-fn assert_instances(
-    rt: &impl Abort,
-    alloc: Global,
-    sig: &Signature,
-    lines: &str,
-) -> Result<(), NoMemory> {
-    for line in lines.lines() {
-        let (text, want) = line.split_once(" => ").unwrap_or((line, ""));
-        let shown = shown_instance(alloc, sig, text)?;
-        assert_eq!(rt; shown.as_str(), want, "at {text}");
-    }
-    Ok(())
-}
-
 #[test]
 fn terms_have_flat_forms(rt: HostRuntime) -> Result<(), NoMemory> {
     let alloc = rt.alloc();
@@ -217,17 +192,6 @@ fn variables_are_renamed(rt: HostRuntime) -> Result<(), NoMemory> {
     let (text, lines) = RENAMED.split_once('\n').unwrap_or((RENAMED, ""));
     match collected(&rt, alloc, text)?.finish(alloc) {
         Ok(sig) => assert_renamed(&rt, alloc, &sig, lines)?,
-        Err(_) => assert!(rt; false, "at {text}"),
-    }
-    Ok(())
-}
-
-#[test]
-fn variables_are_replaced(rt: HostRuntime) -> Result<(), NoMemory> {
-    let alloc = rt.alloc();
-    let (text, lines) = INSTANCES.split_once('\n').unwrap_or((INSTANCES, ""));
-    match collected(&rt, alloc, text)?.finish(alloc) {
-        Ok(sig) => assert_instances(&rt, alloc, &sig, lines)?,
         Err(_) => assert!(rt; false, "at {text}"),
     }
     Ok(())
