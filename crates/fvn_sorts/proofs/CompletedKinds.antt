@@ -15,8 +15,8 @@ use Rattle.fvn_forms.specs.SortOrder.{sort_number, same_sort}
 use Rattle.fvn_forms.specs.Good.{IsKinded}
 use Rattle.fvn_base.proofs.Membership.{map_contains}
 use Rattle.fvn_forms.proofs.SortTests.{same_sort-self}
-use Rattle.fvn_sorts.specs.declared.collected.Declaration.{Declaration}
-use Rattle.fvn_sorts.specs.declared.collected.Collected.{Collected}
+use Rattle.fvn_sorts.specs.declared.collecting.collected.Declaration.{Declaration}
+use Rattle.fvn_sorts.specs.declared.collecting.collected.Collected.{Collected}
 use Rattle.fvn_sorts.specs.Collected.{IsClosed, Names, first_kind_number, op_number, same_op, declarations_of, joins, first_joined, is_first, first_sorts, parts_before, kind_of, kinds, meant, meant_or_kind, rank_meant, operator_meant, completed}
 use Rattle.fvn_sorts.proofs.Parts.{joins-below, first_joined-at, first_joined-same, first_joined-first, parts_before-more, kinds-length, kinds-at}
 use Rattle.fvn_sorts.proofs.Operators.{operators-long, declared_of}

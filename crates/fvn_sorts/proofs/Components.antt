@@ -12,7 +12,7 @@ use Rattle.fvn_terms.specs.Signature.{kind, declared, IsSort}
 use Rattle.fvn_forms.specs.SortOrder.{sort_number, reaches}
 use Rattle.fvn_base.proofs.Membership.{map_contains, contains_map, contains_filter}
 use Rattle.fvn_forms.proofs.SortTests.{same_sort-true, reaches-self, reaches-trans, reaches-one, reaches-sound}
-use Rattle.fvn_sorts.specs.declared.collected.Collected.{Collected}
+use Rattle.fvn_sorts.specs.declared.collecting.collected.Collected.{Collected}
 use Rattle.fvn_sorts.specs.Collected.{IsClosed, turned, both_ways, joins, first_joined, is_first, parts_before, kind_of, same_op, declarations_of, rank_meant, completed}
 use Rattle.fvn_sorts.specs.Joined.{Joined, there, upward, downward}
 use Rattle.fvn_sorts.specs.Queries.{IsKind, IsCompleted}

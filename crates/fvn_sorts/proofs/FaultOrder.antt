@@ -6,12 +6,12 @@ use Rattle.fvn_terms.specs.declared.plain.OpId.{OpId}
 use Rattle.fvn_terms.specs.declared.plain.SortId.{SortId}
 use Rattle.fvn_terms.specs.declared.declarations.Rank.{Rank}
 use Rattle.fvn_terms.specs.Signature.{declared}
-use Rattle.fvn_sorts.specs.declared.collected.Collected.{Collected}
-use Rattle.fvn_sorts.specs.declared.shapes.Condition.{Condition}
-use Rattle.fvn_sorts.specs.declared.shapes.Condition.TheVariants.{Kinds, Shape, Same, Identity}
-use Rattle.fvn_sorts.specs.declared.brackets.Triple.{Triple}
-use Rattle.fvn_sorts.specs.declared.fault.SigFault.{SigFault}
-use Rattle.fvn_sorts.specs.declared.fault.SigFault.TheVariants.{SortCycle, KindsDiffer, AxiomShape, AxiomsDiffer, IdentityBad, NotPreregular, NotAssocSorts, NotCollapsing, TooMany, NoMemory}
+use Rattle.fvn_sorts.specs.declared.collecting.collected.Collected.{Collected}
+use Rattle.fvn_sorts.specs.declared.conditions.shapes.Condition.{Condition}
+use Rattle.fvn_sorts.specs.declared.conditions.shapes.Condition.TheVariants.{Kinds, Shape, Same, Identity}
+use Rattle.fvn_sorts.specs.declared.conditions.brackets.Triple.{Triple}
+use Rattle.fvn_sorts.specs.declared.conditions.fault.SigFault.{SigFault}
+use Rattle.fvn_sorts.specs.declared.conditions.fault.SigFault.TheVariants.{SortCycle, KindsDiffer, AxiomShape, AxiomsDiffer, IdentityBad, NotPreregular, NotAssocSorts, NotCollapsing, TooMany, NoMemory}
 use Rattle.fvn_sorts.specs.Faults.{HasFault, condition, witness, IsEarlier, HasNoFault}
 use Rattle.fvn_base.specs.Order.{IsBefore}
 use Rattle.fvn_sorts.specs.inner.Searches.{IsFirstFrom, fault_at, place_of, IsFirstList}

@@ -16,9 +16,9 @@ use Rattle.fvn_forms.specs.SortOrder.{at_or_below}
 use Rattle.fvn_forms.specs.Ranks.{IsResult, ranks_of, result}
 use Rattle.fvn_forms.specs.Good.{TakesKinds, IsOfKind, IsWithinLimits, IsGood}
 use Rattle.fvn_forms.proofs.SortTests.{at_or_below-true, at_or_below-complete}
-use Rattle.fvn_sorts.specs.declared.collected.Declaration.{Declaration}
-use Rattle.fvn_sorts.specs.declared.collected.Collected.{Collected}
-use Rattle.fvn_sorts.specs.declared.fault.SigFault.TheVariants.{SortCycle, KindsDiffer, AxiomShape, AxiomsDiffer, IdentityBad, NotPreregular, NotAssocSorts, NotCollapsing, TooMany}
+use Rattle.fvn_sorts.specs.declared.collecting.collected.Declaration.{Declaration}
+use Rattle.fvn_sorts.specs.declared.collecting.collected.Collected.{Collected}
+use Rattle.fvn_sorts.specs.declared.conditions.fault.SigFault.TheVariants.{SortCycle, KindsDiffer, AxiomShape, AxiomsDiffer, IdentityBad, NotPreregular, NotAssocSorts, NotCollapsing, TooMany}
 use Rattle.fvn_sorts.specs.Collected.{IsClosed, declarations_of, first_axioms, rank_meant, meant_or_kind, completed}
 use Rattle.fvn_forms.specs.FitsKinds.{TakesTwoAlike, TakesTwoOfItsKind}
 use Rattle.fvn_sorts.specs.Faults.{HasNoFault, HasBadShape}

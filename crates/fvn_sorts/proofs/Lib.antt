@@ -1,6 +1,6 @@
 -- The lemmas of the crate.
 mod Operators
-mod Collecting
+mod CollectedSteps
 mod Closures
 mod Parts
 mod TableLemmas

@@ -5,8 +5,8 @@ use Rattle.std.proofs.lemmas.Bool.{eq-eqb, eqb-true, cases_lt}
 use Rattle.std.proofs.lemmas.List.FromFn.{length-map-range_with_len}
 use Rattle.fvn_terms.specs.declared.plain.OpId.{OpId}
 use Rattle.fvn_base.proofs.Membership.{filter_contains}
-use Rattle.fvn_sorts.specs.declared.collected.Declaration.{Declaration}
-use Rattle.fvn_sorts.specs.declared.collected.Collected.{Collected}
+use Rattle.fvn_sorts.specs.declared.collecting.collected.Declaration.{Declaration}
+use Rattle.fvn_sorts.specs.declared.collecting.collected.Collected.{Collected}
 use Rattle.fvn_sorts.specs.Collected.{op_number, same_op, declarations_of, operator_meant, completed}
 
 pub same_op-self : (f g : OpId) → f ≡ g → same_op f g ≡ true

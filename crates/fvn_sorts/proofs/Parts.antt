@@ -11,7 +11,7 @@ use Rattle.fvn_terms.specs.declared.plain.SortId.{SortId}
 use Rattle.fvn_forms.specs.SortOrder.{sort_number, same_sort}
 use Rattle.fvn_base.proofs.Membership.{contains_map, map_contains}
 use Rattle.fvn_forms.proofs.SortTests.{same_sort-true, same_sort-self, reaches-self, reaches-trans, reaches-one, reaches-sound}
-use Rattle.fvn_sorts.specs.declared.collected.Collected.{Collected}
+use Rattle.fvn_sorts.specs.declared.collecting.collected.Collected.{Collected}
 use Rattle.fvn_sorts.specs.Collected.{turned, both_ways, first_sorts, joins, first_joined, is_first, parts_before, kind_of}
 
 -- two tests with one answer on true are one

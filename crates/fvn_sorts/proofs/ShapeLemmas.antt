@@ -4,8 +4,8 @@ use Rattle.std.specs.List.{Contains, Any}
 use Rattle.std.proofs.lemmas.Bool.{cases_eq, cases_lt}
 use Rattle.std.proofs.lemmas.List.{get_or_read, get_or_past}
 use Rattle.std.proofs.lemmas.List.Elements.{All-contains}
-use Rattle.fvn_sorts.specs.declared.shapes.Condition.{Condition}
-use Rattle.fvn_sorts.specs.declared.shapes.Condition.TheVariants.{Kinds, Shape, Same, Identity}
+use Rattle.fvn_sorts.specs.declared.conditions.shapes.Condition.{Condition}
+use Rattle.fvn_sorts.specs.declared.conditions.shapes.Condition.TheVariants.{Kinds, Shape, Same, Identity}
 use Rattle.fvn_terms.specs.declared.plain.OpId.{OpId}
 use Rattle.fvn_terms.specs.declared.plain.SortId.{SortId}
 use Rattle.fvn_terms.specs.declared.declarations.Axioms.{Axioms}
@@ -17,8 +17,8 @@ use Rattle.fvn_terms.specs.Signature.{kind, declared, axioms, unknown, HasKind, 
 use Rattle.fvn_terms.specs.Term.{none}
 use Rattle.fvn_terms.specs.Equality.{IsCommutative, IsAssociative, constant}
 use Rattle.fvn_base.proofs.Membership.{contains_here, contains_none}
-use Rattle.fvn_sorts.specs.declared.collected.Declaration.{Declaration}
-use Rattle.fvn_sorts.specs.declared.collected.Collected.{Collected}
+use Rattle.fvn_sorts.specs.declared.collecting.collected.Declaration.{Declaration}
+use Rattle.fvn_sorts.specs.declared.collecting.collected.Collected.{Collected}
 use Rattle.fvn_sorts.specs.Collected.{IsClosed, op_number, declarations_of, first_axioms, completed}
 use Rattle.fvn_sorts.specs.Faults.{Differ, HasBadIdentity, IsOnCycle, HasFault}
 use Rattle.fvn_sorts.specs.inner.Searches.{fault_at}

@@ -5,7 +5,7 @@ use Rattle.fvn_terms.specs.declared.plain.SortId.{SortId}
 use Rattle.fvn_terms.specs.declared.declarations.Declarations.{Declarations}
 use Rattle.fvn_forms.specs.Good.{IsKinded, Associates}
 use Rattle.fvn_forms.specs.Ranks.{result}
-use Rattle.fvn_sorts.specs.declared.brackets.Triple.{Triple}
+use Rattle.fvn_sorts.specs.declared.conditions.brackets.Triple.{Triple}
 use Rattle.fvn_sorts.specs.inner.Searches.{AreListed, AreTwins, HasTwin, AreBad}
 use Rattle.fvn_sorts.proofs.LowestResults.{of_kind_listed}
 

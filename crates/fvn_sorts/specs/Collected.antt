@@ -9,8 +9,8 @@ use Rattle.fvn_terms.specs.declared.declarations.Rank.{Rank}
 use Rattle.fvn_terms.specs.declared.declarations.OpDecl.{OpDecl}
 use Rattle.fvn_terms.specs.declared.declarations.Declarations.{Declarations}
 use Rattle.fvn_forms.specs.SortOrder.{sort_number, same_sort, reaches}
-use Rattle.fvn_sorts.specs.declared.collected.Declaration.{Declaration}
-use Rattle.fvn_sorts.specs.declared.collected.Collected.{Collected}
+use Rattle.fvn_sorts.specs.declared.collecting.collected.Declaration.{Declaration}
+use Rattle.fvn_sorts.specs.declared.collecting.collected.Collected.{Collected}
 
 -- the operator with the number
 abbrev pub op_number : ℕ → OpId

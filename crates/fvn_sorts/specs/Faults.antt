@@ -11,10 +11,10 @@ use Rattle.fvn_forms.specs.Ranks.{IsResult}
 use Rattle.fvn_forms.specs.FitsKinds.{HaveOneKind, TakesTwoAlike, TakesTwoOfItsKind}
 use Rattle.fvn_forms.specs.Good.{TakesKinds, IsOfKind, Associates, Collapses}
 use Rattle.fvn_base.specs.Order.{IsBefore, IsFirst}
-use Rattle.fvn_sorts.specs.declared.collected.Declaration.{Declaration}
-use Rattle.fvn_sorts.specs.declared.fault.SigFault.{SigFault}
-use Rattle.fvn_sorts.specs.declared.fault.SigFault.TheVariants.{SortCycle, KindsDiffer, AxiomShape, AxiomsDiffer, IdentityBad, NotPreregular, NotAssocSorts, NotCollapsing, TooMany, NoMemory}
-use Rattle.fvn_sorts.specs.declared.collected.Collected.{Collected}
+use Rattle.fvn_sorts.specs.declared.collecting.collected.Declaration.{Declaration}
+use Rattle.fvn_sorts.specs.declared.conditions.fault.SigFault.{SigFault}
+use Rattle.fvn_sorts.specs.declared.conditions.fault.SigFault.TheVariants.{SortCycle, KindsDiffer, AxiomShape, AxiomsDiffer, IdentityBad, NotPreregular, NotAssocSorts, NotCollapsing, TooMany, NoMemory}
+use Rattle.fvn_sorts.specs.declared.collecting.collected.Collected.{Collected}
 use Rattle.fvn_sorts.specs.Collected.{declarations_of, rank_meant, completed}
 
 -- two elements of the list are not related

@@ -7,10 +7,10 @@ use Rattle.fvn_terms.specs.declared.declarations.Declarations.{Declarations}
 use Rattle.fvn_forms.specs.Good.{IsKinded, IsGood}
 use Rattle.fvn_forms.specs.Ranks.{ranks_of, result}
 use Rattle.fvn_sorts.specs.inner.Words.{IsClosure}
-use Rattle.fvn_sorts.specs.declared.collected.Collected.{Collected}
+use Rattle.fvn_sorts.specs.declared.collecting.collected.Collected.{Collected}
 use Rattle.fvn_sorts.specs.Collected.{IsClosed, first_sorts, completed}
 use Rattle.fvn_sorts.specs.Queries.{direct_subsorts, IsCompleted}
-use Rattle.fvn_sorts.specs.declared.draft.Draft.{Draft}
+use Rattle.fvn_sorts.specs.declared.queries.draft.Draft.{Draft}
 
 -- for each of the first n sorts a row: the results of f over it and each of the first n sorts, as first and second argument
 abbrev pub results_of_two : Declarations → OpId → ℕ → List (List SortId)

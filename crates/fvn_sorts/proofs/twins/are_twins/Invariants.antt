@@ -1,9 +1,0 @@
--- The invariant of the comparison of results.
-use Rattle.std.proofs.Common.{◌≡◌, ◌<◌, [], ◌∷◌}
-use Rattle.fvn_terms.specs.declared.plain.SortId.{SortId}
-use Rattle.fvn_forms.specs.Ranks.{result}
-use Rattle.fvn_sorts.proofs.twins.are_twins.Given as goal
-
--- those so far
-abbrev pub invariant-loop-r : goal.invariant-loop-r
-invariant-loop-r l = (t : SortId) → t.0 < l.r → result l.draft.declarations l.op (l.q ∷ t ∷ []) ≡ result l.draft.declarations l.op (l.s ∷ t ∷ [])

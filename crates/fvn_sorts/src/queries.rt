@@ -1,0 +1,8 @@
+//! Good signatures, their tables and their queries.
+
+pub mod draft;
+pub mod making;
+pub mod signature;
+pub mod sorting;
+pub mod subsorts;
+pub mod tables;
