@@ -1,5 +1,5 @@
 -- Which forms fit.
-use Rattle.std.proofs.Common.{◌≡◌, ◌≤◌, Bool, true, false, List, [], ◌∷◌, map, length, refl, sym, ap, ◌∙◌, subst, arith}
+use Rattle.std.proofs.Common.{◌≡◌, ◌≤◌, true, false, List, [], ◌∷◌, map, length, refl, sym, ap, ◌∙◌, subst, arith}
 use Rattle.std.specs.Prelude.{◌↔◌, Contains}
 use Rattle.std.specs.List.{AllByRecursion}
 use Rattle.fvn_terms.specs.declared.plain.Var.{Var}
@@ -97,9 +97,9 @@ module _ (d : Declarations) where
     sum_equal assoc r listed (t ∷ ts) two h j =
         let whole = nest f (plain t) (plain_all (fpack ts)) in
         let flat : canon d whole ≡ build d f (t ∷ ts) =
-            eval_nest d fvar (fvar_settled d) f assoc (plain t) (plain_all (fpack ts))
-            ∙ ap (λ l. sum d f (all_parts d f l)) (canon_plain_all d (fpack (t ∷ ts)) (SettledAll-fpack d (t ∷ ts) h) ∙ funpack-fpack (t ∷ ts))
-            ∙ sym (build_sum d f assoc t ts)
+        eval_nest d fvar (fvar_settled d) f assoc (plain t) (plain_all (fpack ts))
+        ∙ ap (λ l. sum d f (all_parts d f l)) (canon_plain_all d (fpack (t ∷ ts)) (SettledAll-fpack d (t ∷ ts) h) ∙ funpack-fpack (t ∷ ts))
+        ∙ sym (build_sum d f assoc t ts)
         in
         subst (λ u. BEqual d whole (plain u)) flat (to_canon d fits whole (kind d r.result) (nested_of_kind assoc r listed t ts j))
 

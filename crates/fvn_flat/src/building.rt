@@ -33,13 +33,7 @@ impl Flat {
     {
         match &self.node {
             Node::Var(_) => false,
-            Node::App(g, joined, _) => {
-                if *joined {
-                    f == *g
-                } else {
-                    false
-                }
-            }
+            Node::App(g, joined, _) => { if *joined { f == *g } else { false } }
         }
     }
 
@@ -80,7 +74,13 @@ impl Flat {
 }
 
 // Adds the summands of a term.
-fn add_summands(alloc: Global, sig: &Signature, f: OpId, summands: &mut Vec<Flat>, t: Flat) -> Result<(), NoMemory>
+fn add_summands(
+    alloc: Global,
+    sig: &Signature,
+    f: OpId,
+    summands: &mut Vec<Flat>,
+    t: Flat,
+) -> Result<(), NoMemory>
     ensures { OnOk result (summands.new.items ≡ summands.old.items ++ parts sig.now f t) }
 {
     if t.is_sum_of(f) {
@@ -142,7 +142,12 @@ fn summed(alloc: Global, sig: &Signature, f: OpId, args: Vec<Flat>) -> Result<Fl
 }
 
 // The operator over the arguments, flat again.
-pub(crate) fn built(alloc: Global, sig: &Signature, f: OpId, args: Vec<Flat>) -> Result<Flat, NoMemory>
+pub(crate) fn built(
+    alloc: Global,
+    sig: &Signature,
+    f: OpId,
+    args: Vec<Flat>,
+) -> Result<Flat, NoMemory>
     ensures { IfOk result (λ t. t ≡ build sig.now f args.items) }
 {
     if args.is_empty() {

@@ -81,7 +81,12 @@ fn renaming(alloc: Global, vars: &[Var], first: u32) -> Result<Vec<(Var, Flat)>,
 /// The term with its variables renamed to fresh ones of the same sorts, and the next free number.
 ///
 /// They are numbered from `first` in order of first occurrence.
-pub fn rename_apart(alloc: Global, sig: &Signature, t: &Flat, first: u32) -> Result<(Flat, u32), NoMemory>
+pub fn rename_apart(
+    alloc: Global,
+    sig: &Signature,
+    t: &Flat,
+    first: u32,
+) -> Result<(Flat, u32), NoMemory>
     requires term { Fits sig.now t.now }
     requires number { first ≤ MOST_RENAMED }
     requires size { symbols t.now ≤ MOST_RENAMED }

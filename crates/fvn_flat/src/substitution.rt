@@ -146,7 +146,12 @@ impl Subst {
     }
 
     // The pairs with another substitution applied to their terms.
-    fn changed(&self, alloc: Global, sig: &Signature, later: &Subst) -> Result<Vec<(Var, Flat)>, NoMemory>
+    fn changed(
+        &self,
+        alloc: Global,
+        sig: &Signature,
+        later: &Subst,
+    ) -> Result<Vec<(Var, Flat)>, NoMemory>
         ensures { IfOk result (λ pairs. pairs.items ≡ changed (rebuilt sig.now (value later.now)) self.now) }
     {
         let mut pairs = Vec::new(alloc);
@@ -158,7 +163,12 @@ impl Subst {
     }
 
     // The pairs of another substitution for variables that are free here, at the end of some pairs.
-    fn with_free(&self, alloc: Global, later: &Subst, pairs: Vec<(Var, Flat)>) -> Result<Vec<(Var, Flat)>, NoMemory>
+    fn with_free(
+        &self,
+        alloc: Global,
+        later: &Subst,
+        pairs: Vec<(Var, Flat)>,
+    ) -> Result<Vec<(Var, Flat)>, NoMemory>
         ensures { IfOk result (λ all. all.items ≡ pairs.items ++ chosen (is_free self.now) later.now) }
     {
         let mut all = pairs;

@@ -150,12 +150,7 @@ fn with_sort(rt: &impl Abort, draft: Draft) -> Result<Draft, NoMemory> {
 }
 
 /// One statement: sorts, a pair of them, or a declaration.
-fn stated(
-    rt: &impl Abort,
-    alloc: Global,
-    draft: Draft,
-    text: &str,
-) -> Result<Draft, NoMemory> {
+fn stated(rt: &impl Abort, alloc: Global, draft: Draft, text: &str) -> Result<Draft, NoMemory> {
     if let Some((low, high)) = text.split_once(" < ") {
         return with_pair(rt, draft, sort_of(low), sort_of(high));
     }
