@@ -1,12 +1,12 @@
 -- Comparing lists of flat forms.
-use Rattle.std.proofs.Common.{◌≡◌, ℕ, ◌+◌, ◌<◌, Bool, true, false, List, [], ◌∷◌, length, refl, sym, ap, ◌∙◌, inl, inr, arith}
+use Rattle.std.proofs.Common.{◌≡◌, ◌+◌, Bool, List, [], ◌∷◌, length, refl, sym, ap, ◌∙◌, inl, inr, arith}
 use Rattle.std.specs.Prelude.{◌↔◌, IsTrue, ◌⊎◌}
 use Rattle.std.specs.declared.cmp.Ordering.{Ordering}
 use Rattle.std.specs.declared.cmp.Ordering.TheVariants.{Less, Equal, Greater}
-use Rattle.std.specs.Ordering.{ordering_then, nat_cmp, MatchOrdering}
+use Rattle.std.specs.Ordering.{ordering_then, nat_cmp}
 use Rattle.std.specs.Cmp.{nat_cmp_is}
 use Rattle.fvn_forms.specs.Flat.{FlatTerm, fpack}
-use Rattle.fvn_forms.specs.Order.{flat_cmp, flats_cmp, same_flat}
+use Rattle.fvn_forms.specs.Order.{flats_cmp, same_flat}
 use Rattle.fvn_forms.proofs.Order.{same_flat_is, same_flat_itself}
 
 -- the order of two lists of forms

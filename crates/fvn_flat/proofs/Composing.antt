@@ -1,7 +1,6 @@
 -- What substitutions bind that are made of others.
-use Rattle.std.proofs.Common.{◌≡◌, ℕ, ◌+◌, ◌<◌, Bool, true, false, List, [], ◌∷◌, ◌++◌, map, length, take, get_or, Option, Some, None, refl, sym, ap, ◌∙◌, subst}
-use Rattle.std.specs.Prelude.{not, if◌then◌else◌, is_some, filter, Contains}
-use Rattle.std.specs.List.{AllByRecursion}
+use Rattle.std.proofs.Common.{◌≡◌, ℕ, ◌+◌, ◌<◌, Bool, true, false, List, [], ◌∷◌, ◌++◌, length, take, get_or, Option, Some, None, refl, sym, ap, ◌∙◌, subst}
+use Rattle.std.specs.Prelude.{not, if◌then◌else◌, is_some, Contains}
 use Rattle.std.specs.Option.{option_map}
 use Rattle.std.proofs.lemmas.List.{map_more}
 use Rattle.fvn_terms.specs.declared.plain.Var.{Var}
@@ -12,7 +11,6 @@ use Rattle.fvn_forms.specs.Flat.{FlatTerm, fvar, plain}
 use Rattle.fvn_forms.specs.Canon.{eval, inst}
 use Rattle.fvn_forms.specs.Settled.{Settled, SettledValues}
 use Rattle.fvn_forms.specs.Good.{IsGood}
-use Rattle.fvn_forms.specs.LeastSort.{IsFlatSubstitution}
 use Rattle.fvn_forms.proofs.Eval.{eval_settled}
 use Rattle.fvn_forms.proofs.Instances.{inst-inst}
 use Rattle.fvn_forms.proofs.LeastSort.{inst_of_kind}

@@ -5,7 +5,7 @@ use Rattle.fvn_terms.specs.declared.plain.Var.{Var}
 use Rattle.fvn_terms.specs.declared.plain.Plain.{Plain}
 use Rattle.fvn_terms.specs.declared.declarations.Declarations.{Declarations}
 use Rattle.fvn_terms.specs.Plain.{term, terms}
-use Rattle.fvn_terms.specs.Term.{Terms, more}
+use Rattle.fvn_terms.specs.Term.{more}
 use Rattle.fvn_terms.proofs.Plains.{push, terms-push}
 use Rattle.fvn_forms.specs.Flat.{FlatTerm, fpack, plain, plain_all}
 use Rattle.fvn_forms.specs.Canon.{eval, eval_all}

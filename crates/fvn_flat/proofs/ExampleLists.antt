@@ -1,6 +1,6 @@
 -- A partition and a solved list of the problem x0 =? one.
-use Rattle.std.proofs.Common.{◌≡◌, ◌≢◌, ◌⊎◌, ℕ, zero, suc, ◌<◌, Bool, true, false, if◌then◌else◌, List, [], ◌∷◌, length, get_or, Some, refl, sym, ap, ◌∙◌, subst, inl, inr, arith, lit<}
-use Rattle.std.specs.Prelude.{All, AllPairs, Contains, slice_index_or}
+use Rattle.std.proofs.Common.{◌≡◌, ℕ, zero, suc, ◌<◌, Bool, true, false, if◌then◌else◌, [], ◌∷◌, refl, sym, ap, ◌∙◌, subst, inl, inr, arith, lit<}
+use Rattle.std.specs.Prelude.{Contains, slice_index_or}
 use Rattle.std.proofs.lemmas.List.Elements.{All-nil, All-cons}
 use Rattle.fvn_terms.specs.declared.plain.Var.{Var}
 use Rattle.fvn_terms.specs.declared.plain.OpId.{OpId}
@@ -13,11 +13,11 @@ use Rattle.fvn_terms.specs.Places.{stop}
 use Rattle.fvn_terms.specs.Equality.{IsAssociative, BEqual}
 use Rattle.fvn_terms.specs.Unifiers.{Problem}
 use Rattle.fvn_terms.proofs.Substitutions.{apply-var}
-use Rattle.fvn_forms.specs.Flat.{FlatTerm, fvar, fconstant, plain}
+use Rattle.fvn_forms.specs.Flat.{FlatTerm, fconstant, plain}
 use Rattle.fvn_flat.specs.Bindings.{Bindings}
 use Rattle.fvn_flat.specs.Problems.{subterms_of, variables_of}
-use Rattle.fvn_flat.specs.Partitions.{PlaceByPlace, HasNoIdentity, Heads, IsUnit, IsNode, IsPartition}
-use Rattle.fvn_flat.specs.SolvedLists.{Plan, as_member, only, unfolded, IsClass, IsBinding, IsSolvedBy, IsSolvedList, IsKindUnifier}
+use Rattle.fvn_flat.specs.Partitions.{PlaceByPlace, Heads, IsUnit, IsNode, IsPartition}
+use Rattle.fvn_flat.specs.SolvedLists.{Plan, as_member, only, unfolded, IsBinding, IsSolvedList, IsKindUnifier}
 use Rattle.fvn_flat.proofs.Examples.{op, s, numbers, variable, x, one_}
 
 abbrev assigned : Problem

@@ -1,5 +1,5 @@
 -- A partition and a solved list of the problem union(x0, x1) =? x2: x2 is bound to the sum of two minimal solutions.
-use Rattle.std.proofs.Common.{◌≡◌, ◌≢◌, ◌⊎◌, ℕ, zero, suc, ◌+◌, ◌*◌, ◌<◌, ◌≤◌, ℤ, pos, negsuc, Bool, true, false, if◌then◌else◌, nat_eq, List, [], ◌∷◌, length, get_or, Some, None, refl, sym, ap, ◌∙◌, subst, inl, inr, arith, lit<}
+use Rattle.std.proofs.Common.{◌≡◌, ◌≢◌, ◌⊎◌, ℕ, zero, suc, ◌+◌, ◌*◌, ◌<◌, ℤ, Bool, true, false, if◌then◌else◌, List, [], ◌∷◌, Some, refl, sym, ap, ◌∙◌, subst, inl, inr, arith, lit<}
 use Rattle.std.specs.Prelude.{All, AllPairs, Any, Contains, slice_index, slice_index_or}
 use Rattle.std.proofs.lemmas.List.Elements.{All-nil, All-cons, All-head}
 use Rattle.fvn_terms.specs.declared.plain.Var.{Var}
@@ -10,20 +10,20 @@ use Rattle.fvn_terms.specs.Term.{Term, Terms, var, app, none, more}
 use Rattle.fvn_terms.specs.Substitution.{apply, Occurs, same_var}
 use Rattle.fvn_terms.specs.Signature.{axioms, kind, IsSort, HasKind, KeepsKinds}
 use Rattle.fvn_terms.specs.Places.{stop}
-use Rattle.fvn_terms.specs.Equality.{BEqual, IsAssociative}
+use Rattle.fvn_terms.specs.Equality.{BEqual}
 use Rattle.fvn_terms.specs.Unifiers.{Problem}
 use Rattle.fvn_terms.proofs.Substitutions.{apply-var}
-use Rattle.fvn_forms.specs.Flat.{FlatTerm, FlatTerms, fvar, fapp, plain}
+use Rattle.fvn_forms.specs.Flat.{FlatTerm, fvar, fapp, plain}
 use Rattle.fvn_forms.specs.Canon.{canon, sum}
 use Rattle.fvn_forms.proofs.Eval.{canon_respects}
 use Rattle.fvn_lindio.specs.declared.system.System.{System}
 use Rattle.fvn_lindio.specs.Vectors.{IsAtOrBelow, IsNonZero}
-use Rattle.fvn_lindio.specs.Systems.{IsUnused, Solves, IsMinimal, IsZeroAt, rows_of}
+use Rattle.fvn_lindio.specs.Systems.{IsUnused, Solves, IsMinimal, IsZeroAt}
 use Rattle.fvn_flat.specs.Bindings.{Bindings}
 use Rattle.fvn_flat.specs.Problems.{subterms_of, variables_of}
 use Rattle.fvn_flat.specs.Partitions.{Heads, IsUnit, IsNode, IsPartition}
 use Rattle.fvn_flat.specs.SumSystems.{sums_of, classes_of, IsColumn, IsSumSystem}
-use Rattle.fvn_flat.specs.SolvedLists.{Form, Part, Plan, unbound, as_sum, only, unfolded, component, bound_to, IsClass, IsFormOf, IsNew, IsBinding, StandsForClass, StandsForNone, RestsOn, IsSolvedBy, IsSolvedList, IsKindUnifier}
+use Rattle.fvn_flat.specs.SolvedLists.{Form, Part, Plan, unbound, as_sum, only, unfolded, component, bound_to, IsClass, IsFormOf, IsNew, IsBinding, StandsForClass, StandsForNone, RestsOn, IsSolvedList}
 use Rattle.fvn_flat.proofs.Examples.{op, s, numbers, variable, x, union, o, i, m}
 
 abbrev Eq : ℕ → ℕ → Type 0

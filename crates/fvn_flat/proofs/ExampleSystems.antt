@@ -1,10 +1,9 @@
 -- The sum system of x0 =? plus(x0, x1), in which both sides are one class and its column is unused.
-use Rattle.std.proofs.Common.{◌≡◌, ◌≢◌, ◌⊎◌, ℕ, zero, suc, ◌<◌, List, [], ◌∷◌, length, get_or, refl, sym, subst, inl, inr, arith, lit<}
+use Rattle.std.proofs.Common.{◌≡◌, ◌≢◌, ℕ, zero, suc, ◌<◌, List, [], ◌∷◌, refl, sym, subst, arith, lit<}
 use Rattle.std.specs.Prelude.{AllPairs, Contains}
-use Rattle.fvn_terms.specs.declared.declarations.Axioms.TheVariants.{AssocCommId}
 use Rattle.fvn_terms.specs.Term.{Term}
 use Rattle.fvn_lindio.specs.declared.system.System.{System}
-use Rattle.fvn_flat.specs.SumSystems.{sums_of, classes_of, IsClassOfIdentity, IsColumn, IsSumSystem}
+use Rattle.fvn_flat.specs.SumSystems.{sums_of, classes_of, IsColumn, IsSumSystem}
 use Rattle.fvn_flat.proofs.Examples.{op, numbers, x, plus, absorbed, of_absorbed, o, i}
 
 abbrev Eq : ℕ → ℕ → Type 0

@@ -1,24 +1,18 @@
 -- The definitions computed on small problems.
-use Rattle.std.proofs.Common.{◌≡◌, ◌⊎◌, ℕ, ◌+◌, ℤ, pos, negsuc, true, false, if◌then◌else◌, nat_eq, List, [], ◌∷◌, All, map, refl, inl, inr}
+use Rattle.std.proofs.Common.{◌≡◌, ℕ, ◌+◌, ℤ, pos, negsuc, false, if◌then◌else◌, nat_eq, List, [], ◌∷◌, map, refl}
 use Rattle.std.specs.Prelude.{slice_index_or}
 use Rattle.std.proofs.lemmas.List.Elements.{All-nil, All-cons}
 use Rattle.fvn_terms.specs.declared.plain.Var.{Var}
 use Rattle.fvn_terms.specs.declared.plain.OpId.{OpId}
 use Rattle.fvn_terms.specs.declared.plain.SortId.{SortId}
-use Rattle.fvn_terms.specs.declared.declarations.Axioms.TheVariants.{Free, Comm, AssocComm, AssocCommId}
+use Rattle.fvn_terms.specs.declared.declarations.Axioms.TheVariants.{Free, AssocComm, AssocCommId}
 use Rattle.fvn_terms.specs.declared.declarations.Rank.{Rank}
 use Rattle.fvn_terms.specs.declared.declarations.Declarations.{Declarations}
 use Rattle.fvn_terms.specs.Term.{Term, var, app, none, more}
-use Rattle.fvn_terms.specs.Substitution.{Substitution, apply}
 use Rattle.fvn_terms.specs.Equality.{two, constant}
 use Rattle.fvn_terms.specs.Unifiers.{Problem}
-use Rattle.fvn_forms.specs.Flat.{FlatTerm, fvar, fapp, fpack, fconstant, plain}
-use Rattle.fvn_forms.specs.Canon.{canon}
 use Rattle.fvn_lindio.specs.Systems.{IsUnused}
-use Rattle.fvn_flat.specs.Problems.{subterms_of, variables_of, once}
-use Rattle.fvn_flat.specs.SumSystems.{sums_of, classes_of, row_of, IsClassOfIdentity}
-use Rattle.fvn_flat.specs.SolvedLists.{Part, members, unfolded}
-use Rattle.fvn_flat.specs.FlatPlaces.{IsReplaced, here, inside, first, later}
+use Rattle.fvn_flat.specs.SumSystems.{sums_of, row_of, IsClassOfIdentity}
 use Rattle.fvn_flat.specs.Rules.{IsIdentity}
 
 abbrev pub op : ℕ → OpId

@@ -1,6 +1,6 @@
 -- Problems without variables: each has the empty substitution as its one unifier, or none.
-use Rattle.std.proofs.Common.{◌≡◌, ◌≢◌, ◌⊎◌, ℕ, zero, suc, ◌<◌, List, [], ◌∷◌, ◌++◌, length, get_or, take, map, ◌≤◌, Bool, true, false, if◌then◌else◌, refl, sym, ap, ◌∙◌, subst, inl, inr, arith, lit<}
-use Rattle.std.specs.Prelude.{◌↔◌, IsTrue, IsFalse, All, AllPairs, Any, Contains, Some}
+use Rattle.std.proofs.Common.{◌≡◌, ◌≢◌, ℕ, zero, suc, List, [], ◌∷◌, ◌++◌, length, take, map, ◌≤◌, Bool, true, false, if◌then◌else◌, refl, sym, ◌∙◌, subst, inl, inr, arith, lit<}
+use Rattle.std.specs.Prelude.{IsTrue, IsFalse, All, Any, Contains}
 use Rattle.std.proofs.lemmas.List.{take_all}
 use Rattle.std.proofs.lemmas.List.Elements.{All-nil, All-cons, All-head, All-tail, Contains-append_cases}
 use Rattle.fvn_terms.specs.declared.plain.Var.{Var}
@@ -11,12 +11,11 @@ use Rattle.fvn_terms.specs.Signature.{same}
 use Rattle.fvn_terms.specs.Places.{stop}
 use Rattle.fvn_terms.specs.Equality.{BEqual}
 use Rattle.fvn_terms.specs.Sorts.{IsWellSorted}
-use Rattle.fvn_terms.specs.Unifiers.{Problem, IsUnifier, IsInstance}
+use Rattle.fvn_terms.specs.Unifiers.{IsUnifier}
 use Rattle.fvn_terms.proofs.Substitutions.{apply-var, apply-agree}
-use Rattle.fvn_forms.specs.Flat.{FlatTerm, fvar, plain}
+use Rattle.fvn_forms.specs.Flat.{FlatTerm, plain}
 use Rattle.fvn_forms.proofs.Eval.{canon_respects, canon_plain}
-use Rattle.fvn_terms.specs.CompleteSets.{IsCompleteSet, IsApart}
-use Rattle.fvn_flat.specs.Bindings.{Bindings, bound, value, BindsOnce, BindingsFit}
+use Rattle.fvn_flat.specs.Bindings.{Bindings, BindsOnce, BindingsFit}
 use Rattle.fvn_flat.specs.Fits.{Fits}
 use Rattle.fvn_flat.specs.Problems.{IsGround, variables, variables_of, plain_pairs}
 use Rattle.fvn_flat.specs.OneAnswer.{IsCompleteFor, IsApartFor}

@@ -1,17 +1,14 @@
 -- Instances as they are built.
-use Rattle.std.proofs.Common.{◌≡◌, ℕ, ◌+◌, ◌<◌, Bool, true, false, List, [], ◌∷◌, ◌++◌, map, length, take, get_or, refl, sym, ap, ◌∙◌, subst}
-use Rattle.std.specs.List.{AllByRecursion}
+use Rattle.std.proofs.Common.{◌≡◌, ℕ, ◌+◌, ◌<◌, List, [], ◌∷◌, ◌++◌, map, length, take, get_or, refl, sym, ap, ◌∙◌}
 use Rattle.std.proofs.lemmas.List.{take_more}
 use Rattle.fvn_terms.specs.declared.plain.Var.{Var}
-use Rattle.fvn_terms.specs.declared.plain.OpId.{OpId}
 use Rattle.fvn_terms.specs.declared.declarations.Declarations.{Declarations}
-use Rattle.fvn_terms.specs.Signature.{IsTerm}
-use Rattle.fvn_forms.specs.Flat.{FlatTerm, FlatTerms, fvar, fapp, fnone, fmore, fpack, funpack, plain}
+use Rattle.fvn_forms.specs.Flat.{FlatTerm, FlatTerms, fvar, fapp, fnone, fmore, fpack, funpack}
 use Rattle.fvn_forms.specs.Canon.{build, inst}
 use Rattle.fvn_forms.specs.Settled.{Settled, SettledAll, SettledValues}
 use Rattle.fvn_forms.specs.LeastSort.{IsFlatSubstitution}
 use Rattle.fvn_forms.specs.Good.{IsGood}
-use Rattle.fvn_forms.proofs.Sums.{SettledAll-funpack, fpack-funpack}
+use Rattle.fvn_forms.proofs.Sums.{SettledAll-funpack}
 use Rattle.fvn_forms.proofs.Instances.{inst_build, inst_settled}
 use Rattle.fvn_forms.proofs.LeastSort.{inst_of_kind}
 use Rattle.fvn_flat.specs.Fits.{Fits}

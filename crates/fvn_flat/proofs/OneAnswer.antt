@@ -1,7 +1,6 @@
 -- Problems whose pairs are equal modulo the axioms have the same unifiers, variables and instances.
-use Rattle.std.proofs.Common.{◌≡◌, ◌⊎◌, inl, inr, List, [], ◌∷◌, ◌++◌, map, get_or, length, ℕ, ◌<◌}
-use Rattle.std.specs.Prelude.{◌↔◌, All, AllPairs, Any, Contains}
-use Rattle.std.specs.List.{AllZip}
+use Rattle.std.proofs.Common.{◌⊎◌, inl, inr, List, [], ◌∷◌, ◌++◌, get_or}
+use Rattle.std.specs.Prelude.{All, Contains}
 use Rattle.std.proofs.lemmas.List.Elements.{All-nil, All-cons, All-head, All-tail, All-weaker, Contains-append_left, Contains-append_right, Contains-append_cases}
 use Rattle.fvn_terms.specs.declared.plain.Var.{Var}
 use Rattle.fvn_terms.specs.declared.plain.SortId.{SortId}
@@ -10,8 +9,7 @@ use Rattle.fvn_terms.specs.Term.{Term}
 use Rattle.fvn_terms.specs.Substitution.{Substitution, apply}
 use Rattle.fvn_terms.specs.Signature.{KeepsKinds, HasKind}
 use Rattle.fvn_terms.specs.Equality.{BEqual}
-use Rattle.fvn_terms.specs.Unifiers.{Problem, Solves, IsUnifier, IsInstance}
-use Rattle.fvn_terms.specs.CompleteSets.{IsCompleteSet, IsApart}
+use Rattle.fvn_terms.specs.Unifiers.{Problem, IsUnifier, IsInstance}
 use Rattle.fvn_terms.proofs.Equal.{BEqual-sym, BEqual-trans, BEqual-apply}
 use Rattle.fvn_forms.specs.FitsKinds.{FitsKinds}
 use Rattle.fvn_forms.proofs.ToCanon.{to_canon}

@@ -1,6 +1,6 @@
 -- Flattened pairs are given to a solver, and its answer is one to the plain pairs.
-use Rattle.std.proofs.Common.{◌≡◌, List, [], ◌∷◌, map, sym, subst}
-use Rattle.std.specs.Prelude.{◌↔◌, All, Contains}
+use Rattle.std.proofs.Common.{◌≡◌, [], ◌∷◌, map, sym, subst}
+use Rattle.std.specs.Prelude.{All}
 use Rattle.std.proofs.lemmas.List.Elements.{All-nil, All-cons, All-head, All-tail, All-map, All-weaker}
 use Rattle.fvn_terms.specs.declared.plain.SortId.{SortId}
 use Rattle.fvn_terms.specs.declared.declarations.Declarations.{Declarations}
@@ -14,7 +14,7 @@ use Rattle.fvn_forms.proofs.Eval.{canon_settled}
 use Rattle.fvn_forms.proofs.ToCanon.{canon_of_kind}
 use Rattle.fvn_flat.specs.Bindings.{Bindings}
 use Rattle.fvn_flat.specs.Fits.{Fits}
-use Rattle.fvn_flat.specs.Problems.{variables_of, IsProblem, plain_pairs, flat_pairs}
+use Rattle.fvn_flat.specs.Problems.{IsProblem, plain_pairs, flat_pairs}
 use Rattle.fvn_flat.specs.OneAnswer.{HaveOneAnswer}
 use Rattle.fvn_flat.specs.Solving.{FlatPairs, substitution, problem_of}
 use Rattle.fvn_flat.specs.Laws.{FlattenedPairsAreGiven, AnswersToFlattenedPairs}

@@ -1,17 +1,16 @@
 -- Fresh variables for those of a form.
 use Rattle.std.proofs.Common.{◌≡◌, ℕ, ◌+◌, ◌<◌, ◌≤◌, Bool, true, false, List, [], ◌∷◌, ◌++◌, length, take, get_or, Some, None, refl, sym, ap, ◌∙◌, subst, inl, inr, arith}
-use Rattle.std.specs.Prelude.{◌||◌, ◌⊎◌, if◌then◌else◌}
+use Rattle.std.specs.Prelude.{◌||◌, if◌then◌else◌}
 use Rattle.std.proofs.lemmas.List.{take_more, length-take}
 use Rattle.fvn_terms.specs.declared.plain.Var.{Var}
 use Rattle.fvn_terms.specs.declared.declarations.Declarations.{Declarations}
 use Rattle.fvn_terms.specs.Term.{nodes_all}
 use Rattle.fvn_terms.specs.Signature.{kind, IsSort, HasKind}
 use Rattle.fvn_terms.specs.Substitution.{same_var, Occurs, OccursAmong}
-use Rattle.fvn_forms.specs.Flat.{FlatTerm, FlatTerms, fvar, fapp, fnone, fmore, fpack, funpack, plain, plain_all, symbols}
+use Rattle.fvn_forms.specs.Flat.{FlatTerm, FlatTerms, fvar, fapp, fnone, fmore, fpack, plain, plain_all, symbols}
 use Rattle.fvn_forms.specs.Settled.{Settled}
-use Rattle.fvn_forms.specs.LeastSort.{IsFlatSubstitution}
 use Rattle.fvn_forms.proofs.Sizes.{symbols_all, symbols_joined}
-use Rattle.fvn_flat.specs.Bindings.{Bindings, bound, form_or, value, BindsOnce, BindingsFit}
+use Rattle.fvn_flat.specs.Bindings.{bound, form_or, value, BindsOnce, BindingsFit}
 use Rattle.fvn_flat.specs.Variables.{listed, with_variable, with_variables, with_all_variables, distinct_variables, fresh_for, renaming, RenamesApart}
 use Rattle.fvn_flat.proofs.Occurrences.{occurs_in_app}
 use Rattle.fvn_flat.proofs.Binding.{same_var_is, same_var_itself}

@@ -1,5 +1,5 @@
 -- The least sort of a form that fits, from the sorts of its arguments.
-use Rattle.std.proofs.Common.{◌≡◌, ℕ, zero, suc, ◌+◌, ◌<◌, ◌≤◌, Bool, true, false, List, [], ◌∷◌, ◌++◌, map, length, take, get_or, Some, None, refl, sym, ap, ◌∙◌, subst, arith}
+use Rattle.std.proofs.Common.{◌≡◌, ℕ, zero, suc, ◌+◌, ◌<◌, ◌≤◌, Bool, true, false, List, [], ◌∷◌, ◌++◌, map, length, take, get_or, Some, refl, sym, ap, ◌∙◌, subst, arith}
 use Rattle.std.specs.List.{AllByRecursion, fold}
 use Rattle.std.proofs.lemmas.List.{map_more, length-map}
 use Rattle.fvn_terms.specs.declared.plain.Var.{Var}
@@ -9,9 +9,7 @@ use Rattle.fvn_terms.specs.declared.declarations.Declarations.{Declarations}
 use Rattle.fvn_terms.specs.Signature.{kind, HaveKinds}
 use Rattle.fvn_terms.specs.Sorts.{IsLeastSort}
 use Rattle.fvn_forms.specs.Flat.{FlatTerm, FlatTerms, fapp, fnone, fmore, fpack, funpack, plain, plain_all}
-use Rattle.fvn_forms.specs.Canon.{canon}
 use Rattle.fvn_forms.specs.Good.{IsGood}
-use Rattle.fvn_forms.specs.Ranks.{result}
 use Rattle.fvn_forms.specs.LeastSort.{result_of_two, sum_sort, sort_in, sorts_in, least_sort, sort_over}
 use Rattle.fvn_forms.proofs.Sums.{funpack-fpack}
 use Rattle.fvn_forms.proofs.Eval.{canon_plain}

@@ -2,7 +2,7 @@
 use Rattle.std.proofs.Common.{◌≡◌, ℕ, ◌+◌, ◌-◌, ◌<◌, Bool, true, false, List, [], ◌∷◌, ◌++◌, length, take, get_or, refl, sym, ap, ◌∙◌, arith}
 use Rattle.std.proofs.lemmas.List.{take_more}
 use Rattle.fvn_terms.specs.declared.plain.OpId.{OpId}
-use Rattle.fvn_forms.specs.Flat.{FlatTerm, FlatTerms, fvar, fapp, fnone, fmore, fpack, funpack, symbols}
+use Rattle.fvn_forms.specs.Flat.{FlatTerm, fapp, fpack, symbols}
 use Rattle.fvn_forms.proofs.Sums.{funpack-fpack}
 use Rattle.fvn_flat.specs.inner.Own.{own}
 use Rattle.fvn_forms.proofs.Sizes.{all_symbols, symbols_unjoined, symbols_joined}

@@ -5,7 +5,6 @@ use Rattle.fvn_terms.specs.declared.declarations.Declarations.{Declarations}
 use Rattle.fvn_terms.specs.Substitution.{same_var}
 use Rattle.fvn_forms.specs.Flat.{FlatTerm, fvar}
 use Rattle.fvn_forms.specs.Canon.{inst}
-use Rattle.fvn_forms.specs.Settled.{Settled}
 use Rattle.fvn_forms.specs.LeastSort.{IsFlatSubstitution}
 
 -- variables with the flat forms that they are sent to

@@ -1,5 +1,5 @@
 -- What calls with a signature ask of flat forms: that they are flat in it, and well-kinded.
-use Rattle.std.specs.Prelude.{◌≡◌, ◌≤◌, ◌↔◌, List, length, map, Contains}
+use Rattle.std.specs.Prelude.{◌≤◌, ◌↔◌, List, length, map, Contains}
 use Rattle.std.specs.List.{AllByRecursion}
 use Rattle.fvn_terms.specs.declared.plain.OpId.{OpId}
 use Rattle.fvn_terms.specs.declared.plain.SortId.{SortId}

@@ -1,8 +1,8 @@
 -- What is read off a flat form.
-use Rattle.std.specs.Prelude.{ℕ, ◌+◌, ◌⊎◌, ◌≡◌, List, [], Option, Some, None}
+use Rattle.std.specs.Prelude.{List, [], Option, Some, None}
 use Rattle.fvn_terms.specs.declared.plain.Var.{Var}
 use Rattle.fvn_terms.specs.declared.plain.OpId.{OpId}
-use Rattle.fvn_forms.specs.Flat.{FlatTerm, FlatTerms, fvar, fapp, fnone, fmore, funpack}
+use Rattle.fvn_forms.specs.Flat.{FlatTerm, fvar, fapp, funpack}
 
 -- the variable that the form is
 abbrev pub variable_of : FlatTerm → Option Var

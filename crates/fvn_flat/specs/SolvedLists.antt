@@ -6,7 +6,7 @@ use Rattle.fvn_terms.specs.declared.declarations.Axioms.{Axioms}
 use Rattle.fvn_terms.specs.declared.declarations.Axioms.TheVariants.{Free, Comm, AssocComm, AssocCommId}
 use Rattle.fvn_terms.specs.declared.declarations.Declarations.{Declarations}
 use Rattle.fvn_terms.specs.Term.{Term, Terms, var, app, none, more}
-use Rattle.fvn_terms.specs.Substitution.{Substitution, apply, followed_by, Occurs, same_var}
+use Rattle.fvn_terms.specs.Substitution.{Substitution, followed_by, Occurs, same_var}
 use Rattle.fvn_terms.specs.Signature.{axioms, KeepsKinds}
 use Rattle.fvn_terms.specs.Equality.{IsAssociative, BEqual}
 use Rattle.fvn_terms.specs.Unifiers.{Problem, Solves}

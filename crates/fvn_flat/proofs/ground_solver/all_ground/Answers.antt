@@ -1,5 +1,5 @@
 -- One pair more.
-use Rattle.std.proofs.Common.{rules, ◌<◌, ◌≤◌, length, subst, arith}
+use Rattle.std.proofs.Common.{rules, ◌<◌, ◌≤◌, length, subst}
 use Rattle.std.proofs.lemmas.List.Elements.{All-more}
 use Rattle.fvn_flat.proofs.GroundProblems.{AreGround, all_taken}
 use Rattle.fvn_flat.proofs.ground_solver.all_ground.Goals as goal

@@ -1,5 +1,5 @@
 -- One pair more.
-use Rattle.std.proofs.Common.{rules, ◌≡◌, ◌<◌, ◌≤◌, length, subst, arith}
+use Rattle.std.proofs.Common.{rules, ◌≡◌, ◌<◌, ◌≤◌, length, subst}
 use Rattle.std.proofs.lemmas.List.Elements.{All-more}
 use Rattle.fvn_forms.specs.Flat.{FlatTerm}
 use Rattle.fvn_flat.proofs.GroundProblems.{all_taken}

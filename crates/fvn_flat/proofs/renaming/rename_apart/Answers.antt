@@ -1,6 +1,5 @@
 -- A form has no more variables than symbols, and each is renamed once.
-use Rattle.std.proofs.Common.{◌≡◌, ◌≤◌, ◌+◌, length, sym, ap, ◌∙◌, subst, arith}
-use Rattle.fvn_forms.specs.Flat.{symbols}
+use Rattle.std.proofs.Common.{◌≡◌, ◌+◌, length, sym, ap, ◌∙◌, subst, arith}
 use Rattle.fvn_flat.specs.Bindings.{value, BindsOnce, BindingsFit}
 use Rattle.fvn_flat.specs.Variables.{with_variables, distinct_variables, renaming, RenamesApart}
 use Rattle.fvn_flat.proofs.Renamings.{renaming_binds_once, variables_are_distinct, few_variables, renaming_fits, renaming_apart}

@@ -1,5 +1,5 @@
 -- One more fresh variable.
-use Rattle.std.proofs.Common.{◌≡◌, ◌+◌, false, List, [], ◌∷◌, ◌++◌, take, get_or, sym, ap, ◌∙◌, arith}
+use Rattle.std.proofs.Common.{false, List, [], ◌∷◌, ◌++◌, take, get_or, sym, ap, ◌∙◌, arith}
 use Rattle.fvn_terms.specs.declared.plain.Var.{Var}
 use Rattle.fvn_forms.specs.Flat.{FlatTerm, fvar}
 use Rattle.fvn_flat.specs.Bindings.{Bindings}

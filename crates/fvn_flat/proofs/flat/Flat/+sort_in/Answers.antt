@@ -1,5 +1,5 @@
 -- The sorts of the arguments, and what the operator makes of them.
-use Rattle.std.proofs.Common.{◌≡◌, ◌<◌, ◌++◌, false, [], ◌∷◌, map, length, take, Some, refl, sym, ap, ◌∙◌, arith}
+use Rattle.std.proofs.Common.{◌≡◌, ◌<◌, ◌++◌, false, [], ◌∷◌, map, length, take, Some, sym, ap, ◌∙◌, arith}
 use Rattle.std.proofs.lemmas.List.{take_more_set, take_all, length-set}
 use Rattle.fvn_forms.specs.Ranks.{result}
 use Rattle.fvn_forms.specs.LeastSort.{least_sort}

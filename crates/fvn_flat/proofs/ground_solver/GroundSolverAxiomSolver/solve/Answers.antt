@@ -1,8 +1,6 @@
 -- What holds of the empty substitution, or of none.
-use Rattle.std.proofs.Common.{rules, ◌≡◌, sym, subst, ap}
-use Rattle.std.specs.Prelude.{All, Any, IsTrue, IsFalse, map}
-use Rattle.fvn_flat.specs.Solving.{AreUnifiers, AreBindings, IsNumbered, problem_of, substitution}
-use Rattle.fvn_flat.specs.OneAnswer.{IsCompleteFor}
+use Rattle.std.proofs.Common.{rules}
+use Rattle.std.specs.Prelude.{All, Any, IsTrue, IsFalse}
 use Rattle.fvn_flat.proofs.GroundProblems.{AreGround, Same, Differ, answer_sound, answer_binds, answer_fresh, answer_complete}
 use Rattle.fvn_flat.proofs.ground_solver.GroundSolverAxiomSolver.solve.Goals as goal
 
