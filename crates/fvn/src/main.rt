@@ -1,10 +1,17 @@
 //! The program: it hands the words, standard input and standard output to the top call.
 #![tactic(auto)]
 
+ghost use Rattle.std.specs.Prelude.{◌≡◌, map, string_bytes};
+ghost use Rattle.std.specs.Process.{exit_status};
+ghost use Rattle.fvn_tool.specs.declared.status.Status.{Status as AnyStatus};
+ghost use Rattle.fvn_tool.specs.Statuses.{exit_number};
+ghost use Rattle.fvn_tool.specs.Runs.{seen};
+ghost use Rattle.fvn_tool.specs.Claims.{IsReport};
+
 #[cfg(test)]
 mod tests;
 
-use fvn_outside::{StdSink, StdSource};
+use fvn_outside::{Sink, Source, StdSink, StdSource};
 use fvn_tool::{Status, run};
 use std::alloc::Global;
 use std::env::{self, Env};
@@ -21,17 +28,34 @@ fn words<R: Env + AllocGlobal>(rt: &R) -> io::Result<Vec<String>> {
     Ok(words)
 }
 
+// A run, and the code of its status to exit with.
+fn program<S: Source, K: Sink>(
+    alloc: Global,
+    words: &[String],
+    source: &mut S,
+    out: &mut K,
+) -> ExitCode
+    ensures { (status : AnyStatus) × (exit_status result ≡ exit_number status) × IsReport (record {
+      words = map string_bytes words.now;
+      source = seen S.left S.faults source.old source.new;
+      status = status;
+      sink = seen K.written K.faults out.old out.new;
+    }) }
+{
+    let status = run(alloc, words, source, out);
+    ExitCode::from(status.exit_number())
+}
+
 fn main(rt: HostRuntime) -> ExitCode {
     // Words that are no text are no command.
     let words = match words(&rt) {
         Ok(words) => words,
-        Err(error) if error.kind() == io::ErrorKind::OutOfMemory => return ExitCode::from(
-            Status::NoMemory as u8,
-        ),
+        Err(error) if error.kind() == io::ErrorKind::OutOfMemory => {
+            return ExitCode::from(Status::NoMemory.exit_number());
+        }
         Err(_) => Vec::new(rt.alloc()),
     };
     let mut module = StdSource::new(rt.stdin());
     let mut out = StdSink::new(rt.stdout());
-    let status = run(rt.alloc(), words.as_slice(), &mut module, &mut out);
-    ExitCode::from(status as u8)
+    program(rt.alloc(), words.as_slice(), &mut module, &mut out)
 }

@@ -1,12 +1,23 @@
 //! The program's answers, from the words and the module to the bytes that are written.
+use crate::program;
 use fvn_outside::{MemSink, MemSource};
 use fvn_terms::NoMemory;
 use fvn_tool::{Status, run};
 use std::alloc::Global;
+use std::process::{Abort, ExitCode};
 use std::string::String;
 
 const FREE: &str =
     "fmod FREE is\n  sort S .\n  ops a b : -> S .\n  op p : S S -> S .\n  vars X Y : S .\nendfm\n";
+
+/// A problem whose most general unifier has a term of 1,023 symbols.
+const LARGE: &str = "p(V0:S,p(V1:S,p(V2:S,p(V3:S,p(V4:S,p(V5:S,p(V6:S,p(V7:S,V8:S)))))))) =? \
+        p(p(V1:S,V1:S),p(p(V2:S,V2:S),p(p(V3:S,V3:S),p(p(V4:S,V4:S),p(p(V5:S,V5:S),p(p(V6:S,V6:S),p(p(V7:S,V7:S),p(p(V8:S,V8:S),p(V9:S,V9:S)))))))))";
+
+/// A module whose lines end with carriage returns, and whose names have backquotes.
+const QUOTED: &str =
+    "fmod QUOTED is\r\n  sort S .\r\n  ops a` `( : -> S .\r\n  op s : S -> S .\r\n  \
+    op f` : S S -> S .\r\n  vars X Y : S .\r\nendfm\r\n";
 
 const USAGE: &str = "usage: fvn check|unify|variants|vunify|verify|work\n";
 
@@ -43,8 +54,11 @@ fn failing(alloc: Global, call: u64) -> Result<Vec<u64>, NoMemory> {
     Ok(calls)
 }
 
-/// The status of a run, and what was written.
-fn answer(alloc: Global, setting: &Setting) -> Result<(Status, Vec<u8>), NoMemory> {
+/// The words, the source and the sink of a setting.
+fn outside(
+    alloc: Global,
+    setting: &Setting,
+) -> Result<(Vec<String>, MemSource, MemSink), NoMemory> {
     let mut words = Vec::new(alloc);
     for word in setting.words {
         words.push(String::from_str(alloc, word)?)?;
@@ -52,10 +66,16 @@ fn answer(alloc: Global, setting: &Setting) -> Result<(Status, Vec<u8>), NoMemor
     let bytes = Vec::from_slice(alloc, setting.module)?;
     let reads = failing(alloc, setting.failing_read)?;
     let writes = failing(alloc, setting.failing_write)?;
-    let mut module = MemSource::new(bytes, setting.read_piece.max(1), reads);
-    let Ok(mut out) = MemSink::new(alloc, setting.room, setting.write_piece.max(1), writes) else {
-        return Err(NoMemory);
-    };
+    let module = MemSource::new(bytes, setting.read_piece.max(1), reads);
+    match MemSink::new(alloc, setting.room, setting.write_piece.max(1), writes) {
+        Ok(out) => Ok((words, module, out)),
+        Err(_) => Err(NoMemory),
+    }
+}
+
+/// The status of a run, and what was written.
+fn answer(alloc: Global, setting: &Setting) -> Result<(Status, Vec<u8>), NoMemory> {
+    let (words, mut module, mut out) = outside(alloc, setting)?;
     let status = run(alloc, words.as_slice(), &mut module, &mut out);
     Ok((status, Vec::from_slice(alloc, out.written())?))
 }
@@ -68,7 +88,7 @@ fn undisturbed(alloc: Global, problem: &str) -> Result<(Status, Vec<u8>), NoMemo
 
 #[test]
 fn problems_over_free_operators_are_unified(rt: HostRuntime) -> Result<(), NoMemory> {
-    let solved = [
+    let table = [
         ("p(X,b) =? p(a,Y)", "{X:S --> a, Y:S --> b}"),
         ("X =? X", "{X:S --> #1:S}"),
         ("X =? Y", "{X:S --> #1:S, Y:S --> #1:S}"),
@@ -124,11 +144,8 @@ fn problems_over_free_operators_are_unified(rt: HostRuntime) -> Result<(), NoMem
             "{X:S --> b, Y:S --> b, Z:S --> b, W:S --> b}",
         ),
     ];
-    for (problem, line) in solved {
-        let (status, text) = undisturbed(rt.alloc(), problem)?;
-        assert_eq!(rt; status, Status::Solved, "{problem}");
-        let want = format!(in rt.alloc(); "{line}\ncomplete 1\n")?;
-        assert!(rt; text.as_slice() == want.as_bytes(), "{problem}");
+    for (problem, line) in table {
+        solved(&rt, rt.alloc(), FREE, problem, line)?;
     }
     Ok(())
 }
@@ -189,11 +206,95 @@ fn a_term_of_over_1000_symbols_is_the_bound(rt: HostRuntime) -> Result<(), NoMem
         assert_eq!(rt; status, want, "{last}");
     }
 
-    let large = "p(V0:S,p(V1:S,p(V2:S,p(V3:S,p(V4:S,p(V5:S,p(V6:S,p(V7:S,V8:S)))))))) =? \
-        p(p(V1:S,V1:S),p(p(V2:S,V2:S),p(p(V3:S,V3:S),p(p(V4:S,V4:S),p(p(V5:S,V5:S),p(p(V6:S,V6:S),p(p(V7:S,V7:S),p(p(V8:S,V8:S),p(V9:S,V9:S)))))))))";
-    let (status, text) = undisturbed(rt.alloc(), large)?;
+    let (status, text) = undisturbed(rt.alloc(), LARGE)?;
     assert_eq!(rt; status, Status::Ended);
     assert!(rt; text.as_slice() == b"bound size 1000\n".as_slice());
+    Ok(())
+}
+
+#[test]
+fn each_status_has_its_exit_code(rt: HostRuntime) -> Result<(), NoMemory> {
+    let table = [
+        ("X =? X", FREE, 0, 0, 0u8),
+        ("a =? b", FREE, 0, 0, 1),
+        ("-x", FREE, 0, 0, 2),
+        ("X =? X", "", 0, 0, 3),
+        ("X =?", FREE, 0, 0, 4),
+        (LARGE, FREE, 0, 0, 5),
+        ("X =? X", FREE, 1, 0, 6),
+        ("X =? X", FREE, 0, 1, 7),
+    ];
+    for (problem, module, failing_read, failing_write, code) in table {
+        let words = ["unify", problem];
+        let mut setting = plain(&words, module.as_bytes());
+        setting.failing_read = failing_read;
+        setting.failing_write = failing_write;
+        let (words, mut module, mut out) = outside(rt.alloc(), &setting)?;
+        let code_of_run = program(rt.alloc(), words.as_slice(), &mut module, &mut out);
+        assert!(rt; code_of_run == ExitCode::from(code), "{code}");
+    }
+    Ok(())
+}
+
+// The text of a run that the outside does not disturb, which is to end as solved.
+fn solved(
+    rt: &impl Abort,
+    alloc: Global,
+    module: &str,
+    problem: &str,
+    line: &str,
+) -> Result<(), NoMemory> {
+    let words = ["unify", problem];
+    let (status, text) = answer(alloc, &plain(&words, module.as_bytes()))?;
+    assert_eq!(rt; status, Status::Solved, "{problem}");
+    let want = format!(in alloc; "{line}\ncomplete 1\n")?;
+    assert!(rt; text.as_slice() == want.as_bytes(), "{problem}");
+    Ok(())
+}
+
+#[test]
+fn names_with_backquotes_stand_apart(rt: HostRuntime) -> Result<(), NoMemory> {
+    let table = [
+        ("X =? a`", "{X:S --> a` }"),
+        ("X =? f` (a` ,`()", "{X:S --> f` (a` ,`()}"),
+        ("f` (X,Y) =? f` (a` ,`()", "{X:S --> a` , Y:S --> `(}"),
+        ("s(X) =? s(s(a` ))", "{X:S --> s(a` )}"),
+    ];
+    for (problem, line) in table {
+        solved(&rt, rt.alloc(), QUOTED, problem, line)?;
+    }
+    Ok(())
+}
+
+#[test]
+fn twenty_variables_and_deep_terms_are_solved(rt: HostRuntime) -> Result<(), NoMemory> {
+    let mut left = String::from_str(rt.alloc(), "V20:S")?;
+    let mut right = String::from_str(rt.alloc(), "a")?;
+    let mut line = String::from_str(rt.alloc(), "V20:S --> a}")?;
+    for n in 1..20u32 {
+        let number = 20 - n;
+        left = format!(in rt.alloc(); "p(V{number}:S,{left})")?;
+        right = format!(in rt.alloc(); "p(a,{right})")?;
+        line = format!(in rt.alloc(); "V{number}:S --> a, {line}")?;
+    }
+    let problem = format!(in rt.alloc(); "{left} =? {right}")?;
+    line = format!(in rt.alloc(); "{{{line}")?;
+    solved(&rt, rt.alloc(), FREE, problem.as_str(), line.as_str())?;
+
+    // With X and Y these are 400 symbols; with one more they are too many.
+    let mut open = String::from_str(rt.alloc(), "")?;
+    let mut close = String::from_str(rt.alloc(), "")?;
+    for _ in 0..398u32 {
+        open = format!(in rt.alloc(); "{open}s(")?;
+        close = format!(in rt.alloc(); "{close})")?;
+    }
+    let problem = format!(in rt.alloc(); "X =? {open}Y{close}")?;
+    let line = format!(in rt.alloc(); "{{X:S --> {open}#1:S{close}, Y:S --> #1:S}}")?;
+    solved(&rt, rt.alloc(), QUOTED, problem.as_str(), line.as_str())?;
+    let problem = format!(in rt.alloc(); "X =? s({open}Y{close})")?;
+    let words = ["unify", problem.as_str()];
+    let (status, _text) = answer(rt.alloc(), &plain(&words, QUOTED.as_bytes()))?;
+    assert_eq!(rt; status, Status::ProblemRefused);
     Ok(())
 }
 

@@ -12,7 +12,8 @@ use Rattle.fvn_sorts.specs.declared.fault.Condition.TheVariants.{Kinds, Shape, S
 use Rattle.fvn_sorts.specs.declared.fault.Triple.{Triple}
 use Rattle.fvn_sorts.specs.declared.fault.SigFault.{SigFault}
 use Rattle.fvn_sorts.specs.declared.fault.SigFault.TheVariants.{SortCycle, KindsDiffer, AxiomShape, AxiomsDiffer, IdentityBad, NotPreregular, NotAssocSorts, NotCollapsing, TooMany, NoMemory}
-use Rattle.fvn_sorts.specs.Faults.{HasFault, condition, witness, IsBefore, IsEarlier, HasNoFault}
+use Rattle.fvn_sorts.specs.Faults.{HasFault, condition, witness, IsEarlier, HasNoFault}
+use Rattle.fvn_base.specs.Order.{IsBefore}
 use Rattle.fvn_sorts.specs.Searches.{IsFirstFrom, fault_at, place_of, IsFirstList}
 use Rattle.fvn_sorts.specs.Collected.{op_number, completed}
 use Rattle.fvn_sorts.proofs.ShapeLemmas.{no_rank}

@@ -9,7 +9,8 @@ pub mod Orders
 pub mod Serving
 pub mod ShapeLemmas
 pub mod LowestResults
-pub mod RankSearch
+pub mod PairLemmas
+pub mod ThirdLemmas
 pub mod FaultOrder
 pub mod ResultLemmas
 pub mod GoodFrom

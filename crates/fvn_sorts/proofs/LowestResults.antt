@@ -1,10 +1,9 @@
 -- Least results by ranks, one argument at a time.
-use Rattle.std.proofs.Common.{◌≡◌, ℕ, ◌<◌, ◌≤◌, Bool, true, false, ◌&&◌, List, [], ◌∷◌, ◌++◌, map, length, refl, sym, ap, subst, ◌∙◌, ◌⊎◌, inl, inr, arith, cond, get_or, drop, ◌+◌}
-use Rattle.std.specs.List.{filter, All, range_with_len}
-use Rattle.std.specs.Prelude.{find, is_some}
-use Rattle.std.proofs.lemmas.Bool.{cases_lt}
-use Rattle.std.proofs.lemmas.List.{get_or_past, drop_more, drop_all, ext_get_or, map-id}
-use Rattle.std.proofs.lemmas.List.FromFn.{length-map-range_with_len, get_or-map-range_with_len, map-range_with_len_more}
+use Rattle.std.proofs.Common.{◌≡◌, ℕ, ◌<◌, ◌≤◌, Bool, true, false, ◌&&◌, List, [], ◌∷◌, ◌++◌, map, length, refl, sym, ap, subst, ◌∙◌, ◌⊎◌, inl, inr, arith, cond, get_or, drop, ◌+◌, append_assoc, nat_eq}
+use Rattle.std.specs.List.{filter, All}
+use Rattle.std.specs.Prelude.{find, is_some, Option, Some, None}
+use Rattle.std.proofs.lemmas.Bool.{cases_lt, eqb-true}
+use Rattle.std.proofs.lemmas.List.{get_or_past, append-nil}
 use Rattle.fvn_terms.specs.declared.plain.SortId.{SortId}
 use Rattle.fvn_terms.specs.declared.declarations.Rank.{Rank}
 use Rattle.fvn_terms.specs.declared.declarations.Declarations.{Declarations}
@@ -13,51 +12,28 @@ use Rattle.fvn_forms.specs.SortOrder.{at_or_below}
 use Rattle.fvn_forms.specs.Ranks.{results, is_lowest, pass_together}
 use Rattle.fvn_forms.specs.Good.{IsKinded}
 use Rattle.fvn_forms.specs.SortOrder.{sort_number}
-use Rattle.fvn_sorts.specs.Faults.{IsBefore, sort_numbers}
-use Rattle.fvn_sorts.specs.Searches.{no_rank, takes_first, rest_of, rests, has_lowest, HasNoLowest}
+use Rattle.fvn_base.specs.Order.{IsBefore}
+use Rattle.fvn_sorts.specs.Faults.{sort_numbers}
+use Rattle.fvn_sorts.specs.Searches.{IsFirstList, the_list, advanced_one, advanced, has_lowest, HasNoLowest}
 
-module _ (d : Declarations) where
-  abbrev pub advanced_one : SortId → List SortId → SortId → List Rank
-  advanced_one s [] r = []
-  advanced_one s (a ∷ more) r = cond (at_or_below d s a) (record { args = more; result = r } ∷ []) []
+module _ (d : Declarations) (s : SortId) where
+  -- the ranks one argument further, with one rank more
+  pub advanced-push : (rs : List Rank) (r : Rank) → advanced d s (rs ++ r ∷ []) ≡ advanced d s rs ++ advanced_one d s r.args r.result
+  advanced-push [] r = append-nil (advanced_one d s r.args r.result)
+  advanced-push (q ∷ rs) r = ap (λ l. advanced_one d s q.args q.result ++ l) (advanced-push rs r) ∙ sym (append_assoc (advanced_one d s q.args q.result) (advanced d s rs) (advanced_one d s r.args r.result))
 
-  -- the ranks that take an argument of sort s first, without this argument
-  abbrev pub advanced : SortId → List Rank → List Rank
-  advanced s [] = []
-  advanced s (r ∷ rs) = advanced_one s r.args r.result ++ advanced s rs
+  -- one rank further, by its first argument
+  pub advanced_one-taken : (args : List SortId) (r x : SortId) → 0 < length args → at_or_below d s (get_or args 0 x) ≡ true → advanced_one d s args r ≡ record { args = drop 1 args; result = r } ∷ []
+  advanced_one-taken [] r x l e = absurd (omega arith)
+  advanced_one-taken (a ∷ more) r x l e = ap (λ b. cond b (record { args = more; result = r } ∷ []) []) e
 
--- a list without n and then one of its elements
-pub drop_one : {X : Type 0} (d : X) (n : ℕ) (xs : List X) → drop 1 (drop n xs) ≡ drop (n + 1) xs
-drop_one d n xs = elim (cases_lt n (length xs)) as (λ _. drop 1 (drop n xs) ≡ drop (n + 1) xs) [
-  | inl l ↦ ap (drop 1) (drop_more xs n d l)
-  | inr l ↦ ap (drop 1) (drop_all n xs l) ∙ sym (drop_all (n + 1) xs (omega arith))
-]
+  pub advanced_one-refused : (args : List SortId) (r x : SortId) → 0 < length args → at_or_below d s (get_or args 0 x) ≡ false → advanced_one d s args r ≡ []
+  advanced_one-refused [] r x l e = refl
+  advanced_one-refused (a ∷ more) r x l e = ap (λ b. cond b (record { args = more; result = r } ∷ []) []) e
 
-module _ (d : Declarations) (s : SortId) (rs : List Rank) (n : ℕ) where
-  -- those of the numbers whose rank takes an argument of the sort after n others
-  abbrev pub still_left : List ℕ → List ℕ
-  still_left left = filter (λ i. takes_first d s (drop n (get_or rs i no_rank).args)) left
-
-  rests-one : (i : ℕ) (left fewer : List ℕ) → advanced d s (rests rs n left) ≡ rests rs (n + 1) fewer → (xs : List SortId) → drop n (get_or rs i no_rank).args ≡ xs → advanced_one d s xs (get_or rs i no_rank).result ++ advanced d s (rests rs n left) ≡ rests rs (n + 1) (cond (takes_first d s xs) (i ∷ fewer) fewer)
-  rests-one i left fewer h [] e = h
-  rests-one i left fewer h (a ∷ more) e = go (at_or_below d s a) where
-    shorter : more ≡ drop (n + 1) (get_or rs i no_rank).args
-    shorter = ap (drop 1) (sym e) ∙ drop_one s n (get_or rs i no_rank).args
-
-    go : (b : Bool) → cond b (record { args = more; result = (get_or rs i no_rank).result } ∷ []) [] ++ advanced d s (rests rs n left) ≡ rests rs (n + 1) (cond b (i ∷ fewer) fewer)
-    go false = h
-    go true = ap (λ (l : List SortId). record { args = l; result = (get_or rs i no_rank).result } ∷ advanced d s (rests rs n left)) shorter ∙ ap (λ l. rest_of (n + 1) (get_or rs i no_rank) ∷ l) h
-
-  -- the ranks of these numbers, one argument further
-  pub advanced-rests : (left : List ℕ) → advanced d s (rests rs n left) ≡ rests rs (n + 1) (still_left left)
-  advanced-rests [] = refl
-  advanced-rests (i ∷ left) = rests-one i left (still_left left) (advanced-rests left) (drop n (get_or rs i no_rank).args) refl
-
--- with the numbers of all ranks and no argument gone, the ranks themselves are left
-pub rests-all : (rs : List Rank) → rests rs 0 (range_with_len 0 (length rs)) ≡ rs
-rests-all rs = ext_get_or no_rank (rests rs 0 (range_with_len 0 (length rs))) rs long (λ i l. let m : i < length rs = subst (λ n. i < n) long l in get_or-map-range_with_len (λ n. rest_of 0 (get_or rs n no_rank)) 0 (length rs) i i no_rank m (omega arith)) where
-  long : length (rests rs 0 (range_with_len 0 (length rs))) ≡ length rs
-  long = length-map-range_with_len (λ n. rest_of 0 (get_or rs n no_rank)) 0 (length rs)
+  pub advanced_one-none : (args : List SortId) (r : SortId) → length args ≡ 0 → advanced_one d s args r ≡ []
+  advanced_one-none [] r e = refl
+  advanced_one-none (a ∷ more) r e = absurd (omega arith)
 
 module _ (d : Declarations) where
   kept : (args : List SortId) (r : Rank) (rest : List Rank) → filter (λ (p : Rank). pass_together (at_or_below d) args p.args) (r ∷ rest) ≡ cond (pass_together (at_or_below d) args r.args) (r ∷ filter (λ (p : Rank). pass_together (at_or_below d) args p.args) rest) (filter (λ (p : Rank). pass_together (at_or_below d) args p.args) rest)
@@ -112,24 +88,37 @@ module _ (d : Declarations) where
     go (inl l) = l
     go (inr l) = absurd (let own : s ≡ k = sym (get_or_past d.kinds s.0 s l) ∙ e in let same : s.0 ≡ k.0 = ap (λ (z : SortId). z.0) own in omega arith)
 
-  module _ (ks : List SortId) (rs : List Rank) (some : 0 < length ks) where
-    abbrev pub NoneBefore : ℕ → Type 0
-    NoneBefore n = (q : SortId) → q.0 < n → kind d q ≡ get_or ks 0 q → (ss : List SortId) → HasNoLowest d (drop 1 ks) (advanced d q rs) ss → ⊥
+  -- no sort before number n begins sorts of the kinds without a least result
+  abbrev pub NoneBefore : List SortId → List Rank → ℕ → Type 0
+  NoneBefore ks rs n = (q : SortId) → q.0 < n → kind d q ≡ get_or ks 0 q → (ss : List SortId) → HasNoLowest d (drop 1 ks) (advanced d q rs) ss → ⊥
 
-    pub first_with_head : (s : ℕ) (list : List SortId) → kind d (sort_number s) ≡ get_or ks 0 (sort_number s) → HasNoLowest d (drop 1 ks) (advanced d (sort_number s) rs) list × ((b : List SortId) → IsBefore (sort_numbers b) (sort_numbers list) → HasNoLowest d (drop 1 ks) (advanced d (sort_number s) rs) b → ⊥) → NoneBefore s → HasNoLowest d ks rs (sort_number s ∷ list) × ((b : List SortId) → IsBefore (sort_numbers b) (sort_numbers (sort_number s ∷ list)) → HasNoLowest d ks rs b → ⊥)
+  module _ (ks : List SortId) (rs : List Rank) (some : 0 < length ks) where
+    pub first_with_head : (s : ℕ) (list : List SortId) → kind d (sort_number s) ≡ get_or ks 0 (sort_number s) → HasNoLowest d (drop 1 ks) (advanced d (sort_number s) rs) list × ((b : List SortId) → IsBefore (sort_numbers b) (sort_numbers list) → HasNoLowest d (drop 1 ks) (advanced d (sort_number s) rs) b → ⊥) → NoneBefore ks rs s → HasNoLowest d ks rs (sort_number s ∷ list) × ((b : List SortId) → IsBefore (sort_numbers b) (sort_numbers (sort_number s ∷ list)) → HasNoLowest d ks rs b → ⊥)
     first_with_head s list of first before = (from_head ks rs (sort_number s) list some of first.0, smaller) where
       smaller : (b : List SortId) → IsBefore (sort_numbers b) (sort_numbers (sort_number s ∷ list)) → HasNoLowest d ks rs b → ⊥
       smaller [] earlier w = no_head ks rs some w
       smaller (q ∷ qs) (inl l) w = let p = with_head ks rs q qs w in before q l p.0 qs p.1
       smaller (q ∷ qs) (inr h) w = let p = with_head ks rs q qs w in first.1 qs h.1 (subst (λ n. HasNoLowest d (drop 1 ks) (advanced d (sort_number n) rs) qs) h.0 p.1)
 
-    pub none_more_head : (s : ℕ) → NoneBefore s → ((ss : List SortId) → HasNoLowest d (drop 1 ks) (advanced d (sort_number s) rs) ss → ⊥) → NoneBefore (s + 1)
+    pub none_more_head : (s : ℕ) → NoneBefore ks rs s → ((ss : List SortId) → HasNoLowest d (drop 1 ks) (advanced d (sort_number s) rs) ss → ⊥) → NoneBefore ks rs (s + 1)
     none_more_head s before here q l e ss w = go (cases_lt q.0 s) where
       go : (q.0 < s) ⊎ (s ≤ q.0) → ⊥
       go (inl m) = before q m e ss w
       go (inr m) = let same : q.0 ≡ s = omega arith in here ss (subst (λ n. HasNoLowest d (drop 1 ks) (advanced d (sort_number n) rs) ss) same w)
 
-    pub none_at_end : IsKinded d → (total : ℕ) → total ≡ length d.kinds → All (λ k. k.0 < total) ks → NoneBefore total → (a : List SortId) → HasNoLowest d ks rs a → ⊥
+    -- the same of lists that are known to be these
+    module _ (s : ℕ) (kinds : List SortId) (rest : List Rank) (later : kinds ≡ drop 1 ks) (fewer : rest ≡ advanced d (sort_number s) rs) where
+      pub first_found : (r : Option (List SortId)) (list : List SortId) → r ≡ Some list → IsFirstList the_list (HasNoLowest d kinds rest) r → kind d (sort_number s) ≡ get_or ks 0 (sort_number s) → NoneBefore ks rs s → IsFirstList the_list (HasNoLowest d ks rs) (Some (sort_number s ∷ list))
+      first_found r list is h e before =
+          let found : IsFirstList the_list (HasNoLowest d kinds rest) (Some list) = subst (IsFirstList the_list (HasNoLowest d kinds rest)) is h in
+          first_with_head s list e (subst (λ l. IsFirstList the_list (HasNoLowest d (drop 1 ks) l) (Some list)) fewer (subst (λ l. IsFirstList the_list (HasNoLowest d l rest) (Some list)) later found)) before
+
+      pub none_found : (r : Option (List SortId)) → r ≡ None → IsFirstList the_list (HasNoLowest d kinds rest) r → NoneBefore ks rs s → NoneBefore ks rs (s + 1)
+      none_found r is h before =
+          let none : (a : List SortId) → HasNoLowest d kinds rest a → ⊥ = subst (IsFirstList the_list (HasNoLowest d kinds rest)) is h in
+          none_more_head s before (λ a w. none a (subst (λ l. HasNoLowest d kinds l a) (sym fewer) (subst (λ l. HasNoLowest d l (advanced d (sort_number s) rs) a) (sym later) w)))
+
+    pub none_at_end : IsKinded d → (total : ℕ) → total ≡ length d.kinds → All (λ k. k.0 < total) ks → NoneBefore ks rs total → (a : List SortId) → HasNoLowest d ks rs a → ⊥
     none_at_end kinded total long listed before [] w = no_head ks rs some w
     none_at_end kinded total long listed before (q ∷ qs) w =
         let p = with_head ks rs q qs w in
@@ -137,6 +126,7 @@ module _ (d : Declarations) where
         let within : q.0 < length d.kinds = of_kind_listed kinded (get_or ks 0 q) q (let n : (get_or ks 0 q).0 < length d.kinds = omega arith in n) p.0 in
         before q (omega arith) p.0 qs p.1
 
--- the first numbers, one number more
-pub numbers-more : (n : ℕ) → range_with_len 0 (n + 1) ≡ range_with_len 0 n ++ n ∷ []
-numbers-more n = sym (map-id (range_with_len 0 (n + 1))) ∙ map-range_with_len_more (λ k. k) 0 n n (omega arith) ∙ ap (λ l. l ++ n ∷ []) (map-id (range_with_len 0 n))
+-- a list without length has no elements
+pub nil : (ks : List SortId) → true ≡ nat_eq (length ks) 0 → ks ≡ []
+nil [] e = refl
+nil (k ∷ ks) e = absurd (let l : length (k ∷ ks) ≡ 0 = eqb-true (length (k ∷ ks)) 0 (sym e) in omega arith)

@@ -9,6 +9,7 @@ use Rattle.fvn_terms.specs.Equality.{IsCommutative, IsAssociative, constant}
 use Rattle.fvn_forms.specs.Ranks.{IsResult}
 use Rattle.fvn_forms.specs.FitsKinds.{HaveOneKind, TakesTwoAlike, TakesTwoOfItsKind}
 use Rattle.fvn_forms.specs.Good.{TakesKinds, IsOfKind, Associates, Collapses}
+use Rattle.fvn_base.specs.Order.{IsBefore, IsFirst}
 use Rattle.fvn_sorts.specs.declared.collected.Declaration.{Declaration}
 use Rattle.fvn_sorts.specs.declared.fault.SigFault.{SigFault}
 use Rattle.fvn_sorts.specs.declared.fault.SigFault.TheVariants.{SortCycle, KindsDiffer, AxiomShape, AxiomsDiffer, IdentityBad, NotPreregular, NotAssocSorts, NotCollapsing, TooMany, NoMemory}
@@ -104,19 +105,8 @@ witness (NotAssocSorts f s q r) = f.0 ∷ sort_numbers (s ∷ q ∷ r ∷ [])
 witness (NotCollapsing f s) = f.0 ∷ sort_numbers (s ∷ [])
 witness NoMemory = []
 
--- lexicographic order
-abbrev pub IsBefore : List ℕ → List ℕ → Type 0
-IsBefore [] [] = ⊥
-IsBefore [] (y ∷ ys) = Unit {0}
-IsBefore (x ∷ xs) [] = ⊥
-IsBefore (x ∷ xs) (y ∷ ys) = (x < y) ⊎ ((x ≡ y) × IsBefore xs ys)
-
 abbrev pub IsEarlier : SigFault → SigFault → Type 0
 IsEarlier j k = IsBefore (condition j ∷ witness j) (condition k ∷ witness k)
-
--- x has the property, and nothing that comes before it has
-abbrev pub IsFirst : {A : Type 0} → (A → A → Type 0) → (A → Type 0) → A → Type 0
-IsFirst {A} Before P x = P x × ((y : A) → Before y x → P y → ⊥)
 
 -- the first fault of what was collected
 abbrev pub IsFirstFault : Collected → SigFault → Type 0

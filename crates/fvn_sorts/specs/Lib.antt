@@ -4,5 +4,6 @@ pub mod Words
 pub mod Drafts
 pub mod Queries
 pub mod Searches
+pub mod Pairs
 pub mod Joined
 pub mod Laws

@@ -1,11 +1,11 @@
 -- What the searches for the first sorts that break a condition find.
-use Rattle.std.specs.Prelude.{◌≡◌, ◌≤◌, ◌<◌, ℕ, Bool, Option, MatchOption, false, List, [], ◌∷◌, map, drop, slice_index_or, is_some, find}
+use Rattle.std.specs.Prelude.{◌≡◌, ◌≤◌, ◌<◌, ℕ, Bool, Option, MatchOption, false, cond, List, [], ◌∷◌, ◌++◌, map, is_some, find}
 use Rattle.fvn_terms.specs.declared.plain.OpId.{OpId}
 use Rattle.fvn_terms.specs.declared.plain.SortId.{SortId}
 use Rattle.fvn_terms.specs.declared.declarations.Rank.{Rank}
 use Rattle.fvn_terms.specs.declared.declarations.Declarations.{Declarations}
 use Rattle.fvn_terms.specs.Signature.{kind, declared}
-use Rattle.fvn_forms.specs.SortOrder.{sort_number, at_or_below}
+use Rattle.fvn_forms.specs.SortOrder.{at_or_below}
 use Rattle.fvn_forms.specs.Ranks.{results, is_lowest}
 use Rattle.fvn_forms.specs.FitsKinds.{HaveOneKind}
 use Rattle.fvn_forms.specs.Good.{Associates, Collapses}
@@ -15,9 +15,9 @@ use Rattle.fvn_sorts.specs.declared.fault.Condition.TheVariants.{Kinds, Shape, S
 use Rattle.fvn_sorts.specs.declared.fault.SigFault.{SigFault}
 use Rattle.fvn_sorts.specs.declared.fault.SigFault.TheVariants.{KindsDiffer, AxiomShape, AxiomsDiffer, IdentityBad}
 use Rattle.fvn_sorts.specs.declared.fault.Triple.{Triple}
-use Rattle.fvn_sorts.specs.declared.fault.Passed.{Passed}
 use Rattle.fvn_sorts.specs.Collected.{completed}
-use Rattle.fvn_sorts.specs.Faults.{Differ, HasFault, condition, IsBefore, sort_numbers, IsEarlier}
+use Rattle.fvn_sorts.specs.Faults.{Differ, HasFault, condition, sort_numbers, IsEarlier}
+use Rattle.fvn_base.specs.Order.{IsBefore}
 
 -- the first fault among those of the conditions from n up to m
 abbrev pub IsFirstFrom : Collected → ℕ → ℕ → Option SigFault → Type 0
@@ -78,23 +78,16 @@ module _ (d : Declarations) (f : OpId) where
   abbrev pub DoesNotCollapse : OpId → SortId → SortId → Type 0
   DoesNotCollapse e k s = (kind d s ≡ k) × (Collapses d f e s → ⊥)
 
--- what stands for a rank that is not listed: without arguments, to sort 0
-abbrev pub no_rank : Rank
-no_rank = record { args = []; result = sort_number 0 }
-
--- the rank without its first n arguments
-abbrev pub rest_of : ℕ → Rank → Rank
-rest_of n r = record { args = drop n r.args; result = r.result }
-
--- the ranks of these numbers, without their first n arguments
-abbrev pub rests : List Rank → ℕ → List ℕ → List Rank
-rests rs n left = map (λ i. rest_of n (slice_index_or rs i no_rank)) left
-
 module _ (d : Declarations) where
-  -- whether a rank with these arguments takes one of sort s as its first; with none it takes nothing
-  abbrev pub takes_first : SortId → List SortId → Bool
-  takes_first s [] = false
-  takes_first s (a ∷ more) = at_or_below d s a
+  -- the rank with these arguments one argument further, where it takes one of sort s first
+  abbrev pub advanced_one : SortId → List SortId → SortId → List Rank
+  advanced_one s [] r = []
+  advanced_one s (a ∷ more) r = cond (at_or_below d s a) (record { args = more; result = r } ∷ []) []
+
+  -- the ranks that take an argument of sort s first, without this argument
+  abbrev pub advanced : SortId → List Rank → List Rank
+  advanced s [] = []
+  advanced s (r ∷ rs) = advanced_one s r.args r.result ++ advanced s rs
 
   -- whether arguments of these sorts have a least result by these ranks
   abbrev pub has_lowest : List Rank → List SortId → Bool
@@ -103,7 +96,3 @@ module _ (d : Declarations) where
   -- these sorts have these kinds, and no least result by these ranks
   abbrev pub HasNoLowest : List SortId → List Rank → List SortId → Type 0
   HasNoLowest ks rs ss = (map (kind d) ss ≡ ks) × (has_lowest rs ss ≡ false)
-
-  -- from the place on, no sorts of the kinds are without a least result by the ranks that are left
-  abbrev pub HaveAllLowest : List SortId → List Rank → Passed → Type 0
-  HaveAllLowest ks rs p = (ss : List SortId) → HasNoLowest (drop p.place ks) (rests rs p.place p.left) ss → ⊥

@@ -42,6 +42,20 @@ impl SignatureBuilder {
         }
     }
 
+    /// The number of sorts so far.
+    pub fn sort_count(&self) -> u16
+        ensures { result ≡ self.now.sorts }
+    {
+        self.collected.sorts
+    }
+
+    /// The number of operators so far.
+    pub fn op_count(&self) -> u16
+        ensures { result ≡ self.now.operators }
+    {
+        self.collected.operators
+    }
+
     /// One more sort, with the next number.
     pub fn sort(self) -> Result<SignatureBuilder, NoMemory>
         requires { self.sorts < 32767 }

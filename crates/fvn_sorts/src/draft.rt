@@ -63,7 +63,7 @@ impl Draft {
     }
 
     /// Whether the rank takes arguments of these sorts.
-    fn serves(&self, args: &[SortId], rank: &[SortId]) -> bool
+    pub fn serves(&self, args: &[SortId], rank: &[SortId]) -> bool
         requires { IsDraft self.now }
         ensures { result ≡ pass_together (at_or_below self.now.declarations) args.now rank.now }
     {

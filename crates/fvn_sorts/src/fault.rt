@@ -55,11 +55,3 @@ pub struct Triple {
     pub second: SortId,
     pub third: SortId,
 }
-
-/// A place among the arguments, and numbers of ranks by which all sorts from there on have a least
-/// result.
-#[derive(Drop)]
-pub struct Passed {
-    pub place: usize,
-    pub left: Seq<usize>,
-}

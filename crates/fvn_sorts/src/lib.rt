@@ -14,6 +14,7 @@ mod finish;
 mod kinds;
 mod laws;
 mod making;
+mod pairs;
 mod preregular;
 mod ranks;
 mod shapes;
@@ -22,8 +23,6 @@ mod sorting;
 mod stages;
 mod subsorts;
 mod tables;
-#[cfg(test)]
-mod tests;
 
 pub use builder::SignatureBuilder;
 pub use collected::{Collected, Declaration};

@@ -1,127 +1,122 @@
-//! Whether arguments of all sorts have a least result.
-ghost use Rattle.std.specs.Prelude.{◌≡◌, ◌↔◌, ◌<◌, ◌≤◌, [], ◌∷◌, All, Any, IsTrue, IfOk, OnOk, drop, filter, length, slice_index_or};
-ghost use Rattle.std.specs.List.{range_with_len};
+//! Whether arguments of all sorts have a least result, and the first without one.
+ghost use Rattle.std.specs.Prelude.{◌≡◌, ◌<◌, [], ◌∷◌, ℕ, All, Any, IsTrue, IfOk, length};
+ghost use Rattle.fvn_terms.specs.declared.declarations.Rank.{Rank};
 ghost use Rattle.fvn_sorts.specs.Drafts.{IsDraft};
-ghost use Rattle.fvn_sorts.specs.Searches.{
-  IsFirstList,
-  the_list,
-  no_rank,
-  takes_first,
-  rest_of,
-  rests,
-  HasNoLowest,
-  HaveAllLowest,
-};
+ghost use Rattle.fvn_sorts.specs.Searches.{IsFirstList, the_list, advanced_one, advanced, HasNoLowest};
+ghost use Rattle.fvn_sorts.specs.Pairs.{rank_at, Take, HaveThird, HaveLowest};
 
 use crate::draft::Draft;
-use crate::fault::Passed;
+use crate::pairs::have_third;
+use crate::ranks::appended;
 use fvn_base::Seq;
 use fvn_terms::{NoMemory, Rank, SortId};
 use std::alloc::{AllocError, AllocFailed, Global};
 
-/// Whether the rank of this number takes an argument of the sort at the place.
-fn takes(draft: &Draft, ranks: &[Rank], number: usize, place: usize, s: SortId) -> bool
+/// Whether the rank takes arguments of these kinds.
+fn takes(draft: &Draft, rank: &Rank, kinds: &[SortId]) -> bool
     requires { IsDraft draft.now }
-    ensures { result ≡ takes_first draft.now.declarations s (drop place (slice_index_or ranks.now number no_rank).args) }
+    ensures { IsTrue result → Take draft.now.declarations rank.now.args kinds.now }
 {
-    let args = match ranks.get(number) {
-        Some(rank) => rank.args.as_slice(),
-        None => return false,
-    };
-    match args.get(place) {
-        Some(sort) => draft.is_at_or_below(s, *sort),
-        None => false,
-    }
+    draft.serves(kinds, rank.args.as_slice())
 }
 
-/// Those of the ranks of these numbers that take an argument of the sort at the place.
-fn still_left(
-    alloc: Global,
-    draft: &Draft,
-    ranks: &[Rank],
-    place: usize,
-    s: SortId,
-    left: &[usize],
-) -> Result<Vec<usize>, NoMemory>
+/// Whether one of the ranks takes arguments of these kinds.
+fn one_takes(draft: &Draft, ranks: &[Rank], kinds: &[SortId]) -> bool
     requires { IsDraft draft.now }
-    ensures { IfOk result (λ v. v.items ≡ filter (λ n. takes_first draft.now.declarations s (drop place (slice_index_or ranks.now n no_rank).args)) left.now) }
+    ensures { IsTrue result → Any (λ r. Take draft.now.declarations r.args kinds.now) ranks.now }
 {
-    let mut list = Vec::with_capacity(alloc, left.len())?;
-    for number in left {
-        if takes(draft, ranks, *number, place, s) {
-            list.push(*number)?;
-        }
-    }
-    Ok(list)
-}
-
-/// The rank without its first arguments.
-fn rest_of(alloc: Global, rank: &Rank, place: usize) -> Result<Rank, NoMemory>
-    ensures { IfOk result (λ r. r ≡ rest_of place rank.now) }
-{
-    let args = match rank.args.as_slice().get(place..) {
-        Some(args) => Vec::from_slice(alloc, args)?,
-        None => Vec::new(alloc),
-    };
-    Ok(Rank {
-        args: Seq::from_vec(args),
-        result: rank.result,
-    })
-}
-
-/// The ranks of these numbers, without their first arguments.
-fn rests(alloc: Global, ranks: &[Rank], place: usize, left: &[usize]) -> Result<Vec<Rank>, NoMemory>
-    ensures { IfOk result (λ v. v.items ≡ rests ranks.now place left.now) }
-{
-    let mut list = Vec::new(alloc);
-    for number in left {
-        match ranks.get(*number) {
-            Some(rank) => list.push(rest_of(alloc, rank, place)?)?,
-            None => list.push(Rank {
-                args: Seq::new(alloc),
-                result: SortId(0),
-            })?,
-        }
-    }
-    Ok(list)
-}
-
-/// The numbers below `count`.
-fn numbers(alloc: Global, count: usize) -> Result<Vec<usize>, NoMemory>
-    ensures { IfOk result (λ v. v.items ≡ range_with_len 0 count) }
-{
-    let mut list = Vec::new(alloc);
-    for number in 0..count {
-        list.push(number)?;
-    }
-    Ok(list)
-}
-
-fn are_same(some: &[usize], others: &[usize]) -> bool
-    ensures { IsTrue result ↔ (some.now ≡ others.now) }
-{
-    some == others
-}
-
-/// Whether these ranks have passed already at the place.
-fn is_known(passed: &[Passed], place: usize, left: &[usize]) -> bool
-    ensures { IsTrue result ↔ Any (λ p. (p.place ≡ place) × (p.left ≡ left.now)) passed.now }
-{
-    for entry in passed {
-        if entry.place == place && are_same(entry.left.as_slice(), left) {
+    for rank in ranks {
+        if takes(draft, rank, kinds) {
             return true;
         }
     }
     false
 }
 
-fn remembered(place: usize, left: Vec<usize>) -> Passed
-    ensures { result ≡ record { place = place; left = left.items } }
+/// Whether the rank and each before it have a third.
+fn have_thirds(
+    alloc: Global,
+    draft: &Draft,
+    ranks: &[Rank],
+    number: usize,
+) -> Result<bool, NoMemory>
+    requires draft { IsDraft draft.now }
+    requires number { number < length ranks.now }
+    ensures { IfOk result (λ b. IsTrue b → (i : ℕ) → i < number → HaveThird draft.now.declarations ranks.now (rank_at ranks.now number) (rank_at ranks.now i)) }
 {
-    Passed {
-        place,
-        left: Seq::from_vec(left),
+    for earlier in 0..number {
+        if !have_third(alloc, draft, ranks, &ranks[number], &ranks[earlier])? {
+            return Ok(false);
+        }
     }
+    Ok(true)
+}
+
+/// Whether any two of the ranks have a third.
+fn all_have_thirds(alloc: Global, draft: &Draft, ranks: &[Rank]) -> Result<bool, NoMemory>
+    requires { IsDraft draft.now }
+    ensures { IfOk result (λ b. IsTrue b → (j : ℕ) → j < length ranks.now → (i : ℕ) → i < j → HaveThird draft.now.declarations ranks.now (rank_at ranks.now j) (rank_at ranks.now i)) }
+{
+    for number in 0..ranks.len() {
+        if !have_thirds(alloc, draft, ranks, number)? {
+            return Ok(false);
+        }
+    }
+    Ok(true)
+}
+
+/// Whether sorts of the kinds all have a least result by the ranks.
+///
+/// They have where one rank takes the kinds, and sorts that any two ranks take are taken by a third with a
+/// result at or below both: of finitely many results one is then at or below all.
+fn have_lowest(
+    alloc: Global,
+    draft: &Draft,
+    kinds: &[SortId],
+    ranks: &[Rank],
+) -> Result<bool, NoMemory>
+    requires draft { IsDraft draft.now }
+    requires listed { All (λ k. k.0 < draft.now.total) kinds.now }
+    ensures { IfOk result (λ b. IsTrue b → HaveLowest draft.now.declarations kinds.now ranks.now) }
+{
+    if !one_takes(draft, ranks, kinds) {
+        return Ok(false);
+    }
+    let all = all_have_thirds(alloc, draft, ranks)?;
+    Ok(all)
+}
+
+/// The rank one argument further, where it takes one of the sort first.
+fn advanced_one(alloc: Global, draft: &Draft, s: SortId, rank: &Rank) -> Result<Vec<Rank>, NoMemory>
+    requires { IsDraft draft.now }
+    ensures { IfOk result (λ v. v.items ≡ advanced_one draft.now.declarations s rank.now.args rank.now.result) }
+{
+    let mut list = Vec::new(alloc);
+    let args = rank.args.as_slice();
+    if args.is_empty() {
+        return Ok(list);
+    }
+    if draft.is_at_or_below(s, args[0]) {
+        let more = Vec::from_slice(alloc, &args[1..])?;
+        list.push(Rank {
+            args: Seq::from_vec(more),
+            result: rank.result,
+        })?;
+    }
+    Ok(list)
+}
+
+/// The ranks that take an argument of the sort first, without this argument.
+fn advanced(alloc: Global, draft: &Draft, s: SortId, ranks: &[Rank]) -> Result<Vec<Rank>, NoMemory>
+    requires { IsDraft draft.now }
+    ensures { IfOk result (λ v. v.items ≡ advanced draft.now.declarations s ranks.now) }
+{
+    let mut all = Vec::new(alloc);
+    for rank in ranks {
+        let more = advanced_one(alloc, draft, s, rank)?;
+        all = appended(all, more)?;
+    }
+    Ok(all)
 }
 
 fn preceded(alloc: Global, s: SortId, list: Seq<SortId>) -> Result<Seq<SortId>, NoMemory>
@@ -146,56 +141,10 @@ fn at_the_end(alloc: Global, draft: &Draft, ranks: &[Rank]) -> Option<Seq<SortId
     }
 }
 
-/// The first sorts of the kinds from the place on that have no least result by the ranks left.
-///
-/// Which ranks are left after some arguments decides all that follows, so the same ranks are gone
-/// through once at each place: `passed` has those that are known to fail nowhere.
-fn first_from(
-    alloc: Global,
-    draft: &Draft,
-    kinds: &[SortId],
-    ranks: &[Rank],
-    place: usize,
-    left: &[usize],
-    passed: &mut Vec<Passed>,
-) -> Result<Option<Seq<SortId>>, NoMemory>
-    requires draft { IsDraft draft.now }
-    requires listed { All (λ k. k.0 < draft.now.total) kinds.now }
-    requires place { place ≤ length kinds.now }
-    requires passed { All (HaveAllLowest draft.now.declarations kinds.now ranks.now) passed.old.items }
-    ensures passed { OnOk result (All (HaveAllLowest draft.now.declarations kinds.now ranks.now) passed.new.items) }
-    ensures first { IfOk result (IsFirstList the_list (HasNoLowest draft.now.declarations (drop place kinds.now) (rests ranks.now place left.now))) }
-{
-    if place == kinds.len() {
-        let rest = rests(alloc, ranks, place, left)?;
-        return Ok(at_the_end(alloc, draft, rest.as_slice()));
-    }
-    for s in 0..draft.total {
-        if draft.declarations.kind(SortId(s)) != kinds[place] {
-            continue;
-        }
-        let rest = still_left(alloc, draft, ranks, place, SortId(s), left)?;
-        if is_known(passed.as_slice(), place + 1, rest.as_slice()) {
-            continue;
-        }
-        match first_from(
-            alloc,
-            draft,
-            kinds,
-            ranks,
-            place + 1,
-            rest.as_slice(),
-            passed,
-        )? {
-            Some(list) => return Ok(Some(preceded(alloc, SortId(s), list)?)),
-            None => {}
-        }
-        passed.push(remembered(place + 1, rest))?;
-    }
-    Ok(None)
-}
-
 /// The first sorts of the kinds that have no least result by the ranks.
+///
+/// Where some have none, the first sort with which such sorts begin is found by asking the same of the
+/// ranks that take it.
 pub fn first_without(
     alloc: Global,
     draft: &Draft,
@@ -206,8 +155,21 @@ pub fn first_without(
     requires listed { All (λ k. k.0 < draft.now.total) kinds.now }
     ensures { IfOk result (IsFirstList the_list (HasNoLowest draft.now.declarations kinds.now ranks.now)) }
 {
-    let all = numbers(alloc, ranks.len())?;
-    let mut passed = Vec::new(alloc);
-    let found = first_from(alloc, draft, kinds, ranks, 0, all.as_slice(), &mut passed)?;
-    Ok(found)
+    if have_lowest(alloc, draft, kinds, ranks)? {
+        return Ok(None);
+    }
+    if kinds.is_empty() {
+        return Ok(at_the_end(alloc, draft, ranks));
+    }
+    for s in 0..draft.total {
+        if draft.declarations.kind(SortId(s)) != kinds[0] {
+            continue;
+        }
+        let rest = advanced(alloc, draft, SortId(s), ranks)?;
+        match first_without(alloc, draft, &kinds[1..], rest.as_slice())? {
+            Some(list) => return Ok(Some(preceded(alloc, SortId(s), list)?)),
+            None => {}
+        }
+    }
+    Ok(None)
 }

@@ -79,7 +79,8 @@ fn swapped(alloc: Global, ranks: &[Rank]) -> Result<Vec<Rank>, NoMemory>
     Ok(all)
 }
 
-fn appended(list: Vec<Rank>, more: Vec<Rank>) -> Result<Vec<Rank>, NoMemory>
+/// The ranks, and the others after them.
+pub fn appended(list: Vec<Rank>, more: Vec<Rank>) -> Result<Vec<Rank>, NoMemory>
     ensures { IfOk result (λ v. v.items ≡ list.items ++ more.items) }
 {
     let mut all = list;

@@ -73,6 +73,14 @@ pub record IsTermBefore (rest ps : List Piece) : Type 0 where
   pub ends : EndsBefore rest term
   pub spelled : ps ≡ spell term ++ rest
 
+-- where these pieces begin with a term, the rest is left behind it
+abbrev pub LeavesOnly : (rest ps : List Piece) → Type 0
+LeavesOnly rest ps = (other : List Piece) → IsTermBefore other ps → other ≡ rest
+
+-- these pieces begin with no term
+abbrev pub BeginsWithNoTerm : List Piece → Type 0
+BeginsWithNoTerm ps = (rest : List Piece) → IsTermBefore rest ps → ⊥
+
 -- these pieces are a sort and then the rest
 pub record IsSortBefore (rest ps : List Piece) : Type 0 where
   pub sort : RawSort

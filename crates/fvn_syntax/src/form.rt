@@ -1,8 +1,7 @@
 //! Where a written term ends, by its form alone, with the parentheses that are open on a stack.
-ghost use Rattle.std.specs.Prelude.{◌≡◌, ◌≤◌, [], ◌∷◌, length, take, drop, reverse, option_map, List, IfOk, IfSome, IfNone};
-ghost use Rattle.fvn_lex.specs.Cut.{Piece as LexPiece};
+ghost use Rattle.std.specs.Prelude.{◌≡◌, ◌≤◌, [], ◌∷◌, length, take, drop, reverse, option_map, IfOk, IfSome, IfNone};
 ghost use Rattle.fvn_syntax.specs.Pieces.{is_colon_name};
-ghost use Rattle.fvn_syntax.specs.Raw.{IsTermBefore};
+ghost use Rattle.fvn_syntax.specs.Raw.{IsTermBefore, LeavesOnly, BeginsWithNoTerm};
 ghost use Rattle.fvn_syntax.specs.declared.form.Spot.TheVariants.{Wanted};
 ghost use Rattle.fvn_syntax.specs.inner.Form.{Goes, view, behind, step, is_whole, left_behind};
 
@@ -170,8 +169,8 @@ pub fn skip_term(alloc: Global, row: &[Piece<'_>]) -> Result<Option<usize>, NoMe
     ensures within { IfOk result (λ r. IfSome r (λ n. n ≤ length row.now)) }
     ensures term { IfOk result (λ r. IfSome r (λ n. IsTermBefore (drop n row.now) row.now)) }
     ensures alone { IfOk result (λ r. IfSome r (λ n. IsTermBefore [] (take n row.now))) }
-    ensures only { IfOk result (λ r. IfSome r (λ n. (rest : List LexPiece) → IsTermBefore rest row.now → rest ≡ drop n row.now)) }
-    ensures none { IfOk result (λ r. IfNone r ((rest : List LexPiece) → IsTermBefore rest row.now → ⊥)) }
+    ensures only { IfOk result (λ r. IfSome r (λ n. LeavesOnly (drop n row.now) row.now)) }
+    ensures none { IfOk result (λ r. IfNone r (BeginsWithNoTerm row.now)) }
 {
     let taken = skip(alloc, row)?;
     Ok(taken)

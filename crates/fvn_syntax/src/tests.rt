@@ -2,8 +2,8 @@
 use crate::piece::Text;
 use crate::sorts::RawSort;
 use crate::{
-    Kinded, Names, Scope, Seen, TermFault, Texts, Variables, cut, find_written_sort, read_term,
-    skip_term,
+    Kinded, Names, Piece, Scope, Seen, TermFault, Texts, Variables, cut, find_written_sort,
+    read_term, skip_term,
 };
 use fvn_base::Seq;
 use fvn_terms::{Args, Axioms, Declarations, OpDecl, OpId, Plain, Rank, SortId};
@@ -165,29 +165,54 @@ fn sorts_of(alloc: Global, numbers: &[u16]) -> Result<Seq<SortId>, Fail> {
     Ok(Seq::from_vec(sorts))
 }
 
-fn operator(alloc: Global, axioms: Axioms, args: &[u16], result: u16) -> Result<OpDecl, Fail> {
+// Each line has the axioms of an operator, and the sorts of its arguments and of its result.
+const OPERATORS: &str = "free 0
+free 2
+free 0 1
+free 0 2 2
+sum 1 1 1
+free 0 0
+free 0
+zero 2 2 2
+comm 1 0 1";
+
+fn number(word: &str) -> u16 {
+    match word.as_bytes().first() {
+        Some(b'1') => 1,
+        Some(b'2') => 2,
+        _ => 0,
+    }
+}
+
+fn axioms(word: &str) -> Axioms {
+    match word.as_bytes().first() {
+        Some(b's') => Axioms::AssocComm,
+        Some(b'z') => Axioms::AssocCommId(OpId(1)),
+        Some(b'c') => Axioms::Comm,
+        _ => Axioms::Free,
+    }
+}
+
+fn operator(alloc: Global, line: &str) -> Result<OpDecl, Fail> {
+    let mut sorts = Vec::new(alloc);
+    for word in line.split(' ').skip(1) {
+        sorts.push(SortId(number(word)))?;
+    }
+    let last = sorts.pop().unwrap_or(SortId(0));
+    let args = Seq::from_vec(sorts);
     let mut ranks = Vec::new(alloc);
-    ranks.push(Rank {
-        args: sorts_of(alloc, args)?,
-        result: SortId(result),
-    })?;
+    ranks.push(Rank { args, result: last })?;
     Ok(OpDecl {
-        axioms,
+        axioms: axioms(line),
         ranks: Seq::from_vec(ranks),
     })
 }
 
 fn declarations(alloc: Global) -> Result<Declarations, Fail> {
     let mut ops = Vec::new(alloc);
-    ops.push(operator(alloc, Axioms::Free, &[], 0)?)?;
-    ops.push(operator(alloc, Axioms::Free, &[], 2)?)?;
-    ops.push(operator(alloc, Axioms::Free, &[0], 1)?)?;
-    ops.push(operator(alloc, Axioms::Free, &[0, 2], 2)?)?;
-    ops.push(operator(alloc, Axioms::AssocComm, &[1, 1], 1)?)?;
-    ops.push(operator(alloc, Axioms::Free, &[0], 0)?)?;
-    ops.push(operator(alloc, Axioms::Free, &[], 0)?)?;
-    ops.push(operator(alloc, Axioms::AssocCommId(OpId(1)), &[2, 2], 2)?)?;
-    ops.push(operator(alloc, Axioms::Comm, &[1, 0], 1)?)?;
+    for line in OPERATORS.lines() {
+        ops.push(operator(alloc, line)?)?;
+    }
     Ok(Declarations {
         sorts: 3,
         kinds: sorts_of(alloc, &[3, 3, 4, 3, 4])?,
@@ -256,7 +281,27 @@ fn shown_fault(alloc: Global, fault: TermFault) -> Result<String, Fail> {
     Ok(format!(in alloc; "{word}")?)
 }
 
-// The term of a text with its kind and the names of its variables, or its fault; and the number of symbols.
+// The term of a row with its kind and the names of its variables, or its fault; and the number of symbols.
+fn shown_row(
+    alloc: Global,
+    limit: usize,
+    scope: &Scope<'_>,
+    row: &[Piece<'_>],
+) -> Result<(String, usize), Fail> {
+    let seen = Seen {
+        texts: Texts::new(alloc),
+        count: 0,
+    };
+    let Some(taken) = skip_term(alloc, row)? else {
+        return Ok((String::new(alloc), 0));
+    };
+    match read_term(alloc, limit, scope, seen, &row[..taken]) {
+        Ok((term, seen)) => Ok((shown_read(alloc, &term, &seen.texts)?, seen.count)),
+        Err(fault) => Ok((shown_fault(alloc, fault)?, 0)),
+    }
+}
+
+// The same of a text.
 fn shown(alloc: Global, text: &str, limit: usize, guarded: bool) -> Result<(String, usize), Fail> {
     let d = declarations(alloc)?;
     let names = names(alloc)?;
@@ -264,21 +309,9 @@ fn shown(alloc: Global, text: &str, limit: usize, guarded: bool) -> Result<(Stri
         return Ok((String::new(alloc), 0));
     }
     let scope = Scope::new(&d, &names, guarded);
-    let seen = Seen {
-        texts: Texts::new(alloc),
-        count: 0,
-    };
-    let row = match cut(alloc, text.as_bytes()) {
-        Ok(row) => row,
-        Err(_) => return Ok((format!(in alloc; "no tokens")?, 0)),
-    };
-    let taken = match skip_term(alloc, row.as_slice())? {
-        Some(n) => n,
-        None => return Ok((format!(in alloc; "no term")?, 0)),
-    };
-    match read_term(alloc, limit, &scope, seen, &row[..taken]) {
-        Ok((term, seen)) => Ok((shown_read(alloc, &term, &seen.texts)?, seen.count)),
-        Err(fault) => Ok((shown_fault(alloc, fault)?, 0)),
+    match cut(alloc, text.as_bytes()) {
+        Ok(row) => shown_row(alloc, limit, &scope, row.as_slice()),
+        Err(_) => Ok((String::new(alloc), 0)),
     }
 }
 
@@ -340,31 +373,26 @@ fn written_sorts(rt: HostRuntime) -> Result<(), Fail> {
     Ok(())
 }
 
-fn shown_sort(alloc: Global, sorts: &Texts, kinds: &[SortId], text: &str) -> Result<String, Fail> {
-    let bytes = text.as_bytes();
+// The sort of a letter, or of letters in a bracket.
+fn written<'a>(alloc: Global, bytes: &'a [u8]) -> Result<RawSort<'a>, Fail> {
+    if bytes.len() < 3 {
+        return Ok(RawSort::Name(Text::new(bytes)));
+    }
     let mut others = Vec::new(alloc);
-    let mut first = Text::new(bytes);
-    let mut is_kind = false;
-    for (i, byte) in bytes.iter().enumerate() {
-        if byte.is_ascii_uppercase() && bytes.len() != 1 {
-            let name = Text::new(&bytes[i..i + 1]);
-            if is_kind {
-                others.push(name)?;
-            } else {
-                first = name;
-                is_kind = true;
-            }
+    for i in 3..bytes.len() {
+        if bytes[i].is_ascii_uppercase() {
+            others.push(Text::new(&bytes[i..i + 1]))?;
         }
     }
-    let written = if is_kind {
-        RawSort::Kind(first, Seq::from_vec(others))
-    } else {
-        RawSort::Name(first)
-    };
+    Ok(RawSort::Kind(Text::new(&bytes[1..2]), Seq::from_vec(others)))
+}
+
+fn shown_sort(alloc: Global, sorts: &Texts, kinds: &[SortId], text: &str) -> Result<String, Fail> {
+    let sort = written(alloc, text.as_bytes())?;
     if 65536 < sorts.len() {
         return Ok(String::new(alloc));
     }
-    match find_written_sort(sorts, kinds, &written) {
+    match find_written_sort(sorts, kinds, &sort) {
         Some(s) => Ok(format!(in alloc; "{}", s.0)?),
         None => Ok(format!(in alloc; "no")?),
     }

@@ -9,6 +9,6 @@ mod Packs
 mod TheoryLaws
 pub mod CompleteSets
 pub mod Instances
-mod Occurrences
+pub mod Occurrences
 mod Rewriting
 mod Covering

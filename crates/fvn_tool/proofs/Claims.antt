@@ -10,7 +10,7 @@ use Rattle.fvn_module.specs.Facts.{ModulesAreDetermined, ModulesAreFirst, Proble
 use Rattle.fvn_outside.specs.Source.{Takes, TakesCount}
 use Rattle.fvn_tool.specs.declared.status.Status.{Status}
 use Rattle.fvn_tool.specs.declared.status.Status.TheVariants.{Usage, ModuleRefused, ProblemRefused, ReadFault, WriteFault}
-use Rattle.fvn_tool.specs.Statuses.{IsSpoken}
+use Rattle.fvn_tool.specs.Statuses.{IsSilent, IsSpoken}
 use Rattle.fvn_tool.specs.Words.{Command, unify, command_of}
 use Rattle.fvn_tool.specs.Replies.{complete, bound_size, line_of, IsReply, IsUnifyReply, no_module, no_problem, answered, IsAnswer, unified, not_unified, too_large, no_module_line, no_problem_line, DeclareNoModule}
 use Rattle.fvn_tool.specs.Runs.{Outside, Run, Leaves, HasFailed}
@@ -219,10 +219,13 @@ module _ (run : Run) (h : Leaves (IsOutcome run.words run.source) run.status run
       no_event = without_event word bytes asks;
     }
 
-    -- the outcome and the causes of faults are all that there is to prove of a run
-    pub report : (command_of run.words ≡ None → (run.status ≡ Usage) ⊎ (run.status ≡ WriteFault)) → IsReport run
-    report always = record {
+    -- the outcome, what stays the same and the causes of faults are all that there is to prove of a run
+    pub report : (command_of run.words ≡ None → (run.status ≡ Usage) ⊎ (run.status ≡ WriteFault)) →
+        (command_of run.words ≡ None → run.source.after ≡ run.source.before) → (IsSilent run.status → run.sink.after ≡ run.sink.before) → IsReport run
+    report always unread unwritten = record {
       outcome = h;
+      unread = unread;
+      unwritten = unwritten;
       whole = Leaves-weaker (IsOutcome run.words run.source) IsOneText (outcome_one_text run.words run.source) run.status run.sink h;
       read_fault = read;
       write_fault = write;

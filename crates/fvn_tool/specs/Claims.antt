@@ -9,7 +9,7 @@ use Rattle.fvn_module.specs.ModuleText.{IsModuleText}
 use Rattle.fvn_module.specs.ProblemText.{IsProblemText}
 use Rattle.fvn_tool.specs.declared.status.Status.{Status}
 use Rattle.fvn_tool.specs.declared.status.Status.TheVariants.{Solved, Nothing, Usage, ModuleRefused, ProblemRefused, Ended, ReadFault, WriteFault, NoMemory}
-use Rattle.fvn_tool.specs.Statuses.{IsAnswering}
+use Rattle.fvn_tool.specs.Statuses.{IsSilent, IsAnswering}
 use Rattle.fvn_tool.specs.Words.{Command, unify, command_of}
 use Rattle.fvn_tool.specs.Replies.{End, complete, bound_size, answer_text, line_of, Unifies, IsInstanceOf, CannotBeUnified, ExceedsSize, DeclareNoModule, AsksNothing, no_module_line, no_problem_line}
 use Rattle.fvn_tool.specs.Runs.{Run, Leaves, WritesWhole, HasFailed}
@@ -152,14 +152,14 @@ pub record IsReport (run : Run) : Type 0 where
   -- one text of one outcome is written, whole, or at a failed write a front of it
   pub outcome : Leaves (IsOutcome run.words run.source) run.status run.sink
   pub whole : Leaves IsOneText run.status run.sink
-
+  -- without a command nothing is read, and without a text nothing is written
+  pub unread : command_of run.words ≡ None → run.source.after ≡ run.source.before
+  pub unwritten : IsSilent run.status → run.sink.after ≡ run.sink.before
   -- faults come only from the outside
   pub read_fault : run.status ≡ ReadFault → HasFailed run.source
   pub write_fault : run.status ≡ WriteFault → HasFailed run.sink
-
   -- what is refused at every command
   pub usage : RefusesWords run
   pub too_long : RefusesLongText run
-
   -- what each command answers
   pub unify : (word bytes : List ℕ) → Asks run (unify word) bytes → AnswersUnify bytes word run

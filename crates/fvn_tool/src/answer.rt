@@ -87,7 +87,7 @@ fn solved_text(
 ) -> Result<Vec<u8>, NoMemory>
     ensures { IfOk result (λ text. text.items ≡ answer_text
         (bindings_line (spelling names.now variables.now)
-            (map (λ p. (p.0, term p.1)) unifier.now.pairs) ∷ [])
+        (map (λ p. (p.0, term p.1)) unifier.now.pairs) ∷ [])
         (complete 1)) }
 {
     let mut text = Vec::new(alloc);

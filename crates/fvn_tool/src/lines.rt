@@ -5,8 +5,8 @@ ghost use Rattle.fvn_terms.specs.Substitution.{value};
 ghost use Rattle.fvn_tool.specs.Lines.{beside, variable_name, variable_text, with_term, with_arguments, with_bindings, bindings_line};
 ghost use Rattle.fvn_tool.specs.Spellings.{spelling};
 
-use fvn_module::first::{Names, VarNames};
 use fvn_base::Seq;
+use fvn_module::first::{Names, VarNames};
 use fvn_terms::{Args, NoMemory, OpId, Plain, PlainSubst, SortId, Var};
 use itoa::Buffer;
 
@@ -106,7 +106,7 @@ fn push_bindings(
 ) -> Result<(), NoMemory>
     ensures { OnOk result (text.new.items ≡
         with_bindings (spelling names.now variables.now) true text.old.items
-            (map (λ p. (p.0, term p.1)) pairs.now)) }
+        (map (λ p. (p.0, term p.1)) pairs.now)) }
 {
     let mut first = true;
     for (x, t) in pairs {

@@ -85,10 +85,10 @@ pub fn run<S: Source, K: Sink>(
     out: &mut K,
 ) -> Status
     ensures report { IsReport (record {
-        words = map string_bytes words.now;
-        source = seen S.left S.faults source.old source.new;
-        status = result;
-        sink = seen K.written K.faults out.old out.new;
+      words = map string_bytes words.now;
+      source = seen S.left S.faults source.old source.new;
+      status = result;
+      sink = seen K.written K.faults out.old out.new;
     }) }
 
     // Without a command nothing is read, and without a text nothing is written.

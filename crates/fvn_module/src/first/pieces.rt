@@ -6,8 +6,8 @@ ghost use Rattle.fvn_module.specs.Pieces.{pieces_of};
 ghost use Rattle.fvn_module.specs.Tests.{is_word, is_name, is_special, is_dot};
 
 use crate::first::FirstFault;
-use fvn_lex::{Class, LexFault, tokens};
 use fvn_base::Seq;
+use fvn_lex::{Class, LexFault, tokens};
 use std::alloc::Global;
 
 /// A token with its bytes.

@@ -1,0 +1,25 @@
+-- The lemmas of the crate.
+mod Symbols
+mod Occurrences
+mod Comparisons
+mod Views
+mod SortedLists
+mod Summands
+mod Nesting
+mod Evaluation
+pub mod Fitting
+pub mod Rebuilding
+mod Instances
+mod Binding
+mod Listed
+pub mod Composing
+mod Renamings
+mod SortsOfFlats
+mod VariableLists
+mod OneAnswer
+mod PlainAnswers
+mod GroundProblems
+mod Examples
+mod ExampleLists
+mod ExampleSystems
+mod ExampleSums

@@ -1,0 +1,89 @@
+//! Plain terms in flat form, and back.
+ghost use Rattle.std.specs.Prelude.{◌≡◌, ◌<◌, length, IfOk};
+ghost use Rattle.fvn_terms.specs.Plain.{term, terms};
+ghost use Rattle.fvn_terms.specs.Signature.{IsTerm};
+ghost use Rattle.fvn_terms.specs.Equality.{two, BEqual};
+ghost use Rattle.fvn_forms.specs.Flat.{plain, nest_all};
+ghost use Rattle.fvn_forms.specs.Canon.{canon};
+ghost use Rattle.fvn_flat.specs.Fits.{Fits};
+
+use crate::building::built;
+use crate::flat::{Flat, Node};
+use fvn_sorts::Signature;
+use fvn_terms::{Args, NoMemory, OpId, Plain};
+use std::alloc::Global;
+
+// The flat form, also of what is no well-kinded term.
+fn flat_form(alloc: Global, sig: &Signature, t: &Plain) -> Result<Flat, NoMemory>
+    ensures { IfOk result (λ u. u ≡ canon sig.now (term t.now)) }
+{
+    match t {
+        Plain::Var(x) => Ok(Flat::var(*x)),
+        Plain::App(f, us) => {
+            let mut args = Vec::new(alloc);
+            for u in &us.items {
+                args.push(flat_form(alloc, sig, u)?)?;
+            }
+            let whole = built(alloc, sig, *f, args)?;
+            Ok(whole)
+        }
+    }
+}
+
+/// The flat form of a term.
+pub fn flatten(alloc: Global, sig: &Signature, t: &Plain) -> Result<Flat, NoMemory>
+    requires { IsTerm sig.now (term t.now) }
+    ensures exact { IfOk result (λ u. u ≡ canon sig.now (term t.now)) }
+    ensures equal { IfOk result (λ u. BEqual sig.now (term t.now) (plain u)) }
+    ensures fits { IfOk result (Fits sig.now) }
+{
+    sig.is_good();
+    let u = flat_form(alloc, sig, t)?;
+    Ok(u)
+}
+
+// The operator over two terms.
+fn pair(alloc: Global, f: OpId, t: Plain, u: Plain) -> Result<Plain, NoMemory>
+    ensures { IfOk result (λ v. term v ≡ two f (term t) (term u)) }
+{
+    let mut items = Vec::new(alloc);
+    items.push(t)?;
+    items.push(u)?;
+    Ok(Plain::App(f, Args::from_vec(items)))
+}
+
+// The operator used between the terms, nested to the right.
+fn nested(alloc: Global, f: OpId, mut ts: Vec<Plain>) -> Result<Plain, NoMemory>
+    ensures { IfOk result (λ u. term u ≡ nest_all f (terms ts.items)) }
+{
+    let mut rest = match ts.pop() {
+        Some(t) => t,
+        None => return Ok(Plain::App(f, Args::from_vec(ts))),
+    };
+    while let Some(t) = ts.pop() {
+        rest = pair(alloc, f, t, rest)?;
+    }
+    Ok(rest)
+}
+
+impl Flat {
+    /// The plain term; a sum is nested to the right.
+    pub fn to_plain(&self, alloc: Global) -> Result<Plain, NoMemory>
+        ensures { IfOk result (λ t. term t ≡ plain self.now) }
+    {
+        match &self.node {
+            Node::Var(x) => Ok(Plain::Var(*x)),
+            Node::App(f, joined, ts) => {
+                let mut items = Vec::new(alloc);
+                for t in ts {
+                    items.push(t.to_plain(alloc)?)?;
+                }
+                if *joined {
+                    let whole = nested(alloc, *f, items)?;
+                    return Ok(whole);
+                }
+                Ok(Plain::App(*f, Args::from_vec(items)))
+            }
+        }
+    }
+}

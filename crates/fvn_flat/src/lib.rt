@@ -1,0 +1,26 @@
+//! Flat terms and substitutions of them, and what a solver modulo axioms promises.
+#![tactic(auto)]
+
+mod building;
+mod flat;
+mod flattening;
+#[cfg(test)]
+mod ground_solver;
+mod laws;
+mod order;
+mod renaming;
+mod solver;
+mod sorting;
+mod substitution;
+#[cfg(test)]
+mod tests;
+
+pub use flat::Flat;
+pub use flattening::flatten;
+pub use laws::{
+    answers_to_flattened_pairs, equal_pairs_have_one_answer, flattened_pairs_are_given,
+    flattened_pairs_have_one_answer,
+};
+pub use renaming::{MOST_RENAMED, rename_apart};
+pub use solver::{AxiomSolver, Normal, Pairs, SizeCause, SolveEnd, Solved, SolvedList};
+pub use substitution::{Subst, all_shared};

@@ -1,0 +1,104 @@
+//! Terms with fresh variables.
+ghost use Rattle.std.specs.Prelude.{◌≡◌, ◌+◌, ◌<◌, ◌≤◌, ◌^◌, length, IfOk};
+ghost use Rattle.fvn_forms.specs.Flat.{symbols};
+ghost use Rattle.fvn_forms.specs.Canon.{inst};
+ghost use Rattle.fvn_flat.specs.Fits.{Fits};
+ghost use Rattle.fvn_flat.specs.Variables.{listed, with_variable, with_variables, distinct_variables, renaming, fresh_names, RenamesApart};
+
+use crate::flat::{Flat, Node};
+use crate::substitution::Subst;
+use fvn_sorts::Signature;
+use fvn_terms::{NoMemory, Var};
+use std::alloc::Global;
+
+/// The greatest first number of fresh variables, and the most symbols of a term that is renamed.
+pub const MOST_RENAMED: u32 = 1_000_000;
+
+// Whether the variable stands in the list.
+pub(crate) fn is_listed(vars: &[Var], x: Var) -> bool
+    ensures { result ≡ listed vars.now x }
+{
+    for y in vars {
+        if *y == x {
+            return true;
+        }
+    }
+    false
+}
+
+// The variables with one more at the end, if it is not there yet.
+fn with_variable(vars: Vec<Var>, x: Var) -> Result<Vec<Var>, NoMemory>
+    ensures { IfOk result (λ all. all.items ≡ with_variable vars.items x) }
+{
+    let mut all = vars;
+    if is_listed(all.as_slice(), x) {
+        return Ok(all);
+    }
+    all.push(x)?;
+    Ok(all)
+}
+
+impl Flat {
+    // The list with the term's variables that are not there yet.
+    fn with_variables(&self, vars: Vec<Var>) -> Result<Vec<Var>, NoMemory>
+        ensures { IfOk result (λ all. all.items ≡ with_variables self.now vars.items) }
+    {
+        match &self.node {
+            Node::Var(x) => {
+                let all = with_variable(vars, *x)?;
+                Ok(all)
+            }
+            Node::App(_, _, ts) => {
+                let mut all = vars;
+                for t in ts {
+                    all = t.with_variables(all)?;
+                }
+                Ok(all)
+            }
+        }
+    }
+}
+
+// Fresh variables for those of the list, numbered along it.
+fn renaming(alloc: Global, vars: &[Var], first: u32) -> Result<Vec<(Var, Flat)>, NoMemory>
+    requires { first + length vars.now < 2 ^ 32 }
+    ensures { IfOk result (λ pairs. pairs.items ≡ renaming first vars.now) }
+{
+    let mut pairs = Vec::new(alloc);
+    let mut next = first;
+    for x in vars {
+        let fresh = Var {
+            name: next,
+            sort: x.sort,
+            fresh: true,
+        };
+        pairs.push((*x, Flat::var(fresh)))?;
+        next += 1;
+    }
+    Ok(pairs)
+}
+
+/// The term with its variables renamed to fresh ones of the same sorts, and the next free number.
+///
+/// They are numbered from `first` in order of first occurrence.
+pub fn rename_apart(
+    alloc: Global,
+    sig: &Signature,
+    t: &Flat,
+    first: u32,
+) -> Result<(Flat, u32), NoMemory>
+    requires term { Fits sig.now t.now }
+    requires number { first ≤ MOST_RENAMED }
+    requires size { symbols t.now ≤ MOST_RENAMED }
+    // Distinct variables go to distinct fresh ones, numbered from `first` up to below the next number.
+    ensures renamed { IfOk result (λ r. r.0 ≡ inst sig.now (fresh_names first t.now) t.now) }
+    ensures apart { IfOk result (λ r. RenamesApart t.now first r.1 (fresh_names first t.now)) }
+    ensures next { IfOk result (λ r. r.1 ≡ first + length (distinct_variables t.now)) }
+    ensures fits { IfOk result (λ r. Fits sig.now r.0) }
+{
+    let vars = t.with_variables(Vec::new(alloc))?;
+    let pairs = renaming(alloc, vars.as_slice(), first)?;
+    let s = Subst { pairs };
+    let u = s.apply(alloc, sig, t)?;
+    Ok((u, first + vars.len() as u32))
+}

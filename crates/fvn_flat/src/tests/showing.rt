@@ -1,0 +1,46 @@
+//! Writes flat terms of tests.
+use crate::flat::{Flat, Node};
+use fvn_terms::{NoMemory, SortId, Var};
+use std::alloc::AllocError;
+
+fn push_letter(out: &mut String, first: u8, number: u16) -> Result<(), NoMemory> {
+    out.push(char::from(first.wrapping_add((number % 20) as u8)))?;
+    Ok(())
+}
+
+/// A sort or a kind is a letter.
+pub fn push_sort(out: &mut String, s: SortId) -> Result<(), NoMemory> {
+    push_letter(out, b'A', s.0)
+}
+
+fn push_var(out: &mut String, x: &Var) -> Result<(), NoMemory> {
+    if x.fresh {
+        out.push_str("#")?;
+    }
+    push_sort(out, x.sort)?;
+    push_letter(out, b'0', (x.name % 10) as u16)
+}
+
+/// The arguments of a sum stand in square brackets.
+pub fn push_flat(out: &mut String, t: &Flat) -> Result<(), NoMemory> {
+    match &t.node {
+        Node::Var(x) => push_var(out, x),
+        Node::App(f, joined, ts) => {
+            push_letter(out, b'f', f.0)?;
+            if ts.is_empty() {
+                return Ok(());
+            }
+            out.push_str(if *joined { "[" } else { "(" })?;
+            let mut before = false;
+            for u in ts {
+                if before {
+                    out.push_str(" ")?;
+                }
+                push_flat(out, u)?;
+                before = true;
+            }
+            out.push_str(if *joined { "]" } else { ")" })?;
+            Ok(())
+        }
+    }
+}
