@@ -171,7 +171,7 @@ impl Flat {
         ensures equal { IfOk result (λ t. BEqual sig.now (plain_over sig.now op args.items) (plain t)) }
         ensures fits { IfOk result (Fits sig.now) }
     {
-        sig.is_good();
+        sig.recall_good();
         let t = built(alloc, sig, op, args)?;
         Ok(t)
     }

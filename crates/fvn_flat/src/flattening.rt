@@ -37,7 +37,7 @@ pub fn flatten(alloc: Global, sig: &Signature, t: &Plain) -> Result<Flat, NoMemo
     ensures equal { IfOk result (λ u. BEqual sig.now (term t.now) (plain u)) }
     ensures fits { IfOk result (Fits sig.now) }
 {
-    sig.is_good();
+    sig.recall_good();
     let u = flat_form(alloc, sig, t)?;
     Ok(u)
 }

@@ -36,7 +36,7 @@ impl Flat {
         requires { Fits sig.now self.now }
         ensures { result ≡ least_sort sig.now self.now }
     {
-        sig.is_good();
+        sig.recall_good();
         match &self.node {
             Node::Var(x) => x.sort,
             Node::App(f, joined, ts) => {
@@ -65,7 +65,7 @@ impl Flat {
         ensures exact { result ≡ least_sort sig.now self.now }
         ensures least { IsLeastSort sig.now (plain self.now) result }
     {
-        sig.is_good();
+        sig.recall_good();
         self.sort_in(sig)
     }
 }

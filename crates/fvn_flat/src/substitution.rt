@@ -39,7 +39,7 @@ impl Model for Subst {
 
 impl Subst {
     /// Tells that each variable has one pair; it does nothing.
-    pub fn binds_once(&self)
+    pub fn recall_bindings(&self)
         ensures { BindsOnce self.now }
     {
         let _pairs = &self.pairs;
@@ -99,7 +99,7 @@ impl Subst {
         requires { bound self.now v ≡ None }
         ensures { IfOk result (λ s. s ≡ self.now ++ (v, t.now) ∷ []) }
     {
-        self.binds_once();
+        self.recall_bindings();
         let mut pairs = self.copied(alloc)?;
         let copy = t.copy(alloc)?;
         pairs.push((v, copy))?;
@@ -133,7 +133,7 @@ impl Subst {
         ensures exact { IfOk result (λ u. u ≡ inst sig.now (value self.now) t.now) }
         ensures fits { IfOk result (Fits sig.now) }
     {
-        sig.is_good();
+        sig.recall_good();
         let u = self.instance(alloc, sig, t)?;
         Ok(u)
     }
@@ -191,9 +191,9 @@ impl Subst {
         ensures both { IfOk result (IsOneThenOther sig.now self.now later.now) }
         ensures fits { IfOk result (BindingsFit sig.now) }
     {
-        sig.is_good();
-        self.binds_once();
-        later.binds_once();
+        sig.recall_good();
+        self.recall_bindings();
+        later.recall_bindings();
         let changed = self.changed(alloc, sig, later)?;
         let pairs = self.with_free(alloc, later, changed)?;
         let s = Subst { pairs };
@@ -204,7 +204,7 @@ impl Subst {
     pub fn restrict(&self, alloc: Global, vars: &[Var]) -> Result<Subst, NoMemory>
         ensures { IfOk result (IsRestriction vars.now self.now) }
     {
-        self.binds_once();
+        self.recall_bindings();
         let mut pairs = Vec::new(alloc);
         for (x, t) in &self.pairs {
             if !is_listed(vars, *x) {

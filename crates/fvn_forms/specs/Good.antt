@@ -2,6 +2,7 @@
 -- Maude Manual, chapter 3.
 -- The last two conditions on sorts, on brackets and on identities, are this project's own.
 use Rattle.std.specs.Prelude.{◌≡◌, ◌≤◌, List, [], ◌∷◌, map, length, All, Contains}
+use Rattle.fvn_base.specs.declared.limits.TheConstants.{SORTS, OPERATORS, ARGUMENTS}
 use Rattle.fvn_terms.specs.declared.plain.OpId.{OpId}
 use Rattle.fvn_terms.specs.declared.plain.SortId.{SortId}
 use Rattle.fvn_terms.specs.declared.declarations.Axioms.TheVariants.{AssocCommId}
@@ -46,11 +47,11 @@ module _ (d : Declarations) where
   abbrev pub Collapses : OpId → OpId → SortId → Type 0
   Collapses f e a = AtOrBelow d a (result d f (a ∷ result d e [] ∷ []))
 
-  -- at most 64 sorts, 256 operators and 8 arguments
+  -- no more sorts, operators and arguments than a signature may have
   pub record IsWithinLimits : Type 0 where
-    pub sorts : d.sorts ≤ 64
-    pub operators : length d.ops ≤ 256
-    pub arguments : (f : OpId) (r : Rank) → Contains (declared d f).ranks r → length r.args ≤ 8
+    pub sorts : d.sorts ≤ SORTS
+    pub operators : length d.ops ≤ OPERATORS
+    pub arguments : (f : OpId) (r : Rank) → Contains (declared d f).ranks r → length r.args ≤ ARGUMENTS
 
   -- a good signature
   pub record IsGood : Type 0 where

@@ -8,9 +8,9 @@ use Rattle.fvn_module.specs.declared.first.pieces.Piece.{Piece}
 use Rattle.fvn_module.specs.declared.first.declared.Operator.{Operator}
 use Rattle.fvn_module.specs.Pieces.{Text, word, dot}
 use Rattle.fvn_module.specs.Spelling.{Statement, operator, operators, variables, spell_rank, spell_statement, spell_statements}
-use Rattle.fvn_module.specs.Tests.{is_name, is_dot}
+use Rattle.fvn_module.specs.inner.Tests.{is_name, is_dot}
 use Rattle.fvn_module.specs.ModuleText.{declared, declared_variables, HasNames}
-use Rattle.fvn_module.specs.ModuleReading.{Known, bind, declare, declare_all, declare_variables, split_colon, before_end, rank_arity, fits_number, read_operators, read_variables, read_statement, is_last, read_body}
+use Rattle.fvn_module.specs.inner.ModuleReading.{Known, bind, declare, declare_all, declare_variables, split_colon, before_end, rank_arity, fits_number, read_operators, read_variables, read_statement, is_last, read_body}
 use Rattle.fvn_module.proofs.PieceLemmas.{name-is, dot-is}
 use Rattle.fvn_module.proofs.ModuleSteps.{read_body-dot, read_body-more}
 use Rattle.fvn_module.proofs.StatementExact.{declares, with_arity, texts, split_colon-is, split_colon-words, before_end-spelled, before_end-is, rank_arity-spelled, rank_arity-is, declare_all-words, declare_all-are, declare_variables-words, declare_variables-are}

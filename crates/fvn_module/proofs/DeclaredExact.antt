@@ -9,7 +9,7 @@ use Rattle.std.proofs.lemmas.List.Elements.{All-head, All-tail, All-cons, All-ni
 use Rattle.fvn_module.specs.declared.first.declared.Operator.{Operator}
 use Rattle.fvn_module.specs.Pieces.{Text}
 use Rattle.fvn_module.specs.ModuleText.{before, colon, sorted_name, arity_in, with_operator, first_of_each, IsConstantName, IsOperator}
-use Rattle.fvn_module.specs.ModuleReading.{allowed, declare, is_zero, is_apart, is_colon}
+use Rattle.fvn_module.specs.inner.ModuleReading.{allowed, declare, is_zero, is_apart, is_colon}
 use Rattle.fvn_module.proofs.TextLemmas.{bytes_eq-refl, bytes_eq-not}
 use Rattle.fvn_module.proofs.PieceLemmas.{and-left, and-right}
 use Rattle.fvn_module.proofs.StatementExact.{declares}

@@ -12,10 +12,10 @@ use Rattle.fvn_module.specs.declared.first.module_text.FirstModule.{FirstModule}
 use Rattle.fvn_module.specs.declared.first.pieces.Piece.{Piece}
 use Rattle.fvn_module.specs.Pieces.{Text, word, special, left_paren, right_paren, comma, dot}
 use Rattle.fvn_module.specs.Spelling.{Raw, Raws, bare, call, round, last, and, spell, spell_all}
-use Rattle.fvn_module.specs.Tests.{is_word}
+use Rattle.fvn_module.specs.inner.Tests.{is_word}
 use Rattle.fvn_module.specs.Meaning.{Meaning, a_constant, a_variable, means, variable_in, variable, place, with_text, texts_in, texts_in_all, Stands, Denotes, DenoteAll, count, arity}
 use Rattle.fvn_module.specs.ProblemText.{is_reserved}
-use Rattle.fvn_module.specs.ProblemReading.{resolve, resolve_variable}
+use Rattle.fvn_module.specs.inner.ProblemReading.{resolve, resolve_variable}
 use Rattle.fvn_module.proofs.TextLemmas.{place-below}
 use Rattle.fvn_terms.proofs.Plains.{plain_of, plains, plain_of-term, term-plain_of, terms-plains}
 use Rattle.fvn_module.proofs.Places.{adds, adds-append, adds-extends, Extends, Extends-trans, place-extends, place-with, place-at, with_text-place}

@@ -5,8 +5,8 @@ use Rattle.std.proofs.Math.Seq.{take-append_seam, drop-append_seam}
 use Rattle.fvn_module.specs.declared.first.pieces.Piece.{Piece}
 use Rattle.fvn_module.specs.Pieces.{word, left_paren, right_paren, dot}
 use Rattle.fvn_module.specs.Spelling.{Raw, bare, call, round, spell, spell_all}
-use Rattle.fvn_module.specs.Tests.{is_dot}
-use Rattle.fvn_module.specs.ProblemReading.{undotted, is_dot_alone}
+use Rattle.fvn_module.specs.inner.Tests.{is_dot}
+use Rattle.fvn_module.specs.inner.ProblemReading.{undotted, is_dot_alone}
 use Rattle.fvn_module.proofs.PieceLemmas.{dot-is}
 
 last_length : (front : List Piece) (p : Piece) → length (front ++ (p ∷ [])) - 1 ≡ length front

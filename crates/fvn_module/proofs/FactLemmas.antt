@@ -22,7 +22,7 @@ use Rattle.fvn_module.specs.Spelling.{Raw, Raws, bare, call, round, last, and}
 use Rattle.fvn_module.specs.ModuleText.{the_sort, the_kind, free_operator, free_operators, module_of, arity_in, with_operator, first_of_each, declared, declared_variables, IsModuleText}
 use Rattle.fvn_module.specs.Meaning.{Meaning, a_constant, a_variable, means, place, with_text, variable, op_of, op_at, if_constant, variable_text, meaning, arity, arguments, texts_in, count, Stands, Denotes, DenoteAll}
 use Rattle.fvn_module.specs.ProblemText.{numbered, IsProblemText}
-use Rattle.fvn_module.specs.Facts.{IsFreeOperator, IsFirstModule, IsFirstProblem}
+use Rattle.fvn_module.specs.Laws.{IsFreeOperator, IsFirstModule, IsFirstProblem}
 use Rattle.fvn_module.proofs.TextLemmas.{place-below, bytes_eq-refl}
 use Rattle.fvn_module.proofs.Places.{with_text-place}
 

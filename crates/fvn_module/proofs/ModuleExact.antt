@@ -8,9 +8,9 @@ use Rattle.fvn_module.specs.declared.first.declared.Operator.{Operator}
 use Rattle.fvn_module.specs.declared.first.module_text.FirstModule.{FirstModule}
 use Rattle.fvn_module.specs.Pieces.{Text, word, dot, pieces_of}
 use Rattle.fvn_module.specs.Spelling.{spell_statements, spell_module}
-use Rattle.fvn_module.specs.Tests.{is_word, is_name, is_dot}
+use Rattle.fvn_module.specs.inner.Tests.{is_word, is_name, is_dot}
 use Rattle.fvn_module.specs.ModuleText.{declared, declared_variables, first_of_each, IsOperator, module_of, IsModuleText}
-use Rattle.fvn_module.specs.ModuleReading.{Known, nothing, bind, behind, split_word, end_header, header, is_apart, is_colon, read_body, read_pieces}
+use Rattle.fvn_module.specs.inner.ModuleReading.{Known, nothing, bind, behind, split_word, end_header, header, is_apart, is_colon, read_body, read_pieces}
 use Rattle.fvn_module.proofs.PieceLemmas.{name-is, word-is, dot-is, and-left, and-right}
 use Rattle.fvn_module.proofs.StatementExact.{declares}
 use Rattle.fvn_module.proofs.BodyExact.{NoColons, BodyRead, body-spelled, body-is}

@@ -6,8 +6,8 @@ use Rattle.fvn_base.proofs.Drops.{drop-at}
 use Rattle.fvn_module.specs.declared.first.pieces.Piece.{Piece}
 use Rattle.fvn_module.specs.declared.first.declared.Operator.{Operator}
 use Rattle.fvn_module.specs.Pieces.{Text}
-use Rattle.fvn_module.specs.Tests.{is_word, is_dot}
-use Rattle.fvn_module.specs.ModuleReading.{Known, bind, declare, declare_all, read_statement, read_body}
+use Rattle.fvn_module.specs.inner.Tests.{is_word, is_dot}
+use Rattle.fvn_module.specs.inner.ModuleReading.{Known, bind, declare, declare_all, read_statement, read_body}
 
 pub declare_all-stuck : (sort : Text) (n : ℕ) (ops : List Operator) (names : List Piece) (i : ℕ) (p : Piece) → i < length names → p ≡ get_or names i p →
     is_word p ≡ true → declare sort n ops p.text ≡ None → declare_all sort n ops (drop i names) ≡ None

@@ -6,7 +6,7 @@ use Rattle.fvn_lex.specs.declared.token.Class.{Class}
 use Rattle.fvn_lex.specs.declared.token.Class.TheVariants.{Word, Special, Dot}
 use Rattle.fvn_module.specs.declared.first.pieces.Piece.{Piece}
 use Rattle.fvn_module.specs.Pieces.{Text, word, special, dot}
-use Rattle.fvn_module.specs.Tests.{is_word_class, is_special_class, is_dot_class, is_word, is_name, is_special, is_dot}
+use Rattle.fvn_module.specs.inner.Tests.{is_word_class, is_special_class, is_dot_class, is_word, is_name, is_special, is_dot}
 use Rattle.fvn_module.proofs.TextLemmas.{bytes_eq-refl, bytes_eq-is}
 
 abbrev piece : Class → Text → Piece

@@ -8,7 +8,7 @@ use Rattle.std.proofs.lemmas.List.Sums.{fold-append}
 use Rattle.fvn_module.specs.Pieces.{Text}
 use Rattle.fvn_module.specs.Meaning.{place, with_text, variable}
 use Rattle.fvn_module.specs.ProblemText.{numbered}
-use Rattle.fvn_module.specs.ProblemReading.{numbered_to}
+use Rattle.fvn_module.specs.inner.ProblemReading.{numbered_to}
 use Rattle.fvn_module.proofs.TextLemmas.{bytes_eq-refl, bytes_eq-is}
 
 -- the texts with these put at the end, unless they are there

@@ -11,10 +11,10 @@ use Rattle.fvn_module.specs.declared.first.problem_text.FirstProblem.{FirstProbl
 use Rattle.fvn_module.specs.declared.first.pieces.Piece.{Piece}
 use Rattle.fvn_module.specs.Pieces.{Text, word, dot, pieces_of}
 use Rattle.fvn_module.specs.Spelling.{Raw, spell, spell_problem}
-use Rattle.fvn_module.specs.Tests.{is_word}
+use Rattle.fvn_module.specs.inner.Tests.{is_word}
 use Rattle.fvn_module.specs.Meaning.{texts_in, Denotes}
 use Rattle.fvn_module.specs.ProblemText.{is_reserved, IsProblemText}
-use Rattle.fvn_module.specs.ProblemReading.{run, start, undotted, read_problem_pieces}
+use Rattle.fvn_module.specs.inner.ProblemReading.{run, start, undotted, read_problem_pieces}
 use Rattle.fvn_module.proofs.TermReading.{ProblemRead, Reads, run_problem}
 use Rattle.fvn_module.proofs.TermSound.{problem_read}
 use Rattle.fvn_module.proofs.Dots.{undotted-dot, undotted-spelled, undotted-cases}

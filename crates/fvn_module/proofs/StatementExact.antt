@@ -9,8 +9,8 @@ use Rattle.fvn_module.specs.declared.first.pieces.Piece.{Piece}
 use Rattle.fvn_module.specs.declared.first.declared.Operator.{Operator}
 use Rattle.fvn_module.specs.Pieces.{Text, word}
 use Rattle.fvn_module.specs.Spelling.{spell_rank}
-use Rattle.fvn_module.specs.Tests.{is_word, is_name}
-use Rattle.fvn_module.specs.ModuleReading.{bind, declare, declare_all, declare_variables, split_colon, is_end, before_end, rank_arity}
+use Rattle.fvn_module.specs.inner.Tests.{is_word, is_name}
+use Rattle.fvn_module.specs.inner.ModuleReading.{bind, declare, declare_all, declare_variables, split_colon, is_end, before_end, rank_arity}
 use Rattle.fvn_module.proofs.PieceLemmas.{name-is, word-is, and-left, and-right}
 use Rattle.fvn_module.proofs.TextLemmas.{bytes_eq-refl, bytes_eq-not}
 

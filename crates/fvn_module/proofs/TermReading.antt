@@ -14,10 +14,10 @@ use Rattle.fvn_module.specs.declared.first.terms.Frame.TheVariants.{Round, Call}
 use Rattle.fvn_module.specs.declared.first.terms.Spot.TheVariants.{Wanted, Named, Whole}
 use Rattle.fvn_module.specs.Pieces.{Text, word, left_paren, right_paren, comma}
 use Rattle.fvn_module.specs.Spelling.{Raw, Raws, bare, call, round, last, and, spell, spell_all}
-use Rattle.fvn_module.specs.Tests.{is_special}
+use Rattle.fvn_module.specs.inner.Tests.{is_special}
 use Rattle.fvn_module.specs.Meaning.{op_of, arity}
-use Rattle.fvn_module.specs.ModuleReading.{bind}
-use Rattle.fvn_module.specs.ProblemReading.{State, state, resolve, step, run, finish, numbered_to}
+use Rattle.fvn_module.specs.inner.ModuleReading.{bind}
+use Rattle.fvn_module.specs.inner.ProblemReading.{State, state, resolve, step, run, finish, numbered_to}
 
 -- no parenthesis opens next
 abbrev pub NotOpen : List Piece → Type 0

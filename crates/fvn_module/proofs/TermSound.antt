@@ -15,9 +15,9 @@ use Rattle.fvn_module.specs.declared.first.terms.Spot.{Spot}
 use Rattle.fvn_module.specs.declared.first.terms.Spot.TheVariants.{Wanted, Named, Whole}
 use Rattle.fvn_module.specs.Pieces.{Text, word, left_paren, comma}
 use Rattle.fvn_module.specs.Spelling.{Raw, Raws, bare, call, round, last, and, spell, spell_all}
-use Rattle.fvn_module.specs.Tests.{is_word, is_name, is_special}
+use Rattle.fvn_module.specs.inner.Tests.{is_word, is_name, is_special}
 use Rattle.fvn_module.specs.Meaning.{op_of, arity}
-use Rattle.fvn_module.specs.ProblemReading.{State, state, resolve, step, step_at, accept, opened, run, finish, finish_at, finish_all, numbered_to}
+use Rattle.fvn_module.specs.inner.ProblemReading.{State, state, resolve, step, step_at, accept, opened, run, finish, finish_at, finish_all, numbered_to}
 use Rattle.fvn_module.proofs.PieceLemmas.{name-is, special-is, word-is, and-left, and-right}
 use Rattle.fvn_module.proofs.TermReading.{Reads, reads_bare, reads_round, reads_call, ReadAll, read_last, read_and, ProblemRead, run-nil, run-cons}
 

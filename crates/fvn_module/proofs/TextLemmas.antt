@@ -7,7 +7,7 @@ use Rattle.std.proofs.lemmas.Slice.Eq.{bytes_eq-Decides}
 use Rattle.fvn_module.specs.Pieces.{Text}
 use Rattle.fvn_module.specs.Meaning.{place}
 use Rattle.fvn_module.specs.ModuleText.{before, sorted_name, not_empty, colon}
-use Rattle.fvn_module.specs.ModuleReading.{bind}
+use Rattle.fvn_module.specs.inner.ModuleReading.{bind}
 
 pub bytes_eq-refl : (t : Text) → bytes_eq t t ≡ true
 bytes_eq-refl t = (bytes_eq-Decides t t).1 refl

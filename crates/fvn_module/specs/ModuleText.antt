@@ -1,6 +1,7 @@
 -- What a module text declares.
 use Rattle.std.specs.Prelude.{ℕ, ◌≡◌, ◌≢◌, ◌≤◌, ◌-◌, if◌then◌else◌, List, [], ◌∷◌, ◌++◌, map, fold, length, replicate, take, drop, All, Contains, Option, Some, None, is_none, codes}
 use Rattle.std.specs.Str.{bytes_eq}
+use Rattle.fvn_base.specs.declared.limits.TheConstants.{OPERATORS}
 use Rattle.fvn_terms.specs.declared.plain.SortId.{SortId}
 use Rattle.fvn_terms.specs.declared.declarations.Axioms.TheVariants.{Free}
 use Rattle.fvn_terms.specs.declared.declarations.OpDecl.{OpDecl}
@@ -104,7 +105,7 @@ pub record IsModuleText (bytes : Text) (m : FirstModule) : Type 0 where
   pub sort_plain : ¬ Contains sort colon
   pub named : All HasNames statements
   pub operators_fit : All (IsOperator sort (first_of_each (declared statements))) (declared statements)
-  pub few : length (first_of_each (declared statements)) ≤ 256
+  pub few : length (first_of_each (declared statements)) ≤ OPERATORS
   pub apart : All (λ x. arity_in (first_of_each (declared statements)) x ≢ Some 0) (declared_variables statements)
   pub declares : m ≡ module_of name sort (first_of_each (declared statements)) (declared_variables statements)
 

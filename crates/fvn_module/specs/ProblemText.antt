@@ -1,5 +1,6 @@
 -- What a problem text asks.
 use Rattle.std.specs.Prelude.{ℕ, ◌≡◌, ◌≤◌, ◌+◌, Bool, false, ◌==◌, List, [], ◌∷◌, ◌++◌, All, Some}
+use Rattle.fvn_base.specs.declared.limits.TheConstants.{TEXT_SYMBOLS}
 use Rattle.fvn_terms.specs.declared.plain.Var.{Var}
 use Rattle.fvn_terms.specs.Term.{nodes}
 use Rattle.fvn_terms.specs.Plain.{term}
@@ -30,4 +31,4 @@ pub record IsProblemText (m : FirstModule) (bytes : Text) (p : FirstProblem) : T
   pub right_side : Denotes m p.names.texts right (term p.right)
   pub vars : p.vars ≡ numbered 0 p.names.texts
   pub free_names : All (λ x. is_reserved x ≡ false) p.names.texts
-  pub small : nodes (term p.left) + nodes (term p.right) ≤ 400
+  pub small : nodes (term p.left) + nodes (term p.right) ≤ TEXT_SYMBOLS

@@ -194,7 +194,7 @@ fn shown_answers(alloc: Global, builder: SignatureBuilder) -> Result<String, NoM
     let mut out = String::new(alloc);
     match builder.finish(alloc) {
         Ok(sig) => {
-            sig.is_good();
+            sig.recall_good();
             all_shared(&sig);
             push_signature(alloc, &mut out, &sig)?;
         }

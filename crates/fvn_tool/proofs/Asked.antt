@@ -17,7 +17,7 @@ use Rattle.fvn_module.specs.Spelling.{Raw, Raws, bare, call, round, last, and}
 use Rattle.fvn_module.specs.ModuleText.{the_sort}
 use Rattle.fvn_module.specs.Meaning.{Meaning, a_constant, a_variable, place, with_text, each_once, variable, variable_in, means, texts_in, texts_in_all, Stands, Denotes, DenoteAll}
 use Rattle.fvn_module.specs.ProblemText.{numbered, IsProblemText}
-use Rattle.fvn_module.specs.Facts.{IsFirstProblem}
+use Rattle.fvn_module.specs.Laws.{IsFirstProblem}
 use Rattle.fvn_tool.specs.Free.{ListsVariables}
 use Rattle.fvn_tool.proofs.Members.{position_at, same_place}
 

@@ -11,7 +11,7 @@ use Rattle.fvn_terms.specs.Signature.{kind, IsSort, HasKind, same}
 use Rattle.fvn_terms.specs.Places.{stop}
 use Rattle.fvn_terms.specs.Sorts.{HasSort, IsWellSorted}
 use Rattle.fvn_module.specs.ModuleText.{the_sort}
-use Rattle.fvn_module.specs.Facts.{IsFirstForm}
+use Rattle.fvn_module.specs.Laws.{IsFirstForm}
 use Rattle.fvn_tool.specs.declared.free.table.Table.{Table}
 use Rattle.fvn_tool.specs.inner.FreeValues.{IsValue, AreValues}
 use Rattle.fvn_tool.specs.inner.FreeNumbering.{IsRenaming}

@@ -2,9 +2,9 @@
 ghost use Rattle.std.specs.Prelude.{◌≡◌, ◌++◌, Some, None, map, IfOk, IfErr, OnOk, MatchOption};
 ghost use Rattle.fvn_module.specs.declared.first.fault.FirstFault.TheVariants.{NotOfForm};
 ghost use Rattle.std.specs.List.{list_all};
-ghost use Rattle.fvn_module.specs.Tests.{is_name};
+ghost use Rattle.fvn_module.specs.inner.Tests.{is_name};
 ghost use Rattle.fvn_module.specs.ModuleText.{arity_in, before, sorted_name};
-ghost use Rattle.fvn_module.specs.ModuleReading.{
+ghost use Rattle.fvn_module.specs.inner.ModuleReading.{
   allowed,
   declare,
   declare_all,
@@ -21,13 +21,12 @@ ghost use Rattle.fvn_module.specs.ModuleReading.{
 
 use crate::first::FirstFault;
 use crate::first::pieces::{Piece, copy_text};
-use fvn_base::Seq;
+use fvn_base::limits::ARGUMENTS;
+use fvn_base::{Seq, limits};
 use std::alloc::Global;
 
-/// The most operators that a module declares, and the most arguments of one.
-const OPERATORS: usize = 256;
-
-const ARGUMENTS: usize = 8;
+/// The most operators that a module declares.
+const OPERATORS: usize = limits::OPERATORS as usize;
 
 /// A name with its number of arguments.
 #[derive(Drop)]

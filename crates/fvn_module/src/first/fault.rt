@@ -4,12 +4,16 @@ ghost use Rattle.fvn_module.specs.declared.first.fault.FirstFault.TheVariants.{N
 
 use fvn_terms::NoMemory;
 use std::alloc::{AllocError, AllocFailed};
+use thiserror::Error;
 
 /// Why a text was not read.
-#[derive(Clone, Copy, Debug, PartialEq, Eq)]
+#[derive(Clone, Copy, Debug, PartialEq, Eq, Error)]
 pub enum FirstFault {
     /// It is no text of the form.
+    #[error("the text is not of the form that is read")]
     NotOfForm,
+    /// Memory was refused.
+    #[error("memory was refused")]
     NoMemory,
 }
 

@@ -1,5 +1,5 @@
 //! Laws of module and problem texts, each the contract of a function that does nothing.
-ghost use Rattle.fvn_module.specs.Facts.{
+ghost use Rattle.fvn_module.specs.Laws.{
   ModulesAreDetermined,
   ModulesAreFirst,
   ProblemsAreDetermined,

@@ -5,21 +5,19 @@ ghost use Rattle.std.specs.Str.{bytes_eq};
 ghost use Rattle.fvn_module.specs.declared.first.fault.FirstFault.TheVariants.{NotOfForm};
 ghost use Rattle.fvn_module.specs.Meaning.{op_of, arity, place, variable, variable_text, if_constant};
 ghost use Rattle.fvn_module.specs.ProblemText.{is_reserved};
-ghost use Rattle.fvn_module.specs.ProblemReading.{resolve, resolve_variable};
+ghost use Rattle.fvn_module.specs.inner.ProblemReading.{resolve, resolve_variable};
 
 use crate::first::declared::read_sorted_name;
 use crate::first::pieces::copy_text;
 use crate::first::{FirstFault, FirstModule};
 use fvn_base::Seq;
+use fvn_base::limits::{OPERATORS, TEXT_SYMBOLS};
 use fvn_terms::{Args, OpId, Plain, SortId, Var};
 use std::alloc::Global;
 
-/// The most symbols of a problem, both sides together; so it has no more variables.
-pub const SYMBOLS: usize = 400;
-
 /// The variable of the one sort with this number.
 pub fn make_variable(number: usize) -> Var
-    requires { number < 400 }
+    requires { number < TEXT_SYMBOLS }
     ensures { result ≡ variable number }
 {
     Var {
@@ -38,7 +36,7 @@ fn find_text(texts: &[Seq<u8>], text: &[u8]) -> Option<usize>
 
 /// The operator of a name.
 pub fn find_operator(scope: &FirstModule, name: &[u8]) -> Option<OpId>
-    requires { length scope.now.names.ops ≤ 256 }
+    requires { length scope.now.names.ops ≤ OPERATORS }
     ensures { result ≡ op_of scope.now name.now }
 {
     match find_text(scope.names.ops.as_slice(), name) {
@@ -62,7 +60,7 @@ pub fn arity_of(scope: &FirstModule, op: OpId) -> usize
 
 // The constant of a name.
 fn find_constant(scope: &FirstModule, name: &[u8]) -> Option<OpId>
-    requires { length scope.now.names.ops ≤ 256 }
+    requires { length scope.now.names.ops ≤ OPERATORS }
     ensures { result ≡ if_constant scope.now (op_of scope.now name.now) }
 {
     let op = find_operator(scope, name)?;
@@ -108,7 +106,7 @@ pub fn resolve(
     texts: &mut Vec<Seq<u8>>,
     name: &[u8],
 ) -> Result<Plain, FirstFault>
-    requires { length scope.now.names.ops ≤ 256 }
+    requires { length scope.now.names.ops ≤ OPERATORS }
     ensures ok { IfOk result (λ t. resolve scope.now texts.old.items name.now ≡ Some (t, texts.new.items)) }
     ensures err { IfErr result (λ fault. fault ≡ NotOfForm → resolve scope.now texts.old.items name.now ≡ None) }
 {
@@ -134,7 +132,7 @@ fn resolve_variable(
     }
     let known = find_text(texts, text);
     let number = known.unwrap_or(texts.len());
-    if SYMBOLS <= number {
+    if TEXT_SYMBOLS <= number {
         return Err(FirstFault::NotOfForm);
     }
     if known.is_none() {

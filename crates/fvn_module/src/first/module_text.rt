@@ -2,7 +2,7 @@
 ghost use Rattle.std.specs.Prelude.{◌≡◌, ◌<◌, ◌≤◌, Some, None, Err, List, ◌∷◌, [], length, take, drop, map, MatchOption, IfOk, IfErr, IsTrue};
 ghost use Rattle.fvn_module.specs.declared.first.fault.FirstFault.TheVariants.{NotOfForm};
 ghost use Rattle.fvn_module.specs.ModuleText.{IsModuleText, module_of};
-ghost use Rattle.fvn_module.specs.ModuleReading.{header, behind, split_word, is_last, read_body, read_pieces, nothing};
+ghost use Rattle.fvn_module.specs.inner.ModuleReading.{header, behind, split_word, is_last, read_body, read_pieces, nothing};
 
 use crate::first::declared::{Declared, Operator};
 use crate::first::pieces::{Piece, copy_text, cut};
@@ -86,7 +86,7 @@ fn split_word<'a>(pieces: &'a [Piece]) -> Option<(&'a [u8], &'a [Piece])>
 }
 
 // All statements, and `endfm` behind the last dot.
-#[tactic(auto, unfolding(crate::specs::ModuleReading::read_body))]
+#[tactic(auto, unfolding(crate::specs::inner::ModuleReading::read_body))]
 fn read_statements(alloc: Global, sort: &[u8], body: &[Piece]) -> Result<Declared, FirstFault>
     ensures ok { IfOk result (λ d. read_body sort.now nothing [] body.now ≡ Some (record { operators = d.operators.items; variables = d.variables.items })) }
     ensures err { IfErr result (λ fault. fault ≡ NotOfForm → read_body sort.now nothing [] body.now ≡ None) }

@@ -3,7 +3,7 @@ ghost use Rattle.std.specs.Prelude.{◌≡◌, Some, None, IfOk, IfErr};
 ghost use Rattle.fvn_lex.specs.declared.token.Class.TheVariants.{Word, Special, Dot};
 ghost use Rattle.fvn_module.specs.declared.first.fault.FirstFault.TheVariants.{NoMemory, NotOfForm};
 ghost use Rattle.fvn_module.specs.Pieces.{pieces_of};
-ghost use Rattle.fvn_module.specs.Tests.{is_word, is_name, is_special, is_dot};
+ghost use Rattle.fvn_module.specs.inner.Tests.{is_word, is_name, is_special, is_dot};
 
 use crate::first::FirstFault;
 use fvn_base::Seq;

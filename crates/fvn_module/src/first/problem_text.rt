@@ -3,12 +3,13 @@ ghost use Rattle.std.specs.Prelude.{◌≡◌, ◌≤◌, Some, None, Err, lengt
 ghost use Rattle.fvn_module.specs.declared.first.fault.FirstFault.TheVariants.{NotOfForm};
 ghost use Rattle.fvn_module.specs.ModuleText.{IsModule};
 ghost use Rattle.fvn_module.specs.ProblemText.{IsProblemText};
-ghost use Rattle.fvn_module.specs.ProblemReading.{read_problem_pieces, undotted, run, start};
+ghost use Rattle.fvn_module.specs.inner.ProblemReading.{read_problem_pieces, undotted, run, start};
 
 use crate::first::pieces::{Piece, cut};
 use crate::first::terms::Reading;
 use crate::first::{FirstFault, FirstModule, VarNames};
 use fvn_base::Seq;
+use fvn_base::limits::{OPERATORS, TEXT_SYMBOLS};
 use fvn_terms::{Plain, Var};
 use std::alloc::Global;
 
@@ -22,7 +23,7 @@ pub struct FirstProblem {
 }
 
 /// The most words of a problem: one for each of its symbols, and the one between the sides.
-const WORDS: usize = 401;
+const WORDS: usize = TEXT_SYMBOLS + 1;
 
 /// What a problem text asks, by the names of a module.
 pub fn read_problem(
@@ -43,7 +44,7 @@ fn read_cut(
     scope: &FirstModule,
     pieces: &[Piece],
 ) -> Result<FirstProblem, FirstFault>
-    requires { length scope.now.names.ops ≤ 256 }
+    requires { length scope.now.names.ops ≤ OPERATORS }
     ensures ok { IfOk result (λ p. read_problem_pieces scope.now pieces.now ≡ Some p) }
     ensures err { IfErr result (λ fault. fault ≡ NotOfForm → read_problem_pieces scope.now pieces.now ≡ None) }
 {
@@ -65,13 +66,13 @@ fn without_dot<'a>(pieces: &'a [Piece]) -> &'a [Piece]
     }
 }
 
-#[tactic(auto, unfolding(crate::specs::ProblemReading::run))]
+#[tactic(auto, unfolding(crate::specs::inner::ProblemReading::run))]
 fn read_sides(
     alloc: Global,
     scope: &FirstModule,
     pieces: &[Piece],
 ) -> Result<FirstProblem, FirstFault>
-    requires { length scope.now.names.ops ≤ 256 }
+    requires { length scope.now.names.ops ≤ OPERATORS }
     ensures ok { IfOk result (λ p. run scope.now start pieces.now ≡ Some p) }
     ensures err { IfErr result (λ fault. fault ≡ NotOfForm → run scope.now start pieces.now ≡ None) }
 {

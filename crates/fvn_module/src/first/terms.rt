@@ -2,13 +2,14 @@
 ghost use Rattle.std.specs.Prelude.{◌≡◌, ◌≤◌, ◌∷◌, Some, None, reverse, length, MatchResult, IfOk, IfErr};
 ghost use Rattle.fvn_module.specs.declared.first.fault.FirstFault.TheVariants.{NotOfForm, NoMemory as OutOfMemory};
 ghost use Rattle.fvn_module.specs.Meaning.{op_of};
-ghost use Rattle.fvn_module.specs.ProblemReading.{view, start, step, finish, accept, accept_argument, begin, begin_right, opened, call, finish_with, numbered_to};
+ghost use Rattle.fvn_module.specs.inner.ProblemReading.{view, start, step, finish, accept, accept_argument, begin, begin_right, opened, call, finish_with, numbered_to};
 
-use crate::first::meaning::{SYMBOLS, arity_of, find_operator, make_variable, resolve};
+use crate::first::meaning::{arity_of, find_operator, make_variable, resolve};
 use crate::first::pieces::{Piece, copy_text};
 use crate::first::problem_text::FirstProblem;
 use crate::first::{FirstFault, FirstModule, VarNames};
 use fvn_base::Seq;
+use fvn_base::limits::{OPERATORS, TEXT_SYMBOLS};
 use fvn_terms::{Args, OpId, Plain, SortId, Var};
 use std::alloc::Global;
 
@@ -57,7 +58,7 @@ impl Reading {
         scope: &FirstModule,
         piece: &Piece,
     ) -> Result<Reading, FirstFault>
-        requires { length scope.now.names.ops ≤ 256 }
+        requires { length scope.now.names.ops ≤ OPERATORS }
         ensures ok { IfOk result (λ next. step scope.now (view self) piece.now ≡ Some (view next)) }
         ensures err { IfErr result (λ fault. fault ≡ NotOfForm → step scope.now (view self) piece.now ≡ None) }
     {
@@ -82,7 +83,7 @@ impl Reading {
 
     /// The problem, where the right side is whole.
     pub fn finish(self, alloc: Global, scope: &FirstModule) -> Result<FirstProblem, FirstFault>
-        requires { length scope.now.names.ops ≤ 256 }
+        requires { length scope.now.names.ops ≤ OPERATORS }
         ensures ok { IfOk result (λ p. finish scope.now (view self) ≡ Some p) }
         ensures err { IfErr result (λ fault. fault ≡ NotOfForm → finish scope.now (view self) ≡ None) }
     {
@@ -113,7 +114,7 @@ fn build(
     ensures ok { IfOk result (λ p. finish_with left right texts.items ≡ Some p) }
     ensures err { IfErr result (λ fault. fault ≡ NotOfForm → finish_with left right texts.items ≡ None) }
 {
-    if SYMBOLS < texts.len() {
+    if TEXT_SYMBOLS < texts.len() {
         return Err(FirstFault::NotOfForm);
     }
     let vars = number_all(alloc, texts.len())?;
@@ -129,7 +130,7 @@ fn build(
 
 // The variables of the numbers below n.
 fn number_all(alloc: Global, n: usize) -> Result<Vec<Var>, FirstFault>
-    requires { n ≤ 400 }
+    requires { n ≤ TEXT_SYMBOLS }
     ensures ok { IfOk result (λ vars. vars.items ≡ numbered_to n) }
     ensures err { IfErr result (λ fault. fault ≡ OutOfMemory) }
 {
@@ -194,7 +195,7 @@ fn open_call(
     alloc: Global,
     name: &[u8],
 ) -> Result<Reading, FirstFault>
-    requires { length scope.now.names.ops ≤ 256 }
+    requires { length scope.now.names.ops ≤ OPERATORS }
     ensures ok { IfOk result (λ next. call (reverse frames.items) texts.items left (op_of scope.now name.now) ≡ Some (view next)) }
     ensures err { IfErr result (λ fault. fault ≡ NotOfForm → call (reverse frames.items) texts.items left (op_of scope.now name.now) ≡ None) }
 {

@@ -99,7 +99,7 @@ impl SignatureBuilder {
         axioms: Axioms,
     ) -> Result<SignatureBuilder, NoMemory>
         requires known_or_next { op.0 ≤ self.operators }
-        requires room { self.operators < 65535 }
+        requires room { self.operators < u16.MAX }
         requires args { All (Names self.sorts) rank.args }
         requires gives { Names self.sorts rank.result }
         ensures { IfOk result (λ b. b ≡ record self {

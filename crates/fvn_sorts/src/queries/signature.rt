@@ -38,14 +38,14 @@ impl Model for Signature {
 
 impl Signature {
     /// Tells that the signature is good; it does nothing.
-    pub fn is_good(&self)
+    pub fn recall_good(&self)
         ensures { IsGood self.now }
     {
         let _draft = &self.draft;
     }
 
     /// Tells that sorts, kinds, the order and the operators go together; it does nothing.
-    pub fn is_completed(&self)
+    pub fn recall_completed(&self)
         ensures { IsCompleted self.now }
     {
         let _draft = &self.draft;

@@ -72,7 +72,7 @@ fn sort_sum(signature: &Signature, f: OpId, us: &Args) -> Sorted
     ensures sort { result.sort ≡ least_sort signature.now (canon signature.now (app f us.now)) }
     ensures constant { result.constant ≡ as_constant (canon signature.now (app f us.now)) }
 {
-    signature.is_good();
+    signature.recall_good();
     let left = sort_term(signature, &us.items[0]);
     let right = sort_term(signature, &us.items[1]);
     let identity = identity_in(signature.axioms(f));
@@ -95,7 +95,7 @@ fn sort_plain(signature: &Signature, f: OpId, us: &Args) -> Sorted
     ensures sort { result.sort ≡ least_sort signature.now (canon signature.now (app f us.now)) }
     ensures constant { result.constant ≡ as_constant (canon signature.now (app f us.now)) }
 {
-    signature.is_good();
+    signature.recall_good();
     let mut sorts = [SortId(0); ARGUMENTS];
     let mut i: usize = 0;
     for u in &us.items {
@@ -114,7 +114,7 @@ impl Signature {
         requires { IsTerm self.now (term t.now) }
         ensures { IsLeastSort self.now (term t.now) result }
     {
-        self.is_good();
+        self.recall_good();
         sort_term(self, t).sort
     }
 }

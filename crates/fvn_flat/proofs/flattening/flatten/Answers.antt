@@ -10,7 +10,7 @@ use Rattle.fvn_flat.proofs.flattening.flatten.Goals as goal
 
 pub returns-clause-equal : goal.returns-clause-equal
 returns-clause-equal c =
-    subst (λ u. BEqual c.args.sig.now (term c.args.t.now) (plain u)) (sym c.in_ok-u.ensures) (to_canon c.args.sig.now c.is_good.ensures.fits (term c.args.t.now) c.requires.0 c.requires.1)
+    subst (λ u. BEqual c.args.sig.now (term c.args.t.now) (plain u)) (sym c.in_ok-u.ensures) (to_canon c.args.sig.now c.recall_good.ensures.fits (term c.args.t.now) c.requires.0 c.requires.1)
 
 pub returns-clause-fits : goal.returns-clause-fits
-returns-clause-fits c = subst (Fits c.args.sig.now) (sym c.in_ok-u.ensures) (canon_fits c.args.sig.now c.is_good.ensures.fits (term c.args.t.now) c.requires)
+returns-clause-fits c = subst (Fits c.args.sig.now) (sym c.in_ok-u.ensures) (canon_fits c.args.sig.now c.recall_good.ensures.fits (term c.args.t.now) c.requires)

@@ -12,7 +12,7 @@ pub sort_in-sort-requires : goal.sort_in-sort-requires
 sort_in-sort-requires t c =
     let items = c.deref-t-items.result.now in
     let view = app_view c.self.inside.node c.args.self.now c.in-App.f c.in-App.joined c.in-App.ts items c.self.view_is c.in-App.is c.deref-t-items.ensures.value in
-    let u = argument_fits c.args.sig.now c.in-App.f c.in-App.joined items c.args.self.now view c.is_good.ensures c.requires c.loop-t.t-index c.t-item.result c.loop-t-test.true c.t-item.is in
+    let u = argument_fits c.args.sig.now c.in-App.f c.in-App.joined items c.args.self.now view c.recall_good.ensures c.requires c.loop-t.t-index c.t-item.result c.loop-t-test.true c.t-item.is in
     (omega (arith, u.0), u.1)
 
 pub loop-t-preserved : goal.loop-t-preserved
@@ -34,21 +34,21 @@ pub sort_in-requires : goal.sort_in-requires
 sort_in-requires t c =
     let items = c.deref-u-items.result.now in
     let view = app_view c.self.inside.node c.args.self.now c.in-App.f c.in-App.joined c.in-App.ts items c.self.view_is c.in-App.is c.deref-u-items.ensures.value in
-    let u = argument_fits c.args.sig.now c.in-App.f c.in-App.joined items c.args.self.now view c.is_good.ensures c.requires c.loop-u.u-index c.u-item.result c.loop-u-test.true c.u-item.is in
+    let u = argument_fits c.args.sig.now c.in-App.f c.in-App.joined items c.args.self.now view c.recall_good.ensures c.requires c.loop-u.u-index c.u-item.result c.loop-u-test.true c.u-item.is in
     (omega (arith, u.0), u.1)
 
 pub bounds-sorts-i : goal.bounds-sorts-i
 bounds-sorts-i t c =
     let items = c.deref-u-items.result.now in
     let view = app_view c.self.inside.node c.args.self.now c.in-App.f c.in-App.joined c.in-App.ts items c.self.view_is c.in-App.is c.deref-u-items.ensures.value in
-    omega (arith, few_arguments c.args.sig.now c.in-App.f c.in-App.joined items c.args.self.now view c.is_good.ensures c.requires c.if-joined.false)
+    omega (arith, few_arguments c.args.sig.now c.in-App.f c.in-App.joined items c.args.self.now view c.recall_good.ensures c.requires c.if-joined.false)
 
 pub loop-u-preserved : goal.loop-u-preserved
 loop-u-preserved t c =
     let d = c.args.sig.now in
     let items = c.deref-u-items.result.now in
     let view = app_view c.self.inside.node c.args.self.now c.in-App.f c.in-App.joined c.in-App.ts items c.self.view_is c.in-App.is c.deref-u-items.ensures.value in
-    let short = few_arguments d c.in-App.f c.in-App.joined items c.args.self.now view c.is_good.ensures c.requires c.if-joined.false in
+    let short = few_arguments d c.in-App.f c.in-App.joined items c.args.self.now view c.recall_good.ensures c.requires c.if-joined.false in
     let room : length c.loop-u.sorts ≡ 8 = c.loop-u.invariant.room in
     let within : c.loop-u.i < length c.loop-u.sorts = omega arith in
     record {

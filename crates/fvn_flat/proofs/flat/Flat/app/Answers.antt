@@ -9,8 +9,8 @@ use Rattle.fvn_flat.proofs.flat.Flat.app.Goals as goal
 pub returns-clause-equal : goal.returns-clause-equal
 returns-clause-equal c =
     subst (λ t. BEqual c.args.sig.now (plain_over c.args.sig.now c.args.op c.args.args.items) (plain t)) (sym c.in_ok-t.ensures)
-    (build_equal c.args.sig.now c.is_good.ensures.fits c.args.op c.args.args.items (all_settled c.args.sig.now c.args.args.items c.requires.fit) c.requires.takes)
+    (build_equal c.args.sig.now c.recall_good.ensures.fits c.args.op c.args.args.items (all_settled c.args.sig.now c.args.args.items c.requires.fit) c.requires.takes)
 
 pub returns-clause-fits : goal.returns-clause-fits
 returns-clause-fits c =
-    subst (Fits c.args.sig.now) (sym c.in_ok-t.ensures) (build_fits c.args.sig.now c.is_good.ensures.fits c.args.op c.args.args.items c.requires.fit c.requires.takes)
+    subst (Fits c.args.sig.now) (sym c.in_ok-t.ensures) (build_fits c.args.sig.now c.recall_good.ensures.fits c.args.op c.args.args.items c.requires.fit c.requires.takes)

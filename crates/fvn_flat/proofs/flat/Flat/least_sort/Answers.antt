@@ -7,4 +7,4 @@ use Rattle.fvn_flat.proofs.flat.Flat.least_sort.Goals as goal
 
 pub returns-clause-least : goal.returns-clause-least
 returns-clause-least c =
-    subst (IsLeastSort c.args.sig.now (plain c.args.self.now)) (sym c.sort_in.ensures) (least_sort_fits c.args.sig.now c.is_good.ensures c.args.self.now c.requires)
+    subst (IsLeastSort c.args.sig.now (plain c.args.self.now)) (sym c.sort_in.ensures) (least_sort_fits c.args.sig.now c.recall_good.ensures c.args.self.now c.requires)

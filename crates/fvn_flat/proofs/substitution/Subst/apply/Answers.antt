@@ -9,4 +9,4 @@ pub returns-clause-exact : goal.returns-clause-exact
 returns-clause-exact c = c.in_ok-u.ensures ∙ rebuilt_is_inst c.args.sig.now (value c.args.self.now) c.requires.subst.settled c.args.t.now c.requires.term.flat
 
 pub returns-clause-fits : goal.returns-clause-fits
-returns-clause-fits c = subst (Fits c.args.sig.now) (sym (returns-clause-exact c)) (inst_fits c.args.sig.now (value c.args.self.now) c.is_good.ensures c.requires.subst c.args.t.now c.requires.term)
+returns-clause-fits c = subst (Fits c.args.sig.now) (sym (returns-clause-exact c)) (inst_fits c.args.sig.now (value c.args.self.now) c.recall_good.ensures c.requires.subst c.args.t.now c.requires.term)

@@ -8,7 +8,7 @@ pub returns-clause-exact : goal.returns-clause-exact
 returns-clause-exact c =
     c.in_ok-pairs.ensures
     ∙ ap (λ l. l ++ chosen (is_free c.args.self.now) c.args.later.now)
-    (c.in_ok-changed.ensures ∙ changed_is c.args.sig.now c.args.later.now c.requires.then.settled c.args.self.now c.binds_once.ensures c.requires.first.settled)
+    (c.in_ok-changed.ensures ∙ changed_is c.args.sig.now c.args.later.now c.requires.then.settled c.args.self.now c.recall_bindings.ensures c.requires.first.settled)
 
 pub invariant_of-s : goal.invariant_of-s
 invariant_of-s c =
@@ -17,13 +17,13 @@ invariant_of-s c =
     (
     c.in_ok-pairs.ensures
     ∙ ap (λ l. l ++ chosen (is_free c.args.self.now) c.args.later.now)
-    (c.in_ok-changed.ensures ∙ changed_is c.args.sig.now c.args.later.now c.requires.then.settled c.args.self.now c.binds_once.ensures c.requires.first.settled)
+    (c.in_ok-changed.ensures ∙ changed_is c.args.sig.now c.args.later.now c.requires.then.settled c.args.self.now c.recall_bindings.ensures c.requires.first.settled)
     ))
-    (composed_binds_once c.args.sig.now c.args.self.now c.args.later.now c.binds_once.ensures c.binds_once-2.ensures)
+    (composed_binds_once c.args.sig.now c.args.self.now c.args.later.now c.recall_bindings.ensures c.recall_bindings-2.ensures)
 
 pub returns-clause-both : goal.returns-clause-both
 returns-clause-both c =
     subst (IsOneThenOther c.args.sig.now c.args.self.now c.args.later.now) (sym (returns-clause-exact c)) (composed_is_both c.args.sig.now c.args.self.now c.args.later.now c.requires.first.settled c.requires.then.settled)
 
 pub returns-clause-fits : goal.returns-clause-fits
-returns-clause-fits c = subst (BindingsFit c.args.sig.now) (sym (returns-clause-exact c)) (composed_fits c.args.sig.now c.is_good.ensures c.args.self.now c.args.later.now c.requires.first c.requires.then)
+returns-clause-fits c = subst (BindingsFit c.args.sig.now) (sym (returns-clause-exact c)) (composed_fits c.args.sig.now c.recall_good.ensures c.args.self.now c.args.later.now c.requires.first c.requires.then)

@@ -9,7 +9,7 @@ use Rattle.fvn_flat.proofs.substitution.Subst.restrict.Goals as goal
 pub invariant_of-s : goal.invariant_of-s
 invariant_of-s c =
     let all : c.loop-x.pairs.items ≡ chosen (listed c.args.vars.now) c.args.self.now = c.loop-x.invariant ∙ ap (chosen (listed c.args.vars.now)) (take_all c.loop-x.x-index c.deref-x-items.result.now c.loop-x-test.false ∙ c.deref-x-items.ensures.value ∙ c.self.view_is) in
-    subst BindsOnce (sym all) (BindsOnce-chosen (listed c.args.vars.now) c.args.self.now c.binds_once.ensures)
+    subst BindsOnce (sym all) (BindsOnce-chosen (listed c.args.vars.now) c.args.self.now c.recall_bindings.ensures)
 
 pub returns : goal.returns
 returns c =

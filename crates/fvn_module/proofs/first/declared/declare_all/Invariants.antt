@@ -1,6 +1,6 @@
 -- The invariant of the operators that are declared one by one.
 use Rattle.std.proofs.Common.{◌≡◌, drop}
-use Rattle.fvn_module.specs.ModuleReading.{declare_all}
+use Rattle.fvn_module.specs.inner.ModuleReading.{declare_all}
 use Rattle.fvn_module.proofs.first.declared.declare_all.Given as goal
 
 -- the names that are left decide

@@ -1,6 +1,6 @@
 -- The invariant of the variables that are declared one by one.
 use Rattle.std.proofs.Common.{◌≡◌, drop}
-use Rattle.fvn_module.specs.ModuleReading.{declare_variables}
+use Rattle.fvn_module.specs.inner.ModuleReading.{declare_variables}
 use Rattle.fvn_module.proofs.first.declared.declare_variables.Given as goal
 
 -- the names that are left decide

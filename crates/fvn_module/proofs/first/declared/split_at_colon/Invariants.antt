@@ -1,6 +1,6 @@
 -- The invariant of the search for the first colon.
 use Rattle.std.proofs.Common.{◌≡◌, ◌++◌, take, drop, Some}
-use Rattle.fvn_module.specs.ModuleReading.{split_colon, bind}
+use Rattle.fvn_module.specs.inner.ModuleReading.{split_colon, bind}
 use Rattle.fvn_module.proofs.first.declared.split_at_colon.Given as goal
 
 -- the pieces so far stand before the first colon

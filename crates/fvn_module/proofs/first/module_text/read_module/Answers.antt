@@ -2,7 +2,7 @@
 use Rattle.std.proofs.Common.{◌≡◌, Some, None, sym, ap, ◌∙◌}
 use Rattle.fvn_module.specs.declared.first.fault.FirstFault.TheVariants.{NotOfForm}
 use Rattle.fvn_module.specs.ModuleText.{IsModuleText}
-use Rattle.fvn_module.specs.ModuleReading.{read_pieces}
+use Rattle.fvn_module.specs.inner.ModuleReading.{read_pieces}
 use Rattle.fvn_module.proofs.Results.{on_ok, at_err}
 use Rattle.fvn_module.proofs.ModuleExact.{read_declared, not_declared}
 use Rattle.fvn_module.proofs.first.module_text.read_module.Goals as goal

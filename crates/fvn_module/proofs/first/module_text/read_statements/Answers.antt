@@ -1,6 +1,6 @@
 -- At a dot a statement is read, and any other piece waits for the next dot.
 use Rattle.std.proofs.Common.{sym, ◌∙◌, arith}
-use Rattle.fvn_module.specs.ModuleReading.{Known}
+use Rattle.fvn_module.specs.inner.ModuleReading.{Known}
 use Rattle.fvn_module.specs.declared.first.declared.Declared.{Declared}
 use Rattle.fvn_module.proofs.ModuleSteps.{body_dot, body_more}
 use Rattle.fvn_module.proofs.first.module_text.read_statements.Goals as goal

@@ -1,7 +1,7 @@
 -- The invariant of the statements, read up to the last dot.
 use Rattle.std.proofs.Common.{◌≡◌, ◌≤◌, [], drop}
 use Rattle.std.specs.Prelude.{slice_range}
-use Rattle.fvn_module.specs.ModuleReading.{read_body, nothing}
+use Rattle.fvn_module.specs.inner.ModuleReading.{read_body, nothing}
 use Rattle.fvn_module.proofs.first.module_text.read_statements.Given as goal
 
 -- the pieces behind the last dot stand before what is left

@@ -2,7 +2,7 @@
 use Rattle.std.proofs.Common.{◌≡◌, Some, None, sym, ap, ◌∙◌}
 use Rattle.fvn_module.specs.declared.first.fault.FirstFault.TheVariants.{NotOfForm}
 use Rattle.fvn_module.specs.ProblemText.{IsProblemText}
-use Rattle.fvn_module.specs.ProblemReading.{read_problem_pieces}
+use Rattle.fvn_module.specs.inner.ProblemReading.{read_problem_pieces}
 use Rattle.fvn_module.proofs.Results.{on_ok, at_err}
 use Rattle.fvn_module.proofs.ProblemExact.{read_asked, not_read}
 use Rattle.fvn_module.proofs.first.problem_text.read_problem.Goals as goal

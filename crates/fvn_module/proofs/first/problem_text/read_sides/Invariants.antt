@@ -1,6 +1,6 @@
 -- The invariant of the reading, piece by piece.
 use Rattle.std.proofs.Common.{◌≡◌, drop}
-use Rattle.fvn_module.specs.ProblemReading.{run, start, view}
+use Rattle.fvn_module.specs.inner.ProblemReading.{run, start, view}
 use Rattle.fvn_module.proofs.first.problem_text.read_sides.Given as goal
 
 -- the pieces that are left decide

@@ -1,6 +1,6 @@
 -- The invariant of the variables that are numbered one by one.
 use Rattle.std.proofs.Common.{◌≡◌}
-use Rattle.fvn_module.specs.ProblemReading.{numbered_to}
+use Rattle.fvn_module.specs.inner.ProblemReading.{numbered_to}
 use Rattle.fvn_module.proofs.first.terms.number_all.Given as goal
 
 abbrev pub invariant-loop-i : goal.invariant-loop-i

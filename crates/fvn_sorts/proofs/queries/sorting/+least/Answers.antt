@@ -56,7 +56,7 @@ sort_plain-sort_term-requires t c =
 pub sort_plain-bounds-sorts-i : goal.sort_plain-bounds-sorts-i
 sort_plain-bounds-sorts-i t c =
     let whole : terms c.deref-u-items.result.now ≡ c.args.us.now = ap terms c.deref-u-items.ensures.value ∙ c.us.view_is in
-    omega (arith, few c.args.signature.now c.args.f c.deref-u-items.result.now c.args.us.now whole c.requires.term c.is_good.ensures)
+    omega (arith, few c.args.signature.now c.args.f c.deref-u-items.result.now c.args.us.now whole c.requires.term c.recall_good.ensures)
 
 pub sort_plain-loop-u-preserved : goal.sort_plain-loop-u-preserved
 sort_plain-loop-u-preserved t c =
@@ -64,7 +64,7 @@ sort_plain-loop-u-preserved t c =
     let d = c.args.signature.now in
     let list : List Plain = c.deref-u-items.result.now in
     let of = λ (u : Plain). least_sort d (canon d (term u)) in
-    let short = few d c.args.f list c.args.us.now whole c.requires.term c.is_good.ensures in
+    let short = few d c.args.f list c.args.us.now whole c.requires.term c.recall_good.ensures in
     let room : length c.loop-u.sorts ≡ 8 = c.loop-u.invariant.room in
     let within : c.loop-u.i < length c.loop-u.sorts = omega arith in
     record {
@@ -85,7 +85,7 @@ sort_plain-returns-else-is_empty-clause-sort t c =
     let list : List Plain = c.deref-u-items.result.now in
     c.result.ensures.exact
     ∙ ap (result d f) (c.loop-u.invariant.sorts ∙ ap (map (λ (u : Plain). least_sort d (canon d (term u)))) (take_all c.loop-u.u-index list c.loop-u-test.false))
-    ∙ sym (plain_result d f list c.args.us.now whole c.requires.term c.is_good.ensures c.requires.plain)
+    ∙ sym (plain_result d f list c.args.us.now whole c.requires.term c.recall_good.ensures c.requires.plain)
 
 pub sort_plain-returns-else-is_empty-clause-constant : goal.sort_plain-returns-else-is_empty-clause-constant
 sort_plain-returns-else-is_empty-clause-constant t c =
@@ -98,24 +98,24 @@ sort_plain-returns-else-is_empty-clause-constant t c =
 
 pub sort_sum-sort_term-left-requires : goal.sort_sum-sort_term-left-requires
 sort_sum-sort_term-left-requires t c =
-    let u = summand c.args.signature.now c.args.f c.us.inside.items.items c.args.us.now c.us.view_is c.requires.term c.is_good.ensures c.requires.sum 0 c.index.result.now (omega arith) c.index.ensures in
+    let u = summand c.args.signature.now c.args.f c.us.inside.items.items c.args.us.now c.us.view_is c.requires.term c.recall_good.ensures c.requires.sum 0 c.index.result.now (omega arith) c.index.ensures in
     (omega (arith, u.0), u.1)
 
 pub sort_sum-index-requires-2 : goal.sort_sum-index-requires-2
-sort_sum-index-requires-2 t c = omega (arith, pair c.args.signature.now c.args.f c.us.inside.items.items c.args.us.now c.us.view_is c.requires.term c.is_good.ensures c.requires.sum)
+sort_sum-index-requires-2 t c = omega (arith, pair c.args.signature.now c.args.f c.us.inside.items.items c.args.us.now c.us.view_is c.requires.term c.recall_good.ensures c.requires.sum)
 
 pub sort_sum-sort_term-right-requires : goal.sort_sum-sort_term-right-requires
 sort_sum-sort_term-right-requires t c =
-    let u = summand c.args.signature.now c.args.f c.us.inside.items.items c.args.us.now c.us.view_is c.requires.term c.is_good.ensures c.requires.sum 1 c.index-2.result.now (omega arith) c.index-2.ensures in
+    let u = summand c.args.signature.now c.args.f c.us.inside.items.items c.args.us.now c.us.view_is c.requires.term c.recall_good.ensures c.requires.sum 1 c.index-2.result.now (omega arith) c.index-2.ensures in
     (omega (arith, u.0), u.1)
 
 -- beside the identity a sum has the form of its other argument
 identity_left : (t : ℕ) (c : goal.sort_sum-Then-is_identity t) → canon c.args.signature.now (term c.index-2.result.now) ≡ canon c.args.signature.now (app c.args.f c.args.us.now)
 identity_left t c =
     let d = c.args.signature.now in
-    let sum = sum_of_two d c.args.f c.us.inside.items.items c.args.us.now c.us.view_is c.requires.term c.is_good.ensures c.requires.sum c.index.result.now c.index-2.result.now c.index.ensures c.index-2.ensures in
+    let sum = sum_of_two d c.args.f c.us.inside.items.items c.args.us.now c.us.view_is c.requires.term c.recall_good.ensures c.requires.sum c.index.result.now c.index-2.result.now c.index.ensures c.index-2.ensures in
     let known : IsIdentityOf d c.args.f (canon d (term c.index.result.now)) = rw (c.identity_in-identity.ensures, c.axioms.ensures, c.sort_term-left.ensures.constant) at (c.if-is_identity.ensures.0 refl) in
-    sym (ap (canon d) sum ∙ sum_left d c.is_good.ensures c.args.f (term c.index.result.now) (term c.index-2.result.now) c.requires.sum known)
+    sym (ap (canon d) sum ∙ sum_left d c.recall_good.ensures c.args.f (term c.index.result.now) (term c.index-2.result.now) c.requires.sum known)
 
 pub sort_sum-returns-then-is_identity-clause-sort : goal.sort_sum-returns-then-is_identity-clause-sort
 sort_sum-returns-then-is_identity-clause-sort t c = c.sort_term-right.ensures.sort ∙ ap (least_sort c.args.signature.now) (identity_left t c)
@@ -126,9 +126,9 @@ sort_sum-returns-then-is_identity-clause-constant t c = c.sort_term-right.ensure
 identity_right : (t : ℕ) (c : goal.sort_sum-Then-is_identity-2 t) → canon c.args.signature.now (term c.index.result.now) ≡ canon c.args.signature.now (app c.args.f c.args.us.now)
 identity_right t c =
     let d = c.args.signature.now in
-    let sum = sum_of_two d c.args.f c.us.inside.items.items c.args.us.now c.us.view_is c.requires.term c.is_good.ensures c.requires.sum c.index.result.now c.index-2.result.now c.index.ensures c.index-2.ensures in
+    let sum = sum_of_two d c.args.f c.us.inside.items.items c.args.us.now c.us.view_is c.requires.term c.recall_good.ensures c.requires.sum c.index.result.now c.index-2.result.now c.index.ensures c.index-2.ensures in
     let known : IsIdentityOf d c.args.f (canon d (term c.index-2.result.now)) = rw (c.identity_in-identity.ensures, c.axioms.ensures, c.sort_term-right.ensures.constant) at (c.if-is_identity-2.ensures.0 refl) in
-    sym (ap (canon d) sum ∙ sum_right d c.is_good.ensures c.args.f (term c.index.result.now) (term c.index-2.result.now) c.requires.sum known)
+    sym (ap (canon d) sum ∙ sum_right d c.recall_good.ensures c.args.f (term c.index.result.now) (term c.index-2.result.now) c.requires.sum known)
 
 pub sort_sum-returns-then-is_identity-2-clause-sort : goal.sort_sum-returns-then-is_identity-2-clause-sort
 sort_sum-returns-then-is_identity-2-clause-sort t c = c.sort_term-left.ensures.sort ∙ ap (least_sort c.args.signature.now) (identity_right t c)
@@ -138,7 +138,7 @@ sort_sum-returns-then-is_identity-2-clause-constant t c = c.sort_term-left.ensur
 
 -- where neither argument is the identity, a sum has its result over their sorts
 sum : (t : ℕ) (c : goal.sort_sum-After-result t) → app c.args.f c.args.us.now ≡ two c.args.f (term c.index.result.now) (term c.index-2.result.now)
-sum t c = sum_of_two c.args.signature.now c.args.f c.us.inside.items.items c.args.us.now c.us.view_is c.requires.term c.is_good.ensures c.requires.sum c.index.result.now c.index-2.result.now c.index.ensures c.index-2.ensures
+sum t c = sum_of_two c.args.signature.now c.args.f c.us.inside.items.items c.args.us.now c.us.view_is c.requires.term c.recall_good.ensures c.requires.sum c.index.result.now c.index-2.result.now c.index.ensures c.index-2.ensures
 
 not_left : (t : ℕ) (c : goal.sort_sum-After-result t) → IsIdentityOf c.args.signature.now c.args.f (canon c.args.signature.now (term c.index.result.now)) → ⊥
 not_left t c w = false≢true ((rw (c.identity_in-identity.ensures, c.axioms.ensures, c.sort_term-left.ensures.constant) at c.if-is_identity.ensures).1 w)
@@ -155,9 +155,9 @@ sort_sum-returns-clause-sort t c =
     c.result.ensures.exact
     ∙ ap (λ s. result d f (s ∷ c.sort_term-right.result.sort ∷ [])) c.sort_term-left.ensures.sort
     ∙ ap (λ s. result d f (least_sort d (canon d (term a)) ∷ s ∷ [])) c.sort_term-right.ensures.sort
-    ∙ sym (ap (λ u. least_sort d (canon d u)) (sum t c) ∙ sum_sort d c.is_good.ensures f (term a) (term b) c.requires.sum (subst (IsTerm d) (sum t c) c.requires.term) (not_left t c) (not_right t c))
+    ∙ sym (ap (λ u. least_sort d (canon d u)) (sum t c) ∙ sum_sort d c.recall_good.ensures f (term a) (term b) c.requires.sum (subst (IsTerm d) (sum t c) c.requires.term) (not_left t c) (not_right t c))
 
 pub sort_sum-returns-clause-constant : goal.sort_sum-returns-clause-constant
 sort_sum-returns-clause-constant t c =
     let d = c.args.signature.now in
-    sym (ap (λ u. as_constant (canon d u)) (sum t c) ∙ sum_constant d c.is_good.ensures c.args.f (term c.index.result.now) (term c.index-2.result.now) c.requires.sum (not_left t c) (not_right t c))
+    sym (ap (λ u. as_constant (canon d u)) (sum t c) ∙ sum_constant d c.recall_good.ensures c.args.f (term c.index.result.now) (term c.index-2.result.now) c.requires.sum (not_left t c) (not_right t c))

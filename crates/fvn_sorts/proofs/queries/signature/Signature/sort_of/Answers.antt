@@ -11,6 +11,6 @@ returns c =
     let d = c.args.self.now in
     let t = term c.args.t.now in
     subst (IsLeastSort d t) (sym c.sort_term.ensures.sort) record {
-      has = (least_sort_exact d c.is_good.ensures t c.requires _).1 same;
-      least = λ q h. (least_sort_exact d c.is_good.ensures t c.requires q).0 h;
+      has = (least_sort_exact d c.recall_good.ensures t c.requires _).1 same;
+      least = λ q h. (least_sort_exact d c.recall_good.ensures t c.requires q).0 h;
     }

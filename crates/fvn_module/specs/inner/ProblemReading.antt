@@ -16,9 +16,9 @@ use Rattle.fvn_module.specs.declared.first.terms.Spot.{Spot}
 use Rattle.fvn_module.specs.declared.first.terms.Spot.TheVariants.{Wanted, Named, Whole}
 use Rattle.fvn_module.specs.declared.first.terms.Reading.{Reading}
 use Rattle.fvn_module.specs.Pieces.{Text}
-use Rattle.fvn_module.specs.Tests.{is_word, is_name, is_special, is_dot}
+use Rattle.fvn_module.specs.inner.Tests.{is_word, is_name, is_special, is_dot}
 use Rattle.fvn_module.specs.Meaning.{Meaning, a_constant, a_variable, means, op_of, arity, place, variable}
-use Rattle.fvn_module.specs.ModuleReading.{bind}
+use Rattle.fvn_module.specs.inner.ModuleReading.{bind}
 use Rattle.fvn_module.specs.ProblemText.{is_reserved}
 
 -- the terms that are not closed, the innermost first, what was read last, the texts of the variables, and the left side once it is read

@@ -6,7 +6,7 @@ use Rattle.fvn_module.specs.declared.first.declared.Operator.{Operator}
 use Rattle.fvn_module.specs.declared.first.module_text.FirstModule.{FirstModule}
 use Rattle.fvn_module.specs.declared.first.pieces.Piece.{Piece}
 use Rattle.fvn_module.specs.Pieces.{Text}
-use Rattle.fvn_module.specs.Tests.{is_word, is_name, is_dot}
+use Rattle.fvn_module.specs.inner.Tests.{is_word, is_name, is_dot}
 use Rattle.fvn_module.specs.ModuleText.{arity_in, before, colon, sorted_name, module_of}
 
 -- the operators so far, each once, and the names of the variable statements so far

@@ -1,5 +1,6 @@
 -- What holds of every module and problem that was read.
 use Rattle.std.specs.Prelude.{ℕ, ◌≡◌, ◌≢◌, ◌≤◌, [], ◌∷◌, length, All, AllPairs, Contains}
+use Rattle.fvn_base.specs.declared.limits.TheConstants.{OPERATORS}
 use Rattle.fvn_terms.specs.declared.plain.Var.{Var}
 use Rattle.fvn_terms.specs.declared.declarations.OpDecl.{OpDecl}
 use Rattle.fvn_terms.specs.declared.declarations.Declarations.{Declarations}
@@ -28,7 +29,7 @@ pub record IsFirstModule (m : FirstModule) : Type 0 where
   pub form : IsFirstForm m.declarations
   pub sort_names : length m.names.sorts ≡ 1
   pub op_names : length m.names.ops ≡ length m.declarations.ops
-  pub few : length m.names.ops ≤ 256
+  pub few : length m.names.ops ≤ OPERATORS
   pub distinct : AllPairs (λ f g. f ≢ g) m.names.ops
 
 -- both sides are terms of the one kind, and their variables are listed, numbered in order, each with a text of its own
