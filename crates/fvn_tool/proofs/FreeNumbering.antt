@@ -2,7 +2,9 @@
 use Rattle.std.proofs.Common.{◌≡◌, ◌≢◌, ◌⊎◌, ℕ, suc, ◌+◌, ◌<◌, ◌≤◌, Bool, true, false, ◌&&◌, nat_eq, if◌then◌else◌, Some, List, [], ◌∷◌, ◌++◌, length, map, get_or, refl, sym, ap, ◌∙◌, subst, inl, inr, arith, All, append_assoc}
 use Rattle.std.proofs.lemmas.Bool.{cases_lt, cond-true, cond-false, eq-eqb, eqb-true}
 use Rattle.std.proofs.lemmas.List.{append-nil, map-append, length-append}
-use Rattle.std.proofs.lemmas.List.Elements.{All-head, All-tail, All-push}
+use Rattle.std.specs.List.{Contains}
+use Rattle.std.proofs.lemmas.List.Elements.{All-head, All-tail, All-push, Contains-append_left, Contains-append_right}
+use Rattle.fvn_base.proofs.Membership.{contains_here, contains_cases, contains_none}
 use Rattle.fvn_terms.specs.declared.plain.Var.{Var}
 use Rattle.fvn_terms.specs.declared.plain.Plain.TheVariants.{Var as Variable}
 use Rattle.fvn_terms.specs.Term.{Term, Terms, var, app, none, more}
@@ -147,29 +149,16 @@ All-noted P s (x ∷ xs) h g =
       | inr e ↦ subst (All P) (sym (noted-new s x xs e)) (All-noted P (s ++ x ∷ []) xs (All-push P s x h (All-head P x xs g)) (All-tail P x xs g))
     ]
 
--- x is in the list
-abbrev pub Member : Var → List Var → Type 0
-Member x [] = ⊥
-Member x (y ∷ ys) = (y ≡ x) ⊎ Member x ys
-
-pub Member-append_left : (x : Var) (xs ys : List Var) → Member x xs → Member x (xs ++ ys)
-Member-append_left x [] ys h = absurd h
-Member-append_left x (y ∷ xs) ys (inl e) = inl e
-Member-append_left x (y ∷ xs) ys (inr h) = inr (Member-append_left x xs ys h)
-
-pub Member-append_right : (x : Var) (xs ys : List Var) → Member x ys → Member x (xs ++ ys)
-Member-append_right x [] ys h = h
-Member-append_right x (y ∷ xs) ys h = inr (Member-append_right x xs ys h)
-
+-- a variable that occurs is one of the list of occurrences
 mutual
-  pub Member-variables : (x : Var) (t : Term) → Occurs x t → Member x (variables_of t)
-  Member-variables x (var y) o = inl (sym o)
-  Member-variables x (app f ts) o = Member-variables_among x ts o
+  pub variables_of-contains : (x : Var) (t : Term) → Occurs x t → Contains (variables_of t) x
+  variables_of-contains x (var y) o = subst (Contains (y ∷ [])) (sym o) (contains_here y [])
+  variables_of-contains x (app f ts) o = variables_among-contains x ts o
 
-  pub Member-variables_among : (x : Var) (ts : Terms) → OccursAmong x ts → Member x (variables_among ts)
-  Member-variables_among x none o = absurd o
-  Member-variables_among x (more t ts) (inl o) = Member-append_left x (variables_of t) (variables_among ts) (Member-variables x t o)
-  Member-variables_among x (more t ts) (inr o) = Member-append_right x (variables_of t) (variables_among ts) (Member-variables_among x ts o)
+  pub variables_among-contains : (x : Var) (ts : Terms) → OccursAmong x ts → Contains (variables_among ts) x
+  variables_among-contains x none o = absurd o
+  variables_among-contains x (more t ts) (inl o) = Contains-append_left (variables_of t) (variables_among ts) x (variables_of-contains x t o)
+  variables_among-contains x (more t ts) (inr o) = Contains-append_right (variables_of t) (variables_among ts) x (variables_among-contains x ts o)
 
 place_of-kept : (s t : List Var) → Grows s t → (x : Var) → place_of s x < length s → place_of t x ≡ place_of s x
 place_of-kept s t g x h = ap (λ u. place_of u x) g.is ∙ place_of-append s g.rest x h
@@ -177,16 +166,16 @@ place_of-kept s t g x h = ap (λ u. place_of u x) g.is ∙ place_of-append s g.r
 length-grows : (s t : List Var) → Grows s t → length s ≤ length t
 length-grows s t g = let e = ap length g.is ∙ length-append s g.rest in omega (arith, e)
 
-pub place_of-noted : (s xs : List Var) (x : Var) → Member x xs → place_of (noted s xs) x < length (noted s xs)
-place_of-noted s [] x h = absurd h
-place_of-noted s (y ∷ ys) x (inl p) =
+-- the first of the list is numbered
+place_of-first : (s : List Var) (y : Var) (ys : List Var) → place_of (noted s (y ∷ ys)) y < length (noted s (y ∷ ys))
+place_of-first s y ys =
     elim (cases_bool (is_among s y)) [
       | inl e ↦
           let g = noted-grows s ys in
           let among = place_of-among s y e in
           let k = place_of-kept s (noted s ys) g y among in
           let l = length-grows s (noted s ys) g in
-          subst (λ z. place_of (noted s (y ∷ ys)) z < length (noted s (y ∷ ys))) p (subst (λ u. place_of u y < length u) (sym (noted-among s y ys e)) (omega (arith, among, k, l)))
+          subst (λ u. place_of u y < length u) (sym (noted-among s y ys e)) (omega (arith, among, k, l))
       | inr e ↦
           let s' : List Var = s ++ y ∷ [] in
           let g = noted-grows s' ys in
@@ -195,9 +184,16 @@ place_of-noted s (y ∷ ys) x (inl p) =
           let among : place_of s' y < length s' = omega (arith, at, n) in
           let k = place_of-kept s' (noted s' ys) g y among in
           let l = length-grows s' (noted s' ys) g in
-          subst (λ z. place_of (noted s (y ∷ ys)) z < length (noted s (y ∷ ys))) p (subst (λ u. place_of u y < length u) (sym (noted-new s y ys e)) (omega (arith, among, k, l)))
+          subst (λ u. place_of u y < length u) (sym (noted-new s y ys e)) (omega (arith, among, k, l))
     ]
-place_of-noted s (y ∷ ys) x (inr h) = place_of-noted (if is_among s y then s else s ++ y ∷ []) ys x h
+
+pub place_of-noted : (s xs : List Var) (x : Var) → Contains xs x → place_of (noted s xs) x < length (noted s xs)
+place_of-noted s [] x h = absurd (contains_none x h)
+place_of-noted s (y ∷ ys) x h =
+    elim (contains_cases y ys x h) [
+      | inl e ↦ subst (λ z. place_of (noted s (y ∷ ys)) z < length (noted s (y ∷ ys))) e (place_of-first s y ys)
+      | inr m ↦ place_of-noted (if is_among s y then s else s ++ y ∷ []) ys x m
+    ]
 
 -- the numbers
 abbrev pub number_of : List Var → Var → Var
@@ -303,7 +299,7 @@ module _ (ts : Terms) where
   all_seen = noted [] (variables_among ts)
 
   there-is : (x : Var) → OccursAmong x ts → value (numbered_from 1 all_seen) x ≡ var (number_of all_seen x)
-  there-is x o = value-numbered 1 all_seen x (place_of-noted [] (variables_among ts) x (Member-variables_among x ts o))
+  there-is x o = value-numbered 1 all_seen x (place_of-noted [] (variables_among ts) x (variables_among-contains x ts o))
 
   pub AreNumbered-renamed : (us : Terms) → us ≡ apply_all (value (numbered_from 1 all_seen)) ts → AreNumbered (variables_among us)
   AreNumbered-renamed us e =
@@ -322,6 +318,6 @@ module _ (ts : Terms) where
         to = e;
         from = sym (
             ap (apply_all c) e ∙ apply_all-apply_all s c ts
-            ∙ apply_all-agree (followed_by s c) var ts (λ x o. ap (apply c) (there-is x o) ∙ unnumbered-numbered 1 all_seen x (place_of-noted [] (variables_among ts) x (Member-variables_among x ts o))) ∙ apply_all-var ts
+            ∙ apply_all-agree (followed_by s c) var ts (λ x o. ap (apply c) (there-is x o) ∙ unnumbered-numbered 1 all_seen x (place_of-noted [] (variables_among ts) x (variables_among-contains x ts o))) ∙ apply_all-var ts
             );
       }

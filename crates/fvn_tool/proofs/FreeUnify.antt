@@ -2,7 +2,7 @@
 use Rattle.std.proofs.Common.{◌≡◌, ℕ, zero, suc, ◌+◌, ◌<◌, ◌≤◌, List, [], ◌∷◌, ◌++◌, length, map, get_or, take, refl, sym, ap, ◌∙◌, subst, inl, inr, arith, All, Contains, Option, Some, IfSome, Vec, Global}
 use Rattle.std.proofs.lemmas.Bool.{cases_lt}
 use Rattle.std.proofs.lemmas.List.{length-append, get_or_default, get_or-take, length-take-le}
-use Rattle.std.proofs.lemmas.List.Elements.{All-take}
+use Rattle.std.proofs.lemmas.List.Elements.{All-take, Contains-append_left, Contains-append_right}
 use Rattle.fvn_terms.specs.declared.plain.Var.{Var}
 use Rattle.fvn_terms.specs.declared.plain.Plain.{Plain}
 use Rattle.fvn_terms.specs.declared.declarations.Declarations.{Declarations}
@@ -32,7 +32,7 @@ use Rattle.fvn_tool.proofs.FreeSolved.{variable_at, IsValue-unique, subterms-tog
 use Rattle.fvn_tool.proofs.FreeSorted.{AreSorted-values, free_operators, number, number-values}
 use Rattle.fvn_tool.proofs.FreeAssigned.{assigned, value-assigned, assigned-apply, assigned-not, assigned-value, place_of-apart, place_of-within, IsWellSorted-renaming, IsWellSorted-from, IsWellSorted-assigned, Fits, Fits-var}
 use Rattle.fvn_tool.specs.inner.FreeNumbering.{noted}
-use Rattle.fvn_tool.proofs.FreeNumbering.{place_of, Member, Member-append_left, Member-append_right, Member-variables}
+use Rattle.fvn_tool.proofs.FreeNumbering.{place_of, variables_of-contains}
 use Rattle.fvn_tool.proofs.FreeSmall.{length-variables, length-noted, variables-values}
 
 equal-BEqual : (d : Declarations) (t u : Term) → t ≡ u → BEqual d t u
@@ -234,19 +234,19 @@ module _ {d : Declarations} {vars : List Var} {left right : Term} {t : Table} {l
   pub sorts-values : (ts : Terms) (ds : List ℕ) → AreValues t cs ts ds → All (λ x. x.sort ≡ the_sort) (variables_among ts)
   sorts-values ts ds values = variables-values t cs (λ x. x.sort ≡ the_sort) (λ i x h e. subst (λ y. y.sort ≡ the_sort) e (sorts i x h)) ts ds values
 
-  occurring : (i : ℕ) (x : Var) → i < m → get_or t.vars.items i x ≡ x → Member x (variables_of left ++ variables_of right)
+  occurring : (i : ℕ) (x : Var) → i < m → get_or t.vars.items i x ≡ x → Contains (variables_of left ++ variables_of right) x
   occurring i x h e =
       let k = number-length in
       let here : Contains vars x = (i, omega (arith, k, h), ap (λ xs. get_or xs i x) (sym posed.table.listed) ∙ e) in
       elim (posed.listed.occurring x here) [
-        | inl o ↦ Member-append_left x (variables_of left) (variables_of right) (Member-variables x left o)
-        | inr o ↦ Member-append_right x (variables_of left) (variables_of right) (Member-variables x right o)
+        | inl o ↦ Contains-append_left (variables_of left) (variables_of right) x (variables_of-contains x left o)
+        | inr o ↦ Contains-append_right (variables_of left) (variables_of right) x (variables_of-contains x right o)
       ]
 
   pub few-values : (ts : Terms) (ds : List ℕ) → AreValues t cs ts ds → length (noted [] (variables_among ts)) ≤ nodes left + nodes right
   few-values ts ds values =
       let ys : List Var = variables_of left ++ variables_of right in
-      let few = length-noted (variables_among ts) ys (variables-values t cs (λ x. Member x ys) occurring ts ds values) in
+      let few = length-noted (variables_among ts) ys (variables-values t cs (Contains ys) occurring ts ds values) in
       let n = length-append (variables_of left) (variables_of right) in
       let a = length-variables left in
       let b = length-variables right in

@@ -1,13 +1,16 @@
 -- Terms with numbered variables that are instances of each other are the same.
 use Rattle.std.proofs.Common.{◌≡◌, ◌⊎◌, ℕ, ◌+◌, ◌<◌, ◌≤◌, List, [], ◌∷◌, ◌++◌, map, refl, sym, ap, ◌∙◌, subst, inl, inr, arith}
 use Rattle.std.proofs.lemmas.Bool.{cases_lt}
+use Rattle.std.specs.List.{Contains}
+use Rattle.std.proofs.lemmas.List.Elements.{Contains-append_cases}
+use Rattle.fvn_base.proofs.Membership.{contains_here, contains_later, contains_cases, contains_none}
 use Rattle.fvn_terms.specs.declared.plain.Var.{Var}
 use Rattle.fvn_terms.specs.declared.plain.OpId.{OpId}
 use Rattle.fvn_terms.specs.Term.{Term, Terms, var, app, none, more}
 use Rattle.fvn_terms.specs.Substitution.{Substitution, apply, apply_all, Occurs, OccursAmong}
 use Rattle.fvn_terms.proofs.Substitutions.{apply_all-agree, apply_all-var}
 use Rattle.fvn_tool.specs.Free.{variables_of, variables_among, fresh, AreNumberedFrom, AreNumbered, no_more, seen, «new»}
-use Rattle.fvn_tool.proofs.FreeNumbering.{Member, Member-variables_among, variables_among-apply}
+use Rattle.fvn_tool.proofs.FreeNumbering.{variables_among-contains, variables_among-apply}
 
 app-args : {f g : OpId} {ts us : Terms} → app f ts ≡ app g us → ts ≡ us
 app-args e = cc
@@ -40,20 +43,14 @@ module _ (p q : Substitution) where
     back_all-at (more t ts) e x (inl o) = back-at t (more-head e) x o
     back_all-at (more t ts) e x (inr o) = back_all-at ts (more-tail e) x o
 
-Member-append : (x : Var) (xs ys : List Var) → Member x (xs ++ ys) → Member x xs ⊎ Member x ys
-Member-append x [] ys h = inr h
-Member-append x (y ∷ xs) ys (inl e) = inl (inl e)
-Member-append x (y ∷ xs) ys (inr h) = elim (Member-append x xs ys h) [ inl a ↦ inl (inr a) | inr b ↦ inr b ]
-
 mutual
-  occurs : (x : Var) (t : Term) → Member x (variables_of t) → Occurs x t
-  occurs x (var y) (inl e) = sym e
-  occurs x (var y) (inr h) = absurd h
+  occurs : (x : Var) (t : Term) → Contains (variables_of t) x → Occurs x t
+  occurs x (var y) h = elim (contains_cases y [] x h) [ inl e ↦ sym e | inr n ↦ absurd (contains_none x n) ]
   occurs x (app f ts) h = occurs_among x ts h
 
-  occurs_among : (x : Var) (ts : Terms) → Member x (variables_among ts) → OccursAmong x ts
-  occurs_among x none h = absurd h
-  occurs_among x (more t ts) h = elim (Member-append x (variables_of t) (variables_among ts) h) [ inl a ↦ inl (occurs x t a) | inr b ↦ inr (occurs_among x ts b) ]
+  occurs_among : (x : Var) (ts : Terms) → Contains (variables_among ts) x → OccursAmong x ts
+  occurs_among x none h = absurd (contains_none x h)
+  occurs_among x (more t ts) h = elim (Contains-append_cases (variables_of t) (variables_among ts) x h) [ inl a ↦ inl (occurs x t a) | inr b ↦ inr (occurs_among x ts b) ]
 
 -- Numbered lists
 
@@ -107,14 +104,14 @@ module _ (f g : Var → Var) where
       record { next = n + 1; stays = e' ∙ sym e; stay = Stay-next n stay (ap f (sym e) ∙ e') (ap g (sym e') ∙ back ∙ e); rest = r; images = r' }
 
   -- a list and its image that are both numbered, and whose variables g leads back to, are the same
-  all_stay : (n : ℕ) (xs : List Var) → Stay n → AreNumberedFrom n xs → AreNumberedFrom n (map f xs) → ((x : Var) → Member x xs → g (f x) ≡ x) → (x : Var) → Member x xs → f x ≡ x
-  all_stay n [] stay h k back x m = absurd m
-  all_stay n (y ∷ ys) stay h k back x (inl e) =
-      let s = first_stays n y ys stay (back y (inl refl)) (starts n y ys (y ∷ ys) refl h) (starts n (f y) (map f ys) (f y ∷ map f ys) refl k) in
-      subst (λ z. f z ≡ z) e s.stays
-  all_stay n (y ∷ ys) stay h k back x (inr m) =
-      let s = first_stays n y ys stay (back y (inl refl)) (starts n y ys (y ∷ ys) refl h) (starts n (f y) (map f ys) (f y ∷ map f ys) refl k) in
-      all_stay s.next ys s.stay s.rest s.images (λ z o. back z (inr o)) x m
+  all_stay : (n : ℕ) (xs : List Var) → Stay n → AreNumberedFrom n xs → AreNumberedFrom n (map f xs) → ((x : Var) → Contains xs x → g (f x) ≡ x) → (x : Var) → Contains xs x → f x ≡ x
+  all_stay n [] stay h k back x m = absurd (contains_none x m)
+  all_stay n (y ∷ ys) stay h k back x m =
+      let s = first_stays n y ys stay (back y (contains_here y ys)) (starts n y ys (y ∷ ys) refl h) (starts n (f y) (map f ys) (f y ∷ map f ys) refl k) in
+      elim (contains_cases y ys x m) [
+        | inl e ↦ subst (λ z. f z ≡ z) e s.stays
+        | inr i ↦ all_stay s.next ys s.stay s.rest s.images (λ z o. back z (contains_later y ys z o)) x i
+      ]
 
 -- numbered terms of which each are instances of the others are the same
 pub numbered_alike : (p q : Substitution) (ts us : Terms) → us ≡ apply_all p ts → ts ≡ apply_all q us → AreNumbered (variables_among ts) → AreNumbered (variables_among us) → us ≡ ts
@@ -126,4 +123,4 @@ numbered_alike p q ts us there back h k =
     let images : variables_among us ≡ map f (variables_among ts) = ap variables_among there ∙ variables_among-apply p f ts to in
     let stay = all_stay f g 1 (variables_among ts) (λ i l m. absurd (omega (arith, l, m))) h (subst AreNumbered images k)
     (λ x m. ap variable_in (ap (apply q) (sym (to x (occurs_among x ts m))) ∙ returns x (occurs_among x ts m))) in
-    there ∙ apply_all-agree p var ts (λ x o. to x o ∙ ap var (stay x (Member-variables_among x ts o))) ∙ apply_all-var ts
+    there ∙ apply_all-agree p var ts (λ x o. to x o ∙ ap var (stay x (variables_among-contains x ts o))) ∙ apply_all-var ts
