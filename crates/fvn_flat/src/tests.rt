@@ -1,10 +1,12 @@
 //! Flat forms of terms, and substitutions of them.
 mod reading;
 mod showing;
+mod substituting;
 mod terms;
 
 use self::reading::collected;
 use self::showing::{push_flat, push_sort};
+use self::substituting::shown_instance;
 use self::terms::{is_term, term_of};
 use crate::{flatten, rename_apart};
 use fvn_sorts::Signature;
@@ -112,6 +114,35 @@ A0 A0 g => g(#A3 #A3) 4
 A0 B0 g A0 g => g(g(#A3 #B4) #A3) 5
 B2 A0 h A0 B2 g h => h[#A3 #B4 g(#A3 #B4)] 5";
 
+// Blocks: a signature, and then substitutions with a term and what they make of it, all bound variables
+// replaced at once; two substitutions one after the other; a substitution for one variable only; two terms.
+const INSTANCES: &str = "A B; A < B; f : -> A; g : B B -> B; h : B B -> B [assoc comm]
+B0 f | B0 B1 h => h[B1 f]
+B0 A0 A1 h | B0 A2 h => h[A0 A1 A2]
+B0 B1; B1 f | B0 B1 g => g(B1 f)
+B0 B1 then B1 f | B0 B1 g => g(f f)
+B0 A0 A1 h then A0 f | B0 A0 g => g(h[A1 f] f)
+B0 f; B1 A0 only B1 | B0 B1 g => g(B0 A0)
+
+A; f : -> A; g : -> A; h : -> A; i : -> A; j : A A -> A [assoc comm id: i]; k : A A -> A
+A0 f g j | A0 A0 j h j => j[f f g g h]
+A0 i | A0 h j => h
+A0 i | A0 A0 j => i
+A0 i | A0 f k => k(i f)
+A0 A1; A1 A0 | A0 A1 k => k(A1 A0)
+A0 A1 f j; A1 g | A0 A1 k => k(j[A1 f] g)
+A0 A1 f j then A1 g | A0 A1 k => k(j[f g] g)
+A0 A1 f j then A1 i | A0 A1 k => k(f i)
+A0 f then A0 g | A0 A1 k => k(f A1)
+A0 f; A1 g only A0 | A0 A1 k => k(f A1)
+A0 f; A1 g only A1 | A0 A1 j => j[A0 g]
+A0 f; A1 g only A2 | A0 A1 k => k(A0 A1)
+f g j h j = h f g j j => same
+A0 i j A1 j = A1 A0 j => same
+f g k = g f k => other
+f f j g j = f g g j j => other
+A0 = A1 => other";
+
 /// The flat form of the term, its size and its least sort.
 fn shown_form(alloc: Global, sig: &Signature, text: &str) -> Result<String, NoMemory> {
     let mut out = String::new(alloc);
@@ -173,6 +204,20 @@ fn assert_renamed(
     Ok(())
 }
 
+fn assert_instances(
+    rt: &impl Abort,
+    alloc: Global,
+    sig: &Signature,
+    lines: &str,
+) -> Result<(), NoMemory> {
+    for line in lines.lines() {
+        let (text, want) = line.split_once(" => ").unwrap_or((line, ""));
+        let shown = shown_instance(alloc, sig, text)?;
+        assert_eq!(rt; shown.as_str(), want, "at {text}");
+    }
+    Ok(())
+}
+
 #[test]
 fn terms_have_flat_forms(rt: HostRuntime) -> Result<(), NoMemory> {
     let alloc = rt.alloc();
@@ -193,6 +238,19 @@ fn variables_are_renamed(rt: HostRuntime) -> Result<(), NoMemory> {
     match collected(&rt, alloc, text)?.finish(alloc) {
         Ok(sig) => assert_renamed(&rt, alloc, &sig, lines)?,
         Err(_) => assert!(rt; false, "at {text}"),
+    }
+    Ok(())
+}
+
+#[test]
+fn variables_are_replaced(rt: HostRuntime) -> Result<(), NoMemory> {
+    let alloc = rt.alloc();
+    for block in INSTANCES.split("\n\n") {
+        let (text, lines) = block.split_once('\n').unwrap_or((block, ""));
+        match collected(&rt, alloc, text)?.finish(alloc) {
+            Ok(sig) => assert_instances(&rt, alloc, &sig, lines)?,
+            Err(_) => assert!(rt; false, "at {text}"),
+        }
     }
     Ok(())
 }
