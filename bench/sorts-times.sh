@@ -2,9 +2,10 @@
 # Times of `finish` beside those that Maude needs to load the same signature and use each operator once.
 #
 # Rows: 256 operators of eight arguments over 64 sorts with some ranks each; 256 sums over one kind of 64
-# sorts; 64 ranks spread over eight places of a chain, a tree and a random order, of one operator and of
-# 256. Times in microseconds; Maude's are of its whole run, and end at LIMIT seconds (60). Run at the top of
-# the repository; it works in a copy, which it proves first. ROWS=sums shows the rows that begin so alone.
+# sorts, all with the same ranks; turned, such sums with ranks of their own; 64 ranks spread over eight
+# places of a chain, a tree and a random order, of one operator and of 256. Times in microseconds; Maude's
+# are of its whole run, and end at LIMIT seconds (60). Run at the top of the repository; it works in a copy,
+# which it proves first. ROWS=sums shows the rows that begin so alone.
 set -e
 here=$(cd "$(dirname "$0")/.." && pwd)
 limit=${LIMIT:-60}
@@ -169,12 +170,14 @@ fn signature(
     arity: usize,
     ranks: u16,
     axioms: Axioms,
+    turned: bool,
 ) -> Result<SignatureBuilder, NoMemory> {
     assert!(rt; ranks <= 64 && ranks > 0);
     let mut builder = sorts(rt, alloc, order)?;
     for op in 0..256u16 {
         for r in 0..ranks {
-            let s = r.wrapping_mul(64 / ranks);
+            let turn = if turned { op } else { 0 };
+            let s = r.wrapping_mul(64 / ranks).wrapping_add(turn) & 63;
             builder = with(rt, alloc, builder, op, s, arity, axioms)?;
         }
     }
@@ -239,7 +242,7 @@ fn shown_time(rt: &HostRuntime, row: &str, order: Order, what: &str, builder: Si
 fn plain(rt: HostRuntime) -> Result<(), NoMemory> {
     for (ranks, what) in [(1u16, "1"), (4, "4"), (16, "16")] {
         for order in [Order::Chain, Order::Tree, Order::Flat] {
-            let builder = signature(&rt, rt.alloc(), order, 8, ranks, Axioms::Free)?;
+            let builder = signature(&rt, rt.alloc(), order, 8, ranks, Axioms::Free, false)?;
             shown_time(&rt, "plain", order, what, builder);
         }
     }
@@ -250,8 +253,19 @@ fn plain(rt: HostRuntime) -> Result<(), NoMemory> {
 fn sums(rt: HostRuntime) -> Result<(), NoMemory> {
     for (ranks, what) in [(1u16, "1"), (4, "4"), (16, "16"), (64, "64")] {
         for order in [Order::Chain, Order::Tree, Order::Flat, Order::Random] {
-            let builder = signature(&rt, rt.alloc(), order, 2, ranks, Axioms::AssocComm)?;
+            let builder = signature(&rt, rt.alloc(), order, 2, ranks, Axioms::AssocComm, false)?;
             shown_time(&rt, "sums", order, what, builder);
+        }
+    }
+    Ok(())
+}
+
+#[test]
+fn turned_sums(rt: HostRuntime) -> Result<(), NoMemory> {
+    for (ranks, what) in [(1u16, "1"), (4, "4"), (16, "16"), (64, "64")] {
+        for order in [Order::Chain, Order::Tree, Order::Flat, Order::Random] {
+            let builder = signature(&rt, rt.alloc(), order, 2, ranks, Axioms::AssocComm, true)?;
+            shown_time(&rt, "turned", order, what, builder);
         }
     }
     Ok(())
@@ -329,14 +343,14 @@ module() {
         for (p = 0; p < 8; p++) text = text " S" arg(kind, r, p)
         s = reversed ? 63 - r : r
       } else {
-        s = r * int(64 / what)
+        s = (r * int(64 / what) + (row == "turned" ? f : 0)) % 64
         for (p = 0; p < arity; p++) text = text " S" s
       }
-      print text " -> S" s (row == "sums" ? " [assoc comm]" : "") " ."
+      print text " -> S" s (arity == 2 ? " [assoc comm]" : "") " ."
     }
     BEGIN {
       operators = row == "spread-1" ? 1 : 256
-      arity = row == "sums" ? 2 : 8
+      arity = row == "sums" || row == "turned" ? 2 : 8
       kind = what; reversed = sub(/-reversed$/, "", kind)
       ranks = row ~ /^spread/ ? 64 : what
       print "fmod TIMES is"
@@ -357,9 +371,9 @@ module() {
     }'
 }
 
-rt test 2>&1 | grep -E '^ *(plain|sums|spread-[0-9]+) |not proved|error|test result' | sed 's/^ *//' | while read -r row order what answer spent; do
+rt test 2>&1 | grep -E '^ *(plain|sums|turned|spread-[0-9]+) |not proved|error|test result' | sed 's/^ *//' | while read -r row order what answer spent; do
   case $row in
-    plain | sums | spread-*)
+    plain | sums | turned | spread-*)
       case $row in "$rows"*) ;; *) continue ;; esac
       module "$row" "$order" "$what" > module.maude
       start=$(date +%s%N)

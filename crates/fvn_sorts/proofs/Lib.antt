@@ -3,6 +3,7 @@ mod Operators
 mod CollectedSteps
 mod Closures
 mod Parts
+mod AlikeLemmas
 mod TableLemmas
 mod CompletedKinds
 mod Orders

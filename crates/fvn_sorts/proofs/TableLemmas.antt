@@ -1,12 +1,13 @@
 -- What stands in a table of results.
-use Rattle.std.proofs.Common.{◌≡◌, ℕ, ◌<◌, List, [], ◌∷◌, map, length, get_or, inl, inr, true, ltb, sym, ap, subst, ◌∙◌, arith}
-use Rattle.std.proofs.lemmas.Bool.{ltb-true}
+use Rattle.std.proofs.Common.{◌≡◌, ℕ, ◌<◌, ◌≤◌, ◌⊎◌, List, [], ◌∷◌, ◌++◌, map, length, get_or, inl, inr, true, ltb, sym, ap, subst, ◌∙◌, arith}
+use Rattle.std.proofs.lemmas.Bool.{ltb-true, cases_lt}
+use Rattle.std.proofs.lemmas.List.{get_or_append_left, get_or_push, get_or_past, length_push}
 use Rattle.fvn_terms.specs.declared.plain.OpId.{OpId}
 use Rattle.fvn_terms.specs.declared.plain.SortId.{SortId}
 use Rattle.fvn_terms.specs.declared.declarations.Declarations.{Declarations}
 use Rattle.fvn_forms.specs.SortOrder.{sort_number}
 use Rattle.fvn_forms.specs.Ranks.{result}
-use Rattle.fvn_sorts.specs.Collected.{first_sorts}
+use Rattle.fvn_sorts.specs.Collected.{first_sorts, op_number}
 use Rattle.fvn_sorts.specs.inner.Drafts.{IsTable}
 use Rattle.fvn_sorts.proofs.Parts.{map_sorts-at, map_sorts-length}
 
@@ -27,3 +28,15 @@ table-at d f n rows (inr e) i j row s l r m h =
     let is_row : row ≡ map (results (sort_number i)) (first_sorts n) = r ∙ ap (λ l. get_or l i row) e ∙ map_sorts-at (λ a. map (results a) (first_sorts n)) n i row within in
     let wide : length row ≡ n = ap length is_row ∙ map_sorts-length (results (sort_number i)) n in
     h ∙ ap (λ l. get_or l j s) is_row ∙ map_sorts-at (results (sort_number i)) n j s (omega arith)
+
+-- the tables, with that of the next operator
+pub more_tables : (d : Declarations) (n : ℕ) (tables : List (List (List SortId))) (rows : List (List SortId)) (k : ℕ) → length tables ≡ k → ((f : OpId) → IsTable d f n (get_or tables f.0 [])) → IsTable d (op_number k) n rows → (f : OpId) → IsTable d f n (get_or (tables ++ rows ∷ []) f.0 [])
+more_tables d n tables rows k long known next f = go (cases_lt f.0 k) where
+  go : (f.0 < k) ⊎ (k ≤ f.0) → IsTable d f n (get_or (tables ++ rows ∷ []) f.0 [])
+  go (inl l) = subst (IsTable d f n) (sym (get_or_append_left tables (rows ∷ []) [] f.0 (omega arith))) (known f)
+  go (inr l) = elim (cases_lt k f.0) [
+    | inl m ↦ inl (get_or_past (tables ++ rows ∷ []) f.0 [] (let e = length_push tables rows in omega (arith, e)))
+    | inr m ↦
+        let same : k ≡ f.0 = omega arith in
+        subst (IsTable d f n) (sym (get_or_push tables rows [] f.0 (long ∙ same))) (subst (λ i. IsTable d (op_number i) n rows) same next)
+  ]

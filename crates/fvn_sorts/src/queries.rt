@@ -1,5 +1,6 @@
 //! Good signatures, their tables and their queries.
 
+pub mod alike;
 pub mod draft;
 pub mod making;
 pub mod signature;

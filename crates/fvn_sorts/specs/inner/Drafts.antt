@@ -4,6 +4,7 @@ use Rattle.fvn_base.specs.declared.limits.TheConstants.{SORTS, OPERATORS}
 use Rattle.fvn_terms.specs.declared.plain.OpId.{OpId}
 use Rattle.fvn_terms.specs.declared.plain.SortId.{SortId}
 use Rattle.fvn_terms.specs.declared.declarations.Declarations.{Declarations}
+use Rattle.fvn_terms.specs.Signature.{declared}
 use Rattle.fvn_forms.specs.Good.{IsKinded, IsGood}
 use Rattle.fvn_forms.specs.Ranks.{ranks_of, result}
 use Rattle.fvn_sorts.specs.inner.Words.{IsClosure}
@@ -19,6 +20,14 @@ results_of_two d f n = map (λ s. map (λ q. result d f (s ∷ q ∷ [])) (first
 -- no table, or that of all results over two of the first n sorts
 abbrev pub IsTable : Declarations → OpId → ℕ → List (List SortId) → Type 0
 IsTable d f n rows = (rows ≡ []) ⊎ (rows ≡ results_of_two d f n)
+
+-- the two operators have the same axioms and the same declarations
+abbrev pub AreAlike : Declarations → OpId → OpId → Type 0
+AreAlike d f g = declared d f ≡ declared d g
+
+-- an earlier operator is so alike
+abbrev pub HasEarlierAlike : Declarations → OpId → Type 0
+HasEarlierAlike d g = (f : OpId) × ((f.0 < g.0) × AreAlike d f g)
 
 -- the words say where the order leads, the ranks are those of each operator, and each table that there is has the results of its operator
 pub record IsDraft (t : Draft) : Type 0 where

@@ -13,6 +13,7 @@ use crate::conditions::cycles::first_cycle;
 use crate::conditions::fault::SigFault;
 use crate::conditions::preregular::first_without;
 use crate::conditions::shapes::{Condition, first_failing};
+use crate::queries::alike::has_earlier_alike;
 use crate::queries::draft::Draft;
 use fvn_base::Seq;
 use fvn_terms::{Axioms, Declarations, NoMemory, OpId, Rank, SortId};
@@ -98,6 +99,9 @@ fn result_fault(
     ensures { IfOk result (IsFirstFrom collected.now 6 7) }
 {
     for op in 0..collected.operators {
+        if has_earlier_alike(&draft.declarations, OpId(op)) {
+            continue;
+        }
         match without_result(alloc, draft, collected, OpId(op))? {
             Some(list) => return Ok(Some(SigFault::NotPreregular(OpId(op), list))),
             None => {}
@@ -129,6 +133,9 @@ fn bracket_fault(draft: &Draft, collected: &Collected) -> Option<SigFault>
     ensures { IsFirstFrom collected.now 7 8 result }
 {
     for op in 0..collected.operators {
+        if has_earlier_alike(&draft.declarations, OpId(op)) {
+            continue;
+        }
         match bad_brackets(draft, collected, OpId(op)) {
             Some(t) => {
                 return Some(SigFault::NotAssocSorts(OpId(op), t.first, t.second, t.third));

@@ -5,6 +5,7 @@ ghost use Rattle.fvn_forms.specs.Ranks.{result as least_result};
 ghost use Rattle.fvn_sorts.specs.Collected.{first_sorts};
 ghost use Rattle.fvn_sorts.specs.inner.Drafts.{IsDraft, IsTable, results_of_two};
 
+use crate::queries::alike::earlier_alike;
 use crate::queries::draft::Draft;
 use fvn_base::Seq;
 use fvn_terms::{NoMemory, OpId, Rank, SortId};
@@ -53,7 +54,52 @@ fn table(alloc: Global, draft: &Draft, op: OpId) -> Result<Vec<Seq<SortId>>, NoM
     }
 }
 
-/// The table of each operator.
+/// The rows, in memory of their own.
+fn copied_rows(alloc: Global, rows: &[Seq<SortId>]) -> Result<Vec<Seq<SortId>>, NoMemory>
+    ensures { IfOk result (λ v. v.items ≡ rows.now) }
+{
+    let mut all = Vec::with_capacity(alloc, rows.len())?;
+    for row in rows {
+        all.push(Seq::from_vec(Vec::from_slice(alloc, row.as_slice())?))?;
+    }
+    Ok(all)
+}
+
+/// The table of one of the operators, in memory of its own.
+fn copied_table(
+    alloc: Global,
+    tables: &[Seq<Seq<SortId>>],
+    op: OpId,
+) -> Result<Vec<Seq<SortId>>, NoMemory>
+    ensures { IfOk result (λ v. v.items ≡ slice_index_or tables.now op.0 []) }
+{
+    match tables.get(usize::from(op.0)) {
+        Some(rows) => copied_rows(alloc, rows.as_slice()),
+        None => Ok(Vec::new(alloc)),
+    }
+}
+
+/// The table of an operator, where those of earlier ones are known.
+fn next_table(
+    alloc: Global,
+    draft: &Draft,
+    tables: &[Seq<Seq<SortId>>],
+    op: OpId,
+) -> Result<Vec<Seq<SortId>>, NoMemory>
+    requires draft { IsDraft draft.now }
+    requires tables { (f : OpId) → IsTable draft.now.declarations f draft.now.total (slice_index_or tables.now f.0 []) }
+    ensures { IfOk result (λ v. IsTable draft.now.declarations op draft.now.total v.items) }
+{
+    match earlier_alike(&draft.declarations, op) {
+        Some(earlier) => {
+            let rows = copied_table(alloc, tables, earlier)?;
+            Ok(rows)
+        }
+        None => table(alloc, draft, op),
+    }
+}
+
+/// The table of each operator; those of operators with the same declarations are the same.
 pub fn all_tables(
     alloc: Global,
     draft: &Draft,
@@ -64,7 +110,8 @@ pub fn all_tables(
 {
     let mut all = Vec::new(alloc);
     for op in 0..operators {
-        all.push(Seq::from_vec(table(alloc, draft, OpId(op))?))?;
+        let more = next_table(alloc, draft, all.as_slice(), OpId(op))?;
+        all.push(Seq::from_vec(more))?;
     }
     Ok(all)
 }

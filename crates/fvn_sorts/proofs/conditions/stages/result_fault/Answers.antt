@@ -6,6 +6,7 @@ use Rattle.fvn_sorts.specs.Collected.{op_number}
 use Rattle.fvn_sorts.specs.Faults.{HasNoResult, sort_numbers}
 use Rattle.fvn_sorts.specs.inner.Searches.{IsFirstList, the_list}
 use Rattle.fvn_sorts.proofs.Operators.{more_operators}
+use Rattle.fvn_sorts.proofs.AlikeLemmas.{alike_no_result}
 use Rattle.fvn_sorts.proofs.FaultOrder.{only, none_of_operators, first_of_operators}
 use Rattle.fvn_sorts.proofs.conditions.stages.result_fault.Goals as goal
 
@@ -13,6 +14,12 @@ pub loop-op-preserved : goal.loop-op-preserved
 loop-op-preserved c =
     let coll = c.args.collected.now in
     more_operators (λ g. (ss : List SortId) → HasNoResult coll g ss → ⊥) c.loop-op.op c.loop-op.invariant (subst (λ (r : Option (List SortId)). IsFirstList the_list (HasNoResult coll (op_number c.loop-op.op)) r) c.in-None.is c.in_ok-list.ensures)
+
+pub loop-op-preserved-then-has_earlier_alike : goal.loop-op-preserved-then-has_earlier_alike
+loop-op-preserved-then-has_earlier_alike c =
+    let coll = c.args.collected.now in
+    let w = c.if-has_earlier_alike.ensures refl in
+    more_operators (λ g. (ss : List SortId) → HasNoResult coll g ss → ⊥) c.loop-op.op c.loop-op.invariant (λ ss h. c.loop-op.invariant w.0 w.1.0 ss (alike_no_result coll c.args.draft.now.declarations c.requires.draft.is w.0 (op_number c.loop-op.op) w.1.1 ss h))
 
 pub returns-in-Some : goal.returns-in-Some
 returns-in-Some c =
