@@ -9,8 +9,6 @@ mod names;
 mod pieces;
 mod problem_text;
 mod terms;
-#[cfg(test)]
-mod tests;
 
 pub use fault::FirstFault;
 pub use laws::{

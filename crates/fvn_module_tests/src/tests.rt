@@ -1,5 +1,5 @@
 //! Module and problem texts at the edges of the form.
-use crate::first::{FirstFault, FirstModule, FirstProblem, read_module, read_problem};
+use fvn_module::first::{FirstFault, FirstModule, FirstProblem, read_module, read_problem};
 use fvn_terms::{Args, Plain, SortId};
 use std::alloc::Global;
 use std::test::Fail;
