@@ -24,7 +24,7 @@ pub struct Subst {
 
 impl Model for Subst {
     ghost use Rattle.std.specs.Coded.{coded×, coded_list};
-    ghost use Rattle.fvn_terms.specs.inner.Code.{coded_var};
+    ghost use Rattle.fvn_terms.specs.Coded.{coded_var};
     ghost use Rattle.fvn_flat.specs.inner.FlatCode.{coded_flat};
     ghost use Rattle.fvn_flat.specs.Bindings.{Bindings, BindsOnce};
 

@@ -13,4 +13,5 @@ pub mod Rewriting
 pub mod Variants
 pub mod Laws
 pub mod Falls
+pub mod Coded
 pub mod inner

@@ -1,20 +1,11 @@
 -- A list of terms as a list of marks, by which a proof tells lists of terms apart: each list in postfix order.
-use Rattle.std.specs.Prelude.{◌≡◌, ℕ, Bool, ◌⊎◌, List, [], ◌∷◌, Option, Some, None, refl}
+use Rattle.std.specs.Prelude.{◌≡◌, ◌⊎◌, List, [], ◌∷◌, Option, Some, None, refl}
 use Rattle.std.proofs.Common.{◌∙◌, ap, inl, inr}
-use Rattle.std.specs.Coded.{Coded, code_by, coded×, coded⊎, coded_ℕ, coded_bool, coded_list, coded_option}
+use Rattle.std.specs.Coded.{Coded, code_by, coded⊎, coded_list, coded_option}
 use Rattle.fvn_terms.specs.declared.plain.Var.{Var}
 use Rattle.fvn_terms.specs.declared.plain.OpId.{OpId}
 use Rattle.fvn_terms.specs.Term.{Term, Terms, var, app, none, more}
-
--- variables as two numbers and a mark
-abbrev pub coded_var : Coded Var
-coded_var =
-    code_by (ℕ × (ℕ × Bool)) (coded× coded_ℕ (coded× coded_ℕ coded_bool)) (λ x. (x.name, (x.sort.0, x.fresh)))
-    (λ p. record { name = p.0; sort = record { 0 = p.1.0 }; fresh = p.1.1 }) (λ _. refl)
-
--- operators as numbers
-abbrev pub coded_op : Coded OpId
-coded_op = code_by ℕ coded_ℕ (λ f. f.0) (λ n. record { 0 = n }) (λ _. refl)
+use Rattle.fvn_terms.specs.Coded.{coded_var, coded_op}
 
 -- the end of a list, a variable, or an operator whose arguments came before
 abbrev pub Mark : Type 0
