@@ -6,10 +6,10 @@ use Rattle.fvn_terms.specs.declared.plain.Plain.{Plain}
 use Rattle.fvn_terms.specs.Term.{nodes, pack}
 use Rattle.fvn_terms.specs.Plain.{term, terms}
 use Rattle.fvn_terms.specs.Substitution.{value}
-use Rattle.fvn_module.specs.declared.first.module_text.FirstModule.{FirstModule}
-use Rattle.fvn_module.specs.declared.first.problem_text.FirstProblem.{FirstProblem}
-use Rattle.fvn_module.specs.ModuleText.{IsModule, IsModuleText}
-use Rattle.fvn_module.specs.Laws.{IsFirstForm, ModulesAreFirst, ProblemsAreFirst, IsFirstProblem}
+use Rattle.fvn_first.specs.declared.first.module_text.FirstModule.{FirstModule}
+use Rattle.fvn_first.specs.declared.first.problem_text.FirstProblem.{FirstProblem}
+use Rattle.fvn_first.specs.ModuleText.{IsModule, IsModuleText}
+use Rattle.fvn_first.specs.Laws.{IsFirstForm, ModulesAreFirst, ProblemsAreFirst, IsFirstProblem}
 use Rattle.fvn_tool.specs.declared.status.Status.{Status}
 use Rattle.fvn_tool.specs.declared.status.Status.TheVariants.{Solved, Nothing, ModuleRefused, ProblemRefused, Ended}
 use Rattle.fvn_tool.specs.Free.{ListsVariables, IsMostGeneral, AreNumbered, variables_among}

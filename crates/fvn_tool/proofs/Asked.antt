@@ -10,14 +10,14 @@ use Rattle.fvn_terms.specs.declared.plain.Var.{Var}
 use Rattle.fvn_terms.specs.Term.{Term, Terms, var, app, none, more}
 use Rattle.fvn_terms.specs.Plain.{term}
 use Rattle.fvn_terms.specs.Substitution.{Occurs, OccursAmong}
-use Rattle.fvn_module.specs.declared.first.module_text.FirstModule.{FirstModule}
-use Rattle.fvn_module.specs.declared.first.problem_text.FirstProblem.{FirstProblem}
-use Rattle.fvn_module.specs.Pieces.{Text}
-use Rattle.fvn_module.specs.Spelling.{Raw, Raws, bare, call, round, last, and}
-use Rattle.fvn_module.specs.ModuleText.{the_sort}
-use Rattle.fvn_module.specs.Meaning.{Meaning, a_constant, a_variable, place, with_text, each_once, variable, variable_in, means, texts_in, texts_in_all, Stands, Denotes, DenoteAll}
-use Rattle.fvn_module.specs.ProblemText.{numbered, IsProblemText}
-use Rattle.fvn_module.specs.Laws.{IsFirstProblem}
+use Rattle.fvn_first.specs.declared.first.module_text.FirstModule.{FirstModule}
+use Rattle.fvn_first.specs.declared.first.problem_text.FirstProblem.{FirstProblem}
+use Rattle.fvn_first.specs.Pieces.{Text}
+use Rattle.fvn_first.specs.Spelling.{Raw, Raws, bare, call, round, last, and}
+use Rattle.fvn_first.specs.ModuleText.{the_sort}
+use Rattle.fvn_first.specs.Meaning.{Meaning, a_constant, a_variable, place, with_text, each_once, variable, variable_in, means, texts_in, texts_in_all, Stands, Denotes, DenoteAll}
+use Rattle.fvn_first.specs.ProblemText.{numbered, IsProblemText}
+use Rattle.fvn_first.specs.Laws.{IsFirstProblem}
 use Rattle.fvn_tool.specs.Free.{ListsVariables}
 use Rattle.fvn_tool.proofs.Members.{position_at, same_place}
 

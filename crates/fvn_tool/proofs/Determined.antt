@@ -9,9 +9,9 @@ use Rattle.fvn_terms.specs.Plain.{term}
 use Rattle.fvn_terms.specs.Substitution.{Substitution, apply, apply_all}
 use Rattle.fvn_terms.specs.Laws.{IsFree}
 use Rattle.fvn_terms.proofs.Free.{BEqual-free}
-use Rattle.fvn_module.specs.declared.first.module_text.FirstModule.{FirstModule}
-use Rattle.fvn_module.specs.declared.first.problem_text.FirstProblem.{FirstProblem}
-use Rattle.fvn_module.specs.Laws.{ModulesAreDetermined, ModulesAreFirst, ProblemsAreDetermined}
+use Rattle.fvn_first.specs.declared.first.module_text.FirstModule.{FirstModule}
+use Rattle.fvn_first.specs.declared.first.problem_text.FirstProblem.{FirstProblem}
+use Rattle.fvn_first.specs.Laws.{ModulesAreDetermined, ModulesAreFirst, ProblemsAreDetermined}
 use Rattle.fvn_tool.specs.declared.status.Status.{Status}
 use Rattle.fvn_tool.specs.Lines.{bindings_line}
 use Rattle.fvn_tool.specs.Spellings.{spelling}

@@ -10,8 +10,8 @@ use Rattle.fvn_terms.specs.Substitution.{Substitution, apply, apply_all, same_va
 use Rattle.fvn_terms.specs.Signature.{kind, IsSort, HasKind, same}
 use Rattle.fvn_terms.specs.Places.{stop}
 use Rattle.fvn_terms.specs.Sorts.{HasSort, IsWellSorted}
-use Rattle.fvn_module.specs.ModuleText.{the_sort}
-use Rattle.fvn_module.specs.Laws.{IsFirstForm}
+use Rattle.fvn_first.specs.ModuleText.{the_sort}
+use Rattle.fvn_first.specs.Laws.{IsFirstForm}
 use Rattle.fvn_tool.specs.declared.free.table.Table.{Table}
 use Rattle.fvn_tool.specs.inner.FreeValues.{IsValue, AreValues}
 use Rattle.fvn_tool.specs.inner.FreeNumbering.{IsRenaming}

@@ -7,7 +7,7 @@ use Rattle.fvn_terms.specs.declared.declarations.Declarations.{Declarations}
 use Rattle.fvn_terms.specs.Term.{Term, nodes}
 use Rattle.fvn_terms.specs.Plain.{term}
 use Rattle.fvn_terms.specs.Substitution.{Substitution, same_var, bound, term_or, value}
-use Rattle.fvn_module.specs.Laws.{IsFirstForm}
+use Rattle.fvn_first.specs.Laws.{IsFirstForm}
 use Rattle.fvn_tool.specs.Free.{IsMostGeneral, HasNoUnifier, IsTooLarge}
 use Rattle.fvn_tool.proofs.FreeSorted.{free_operators}
 use Rattle.fvn_tool.proofs.FreeNumbering.{cases_bool}

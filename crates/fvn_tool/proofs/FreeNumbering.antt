@@ -10,7 +10,7 @@ use Rattle.fvn_terms.specs.declared.plain.Plain.TheVariants.{Var as Variable}
 use Rattle.fvn_terms.specs.Term.{Term, Terms, var, app, none, more}
 use Rattle.fvn_terms.specs.Substitution.{Substitution, apply, apply_all, followed_by, Occurs, OccursAmong, same_truth, same_var, bound, term_or, value}
 use Rattle.fvn_terms.proofs.Substitutions.{apply_all-apply_all, apply_all-agree, apply_all-var}
-use Rattle.fvn_module.specs.ModuleText.{the_sort}
+use Rattle.fvn_first.specs.ModuleText.{the_sort}
 use Rattle.fvn_tool.specs.Free.{variables_of, variables_among, fresh, AreNumberedFrom, AreNumbered, no_more, seen, «new»}
 use Rattle.fvn_tool.specs.inner.FreeNumbering.{is_among, noted, numbered_from, IsRenaming, AreRenamed}
 

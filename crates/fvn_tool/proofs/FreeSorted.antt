@@ -13,8 +13,8 @@ use Rattle.fvn_terms.specs.Places.{stop}
 use Rattle.fvn_terms.specs.Sorts.{Gets, GetAtMost, HasSort, is_declared}
 use Rattle.fvn_terms.specs.Laws.{IsFree}
 use Rattle.fvn_tool.specs.declared.free.table.Table.{Table}
-use Rattle.fvn_module.specs.ModuleText.{the_sort, the_kind}
-use Rattle.fvn_module.specs.Laws.{IsFirstForm}
+use Rattle.fvn_first.specs.ModuleText.{the_sort, the_kind}
+use Rattle.fvn_first.specs.Laws.{IsFirstForm}
 use Rattle.fvn_tool.specs.inner.FreeTable.{subterm, subterms, IsOrdered, HaveKind}
 use Rattle.fvn_tool.specs.inner.FreeClasses.{class_of}
 use Rattle.fvn_tool.specs.inner.FreeValues.{IsValue, AreValues}

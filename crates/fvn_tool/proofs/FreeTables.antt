@@ -18,8 +18,8 @@ use Rattle.fvn_terms.specs.Plain.{term, terms}
 use Rattle.fvn_terms.specs.Substitution.{Occurs, OccursAmong}
 use Rattle.fvn_terms.specs.Signature.{kind, declared, unknown, HasKind, HaveKinds}
 use Rattle.fvn_terms.proofs.Plains.{push, terms-push}
-use Rattle.fvn_module.specs.ModuleText.{the_sort, the_kind}
-use Rattle.fvn_module.specs.Laws.{IsFreeOperator, IsFirstForm}
+use Rattle.fvn_first.specs.ModuleText.{the_sort, the_kind}
+use Rattle.fvn_first.specs.Laws.{IsFreeOperator, IsFirstForm}
 use Rattle.fvn_tool.specs.declared.free.table.Application.{Application}
 use Rattle.fvn_tool.specs.declared.free.table.Table.{Table}
 use Rattle.fvn_tool.specs.inner.FreeTable.{count, nothing, headed, terms_from, subterms, subterm, over, IsAt, IsOrdered, Extends, HaveKind, EachHasKind}

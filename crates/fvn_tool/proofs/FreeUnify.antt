@@ -17,8 +17,8 @@ use Rattle.fvn_terms.specs.Unifiers.{IsUnifier}
 use Rattle.fvn_terms.proofs.Substitutions.{apply-apply, apply-agree}
 use Rattle.fvn_terms.proofs.WellSorted.{IsWellSorted-followed_by, IsUnifier-followed_by}
 use Rattle.fvn_terms.proofs.Free.{BEqual-free}
-use Rattle.fvn_module.specs.ModuleText.{the_sort, the_kind}
-use Rattle.fvn_module.specs.Laws.{IsFirstForm}
+use Rattle.fvn_first.specs.ModuleText.{the_sort, the_kind}
+use Rattle.fvn_first.specs.Laws.{IsFirstForm}
 use Rattle.fvn_tool.specs.Free.{ListsVariables, IsMostGeneral, HasNoUnifier, IsTooLarge, variables_of, variables_among}
 use Rattle.fvn_tool.specs.declared.free.table.Table.{Table}
 use Rattle.fvn_tool.specs.declared.free.values.Entry.{Entry}

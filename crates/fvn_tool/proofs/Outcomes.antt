@@ -1,8 +1,8 @@
 -- How an outcome comes about.
 use Rattle.std.proofs.Common.{◌≡◌, ◌+◌, ◌⊎◌, ℕ, List, Some, None, refl, sym, subst, inl, inr}
 use Rattle.fvn_base.specs.declared.limits.TheConstants.{MODULE_BYTES}
-use Rattle.fvn_module.specs.declared.first.module_text.FirstModule.{FirstModule}
-use Rattle.fvn_module.specs.declared.first.problem_text.FirstProblem.{FirstProblem}
+use Rattle.fvn_first.specs.declared.first.module_text.FirstModule.{FirstModule}
+use Rattle.fvn_first.specs.declared.first.problem_text.FirstProblem.{FirstProblem}
 use Rattle.fvn_outside.specs.Source.{TakesCount}
 use Rattle.fvn_outside.specs.Sink.{Appends}
 use Rattle.fvn_tool.specs.declared.status.Status.{Status}

@@ -6,7 +6,7 @@ use Rattle.fvn_terms.specs.Term.{Term, Terms, var, app, none, more, nodes}
 use Rattle.fvn_terms.specs.Substitution.{Substitution, Occurs}
 use Rattle.fvn_terms.specs.Unifiers.{IsUnifier, IsInstance}
 use Rattle.fvn_terms.specs.CompleteSets.{IsMostGeneral as IsMostGeneralOf}
-use Rattle.fvn_module.specs.ModuleText.{the_sort}
+use Rattle.fvn_first.specs.ModuleText.{the_sort}
 
 -- vars has each variable of the two terms once, and no other
 pub record ListsVariables (vars : List Var) (left right : Term) : Type 0 where

@@ -5,10 +5,10 @@ use Rattle.fvn_terms.specs.Term.{Term, nodes, pack}
 use Rattle.fvn_terms.specs.Plain.{term}
 use Rattle.fvn_terms.specs.Substitution.{Substitution}
 use Rattle.fvn_terms.specs.Unifiers.{IsUnifier, IsInstance}
-use Rattle.fvn_module.specs.declared.first.module_text.FirstModule.{FirstModule}
-use Rattle.fvn_module.specs.declared.first.problem_text.FirstProblem.{FirstProblem}
-use Rattle.fvn_module.specs.ModuleText.{IsModuleText}
-use Rattle.fvn_module.specs.ProblemText.{IsProblemText}
+use Rattle.fvn_first.specs.declared.first.module_text.FirstModule.{FirstModule}
+use Rattle.fvn_first.specs.declared.first.problem_text.FirstProblem.{FirstProblem}
+use Rattle.fvn_first.specs.ModuleText.{IsModuleText}
+use Rattle.fvn_first.specs.ProblemText.{IsProblemText}
 use Rattle.fvn_tool.specs.declared.status.Status.{Status}
 use Rattle.fvn_tool.specs.declared.status.Status.TheVariants.{Solved, Nothing, ModuleRefused, ProblemRefused, Ended}
 use Rattle.fvn_tool.specs.Words.{Command, unify}

@@ -1,7 +1,7 @@
 -- How a module and a problem spell their names.
 use Rattle.std.specs.Prelude.{[], slice_index_or}
-use Rattle.fvn_module.specs.declared.first.names.Names.{Names}
-use Rattle.fvn_module.specs.declared.first.names.VarNames.{VarNames}
+use Rattle.fvn_first.specs.declared.first.names.Names.{Names}
+use Rattle.fvn_first.specs.declared.first.names.VarNames.{VarNames}
 use Rattle.fvn_tool.specs.Lines.{Spelling}
 
 -- The texts of these numbers. In a module of one sort every variable has that sort, and its kind is not printed.

@@ -1,7 +1,7 @@
 //! The answer to a command over the text of a module.
 ghost use Rattle.std.specs.Prelude.{◌≡◌, ◌∷◌, [], map, IfOk};
 ghost use Rattle.fvn_terms.specs.Plain.{term};
-ghost use Rattle.fvn_module.specs.ModuleText.{IsModule};
+ghost use Rattle.fvn_first.specs.ModuleText.{IsModule};
 ghost use Rattle.fvn_tool.specs.Lines.{bindings_line};
 ghost use Rattle.fvn_tool.specs.Spellings.{spelling};
 ghost use Rattle.fvn_tool.specs.Words.{meant};
@@ -14,7 +14,7 @@ use crate::lines::push_unifier;
 use crate::status::Status;
 use crate::words::Command;
 use fvn_base::limits::TERM_SYMBOLS;
-use fvn_module::first::{
+use fvn_first::first::{
     FirstFault, FirstModule, FirstProblem, Names, VarNames, modules_are_first, problems_are_first,
     read_module, read_problem,
 };

@@ -5,8 +5,8 @@ ghost use Rattle.fvn_terms.specs.Plain.{term, terms};
 ghost use Rattle.fvn_terms.specs.Signature.{HasKind};
 ghost use Rattle.fvn_terms.specs.Substitution.{value};
 ghost use Rattle.fvn_base.specs.declared.limits.TheConstants.{TEXT_SYMBOLS};
-ghost use Rattle.fvn_module.specs.ModuleText.{the_kind};
-ghost use Rattle.fvn_module.specs.Laws.{IsFirstForm};
+ghost use Rattle.fvn_first.specs.ModuleText.{the_kind};
+ghost use Rattle.fvn_first.specs.Laws.{IsFirstForm};
 ghost use Rattle.fvn_tool.specs.Free.{ListsVariables, IsMostGeneral, HasNoUnifier, IsTooLarge, variables_among, AreNumbered};
 ghost use Rattle.fvn_tool.specs.inner.FreeAnswer.{IfMostGeneral, OnNoUnifier, OnTooLarge};
 

@@ -6,7 +6,7 @@ ghost use Rattle.fvn_tool.specs.Lines.{beside, variable_name, variable_text, wit
 ghost use Rattle.fvn_tool.specs.Spellings.{spelling};
 
 use fvn_base::Seq;
-use fvn_module::first::{Names, VarNames};
+use fvn_first::first::{Names, VarNames};
 use fvn_terms::{Args, NoMemory, OpId, Plain, PlainSubst, SortId, Var};
 use itoa::Buffer;
 

@@ -12,7 +12,7 @@ use crate::answer::{Answer, reply};
 use crate::status::Status;
 use crate::words;
 use fvn_base::limits::MODULE_BYTES;
-use fvn_module::first::{modules_are_determined, modules_are_first, problems_are_determined};
+use fvn_first::first::{modules_are_determined, modules_are_first, problems_are_determined};
 use fvn_outside::{ReadAll, Sink, Source, WriteFailed, read_all, write_all};
 use fvn_terms::NoMemory;
 use std::alloc::Global;

@@ -5,8 +5,8 @@ use Rattle.fvn_terms.specs.declared.plain.SortId.{SortId}
 use Rattle.fvn_terms.specs.declared.declarations.Declarations.{Declarations}
 use Rattle.fvn_terms.specs.Term.{Term, Terms, var, app, none, more, pack}
 use Rattle.fvn_terms.specs.Signature.{HasKind}
-use Rattle.fvn_module.specs.ModuleText.{the_kind}
-use Rattle.fvn_module.specs.Laws.{IsFirstForm}
+use Rattle.fvn_first.specs.ModuleText.{the_kind}
+use Rattle.fvn_first.specs.Laws.{IsFirstForm}
 use Rattle.fvn_tool.specs.declared.free.table.Application.{Application}
 use Rattle.fvn_tool.specs.declared.free.table.Table.{Table}
 

@@ -2,7 +2,7 @@
 ghost use Rattle.std.specs.Prelude.{◌≡◌, ℕ, ◌+◌, ◌<◌, ◌^◌, ◌-◌, [], All, map, length, IfOk, OnOk};
 ghost use Rattle.fvn_terms.specs.Plain.{term, terms};
 ghost use Rattle.fvn_terms.specs.Substitution.{value, apply_all};
-ghost use Rattle.fvn_module.specs.ModuleText.{the_sort};
+ghost use Rattle.fvn_first.specs.ModuleText.{the_sort};
 ghost use Rattle.fvn_tool.specs.Free.{variables_of, variables_among, AreNumbered};
 ghost use Rattle.fvn_tool.specs.inner.FreeNumbering.{is_among, noted, numbered_from, AreRenamed};
 

@@ -6,8 +6,8 @@ ghost use Rattle.fvn_terms.specs.Term.{nodes, nodes_all, pack};
 ghost use Rattle.fvn_terms.specs.Plain.{term};
 ghost use Rattle.fvn_terms.specs.Signature.{HasKind};
 ghost use Rattle.fvn_terms.specs.Substitution.{Occurs, OccursAmong};
-ghost use Rattle.fvn_module.specs.ModuleText.{the_kind};
-ghost use Rattle.fvn_module.specs.Laws.{IsFirstForm};
+ghost use Rattle.fvn_first.specs.ModuleText.{the_kind};
+ghost use Rattle.fvn_first.specs.Laws.{IsFirstForm};
 ghost use Rattle.fvn_tool.specs.Free.{ListsVariables};
 ghost use Rattle.fvn_tool.specs.inner.FreeTable.{count, subterm, IsOrdered, Extends, HaveKind, EachHasKind, IsTableOf};
 

@@ -1,6 +1,6 @@
 -- What `table_of` promises and requires, where the search does not find it.
 use Rattle.std.proofs.Common.{◌≡◌, All, arith, subst, ◌∙◌, sym}
-use Rattle.fvn_module.specs.ModuleText.{the_sort}
+use Rattle.fvn_first.specs.ModuleText.{the_sort}
 use Rattle.fvn_tool.proofs.FreeTables.{Extends-trans, count-Extends, subterm-Extends, HaveKind-variables}
 use Rattle.fvn_tool.proofs.free.table.table_of.Goals as goal
 

@@ -5,7 +5,7 @@ use Rattle.fvn_terms.specs.Term.{nodes_all, pack}
 use Rattle.fvn_terms.specs.Plain.{term, terms}
 use Rattle.fvn_terms.specs.Signature.{HasKind}
 use Rattle.fvn_terms.specs.Substitution.{Occurs, OccursAmong}
-use Rattle.fvn_module.specs.ModuleText.{the_kind}
+use Rattle.fvn_first.specs.ModuleText.{the_kind}
 use Rattle.fvn_tool.specs.declared.free.table.Application.{Application}
 use Rattle.fvn_tool.specs.declared.free.table.Table.{Table}
 use Rattle.fvn_tool.specs.inner.FreeTable.{count, subterm}

@@ -3,8 +3,8 @@ use Rattle.std.proofs.Common.{◌≡◌, ◌<◌, All, map, take}
 use Rattle.fvn_terms.specs.declared.declarations.Declarations.{Declarations}
 use Rattle.fvn_terms.specs.Term.{pack}
 use Rattle.fvn_terms.specs.Plain.{terms}
-use Rattle.fvn_module.specs.ModuleText.{the_kind}
-use Rattle.fvn_module.specs.Laws.{IsFirstForm}
+use Rattle.fvn_first.specs.ModuleText.{the_kind}
+use Rattle.fvn_first.specs.Laws.{IsFirstForm}
 use Rattle.fvn_tool.specs.inner.FreeTable.{count, subterm, IsOrdered, Extends, HaveKind, EachHasKind}
 use Rattle.fvn_tool.proofs.free.table.Table.+add.Given as goal
 
