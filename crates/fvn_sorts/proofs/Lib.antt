@@ -20,3 +20,5 @@ mod Components
 mod DirectSubsorts
 mod Examples
 mod TwinLemmas
+mod MapSteps
+mod Lowered

@@ -1,5 +1,5 @@
 //! A signature with its kinds, before its conditions are tested.
-ghost use Rattle.std.specs.Prelude.{◌≡◌, ◌⊎◌, [], ◌∷◌, IsTrue, true, find, IfSome};
+ghost use Rattle.std.specs.Prelude.{◌≡◌, ◌⊎◌, [], ◌∷◌, IsTrue, true, find, IfSome, None};
 ghost use Rattle.fvn_terms.specs.Signature.{declared, axioms};
 ghost use Rattle.fvn_forms.specs.SortOrder.{reaches, at_or_below};
 ghost use Rattle.fvn_forms.specs.Ranks.{
@@ -11,6 +11,7 @@ ghost use Rattle.fvn_forms.specs.Ranks.{
   result as least_result,
 };
 ghost use Rattle.fvn_sorts.specs.inner.Drafts.{IsDraft};
+ghost use Rattle.fvn_sorts.specs.inner.Lowering.{lower, lowered};
 
 use crate::collecting::closure::has;
 use fvn_base::Seq;
@@ -91,18 +92,67 @@ impl Draft {
         true
     }
 
+    /// The sort where it is at or below what was found, else what was found.
+    fn lower(&self, found: Option<SortId>, sort: SortId) -> Option<SortId>
+        requires { IsDraft self.now }
+        ensures { result ≡ lower self.now.declarations found sort }
+    {
+        match found {
+            Some(other) => {
+                if self.is_at_or_below(sort, other) {
+                    Some(sort)
+                } else {
+                    Some(other)
+                }
+            }
+            None => Some(sort),
+        }
+    }
+
+    /// Where going down the sorts to which the ranks take the arguments ends.
+    fn lowered(&self, ranks: &[Rank], args: &[SortId]) -> Option<SortId>
+        requires { IsDraft self.now }
+        ensures { result ≡ lowered self.now.declarations None (results self.now.declarations ranks.now args.now) }
+    {
+        let mut found = None;
+        for rank in ranks {
+            if self.serves(args, rank.args.as_slice()) {
+                found = self.lower(found, rank.result);
+            }
+        }
+        found
+    }
+
+    /// The first sort at or below this one to which the ranks take the arguments.
+    fn first_below(&self, sort: SortId, ranks: &[Rank], args: &[SortId]) -> Option<SortId>
+        requires { IsDraft self.now }
+        ensures { result ≡ find (λ r. at_or_below self.now.declarations r sort) (results self.now.declarations ranks.now args.now) }
+    {
+        for rank in ranks {
+            if self.serves(args, rank.args.as_slice()) && self.is_at_or_below(rank.result, sort) {
+                return Some(rank.result);
+            }
+        }
+        None
+    }
+
     /// The first least sort to which the ranks take the arguments.
+    ///
+    /// Where there is a least one, going down the sorts ends at one; then the first at or below it is the
+    /// first least one.
     pub fn lowest(&self, ranks: &[Rank], args: &[SortId]) -> Option<SortId>
         requires { IsDraft self.now }
         ensures { let rs = results self.now.declarations ranks.now args.now in
             result ≡ find (is_lowest self.now.declarations rs) rs }
     {
-        for rank in ranks {
-            if self.serves(args, rank.args.as_slice()) && self.is_lowest(rank.result, ranks, args) {
-                return Some(rank.result);
-            }
+        let sort = match self.lowered(ranks, args) {
+            Some(sort) => sort,
+            None => return None,
+        };
+        if !self.is_lowest(sort, ranks, args) {
+            return None;
         }
-        None
+        self.first_below(sort, ranks, args)
     }
 
     /// The ranks that an operator declares.
