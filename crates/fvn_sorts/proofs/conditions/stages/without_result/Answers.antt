@@ -23,7 +23,7 @@ kinds c = c.as_slice-2.ensures.value ∙ c.in_ok-kinds.ensures ∙ ap (map (kind
 pub first_without-requires-clause-listed : goal.first_without-requires-clause-listed
 first_without-requires-clause-listed c =
     let at = (goal.at.first_without-requires-clause-listed c).After-as_slice-2 in
-    rw (kinds at) (arg_kinds_listed c.args.draft.now c.requires.draft.draft c.args.op (first at) (listed at))
+    rw (kinds at) (arg_kinds_listed c.args.draft.now c.args.op (first at) (listed at))
 
 pub returns : goal.returns
 returns c =
