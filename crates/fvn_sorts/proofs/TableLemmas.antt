@@ -1,5 +1,5 @@
 -- What stands in a table of results.
-use Rattle.std.proofs.Common.{◌≡◌, ℕ, ◌<◌, ◌≤◌, ◌⊎◌, List, [], ◌∷◌, ◌++◌, map, length, get_or, true, ltb, sym, ap, subst, ◌∙◌, arith}
+use Rattle.std.proofs.Common.{◌≡◌, ℕ, ◌<◌, ◌≤◌, ◌⊎◌, List, [], ◌∷◌, ◌++◌, map, length, get_or, inl, inr, true, ltb, sym, ap, subst, ◌∙◌, arith}
 use Rattle.std.proofs.lemmas.Bool.{ltb-true, cases_lt}
 use Rattle.std.proofs.lemmas.List.{get_or_append_left, get_or_push, get_or_past, length_push}
 use Rattle.fvn_terms.specs.declared.plain.OpId.{OpId}
@@ -39,7 +39,7 @@ more_tables d n tables rows k long known next f = go (cases_lt f.0 k) where
         let past = get_or_past (tables ++ rows ∷ []) f.0 [] (let e = length_push tables rows in omega (arith, e)) in
         let none : length (get_or (tables ++ rows ∷ []) f.0 []) ≡ 0 = ap length past in
         omega (arith, some)
-      )
+        )
     | inr m ↦
         let same : k ≡ f.0 = omega arith in
         subst (IsTable d f n) (sym (get_or_push tables rows [] f.0 (long ∙ same))) (subst (λ i. IsTable d (op_number i) n rows) same next)
