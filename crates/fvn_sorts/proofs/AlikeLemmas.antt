@@ -1,5 +1,5 @@
 -- Operators with the same declarations give the same results and have the same faults.
-use Rattle.std.proofs.Common.{◌≡◌, ℕ, List, [], ◌∷◌, ◌++◌, map, refl, sym, ap, subst, ◌∙◌, ◌⊎◌}
+use Rattle.std.proofs.Common.{◌≡◌, ℕ, List, [], ◌∷◌, ◌++◌, map, refl, sym, ap, subst, ◌∙◌, ◌<◌, length}
 use Rattle.std.specs.Prelude.{find, unwrap_or}
 use Rattle.std.specs.List.{Contains}
 use Rattle.fvn_terms.specs.declared.plain.OpId.{OpId}
@@ -34,7 +34,7 @@ module _ (d : Declarations) (f g : OpId) (alike : AreAlike d f g) where
   same_results = results_given d f ∙ ap (given d) alike ∙ sym (results_given d g)
 
   pub alike_table : (n : ℕ) (rows : List (List SortId)) → IsTable d f n rows → IsTable d g n rows
-  alike_table n rows = subst (λ (r : List SortId → SortId). (rows ≡ []) ⊎ (rows ≡ map (λ s. map (λ q. r (s ∷ q ∷ [])) (first_sorts n)) (first_sorts n))) same_results
+  alike_table n rows = subst (λ (r : List SortId → SortId). 0 < length rows → (rows ≡ map (λ s. map (λ q. r (s ∷ q ∷ [])) (first_sorts n)) (first_sorts n))) same_results
 
   alike_listed : (r : Rank) → Contains (declared d g).ranks r → Contains (declared d f).ranks r
   alike_listed r = subst (λ (o : OpDecl). Contains o.ranks r) (sym alike)

@@ -20,8 +20,8 @@ looked_up {A} xs ys i j x list place inside found = (
 
 -- the j-th place of the i-th row has the result over the i-th and the j-th sort
 pub table-at : (d : Declarations) (f : OpId) (n : ℕ) (rows : List (List SortId)) → IsTable d f n rows → (i j : ℕ) (row : List SortId) (s : SortId) → i < length rows → row ≡ get_or rows i row → j < length row → s ≡ get_or row j s → s ≡ result d f (sort_number i ∷ sort_number j ∷ [])
-table-at d f n rows (inl e) i j row s l r m h = absurd (let none : length rows ≡ 0 = ap length e in omega arith)
-table-at d f n rows (inr e) i j row s l r m h =
+table-at d f n rows kept i j row s l r m h =
+    let e = kept (omega (arith, l)) in
     let results : SortId → SortId → SortId = λ a b. result d f (a ∷ b ∷ []) in
     let long : length rows ≡ n = ap length e ∙ map_sorts-length (λ a. map (results a) (first_sorts n)) n in
     let within : i < n = omega arith in
@@ -35,7 +35,11 @@ more_tables d n tables rows k long known next f = go (cases_lt f.0 k) where
   go : (f.0 < k) ⊎ (k ≤ f.0) → IsTable d f n (get_or (tables ++ rows ∷ []) f.0 [])
   go (inl l) = subst (IsTable d f n) (sym (get_or_append_left tables (rows ∷ []) [] f.0 (omega arith))) (known f)
   go (inr l) = elim (cases_lt k f.0) [
-    | inl m ↦ inl (get_or_past (tables ++ rows ∷ []) f.0 [] (let e = length_push tables rows in omega (arith, e)))
+    | inl m ↦ λ some. absurd (
+        let past = get_or_past (tables ++ rows ∷ []) f.0 [] (let e = length_push tables rows in omega (arith, e)) in
+        let none : length (get_or (tables ++ rows ∷ []) f.0 []) ≡ 0 = ap length past in
+        omega (arith, some)
+        )
     | inr m ↦
         let same : k ≡ f.0 = omega arith in
         subst (IsTable d f n) (sym (get_or_push tables rows [] f.0 (long ∙ same))) (subst (λ i. IsTable d (op_number i) n rows) same next)

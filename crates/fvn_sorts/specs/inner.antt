@@ -2,5 +2,6 @@
 pub mod Words
 pub mod Lowering
 pub mod Drafts
+pub mod Kept
 pub mod Searches
 pub mod Pairs

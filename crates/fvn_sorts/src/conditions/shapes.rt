@@ -3,7 +3,7 @@ ghost use Rattle.std.specs.Prelude.{◌≡◌, ◌↔◌, [], ◌∷◌, map, An
 ghost use Rattle.fvn_terms.specs.Signature.{kind, declared, axioms, HasKind};
 ghost use Rattle.fvn_terms.specs.Equality.{constant as constant_term};
 ghost use Rattle.fvn_sorts.specs.Collected.{declarations_of, completed, meant_or_kind, rank_meant};
-ghost use Rattle.fvn_sorts.specs.inner.Drafts.{IsDraftOf};
+ghost use Rattle.fvn_sorts.specs.inner.Kept.{IsDraftOf};
 ghost use Rattle.fvn_forms.specs.FitsKinds.{HaveOneKind, TakesTwoAlike};
 ghost use Rattle.fvn_sorts.specs.Faults.{Differ, HasBadShape, HasBadIdentity, HasFault};
 ghost use Rattle.fvn_sorts.specs.inner.Searches.{fault_at, IsFirstOperator};

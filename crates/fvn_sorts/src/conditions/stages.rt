@@ -2,7 +2,7 @@
 ghost use Rattle.std.specs.Prelude.{◌≡◌, ◌+◌, IfOk, map};
 ghost use Rattle.fvn_terms.specs.declared.plain.OpId.{OpId};
 ghost use Rattle.fvn_terms.specs.Signature.{kind};
-ghost use Rattle.fvn_sorts.specs.inner.Drafts.{IsDraftOf};
+ghost use Rattle.fvn_sorts.specs.inner.Kept.{IsDraftOf};
 ghost use Rattle.fvn_sorts.specs.Faults.{HasNoResult, HasBadBrackets, HasBadCollapse};
 ghost use Rattle.fvn_sorts.specs.inner.Searches.{IsFirstFrom, AgreeInKinds, fault_at, place_of, IsFirstList, the_list, one_sort, three_sorts};
 

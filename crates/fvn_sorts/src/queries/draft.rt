@@ -26,12 +26,12 @@ pub struct Draft {
     pub words: Vec<u64>,
     pub ranks: Vec<Seq<Rank>>,
     pub tables: Vec<Seq<Seq<SortId>>>,
+    ghost sound: { IsDraft declarations total words.items ranks.items tables.items },
 }
 
 impl Draft {
     /// Whether pairs of the order lead from one sort to the other.
     fn leads(&self, low: SortId, high: SortId) -> bool
-        requires { IsDraft self.now }
         ensures sound { IsTrue result → reaches self.now.declarations.below low high ≡ true }
         ensures complete { reaches self.now.declarations.below low high ≡ true → (low ≡ high) ⊎ IsTrue result }
     {
@@ -43,7 +43,6 @@ impl Draft {
 
     /// Whether a sort is another or below it.
     pub fn is_at_or_below(&self, low: SortId, high: SortId) -> bool
-        requires { IsDraft self.now }
         ensures { result ≡ at_or_below self.now.declarations low high }
     {
         if low == high || self.declarations.kind(low) == high {
@@ -54,7 +53,6 @@ impl Draft {
 
     /// The ranks that serve an operator.
     pub fn ranks_of(&self, op: OpId) -> &[Rank]
-        requires { IsDraft self.now }
         ensures { result.now ≡ ranks_of self.now.declarations op }
     {
         match self.ranks.get(usize::from(op.0)) {
@@ -65,7 +63,6 @@ impl Draft {
 
     /// Whether the rank takes arguments of these sorts.
     pub fn serves(&self, args: &[SortId], rank: &[SortId]) -> bool
-        requires { IsDraft self.now }
         ensures { result ≡ pass_together (at_or_below self.now.declarations) args.now rank.now }
     {
         if args.len() != rank.len() {
@@ -81,7 +78,6 @@ impl Draft {
 
     /// Whether a sort is at or below each to which one of the ranks takes the arguments.
     fn is_lowest(&self, sort: SortId, ranks: &[Rank], args: &[SortId]) -> bool
-        requires { IsDraft self.now }
         ensures { result ≡ is_lowest self.now.declarations (results self.now.declarations ranks.now args.now) sort }
     {
         for rank in ranks {
@@ -141,7 +137,6 @@ impl Draft {
     /// Where there is a least one, going down the sorts ends at one; then the first at or below it is the
     /// first least one.
     pub fn lowest(&self, ranks: &[Rank], args: &[SortId]) -> Option<SortId>
-        requires { IsDraft self.now }
         ensures { let rs = results self.now.declarations ranks.now args.now in
             result ≡ find (is_lowest self.now.declarations rs) rs }
     {
@@ -190,7 +185,6 @@ impl Draft {
 
     /// The least sort to which the operator takes arguments of these sorts, by its ranks.
     fn searched(&self, op: OpId, args: &[SortId]) -> SortId
-        requires { IsDraft self.now }
         ensures { result ≡ least_result self.now.declarations op args.now }
     {
         match self.lowest(self.ranks_of(op), args) {
@@ -201,7 +195,6 @@ impl Draft {
 
     /// The least sort to which the operator takes two arguments of these sorts, where a table has it.
     fn tabled(&self, op: OpId, first: SortId, second: SortId) -> Option<SortId>
-        requires { IsDraft self.now }
         ensures { IfSome result (λ s. s ≡ least_result self.now.declarations op (first ∷ second ∷ [])) }
     {
         match self.tables.get(usize::from(op.0)) {
@@ -218,7 +211,6 @@ impl Draft {
 
     /// The least sort to which the operator takes arguments of these sorts.
     pub fn result(&self, op: OpId, args: &[SortId]) -> SortId
-        requires { IsDraft self.now }
         ensures { result ≡ least_result self.now.declarations op args.now }
     {
         if args.len() != 2 {

@@ -2,7 +2,7 @@
 ghost use Rattle.std.specs.Prelude.{◌≤◌, IfOk};
 ghost use Rattle.fvn_base.specs.declared.limits.TheConstants.{SORTS, OPERATORS};
 ghost use Rattle.fvn_sorts.specs.Collected.{IsClosed};
-ghost use Rattle.fvn_sorts.specs.inner.Drafts.{IsDraftOf};
+ghost use Rattle.fvn_sorts.specs.inner.Kept.{IsDraftOf};
 
 use crate::collecting::closure::closure;
 use crate::collecting::collected::Collected;

@@ -31,7 +31,7 @@ impl Model for Signature {
 
     ghost view = { λ s. s.draft.declarations };
 
-    ghost use Rattle.fvn_sorts.specs.inner.Drafts.{IsKept};
+    ghost use Rattle.fvn_sorts.specs.inner.Kept.{IsKept};
 
     ghost invariant = { λ s. IsKept s.draft s.direct.items };
 }

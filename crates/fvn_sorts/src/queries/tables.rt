@@ -3,7 +3,7 @@ ghost use Rattle.std.specs.Prelude.{◌≡◌, [], ◌∷◌, map, length, IfOk,
 ghost use Rattle.fvn_terms.specs.declared.plain.OpId.{OpId};
 ghost use Rattle.fvn_forms.specs.Ranks.{result as least_result};
 ghost use Rattle.fvn_sorts.specs.Collected.{first_sorts};
-ghost use Rattle.fvn_sorts.specs.inner.Drafts.{IsDraft, IsTable, results_of_two};
+ghost use Rattle.fvn_sorts.specs.inner.Drafts.{IsTable, results_of_two};
 
 use crate::queries::alike::earlier_alike;
 use crate::queries::draft::Draft;
@@ -13,7 +13,6 @@ use std::alloc::{AllocError, AllocFailed, Global};
 
 /// The results over a sort as first argument and each sort and kind as second.
 fn row(alloc: Global, draft: &Draft, op: OpId, s: SortId) -> Result<Vec<SortId>, NoMemory>
-    requires { IsDraft draft.now }
     ensures { IfOk result (λ v. v.items ≡ map (λ q. least_result draft.now.declarations op (s ∷ q ∷ [])) (first_sorts draft.now.total)) }
 {
     let mut list = Vec::with_capacity(alloc, usize::from(draft.total))?;
@@ -24,7 +23,6 @@ fn row(alloc: Global, draft: &Draft, op: OpId, s: SortId) -> Result<Vec<SortId>,
 }
 
 fn rows(alloc: Global, draft: &Draft, op: OpId) -> Result<Vec<Seq<SortId>>, NoMemory>
-    requires { IsDraft draft.now }
     ensures { IfOk result (λ v. v.items ≡ results_of_two draft.now.declarations op draft.now.total) }
 {
     let mut list = Vec::with_capacity(alloc, usize::from(draft.total))?;
@@ -43,7 +41,6 @@ fn takes_two(ranks: &[Rank]) -> bool {
 
 /// The table of an operator, where it takes two arguments.
 fn table(alloc: Global, draft: &Draft, op: OpId) -> Result<Vec<Seq<SortId>>, NoMemory>
-    requires { IsDraft draft.now }
     ensures { IfOk result (λ v. IsTable draft.now.declarations op draft.now.total v.items) }
 {
     if takes_two(draft.ranks_of(op)) {
@@ -86,7 +83,6 @@ fn next_table(
     tables: &[Seq<Seq<SortId>>],
     op: OpId,
 ) -> Result<Vec<Seq<SortId>>, NoMemory>
-    requires draft { IsDraft draft.now }
     requires tables { (f : OpId) → IsTable draft.now.declarations f draft.now.total (slice_index_or tables.now f.0 []) }
     ensures { IfOk result (λ v. IsTable draft.now.declarations op draft.now.total v.items) }
 {
@@ -105,7 +101,6 @@ pub fn all_tables(
     draft: &Draft,
     operators: u16,
 ) -> Result<Vec<Seq<Seq<SortId>>>, NoMemory>
-    requires { IsDraft draft.now }
     ensures { IfOk result (λ v. (f : OpId) → IsTable draft.now.declarations f draft.now.total (slice_index_or v.items f.0 [])) }
 {
     let mut all = Vec::new(alloc);

@@ -1,5 +1,5 @@
 -- The draft of what was collected, with no tables yet.
-use Rattle.std.proofs.Common.{◌≡◌, inl, List, [], get_or, ◌≤◌, ◌<◌, sym, ap, ◌∙◌, arith, length, subst}
+use Rattle.std.proofs.Common.{◌≡◌, List, [], get_or, ◌≤◌, ◌<◌, sym, ap, ◌∙◌, arith, length, subst}
 use Rattle.fvn_terms.specs.declared.plain.SortId.{SortId}
 use Rattle.fvn_terms.specs.declared.declarations.Declarations.{Declarations}
 use Rattle.std.specs.List.{All}
@@ -20,12 +20,12 @@ overflow_cast-total c =
 pub all_ranks-requires : goal.all_ranks-requires
 all_ranks-requires c = ap (λ (d : Declarations). length d.ops) c.in_ok-declarations.ensures ∙ operators-long c.args.collected.now
 
-pub returns : goal.returns
-returns c =
+pub invariant_of-result : goal.invariant_of-result
+invariant_of-result c =
     let e = c.in_ok-declarations.ensures in
     let all : length c.in_ok-list.list.items ≡ length (kinds c.args.collected.now) = ap length c.in_ok-list.ensures in
     record {
-      draft = record {
+      sound = record {
         kinded = subst IsKinded (sym e) (completed-kinded c.args.collected.now c.requires.closed);
         in_range = subst (λ (d : Declarations). All (λ p. (p.0.0 < d.sorts) × (p.1.0 < d.sorts)) d.below) (sym e) c.requires.closed.below;
         few = subst (λ (d : Declarations). d.sorts ≤ 64) (sym e) c.requires.few;
@@ -33,9 +33,6 @@ returns c =
         more = let long = kinds-long c.args.collected.now in let n : c.in_ok-declarations.declarations.sorts ≡ c.args.collected.now.sorts = ap (λ (d : Declarations). d.sorts) e in omega arith;
         words = rw (← c.as_slice.ensures) c.in_ok-words.ensures;
         ranks = c.in_ok-ranks.ensures;
-        tables = λ f. inl (ap (λ (l : List (List (List SortId))). get_or l f.0 []) c.new.ensures.items);
+        tables = λ f some. absurd (let none : length (get_or c.new.result.items f.0 []) ≡ 0 = ap (λ (l : List (List (List SortId))). length (get_or l f.0 [])) c.new.ensures.items in omega (arith, some));
       };
-      is = e;
-      closed = c.requires.closed;
-      operators = c.requires.operators;
     }

@@ -9,13 +9,13 @@ use Rattle.fvn_sorts.proofs.queries.draft.Draft.is_at_or_below.Goals.{then-eq-vi
 
 pub returns-then-eq : goal.returns-then-eq
 returns-then-eq c = elim c.then-eq.branch [
-  | then-eq-via-then-eq w ↦ at_or_below-same c.args.self.now.declarations c.requires.kinded c.args.low c.args.high (same_sort-true c.args.low c.args.high (sym w.if-eq.ensures))
-  | then-eq-via-else-eq+then-eq-2 w ↦ at_or_below-kind c.args.self.now.declarations c.requires.kinded c.args.low c.args.high (sym w.kind.ensures ∙ same_sort-true w.kind.result c.args.high (sym w.if-eq-2.ensures))
+  | then-eq-via-then-eq w ↦ at_or_below-same c.args.self.now.declarations c.args.self.now.sound.kinded c.args.low c.args.high (same_sort-true c.args.low c.args.high (sym w.if-eq.ensures))
+  | then-eq-via-else-eq+then-eq-2 w ↦ at_or_below-kind c.args.self.now.declarations c.args.self.now.sound.kinded c.args.low c.args.high (sym w.kind.ensures ∙ same_sort-true w.kind.result c.args.high (sym w.if-eq-2.ensures))
 ]
 
 pub returns : goal.returns
 returns c =
-    at_or_below-led c.args.self.now.declarations c.requires.kinded c.args.low c.args.high c.leads.result
+    at_or_below-led c.args.self.now.declarations c.args.self.now.sound.kinded c.args.low c.args.high c.leads.result
     (λ e. false≢true (c.if-eq.ensures ∙ eq-eqb c.args.low.0 c.args.high.0 (ap (λ (s : SortId). s.0) e)))
     (λ e. false≢true (c.if-eq-2.ensures ∙ eq-eqb c.kind.result.0 c.args.high.0 (ap (λ (s : SortId). s.0) (c.kind.ensures ∙ e))))
     c.leads.ensures.sound

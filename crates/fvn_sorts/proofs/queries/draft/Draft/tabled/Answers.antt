@@ -18,4 +18,4 @@ returns-in-Some-get-2 c =
     let is_row = looked_up c.as_slice.result.now rows c.from-in-Some.result c.args.first.0 row c.as_slice.ensures c.from-in-Some.ensures c.in-Some-get.ensures.lookup.0 c.in-Some-get.ensures.lookup.1 in
     let is_sort = looked_up c.as_slice-in-Some-get.result.now row c.from-in-Some-get.result c.args.second.0 sort c.as_slice-in-Some-get.ensures c.from-in-Some-get.ensures c.in-Some-get-2.ensures.lookup.0 c.in-Some-get-2.ensures.lookup.1 in
     let kept : rows ≡ get_or tables c.args.op.0 [] = is_table.1 ∙ get_or_default tables c.args.op.0 rows [] is_table.0 in
-    table-at d c.args.op n rows (subst (IsTable d c.args.op n) (sym kept) (c.requires.tables c.args.op)) c.args.first.0 c.args.second.0 row sort is_row.0 is_row.1 is_sort.0 is_sort.1
+    table-at d c.args.op n rows (subst (IsTable d c.args.op n) (sym kept) (c.args.self.now.sound.tables c.args.op)) c.args.first.0 c.args.second.0 row sort is_row.0 is_row.1 is_sort.0 is_sort.1

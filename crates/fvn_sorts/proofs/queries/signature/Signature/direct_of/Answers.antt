@@ -15,7 +15,7 @@ lists c = c.deref.ensures.value ∙ c.self.invariant.direct
 within : (c : After-from) → c.args.s.0 < c.self.inside.draft.total
 within c =
     let kinds : length c.self.inside.draft.declarations.kinds ≡ length c.args.self.now.kinds = ap (λ (x : Declarations). length x.kinds) c.self.view_is in
-    omega (arith, c.self.invariant.draft.total, c.requires)
+    omega (arith, c.self.inside.draft.sound.total, c.requires)
 
 pub returns-in-Some : goal.returns-in-Some
 returns-in-Some c =
