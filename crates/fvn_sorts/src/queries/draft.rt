@@ -90,7 +90,6 @@ impl Draft {
 
     /// The sort where it is at or below what was found, else what was found.
     fn lower(&self, found: Option<SortId>, sort: SortId) -> Option<SortId>
-        requires { IsDraft self.now }
         ensures { result ≡ lower self.now.declarations found sort }
     {
         match found {
@@ -107,7 +106,6 @@ impl Draft {
 
     /// Where going down the sorts to which the ranks take the arguments ends.
     fn lowered(&self, ranks: &[Rank], args: &[SortId]) -> Option<SortId>
-        requires { IsDraft self.now }
         ensures { result ≡ lowered self.now.declarations None (results self.now.declarations ranks.now args.now) }
     {
         let mut found = None;
@@ -121,7 +119,6 @@ impl Draft {
 
     /// The first sort at or below this one to which the ranks take the arguments.
     fn first_below(&self, sort: SortId, ranks: &[Rank], args: &[SortId]) -> Option<SortId>
-        requires { IsDraft self.now }
         ensures { result ≡ find (λ r. at_or_below self.now.declarations r sort) (results self.now.declarations ranks.now args.now) }
     {
         for rank in ranks {
