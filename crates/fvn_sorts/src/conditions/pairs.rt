@@ -16,8 +16,8 @@ ghost use Rattle.fvn_sorts.specs.inner.Pairs.{
   TakesAt,
 };
 
-use crate::queries::draft::Draft;
 use fvn_base::Seq;
+use fvn_drafts::Draft;
 use fvn_terms::{NoMemory, Rank, SortId};
 use std::alloc::{AllocError, AllocFailed, Global};
 

@@ -5,9 +5,8 @@ ghost use Rattle.fvn_sorts.specs.inner.Searches.{IsFirstList, the_list, advanced
 ghost use Rattle.fvn_sorts.specs.inner.Pairs.{rank_at, Take, HaveThird, HaveLowest};
 
 use crate::conditions::pairs::have_third;
-use crate::conditions::ranks::appended;
-use crate::queries::draft::Draft;
 use fvn_base::Seq;
+use fvn_drafts::{Draft, appended};
 use fvn_terms::{NoMemory, Rank, SortId};
 use std::alloc::{AllocError, AllocFailed, Global};
 

@@ -7,10 +7,9 @@ ghost use Rattle.fvn_forms.specs.Good.{IsGood, TakesKinds};
 ghost use Rattle.fvn_forms.specs.Ranks.{ranks_of, IsResult, result as least_result};
 ghost use Rattle.fvn_sorts.specs.Queries.{arity, direct_subsorts, IsKind, IsTop, IsCompleted};
 
-use crate::conditions::axioms::identity_of;
-use crate::queries::draft::Draft;
 use crate::queries::subsorts::first_maximal;
 use fvn_base::Seq;
+use fvn_drafts::{Draft, identity_of};
 use fvn_terms::{Axioms, Declarations, OpId, Rank, SortId};
 use std::marker::Model;
 
