@@ -10,6 +10,7 @@ mod draft;
 mod kinds;
 mod making;
 mod ranks;
+mod repeats;
 mod tables;
 
 pub use alike::has_earlier_alike;
@@ -19,3 +20,4 @@ pub use completing::{first_axioms, meant_or_kind};
 pub use draft::Draft;
 pub use making::draft_of;
 pub use ranks::appended;
+pub use repeats::without_repeats;
