@@ -184,7 +184,7 @@ attribute_some (Gather ws) = omega arith
 attribute_some (Format ws) = omega arith
 
 -- attributes in brackets
-close-is : (ps : List Piece) → is_close ps ≡ true → ps ≡ right_bracket ∷ []
+pub close-is : (ps : List Piece) → is_close ps ≡ true → ps ≡ right_bracket ∷ []
 close-is [] h = cc
 close-is (p ∷ []) h = ap (λ x. x ∷ []) (special-is (codes "]") p h)
 close-is (p ∷ q ∷ ps) h = cc
@@ -193,7 +193,7 @@ pub some-is : {A : Type 0} (xs : List A) → is_some xs ≡ true → NotEmpty xs
 some-is [] h = cc
 some-is (x ∷ xs) h = tt
 
-bracketed-is : {A : Type 0} (spell : A → List Piece) (xs : List A) → NotEmpty xs → bracketed spell xs ≡ left_bracket ∷ each spell xs ++ (right_bracket ∷ [])
+pub bracketed-is : {A : Type 0} (spell : A → List Piece) (xs : List A) → NotEmpty xs → bracketed spell xs ≡ left_bracket ∷ each spell xs ++ (right_bracket ∷ [])
 bracketed-is spell [] h = absurd h
 bracketed-is spell (x ∷ xs) h = refl
 

@@ -14,7 +14,7 @@ use Rattle.fvn_statements.specs.Spelling.{each, colon, spell_rank, spell_attribu
 use Rattle.fvn_statements.specs.Words.{touch}
 use Rattle.fvn_statements.specs.LeftOut.{left_out_in}
 use Rattle.fvn_statements.specs.Written.{NotEmpty, NoColons, IsRank, IsAttribute}
-use Rattle.fvn_statements.specs.Laws.{StatementsAreExact, FirstWordsAreLeftOut, NamesAreLeftOut, Closes, BeginsNone, BeginsIdentity, AttributesAreLeftOut}
+use Rattle.fvn_statements.specs.Laws.{StatementsAreExact, FirstWordsAreLeftOut, NamesAreLeftOut, attribute_words, Closes, BeginsNone, BeginsIdentity, AttributesAreLeftOut}
 use Rattle.fvn_statements.specs.inner.Gather.{gather}
 use Rattle.fvn_statements.specs.inner.Attributes.{identity_of, attribute_of, attributes_of}
 use Rattle.fvn_statements.specs.inner.Statements.{with_rank, statement_of}
@@ -48,7 +48,7 @@ record Ends (rest : List Piece) : Type 0 where
   pub ends : AttributeEnds rest
   pub stops : attribute_of rest ≡ None
 
-ends_there : (rest : List Piece) → Closes rest ⊎ (BeginsNone rest ⊎ BeginsIdentity rest) → Ends rest
+ends_there : (rest : List Piece) → Closes rest ⊎ (BeginsNone attribute_words rest ⊎ BeginsIdentity rest) → Ends rest
 ends_there rest (inl c) = let P : List Piece → Type 0 = λ x. Ends x in subst P (sym c.is) (record { ends = refl; stops = refl })
 ends_there rest (inr (inl n)) =
     let P : List Piece → Type 0 = λ x. Ends x in

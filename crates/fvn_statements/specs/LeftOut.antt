@@ -17,7 +17,6 @@ feature_of w =
     else if bytes_eq w (codes "mb") || bytes_eq w (codes "cmb") then Some feature.Membership
     else if bytes_eq w (codes "ceq") || bytes_eq w (codes "cq") then Some feature.Condition
     else if bytes_eq w (codes "rl") || bytes_eq w (codes "crl") then Some feature.Rule
-    else if bytes_eq w (codes "eq") then Some feature.Later
     else None
 
 -- Attributes.

@@ -106,7 +106,26 @@ op f : A A -> A [prec 3 strat (1 0)] . => left out 1 Attribute
 op f : A [memo] . => statement 1
 op f : A -> A [prec ( memo] . => statement 1
 sort A . foo . pr NAT . => statement 2
-eq a = b [variant] . => left out 1 Later";
+eq a = b [variant] . => read, eq 1 1 1
+eq [l] : f(X,a) = (X:[A,B]) [label m variant variant] . => read, eq 6 8 3
+eq = = = [variant] . => read, eq 1 1 1
+eq a = b . => left out 1 Equation
+eq a = b [label x] . => left out 1 Equation
+eq a = X: [variant] . => left out 1 Equation
+eq a = X:S [variant] . => read, eq 1 1 1
+eq a = b [owise] . => left out 1 Attribute
+eq a = b [variant owise] . => left out 1 Attribute
+eq a = b [variant label] . => statement 1
+eq a = b [variant ( owise] . => statement 1
+eq a = b [] . => statement 1
+eq a = b [variant] c . => statement 1
+eq a = . => statement 1
+eq = b [variant] . => statement 1
+eq a b [variant] . => statement 1
+eq f(a = b [variant] . => statement 1
+eq [l] a = b [variant] . => statement 1
+eq [l m] : a = b [variant] . => statement 1
+eq a = b = c [variant] . => statement 1";
 
 fn push_text(out: &mut String, text: &[u8]) -> Result<(), Fail> {
     for b in text {
@@ -143,6 +162,12 @@ fn push_statement(out: &mut String, alloc: Global, statement: &Statement<'_>) ->
             let n = names.len();
             out.push_str(&format!(in alloc; ", vars {n} ")?)?;
             push_sort(out, sort)?;
+        }
+        Statement::Equation {
+            left, right, marks, ..
+        } => {
+            let (n, k, m) = (left.pieces().len(), right.pieces().len(), marks.len());
+            out.push_str(&format!(in alloc; ", eq {n} {k} {m}")?)?;
         }
         Statement::Operator {
             name,

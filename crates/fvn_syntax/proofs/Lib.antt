@@ -2,7 +2,7 @@
 pub mod PieceLemmas
 mod FormReading
 mod FormSound
-mod FormExact
+pub mod FormExact
 mod TextLemmas
 mod TermReading
 mod TermMeaning
