@@ -21,8 +21,8 @@ use Rattle.fvn_statements.specs.Spelling.{each, spell_mark, bracketed, equals, s
 use Rattle.fvn_statements.specs.Written.{NotEmpty, IsSide, IsWritten}
 use Rattle.fvn_statements.specs.inner.Gather.{map_reading, gather}
 use Rattle.fvn_statements.specs.inner.Attributes.{word_of, is_some, is_close}
-use Rattle.fvn_statements.specs.inner.Equations.{before, term_of, labelled, mark_named, mark_of, is_variant, left_out_at_mark, left_out_or_none, marks_before, marks_of, label_behind, label_of, behind_equals, right_of, equation_of}
-use Rattle.fvn_statements.proofs.GatherExact.{Gathered, gather-sound, gather-spelled}
+use Rattle.fvn_statements.specs.inner.Equations.{before, term_of, labelled, mark_named, mark_of, is_variant, left_out_at_mark, left_out_or_none, marks_before, marks_of, label_behind, label_of, behind_equals, equation_of}
+use Rattle.fvn_statements.proofs.GatherExact.{gather-sound, gather-spelled}
 use Rattle.fvn_statements.proofs.SortExact.{Any, all_any}
 use Rattle.fvn_statements.proofs.AttributeExact.{by_text, word_of-sound, close-is, some-is, bracketed-is}
 use Rattle.fvn_statements.proofs.Sides.{side-before, ends-equals, left-side}
@@ -136,11 +136,12 @@ marks-sound (p ∷ ps) xs h = go (is_special (codes "[") p) refl where
   go true e =
       let g = gather-sound mark_of spell_mark Any mark-sound ps [] ps in
       let k = marks_before-sound (gather mark_of ps [] ps).0 (gather mark_of ps [] ps).1 xs (rw e at h) in
-      let same : g.more ≡ xs = sym g.is ∙ k.0 in
-      (ap (λ x. x ∷ ps) (special-is (codes "[") p e)
-        ∙ ap (λ x. left_bracket ∷ x) (g.left ∙ ap (λ x. each spell_mark g.more ++ x) k.1 ∙ ap (λ x. each spell_mark x ++ (right_bracket ∷ [])) same)
-        ∙ sym (bracketed-is spell_mark xs (subst NotEmpty k.0 k.2)),
-        variant-in xs (ap (list_any is_variant) (sym k.0) ∙ k.3))
+      let same : g.more ≡ xs = sym g.is ∙ k.0 in (
+        ap (λ x. x ∷ ps) (special-is (codes "[") p e)
+            ∙ ap (λ x. left_bracket ∷ x) (g.left ∙ ap (λ x. each spell_mark g.more ++ x) k.1 ∙ ap (λ x. each spell_mark x ++ (right_bracket ∷ [])) same)
+            ∙ sym (bracketed-is spell_mark xs (subst NotEmpty k.0 k.2)),
+        variant-in xs (ap (list_any is_variant) (sym k.0) ∙ k.3),
+      )
 
 marks-complete : (xs : List Mark) → Contains xs Variant → marks_of (bracketed spell_mark xs) ≡ Read xs
 marks-complete [] h = absurd (contains_none Variant h)

@@ -1,8 +1,7 @@
 -- Which equations are left out.
-use Rattle.std.proofs.Common.{◌≡◌, ◌≢◌, ◌≤◌, ◌⊎◌, inl, inr, Bool, true, false, ◌&&◌, not, List, [], ◌∷◌, ◌++◌, length, Option, Some, None, refl, sym, ap, ◌∙◌, subst, arith}
-use Rattle.std.specs.Prelude.{codes, ◌↔◌}
+use Rattle.std.proofs.Common.{◌≡◌, ◌≢◌, ◌⊎◌, inl, inr, Bool, true, false, ◌&&◌, not, List, [], ◌∷◌, ◌++◌, None, refl, sym, ap, ◌∙◌, subst, arith}
+use Rattle.std.specs.Prelude.{codes}
 use Rattle.std.specs.List.{list_any, Contains}
-use Rattle.std.specs.Str.{bytes_eq}
 use Rattle.fvn_base.proofs.Membership.{contains_none}
 use Rattle.fvn_lex.specs.Cut.{Piece}
 use Rattle.fvn_syntax.specs.Pieces.{Text, word, left_bracket, right_bracket, is_word, is_name, is_special}
@@ -15,12 +14,12 @@ use Rattle.fvn_statements.specs.declared.statement.Statement.TheVariants as stat
 use Rattle.fvn_statements.specs.declared.statement.Reading.{Reading}
 use Rattle.fvn_statements.specs.declared.statement.Reading.TheVariants.{Read, LeftOut, NoForm}
 use Rattle.fvn_statements.specs.declared.reading.Keyword.TheVariants.{Equation}
-use Rattle.fvn_statements.specs.Spelling.{each, spell_mark, bracketed, equals, spell_label, spell_equation}
+use Rattle.fvn_statements.specs.Spelling.{each, spell_mark, bracketed, equals, spell_label}
 use Rattle.fvn_statements.specs.Written.{NotEmpty}
-use Rattle.fvn_statements.specs.Laws.{BeginsNone, mark_words, LacksVariant, HasUnknown, StandsBehind, IsLeftOutEquation, EquationsAreLeftOut}
+use Rattle.fvn_statements.specs.Laws.{BeginsNone, mark_words, StandsBehind, IsLeftOutEquation, EquationsAreLeftOut}
 use Rattle.fvn_statements.specs.inner.Gather.{map_reading, gather}
 use Rattle.fvn_statements.specs.inner.Attributes.{is_some, is_close}
-use Rattle.fvn_statements.specs.inner.Equations.{mark_named, mark_of, is_variant, left_out_at_mark, left_out_or_none, marks_before, marks_of, equation_of}
+use Rattle.fvn_statements.specs.inner.Equations.{mark_of, is_variant, left_out_at_mark, left_out_or_none, marks_before, marks_of, equation_of}
 use Rattle.fvn_statements.specs.inner.Statements.{statement_of}
 use Rattle.fvn_statements.proofs.Unequal.{bytes_eq-not}
 use Rattle.fvn_statements.proofs.GatherExact.{gather-sound, gather-stops, gather-spelled}

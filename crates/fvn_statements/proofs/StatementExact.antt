@@ -1,5 +1,5 @@
 -- The reader of statements finds exactly the spelled statements.
-use Rattle.std.proofs.Common.{◌≡◌, ℕ, ◌≤◌, Bool, true, false, List, [], ◌∷◌, ◌++◌, length, Option, Some, None, refl, sym, ap, ◌∙◌, subst, append_assoc, arith}
+use Rattle.std.proofs.Common.{◌≡◌, Bool, true, false, List, [], ◌∷◌, ◌++◌, Option, Some, None, refl, sym, ap, ◌∙◌, subst}
 use Rattle.std.specs.Prelude.{codes}
 use Rattle.std.specs.List.{AllByRecursion, list_all}
 use Rattle.std.specs.Str.{bytes_eq}
@@ -18,16 +18,16 @@ use Rattle.fvn_statements.specs.declared.statement.Reading.{Reading}
 use Rattle.fvn_statements.specs.declared.statement.Reading.TheVariants.{Read, LeftOut, NoForm}
 use Rattle.fvn_statements.specs.declared.reading.Keyword.{Keyword}
 use Rattle.fvn_statements.specs.declared.reading.Keyword.TheVariants.{Sorts, Subsorts, Operator, Operators, Variables, Equation}
-use Rattle.fvn_statements.specs.Spelling.{each, equals, spell_label, spell_mark, spell_equation, words, colon, spell_rank, spell_attribute, bracketed, spell_name, spell_groups, sort_word, subsort_word, variable_word, spell_statement}
+use Rattle.fvn_statements.specs.Spelling.{each, equals, spell_label, spell_mark, words, colon, spell_rank, spell_attribute, bracketed, spell_name, spell_groups, sort_word, subsort_word, variable_word, spell_statement}
 use Rattle.fvn_statements.specs.Written.{NotEmpty, IsRank, AreAttributes, IsName, IsWritten}
-use Rattle.fvn_statements.specs.inner.Gather.{map_reading, gather}
+use Rattle.fvn_statements.specs.inner.Gather.{gather}
 use Rattle.fvn_statements.specs.inner.Sorts.{rank_of}
 use Rattle.fvn_statements.specs.inner.Attributes.{is_some, attributes_of}
 use Rattle.fvn_statements.specs.inner.Names.{is_empty, sort_names_of, groups_of, variables_of, split_colon, name_of}
 use Rattle.fvn_statements.specs.Words.{touch, names_touch}
-use Rattle.fvn_statements.specs.inner.Statements.{with_rank, operator_of, operators_behind, operators_at, operators_of, keyword_of, statement_behind, statement_of}
+use Rattle.fvn_statements.specs.inner.Statements.{with_rank, operator_of, operators_behind, operators_of, keyword_of, statement_behind, statement_of}
 use Rattle.fvn_statements.specs.LeftOut.{feature_of}
-use Rattle.fvn_statements.proofs.GatherExact.{Gathered, gather-sound, gather-spelled}
+use Rattle.fvn_statements.proofs.GatherExact.{gather-sound, gather-spelled}
 use Rattle.fvn_statements.proofs.SortExact.{Any, rank-sound, rank-complete}
 use Rattle.fvn_statements.proofs.AttributeExact.{by_text, some-is, attributes-sound, attributes-complete}
 use Rattle.fvn_statements.proofs.EquationExact.{equation-sound, equation-complete}

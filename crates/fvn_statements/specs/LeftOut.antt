@@ -5,7 +5,7 @@ use Rattle.std.specs.Str.{bytes_eq}
 use Rattle.fvn_lex.specs.Cut.{Piece}
 use Rattle.fvn_syntax.specs.Pieces.{Text, is_word, is_name, is_special}
 use Rattle.fvn_statements.specs.declared.statement.Attribute.{Attribute}
-use Rattle.fvn_statements.specs.declared.statement.Attribute.TheVariants.{Assoc, Comm, Identity, Constructor, Ditto, Precedence, Gather, Format}
+use Rattle.fvn_statements.specs.declared.statement.Attribute.TheVariants.{Assoc, Comm, Identity, Ditto}
 use Rattle.fvn_statements.specs.declared.statement.Feature.{Feature}
 use Rattle.fvn_statements.specs.declared.statement.Feature.TheVariants as feature
 

@@ -1,9 +1,7 @@
 -- How statements are spelled.
-use Rattle.std.specs.Prelude.{ℕ, ◌≡◌, ◌≢◌, ◌≤◌, Bool, true, false, if◌then◌else◌, List, [], ◌∷◌, ◌++◌, map, length, Option, Some, None, codes}
-use Rattle.std.specs.List.{AllByRecursion}
+use Rattle.std.specs.Prelude.{Bool, true, false, List, [], ◌∷◌, ◌++◌, Option, Some, None, codes}
 use Rattle.fvn_lex.specs.Cut.{Piece}
 use Rattle.fvn_syntax.specs.Pieces.{Text, word, left_paren, right_paren, left_bracket, right_bracket}
-use Rattle.fvn_syntax.specs.declared.sorts.RawSort.{RawSort}
 use Rattle.fvn_syntax.specs.Raw.{spell_sort}
 use Rattle.fvn_statements.specs.declared.statement.RawRank.{RawRank}
 use Rattle.fvn_statements.specs.declared.statement.Attribute.{Attribute}

@@ -1,5 +1,5 @@
 -- Which statements can be written: what holds of them beside their spelling.
-use Rattle.std.specs.Prelude.{ℕ, ◌≡◌, ◌≢◌, ◌≤◌, ◌==◌, ◌&&◌, Bool, true, false, List, [], ◌∷◌, length, Option, Some, None, codes}
+use Rattle.std.specs.Prelude.{ℕ, ◌≡◌, ◌≢◌, ◌≤◌, ◌==◌, ◌&&◌, true, false, List, [], ◌∷◌, length, None, codes}
 use Rattle.std.specs.List.{AllByRecursion, Contains}
 use Rattle.fvn_lex.specs.Cut.{Piece}
 use Rattle.fvn_syntax.specs.Pieces.{Text, right_bracket, is_name, is_special}

@@ -97,10 +97,7 @@ fn left_out_at_mark(row: &[Piece<'_>]) -> Option<Feature>
 }
 
 // The attributes in brackets that are the tokens.
-fn read_marks<'a>(
-    alloc: Global,
-    row: &'a [Piece<'a>],
-) -> Result<Reading<Seq<Mark<'a>>>, NoMemory>
+fn read_marks<'a>(alloc: Global, row: &'a [Piece<'a>]) -> Result<Reading<Seq<Mark<'a>>>, NoMemory>
     ensures { IfOk result (λ r. r ≡ marks_of row.now) }
 {
     let Some((piece, rest)) = row.split_first() else {

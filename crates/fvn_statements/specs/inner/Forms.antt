@@ -1,9 +1,8 @@
 -- How the reader goes over a module.
-use Rattle.std.specs.Prelude.{ℕ, ◌+◌, ◌&&◌, not, Bool, true, false, if◌then◌else◌, List, [], ◌∷◌, ◌++◌, Option, Some, None, Result, Ok, Err, codes}
+use Rattle.std.specs.Prelude.{ℕ, ◌+◌, ◌&&◌, Bool, if◌then◌else◌, List, [], ◌∷◌, ◌++◌, Option, Some, None, Result, Ok, Err, codes}
 use Rattle.std.specs.Str.{bytes_eq}
 use Rattle.fvn_lex.specs.Cut.{Piece}
-use Rattle.fvn_syntax.specs.Pieces.{Text, is_word, is_name, is_dot}
-use Rattle.fvn_statements.specs.declared.statement.Feature.{Feature}
+use Rattle.fvn_syntax.specs.Pieces.{Text, is_name, is_dot}
 use Rattle.fvn_statements.specs.declared.statement.Statement.{Statement}
 use Rattle.fvn_statements.specs.declared.statement.Reading.{Reading}
 use Rattle.fvn_statements.specs.declared.statement.Reading.TheVariants.{Read, LeftOut, NoForm}
