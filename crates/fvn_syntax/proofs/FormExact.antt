@@ -1,5 +1,5 @@
 -- Pieces begin with a term exactly where the reader of forms finds one, and it is the only one.
-use Rattle.std.proofs.Common.{◌≡◌, ℕ, List, [], ◌++◌, take, drop, Option, Some, None, sym, ◌∙◌}
+use Rattle.std.proofs.Common.{◌≡◌, ℕ, List, [], take, drop, Option, Some, None, sym, ◌∙◌}
 use Rattle.std.specs.Prelude.{option_map, IfSome, IfNone}
 use Rattle.std.proofs.lemmas.List.{append-nil, take-append-drop, append_cancel_right}
 use Rattle.fvn_lex.specs.Cut.{Piece}
