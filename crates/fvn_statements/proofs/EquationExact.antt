@@ -1,5 +1,6 @@
 -- The reader of equations finds exactly the spelled equations, and what they lack.
 use Rattle.std.proofs.Common.{◌≡◌, ℕ, ◌-◌, ◌≤◌, ◌⊎◌, inl, inr, Bool, true, false, ◌&&◌, List, [], ◌∷◌, ◌++◌, length, length-drop, take, drop, Option, Some, None, refl, sym, ap, ◌∙◌, subst, length-append, arith}
+use Rattle.std.proofs.Math.Seq.{take-append_seam}
 use Rattle.std.specs.Prelude.{codes}
 use Rattle.std.specs.List.{list_any, Contains}
 use Rattle.std.specs.Str.{bytes_eq}
@@ -29,15 +30,11 @@ use Rattle.fvn_statements.proofs.Sides.{side-before, ends-equals, left-side}
 
 -- Sides.
 
-take_front : (x e : List Piece) → take (length x) (x ++ e) ≡ x
-take_front [] e = refl
-take_front (b ∷ x) e = ap (λ t. b ∷ t) (take_front x e)
-
 before-append : (x rest : List Piece) → before (x ++ rest) rest ≡ x
 before-append x rest =
     let h = length-append x rest in
     let k : length (x ++ rest) - length rest ≡ length x = omega arith in
-    rw k (take_front x rest)
+    rw k (take-append_seam x rest)
 
 term-sound : (ps : List Piece) (r : List Piece × List Piece) → term_of ps ≡ Some r → (ps ≡ r.0 ++ r.1) × IsSide r.1 r.0
 term-sound ps r h = go (behind_term ps) refl where

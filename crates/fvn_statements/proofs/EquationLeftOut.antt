@@ -1,5 +1,6 @@
 -- Which equations are left out.
 use Rattle.std.proofs.Common.{◌≡◌, ◌≢◌, ◌⊎◌, inl, inr, Bool, true, false, ◌&&◌, not, List, [], ◌∷◌, ◌++◌, None, refl, sym, ap, ◌∙◌, subst, arith}
+use Rattle.std.proofs.Math.Bool.{and-false}
 use Rattle.std.specs.Prelude.{codes}
 use Rattle.std.specs.List.{list_any, Contains}
 use Rattle.fvn_base.proofs.Membership.{contains_none}
@@ -112,10 +113,6 @@ lacking (x ∷ xs) without =
 not_close : (w : Text) (ps : List Piece) → is_close (word w ∷ ps) ≡ false
 not_close w [] = refl
 not_close w (q ∷ ps) = refl
-
-and-false : (b : Bool) → b && false ≡ false
-and-false true = refl
-and-false false = refl
 
 unknown : (xs : List Mark) (w : Text) (ps : List Piece) → w ≢ codes "variant" → w ≢ codes "label" →
     marks_of (left_bracket ∷ each spell_mark xs ++ (word w ∷ ps)) ≡ LeftOut feature.Attribute
