@@ -2,4 +2,5 @@
 pub mod Collected
 pub mod Drafts
 pub mod DraftOf
+pub mod Tops
 pub mod inner
