@@ -3,9 +3,10 @@ pub mod PieceLemmas
 mod FormReading
 mod FormSound
 pub mod FormExact
-mod TextLemmas
+pub mod TextLemmas
 mod TermReading
 mod TermMeaning
 mod Nesting
-mod WellKinded
+pub mod WellKinded
 mod Colons
+pub mod SpelledOnce

@@ -20,10 +20,10 @@ listed c = first_listed c.declared_ranks-ranks.result.now _ c.index-ranks-0.resu
 kinds : (c : After-as_slice-2) → c.as_slice-2.result.now ≡ map (kind c.args.draft.now.declarations) (first c).args
 kinds c = c.as_slice-2.ensures.value ∙ c.in_ok-kinds.ensures ∙ ap (map (kind c.args.draft.now.declarations)) c.as_slice.ensures
 
-pub first_without-requires-clause-listed : goal.first_without-requires-clause-listed
-first_without-requires-clause-listed c =
-    let at = (goal.at.first_without-requires-clause-listed c).After-as_slice-2 in
-    rw (kinds at) (arg_kinds_listed c.args.draft.now c.requires.draft.draft c.args.op (first at) (listed at))
+pub first_without-requires : goal.first_without-requires
+first_without-requires c =
+    let at = (goal.at.first_without-requires c).After-as_slice-2 in
+    record { listed = rw (kinds at) (arg_kinds_listed c.args.draft.now c.args.op (first at) (listed at)) }
 
 pub returns : goal.returns
 returns c =
