@@ -18,6 +18,7 @@ pub use axioms::{identity_of, is_associative, is_commutative};
 pub use collected::{Collected, Declaration};
 pub use completing::{first_axioms, meant_or_kind};
 pub use draft::Draft;
+pub use kinds::tops;
 pub use making::draft_of;
 pub use ranks::appended;
 pub use repeats::without_repeats;

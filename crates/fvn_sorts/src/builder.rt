@@ -1,9 +1,11 @@
 //! Collects a signature.
 ghost use Rattle.std.specs.Prelude.{◌≡◌, ◌<◌, ◌≤◌, ◌+◌, max, [], ◌∷◌, ◌++◌, All, IfOk};
+ghost use Rattle.fvn_base.specs.declared.limits.TheConstants.{SORTS};
 ghost use Rattle.fvn_drafts.specs.Collected.{Names};
+ghost use Rattle.fvn_drafts.specs.Tops.{tops};
 
 use fvn_base::Seq;
-use fvn_drafts::{Collected, Declaration};
+use fvn_drafts::{Collected, Declaration, tops};
 use fvn_terms::{Axioms, NoMemory, OpId, Rank, SortId};
 use std::alloc::Global;
 use std::marker::Model;
@@ -128,5 +130,15 @@ impl SignatureBuilder {
                 declarations: Seq::from_vec(declarations),
             },
         })
+    }
+
+    /// The sort after which each kind is named, in the order of the kinds: the first of its maximal sorts.
+    ///
+    /// Where a cycle of the order leaves a kind without a maximal sort, it is the kind itself.
+    pub fn tops(&self, alloc: Global) -> Result<Seq<SortId>, NoMemory>
+        requires { self.now.sorts ≤ SORTS }
+        ensures { IfOk result (λ list. list ≡ tops self.now) }
+    {
+        tops(alloc, &self.collected)
     }
 }

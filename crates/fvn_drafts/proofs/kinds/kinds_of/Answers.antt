@@ -3,15 +3,8 @@ use Rattle.std.proofs.Common.{◌≡◌, ◌≤◌, ◌+◌, ◌-◌, ◌++◌, 
 use Rattle.std.specs.List.{range_with_len}
 use Rattle.std.proofs.lemmas.List.FromFn.{map-range_with_len_more}
 use Rattle.fvn_forms.specs.SortOrder.{sort_number}
-use Rattle.fvn_drafts.specs.Collected.{both_ways, kinds, kind_of, first_sorts, parts_before}
-use Rattle.fvn_drafts.proofs.Parts.{both_ways-in_range}
+use Rattle.fvn_drafts.specs.Collected.{kinds, kind_of, first_sorts, parts_before}
 use Rattle.fvn_drafts.proofs.kinds.kinds_of.Goals as goal
-
-pub closure-requires-clause-in_range : goal.closure-requires-clause-in_range
-closure-requires-clause-in_range c =
-    let h = both_ways-in_range c.args.collected.now c.args.collected.now.sorts c.args.collected.now.below c.requires.closed.below in
-    let all : c.as_slice-2.result.now ≡ both_ways c.args.collected.now.below = c.as_slice-2.ensures.value ∙ c.in_ok-pairs.ensures ∙ ap both_ways c.as_slice.ensures in
-    rw all h
 
 pub loop-k-preserved : goal.loop-k-preserved
 loop-k-preserved c =

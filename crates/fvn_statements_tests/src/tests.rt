@@ -1,7 +1,7 @@
 //! Statements at the edges of their forms.
-use crate::{Form, FormFault, Statement, read_form};
 use fvn_lex::LexFault;
-use fvn_syntax::{RawSort, cut};
+use fvn_statements::{Form, FormFault, Mark, Statement, read_form};
+use fvn_syntax::{RawSort, Text, cut};
 use std::alloc::Global;
 use std::test::Fail;
 
@@ -105,8 +105,91 @@ op f : A A -> A [ctor memo assoc] . => left out 1 Attribute
 op f : A A -> A [prec 3 strat (1 0)] . => left out 1 Attribute
 op f : A [memo] . => statement 1
 op f : A -> A [prec ( memo] . => statement 1
-sort A . foo . pr NAT . => statement 2
-eq a = b [variant] . => left out 1 Later";
+sort A . foo . pr NAT . => statement 2";
+
+// Each line has a statement that begins with `eq`, in a module alone, and what is read of it: the label, the numbers
+// of tokens of the sides, and the attributes; or the fault.
+const EQUATIONS: &str = "eq a = b [variant] . => read, eq 1 = 1 [variant]
+eq [l] : a = b [variant] . => read, eq [l] : 1 = 1 [variant]
+eq[l]: a = b[variant]. => read, eq [l] : 1 = 1 [variant]
+eq [eq] : a = b [label eq variant] . => read, eq [eq] : 1 = 1 [label eq variant]
+eq [:] : a = b [variant] . => read, eq [:] : 1 = 1 [variant]
+eq a = b [label x variant] . => read, eq 1 = 1 [label x variant]
+eq a = b [variant label x] . => read, eq 1 = 1 [variant label x]
+eq a = b [variant variant] . => read, eq 1 = 1 [variant variant]
+eq a = b [label x label y variant] . => read, eq 1 = 1 [label x label y variant]
+eq a = b [label label variant] . => read, eq 1 = 1 [label label variant]
+eq a = b [label variant variant] . => read, eq 1 = 1 [label variant variant]
+eq [l] : f(X,a) = (X:[A,B]) [label m variant variant] . => read, eq [l] : 6 = 8 [label m variant variant]
+eq _*_(X,X,Z) = Z [variant] . => read, eq 8 = 1 [variant]
+eq ((f(a))) = (b) [variant] . => read, eq 8 = 3 [variant]
+eq = = = [variant] . => read, eq 1 = 1 [variant]
+eq =(a) = b [variant] . => read, eq 4 = 1 [variant]
+eq (=) = f(=,=) [variant] . => read, eq 3 = 6 [variant]
+eq variant = label [variant] . => read, eq 1 = 1 [variant]
+eq a=b = c [variant] . => read, eq 1 = 1 [variant]
+eq X:[A,B] = X:[A] [variant] . => read, eq 6 = 4 [variant]
+eq a = X:[variant] [variant] . => read, eq 1 = 4 [variant]
+eq f(X:[A]) = X:[A] [variant] . => read, eq 7 = 4 [variant]
+eq X:S = X: : [variant] . => statement 1
+eq X: = b [variant] . => read, eq 1 = 1 [variant]
+eq : = a [variant] . => read, eq 1 = 1 [variant]
+eq a = : [variant] . => read, eq 1 = 1 [variant]
+eq a = X:S [variant] . => read, eq 1 = 1 [variant]
+eq a = b . => left out 1 Equation
+eq [l] : a = b . => left out 1 Equation
+eq a = X: . => left out 1 Equation
+eq a = X: [variant] . => left out 1 Equation
+eq a = X:[A,B] . => left out 1 Equation
+eq a = b [label x] . => left out 1 Equation
+eq a = b [label variant] . => left out 1 Equation
+eq a = b [owise] . => left out 1 Attribute
+eq a = b [nonexec variant] . => left out 1 Attribute
+eq a = b [variant owise] . => left out 1 Attribute
+eq a = b [variant metadata m] . => left out 1 Attribute
+eq a = b [label x comm] . => left out 1 Attribute
+eq a = b [variant print x . => left out 1 Attribute
+eq a = b [owise (] . => left out 1 Attribute
+eq a = b [assoc] c . => left out 1 Attribute
+eq a = b [variant ( owise] . => statement 1
+eq a = b [variant label] . => statement 1
+eq a = b [label] . => statement 1
+eq a = b [label (x) variant] . => statement 1
+eq a = b [] . => statement 1
+eq a = b [ . => statement 1
+eq a = b [variant . => statement 1
+eq a = b variant . => statement 1
+eq a = b [variant] c . => statement 1
+eq a = b c . => statement 1
+eq a = b [variant] [label x] . => statement 1
+eq a = b = c [variant] . => statement 1
+eq a = b if c = d [variant] . => statement 1
+eq a b . => statement 1
+eq a b [variant] . => statement 1
+eq a => b [variant] . => statement 1
+eq a=b [variant] . => statement 1
+eq . => statement 1
+eq a . => statement 1
+eq a = . => statement 1
+eq a = [variant] . => statement 1
+eq = b [variant] . => statement 1
+eq [l] a = b [variant] . => statement 1
+eq [l m] : a = b [variant] . => statement 1
+eq [] : a = b [variant] . => statement 1
+eq [l] : [m] : a = b [variant] . => statement 1
+eq [l] :a = b [variant] . => statement 1
+eq l : a = b [variant] . => statement 1
+eq f(a = b [variant] . => statement 1
+eq f(a)) = b [variant] . => statement 1
+eq f() = b [variant] . => statement 1
+eq f(a,) = b [variant] . => statement 1
+eq (a,b) = c [variant] . => statement 1
+eq a = f(b c) [variant] . => statement 1
+eq X:[] = b [variant] . => statement 1
+eq X:[A B] = b [variant] . => statement 1
+eq a = b [variant] => statement 1
+Eq a = b [variant] . => statement 1
+eq a = b [variant] . eq c = d . eq e => left out 2 Equation";
 
 fn push_text(out: &mut String, text: &[u8]) -> Result<(), Fail> {
     for b in text {
@@ -128,6 +211,33 @@ fn push_sort(out: &mut String, sort: &RawSort<'_>) -> Result<(), Fail> {
     }
 }
 
+fn push_label(out: &mut String, label: &Option<Text<'_>>) -> Result<(), Fail> {
+    if let Some(text) = label {
+        out.push('[')?;
+        push_text(out, text.bytes())?;
+        out.push_str("] : ")?;
+    }
+    Ok(())
+}
+
+// The attributes of an equation, and the bracket that closes.
+fn push_marks(out: &mut String, marks: &[Mark<'_>]) -> Result<(), Fail> {
+    let mut space = "";
+    for mark in marks {
+        out.push_str(space)?;
+        match mark {
+            Mark::Variant => out.push_str("variant")?,
+            Mark::Label(text) => {
+                out.push_str("label ")?;
+                push_text(out, text.bytes())?;
+            }
+        }
+        space = " ";
+    }
+    out.push(']')?;
+    Ok(())
+}
+
 // What is read of a statement.
 fn push_statement(out: &mut String, alloc: Global, statement: &Statement<'_>) -> Result<(), Fail> {
     match statement {
@@ -143,6 +253,18 @@ fn push_statement(out: &mut String, alloc: Global, statement: &Statement<'_>) ->
             let n = names.len();
             out.push_str(&format!(in alloc; ", vars {n} ")?)?;
             push_sort(out, sort)?;
+        }
+        Statement::Equation {
+            label,
+            left,
+            right,
+            marks,
+        } => {
+            let (n, k) = (left.pieces().len(), right.pieces().len());
+            out.push_str(", eq ")?;
+            push_label(out, label)?;
+            out.push_str(&format!(in alloc; "{n} = {k} [")?)?;
+            push_marks(out, marks.as_slice())?;
         }
         Statement::Operator {
             name,
@@ -212,6 +334,18 @@ fn bodies(rt: HostRuntime) -> Result<(), Fail> {
     Ok(())
 }
 
+#[test]
+fn equations(rt: HostRuntime) -> Result<(), Fail> {
+    let alloc = rt.alloc();
+    for line in EQUATIONS.lines() {
+        if let Some((body, want)) = line.rsplit_once(" => ") {
+            let text = format!(in alloc; "fmod M is {body} endfm")?;
+            assert_eq!(rt; shown(alloc, text.as_bytes())?.as_str(), want, "at {body}");
+        }
+    }
+    Ok(())
+}
+
 // Each line has a whole text, and what is read of it.
 const TEXTS: &str = "fmod M is endfm => read
 fmod fmod is endfm => read
@@ -245,24 +379,33 @@ fn texts(rt: HostRuntime) -> Result<(), Fail> {
     Ok(())
 }
 
-// The names of a long text are read without a copy of it, whatever their number.
+fn push_often(out: &mut String, text: &str) -> Result<(), Fail> {
+    for _ in 0..100000 {
+        out.push_str(text)?;
+    }
+    Ok(())
+}
+
+// Long and deep statements are read without a copy of them.
 #[test]
 fn long_statements(rt: HostRuntime) -> Result<(), Fail> {
     let alloc = rt.alloc();
     let mut text = String::new(alloc);
     text.push_str("fmod M is sorts")?;
-    for _ in 0..100000 {
-        text.push_str(" A")?;
-    }
+    push_often(&mut text, " A")?;
     text.push_str(" . op f : [A")?;
-    for _ in 0..100000 {
-        text.push_str(",A")?;
-    }
-    text.push_str("] -> A . ops ")?;
-    for _ in 0..100000 {
-        text.push('(')?;
-    }
+    push_often(&mut text, ",A")?;
+    text.push_str("] -> A . eq ")?;
+    push_often(&mut text, "f(")?;
+    text.push('a')?;
+    push_often(&mut text, ")")?;
+    text.push_str(" = f(a")?;
+    push_often(&mut text, ",a")?;
+    text.push_str(") [variant")?;
+    push_often(&mut text, " label x")?;
+    text.push_str("] . ops ")?;
+    push_often(&mut text, "(")?;
     text.push_str(": -> A . endfm")?;
-    assert_eq!(rt; shown(alloc, text.as_bytes())?.as_str(), "statement 3");
+    assert_eq!(rt; shown(alloc, text.as_bytes())?.as_str(), "statement 4");
     Ok(())
 }

@@ -1,11 +1,9 @@
 //! Terms and names, each rule with its edges.
-use crate::piece::Text;
-use crate::sorts::RawSort;
-use crate::{
-    Kinded, Names, Piece, Scope, Seen, TermFault, Texts, Variables, cut, find_written_sort,
-    read_term, skip_term,
-};
 use fvn_base::Seq;
+use fvn_syntax::{
+    Kinded, Names, Piece, RawSort, Scope, Seen, TermFault, Text, Texts, Variables, cut,
+    find_written_sort, read_term, skip_term,
+};
 use fvn_terms::{Args, Axioms, Declarations, OpDecl, OpId, Plain, Rank, SortId};
 use std::alloc::Global;
 use std::test::Fail;
