@@ -1,83 +1,117 @@
 #!/usr/bin/env bash
-# Times of flattening and of comparing sums of 999 symbols as LLVM builds them: nested to the left, to the right and in a tree. Run at the top of the repository; it works in a copy, which it proves first.
+# Times of flattening, of comparing and of replacing variables in sums of 999 symbols as LLVM builds them: nested to the left, to the right and in a tree. Run at the top of the repository; it works in a copy, which it proves first.
 set -e
 here=$(cd "$(dirname "$0")/.." && pwd)
 there=$(mktemp -d)
 trap 'rm -rf "$there"' EXIT
 mkdir -p "$there/crates"
 cp "$here/HANDLES" "$there/HANDLES"
-for crate in fvn_base fvn_terms fvn_forms fvn_sorts fvn_lindio fvn_flat; do cp -r "$here/crates/$crate" "$there/crates/"; done
-grep -E '^fvn_(base|terms|forms|sorts|lindio|flat):' "$here/crates.txt" > "$there/crates.txt"
-cd "$there/crates/fvn_flat"
-rm -rf src/tests/showing.rt src/tests/substituting.rt proofs/tests/substituting must-fail
+for crate in fvn_base fvn_terms fvn_forms fvn_sorts fvn_lindio fvn_flat fvn_flat_tests; do cp -r "$here/crates/$crate" "$there/crates/"; done
+grep -E '^fvn_(base|terms|forms|sorts|lindio|flat|flat_tests):' "$here/crates.txt" > "$there/crates.txt"
+cd "$there/crates/fvn_flat_tests"
+rm -rf must-fail src/tests/solving.rt
 cat > src/tests.rt <<'PROGRAM'
-//! Times of flattening and of comparing sums.
+//! Times of flattening, of comparing and of replacing variables.
+mod building;
 mod reading;
+mod showing;
+mod substituting;
 mod terms;
 
+use self::building::{flattened_again, nested, over_arguments, pair, tree};
 use self::reading::collected;
-use self::terms::{has_kind, is_term, kind_of, term_of, var_of};
-use crate::flatten;
+use self::substituting::{shown_instance, subst_of};
+use self::terms::{is_term, term_of};
+use fvn_flat::{Flat, Subst, flatten};
 use fvn_sorts::Signature;
-use fvn_terms::{Args, NoMemory, OpId, Plain};
-use std::alloc::{AllocError, AllocFailed, Global};
+use fvn_terms::{NoMemory, OpId, Plain, Var};
+use std::alloc::Global;
 use std::process::Abort;
 use std::time::Instant;
 
-const SUMS: &str = "A; f : -> A; g : -> A; h : A -> A; i : A A -> A [assoc comm]";
+ghost use Rattle.fvn_terms.specs.Plain.{term};
+ghost use Rattle.fvn_terms.specs.Signature.{IsTerm};
+ghost use Rattle.fvn_flat.specs.Fits.{Fits};
+ghost use Rattle.fvn_flat.specs.Bindings.{BindingsFit};
 
-fn leaf(alloc: Global, k: u16) -> Plain {
-    Plain::App(OpId(k.wrapping_mul(7) % 2), Args::from_vec(Vec::new(alloc)))
-}
+/// A sum, a free pair and a variable's replacement.
+const SUMS: &str = "A; f : -> A; g : -> A; h : A A -> A [assoc comm]; i : A A -> A";
 
-fn pair(alloc: Global, t: Plain, u: Plain) -> Result<Plain, NoMemory> {
-    let mut items = Vec::new(alloc);
-    items.push(t)?;
-    items.push(u)?;
-    Ok(Plain::App(OpId(3), Args::from_vec(items)))
-}
-
-fn nested(alloc: Global, left: bool) -> Result<Plain, NoMemory> {
-    let mut t = leaf(alloc, 0);
-    for k in 1..500u16 {
-        let u = leaf(alloc, k);
-        t = if left { pair(alloc, t, u)? } else { pair(alloc, u, t)? };
-    }
-    Ok(t)
-}
-
-/// How many microseconds a hundred times of flattening take, and as many comparisons.
-fn timed(rt: &HostRuntime, sig: &Signature, t: &Plain) -> Result<(u128, u128, bool), NoMemory> {
+fn flattenings(rt: &HostRuntime, sig: &Signature, t: &Plain) -> Result<u128, NoMemory>
+    requires { IsTerm sig.now (term t.now) }
+{
     let alloc = rt.alloc();
-    if !is_term(sig, t) {
-        return Ok((0, 0, false));
-    }
     let start = match Instant::now(rt) {
         Ok(start) => start,
-        Err(_) => return Ok((0, 0, false)),
-    };
-    let first = flatten(alloc, sig, t)?;
-    for _ in 0..99u8 {
-        let _again = flatten(alloc, sig, t)?;
-    }
-    let flat = match start.elapsed(rt) {
-        Ok(time) => time.as_micros(),
-        Err(_) => 0,
-    };
-    let copy = first.copy(alloc)?;
-    let mut equal = true;
-    let second = match Instant::now(rt) {
-        Ok(start) => start,
-        Err(_) => return Ok((flat, 0, false)),
+        Err(_) => return Ok(0),
     };
     for _ in 0..100u8 {
-        equal = equal && first.same(&copy);
+        let _flat = flatten(alloc, sig, t)?;
     }
-    let compared = match second.elapsed(rt) {
-        Ok(time) => time.as_micros(),
-        Err(_) => 0,
+    match start.elapsed(rt) {
+        Ok(time) => Ok(time.as_micros()),
+        Err(_) => Ok(0),
+    }
+}
+
+fn comparisons(rt: &HostRuntime, t: &Flat, u: &Flat) -> (u128, bool) {
+    let start = match Instant::now(rt) {
+        Ok(start) => start,
+        Err(_) => return (0, false),
     };
-    Ok((flat, compared, equal))
+    let mut equal = true;
+    for _ in 0..100u8 {
+        equal = equal && t.same(u);
+    }
+    match start.elapsed(rt) {
+        Ok(time) => (time.as_micros(), equal),
+        Err(_) => (0, equal),
+    }
+}
+
+fn replacements(rt: &HostRuntime, sig: &Signature, s: &Subst, t: &Flat) -> Result<u128, NoMemory>
+    requires subst { BindingsFit sig.now s.now }
+    requires term { Fits sig.now t.now }
+{
+    let alloc = rt.alloc();
+    let start = match Instant::now(rt) {
+        Ok(start) => start,
+        Err(_) => return Ok(0),
+    };
+    for _ in 0..100u8 {
+        let _instance = s.apply(alloc, sig, t)?;
+    }
+    match start.elapsed(rt) {
+        Ok(time) => Ok(time.as_micros()),
+        Err(_) => Ok(0),
+    }
+}
+
+fn shown(rt: &HostRuntime, sig: &Signature, what: &str, t: &Plain) -> Result<(), NoMemory> {
+    if !is_term(sig, t) {
+        let _ = println!(rt; "flat: {what} is no term");
+        return Ok(());
+    }
+    let flat = flattenings(rt, sig, t)?;
+    let u = flatten(rt.alloc(), sig, t)?;
+    let copy = u.copy(rt.alloc())?;
+    let (compared, equal) = comparisons(rt, &u, &copy);
+    let mut replaced: u128 = 0;
+    if let Some(s) = subst_of(rt.alloc(), sig, "A0 f")? {
+        replaced = replacements(rt, sig, &s, &u)?;
+    }
+    let symbols = u.size();
+    let _ = println!(rt; "flat: {what}, {symbols} symbols, 100 times: flattened {flat} us, compared {compared} us, equal {equal}, replaced {replaced} us");
+    Ok(())
+}
+
+fn with_variable(alloc: Global, op: OpId, t: Plain) -> Result<Plain, NoMemory> {
+    let x = Var {
+        name: 0,
+        sort: fvn_terms::SortId(0),
+        fresh: false,
+    };
+    pair(alloc, op, t, Plain::Var(x))
 }
 
 #[test]
@@ -85,13 +119,18 @@ fn times(rt: HostRuntime) -> Result<(), NoMemory> {
     let alloc = rt.alloc();
     match collected(&rt, alloc, SUMS)?.finish(alloc) {
         Ok(sig) => {
-            for left in [true, false] {
-                let t = nested(alloc, left)?;
-                let (flat, compared, equal) = timed(&rt, &sig, &t)?;
-                let _ = println!(rt; "flat: to the left {left}, 100 times: flattened {flat} us, compared {compared} us, equal {equal}");
+            for _ in 0..5u8 {
+                shown(&rt, &sig, "to the left", &nested(alloc, true)?)?;
+                shown(&rt, &sig, "to the right", &nested(alloc, false)?)?;
+                shown(&rt, &sig, "in a tree", &tree(alloc, 500)?)?;
+                shown(&rt, &sig, "one variable in the sum", &with_variable(alloc, OpId(2), nested(alloc, false)?)?)?;
+                shown(&rt, &sig, "one variable beside the sum", &with_variable(alloc, OpId(3), nested(alloc, false)?)?)?;
             }
-            if let Some(t) = term_of(alloc, &sig, "f A0 i")? {
-                let _ = println!(rt; "flat: read {}, kind {}, {}", is_term(&sig, &t), has_kind(&sig, &t, kind_of(&sig, &t)), var_of("A0").name);
+            if let Some(t) = term_of(alloc, &sig, "f A0 h")? {
+                if is_term(&sig, &t) {
+                    let u = over_arguments(alloc, &sig, &t)?;
+                    let _ = println!(rt; "{} {}", flattened_again(alloc, &sig, &flatten(alloc, &sig, &t)?)?.same(&u), shown_instance(alloc, &sig, "A0 f | A0 A0 h")?);
+                }
             }
         }
         Err(_) => assert!(rt; false, "no signature"),
@@ -99,4 +138,4 @@ fn times(rt: HostRuntime) -> Result<(), NoMemory> {
     Ok(())
 }
 PROGRAM
-rt test 2>&1 | grep -E 'flat: |not proved|no proof|error|test result' | sed 's/^ *//'
+rt test 2>&1 | grep -aE 'flat: |not proved|no proof|error|test result' | sed 's/^ *//'
