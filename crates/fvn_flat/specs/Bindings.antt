@@ -2,8 +2,9 @@
 use Rattle.std.specs.Prelude.{◌≡◌, Bool, not, if◌then◌else◌, List, [], ◌∷◌, ◌++◌, map, filter, Contains, Option, Some, None, is_some}
 use Rattle.fvn_terms.specs.declared.plain.Var.{Var}
 use Rattle.fvn_terms.specs.declared.declarations.Declarations.{Declarations}
-use Rattle.fvn_terms.specs.Substitution.{same_var}
-use Rattle.fvn_forms.specs.Flat.{FlatTerm, fvar}
+use Rattle.fvn_terms.specs.Substitution.{apply, same_var}
+use Rattle.fvn_terms.specs.Equality.{BEqual}
+use Rattle.fvn_forms.specs.Flat.{FlatTerm, fvar, plain}
 use Rattle.fvn_forms.specs.Canon.{inst}
 use Rattle.fvn_forms.specs.LeastSort.{IsFlatSubstitution}
 
@@ -33,6 +34,10 @@ BindsOnce (p ∷ s) = (bound s p.0 ≡ None) × BindsOnce s
 -- each variable is bound to a form that is flat in the signature, and of the variable's kind
 abbrev pub BindingsFit : Declarations → Bindings → Type 0
 BindingsFit d s = IsFlatSubstitution d (value s)
+
+-- the plain term of t with all bound variables replaced is equal modulo the axioms to that of u
+abbrev pub IsInstanceBy : Declarations → Bindings → FlatTerm → FlatTerm → Type 0
+IsInstanceBy d s t u = BEqual d (apply (λ x. plain (value s x)) (plain t)) (plain u)
 
 -- the pairs with their terms changed
 abbrev pub changed : (FlatTerm → FlatTerm) → Bindings → Bindings

@@ -1,9 +1,9 @@
 //! Instances of flat terms: what holds no bound variable is neither rebuilt nor, but for an answer, copied.
-ghost use Rattle.std.specs.Prelude.{◌≡◌, ◌++◌, ◌∷◌, [], unwrap_or, IfOk};
+ghost use Rattle.std.specs.Prelude.{◌≡◌, unwrap_or, IfOk};
 ghost use Rattle.fvn_forms.specs.Canon.{inst};
 ghost use Rattle.fvn_forms.specs.Settled.{Settled, SettledValues};
 ghost use Rattle.fvn_flat.specs.Bindings.{value};
-ghost use Rattle.fvn_flat.specs.inner.SoFar.{so_far};
+ghost use Rattle.fvn_flat.specs.inner.SoFar.{so_far, HasOneMore};
 
 use crate::building::built;
 use crate::flat::{Flat, Node};
@@ -42,7 +42,7 @@ fn with_argument(
     t: &Flat,
     changed: Option<Flat>,
 ) -> Result<Vec<Flat>, NoMemory>
-    ensures { IfOk result (λ all. so_far all.items (before.now ++ t.now ∷ []) ≡ so_far copies.items before.now ++ unwrap_or changed t.now ∷ []) }
+    ensures { IfOk result (λ all. HasOneMore copies.items before.now t.now changed all.items) }
 {
     match changed {
         Some(u) => {

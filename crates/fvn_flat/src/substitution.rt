@@ -1,14 +1,11 @@
 //! Substitutions of flat terms.
 ghost use Rattle.std.specs.Prelude.{◌≡◌, ◌<◌, ◌++◌, ◌∷◌, [], ℕ, length, slice_get, is_some, Some, None, MatchOption, IfOk};
 ghost use Rattle.fvn_terms.specs.Signature.{HasKind, IsSort, kind};
-ghost use Rattle.fvn_terms.specs.Equality.{BEqual};
-ghost use Rattle.fvn_terms.specs.Substitution.{apply};
 ghost use Rattle.fvn_forms.specs.Flat.{plain};
 ghost use Rattle.fvn_forms.specs.Canon.{inst};
 ghost use Rattle.fvn_forms.specs.Settled.{SettledValues};
 ghost use Rattle.fvn_flat.specs.Fits.{Fits};
-ghost use Rattle.fvn_flat.specs.Bindings.{bound, value, BindsOnce, BindingsFit, changed, chosen, is_free, composed, IsOneThenOther, IsRestriction};
-ghost use Rattle.fvn_flat.specs.Solving.{substitution};
+ghost use Rattle.fvn_flat.specs.Bindings.{bound, value, BindsOnce, BindingsFit, IsInstanceBy, changed, chosen, is_free, composed, IsOneThenOther, IsRestriction};
 
 use crate::flat::Flat;
 use crate::renaming::is_listed;
@@ -113,7 +110,7 @@ impl Subst {
         requires term { Fits sig.now t.now }
         // The flat form, which is equal modulo the axioms to the instance of the plain term.
         ensures exact { IfOk result (λ u. u ≡ inst sig.now (value self.now) t.now) }
-        ensures equal { IfOk result (λ u. BEqual sig.now (apply (substitution self.now) (plain t.now)) (plain u)) }
+        ensures equal { IfOk result (IsInstanceBy sig.now self.now t.now) }
         ensures fits { IfOk result (Fits sig.now) }
     {
         sig.recall_good();
