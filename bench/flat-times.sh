@@ -118,25 +118,54 @@ fn with_variable(alloc: Global, op: OpId, t: Plain) -> Result<Plain, NoMemory> {
     pair(alloc, op, t, Plain::Var(x))
 }
 
+fn sums_of_constants(rt: &HostRuntime, sig: &Signature) -> Result<(), NoMemory> {
+    let left = nested(rt.alloc(), true)?;
+    shown(rt, sig, "to the left", &left)?;
+    let right = nested(rt.alloc(), false)?;
+    shown(rt, sig, "to the right", &right)?;
+    let even = tree(rt.alloc(), 500)?;
+    shown(rt, sig, "in a tree", &even)
+}
+
+fn sums_and_a_variable(rt: &HostRuntime, sig: &Signature) -> Result<(), NoMemory> {
+    let one = nested(rt.alloc(), false)?;
+    let inside = with_variable(rt.alloc(), OpId(2), one)?;
+    shown(rt, sig, "one variable in the sum", &inside)?;
+    let other = nested(rt.alloc(), false)?;
+    let beside = with_variable(rt.alloc(), OpId(3), other)?;
+    shown(rt, sig, "one variable beside the sum", &beside)
+}
+
+fn used(alloc: Global, sig: &Signature) -> Result<bool, NoMemory> {
+    match term_of(alloc, sig, "f A0 h")? {
+        Some(t) => {
+            if !is_term(sig, &t) {
+                return Ok(false);
+            }
+            let u = flatten(alloc, sig, &t)?;
+            let again = flattened_again(alloc, sig, &u)?;
+            let text = shown_instance(alloc, sig, "A0 f | A0 A0 h")?;
+            Ok(again.same(&u) && !text.is_empty())
+        }
+        None => Ok(false),
+    }
+}
+
+fn rows(rt: &HostRuntime, sig: &Signature) -> Result<(), NoMemory> {
+    for _ in 0..5u8 {
+        sums_of_constants(rt, sig)?;
+        sums_and_a_variable(rt, sig)?;
+    }
+    Ok(())
+}
+
 #[test]
 fn times(rt: HostRuntime) -> Result<(), NoMemory> {
     let alloc = rt.alloc();
     match collected(&rt, alloc, SUMS)?.finish(alloc) {
         Ok(sig) => {
-            for _ in 0..5u8 {
-                shown(&rt, &sig, "to the left", &nested(alloc, true)?)?;
-                shown(&rt, &sig, "to the right", &nested(alloc, false)?)?;
-                shown(&rt, &sig, "in a tree", &tree(alloc, 500)?)?;
-                shown(&rt, &sig, "one variable in the sum", &with_variable(alloc, OpId(2), nested(alloc, false)?)?)?;
-                shown(&rt, &sig, "one variable beside the sum", &with_variable(alloc, OpId(3), nested(alloc, false)?)?)?;
-            }
-            if let Some(t) = term_of(alloc, &sig, "f A0 h")? {
-                if is_term(&sig, &t) {
-                    let u = flatten(alloc, &sig, &t)?;
-                    let _ = flattened_again(alloc, &sig, &u)?.same(&u);
-                    let _ = shown_instance(alloc, &sig, "A0 f | A0 A0 h")?;
-                }
-            }
+            rows(&rt, &sig)?;
+            assert!(rt; used(alloc, &sig)?);
         }
         Err(_) => assert!(rt; false, "no signature"),
     }
