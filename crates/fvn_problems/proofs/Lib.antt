@@ -1,1 +1,12 @@
--- Lemmas.
+-- Lemmas of the readers.
+mod Spelled
+mod Splitting
+mod Pairs
+mod Named
+mod Occurring
+mod Answering
+mod QueryTexts
+mod ProblemTexts
+mod Sorts
+mod SortWalk
+mod TextSplits

@@ -25,7 +25,7 @@ use Rattle.fvn_problems.specs.declared.problem.Problem.{Problem}
 use Rattle.fvn_problems.specs.declared.bindings.Bindings.{Bindings}
 use Rattle.fvn_problems.specs.Faults.{fault_of, IsFirstFault, ButForMemory}
 use Rattle.fvn_problems.specs.Scopes.{unguarded}
-use Rattle.fvn_problems.specs.Spelling.{RawBinding, IsBindingText}
+use Rattle.fvn_problems.specs.Spelling.{RawPair, IsBindingText}
 
 -- the name and the sort of what a name alone stands for, where this is a variable
 abbrev pub variable_of : Option Meaning → Option (Text × SortId)
@@ -49,8 +49,8 @@ module _ (c : Scope) where
     pub second : written_variable w ≡ Some variable
 
   -- no variable is bound twice
-  abbrev pub BindsOnce : List RawBinding → Type 0
-  BindsOnce bs = AllPairs (λ a b. AreOneVariable a.variable b.variable → ⊥) bs
+  abbrev pub BindsOnce : List RawPair → Type 0
+  BindsOnce bs = AllPairs (λ a b. AreOneVariable a.left b.left → ⊥) bs
 
   module _ (p : Problem) where
     -- what is written is the variable x of the problem
@@ -63,11 +63,11 @@ module _ (c : Scope) where
 
     -- the binding gives a variable of the problem a term of its sort; `before` are the names of the variables
     -- up to the binding, and `after` those up to its end
-    pub record IsBindingOf (before : List Text) (raw : RawBinding) (b : Var × Plain) (after : List Text) :
+    pub record IsBindingOf (before : List Text) (raw : RawPair) (b : Var × Plain) (after : List Text) :
         Type 0 where
-      pub variable : IsVariableOf raw.variable b.0
+      pub variable : IsVariableOf raw.left b.0
       pub resolved : Resolved
-      pub stands : resolve c before raw.term ≡ Ok resolved
+      pub stands : resolve c before raw.right ≡ Ok resolved
       pub one_kind : resolved.kind ≡ kind c.declarations b.0.sort
       pub sorted : HasSort c.declarations (term resolved.term) b.0.sort
       pub term_is : b.1 ≡ resolved.term
@@ -75,19 +75,19 @@ module _ (c : Scope) where
 
     -- the first fault of a binding: that it binds no variable of the problem, or a fault of its term, or that
     -- the term is of another kind, or not of the variable's sort
-    pub data IsBindingFault (before : List Text) (raw : RawBinding) (fault : ProblemFault) : Type 0 where
-      no_variable : ((x : Var) → IsVariableOf raw.variable x → ⊥) →
+    pub data IsBindingFault (before : List Text) (raw : RawPair) (fault : ProblemFault) : Type 0 where
+      no_variable : ((x : Var) → IsVariableOf raw.left x → ⊥) →
           fault ≡ UnknownName → IsBindingFault before raw fault
-      in_term : (x : Var) → IsVariableOf raw.variable x → (first : TermFault) →
-          resolve c before raw.term ≡ Err first → fault ≡ fault_of first → IsBindingFault before raw fault
-      other_kind : (x : Var) → IsVariableOf raw.variable x → (r : Resolved) → resolve c before raw.term ≡ Ok r →
+      in_term : (x : Var) → IsVariableOf raw.left x → (first : TermFault) →
+          resolve c before raw.right ≡ Err first → fault ≡ fault_of first → IsBindingFault before raw fault
+      other_kind : (x : Var) → IsVariableOf raw.left x → (r : Resolved) → resolve c before raw.right ≡ Ok r →
           r.kind ≢ kind c.declarations x.sort → fault ≡ WrongKind → IsBindingFault before raw fault
-      other_sort : (x : Var) → IsVariableOf raw.variable x → (r : Resolved) → resolve c before raw.term ≡ Ok r →
+      other_sort : (x : Var) → IsVariableOf raw.left x → (r : Resolved) → resolve c before raw.right ≡ Ok r →
           r.kind ≡ kind c.declarations x.sort → (HasSort c.declarations (term r.term) x.sort → ⊥) →
           fault ≡ WrongSort → IsBindingFault before raw fault
 
     -- the bindings, one after another, are these
-    abbrev pub AreBindingsOf : List Text → List RawBinding → List (Var × Plain) → List Text → Type 0
+    abbrev pub AreBindingsOf : List Text → List RawPair → List (Var × Plain) → List Text → Type 0
     AreBindingsOf before [] [] after = before ≡ after
     AreBindingsOf before [] (b ∷ bs) after = ⊥
     AreBindingsOf before (r ∷ rs) [] after = ⊥
@@ -95,7 +95,7 @@ module _ (c : Scope) where
         (next : List Text) × (IsBindingOf before r b next × AreBindingsOf next rs bs after)
 
     -- the first fault of bindings, from left to right
-    abbrev pub IsBindingsFault : List Text → List RawBinding → ProblemFault → Type 0
+    abbrev pub IsBindingsFault : List Text → List RawPair → ProblemFault → Type 0
     IsBindingsFault before [] fault = ⊥
     IsBindingsFault before (r ∷ rs) fault =
         IsBindingFault before r fault
@@ -107,25 +107,25 @@ module _ (c : Scope) where
 
     -- What written bindings bind. The numbers of the problem's variables stay; behind them, numbers stand for
     -- the names of other variables, in order of first occurrence.
-    pub record AreBindings (raw : List RawBinding) (b : Bindings) : Type 0 where
+    pub record AreBindings (raw : List RawPair) (b : Bindings) : Type 0 where
       pub names : List Text
       pub pairs : AreBindingsOf p.names.texts raw b.subst.pairs names
       pub small : All (λ s. nodes (term s.1) ≤ TERM_SYMBOLS) b.subst.pairs
 
     -- the first fault of written bindings: one from left to right, or else the size of a term
-    pub data IsFault (raw : List RawBinding) (fault : ProblemFault) : Type 0 where
+    pub data IsFault (raw : List RawPair) (fault : ProblemFault) : Type 0 where
       in_bindings : IsBindingsFault p.names.texts raw fault → IsFault raw fault
       too_large : (bs : List (Var × Plain)) (after : List Text) → AreBindingsOf p.names.texts raw bs after →
           IsLarge bs → fault ≡ TooLarge → IsFault raw fault
 
 module _ (d : Declarations) (names : Names) (p : Problem) (bytes : Text) where
   -- The bytes are these bindings, and none binds a variable that another one binds.
-  abbrev pub IsText : List RawBinding → Type 0
+  abbrev pub IsText : List RawPair → Type 0
   IsText raw = IsBindingText bytes raw × BindsOnce (unguarded d names) raw
 
   -- In the signature and its names, the bytes are a binding text, and bind this in the problem.
   pub record IsBindings (b : Bindings) : Type 0 where
-    pub raw : List RawBinding
+    pub raw : List RawPair
     pub text : IsText raw
     pub bound : AreBindings (unguarded d names) p raw b
 

@@ -5,7 +5,7 @@ use Rattle.fvn_syntax.specs.Pieces.{Text}
 use Rattle.fvn_syntax.specs.Raw.{RawTerm, IsWritten}
 use Rattle.fvn_syntax.specs.Scope.{Scope}
 use Rattle.fvn_syntax.specs.Resolve.{Resolved, resolve}
-use Rattle.fvn_problems.specs.Spelling.{RawQuery, RawProblem, RawBinding, spell_query, spell_problem, spell_bindings, pairs_in, IsWrittenPair, IsWrittenBinding}
+use Rattle.fvn_problems.specs.Spelling.{RawQuery, RawProblem, RawPair, spell_query, spell_problem, spell_bindings, pairs_in, IsWrittenPair, IsWrittenBinding}
 
 -- Two term texts that are spelled alike are one.
 abbrev pub QueriesAreSpelledOnce : Type 0
@@ -20,7 +20,7 @@ ProblemsAreSpelledOnce =
 -- Two lists of bindings that are spelled alike are one.
 abbrev pub BindingsAreSpelledOnce : Type 0
 BindingsAreSpelledOnce =
-    (bs cs : List RawBinding) → AllByRecursion IsWrittenBinding bs → AllByRecursion IsWrittenBinding cs →
+    (bs cs : List RawPair) → AllByRecursion IsWrittenBinding bs → AllByRecursion IsWrittenBinding cs →
     spell_bindings bs ≡ spell_bindings cs → bs ≡ cs
 
 -- Names go on: those of the variables before a term stay, and others come behind them.

@@ -7,3 +7,4 @@ pub mod Queries
 pub mod Scopes
 pub mod Spelling
 pub mod Variables
+pub mod inner

@@ -14,23 +14,29 @@ pub record RawQuery : Type 0 where
   pub term : RawTerm
   pub dotted : Bool
 
--- TERM, or TERM .
+-- TERM or TERM .
 abbrev pub spell_query : RawQuery → List Piece
 spell_query q = spell q.term ++ ending q.dotted
 
--- two terms that are to be made equal
+-- two terms: the sides of an equation that is to be solved, or a variable and the term that it is bound to
 pub record RawPair : Type 0 where
   pub left : RawTerm
   pub right : RawTerm
 
--- TERM =? TERM
-abbrev pub spell_pair : RawPair → List Piece
-spell_pair p = spell p.left ++ (word (codes "=?") ∷ spell p.right)
+-- the two terms with a word between
+abbrev pub spell_pair : (between : Text) → RawPair → List Piece
+spell_pair between p = spell p.left ++ (word between ∷ spell p.right)
 
--- /\ TERM =? TERM, for each pair
-abbrev pub spell_further : List RawPair → List Piece
-spell_further [] = []
-spell_further (p ∷ ps) = word (codes "/\\") ∷ spell_pair p ++ spell_further ps
+module _ (between : Text) (separator : Piece) where
+  -- pairs, with a separator before each
+  abbrev pub spell_further : List RawPair → List Piece
+  spell_further [] = []
+  spell_further (p ∷ ps) = separator ∷ spell_pair between p ++ spell_further ps
+
+  -- pairs, with a separator between each two
+  abbrev pub spell_pairs : List RawPair → List Piece
+  spell_pairs [] = []
+  spell_pairs (p ∷ ps) = spell_pair between p ++ spell_further ps
 
 -- one or more pairs, with or without a dot behind them
 pub record RawProblem : Type 0 where
@@ -42,32 +48,29 @@ pub record RawProblem : Type 0 where
 abbrev pub pairs_in : RawProblem → List RawPair
 pairs_in p = p.first ∷ p.others
 
+-- the word between the sides of a problem's pair
+abbrev pub equals : Text
+equals = codes "=?"
+
+-- the word between a variable and its term
+abbrev pub goes_to : Text
+goes_to = codes "-->"
+
+-- the word between the pairs of a problem
+abbrev pub conjunction : Piece
+conjunction = word (codes "/\\")
+
 -- TERM =? TERM /\ TERM =? TERM, or the same with a dot behind it
 abbrev pub spell_problem : RawProblem → List Piece
-spell_problem p = spell_pair p.first ++ (spell_further p.others ++ ending p.dotted)
-
--- a variable, and a term for it
-pub record RawBinding : Type 0 where
-  pub variable : RawTerm
-  pub term : RawTerm
-
--- VARIABLE --> TERM
-abbrev pub spell_binding : RawBinding → List Piece
-spell_binding b = spell b.variable ++ (word (codes "-->") ∷ spell b.term)
-
--- , VARIABLE --> TERM, for each binding
-abbrev pub spell_others : List RawBinding → List Piece
-spell_others [] = []
-spell_others (b ∷ bs) = comma ∷ spell_binding b ++ spell_others bs
-
--- the bindings with a comma between each two
-abbrev pub spell_between : List RawBinding → List Piece
-spell_between [] = []
-spell_between (b ∷ bs) = spell_binding b ++ spell_others bs
+spell_problem p = spell_pairs equals conjunction (pairs_in p) ++ ending p.dotted
 
 -- { VARIABLE --> TERM , VARIABLE --> TERM }, without a dot
-abbrev pub spell_bindings : List RawBinding → List Piece
-spell_bindings bs = left_brace ∷ spell_between bs ++ (right_brace ∷ [])
+abbrev pub spell_bindings : List RawPair → List Piece
+spell_bindings bs = left_brace ∷ spell_pairs goes_to comma bs ++ (right_brace ∷ [])
+
+-- both terms can be written
+abbrev pub IsWrittenPair : RawPair → Type 0
+IsWrittenPair p = IsWritten p.left × IsWritten p.right
 
 -- a name alone, or a variable of a kind
 abbrev pub IsAlone : RawTerm → Type 0
@@ -76,13 +79,9 @@ IsAlone (call w ts) = ⊥
 IsAlone (round t) = ⊥
 IsAlone (kind_variable x s ss) = Unit {0}
 
--- both sides can be written
-abbrev pub IsWrittenPair : RawPair → Type 0
-IsWrittenPair p = IsWritten p.left × IsWritten p.right
-
--- the variable and its term can be written
-abbrev pub IsWrittenBinding : RawBinding → Type 0
-IsWrittenBinding b = IsAlone b.variable × IsWritten b.variable × IsWritten b.term
+-- a variable and a term that can be written
+abbrev pub IsWrittenBinding : RawPair → Type 0
+IsWrittenBinding b = IsAlone b.left × IsWrittenPair b
 
 -- the bytes are this term
 pub record IsQueryText (bytes : Text) (q : RawQuery) : Type 0 where
@@ -95,6 +94,6 @@ pub record IsProblemText (bytes : Text) (p : RawProblem) : Type 0 where
   pub spelled : pieces_of bytes ≡ Some (spell_problem p)
 
 -- the bytes are these bindings
-pub record IsBindingText (bytes : Text) (bs : List RawBinding) : Type 0 where
+pub record IsBindingText (bytes : Text) (bs : List RawPair) : Type 0 where
   pub written : AllByRecursion IsWrittenBinding bs
   pub spelled : pieces_of bytes ≡ Some (spell_bindings bs)

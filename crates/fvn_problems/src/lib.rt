@@ -6,6 +6,10 @@ mod fault;
 mod laws;
 mod problem;
 mod query;
+mod sorting;
+mod split;
+mod text;
+mod vars;
 
 pub use bindings::{Bindings, read_bindings};
 pub use fault::ProblemFault;

@@ -1,0 +1,4 @@
+-- What the steps of the readers answer.
+pub mod Sorting
+pub mod Split
+pub mod Steps
