@@ -10,3 +10,7 @@ mod ProblemTexts
 mod Sorts
 mod SortWalk
 mod TextSplits
+mod Writing
+mod Keys
+mod Binding
+mod BindingTexts

@@ -2,13 +2,14 @@
 use Rattle.std.proofs.Common.{◌≡◌, ℕ, zero, suc, ◌+◌, ◌-◌, ◌^◌, ◌<◌, ◌≤◌, min, ◌⊎◌, inl, inr, List, [], ◌∷◌, ◌++◌, length, take, drop, map, get_or, refl, sym, ap, ◌∙◌, subst, arith}
 use Rattle.std.specs.Prelude.{Result, Ok, Err}
 use Rattle.std.specs.List.{AllByRecursion}
+use Rattle.std.proofs.lemmas.List.{length-map, take_all}
 use Rattle.fvn_base.specs.declared.limits.TheConstants.{TEXT_SYMBOLS}
 use Rattle.fvn_terms.specs.declared.plain.Plain.{Plain}
 use Rattle.fvn_terms.specs.declared.plain.SortId.{SortId}
 use Rattle.fvn_terms.specs.Term.{nodes}
 use Rattle.fvn_terms.specs.Plain.{term}
 use Rattle.fvn_syntax.specs.declared.fault.TermFault.{TermFault}
-use Rattle.fvn_syntax.specs.declared.fault.TermFault.TheVariants.{WrongKind}
+use Rattle.fvn_syntax.specs.declared.fault.TermFault.TheVariants.{WrongKind, NoMemory}
 use Rattle.fvn_syntax.specs.declared.seen.Seen.{Seen}
 use Rattle.fvn_syntax.specs.declared.seen.Kinded.{Kinded}
 use Rattle.fvn_syntax.specs.Pieces.{Text}
@@ -20,7 +21,7 @@ use Rattle.fvn_problems.specs.declared.split.Halves.{Halves}
 use Rattle.fvn_problems.specs.Spelling.{RawPair, IsWrittenPair}
 use Rattle.fvn_problems.specs.Problems.{symbols_of, IsPairOf, IsPairFault, in_left, in_right, two_kinds, ArePairsOf, IsPairsFault}
 use Rattle.fvn_problems.specs.inner.Split.{halves_of}
-use Rattle.fvn_problems.specs.inner.Steps.{IsOf, AreOf, IsPairRead, ReadsPair, RefusesPair, ArePairsRead}
+use Rattle.fvn_problems.specs.inner.Steps.{MemoryOr, IsOf, AreOf, IsPairRead, ReadsPair, RefusesPair, ArePairsRead, ReadsPairs, RefusesPairs}
 
 abbrev pub ok : Resolved → Result Resolved TermFault
 ok r = Ok r
@@ -101,27 +102,31 @@ sum-below a b limit m h = omega arith
 pub sum-most : (a b : ℕ) → sum_or_most a b ≤ 2 ^ 64 - 1
 sum-most a b = omega arith
 
--- the raw pair at a place
-pub record At (list : List Halves) (raws : List RawPair) (i : ℕ) (h : Halves) : Type 0 where
+-- the written pair at a place
+pub record At (W : RawPair → Type 0) (raws : List RawPair) (i : ℕ) (h : Halves) : Type 0 where
   pub raw : RawPair
-  pub of : IsOf h raw
+  pub written : W raw
+  pub is : h ≡ halves_of raw
   pub next : take (suc i) raws ≡ take i raws ++ (raw ∷ [])
   pub whole : raws ≡ take i raws ++ (raw ∷ drop (suc i) raws)
+  pub here : (d : RawPair) → get_or raws i d ≡ raw
 
-tail-of : (h : Halves) (hs : List Halves) (r : RawPair) (rs : List RawPair) → AreOf (h ∷ hs) (r ∷ rs) → AreOf hs rs
-tail-of h hs r rs a = record { written = a.written.1; are = (let e : h ∷ hs ≡ halves_of r ∷ map halves_of rs = a.are in cc) }
+pub at : (W : RawPair → Type 0) (list : List Halves) (raws : List RawPair) (i : ℕ) (h : Halves) → AllByRecursion W raws → list ≡ map halves_of raws →
+    i < length list → h ≡ get_or list i h → At W raws i h
+at W [] raws i h w a within is = absurd (omega arith)
+at W (k ∷ ks) [] i h w a within is = (let e : k ∷ ks ≡ [] = a in cc)
+at W (k ∷ ks) (r ∷ rs) zero h w a within is =
+    let e : k ≡ halves_of r = (let f : k ∷ ks ≡ halves_of r ∷ map halves_of rs = a in cc) in
+    record { raw = r; written = w.0; is = is ∙ e; next = refl; whole = refl; here = λ d. refl }
+at W (k ∷ ks) (r ∷ rs) (suc i) h w a within is =
+    let t : ks ≡ map halves_of rs = (let f : k ∷ ks ≡ halves_of r ∷ map halves_of rs = a in cc) in
+    let g = at W ks rs i h w.1 t (omega arith) is in
+    record { raw = g.raw; written = g.written; is = g.is; next = ap (λ x. r ∷ x) g.next; whole = ap (λ x. r ∷ x) g.whole; here = g.here }
 
-pub at : (list : List Halves) (raws : List RawPair) (i : ℕ) (h : Halves) → AreOf list raws → i < length list → h ≡ get_or list i h → At list raws i h
-at [] raws i h a within is = absurd (omega arith)
-at (k ∷ ks) [] i h a within is = (let e : k ∷ ks ≡ [] = a.are in cc)
-at (k ∷ ks) (r ∷ rs) zero h a within is =
-    let e : k ≡ halves_of r = (let e : k ∷ ks ≡ halves_of r ∷ map halves_of rs = a.are in cc) in
-    record { raw = r; of = record { written = a.written.0; is = is ∙ e }; next = refl; whole = refl }
-at (k ∷ ks) (r ∷ rs) (suc i) h a within is =
-    let g = at ks rs i h (tail-of k ks r rs a) (omega arith) is in
-    record { raw = g.raw; of = g.of; next = ap (λ x. r ∷ x) g.next; whole = ap (λ x. r ∷ x) g.whole }
+pub at-of : (raws : List RawPair) (i : ℕ) (h : Halves) (p : At IsWrittenPair raws i h) → IsOf h p.raw
+at-of raws i h p = record { written = p.written; is = p.is }
 
-sort-of : (s q : SortId) → s.0 ≡ q.0 → s ≡ q
+pub sort-of : (s q : SortId) → s.0 ≡ q.0 → s ≡ q
 sort-of s q e = ap (λ n. record { 0 = n }) e
 
 module _ (c : Scope) (before : Seen) (raw : RawPair) (l r : Kinded × Seen)
@@ -153,3 +158,78 @@ module _ (c : Scope) (before : Seen) (raw : RawPair) (l r : Kinded × Seen)
 
   pub kinds-differ : ((l.0).kind.0 ≡ (r.0).kind.0 → ⊥) → IsPairFault c before.texts raw WrongKind
   kinds-differ ne = two_kinds a.resolved b.resolved a.stands right-stands (λ e. ne (ap (λ s. s.0) (a.kind ∙ e ∙ sym b.kind))) refl
+
+-- both halves of a pair, as they are read
+module _ (c : Scope) (before : Seen) (h : Halves) (l : Kinded × Seen) (left : Reads c TEXT_SYMBOLS before h.left l) where
+  left-read : (raw : RawPair) → IsOf h raw → IsReadAs c TEXT_SYMBOLS before raw.left l
+  left-read raw of = left raw.left (of.written).0 (ap (λ x. x.left) of.is)
+
+  pub refuse-right : (f : TermFault) → (f ≡ NoMemory) ⊎ Refuses c (l.1).texts h.right f → MemoryOr (RefusesPair c before.texts h) f
+  refuse-right f (inl e) = inl e
+  refuse-right f (inr g) = inr (λ raw of.
+      let a = left-read raw of in
+      let k = g raw.right (of.written).1 (ap (λ x. x.right) of.is) in
+      in_right a.resolved a.stands (ap (λ x. resolve c x raw.right) (sym a.texts) ∙ k))
+
+  module _ (r : Kinded × Seen) (right : Reads c TEXT_SYMBOLS l.1 h.right r) where
+    pub refuse-kinds : ((l.0).kind.0 ≡ (r.0).kind.0 → ⊥) → MemoryOr (RefusesPair c before.texts h) WrongKind
+    refuse-kinds ne = inr (λ raw of. kinds-differ c before raw l r (left-read raw of) (right raw.right (of.written).1 (ap (λ x. x.right) of.is)) ne)
+
+    pub read-both : (l.0).kind.0 ≡ (r.0).kind.0 → ReadsPair c before h (((l.0).term, (r.0).term), r.1)
+    read-both e raw of = pair-read c before raw l r (left-read raw of) (right raw.right (of.written).1 (ap (λ x. x.right) of.is)) e
+
+-- the loop over all pairs
+module _ (c : Scope) (list : List Halves) where
+  -- the pairs before the i-th are read
+  abbrev pub ReadSoFar : ℕ → List (Plain × Plain) → Seen → Type 0
+  ReadSoFar i pairs seen = (raws : List RawPair) → AreOf list raws → ArePairsRead c (take i raws) pairs seen
+
+  pub none-so-far : (pairs : List (Plain × Plain)) (seen : Seen) → pairs ≡ [] → seen.texts ≡ [] → seen.count ≡ 0 → ReadSoFar 0 pairs seen
+  none-so-far pairs seen p t n raws of =
+      record {
+        true_pairs = [];
+        stand = sym t;
+        count = n;
+        built = λ _. p;
+      }
+
+  module _ (i : ℕ) (pairs : List (Plain × Plain)) (seen : Seen) (h : Halves) (so : ReadSoFar i pairs seen) (within : i < length list) (is : h ≡ get_or list i h) where
+    next-read : (read : (Plain × Plain) × Seen) → ReadsPair c seen h read → ReadSoFar (suc i) (pairs ++ (read.0 ∷ [])) read.1
+    next-read read a raws of =
+        let p = at IsWrittenPair list raws i h of.written of.are within is in
+        let x = a p.raw (at-of raws i h p) in
+        let b = so raws of in
+        let s = symbols_of b.true_pairs in
+        let n = nodes (term (x.pair).0) + nodes (term (x.pair).1) in
+        record {
+          true_pairs = b.true_pairs ++ (x.pair ∷ []);
+          stand =
+              subst (λ rs. ArePairsOf c [] rs (b.true_pairs ++ (x.pair ∷ [])) (read.1).texts) (sym p.next)
+              (pairs-more c [] (take i raws) b.true_pairs seen.texts p.raw x.pair (read.1).texts b.stand x.stands);
+          count = x.count ∙ ap (λ m. sum_or_most m n) b.count ∙ sum-sum 0 s n ∙ ap (sum_or_most 0) (sym (symbols-more b.true_pairs x.pair));
+          built = λ small.
+              let most : seen.count ≤ 2 ^ 64 - 1 = subst (λ m. m ≤ 2 ^ 64 - 1) (sym b.count) (sum-most 0 s) in
+              let first = sum-below seen.count n TEXT_SYMBOLS most (subst (λ m. m ≤ TEXT_SYMBOLS) x.count small) in
+              ap (λ ps. ps ++ (read.0 ∷ [])) (b.built first) ∙ ap (λ q. b.true_pairs ++ (q ∷ [])) (x.built small);
+        }
+
+    pub one-more : (read : (Plain × Plain) × Seen) (items : List (Plain × Plain)) → ReadsPair c seen h read → items ≡ pairs ++ (read.0 ∷ []) → ReadSoFar (i + 1) items read.1
+    one-more read items a e =
+        let n : suc i ≡ i + 1 = omega arith in
+        subst (λ m. ReadSoFar m items read.1) n (subst (λ l. ReadSoFar (suc i) l read.1) (sym e) (next-read read a))
+
+    pub refuse-here : (f : TermFault) → MemoryOr (RefusesPair c seen.texts h) f → MemoryOr (RefusesPairs c list) f
+    refuse-here f (inl e) = inl e
+    refuse-here f (inr g) = inr (λ raws of.
+        let p = at IsWrittenPair list raws i h of.written of.are within is in
+        let b = so raws of in
+        subst (λ rs. IsPairsFault c [] rs f) (sym p.whole) (fault-more c [] (take i raws) b.true_pairs seen.texts p.raw (drop (suc i) raws) f b.stand (g p.raw (at-of raws i h p))))
+
+  length-raws : (raws : List RawPair) → AreOf list raws → length raws ≡ length list
+  length-raws raws of = sym (ap length of.are ∙ length-map raws halves_of)
+
+  pub all-read : (i : ℕ) (pairs : List (Plain × Plain)) (seen : Seen) → ReadSoFar i pairs seen → length list ≤ i → ReadsPairs c list (pairs, seen)
+  all-read i pairs seen so l raws of =
+      let n = length-raws raws of in
+      let e : take i raws ≡ raws = take_all i raws (omega arith) in
+      subst (λ rs. ArePairsRead c rs pairs seen) e (so raws of)

@@ -113,7 +113,7 @@ module _ (d : Declarations) (names : Names) (fit : AreNamesOf d names) (law : Te
   pairs-grown before (r ∷ rs) (p ∷ ps) after a =
       grown-both before a.0 after (λ x. Occurs x (term p.0) ⊎ Occurs x (term p.1)) (OccursInSides ps) (pair-grown before r p a.0 a.1.0) (pairs-grown a.0 rs ps after a.1.1)
 
-all-at : {A : Type 0} (P : A → Type 0) (xs : List A) → AllByRecursion P xs → All P xs
+pub all-at : {A : Type 0} (P : A → Type 0) (xs : List A) → AllByRecursion P xs → All P xs
 all-at P [] a k e l = absurd (omega arith)
 all-at P (x ∷ xs) a zero e l = a.0
 all-at P (x ∷ xs) a (suc k) e l = all-at P xs a.1 k e (omega arith)
@@ -196,3 +196,6 @@ halves-terms (r ∷ rs) w = ((term-row r.left (w.0).0, term-row r.right (w.0).1)
 
 pub are-terms : (list : List Halves) (raws : List RawPair) → AreOf list raws → All AreTerms list
 are-terms list raws a = all-at AreTerms list (subst (AllByRecursion AreTerms) (sym a.are) (halves-terms raws a.written))
+
+pub split-terms : (row : List Piece) (list : List Halves) → IsProblemSplit row list → All AreTerms list
+split-terms row list h = are-terms list (pairs_in h.raw) (record { written = h.is.written; are = h.halves })

@@ -11,7 +11,12 @@ use Rattle.fvn_terms.specs.Term.{nodes}
 use Rattle.fvn_terms.specs.Plain.{term}
 use Rattle.fvn_terms.specs.Signature.{IsTerm}
 use Rattle.fvn_terms.specs.Substitution.{Occurs}
+use Rattle.fvn_syntax.specs.declared.fault.TermFault.{TermFault}
+use Rattle.fvn_syntax.specs.declared.fault.TermFault.TheVariants as term_fault
 use Rattle.fvn_syntax.specs.declared.names.Names.{Names}
+use Rattle.fvn_syntax.specs.declared.seen.Seen.{Seen}
+use Rattle.fvn_syntax.specs.declared.seen.Kinded.{Kinded}
+use Rattle.fvn_syntax.specs.Readings.{sum_or_most, Reads, Refuses}
 use Rattle.fvn_syntax.specs.declared.names.VarNames.{VarNames}
 use Rattle.fvn_syntax.specs.Laws.{TermsAreWellKinded}
 use Rattle.fvn_syntax.specs.Pieces.{Text}
@@ -21,7 +26,7 @@ use Rattle.fvn_syntax.specs.Scope.{Scope}
 use Rattle.fvn_problems.specs.declared.fault.ProblemFault.{ProblemFault}
 use Rattle.fvn_problems.specs.declared.fault.ProblemFault.TheVariants.{Text as NoText, TooLarge, NoMemory}
 use Rattle.fvn_problems.specs.declared.query.Query.{Query}
-use Rattle.fvn_problems.specs.Faults.{HasTokens, IsFirstFault, ButForMemory}
+use Rattle.fvn_problems.specs.Faults.{fault_of}
 use Rattle.fvn_problems.specs.Queries.{IsQueryOf, IsQueryFault, in_term, too_large, IsQuery, IsOnlyQuery, RefusesQuery, HasNoQuery, HasVariables}
 use Rattle.fvn_problems.specs.Scopes.{guarded, AreNamesOf}
 use Rattle.fvn_problems.specs.Spelling.{RawQuery, spell_query, IsQueryText}
@@ -34,7 +39,7 @@ use Rattle.fvn_problems.proofs.Occurring.{Lists, lists-term, lists-nothing, alon
 use Rattle.fvn_problems.proofs.Pairs.{same-meaning, no-fault}
 use Rattle.fvn_problems.proofs.Spelled.{ends-nil, queries-once}
 
-abbrev make : Plain → List Var → List Text → Query
+abbrev pub make : Plain → List Var → List Text → Query
 make t vars texts = record { term = t; vars = vars; names = record { texts = texts } }
 
 module _ (c : Scope) (raw : RawQuery) where
@@ -128,3 +133,36 @@ module _ (d : Declarations) (names : Names) (bytes : Text) where
       -- what is told of a term is told of its text
       pub term-of : IsTermBefore [] front
       term-of = record { term = split.raw.term; written = split.is.written; ends = ends-nil split.raw.term; spelled = split.front_is ∙ sym (append-nil (spell split.raw.term)) }
+
+-- the step from what was read to what is asked
+module _ (c : Scope) (row : List Piece) (before : Seen) (none : before.texts ≡ []) where
+  pub refused : (f : TermFault) → (f ≡ term_fault.NoMemory) ⊎ Refuses c before.texts row f → AsksNoTerm c row (fault_of f)
+  refused f (inl e) raw of = inl (ap fault_of e)
+  refused f (inr h) raw of = inr (in_term f (ap (λ x. resolve c x raw.term) (sym none) ∙ h raw.term of.written of.is) refl)
+
+  module _ (zero : before.count ≡ 0) (read : Kinded × Seen) (reads : Reads c TEXT_SYMBOLS before row read) where
+    stands : (raw : RawQuery) (of : IsTermOf row raw) → resolve c [] raw.term ≡ Ok (reads raw.term of.written of.is).resolved
+    stands raw of = ap (λ x. resolve c x raw.term) (sym none) ∙ (reads raw.term of.written of.is).stands
+
+    counted : (raw : RawQuery) (of : IsTermOf row raw) → (read.1).count ≡ sum_or_most 0 (nodes (term (reads raw.term of.written of.is).resolved.term))
+    counted raw of = (reads raw.term of.written of.is).count ∙ ap (λ m. sum_or_most m (nodes (term (reads raw.term of.written of.is).resolved.term))) zero
+
+    pub too-large : TEXT_SYMBOLS < (read.1).count → AsksNoTerm c row TooLarge
+    too-large large raw of =
+        let n = counted raw of in
+        inr (too_large (reads raw.term of.written of.is).resolved (stands raw of) (omega arith) refl)
+
+    pub asks : (vars : List Var) → (read.1).count ≤ TEXT_SYMBOLS → vars ≡ with_variables [] (term (read.0).term) → AsksTerm c row (make (read.0).term vars (read.1).texts)
+    asks vars small is raw of =
+        let a = reads raw.term of.written of.is in
+        let n = counted raw of in
+        let e : (read.0).term ≡ a.resolved.term = a.built small in
+        let l : nodes (term a.resolved.term) ≤ TEXT_SYMBOLS = omega arith in
+        record {
+          resolved = a.resolved;
+          stands = stands raw of;
+          term_is = e;
+          names = a.texts;
+          vars = is;
+          small = subst (λ t. nodes (term t) ≤ TEXT_SYMBOLS) (sym e) l;
+        }

@@ -57,9 +57,9 @@ module _ (d : Declarations) (names : Names) where
 
   -- a piece behind a name alone
   step-named : (fs : List Frame) (w : Text) (p : Piece) → is_special (codes "(") p ≡ false →
-      (is_colon_name w ≡ true → is_special (codes "[") p ≡ false) → step_at d names fs p (Named w) ≡ behind d names (leaf d names w) p fs
+      (is_colon_name w ≡ true → is_special (codes "[") p ≡ false) → step_at d names fs p (Named w) ≡ behind d (leaf d names w) p fs
   step-named fs w p n k = go (is_colon_name w) refl where
-    go : (b : Bool) → is_colon_name w ≡ b → step_at d names fs p (Named w) ≡ behind d names (leaf d names w) p fs
+    go : (b : Bool) → is_colon_name w ≡ b → step_at d names fs p (Named w) ≡ behind d (leaf d names w) p fs
     go true e = let m : is_special (codes "[") p ≡ false = k e in rw (n, e, m) refl
     go false e = rw (n, e) refl
 
@@ -103,17 +103,17 @@ module _ (d : Declarations) (names : Names) where
         ∙ ap (run d names (state (Call (or_first_op (op_named names w)) [] ∷ fs) Wanted)) (append_assoc (spell_all ts) (right_paren ∷ []) rest)
         ∙ read-all ts h (or_first_op (op_named names w)) fs [] rest
 
-    read-all : (ts : RawTerms) → AreWritten ts → (f : OpId) (fs : List Frame) (as : List Sorted) (rest : List Piece) →
-        run d names (state (Call f as ∷ fs) Wanted) (spell_all ts ++ (right_paren ∷ rest)) ≡ goes_on fs rest (over d f (as ++ values ts))
-    read-all (last t) h f fs as rest =
-        read-term t h (Call f as ∷ fs) (right_paren ∷ rest) (ends-before right_paren rest refl refl t)
-        ∙ run-cons (state (Call f as ∷ fs) (Whole (value t))) right_paren rest
-    read-all (and t ts) h f fs as rest =
-        ap (run d names (state (Call f as ∷ fs) Wanted)) (append_assoc (spell t) (comma ∷ spell_all ts) (right_paren ∷ rest))
-        ∙ read-term t h.0 (Call f as ∷ fs) (comma ∷ (spell_all ts ++ (right_paren ∷ rest))) (ends-before comma (spell_all ts ++ (right_paren ∷ rest)) refl refl t)
-        ∙ run-cons (state (Call f as ∷ fs) (Whole (value t))) comma (spell_all ts ++ (right_paren ∷ rest))
-        ∙ read-all ts h.1 f fs (as ++ (value t ∷ [])) rest
-        ∙ ap (λ l. goes_on fs rest (over d f l)) (append_assoc as (value t ∷ []) (values ts))
+    read-all : (ts : RawTerms) → AreWritten ts → (f : OpId) (fs : List Frame) (vs : List Sorted) (rest : List Piece) →
+        run d names (state (Call f vs ∷ fs) Wanted) (spell_all ts ++ (right_paren ∷ rest)) ≡ goes_on fs rest (over d f (vs ++ values ts))
+    read-all (last t) h f fs vs rest =
+        read-term t h (Call f vs ∷ fs) (right_paren ∷ rest) (ends-before right_paren rest refl refl t)
+        ∙ run-cons (state (Call f vs ∷ fs) (Whole (value t))) right_paren rest
+    read-all (and t ts) h f fs vs rest =
+        ap (run d names (state (Call f vs ∷ fs) Wanted)) (append_assoc (spell t) (comma ∷ spell_all ts) (right_paren ∷ rest))
+        ∙ read-term t h.0 (Call f vs ∷ fs) (comma ∷ (spell_all ts ++ (right_paren ∷ rest))) (ends-before comma (spell_all ts ++ (right_paren ∷ rest)) refl refl t)
+        ∙ run-cons (state (Call f vs ∷ fs) (Whole (value t))) comma (spell_all ts ++ (right_paren ∷ rest))
+        ∙ read-all ts h.1 f fs (vs ++ (value t ∷ [])) rest
+        ∙ ap (λ l. goes_on fs rest (over d f l)) (append_assoc vs (value t ∷ []) (values ts))
 
   read-whole : (t : RawTerm) → IsWritten t → run d names (state [] Wanted) (spell t) ≡ value t
   read-whole t h =
@@ -177,13 +177,13 @@ module _ (c : Scope) (fit : IsFitting c) (good : IsGood c.declarations) (law : T
         (sym (bracket-kind (sort_named c.names.sorts q) qs k e))
         (variable-sorted before (c.guarded && is_reserved (without_last x)) (without_last x) k)
 
+  abbrev whole : OpId → AllResolved → Resolved
+  whole f x = record { term = applied (is_sum (axioms c.declarations f)) f x.terms; kind = result_of c.declarations f; texts = x.texts }
+
   applied-is : (f : OpId) (x : AllResolved) (r : Resolved) → apply c.declarations f x ≡ Ok r → applied (is_sum (axioms c.declarations f)) f x.terms ≡ r.term
   applied-is f x r = go (application_fault c.declarations (is_sum (axioms c.declarations f)) f x.kinds) where
-    abbrev whole : Resolved
-    whole = record { term = applied (is_sum (axioms c.declarations f)) f x.terms; kind = result_of c.declarations f; texts = x.texts }
-
-    go : (o : Option TermFault) → unless c.declarations o whole ≡ Ok r → applied (is_sum (axioms c.declarations f)) f x.terms ≡ r.term
-    go None e = ap (λ (y : Resolved). y.term) (let g : ok whole ≡ ok r = e in let h : whole ≡ r = cc in h)
+    go : (o : Option TermFault) → unless c.declarations o (whole f x) ≡ Ok r → applied (is_sum (axioms c.declarations f)) f x.terms ≡ r.term
+    go None e = ap (λ (y : Resolved). y.term) (let g : ok (whole f x) ≡ ok r = e in let h : whole f x ≡ r = cc in h)
     go (Some fault) e = (let g : err fault ≡ ok r = e in cc)
 
   over-sorted : (f : OpId) (vs : List Sorted) (x : Result AllResolved TermFault) → AreSorted vs x → (r : Resolved) → bind x (apply c.declarations f) ≡ Ok r →

@@ -1,5 +1,5 @@
 -- The least sort of a term, by those of its arguments.
-use Rattle.std.proofs.Common.{◌≡◌, ℕ, ◌≤◌, Bool, true, false, List, [], ◌∷◌, map, length, Option, Some, None, refl, sym, ap, subst, ◌∙◌, arith}
+use Rattle.std.proofs.Common.{◌≡◌, ℕ, ◌≤◌, Bool, true, false, List, [], ◌∷◌, ◌++◌, map, length, Option, Some, None, refl, sym, ap, subst, ◌∙◌, append_assoc, arith}
 use Rattle.std.specs.Prelude.{nat_eq, if◌then◌else◌}
 use Rattle.std.specs.List.{AllByRecursion}
 use Rattle.std.proofs.lemmas.Bool.{eqb-true, eq-eqb}
@@ -67,6 +67,19 @@ same_false o g h w =
 sorts_of_arguments : (d : Declarations) (ts : List Plain) → map (least_sort d) (eval_all d fvar (terms ts)) ≡ map (λ a. a.sort) (map (λ (t : Plain). sorted_of d (term t)) ts)
 sorts_of_arguments d [] = refl
 sorts_of_arguments d (t ∷ ts) = ap (λ l. least_sort d (canon d (term t)) ∷ l) (sorts_of_arguments d ts)
+
+-- the last two terms of a sum are one of its terms
+module _ (d : Declarations) (f : OpId) where
+  sum_of-two : (v : Sorted) (vs : List Sorted) (a b : Sorted) → sum_of d f v (vs ++ (a ∷ b ∷ [])) ≡ sum_of d f v (vs ++ (sum_of_two d f a b ∷ []))
+  sum_of-two v [] a b = refl
+  sum_of-two v (u ∷ us) a b = ap (sum_of_two d f v) (sum_of-two u us a b)
+
+  sum_of_all-two : (vs : List Sorted) (a b : Sorted) → sum_of_all d f (vs ++ (a ∷ b ∷ [])) ≡ sum_of_all d f (vs ++ (sum_of_two d f a b ∷ []))
+  sum_of_all-two [] a b = refl
+  sum_of_all-two (v ∷ vs) a b = sum_of-two v vs a b
+
+  pub sum_of_all-last : (vs : List Sorted) (a b : Sorted) → sum_of_all d f ((vs ++ (a ∷ [])) ++ (b ∷ [])) ≡ sum_of_all d f (vs ++ (sum_of_two d f a b ∷ []))
+  sum_of_all-last vs a b = ap (sum_of_all d f) (append_assoc vs (a ∷ []) (b ∷ [])) ∙ sum_of_all-two vs a b
 
 module _ (d : Declarations) (good : IsGood d) (f : OpId) where
   abbrev sorted : SortId → Option OpId → Sorted

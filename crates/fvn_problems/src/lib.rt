@@ -10,6 +10,7 @@ mod sorting;
 mod split;
 mod text;
 mod vars;
+mod written;
 
 pub use bindings::{Bindings, read_bindings};
 pub use fault::ProblemFault;

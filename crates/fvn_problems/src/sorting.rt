@@ -5,9 +5,9 @@ ghost use Rattle.fvn_forms.specs.Canon.{identity};
 ghost use Rattle.fvn_forms.specs.Ranks.{result as least_result};
 ghost use Rattle.fvn_syntax.specs.Pieces.{is_colon_name};
 ghost use Rattle.fvn_syntax.specs.Names.{declared_sort, variable_named, op_named, sort_named, is_sum};
-ghost use Rattle.fvn_syntax.specs.Laws.{IsFitting};
 ghost use Rattle.fvn_syntax.specs.Texts.{place};
 ghost use Rattle.fvn_problems.specs.declared.sorting.Spot.TheVariants.{Wanted};
+ghost use Rattle.fvn_problems.specs.Scopes.{unguarded, AreNamesOf};
 ghost use Rattle.fvn_problems.specs.inner.Sorting.{
   of_sort,
   of_constant,
@@ -34,6 +34,7 @@ use fvn_base::Seq;
 use fvn_sorts::Signature;
 use fvn_syntax::{
     Names, Piece, Scope, Text, find_constant, find_operator, find_sort, split_sorted,
+    terms_are_well_kinded,
 };
 use fvn_terms::{Axioms, NoMemory, OpId, SortId};
 use std::alloc::Global;
@@ -369,7 +370,8 @@ impl<'a> Walk<'a> {
     pub fn finish(self, signature: &Signature, scope: &Scope<'_>) -> Sorted
         ensures { result ≡ finish signature.now scope.now.names self.entry.spot }
     {
-        match self.spot {
+        let Walk { spot, .. } = self;
+        match spot {
             Spot::Wanted => of_sort(SortId(0)),
             Spot::Named(name) => sort_leaf(signature, scope, name.bytes()),
             Spot::Bracket(_) => of_sort(SortId(0)),
@@ -402,13 +404,15 @@ fn walk_row(
 pub fn sort_row(
     alloc: Global,
     signature: &Signature,
-    scope: &Scope<'_>,
+    names: &Names,
     row: &[Piece<'_>],
 ) -> Result<SortId, NoMemory>
-    requires fitting { IsFitting scope.now }
-    requires same { scope.now.declarations ≡ signature.now }
-    ensures { IfOk result (HasLeastSort scope.now row.now) }
+    requires { AreNamesOf signature.now names.now }
+    ensures { IfOk result (HasLeastSort (unguarded signature.now names.now) row.now) }
 {
-    let sorted = walk_row(alloc, signature, scope, row)?;
-    Ok(sorted.sort)
+    signature.recall_good();
+    terms_are_well_kinded();
+    let scope = Scope::new(signature.declarations(), names, false);
+    let Sorted { sort, .. } = walk_row(alloc, signature, &scope, row)?;
+    Ok(sort)
 }

@@ -163,7 +163,7 @@ fn are_alone(list: &[Halves<'_>]) -> bool
 }
 
 // Whether the row is the brace that closes, alone.
-fn is_closed(row: &[Piece<'_>]) -> bool
+fn is_closed<'a>(row: &'a [Piece<'a>]) -> bool
     ensures { IsTrue result ↔ (row.now ≡ right_brace ∷ []) }
 {
     match behind(row, &Piece::new(Class::Special, b"}")) {

@@ -86,11 +86,19 @@ module _ (d : Declarations) where
   -- one or more arguments of a sum
   abbrev pub sum_of_all : OpId → List Sorted → Sorted
   sum_of_all f [] = of_constant f
-  sum_of_all f (a ∷ as) = sum_of f a as
+  sum_of_all f (a ∷ vs) = sum_of f a vs
 
   -- an operator over one or more arguments
   abbrev pub over : OpId → List Sorted → Sorted
-  over f as = if is_sum (axioms d f) then sum_of_all f as else of_sort (result d f (map (λ a. a.sort) as))
+  over f vs = if is_sum (axioms d f) then sum_of_all f vs else of_sort (result d f (map (λ a. a.sort) vs))
+
+  -- a piece behind a whole term
+  abbrev pub behind : Sorted → Piece → List Frame → State
+  behind v p [] = state [] (Whole v)
+  behind v p (Round ∷ fs) = state fs (Whole v)
+  behind v p (Call f vs ∷ fs) =
+      if is_special (codes ",") p then state (Call f (vs ++ (v ∷ [])) ∷ fs) Wanted
+      else state fs (Whole (over f (vs ++ (v ∷ []))))
 
 module _ (d : Declarations) (names : Names) where
   -- a constant, or else a variable of its sort
@@ -111,26 +119,18 @@ module _ (d : Declarations) (names : Names) where
   first_kind None w = kind_named w
   first_kind (Some k) w = k
 
-  -- a piece behind a whole term
-  abbrev pub behind : Sorted → Piece → List Frame → State
-  behind v p [] = state [] (Whole v)
-  behind v p (Round ∷ fs) = state fs (Whole v)
-  behind v p (Call f as ∷ fs) =
-      if is_special (codes ",") p then state (Call f (as ++ (v ∷ [])) ∷ fs) Wanted
-      else state fs (Whole (over d f (as ++ (v ∷ []))))
-
   -- one more piece
   abbrev pub step_at : List Frame → Piece → Spot → State
   step_at fs p Wanted = if is_special (codes "(") p then state (Round ∷ fs) Wanted else state fs (Named p.text)
   step_at fs p (Named w) =
       if is_special (codes "(") p then state (Call (or_first_op (op_named names w)) [] ∷ fs) Wanted
       else if is_colon_name w && is_special (codes "[") p then state fs (Bracket None)
-      else behind (leaf w) p fs
+      else behind d (leaf w) p fs
   step_at fs p (Bracket k) =
       if is_special (codes "]") p then state fs (Whole (of_sort (or_first_sort k)))
       else if is_special (codes ",") p then state fs (Bracket k)
       else state fs (Bracket (Some (first_kind k p.text)))
-  step_at fs p (Whole v) = behind v p fs
+  step_at fs p (Whole v) = behind d v p fs
 
   -- one more piece of the walk
   abbrev pub step : State → Piece → State
