@@ -43,7 +43,7 @@ unguarded-fit d names fit =
     let f = fit.fitting in
     record { sorts = f.sorts; kinds = f.kinds; variables = f.variables; ops = f.ops; sums = f.sums }
 
-abbrev make : List (Var × Plain) → Bindings
+abbrev pub make : List (Var × Plain) → Bindings
 make ps = record { subst = record { pairs = ps } }
 
 module _ (c : Scope) (p : Problem) where

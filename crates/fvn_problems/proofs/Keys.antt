@@ -16,7 +16,7 @@ use Rattle.fvn_problems.specs.Spelling.{RawPair, IsWrittenBinding}
 use Rattle.fvn_problems.specs.inner.Split.{halves_of}
 use Rattle.fvn_problems.specs.inner.Bound.{key_of, keys_of, with_key, with_written, AreBound, Adds, TellsOnce}
 use Rattle.fvn_problems.proofs.Pairs.{At, at}
-use Rattle.fvn_problems.proofs.Writing.{place-text, place-none}
+use Rattle.fvn_problems.proofs.Writing.{get-take, place-text, place-none}
 
 abbrev pub Written : Type 0
 Written = Option (Text × SortId)
@@ -76,13 +76,6 @@ text-contained : (texts : List Text) (t : Text) (i : ℕ) → place texts t ≡ 
 text-contained texts t i h =
     let e = place-text texts t i h in
     (i, slice_get_within texts i t e, get_or_from_slice_get texts i t t e)
-
-get-take : {A : Type 0} (xs : List A) (i k : ℕ) (x : A) → slice_get (take i xs) k ≡ Some x → (slice_get xs k ≡ Some x) × (k < i)
-get-take [] zero k x h = (let e : None ≡ Some x = h in cc)
-get-take [] (suc i) k x h = (let e : None ≡ Some x = h in cc)
-get-take (y ∷ ys) zero k x h = (let e : None ≡ Some x = h in cc)
-get-take (y ∷ ys) (suc i) zero x h = (h, omega arith)
-get-take (y ∷ ys) (suc i) (suc k) x h = let g = get-take ys i k x h in (g.0, (let l = g.1 in omega arith))
 
 slice_get-mapped : {A B : Type 0} (f : A → B) (xs : List A) (k : ℕ) (y : B) → slice_get (map f xs) k ≡ Some y → (x : A) × (slice_get xs k ≡ Some x) × (f x ≡ y)
 slice_get-mapped f [] k y h = (let e : None ≡ Some y = h in cc)
@@ -177,7 +170,7 @@ module _ (c : Scope) where
         let at-k : get_or raws t.0 p.raw ≡ t.1 = get_or_from_slice_get raws t.0 t.1 p.raw g.0 in
         let at-i : get_or raws i p.raw ≡ p.raw = p.here p.raw in
         (λ e. (let q : false ≡ true = e in cc), λ once.
-            once t.0 i p.raw g.1 (omega arith) (subst (λ x. AreOneVariable c x.left (get_or raws i p.raw).left) (sym at-k) (subst (λ x. AreOneVariable c t.1.left x.left) (sym at-i) t.3)))
+            absurd (once t.0 i p.raw g.1 (omega arith) (subst (λ x. AreOneVariable c x.left (get_or raws i p.raw).left) (sym at-k) (subst (λ x. AreOneVariable c t.1.left x.left) (sym at-i) t.3))))
 
   pub once-all : (list : List Halves) (i : ℕ) (keys : List Text) → OnceSoFar list i keys → length list ≤ i → TellsOnce c list true
   once-all list i keys so l raws of =

@@ -1,4 +1,5 @@
--- Lemmas of the readers.
+-- Lemmas of the readers; the public ones are for callers.
+pub mod Fitting
 mod Spelled
 mod Splitting
 mod Pairs

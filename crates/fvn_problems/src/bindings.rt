@@ -1,5 +1,5 @@
 //! Reading a binding text.
-ghost use Rattle.std.specs.Prelude.{◌≡◌, ◌≤◌, [], length, take, All, IfOk, IfErr};
+ghost use Rattle.std.specs.Prelude.{◌≡◌, All, IfOk, IfErr};
 ghost use Rattle.fvn_terms.specs.Sorts.{IsWellSorted};
 ghost use Rattle.fvn_terms.specs.Substitution.{value};
 ghost use Rattle.fvn_problems.specs.Scopes.{unguarded, AreNamesOf};
@@ -133,7 +133,8 @@ fn bindings_of(
     match split_bindings(alloc, row.as_slice())? {
         None => Err(ProblemFault::Text),
         Some(list) => {
-            if !are_once(alloc, signature, names, list.as_slice())? {
+            let once = are_once(alloc, signature, names, list.as_slice())?;
+            if !once {
                 return Err(ProblemFault::Text);
             }
             bind(alloc, signature, names, problem, list.as_slice())
@@ -163,5 +164,6 @@ pub fn read_bindings(
     ensures none { IfErr result (HasNoBindings signature.now names.now problem.now bytes.now) }
 {
     terms_are_well_kinded();
+    problem.names.texts.are_distinct();
     bindings_of(alloc, signature, names, problem, bytes)
 }

@@ -1,9 +1,10 @@
 //! The variables that are written before the arrows of a binding text.
-ghost use Rattle.std.specs.Prelude.{◌≡◌, [], All, IfOk, IfSome, IfNone};
+ghost use Rattle.std.specs.Prelude.{◌≡◌, [], true, false, All, Contains, IfOk, IfSome, IfNone};
+ghost use Rattle.std.specs.List.{list_any};
 ghost use Rattle.fvn_syntax.specs.Raw.{IsTermBefore};
 ghost use Rattle.fvn_problems.specs.Scopes.{unguarded, AreNamesOf};
 ghost use Rattle.fvn_problems.specs.inner.Split.{AreTerms};
-ghost use Rattle.fvn_problems.specs.inner.Bound.{text_and_sort, Writes, IsTheVariable, Finds, key_of, Adds, TellsOnce};
+ghost use Rattle.fvn_problems.specs.inner.Bound.{text_and_sort, Writes, is_named, IsTheVariable, Finds, key_of, Adds, TellsOnce};
 
 use crate::problem::Problem;
 use crate::split::Halves;
@@ -58,18 +59,36 @@ fn read_variable(
     }
 }
 
+// Whether it is a variable with the text of this number and this sort.
+fn is_named(x: Var, name: usize, sort: SortId) -> bool
+    ensures { result ≡ is_named name sort x }
+{
+    x.name as usize == name && x.sort.0 == sort.0 && !x.fresh
+}
+
+// A variable with the text of this number and this sort.
+fn find_named(vars: &[Var], name: usize, sort: SortId) -> Option<Var>
+    ensures some { IfSome result (λ x. Contains vars.now x × (is_named name sort x ≡ true)) }
+    ensures none { IfNone result (list_any (is_named name sort) vars.now ≡ false) }
+{
+    for x in vars {
+        if is_named(*x, name, sort) {
+            return Some(*x);
+        }
+    }
+    None
+}
+
 // The variable of the problem with this text and sort.
 fn find_variable(problem: &Problem, text: &[u8], sort: SortId) -> Option<Var>
     ensures some { IfSome result (IsTheVariable problem.now text.now sort) }
     ensures none { IfNone result ((x : Var) → IsTheVariable problem.now text.now sort x → ⊥) }
 {
-    let i = problem.names.texts.place(text)?;
-    for x in problem.vars.as_slice() {
-        if x.name as usize == i && x.sort.0 == sort.0 && !x.fresh {
-            return Some(*x);
-        }
+    problem.names.texts.are_distinct();
+    match problem.names.texts.place(text) {
+        None => None,
+        Some(i) => find_named(problem.vars.as_slice(), i, sort),
     }
-    None
 }
 
 /// The variable of the problem that is written.
@@ -138,7 +157,8 @@ pub fn are_once(
 {
     let mut keys = Texts::new(alloc);
     for halves in list {
-        if !add_written(alloc, signature, names, &mut keys, halves.left.pieces())? {
+        let fresh = add_written(alloc, signature, names, &mut keys, halves.left.pieces())?;
+        if !fresh {
             return Ok(false);
         }
     }

@@ -1,5 +1,5 @@
 -- What the steps of the reader of bindings answer.
-use Rattle.std.specs.Prelude.{ℕ, ◌≡◌, ◌<◌, ◌≤◌, ◌↔◌, ◌⊎◌, ◌/◌, ◌%◌, ◌++◌, Bool, false, if◌then◌else◌, IsTrue, List, [], ◌∷◌, map, slice_get, All, Contains, Option, Some, None}
+use Rattle.std.specs.Prelude.{ℕ, ◌≡◌, ◌<◌, ◌≤◌, ◌↔◌, ◌⊎◌, ◌/◌, ◌%◌, ◌++◌, ◌&&◌, Bool, false, not, nat_eq, if◌then◌else◌, IsTrue, List, [], ◌∷◌, map, slice_get, All, Contains, Option, Some, None}
 use Rattle.std.specs.List.{AllByRecursion}
 use Rattle.fvn_base.specs.declared.limits.TheConstants.{TERM_SYMBOLS}
 use Rattle.fvn_lex.specs.Cut.{Piece}
@@ -44,6 +44,10 @@ pub record IsTheVariable (p : Problem) (text : Text) (sort : SortId) (x : Var) :
   pub named : slice_get p.names.texts x.name ≡ Some text
   pub not_fresh : x.fresh ≡ false
   pub listed : Contains p.vars x
+
+-- whether x is a variable with the text of this number and this sort
+abbrev pub is_named : ℕ → SortId → Var → Bool
+is_named name sort x = nat_eq x.name name && nat_eq x.sort.0 sort.0 && not x.fresh
 
 -- a text and a sort as one text
 abbrev pub key_of : Text × SortId → Text
