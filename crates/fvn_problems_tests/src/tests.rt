@@ -2,7 +2,7 @@
 mod module;
 mod showing;
 
-use crate::tests::module::{Module, are_names, finished, stated};
+use crate::tests::module::{Module, are_names, finished, make_stated};
 use crate::tests::showing::{push_fault, push_term, push_variable, push_variables};
 use fvn_problems::{Bindings, Problem, Query, read_bindings, read_problem, read_query};
 use fvn_terms::NoMemory;
@@ -297,7 +297,7 @@ fn told(rt: &impl Abort, alloc: Global, module: &Module, text: &str) -> Result<S
 }
 
 fn module_of(rt: &impl Abort, alloc: Global, text: &str) -> Result<Module, NoMemory> {
-    match finished(alloc, stated(rt, alloc, text)?) {
+    match finished(alloc, make_stated(rt, alloc, text)?) {
         Some(module) => Ok(module),
         None => {
             assert!(rt; false, "at {text}");
@@ -358,27 +358,27 @@ p X =? a /\\ X =? |397|a| |large
 p X =? |395|+(a,a)| |
 p X =? |396|+(a,a)| |
 p X =? |397|+(a,a)| |large
-p X =? |100000|a| |large
-p X =? |100000|q| |unknown
-p X =? |100000|c| |kind
-p X =? |100000|a| /\\ q =? X|unknown
-p X =? |100000|a| /\\ a =? c|kind
-p X =? |100000|a| /\\ |text
+p X =? |20000|a| |large
+p X =? |20000|q| |unknown
+p X =? |20000|c| |kind
+p X =? |20000|a| /\\ q =? X|unknown
+p X =? |20000|a| /\\ a =? c|kind
+p X =? |20000|a| /\\ |text
 t |399|a| |
 t |400|a| |large
-t |100000|a| . |large
-t |100000|q| |unknown
+t |20000|a| . |large
+t |20000|q| |unknown
 b X =? Y # {X --> |999|a|} |
 b X =? Y # {X --> |1000|a|} |large
 b X =? Y # {X --> |999|a|, Y --> f(a)} |
 b X =? Y # {X --> |1000|a|, Y --> q} |unknown
 b X =? Y # {X --> |1000|a|, Y --> c} |kind
 b X =? Y # {X --> |1000|a|, Y --> f(b)} |sort
-b X =? Y # {X --> |100000|a|} |large
-b X =? Y # {X --> |100000|*(e,a)|} |large
-b X =? Y # {X --> |100000|b|} |sort
-b X =? Y # {X --> |100000|*(a,a)|} |sort
-b X =? Y # {X --> |100000|a|, X:A --> a} |text";
+b X =? Y # {X --> |20000|a|} |large
+b X =? Y # {X --> |20000|*(e,a)|} |large
+b X =? Y # {X --> |20000|b|} |sort
+b X =? Y # {X --> |20000|*(a,a)|} |sort
+b X =? Y # {X --> |20000|a|, X:A --> a} |text";
 
 fn number(text: &str) -> u32 {
     text.parse::<u32>().unwrap_or(0)

@@ -212,7 +212,7 @@ fn with_statement(
 }
 
 /// What the statements of the text give.
-pub fn stated(rt: &impl Abort, alloc: Global, text: &str) -> Result<Stated, NoMemory> {
+pub fn make_stated(rt: &impl Abort, alloc: Global, text: &str) -> Result<Stated, NoMemory> {
     let mut so_far = Stated {
         builder: SignatureBuilder::new(alloc),
         sorts: Texts::new(alloc),
