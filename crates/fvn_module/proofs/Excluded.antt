@@ -29,7 +29,7 @@ use Rattle.fvn_module.proofs.Determined.{left-once, right-once, stand-first, sta
 -- Names.
 
 module _ (sts : List Statement) where
-  named-at : (b before : List Statement) (st : Statement) (after : List Statement) →
+  pub named-at : (b before : List Statement) (st : Statement) (after : List Statement) →
       AreNamed (sorts_of sts) (operators_of sts) (kinds_in sts) b (before ++ (st ∷ after)) →
       (names_unknown (sorts_of sts) (operators_of sts) (kinds_in sts) (b ++ before) st ≡ false)
       × (declares_twice (sorts_of sts) (operators_of sts) (kinds_in sts) (b ++ before) st ≡ false)
@@ -39,7 +39,7 @@ module _ (sts : List Statement) where
       let e : (b ++ (x ∷ [])) ++ before ≡ b ++ (x ∷ before) = append_assoc b (x ∷ []) before in
       rw e at g
 
-  not-both : (b : Bool) → b ≡ true → b ≡ false → ⊥
+  pub not-both : (b : Bool) → b ≡ true → b ≡ false → ⊥
   not-both true h g = cc
   not-both false h g = cc
 
@@ -55,10 +55,10 @@ module _ (sts : List Statement) where
 -- Equations.
 
 module _ (c : Scope) where
-  clash : (x : Resolved) (fault : TermFault) (before : List Text) (t : RawTerm) → resolve c before t ≡ Ok x → resolve c before t ≡ Err fault → ⊥
+  pub clash : (x : Resolved) (fault : TermFault) (before : List Text) (t : RawTerm) → resolve c before t ≡ Ok x → resolve c before t ≡ Err fault → ⊥
   clash x fault before t a b = cc
 
-  not-large : (x y : Resolved) → AreSmall x y → IsLarge x y → ⊥
+  pub not-large : (x y : Resolved) → AreSmall x y → IsLarge x y → ⊥
   not-large x y h (inl g) = absurd (omega (arith, h.0, g))
   not-large x y h (inr g) = absurd (omega (arith, h.1, g))
 

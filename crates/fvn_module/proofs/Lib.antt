@@ -6,6 +6,9 @@ mod Determined
 mod Excluded
 mod Told
 mod Texts
+mod OneForm
+mod OneFault
+mod OneText
 mod ReadableLists
 mod ReadableWords
 mod ReadableTexts

@@ -86,7 +86,7 @@ signed-readable f w s g completed es r =
     subst (λ n. IsReadable (record { signature = s.signature; names = n; equations = es })) (sym g.names)
     (subst (λ d. IsReadable (record { signature = d; names = names_in f; equations = es })) (sym g.signature) x)
 
-no-pieces : (bytes : Text) (fault : LexFault) (row : List Piece) → lex bytes ≡ Err fault → pieces_of bytes ≡ Some row → ⊥
+pub no-pieces : (bytes : Text) (fault : LexFault) (row : List Piece) → lex bytes ≡ Err fault → pieces_of bytes ≡ Some row → ⊥
 unfolding pieces_of
 no-pieces bytes fault row h c =
     let e : pieces_in bytes (lex bytes) ≡ None = ap (pieces_in bytes) h in

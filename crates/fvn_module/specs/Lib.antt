@@ -4,4 +4,5 @@ pub mod Equations
 pub mod ModuleText
 pub mod Refusals
 pub mod Readable
+pub mod Laws
 pub mod inner

@@ -4,6 +4,7 @@
 mod equation;
 mod equations;
 mod fault;
+mod laws;
 mod module;
 mod reading;
 mod sides;
@@ -12,5 +13,6 @@ mod variables;
 
 pub use equation::Equation;
 pub use fault::{ModuleFault, Place};
+pub use laws::{modules_are_determined, refusals_are_determined, refused_texts_declare_nothing};
 pub use module::Module;
 pub use reading::read_module;
