@@ -6,8 +6,8 @@ there=$(mktemp -d)
 trap 'rm -rf "$there"' EXIT
 mkdir -p "$there/crates"
 cp "$here/HANDLES" "$there/HANDLES"
-for crate in fvn_base fvn_terms fvn_forms fvn_sorts fvn_lindio fvn_flat; do cp -r "$here/crates/$crate" "$there/crates/"; done
-grep -E '^fvn_(base|terms|forms|sorts|lindio|flat):' "$here/crates.txt" > "$there/crates.txt"
+for crate in fvn_base fvn_terms fvn_forms fvn_drafts fvn_sorts fvn_lindio fvn_flat; do cp -r "$here/crates/$crate" "$there/crates/"; done
+grep -E '^fvn_(base|terms|forms|drafts|sorts|lindio|flat):' "$here/crates.txt" > "$there/crates.txt"
 cd "$there/crates/fvn_flat"
 rm -rf src/tests/showing.rt src/tests/substituting.rt proofs/tests/substituting must-fail
 cat > src/tests.rt <<'PROGRAM'

@@ -9,3 +9,4 @@ mod Orders
 mod Serving
 pub mod MapSteps
 mod Lowered
+pub mod FoundAlike

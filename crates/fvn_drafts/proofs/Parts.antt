@@ -44,7 +44,7 @@ module _ (c : Collected) where
   joins-same : (s q : SortId) → joins c s q ≡ true → (r : SortId) → joins c s r ≡ joins c q r
   joins-same s q h r = same_tests (joins c s r) (joins c q r) (joins-trans q s r (joins-sym s q h)) (joins-trans s q r h)
 
-find-agree : {A : Type 0} (p q : A → Bool) → ((x : A) → p x ≡ q x) → (xs : List A) → find p xs ≡ find q xs
+pub find-agree : {A : Type 0} (p q : A → Bool) → ((x : A) → p x ≡ q x) → (xs : List A) → find p xs ≡ find q xs
 find-agree p q same [] = refl
 find-agree {A} p q same (x ∷ xs) = ap (λ b. cond b (Some x) (find p xs)) (same x) ∙ ap (cond (q x) (Some x)) (find-agree p q same xs)
 

@@ -2,5 +2,6 @@
 pub mod Collected
 pub mod Drafts
 pub mod DraftOf
+pub mod FoundAlike
 pub mod Tops
 pub mod inner

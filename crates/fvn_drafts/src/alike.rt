@@ -19,7 +19,8 @@ fn same_sorts(some: &[SortId], others: &[SortId]) -> bool
     true
 }
 
-fn same_rank(one: &Rank, other: &Rank) -> bool
+/// Whether two ranks are the same.
+pub fn same_rank(one: &Rank, other: &Rank) -> bool
     ensures { IsTrue result → one.now ≡ other.now }
 {
     one.result == other.result && same_sorts(one.args.as_slice(), other.args.as_slice())

@@ -11,6 +11,7 @@ ghost use Rattle.fvn_forms.specs.Ranks.{
   result as least_result,
 };
 ghost use Rattle.fvn_drafts.specs.Drafts.{IsDraft};
+ghost use Rattle.fvn_drafts.specs.FoundAlike.{FindAlike};
 ghost use Rattle.fvn_drafts.specs.inner.Lowering.{lower, lowered};
 
 use crate::closure::has;
@@ -179,6 +180,17 @@ impl Draft {
                 None => SortId(0),
             },
             None => SortId(0),
+        }
+    }
+
+    /// The least sort to which the operator takes arguments of these sorts, by ranks that give what its own do.
+    pub fn result_by(&self, op: OpId, ranks: &[Rank], args: &[SortId]) -> SortId
+        requires { FindAlike ranks.now (ranks_of self.now.declarations op) }
+        ensures { result ≡ least_result self.now.declarations op args.now }
+    {
+        match self.lowest(ranks, args) {
+            Some(sort) => sort,
+            None => self.first_kind(op),
         }
     }
 

@@ -10,6 +10,7 @@ mod draft;
 mod kinds;
 mod making;
 mod ranks;
+mod repeats;
 mod tables;
 
 pub use alike::has_earlier_alike;
@@ -20,3 +21,4 @@ pub use draft::Draft;
 pub use kinds::tops;
 pub use making::draft_of;
 pub use ranks::appended;
+pub use repeats::without_repeats;

@@ -10,7 +10,7 @@ use fvn_terms::{Axioms, Declarations, NoMemory, OpDecl, OpId, Rank, SortId};
 use std::alloc::{AllocError, AllocFailed, Global};
 
 /// The same rank, in memory of its own.
-fn copied(alloc: Global, rank: &Rank) -> Result<Rank, NoMemory>
+pub fn copied(alloc: Global, rank: &Rank) -> Result<Rank, NoMemory>
     ensures { IfOk result (λ r. r ≡ rank.now) }
 {
     let args = Vec::from_slice(alloc, rank.args.as_slice())?;

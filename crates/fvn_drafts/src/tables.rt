@@ -1,33 +1,48 @@
 //! Tables of the results of operators with two arguments.
 ghost use Rattle.std.specs.Prelude.{◌≡◌, [], ◌∷◌, map, length, IfOk, slice_index_or};
 ghost use Rattle.fvn_terms.specs.declared.plain.OpId.{OpId};
-ghost use Rattle.fvn_forms.specs.Ranks.{result as least_result};
+ghost use Rattle.fvn_forms.specs.Ranks.{ranks_of, result as least_result};
 ghost use Rattle.fvn_drafts.specs.Collected.{first_sorts};
 ghost use Rattle.fvn_drafts.specs.Drafts.{IsTable, results_of_two};
+ghost use Rattle.fvn_drafts.specs.FoundAlike.{FindAlike};
 
 use crate::alike::earlier_alike;
 use crate::draft::Draft;
+use crate::repeats::without_repeats;
 use fvn_base::Seq;
 use fvn_terms::{NoMemory, OpId, Rank, SortId};
 use std::alloc::{AllocError, AllocFailed, Global};
 
 /// The results over a sort as first argument and each sort and kind as second.
-fn row(alloc: Global, draft: &Draft, op: OpId, s: SortId) -> Result<Vec<SortId>, NoMemory>
+fn row(
+    alloc: Global,
+    draft: &Draft,
+    op: OpId,
+    ranks: &[Rank],
+    s: SortId,
+) -> Result<Vec<SortId>, NoMemory>
+    requires { FindAlike ranks.now (ranks_of draft.now.declarations op) }
     ensures { IfOk result (λ v. v.items ≡ map (λ q. least_result draft.now.declarations op (s ∷ q ∷ [])) (first_sorts draft.now.total)) }
 {
     let mut list = Vec::with_capacity(alloc, usize::from(draft.total))?;
     for q in 0..draft.total {
-        list.push(draft.result(op, &[s, SortId(q)]))?;
+        list.push(draft.result_by(op, ranks, &[s, SortId(q)]))?;
     }
     Ok(list)
 }
 
-fn rows(alloc: Global, draft: &Draft, op: OpId) -> Result<Vec<Seq<SortId>>, NoMemory>
+fn rows(
+    alloc: Global,
+    draft: &Draft,
+    op: OpId,
+    ranks: &[Rank],
+) -> Result<Vec<Seq<SortId>>, NoMemory>
+    requires { FindAlike ranks.now (ranks_of draft.now.declarations op) }
     ensures { IfOk result (λ v. v.items ≡ results_of_two draft.now.declarations op draft.now.total) }
 {
     let mut list = Vec::with_capacity(alloc, usize::from(draft.total))?;
     for s in 0..draft.total {
-        list.push(Seq::from_vec(row(alloc, draft, op, SortId(s))?))?;
+        list.push(Seq::from_vec(row(alloc, draft, op, ranks, SortId(s))?))?;
     }
     Ok(list)
 }
@@ -44,7 +59,8 @@ fn table(alloc: Global, draft: &Draft, op: OpId) -> Result<Vec<Seq<SortId>>, NoM
     ensures { IfOk result (λ v. IsTable draft.now.declarations op draft.now.total v.items) }
 {
     if takes_two(draft.ranks_of(op)) {
-        let list = rows(alloc, draft, op)?;
+        let ranks = without_repeats(alloc, draft.ranks_of(op))?;
+        let list = rows(alloc, draft, op, ranks.as_slice())?;
         Ok(list)
     } else {
         Ok(Vec::new(alloc))

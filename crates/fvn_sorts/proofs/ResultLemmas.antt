@@ -22,6 +22,8 @@ use Rattle.fvn_drafts.specs.declared.collected.Collected.{Collected}
 use Rattle.fvn_drafts.specs.declared.draft.Draft.{Draft}
 use Rattle.fvn_sorts.specs.declared.conditions.brackets.Triple.{Triple}
 use Rattle.fvn_drafts.specs.Collected.{completed}
+use Rattle.fvn_drafts.specs.FoundAlike.{FindAlike}
+use Rattle.fvn_drafts.proofs.FoundAlike.{same_lowest}
 use Rattle.fvn_forms.specs.FitsKinds.{HaveOneKind}
 use Rattle.fvn_sorts.specs.Faults.{Differ, HasNoResult, HasBadBrackets, HasBadCollapse}
 use Rattle.fvn_sorts.specs.inner.Searches.{AgreeInKinds, has_lowest, HasNoLowest, AreBad, DoesNotCollapse}
@@ -84,8 +86,15 @@ module _ (c : Collected) (agree : AgreeInKinds c) (f : OpId) (r : Rank) where
     λ w. (w.0.kinds ∙ (agree_of (completed c) (declared (completed c) f).ranks (agree f) w.0.rank r w.0.listed h).0, false_from_ne_true _ (λ e. let q = lowest_result (completed c) f ss e in w.1 q.0 q.1)),
   )
 
-  pub no_result : (d : Declarations) → d ≡ completed c → Contains (declared d f).ranks r → (ss : List SortId) → HasNoLowest d (map (kind d) r.args) (ranks_of d f) ss ↔ HasNoResult c f ss
+  no_result : (d : Declarations) → d ≡ completed c → Contains (declared d f).ranks r → (ss : List SortId) → HasNoLowest d (map (kind d) r.args) (ranks_of d f) ss ↔ HasNoResult c f ss
   no_result d is = rw is no_result_of
+
+  -- the same by ranks that give what the operator's own do
+  pub no_result_by : (d : Declarations) → d ≡ completed c → Contains (declared d f).ranks r → (rs : List Rank) → FindAlike rs (ranks_of d f) → (ss : List SortId) → HasNoLowest d (map (kind d) r.args) rs ss ↔ HasNoResult c f ss
+  no_result_by d is listed rs alike ss =
+      let same : has_lowest d rs ss ≡ has_lowest d (ranks_of d f) ss = ap (λ o. is_some o) (same_lowest rs (ranks_of d f) alike d ss) in
+      let own = no_result d is listed ss in
+      (λ w. own.0 (w.0, sym same ∙ w.1), λ h. let w = own.1 h in (w.0, same ∙ w.1))
 
   of_kind : Contains (declared (completed c) f).ranks r → (s : SortId) → (kind (completed c) s ≡ kind (completed c) r.result) ↔ IsOfKind (completed c) f s
   of_kind h s = (λ e. record { rank = r; listed = h; kind_is = e }, λ w. w.kind_is ∙ (agree_of (completed c) (declared (completed c) f).ranks (agree f) w.rank r w.listed h).1)

@@ -379,24 +379,33 @@ fn texts(rt: HostRuntime) -> Result<(), Fail> {
     Ok(())
 }
 
-// The names of a long text are read without a copy of it, whatever their number.
+fn push_often(out: &mut String, text: &str) -> Result<(), Fail> {
+    for _ in 0..100000 {
+        out.push_str(text)?;
+    }
+    Ok(())
+}
+
+// Long and deep statements are read without a copy of them.
 #[test]
 fn long_statements(rt: HostRuntime) -> Result<(), Fail> {
     let alloc = rt.alloc();
     let mut text = String::new(alloc);
     text.push_str("fmod M is sorts")?;
-    for _ in 0..100000 {
-        text.push_str(" A")?;
-    }
+    push_often(&mut text, " A")?;
     text.push_str(" . op f : [A")?;
-    for _ in 0..100000 {
-        text.push_str(",A")?;
-    }
-    text.push_str("] -> A . ops ")?;
-    for _ in 0..100000 {
-        text.push('(')?;
-    }
+    push_often(&mut text, ",A")?;
+    text.push_str("] -> A . eq ")?;
+    push_often(&mut text, "f(")?;
+    text.push('a')?;
+    push_often(&mut text, ")")?;
+    text.push_str(" = f(a")?;
+    push_often(&mut text, ",a")?;
+    text.push_str(") [variant")?;
+    push_often(&mut text, " label x")?;
+    text.push_str("] . ops ")?;
+    push_often(&mut text, "(")?;
     text.push_str(": -> A . endfm")?;
-    assert_eq!(rt; shown(alloc, text.as_bytes())?.as_str(), "statement 3");
+    assert_eq!(rt; shown(alloc, text.as_bytes())?.as_str(), "statement 4");
     Ok(())
 }

@@ -12,7 +12,9 @@ use crate::conditions::fault::SigFault;
 use crate::conditions::preregular::first_without;
 use crate::conditions::shapes::{Condition, first_failing};
 use fvn_base::Seq;
-use fvn_drafts::{Collected, Draft, has_earlier_alike, identity_of, is_associative};
+use fvn_drafts::{
+    Collected, Draft, has_earlier_alike, identity_of, is_associative, without_repeats,
+};
 use fvn_terms::{Axioms, Declarations, NoMemory, OpId, Rank, SortId};
 use std::alloc::{AllocFailed, Global};
 
@@ -80,8 +82,8 @@ fn without_result(
         return Ok(None);
     }
     let kinds = kinds_of_sorts(alloc, &draft.declarations, ranks[0].args.as_slice())?;
-    let all = draft.ranks_of(op);
-    let found = first_without(alloc, draft, kinds.as_slice(), all)?;
+    let fewer = without_repeats(alloc, draft.ranks_of(op))?;
+    let found = first_without(alloc, draft, kinds.as_slice(), fewer.as_slice())?;
     Ok(found)
 }
 
