@@ -8,7 +8,7 @@ use Rattle.fvn_base.proofs.Membership.{contains_here, contains_later, contains_c
 use Rattle.fvn_lex.specs.Cut.{Piece}
 use Rattle.fvn_syntax.specs.Pieces.{Text, word, left_bracket, right_bracket, is_word, is_name, is_special}
 use Rattle.fvn_syntax.specs.Raw.{RawTerm, name, call, round, kind_variable, spell, IsTermBefore}
-use Rattle.fvn_syntax.specs.inner.Form.{behind_term}
+use Rattle.fvn_syntax.specs.Behind.{behind_term}
 use Rattle.fvn_syntax.proofs.PieceLemmas.{bytes_eq-is, and-left, and-right, word-is, name-is, special-is}
 use Rattle.fvn_syntax.proofs.FormExact.{behind_term-sound, behind_term-complete}
 use Rattle.fvn_statements.specs.declared.statement.Mark.{Mark}

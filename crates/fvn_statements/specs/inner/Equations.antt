@@ -4,7 +4,7 @@ use Rattle.std.specs.List.{list_any}
 use Rattle.std.specs.Str.{bytes_eq}
 use Rattle.fvn_lex.specs.Cut.{Piece}
 use Rattle.fvn_syntax.specs.Pieces.{Text, is_word, is_name, is_special}
-use Rattle.fvn_syntax.specs.inner.Form.{behind_term}
+use Rattle.fvn_syntax.specs.Behind.{behind_term}
 use Rattle.fvn_statements.specs.declared.statement.Mark.{Mark}
 use Rattle.fvn_statements.specs.declared.statement.Mark.TheVariants.{Variant, Label}
 use Rattle.fvn_statements.specs.declared.statement.Feature.{Feature}
