@@ -6,6 +6,7 @@ mod Determined
 mod Excluded
 mod Told
 mod Texts
+mod Stops
 mod OneForm
 mod OneFault
 mod OneText

@@ -1,11 +1,11 @@
 -- Tokens are one written module at most, and have one first fault at most.
 use Rattle.std.proofs.Common.{◌≡◌, ◌↔◌, ◌⊎◌, ℕ, ◌+◌, Bool, true, false, List, [], ◌∷◌, ◌++◌, length, inl, inr, refl, sym, ap, ◌∙◌, subst, append_assoc}
-use Rattle.std.specs.Prelude.{codes, ◌&&◌}
+use Rattle.std.specs.Prelude.{codes}
 use Rattle.std.specs.List.{AllByRecursion}
-use Rattle.std.specs.Str.{bytes_eq}
 use Rattle.std.proofs.lemmas.List.{append-nil, append_cancel_right}
 use Rattle.fvn_lex.specs.Cut.{Piece}
-use Rattle.fvn_syntax.specs.Pieces.{Text, word, dot, is_dot}
+use Rattle.fvn_syntax.specs.Pieces.{Text, word, dot}
+use Rattle.fvn_module.proofs.Stops.{is_stop}
 use Rattle.fvn_statements.specs.declared.statement.Feature.{Feature}
 use Rattle.fvn_statements.specs.declared.statement.Statement.{Statement}
 use Rattle.fvn_statements.specs.declared.statement.Reading.{Reading}
@@ -20,11 +20,8 @@ use Rattle.fvn_statements.specs.Forms.{dotted, end, spell_frame, IsFrame, IsStat
 
 -- Dots.
 
-abbrev stop : Piece → Bool
-stop p = is_dot p && bytes_eq p.text (codes ".")
-
 abbrev Undotted : List Piece → Type 0
-Undotted ps = AllByRecursion (λ p. stop p ≡ false) ps
+Undotted ps = AllByRecursion (λ p. is_stop p ≡ false) ps
 
 heads : {p q : Piece} {ps qs : List Piece} → p ∷ ps ≡ q ∷ qs → p ≡ q
 heads h = cc
@@ -32,8 +29,8 @@ heads h = cc
 tails : {p q : Piece} {ps qs : List Piece} → p ∷ ps ≡ q ∷ qs → ps ≡ qs
 tails h = cc
 
-no-stop : (p : Piece) → stop p ≡ false → dot ≡ p → ⊥
-no-stop p h e = let f : true ≡ false = ap stop e ∙ h in cc
+no-stop : (p : Piece) → is_stop p ≡ false → dot ≡ p → ⊥
+no-stop p h e = let f : true ≡ false = ap is_stop e ∙ h in cc
 
 front-once : (f g r s : List Piece) → Undotted f → Undotted g → f ++ (dot ∷ r) ≡ g ++ (dot ∷ s) → (f ≡ g) × (r ≡ s)
 front-once [] [] r s a b e = (refl, tails e)
