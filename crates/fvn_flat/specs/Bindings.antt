@@ -50,7 +50,7 @@ is_free s x = not (is_some (bound s x))
 abbrev pub composed : Declarations → Bindings → Bindings → Bindings
 composed d s c = changed (inst d (value c)) s ++ chosen (is_free s) c
 
--- r is s and then c, on each variable
+-- r is s and then c, on every form
 abbrev pub IsOneThenOther : Declarations → Bindings → Bindings → Bindings → Type 0
 IsOneThenOther d s c r = (t : FlatTerm) → inst d (value r) t ≡ inst d (value c) (inst d (value s) t)
 
