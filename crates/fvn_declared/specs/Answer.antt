@@ -1,6 +1,5 @@
 -- What is answered for the statements of a module.
-use Rattle.std.specs.Prelude.{◌≡◌, ◌≤◌, All, length}
-use Rattle.fvn_base.specs.declared.limits.TheConstants.{SORTS, OPERATORS, ARGUMENTS}
+use Rattle.std.specs.Prelude.{◌≡◌}
 use Rattle.fvn_sorts.specs.Faults.{IsTooLarge}
 use Rattle.fvn_statements.specs.declared.form.Form.{Form}
 use Rattle.fvn_declared.specs.declared.declaring.Declared.{Declared}
@@ -12,7 +11,6 @@ use Rattle.fvn_declared.specs.Faults.{HasNames}
 -- signature may have, the names of sorts and operators alone.
 abbrev pub IsDeclared : Form → Declared → Type 0
 IsDeclared m (Fitting names builder) =
-    HasNames m.statements × (names ≡ names_in m) × (builder ≡ collected_in m.statements)
-    × (IsTooLarge (collected_in m.statements) → ⊥)
+    HasNames m.statements × (names ≡ names_in m) × (builder ≡ collected_in m.statements) × (IsTooLarge (collected_in m.statements) → ⊥)
 IsDeclared m (TooLarge names) =
     HasNames m.statements × (names ≡ names_alone m) × IsTooLarge (collected_in m.statements)

@@ -47,23 +47,23 @@ module _ (sorts ops : List Text) (kinds : List SortId) where
   is_unknown_identity (Identity e) = is_missing ops e
   is_unknown_identity a = false
 
-  -- `ditto`, and a name without an earlier declaration
-  abbrev pub lacks_earlier : List Statement → List Text → List Attribute → Bool
-  lacks_earlier before ws xs = list_any is_ditto xs && list_any (is_missing (operators_of before)) ws
+  -- `ditto`, and a name that is not among the earlier operators
+  abbrev pub lacks_earlier : List Text → List Text → List Attribute → Bool
+  lacks_earlier earlier ws xs = list_any is_ditto xs && list_any (is_missing earlier) ws
 
-  -- what is unknown in the declaration of operators
-  abbrev pub has_unknown : List Statement → List Text → RawRank → List Attribute → Bool
-  has_unknown before ws rank xs =
-      has_unknown_sort rank || list_any is_unknown_identity xs || lacks_earlier before ws xs
+  -- what is unknown in the declaration of operators, behind these
+  abbrev pub has_unknown : List Text → List Text → RawRank → List Attribute → Bool
+  has_unknown earlier ws rank xs = has_unknown_sort rank || list_any is_unknown_identity xs || lacks_earlier earlier ws xs
 
-  -- A statement names something that is not declared. Sorts and identities may be declared behind it.
-  abbrev pub names_unknown : List Statement → Statement → Bool
-  names_unknown before (statement.Sorts plural names) = false
-  names_unknown before (statement.Subsorts plural groups) = list_any (list_any (is_missing sorts)) groups
-  names_unknown before (statement.Operator name rank xs) = has_unknown before (operators_in (statement.Operator name rank xs)) rank xs
-  names_unknown before (statement.Operators names rank xs) = has_unknown before (operators_in (statement.Operators names rank xs)) rank xs
-  names_unknown before (statement.Variables plural names sort) = is_unknown_sort sort
-  names_unknown before (statement.Equation label left right marks) = false
+  -- A statement behind those of these operators names something that is not declared. Sorts and identities may be
+  -- declared behind it.
+  abbrev pub names_unknown_after : List Text → Statement → Bool
+  names_unknown_after earlier (statement.Sorts plural names) = false
+  names_unknown_after earlier (statement.Subsorts plural groups) = list_any (list_any (is_missing sorts)) groups
+  names_unknown_after earlier (statement.Operator name rank xs) = has_unknown earlier (operators_in (statement.Operator name rank xs)) rank xs
+  names_unknown_after earlier (statement.Operators names rank xs) = has_unknown earlier (operators_in (statement.Operators names rank xs)) rank xs
+  names_unknown_after earlier (statement.Variables plural names sort) = is_unknown_sort sort
+  names_unknown_after earlier (statement.Equation label left right marks) = false
 
   -- the name of a constant that would be read as a variable: it ends with a colon, or is NAME:SORT
   abbrev pub reads_as_variable : Text → Bool
@@ -74,21 +74,29 @@ module _ (sorts ops : List Text) (kinds : List SortId) where
   clashes xs w = reads_as_variable w || not (is_missing xs.texts w)
 
   -- a variable that was declared with another sort, or has the name of an earlier constant
-  abbrev pub is_declared_otherwise : List Statement → Variables → Option SortId → Text → Bool
-  is_declared_otherwise before xs s w =
-      is_other (declared_sort xs.sorts (place xs.texts w)) s || not (is_missing (constants_of before) w)
+  abbrev pub is_declared_otherwise : List Text → Variables → Option SortId → Text → Bool
+  is_declared_otherwise constants xs s w =
+      is_other (declared_sort xs.sorts (place xs.texts w)) s || not (is_missing constants w)
 
-  -- a statement declares a name anew that is declared otherwise, of which only earlier statements count
+  -- a statement behind those of these constants and variables declares a name anew that is declared otherwise
+  abbrev pub declares_twice_after : List Text → Variables → Statement → Bool
+  declares_twice_after constants xs (statement.Sorts plural names) = false
+  declares_twice_after constants xs (statement.Subsorts plural groups) = false
+  declares_twice_after constants xs (statement.Operator name rank attributes) =
+      list_any (clashes xs) (constants_in (statement.Operator name rank attributes))
+  declares_twice_after constants xs (statement.Operators names rank attributes) =
+      list_any (clashes xs) (constants_in (statement.Operators names rank attributes))
+  declares_twice_after constants xs (statement.Variables plural names sort) =
+      list_any (is_declared_otherwise constants xs (resolve_sort sorts kinds sort)) names
+  declares_twice_after constants xs (statement.Equation label left right marks) = false
+
+  -- the statement behind these names something that is not declared
+  abbrev pub names_unknown : List Statement → Statement → Bool
+  names_unknown before st = names_unknown_after (operators_of before) st
+
+  -- the statement declares a name anew that is declared otherwise before: what stands behind it does not count
   abbrev pub declares_twice : List Statement → Statement → Bool
-  declares_twice before (statement.Sorts plural names) = false
-  declares_twice before (statement.Subsorts plural groups) = false
-  declares_twice before (statement.Operator name rank xs) =
-      list_any (clashes (variables_of sorts kinds before)) (constants_in (statement.Operator name rank xs))
-  declares_twice before (statement.Operators names rank xs) =
-      list_any (clashes (variables_of sorts kinds before)) (constants_in (statement.Operators names rank xs))
-  declares_twice before (statement.Variables plural names sort) =
-      list_any (is_declared_otherwise before (variables_of sorts kinds before) (resolve_sort sorts kinds sort)) names
-  declares_twice before (statement.Equation label left right marks) = false
+  declares_twice before st = declares_twice_after (constants_of before) (variables_of sorts kinds before) st
 
   -- each statement of these, behind those, is without such a fault
   abbrev pub AreNamed : List Statement → List Statement → Type 0

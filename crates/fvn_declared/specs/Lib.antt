@@ -6,3 +6,4 @@ pub mod Variables
 pub mod Module
 pub mod Faults
 pub mod Answer
+pub mod inner

@@ -1,4 +1,8 @@
 //! The first fault among the names of statements.
+ghost use Rattle.std.specs.Prelude.{◌≡◌};
+ghost use Rattle.fvn_declared.specs.declared.fault.NameFault.TheVariants.{NoMemory as OutOfMemory};
+
+use fvn_terms::NoMemory;
 use thiserror::Error;
 
 /// Why the statements of a module declare nothing, told of the first statement that is refused.
@@ -12,4 +16,12 @@ pub enum NameFault {
     Twice(usize),
     #[error("out of memory")]
     NoMemory,
+}
+
+impl From<NoMemory> for NameFault {
+    ghost from_gives = { λ _ fault. fault ≡ OutOfMemory };
+
+    fn from(_error: NoMemory) -> NameFault {
+        NameFault::NoMemory
+    }
 }

@@ -83,7 +83,7 @@ module _ (sorts ops : List Text) (kinds : List SortId) where
       (e.0, missing xs.texts w e.1)
 
   no-variable : (before : List Statement) (names : List Text) (o : Option SortId) →
-      list_any (is_declared_otherwise sorts ops kinds before (variables_of sorts kinds before) o) names ≡ false →
+      list_any (is_declared_otherwise sorts ops kinds (constants_of before) (variables_of sorts kinds before) o) names ≡ false →
       (w : Text) → Contains (constants_of before) w → Contains (where_sorted (variables_of sorts kinds before) names o).texts w →
       Contains (variables_of sorts kinds before).texts w
   no-variable before names None h w c k = k
@@ -91,7 +91,7 @@ module _ (sorts ops : List Text) (kinds : List SortId) where
     | inl i ↦ i
     | inr i ↦
         let xs = variables_of sorts kinds before in
-        let e = none-passes (is_declared_otherwise sorts ops kinds before xs (Some s)) names w h i in
+        let e = none-passes (is_declared_otherwise sorts ops kinds (constants_of before) xs (Some s)) names w h i in
         absurd (missing (constants_of before) w
         (or_parts (is_other (declared_sort xs.sorts (place xs.texts w)) (Some s)) (not (is_missing (constants_of before) w)) e).1 c)
   ]
