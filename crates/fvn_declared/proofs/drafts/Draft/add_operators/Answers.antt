@@ -1,0 +1,18 @@
+-- The sorts of the rank are declared.
+use Rattle.std.proofs.Common.{◌≡◌, ℕ, length, sym, ap, subst, ◌∙◌}
+use Rattle.std.specs.List.{All}
+use Rattle.fvn_terms.specs.declared.declarations.Rank.{Rank}
+use Rattle.fvn_sorts.specs.Collected.{Names}
+use Rattle.fvn_declared.specs.declared.shapes.Shape.{Shape}
+use Rattle.fvn_declared.proofs.RankLemmas.{rank_named}
+use Rattle.fvn_declared.proofs.drafts.Draft.add_operators.Goals as goal
+
+pub add_names-requires-clause-args : goal.add_names-requires-clause-args
+add_names-requires-clause-args c =
+    let named = (rank_named c.args.v.now c.args.rank.now c.requires.known).0 in
+    rw (c.in_ok-shape.ensures, c.requires.as_many) named
+
+pub add_names-requires-clause-gives : goal.add_names-requires-clause-gives
+add_names-requires-clause-gives c =
+    let named = (rank_named c.args.v.now c.args.rank.now c.requires.known).1 in
+    rw (c.in_ok-shape.ensures, c.requires.as_many) named
