@@ -13,6 +13,7 @@ use Rattle.fvn_tool.specs.declared.status.Status.TheVariants.{Solved, Usage, Mod
 use Rattle.fvn_tool.specs.Statuses.{IsSilent, IsSpoken}
 use Rattle.fvn_module.specs.Contents.{Contents}
 use Rattle.fvn_module.specs.ModuleText.{IsModule}
+use Rattle.fvn_module.specs.Laws.{ModulesAreDetermined as EachIsOneModule, RefusedTextsDeclareNothing}
 use Rattle.fvn_tool.specs.Words.{Command, check, unify, command_of}
 use Rattle.fvn_tool.specs.Checks.{AreNoModule, summary_line}
 use Rattle.fvn_tool.specs.Replies.{complete, bound_size, line_of, IsReply, IsUnifyReply, no_module, no_problem, answered, IsAnswer, unified, not_unified, too_large, no_module_line, no_problem_line, DeclareNoModule}
@@ -167,10 +168,10 @@ module _ (run : Run) (h : Leaves (IsOutcome run.words run.source) run.status run
   refuses_long : RefusesLongText run
   refuses_long command bytes asks l = weaker command bytes asks (Is ModuleRefused too_long_line) (long_text command bytes asks l)
 
-  module _ (bytes : List ℕ) (asks : Asks run check bytes) where
+  module _ (bytes : List ℕ) (asks : Asks run check bytes) (one : EachIsOneModule) (nothing : RefusedTextsDeclareNothing) where
     text_only : run.status ≡ ModuleRefused → (t : List ℕ) → Comes bytes check run.status t → (MODULE_BYTES < length bytes) ⊎ ((length bytes ≤ MODULE_BYTES) × AreNoModule bytes)
     text_only e t (comes_long i l is) = inl l
-    text_only e t (comes_reply f r) = inr (f, check_refuses bytes run.status t e r)
+    text_only e t (comes_reply f r) = inr (f, check_refuses bytes one nothing run.status t e r)
 
     text_none : length bytes ≤ MODULE_BYTES → AreNoModule bytes → (u : Status) (t : List ℕ) → Comes bytes check u t → IsFirstRefusalOf bytes u t
     text_none f none u t (comes_long i k is) = absurd (omega (arith, f, k))
@@ -182,7 +183,7 @@ module _ (run : Run) (h : Leaves (IsOutcome run.words run.source) run.status run
 
     told_always : length bytes ≤ MODULE_BYTES → (m : Contents) → IsModule bytes m → (u : Status) (t : List ℕ) → Comes bytes check u t → Is Solved (summary_line m) u t
     told_always f m is_module u t (comes_long i k is) = absurd (omega (arith, f, k))
-    told_always f m is_module u t (comes_reply g r) = check_module bytes m is_module u t r
+    told_always f m is_module u t (comes_reply g r) = check_module bytes one nothing m is_module u t r
 
     refuses_text : RefusesText bytes run
     refuses_text = record {
@@ -196,8 +197,8 @@ module _ (run : Run) (h : Leaves (IsOutcome run.words run.source) run.status run
       always = λ f m is_module. weaker check bytes asks (Is Solved (summary_line m)) (told_always f m is_module);
     }
 
-  answers_check : (bytes : List ℕ) → Asks run check bytes → AnswersCheck bytes run
-  answers_check bytes asks = record { refused = refuses_text bytes asks; told = tells_module bytes asks }
+    answers_check : AnswersCheck bytes run
+    answers_check = record { refused = refuses_text; told = tells_module }
 
   module _ (word bytes : List ℕ) (asks : Asks run (unify word) bytes) where
     module_only : run.status ≡ ModuleRefused → (t : List ℕ) → Comes bytes (unify word) run.status t → (MODULE_BYTES < length bytes) ⊎ ((length bytes ≤ MODULE_BYTES) × DeclareNoModule bytes)
@@ -262,9 +263,9 @@ module _ (run : Run) (h : Leaves (IsOutcome run.words run.source) run.status run
     }
 
     -- the outcome, what stays the same and the causes of faults are all that there is to prove of a run
-    pub report : (command_of run.words ≡ None → (run.status ≡ Usage) ⊎ (run.status ≡ WriteFault)) →
+    pub report : EachIsOneModule → RefusedTextsDeclareNothing → (command_of run.words ≡ None → (run.status ≡ Usage) ⊎ (run.status ≡ WriteFault)) →
         (command_of run.words ≡ None → run.source.after ≡ run.source.before) → (IsSilent run.status → run.sink.after ≡ run.sink.before) → IsReport run
-    report always unread unwritten = record {
+    report one nothing always unread unwritten = record {
       outcome = h;
       unread = unread;
       unwritten = unwritten;
@@ -273,6 +274,6 @@ module _ (run : Run) (h : Leaves (IsOutcome run.words run.source) run.status run
       write_fault = write;
       usage = refuses_words always;
       too_long = refuses_long;
-      check = answers_check;
+      check = λ bytes asks. answers_check bytes asks one nothing;
       unify = answers_unify;
     }

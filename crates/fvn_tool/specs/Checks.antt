@@ -2,7 +2,7 @@
 use Rattle.std.specs.Prelude.{◌≡◌, ℕ, List, Some}
 use Rattle.fvn_module.specs.declared.fault.ModuleFault.{ModuleFault}
 use Rattle.fvn_module.specs.Contents.{Contents}
-use Rattle.fvn_module.specs.ModuleText.{IsModule, IsOnlyModule}
+use Rattle.fvn_module.specs.ModuleText.{IsModule}
 use Rattle.fvn_module.specs.Refusals.{Refuses}
 use Rattle.fvn_reply.specs.Refusals.{refusal_text}
 use Rattle.fvn_reply.specs.Summaries.{summary_text}
@@ -31,14 +31,7 @@ module _ (bytes : List ℕ) where
     pub first : Refuses bytes fault
     pub line_of : IsRefusalLine fault text
 
-  -- the line of what the bytes declare, and they declare nothing else
-  pub record IsSummary (text : List ℕ) : Type 0 where
-    pub declared : Contents
-    pub is_module : IsModule bytes declared
-    pub only : IsOnlyModule bytes declared
-    pub text_is : text ≡ summary_line declared
-
   -- this status with this text replies to `check` over the bytes
   pub data IsCheckReply : Status → List ℕ → Type 0 where
-    refused : {text : List ℕ} → AreNoModule → IsFirstRefusal text → IsCheckReply ModuleRefused text
-    summed : {text : List ℕ} → IsSummary text → IsCheckReply Solved text
+    refused : {text : List ℕ} → IsFirstRefusal text → IsCheckReply ModuleRefused text
+    summed : {text : List ℕ} (m : Contents) → IsModule bytes m → text ≡ summary_line m → IsCheckReply Solved text

@@ -1,12 +1,15 @@
 //! The answer to `check`.
 ghost use Rattle.std.specs.Prelude.{◌≡◌, IfOk};
+ghost use Rattle.fvn_module.specs.Laws.{ModulesAreDetermined, RefusalsAreDetermined, RefusedTextsDeclareNothing};
 ghost use Rattle.fvn_tool.specs.Lines.{line};
 ghost use Rattle.fvn_tool.specs.Checks.{IsCheckReply};
 ghost use Rattle.fvn_tool.specs.Texts.{bytes_of};
 
 use crate::answer::{Answer, Text};
 use crate::status::Status;
-use fvn_module::read_module;
+use fvn_module::{
+    modules_are_determined, read_module, refusals_are_determined, refused_texts_declare_nothing,
+};
 use fvn_reply::{refusal_text, summary_text};
 use fvn_terms::NoMemory;
 use std::alloc::Global;
@@ -39,4 +42,15 @@ pub(crate) fn check_reply(alloc: Global, bytes: &[u8]) -> Result<Answer, NoMemor
             Ok(answer)
         }
     }
+}
+
+/// Tells what holds of all module texts; it does nothing.
+pub(crate) fn modules_are_lawful()
+    ensures determined { ModulesAreDetermined }
+    ensures refusals { RefusalsAreDetermined }
+    ensures nothing { RefusedTextsDeclareNothing }
+{
+    modules_are_determined();
+    refusals_are_determined();
+    refused_texts_declare_nothing();
 }
