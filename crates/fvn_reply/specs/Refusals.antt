@@ -1,6 +1,5 @@
 -- The text of each refusal of a module.
-use Rattle.std.specs.Prelude.{ℕ, ◌-◌, nat_eq, nat_lt, if◌then◌else◌, List, [], ◌∷◌, ◌++◌, map, length, slice_index_or, Option, Some, None, option_map, codes, decimal}
-use Rattle.std.specs.List.{ends_with}
+use Rattle.std.specs.Prelude.{ℕ, ◌-◌, nat_lt, if◌then◌else◌, List, [], ◌∷◌, ◌++◌, map, length, slice_index_or, Option, Some, None, option_map, codes, decimal}
 use Rattle.fvn_terms.specs.declared.plain.OpId.{OpId}
 use Rattle.fvn_terms.specs.declared.plain.SortId.{SortId}
 use Rattle.fvn_lex.specs.declared.token.LexFault.{LexFault}
@@ -38,10 +37,9 @@ feature_word feature.Equation = codes "equation"
 abbrev pub name_at : List (List ℕ) → ℕ → List ℕ
 name_at names place = slice_index_or names place []
 
--- A kind is the sort after which it is named, in brackets. After a backquote one space stands between, since the two
--- would else be one token.
+-- a kind is the sort after which it is named, in brackets
 abbrev pub kind_text : List ℕ → List ℕ
-kind_text top = 91 ∷ top ++ (if ends_with nat_eq top (codes "`") then codes " ]" else codes "]")
+kind_text top = codes "[" ++ top ++ codes "]"
 
 -- an operator is its name
 abbrev pub operator_text : Names → OpId → List ℕ

@@ -28,7 +28,8 @@ pub(crate) fn number(fault: &SigFault) -> Option<u8>
 
 // The text goes on with a space and an operator.
 fn push_operator(text: &mut Vec<u8>, names: &Names, f: OpId) -> Result<(), NoMemory>
-    ensures { OnOk result (text.new.items ≡ text.old.items ++ spaced (operator_text names.now f ∷ [])) }
+    ensures { OnOk result (text.new.items ≡
+        text.old.items ++ spaced (operator_text names.now f ∷ [])) }
 {
     push_word(text, name_at(&names.ops, usize::from(f.0)))
 }
@@ -39,16 +40,14 @@ fn push_kind(text: &mut Vec<u8>, top: &[u8]) -> Result<(), NoMemory>
 {
     text.extend_from_slice(b" [")?;
     text.extend_from_slice(top)?;
-    if top.ends_with(b"`") {
-        text.push(b' ')?;
-    }
     text.push(b']')?;
     Ok(())
 }
 
 // The text goes on with a space and a sort.
 fn push_sort(text: &mut Vec<u8>, names: &Names, tops: &[SortId], s: SortId) -> Result<(), NoMemory>
-    ensures { OnOk result (text.new.items ≡ text.old.items ++ (32 ∷ sort_text names.now tops.now s)) }
+    ensures { OnOk result (text.new.items ≡
+        text.old.items ++ (32 ∷ sort_text names.now tops.now s)) }
 {
     let place = usize::from(s.0);
     let count = names.sorts.len();

@@ -1,6 +1,8 @@
 //! The answer to `check`.
 ghost use Rattle.std.specs.Prelude.{◌≡◌, IfOk};
-ghost use Rattle.fvn_module.specs.Laws.{ModulesAreDetermined, RefusalsAreDetermined, RefusedTextsDeclareNothing};
+ghost use Rattle.fvn_module.specs.Laws.{
+  ModulesAreDetermined, RefusalsAreDetermined, RefusedTextsDeclareNothing,
+};
 ghost use Rattle.fvn_tool.specs.Lines.{line};
 ghost use Rattle.fvn_tool.specs.Checks.{IsCheckReply};
 ghost use Rattle.fvn_tool.specs.Texts.{bytes_of};
