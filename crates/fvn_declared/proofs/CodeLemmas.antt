@@ -12,9 +12,9 @@ use Rattle.fvn_terms.specs.declared.declarations.Axioms.TheVariants.{Free, Comm,
 use Rattle.fvn_terms.specs.declared.declarations.Rank.{Rank}
 use Rattle.fvn_forms.specs.SortOrder.{sort_number, same_sort}
 use Rattle.fvn_forms.proofs.SortTests.{same_sort-true, same_sort-self}
-use Rattle.fvn_sorts.specs.declared.collecting.collected.Declaration.{Declaration}
-use Rattle.fvn_sorts.specs.Collected.{op_number, same_op}
-use Rattle.fvn_sorts.proofs.Parts.{same_tests}
+use Rattle.fvn_drafts.specs.declared.collecting.collected.Declaration.{Declaration}
+use Rattle.fvn_drafts.specs.Collected.{op_number, same_op}
+use Rattle.fvn_drafts.proofs.Parts.{same_tests}
 use Rattle.fvn_syntax.specs.Pieces.{Text}
 use Rattle.fvn_syntax.specs.Texts.{place}
 use Rattle.fvn_syntax.proofs.TextLemmas.{position-any}

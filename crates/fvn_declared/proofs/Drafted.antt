@@ -6,9 +6,9 @@ use Rattle.std.proofs.lemmas.List.{append-nil, append_assoc, length-append, leng
 use Rattle.fvn_base.specs.declared.limits.TheConstants.{OPERATORS}
 use Rattle.fvn_terms.specs.declared.plain.OpId.{OpId}
 use Rattle.fvn_terms.specs.declared.declarations.Axioms.{Axioms}
-use Rattle.fvn_sorts.specs.declared.collecting.collected.Declaration.{Declaration}
-use Rattle.fvn_sorts.specs.declared.collecting.collected.Collected.{Collected}
-use Rattle.fvn_sorts.specs.Collected.{op_number, same_op}
+use Rattle.fvn_drafts.specs.declared.collecting.collected.Declaration.{Declaration}
+use Rattle.fvn_drafts.specs.declared.collecting.collected.Collected.{Collected}
+use Rattle.fvn_drafts.specs.Collected.{op_number, same_op}
 use Rattle.fvn_syntax.specs.Pieces.{Text}
 use Rattle.fvn_syntax.specs.Texts.{place_or_end, with_text}
 use Rattle.fvn_statements.specs.declared.statement.RawRank.{RawRank}

@@ -8,7 +8,7 @@ use Rattle.fvn_terms.specs.declared.plain.SortId.{SortId}
 use Rattle.fvn_base.proofs.Membership.{contains_here, contains_later, contains_cases, contains_none, contains_map}
 use Rattle.fvn_forms.specs.SortOrder.{sort_number, reaches}
 use Rattle.fvn_forms.proofs.SortTests.{reaches-self, reaches-trans, reaches-one}
-use Rattle.fvn_sorts.specs.Collected.{both_ways}
+use Rattle.fvn_drafts.specs.Collected.{both_ways}
 use Rattle.fvn_declared.specs.inner.Classes.{label, AreAlike, IsJoin}
 use Rattle.fvn_declared.specs.inner.Joining.{AreLinked, AreSound, IsJoinedBy}
 use Rattle.fvn_declared.proofs.Links.{linked-sym, linked-trans}

@@ -8,8 +8,8 @@ use Rattle.fvn_terms.specs.declared.plain.SortId.{SortId}
 use Rattle.fvn_base.proofs.Membership.{map_contains}
 use Rattle.fvn_forms.specs.SortOrder.{sort_number, same_sort, reaches}
 use Rattle.fvn_forms.proofs.SortTests.{same_sort-true, reaches-sound}
-use Rattle.fvn_sorts.specs.Collected.{both_ways, turned, joins}
-use Rattle.fvn_sorts.proofs.Parts.{same_tests}
+use Rattle.fvn_drafts.specs.Collected.{both_ways, turned, joins}
+use Rattle.fvn_drafts.proofs.Parts.{same_tests}
 use Rattle.fvn_syntax.specs.Pieces.{Text}
 use Rattle.fvn_statements.specs.declared.statement.Statement.{Statement}
 use Rattle.fvn_declared.specs.Order.{same_pair, with_all, pairs_in, with_pairs, ordered}

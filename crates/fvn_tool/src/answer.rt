@@ -9,6 +9,7 @@ ghost use Rattle.fvn_tool.specs.Replies.{IsReply, IsUnifyReply, IsAnswer, IsProb
 ghost use Rattle.fvn_tool.specs.Outcomes.{usage_line, too_long_line};
 ghost use Rattle.fvn_tool.specs.Texts.{bytes_of};
 
+use crate::checking::check_reply;
 use crate::free::{Unified, unify};
 use crate::lines::push_unifier;
 use crate::status::Status;
@@ -151,6 +152,7 @@ pub(crate) fn reply(alloc: Global, bytes: &[u8], command: Command<'_>) -> Result
     ensures { IfOk result (λ a. IsReply (meant command.entry) bytes.now a.status (bytes_of a.text)) }
 {
     match command {
+        Command::Check => check_reply(alloc, bytes),
         Command::Unify(word) => unify_reply(alloc, bytes, word),
     }
 }

@@ -3,9 +3,9 @@ use Rattle.std.specs.Prelude.{◌≡◌, ◌+◌, ℕ, max, List, [], ◌∷◌,
 use Rattle.fvn_base.specs.declared.limits.TheConstants.{OPERATORS}
 use Rattle.fvn_terms.specs.declared.plain.OpId.{OpId}
 use Rattle.fvn_terms.specs.declared.declarations.Axioms.{Axioms}
-use Rattle.fvn_sorts.specs.declared.collecting.collected.Declaration.{Declaration}
-use Rattle.fvn_sorts.specs.declared.collecting.collected.Collected.{Collected}
-use Rattle.fvn_sorts.specs.Collected.{op_number}
+use Rattle.fvn_drafts.specs.declared.collecting.collected.Declaration.{Declaration}
+use Rattle.fvn_drafts.specs.declared.collecting.collected.Collected.{Collected}
+use Rattle.fvn_drafts.specs.Collected.{op_number}
 use Rattle.fvn_syntax.specs.Pieces.{Text}
 use Rattle.fvn_syntax.specs.Texts.{place_or_end, with_text}
 use Rattle.fvn_statements.specs.declared.statement.Statement.{Statement}

@@ -1,8 +1,8 @@
 -- A declaration is added where its code is new.
 use Rattle.std.proofs.Common.{◌≡◌, ◌≢◌, ◌<◌, ◌+◌, ◌++◌, [], ◌∷◌, max, length, map, sym, ap, subst, ◌∙◌}
 use Rattle.std.specs.List.{All}
-use Rattle.fvn_sorts.specs.declared.collecting.collected.Declaration.{Declaration}
-use Rattle.fvn_sorts.specs.declared.collecting.collected.Collected.{Collected}
+use Rattle.fvn_drafts.specs.declared.collecting.collected.Declaration.{Declaration}
+use Rattle.fvn_drafts.specs.declared.collecting.collected.Collected.{Collected}
 use Rattle.fvn_syntax.specs.Texts.{place_or_end}
 use Rattle.fvn_declared.specs.inner.Codes.{code}
 use Rattle.fvn_declared.specs.inner.Drafts.{declared, with_one}

@@ -2,7 +2,7 @@
 use Rattle.std.proofs.Common.{◌≡◌, ◌++◌, ◌-◌, ◌<◌, map, length}
 use Rattle.std.specs.List.{All, range_with_len}
 use Rattle.fvn_forms.specs.SortOrder.{sort_number}
-use Rattle.fvn_sorts.specs.Collected.{kind_of, first_sorts}
+use Rattle.fvn_drafts.specs.Collected.{kind_of, first_sorts}
 use Rattle.fvn_declared.specs.Order.{ordered}
 use Rattle.fvn_declared.proofs.kinds.find_kinds.Given as goal
 

@@ -2,7 +2,7 @@
 use Rattle.std.proofs.Common.{◌≡◌, ℕ, ◌+◌, ◌<◌, ◌≤◌, max, List, length, set, take, drop, sym, ap, subst, ◌∙◌, arith, Option, Some}
 use Rattle.std.proofs.lemmas.List.{with_items_is, length-set}
 use Rattle.fvn_base.specs.declared.limits.TheConstants.{OPERATORS}
-use Rattle.fvn_sorts.specs.declared.collecting.collected.Collected.{Collected}
+use Rattle.fvn_drafts.specs.declared.collecting.collected.Collected.{Collected}
 use Rattle.fvn_syntax.specs.Texts.{place_or_end, with_text}
 use Rattle.fvn_declared.specs.inner.Drafts.{Draft, IsDraft}
 use Rattle.fvn_declared.proofs.TextCounts.{length-with_text}

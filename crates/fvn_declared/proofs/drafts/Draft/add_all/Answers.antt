@@ -1,7 +1,7 @@
 -- One more statement is declared.
 use Rattle.std.proofs.Common.{◌≡◌, ◌+◌, ◌≤◌, ◌∷◌, List, length, drop, sym, ap, ◌∙◌, arith}
 use Rattle.std.proofs.lemmas.List.{drop_more}
-use Rattle.fvn_sorts.specs.declared.collecting.collected.Collected.{Collected}
+use Rattle.fvn_drafts.specs.declared.collecting.collected.Collected.{Collected}
 use Rattle.fvn_syntax.specs.Pieces.{Text}
 use Rattle.fvn_statements.specs.declared.statement.Statement.{Statement}
 use Rattle.fvn_declared.specs.Names.{operators_in, with_texts, with_names}

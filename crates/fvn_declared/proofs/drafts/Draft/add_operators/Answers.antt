@@ -2,7 +2,7 @@
 use Rattle.std.proofs.Common.{◌≡◌, ℕ, length, sym, ap, subst, ◌∙◌}
 use Rattle.std.specs.List.{All}
 use Rattle.fvn_terms.specs.declared.declarations.Rank.{Rank}
-use Rattle.fvn_sorts.specs.Collected.{Names}
+use Rattle.fvn_drafts.specs.Collected.{Names}
 use Rattle.fvn_declared.specs.declared.shapes.Shape.{Shape}
 use Rattle.fvn_declared.proofs.RankLemmas.{rank_named}
 use Rattle.fvn_declared.proofs.drafts.Draft.add_operators.Goals as goal
