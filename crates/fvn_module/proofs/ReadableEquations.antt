@@ -134,10 +134,10 @@ module _ (c : Scope) where
   equation-readable : IsFitting c → (e : Sides) (q : Equation) → IsEquationOf c e q → IsReadableEquation c.declarations q
   equation-readable fit e q is = subst (IsReadableEquation c.declarations) (sym same) read where
     made : Equation
-    made = record { left = is.stand.first.term; right = is.stand.second.term }
+    made = record { statement = q.statement; left = is.stand.first.term; right = is.stand.second.term }
 
     same : q ≡ made
-    same = ap (λ t. record { left = t; right = q.right }) is.left_is ∙ ap (λ t. record { left = is.stand.first.term; right = t }) is.right_is
+    same = ap (λ t. record { statement = q.statement; left = t; right = q.right }) is.left_is ∙ ap (λ t. record { statement = q.statement; left = is.stand.first.term; right = t }) is.right_is
 
     read : IsReadableEquation c.declarations made
     read = record {

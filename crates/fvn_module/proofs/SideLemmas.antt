@@ -80,7 +80,7 @@ module _ (c : Scope) (k : ℕ) (e : Sides) (h : AreTerms e) where
           subst (λ t. AllOccur (term t) (term s2.read.term)) (sym (first.built x))
           (subst (λ t. AllOccur (term first.resolved.term) (term t)) (sym (second.built y)) g)
 
-      judged : (q : Equation) → IsJudged s.read s.count s2 q → IsEquationOf c e q
+      judged : (q : Equation) → IsJudged e.number s.read s.count s2 q → IsEquationOf c e q
       judged q j = record {
         left = h.left.term;
         right = h.right.term;
@@ -92,6 +92,7 @@ module _ (c : Scope) (k : ℕ) (e : Sides) (h : AreTerms e) where
           within (nodes (term second.resolved.term)) s2.count second.count j.right_small,
         );
         brings_none = occur j.left_small j.right_small j.brings_none;
+        statement_is = j.statement_is;
         left_is = j.left_is ∙ first.built j.left_small;
         right_is = j.right_is ∙ second.built j.right_small;
       }
@@ -110,8 +111,8 @@ module _ (c : Scope) (k : ℕ) (e : Sides) (h : AreTerms e) where
           (within (nodes (term first.resolved.term)) s.count first.count x, within (nodes (term second.resolved.term)) s2.count second.count y)
           (λ g. extra (uncover x y g)) is))
 
-      pub judged-ok : (r : Result Equation ModuleFault) → IfOk r (IsJudged s.read s.count s2) → IfOk r (IsEquationOf c e)
-      judged-ok r g = on_ok (IsJudged s.read s.count s2) (IsEquationOf c e) r judged g
+      pub judged-ok : (r : Result Equation ModuleFault) → IfOk r (IsJudged e.number s.read s.count s2) → IfOk r (IsEquationOf c e)
+      judged-ok r g = on_ok (IsJudged e.number s.read s.count s2) (IsEquationOf c e) r judged g
 
       pub judged-err : (r : Result Equation ModuleFault) → IfErr r (IsJudgedFault k e.number s.read s.count s2) →
           IfErr r (λ fault. (fault ≡ NoMemory) ⊎ HasFault c k e fault)

@@ -81,6 +81,7 @@ module _ (c : Scope) where
     pub one_kind : stand.first.kind ≡ stand.second.kind
     pub small : AreSmall stand.first stand.second
     pub brings_none : BringsNone stand.first stand.second
+    pub statement_is : q.statement ≡ e.number
     pub left_is : q.left ≡ stand.first.term
     pub right_is : q.right ≡ stand.second.term
 

@@ -74,7 +74,7 @@ fn judge(
     count: usize,
     right: Side,
 ) -> Result<Equation, ModuleFault>
-    ensures ok { IfOk result (IsJudged left count right) }
+    ensures ok { IfOk result (IsJudged number left count right) }
     ensures err { IfErr result (IsJudgedFault k number left count right) }
 {
     if left.kind.0 != right.read.kind.0 {
@@ -87,6 +87,7 @@ fn judge(
         return Err(ModuleFault::ExtraVariable(k));
     }
     Ok(Equation {
+        statement: number,
         left: left.term,
         right: right.read.term,
     })

@@ -64,12 +64,13 @@ pub record HasFault (c : Scope) (k : ℕ) (e : Sides) (fault : ModuleFault) : Ty
   pub written : AreWrittenAs e left right
   pub wrong : IsFaultOf c e.number k left right fault
 
--- the two sides, of which the left one has so many symbols, are this equation
-pub record IsJudged (left : Kinded) (count : ℕ) (right : Side) (q : Equation) : Type 0 where
+-- the two sides in a statement with this number, of which the left one has so many symbols, are this equation
+pub record IsJudged (number : ℕ) (left : Kinded) (count : ℕ) (right : Side) (q : Equation) : Type 0 where
   pub one_kind : left.kind ≡ right.read.kind
   pub left_small : count ≤ TEXT_SYMBOLS
   pub right_small : right.count ≤ TEXT_SYMBOLS
   pub brings_none : AllOccur (term left.term) (term right.read.term)
+  pub statement_is : q.statement ≡ number
   pub left_is : q.left ≡ left.term
   pub right_is : q.right ≡ right.read.term
 
