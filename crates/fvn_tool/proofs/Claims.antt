@@ -23,8 +23,8 @@ use Rattle.fvn_tool.specs.Claims.{IsUnifyText, IsOneText, IsFirstRefusalOf, Refu
 use Rattle.fvn_tool.proofs.Checks.{check_one_text, check_not_usage, check_refuses, check_no_module, check_tells, check_module}
 use Rattle.fvn_tool.proofs.Outcomes.{Leaves-weaker, Leaves-goes, Leaves-without_fault}
 use Rattle.fvn_tool.proofs.Shows.{shows_right, shows_end}
-use Rattle.fvn_tool.proofs.Sizes.{same_sizes}
-use Rattle.fvn_tool.proofs.FreeSorted.{free_operators}
+use Rattle.fvn_free.proofs.Sizes.{same_sizes}
+use Rattle.fvn_free.proofs.FreeSorted.{free_operators}
 
 -- Texts
 

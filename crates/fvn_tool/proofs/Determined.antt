@@ -21,10 +21,10 @@ use Rattle.fvn_tool.specs.Replies.{answer_text, complete, IsInstanceOf, ExceedsS
 use Rattle.fvn_tool.specs.Outcomes.{no_command, too_long, replied}
 use Rattle.fvn_tool.specs.Claims.{Is}
 use Rattle.fvn_tool.specs.Laws.{OutcomesAreDetermined}
-use Rattle.fvn_tool.proofs.NumberedAlike.{more-head, more-tail, numbered_alike}
-use Rattle.fvn_tool.proofs.Pairs.{given}
-use Rattle.fvn_tool.proofs.Sizes.{same_sizes}
-use Rattle.fvn_tool.proofs.FreeSorted.{free_operators}
+use Rattle.fvn_free.proofs.NumberedAlike.{more-head, more-tail, numbered_alike}
+use Rattle.fvn_free.proofs.Pairs.{given}
+use Rattle.fvn_free.proofs.Sizes.{same_sizes}
+use Rattle.fvn_free.proofs.FreeSorted.{free_operators}
 use Rattle.fvn_tool.proofs.Shows.{not_exceeded}
 use Rattle.fvn_tool.proofs.Checks.{check_determined}
 use Rattle.fvn_tool.proofs.Claims.{outcome_usage, Comes, comes_long, comes_reply, comes, reply_no_module, reply_no_problem, reply_answers}

@@ -1,5 +1,4 @@
 -- The words of the contracts of this crate.
-pub mod Free
 pub mod Lines
 pub mod Spellings
 pub mod Words
@@ -11,4 +10,3 @@ pub mod Outcomes
 pub mod Texts
 pub mod Claims
 pub mod Laws
-pub mod inner

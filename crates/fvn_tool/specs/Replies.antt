@@ -15,7 +15,7 @@ use Rattle.fvn_tool.specs.Words.{Command, check, unify}
 use Rattle.fvn_tool.specs.Lines.{line, lines, unifier_line}
 use Rattle.fvn_tool.specs.Spellings.{spelling}
 use Rattle.fvn_tool.specs.Checks.{IsCheckReply}
-use Rattle.fvn_tool.specs.Free.{IsMostGeneral, HasNoUnifier, IsTooLarge, AreNumbered, variables_among}
+use Rattle.fvn_free.specs.Free.{IsMostGeneral, HasNoUnifier, IsTooLarge, AreNumbered, variables_among}
 
 -- how an answer ends: all was found, with so many lines; or a term would have had over 1,000 symbols
 pub data End : Type 0 where

@@ -10,7 +10,6 @@ ghost use Rattle.fvn_tool.specs.Outcomes.{usage_line, too_long_line};
 ghost use Rattle.fvn_tool.specs.Texts.{bytes_of};
 
 use crate::checking::check_reply;
-use crate::free::{Unified, unify};
 use crate::lines::push_unifier;
 use crate::status::Status;
 use crate::words::Command;
@@ -19,6 +18,7 @@ use fvn_first::first::{
     FirstFault, FirstModule, FirstProblem, Names, VarNames, modules_are_first, problems_are_first,
     read_module, read_problem,
 };
+use fvn_free::{Unified, unify};
 use fvn_terms::{NoMemory, PlainSubst};
 use std::alloc::Global;
 

@@ -3,7 +3,6 @@
 
 mod answer;
 mod checking;
-mod free;
 mod laws;
 mod lines;
 mod status;
