@@ -2,8 +2,8 @@
 use Rattle.std.specs.Prelude.{List}
 use Rattle.fvn_terms.specs.declared.plain.Var.{Var}
 use Rattle.fvn_terms.specs.declared.plain.Plain.{Plain}
-use Rattle.fvn_free.specs.declared.Unified.{Unified}
-use Rattle.fvn_free.specs.declared.Unified.TheVariants.{MostGeneral, NoUnifier, TooLarge}
+use Rattle.fvn_free.specs.declared.unifying.Unified.{Unified}
+use Rattle.fvn_free.specs.declared.unifying.Unified.TheVariants.{MostGeneral, NoUnifier, TooLarge}
 
 -- P holds of the pairs, if the answer is a most general unifier
 abbrev pub IfMostGeneral : Unified → (List (Var × Plain) → Type 0) → Type 0
