@@ -12,7 +12,7 @@ use Rattle.fvn_terms.specs.declared.declarations.Axioms.TheVariants.{Free, Comm,
 use Rattle.fvn_terms.specs.declared.declarations.Rank.{Rank}
 use Rattle.fvn_forms.specs.SortOrder.{sort_number, same_sort}
 use Rattle.fvn_forms.proofs.SortTests.{same_sort-true, same_sort-self}
-use Rattle.fvn_drafts.specs.declared.collecting.collected.Declaration.{Declaration}
+use Rattle.fvn_drafts.specs.declared.collected.Declaration.{Declaration}
 use Rattle.fvn_drafts.specs.Collected.{op_number, same_op}
 use Rattle.fvn_drafts.proofs.Parts.{same_tests}
 use Rattle.fvn_syntax.specs.Pieces.{Text}

@@ -9,7 +9,7 @@ use Rattle.fvn_terms.specs.declared.plain.SortId.{SortId}
 use Rattle.fvn_base.proofs.Membership.{contains_here, contains_later, contains_cases, contains_none, contains_map, map_contains}
 use Rattle.fvn_forms.specs.SortOrder.{sort_number, same_sort}
 use Rattle.fvn_forms.proofs.SortTests.{same_sort-true, same_sort-self}
-use Rattle.fvn_drafts.specs.declared.collecting.collected.Collected.{Collected}
+use Rattle.fvn_drafts.specs.declared.collected.Collected.{Collected}
 use Rattle.fvn_declared.specs.Order.{same_pair, with_new, with_all, crossed}
 use Rattle.fvn_declared.specs.inner.Pairs.{with_more, row}
 use Rattle.fvn_declared.proofs.NewLists.{with_all-append, contains_with_all, with_all_contains, with_all_contains_old, with_new_contains}

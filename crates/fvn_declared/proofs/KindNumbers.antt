@@ -7,7 +7,7 @@ use Rattle.std.proofs.lemmas.List.{get_or-set_same, get_or-set_other, get_or-rep
 use Rattle.std.proofs.lemmas.List.Elements.{All-push, All-weaker}
 use Rattle.fvn_terms.specs.declared.plain.SortId.{SortId}
 use Rattle.fvn_forms.specs.SortOrder.{sort_number}
-use Rattle.fvn_drafts.specs.declared.collecting.collected.Collected.{Collected}
+use Rattle.fvn_drafts.specs.declared.collected.Collected.{Collected}
 use Rattle.fvn_drafts.specs.Collected.{joins, first_joined, first_sorts, parts_before, kind_of}
 use Rattle.fvn_drafts.proofs.Parts.{first_joined-at, first_joined-same, kind_of-first, kind_of-later, kinds-length, kinds-at, kinds-more}
 use Rattle.fvn_declared.specs.inner.Classes.{label}

@@ -10,7 +10,3 @@ mod Tested
 mod PairTables
 mod DistinctLists
 mod CodeLemmas
-mod DraftLemmas
-mod TextCounts
-mod RankLemmas
-mod Drafted

@@ -3,7 +3,7 @@ use Rattle.std.proofs.Common.{◌≡◌, true, List, []}
 use Rattle.std.specs.List.{Contains}
 use Rattle.fvn_terms.specs.declared.plain.SortId.{SortId}
 use Rattle.fvn_forms.proofs.SortTests.{reaches-self, reaches-trans}
-use Rattle.fvn_drafts.specs.declared.collecting.collected.Collected.{Collected}
+use Rattle.fvn_drafts.specs.declared.collected.Collected.{Collected}
 use Rattle.fvn_drafts.specs.Collected.{both_ways}
 use Rattle.fvn_drafts.proofs.Parts.{joins-sym, joins-below}
 use Rattle.fvn_declared.specs.inner.Joining.{AreLinked}

@@ -1,7 +1,7 @@
 -- What a module declares: its names, and what its signature is made of.
 use Rattle.std.specs.Prelude.{List, [], length}
 use Rattle.fvn_terms.specs.declared.plain.SortId.{SortId}
-use Rattle.fvn_drafts.specs.declared.collecting.collected.Collected.{Collected}
+use Rattle.fvn_drafts.specs.declared.collected.Collected.{Collected}
 use Rattle.fvn_syntax.specs.declared.names.Names.{Names}
 use Rattle.fvn_statements.specs.declared.statement.Statement.{Statement}
 use Rattle.fvn_statements.specs.declared.form.Form.{Form}

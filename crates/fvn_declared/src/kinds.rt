@@ -1,7 +1,7 @@
 //! The numbers of kinds.
 ghost use Rattle.std.specs.Prelude.{◌≡◌, ◌<◌, ◌≤◌, ◌+◌, ◌*◌, map, length, All, IfOk};
 ghost use Rattle.fvn_forms.specs.SortOrder.{sort_number};
-ghost use Rattle.fvn_drafts.specs.declared.collecting.collected.Collected.{Collected};
+ghost use Rattle.fvn_drafts.specs.declared.collected.Collected.{Collected};
 ghost use Rattle.fvn_declared.specs.Order.{kinds_of};
 ghost use Rattle.fvn_declared.specs.inner.Numbering.{HasLabels, IsNumbered};
 

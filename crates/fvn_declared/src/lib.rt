@@ -1,11 +1,9 @@
 //! What the statements of a module declare, and the first fault among their names.
 #![tactic(auto)]
 
-mod building;
 mod classes;
 mod codes;
 mod declaring;
-mod drafts;
 mod earlier;
 mod fault;
 mod kinds;

@@ -31,7 +31,7 @@ pub struct PairBuilder {
 }
 
 impl Model for PairBuilder {
-    ghost use Rattle.fvn_drafts.specs.declared.collecting.collected.Collected.{Collected};
+    ghost use Rattle.fvn_drafts.specs.declared.collected.Collected.{Collected};
     ghost use Rattle.fvn_declared.specs.inner.Pairs.{IsTableOf};
 
     ghost Value = { Collected };

@@ -4,7 +4,7 @@ use Rattle.fvn_terms.specs.declared.plain.OpId.{OpId}
 use Rattle.fvn_terms.specs.declared.plain.SortId.{SortId}
 use Rattle.fvn_terms.specs.declared.declarations.Axioms.{Axioms}
 use Rattle.fvn_terms.specs.declared.declarations.Axioms.TheVariants.{Free, Comm, AssocComm, AssocCommId}
-use Rattle.fvn_drafts.specs.declared.collecting.collected.Declaration.{Declaration}
+use Rattle.fvn_drafts.specs.declared.collected.Declaration.{Declaration}
 use Rattle.fvn_syntax.specs.Pieces.{Text}
 
 -- a number as two bytes

@@ -6,7 +6,7 @@ use Rattle.std.proofs.lemmas.List.Elements.{All-push}
 use Rattle.std.proofs.lemmas.List.FromFn.{map-range_with_len_more, length-map-range_with_len}
 use Rattle.fvn_terms.specs.declared.plain.SortId.{SortId}
 use Rattle.fvn_forms.specs.SortOrder.{sort_number}
-use Rattle.fvn_drafts.specs.declared.collecting.collected.Collected.{Collected}
+use Rattle.fvn_drafts.specs.declared.collected.Collected.{Collected}
 use Rattle.fvn_drafts.specs.Collected.{kind_of, first_sorts, parts_before, kinds}
 use Rattle.fvn_drafts.proofs.Parts.{parts_before-le, kinds-length}
 use Rattle.fvn_declared.specs.Order.{ordered, kinds_of}

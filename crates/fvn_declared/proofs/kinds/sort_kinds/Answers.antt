@@ -1,7 +1,7 @@
 -- A sort has the kind that is known for its label, or else a new one.
 use Rattle.std.proofs.Common.{◌≡◌, ℕ, ◌+◌, ◌<◌, ◌≤◌, ◌++◌, [], ◌∷◌, length, get_or, set, Some, None, sym, ap, subst, ◌∙◌, arith, Option}
 use Rattle.std.proofs.lemmas.List.{length-set, get_or_default}
-use Rattle.fvn_drafts.specs.declared.collecting.collected.Collected.{Collected}
+use Rattle.fvn_drafts.specs.declared.collected.Collected.{Collected}
 use Rattle.fvn_declared.specs.inner.Classes.{label}
 use Rattle.fvn_declared.specs.inner.Numbering.{HasLabels, IsKnown, IsNumbered}
 use Rattle.fvn_declared.proofs.KindNumbers.{known_old, numbered_old, numbered_new}

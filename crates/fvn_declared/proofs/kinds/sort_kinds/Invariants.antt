@@ -1,6 +1,6 @@
 -- The kinds of the first sorts.
 use Rattle.std.proofs.Common.{◌≡◌, ◌+◌, ◌≤◌, ℕ, length, get_or, None}
-use Rattle.fvn_drafts.specs.declared.collecting.collected.Collected.{Collected}
+use Rattle.fvn_drafts.specs.declared.collected.Collected.{Collected}
 use Rattle.fvn_declared.specs.inner.Numbering.{HasLabels, IsKnown, IsNumbered}
 use Rattle.fvn_declared.proofs.kinds.sort_kinds.Given as goal
 

@@ -1,6 +1,6 @@
 -- The table has the pair that is added.
 use Rattle.std.proofs.Common.{◌<◌, sym, subst}
-use Rattle.fvn_drafts.specs.declared.collecting.collected.Collected.{Collected}
+use Rattle.fvn_drafts.specs.declared.collected.Collected.{Collected}
 use Rattle.fvn_declared.proofs.PairTables.{table-more}
 use Rattle.fvn_declared.proofs.pairs.PairBuilder.add.Goals as goal
 
