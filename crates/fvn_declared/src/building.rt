@@ -16,7 +16,12 @@ use std::alloc::Global;
 // A builder with so many sorts.
 fn with_sorts(alloc: Global, count: usize) -> Result<SignatureBuilder, NoMemory>
     requires { count ≤ MOST_SORTS }
-    ensures { IfOk result (λ b. b ≡ record { sorts = count; below = []; operators = 0; declarations = [] }) }
+    ensures { IfOk result (λ b. b ≡ record {
+      sorts = count;
+      below = [];
+      operators = 0;
+      declarations = [];
+    }) }
 {
     let mut builder = SignatureBuilder::new(alloc);
     for _ in 0..count {

@@ -52,7 +52,12 @@ pub fn declaration_code(
     partial: bool,
     axioms: Axioms,
 ) -> Result<Vec<u8>, NoMemory>
-    ensures { IfOk result (λ v. v.items ≡ code (record { op = op; rank = rank.now; partial = partial; axioms = axioms })) }
+    ensures { IfOk result (λ v. v.items ≡ code (record {
+      op = op;
+      rank = rank.now;
+      partial = partial;
+      axioms = axioms;
+    })) }
 {
     let mut code = Vec::new(alloc);
     let mark = if partial { 1 } else { 0 };

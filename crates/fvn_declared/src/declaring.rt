@@ -79,7 +79,8 @@ fn fit(
 /// declare nothing.
 pub fn declare(alloc: Global, form: &Form<'_>) -> Result<Declared, NameFault>
     ensures ok { IfOk result (IsDeclared form.now) }
-    ensures err { IfErr result (λ fault. (fault ≡ OutOfMemory) ⊎ IsFirstFault form.now.statements fault) }
+    ensures err { IfErr result (λ fault. (fault ≡ OutOfMemory) ⊎
+        IsFirstFault form.now.statements fault) }
 {
     let statements = form.statements.as_slice();
     let v = Vocabulary::collect(alloc, statements)?;

@@ -37,7 +37,11 @@ impl Model for Draft {
 
     ghost Value = { Drafted };
 
-    ghost view = { λ d. record { names = d.names; latest = d.latest.items; collected = d.builder } };
+    ghost view = { λ d. record {
+      names = d.names;
+      latest = d.latest.items;
+      collected = d.builder;
+    } };
 
     ghost invariant = { λ d. IsDraft d.names d.latest.items d.codes d.builder };
 }
@@ -165,7 +169,8 @@ impl Draft {
         requires as_many { self.collected.sorts ≡ length v.now.sorts }
         requires few { length (with_texts self.names (operators_in statement.now)) ≤ MOST }
         requires known { has_unknown_sort v.now.sorts v.now.ops v.now.kinds rank.now ≡ false }
-        ensures { IfOk result (λ d. d ≡ with_names self (shape_of v.now rank.now attributes.now) (operators_in statement.now)) }
+        ensures { IfOk result (λ d. d ≡ with_names self (shape_of v.now rank.now attributes.now)
+            (operators_in statement.now)) }
     {
         let owned = operator_names(alloc, statement)?;
         let names = as_texts(alloc, owned.as_slice())?;
@@ -213,7 +218,11 @@ impl Draft {
     pub fn new(alloc: Global, builder: SignatureBuilder) -> Result<Draft, NoMemory>
         requires operators { builder.operators ≡ 0 }
         requires declarations { builder.declarations ≡ [] }
-        ensures { IfOk result (λ d. d ≡ record { names = []; latest = replicate MOST None; collected = builder }) }
+        ensures { IfOk result (λ d. d ≡ record {
+          names = [];
+          latest = replicate MOST None;
+          collected = builder;
+        }) }
     {
         let latest = vec![in alloc; None; usize::from(OPERATORS)]?;
         Ok(Draft {

@@ -26,7 +26,11 @@ impl Model for Earlier {
 
     ghost Value = { Past };
 
-    ghost view = { λ e. record { operators = e.operators; constants = e.constants; variables = e.variables } };
+    ghost view = { λ e. record {
+      operators = e.operators;
+      constants = e.constants;
+      variables = e.variables;
+    } };
 }
 
 // The texts with the constants that a statement declares, among the operators with these names.
@@ -53,7 +57,8 @@ fn insert_variables(
     variables: &mut VariableTable,
     statement: &Statement<'_>,
 ) -> Result<(), NoMemory>
-    ensures { OnOk result (variables.new ≡ with_declared v.now.sorts v.now.kinds variables.old statement.now) }
+    ensures { OnOk result (variables.new ≡
+        with_declared v.now.sorts v.now.kinds variables.old statement.now) }
 {
     match statement {
         Statement::Variables { names, sort, .. } => match v.find_sort(sort) {

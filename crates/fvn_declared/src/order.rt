@@ -35,7 +35,8 @@ fn join_name(
 ) -> Result<Classes, NoMemory>
     requires as_many { length classes ≡ length sorts.now }
     requires with { with < length sorts.now }
-    ensures { IfOk result (λ c. IsJoinedBy classes c (map (λ s. (s, sort_number with)) (declared_among sorts.now (name.now ∷ [])))) }
+    ensures { IfOk result (λ c. IsJoinedBy classes c (map (λ s. (s, sort_number with))
+        (declared_among sorts.now (name.now ∷ [])))) }
 {
     match sorts.place(name) {
         Some(i) => {
@@ -56,7 +57,8 @@ fn join_names(
 ) -> Result<Classes, NoMemory>
     requires as_many { length classes ≡ length sorts.now }
     requires with { with < length sorts.now }
-    ensures { IfOk result (λ c. IsJoinedBy classes c (map (λ s. (s, sort_number with)) (declared_among sorts.now names.now))) }
+    ensures { IfOk result (λ c. IsJoinedBy classes c (map (λ s. (s, sort_number with))
+        (declared_among sorts.now names.now))) }
 {
     let mut joined = classes;
     for name in names {
@@ -74,7 +76,8 @@ fn join_groups(
     upper: &[Text<'_>],
 ) -> Result<Classes, NoMemory>
     requires { length classes ≡ length sorts.now }
-    ensures { IfOk result (λ c. IsJoinedBy classes c (crossed (declared_among sorts.now lower.now) (declared_among sorts.now upper.now))) }
+    ensures { IfOk result (λ c. IsJoinedBy classes c (crossed (declared_among sorts.now lower.now)
+        (declared_among sorts.now upper.now))) }
 {
     let Some(low) = first_declared(sorts, lower) else {
         return Ok(classes);

@@ -80,7 +80,8 @@ impl PairBuilder {
     fn add_row(self, low: usize, highs: &[usize]) -> Result<PairBuilder, NoMemory>
         requires low { low < self.sorts }
         requires highs { All (λ high. high < self.sorts) highs.now }
-        ensures { IfOk result (λ b. b ≡ with_more self (row (sort_number low) (map sort_number highs.now))) }
+        ensures { IfOk result (λ b. b ≡ with_more self (row (sort_number low)
+            (map sort_number highs.now))) }
     {
         let mut pairs = self;
         for high in highs {
@@ -93,7 +94,8 @@ impl PairBuilder {
     fn add_crossed(self, lows: &[usize], highs: &[usize]) -> Result<PairBuilder, NoMemory>
         requires lows { All (λ low. low < self.sorts) lows.now }
         requires highs { All (λ high. high < self.sorts) highs.now }
-        ensures { IfOk result (λ b. b ≡ with_more self (crossed (map sort_number lows.now) (map sort_number highs.now))) }
+        ensures { IfOk result (λ b. b ≡ with_more self (crossed (map sort_number lows.now)
+            (map sort_number highs.now))) }
     {
         let mut pairs = self;
         for low in lows {
@@ -111,7 +113,8 @@ impl PairBuilder {
         upper: &[Text<'_>],
     ) -> Result<PairBuilder, NoMemory>
         requires { self.sorts ≡ length sorts.now }
-        ensures { IfOk result (λ b. b ≡ with_more self (crossed (declared_among sorts.now lower.now) (declared_among sorts.now upper.now))) }
+        ensures { IfOk result (λ b. b ≡ with_more self (crossed
+            (declared_among sorts.now lower.now) (declared_among sorts.now upper.now))) }
     {
         let lows = distinct_sorts(alloc, sorts, lower)?;
         let highs = distinct_sorts(alloc, sorts, upper)?;
@@ -159,7 +162,8 @@ impl PairBuilder {
 
 // The declared sorts among these names, each once.
 fn distinct_sorts(alloc: Global, sorts: &Texts, names: &[Text<'_>]) -> Result<Vec<usize>, NoMemory>
-    ensures exact { IfOk result (λ v. map sort_number v.items ≡ with_all same_sort [] (declared_among sorts.now names.now)) }
+    ensures exact { IfOk result (λ v. map sort_number v.items ≡
+        with_all same_sort [] (declared_among sorts.now names.now)) }
     ensures in_range { IfOk result (λ v. All (λ s. s < length sorts.now) v.items) }
 {
     let mut distinct = Vec::new(alloc);
@@ -192,7 +196,9 @@ pub fn add_pairs(
     requires as_many { builder.sorts ≡ length sorts.now }
     requires few { builder.sorts ≤ MOST }
     requires none { builder.below ≡ [] }
-    ensures { IfOk result (λ b. b ≡ record builder { below = with_pairs sorts.now [] statements.now }) }
+    ensures { IfOk result (λ b. b ≡ record builder {
+      below = with_pairs sorts.now [] statements.now;
+    }) }
 {
     let mut pairs = PairBuilder::new(alloc, builder)?;
     for statement in statements {

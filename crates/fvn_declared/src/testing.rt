@@ -56,7 +56,8 @@ fn test_statement(
 ) -> Result<(), NameFault>
     ensures passes { OnOk result (Passes v.now earlier.old statement.now) }
     ensures noted { OnOk result (earlier.new ≡ with_past v.now earlier.old statement.now) }
-    ensures err { IfErr result (λ fault. (fault ≡ OutOfMemory) ⊎ IsFault v.now earlier.old statement.now number fault) }
+    ensures err { IfErr result (λ fault. (fault ≡ OutOfMemory) ⊎
+        IsFault v.now earlier.old statement.now number fault) }
 {
     let owned = operator_names(alloc, statement)?;
     let names = as_texts(alloc, owned.as_slice())?;
@@ -74,7 +75,8 @@ pub fn test_statements(
     requires { v.now ≡ vocabulary_of statements.now }
     ensures named { OnOk result (HasNames statements.now) }
     ensures variables { IfOk result (λ t. t ≡ variables_of v.now.sorts v.now.kinds statements.now) }
-    ensures err { IfErr result (λ fault. (fault ≡ OutOfMemory) ⊎ IsFirstFault statements.now fault) }
+    ensures err { IfErr result (λ fault. (fault ≡ OutOfMemory) ⊎
+        IsFirstFault statements.now fault) }
 {
     let mut earlier = Earlier::new(alloc);
     for (i, statement) in statements.iter().enumerate() {

@@ -54,7 +54,8 @@ fn clashes(v: &Vocabulary, variables: &VariableTable, name: &[u8]) -> bool
 
 // Whether one of these constants does so.
 fn any_clash(v: &Vocabulary, variables: &VariableTable, names: &[Text<'_>]) -> bool
-    ensures { result ≡ list_any (clashes v.now.sorts v.now.ops v.now.kinds variables.now) names.now }
+    ensures { result ≡
+        list_any (clashes v.now.sorts v.now.ops v.now.kinds variables.now) names.now }
 {
     names.iter().any(|name| clashes(v, variables, name.bytes()))
 }
@@ -77,7 +78,9 @@ fn is_declared_otherwise(
     sort: Option<usize>,
     name: &[u8],
 ) -> bool
-    ensures { result ≡ is_declared_otherwise v.now.sorts v.now.ops v.now.kinds constants.now variables.now (option_map sort_number sort) name.now }
+    ensures { result ≡
+        is_declared_otherwise v.now.sorts v.now.ops v.now.kinds constants.now variables.now
+        (option_map sort_number sort) name.now }
 {
     is_other(variables.find_sort(name), sort) || !is_missing(constants, name)
 }
@@ -90,7 +93,10 @@ fn any_declared_otherwise(
     sort: Option<usize>,
     names: &[Text<'_>],
 ) -> bool
-    ensures { result ≡ list_any (is_declared_otherwise v.now.sorts v.now.ops v.now.kinds constants.now variables.now (option_map sort_number sort)) names.now }
+    ensures { result ≡ list_any
+        (is_declared_otherwise v.now.sorts v.now.ops v.now.kinds constants.now variables.now
+        (option_map sort_number sort))
+        names.now }
 {
     names.iter().any(|name| is_declared_otherwise(v, constants, variables, sort, name.bytes()))
 }
@@ -105,7 +111,9 @@ pub fn declares_twice(
     statement: &Statement<'_>,
 ) -> bool
     requires { names.now ≡ operators_in statement.now }
-    ensures { result ≡ declares_twice_after v.now.sorts v.now.ops v.now.kinds constants.now variables.now statement.now }
+    ensures { result ≡
+        declares_twice_after v.now.sorts v.now.ops v.now.kinds constants.now variables.now
+        statement.now }
 {
     match statement {
         Statement::Operator { .. } => declares_constants(statement)

@@ -88,14 +88,16 @@ fn lacks_earlier(
     names: &[Text<'_>],
     attributes: &[Attribute<'_>],
 ) -> bool
-    ensures { result ≡ lacks_earlier v.now.sorts v.now.ops v.now.kinds earlier.now names.now attributes.now }
+    ensures { result ≡
+        lacks_earlier v.now.sorts v.now.ops v.now.kinds earlier.now names.now attributes.now }
 {
     has_ditto(attributes) && any_missing(earlier, names)
 }
 
 // Whether one of the attributes is an identity that is no operator.
 fn any_unknown_identity(v: &Vocabulary, attributes: &[Attribute<'_>]) -> bool
-    ensures { result ≡ list_any (is_unknown_identity v.now.sorts v.now.ops v.now.kinds) attributes.now }
+    ensures { result ≡
+        list_any (is_unknown_identity v.now.sorts v.now.ops v.now.kinds) attributes.now }
 {
     attributes
         .iter()
@@ -110,7 +112,8 @@ fn has_unknown(
     rank: &RawRank<'_>,
     attributes: &[Attribute<'_>],
 ) -> bool
-    ensures { result ≡ has_unknown v.now.sorts v.now.ops v.now.kinds earlier.now names.now rank.now attributes.now }
+    ensures { result ≡
+        has_unknown v.now.sorts v.now.ops v.now.kinds earlier.now names.now rank.now attributes.now }
 {
     has_unknown_sort(v, rank)
         || any_unknown_identity(v, attributes)
@@ -126,7 +129,8 @@ pub fn names_unknown(
     statement: &Statement<'_>,
 ) -> bool
     requires { names.now ≡ operators_in statement.now }
-    ensures { result ≡ names_unknown_after v.now.sorts v.now.ops v.now.kinds earlier.now statement.now }
+    ensures { result ≡
+        names_unknown_after v.now.sorts v.now.ops v.now.kinds earlier.now statement.now }
 {
     match statement {
         Statement::Subsorts { groups, .. } => any_missing_in(v.sorts(), groups.as_slice()),

@@ -49,7 +49,8 @@ impl VariableTable {
 
     /// The number of the sort of the variable with this name.
     pub fn find_sort(&self, name: &[u8]) -> Option<usize>
-        ensures { option_map sort_number result ≡ declared_sort self.now.sorts (place self.now.texts name.now) }
+        ensures { option_map sort_number result ≡
+            declared_sort self.now.sorts (place self.now.texts name.now) }
     {
         let i = self.texts.place(name)?;
         self.sorts.as_slice().get(i).copied()
@@ -57,7 +58,8 @@ impl VariableTable {
 
     // Declares a variable, where there is none with this name.
     fn insert(&mut self, alloc: Global, name: &[u8], sort: usize) -> Result<(), NoMemory>
-        ensures { OnOk result (self.new ≡ unless_declared self.old name.now (sort_number sort) (place self.old.texts name.now)) }
+        ensures { OnOk result (self.new ≡ unless_declared self.old name.now (sort_number sort)
+            (place self.old.texts name.now)) }
     {
         match self.texts.place(name) {
             Some(_) => Ok(()),

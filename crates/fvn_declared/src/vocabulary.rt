@@ -29,7 +29,11 @@ impl Model for Vocabulary {
 
     ghost Value = { Words };
 
-    ghost view = { λ v. record { sorts = v.sorts; ops = v.ops; kinds = map sort_number v.kinds.items } };
+    ghost view = { λ v. record {
+      sorts = v.sorts;
+      ops = v.ops;
+      kinds = map sort_number v.kinds.items;
+    } };
 }
 
 // The kind of a sort, in the list of all kinds.
@@ -70,7 +74,8 @@ impl Vocabulary {
 
     // The kind of the sort of a name.
     fn find_kind(&self, name: &[u8]) -> Option<usize>
-        ensures { option_map sort_number result ≡ kind_of self.now.kinds (sort_named self.now.sorts name.now) }
+        ensures { option_map sort_number result ≡
+            kind_of self.now.kinds (sort_named self.now.sorts name.now) }
     {
         let s = self.sorts.place(name)?;
         Some(kind_among(self.kinds.as_slice(), s))
@@ -114,7 +119,12 @@ impl Vocabulary {
 
     /// The names of the module with this name and these variables.
     pub fn into_names(self, module_name: Seq<u8>, variables: Variables) -> Names
-        ensures { result ≡ record { module_name = module_name; sorts = self.sorts; ops = self.ops; variables = variables } }
+        ensures { result ≡ record {
+          module_name = module_name;
+          sorts = self.sorts;
+          ops = self.ops;
+          variables = variables;
+        } }
     {
         Names {
             module_name,

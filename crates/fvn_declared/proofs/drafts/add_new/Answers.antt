@@ -1,5 +1,5 @@
 -- A declaration is added where its code is new.
-use Rattle.std.proofs.Common.{◌≡◌, ◌<◌, length, map, sym, ap, subst, ◌∙◌}
+use Rattle.std.proofs.Common.{◌≡◌, ◌<◌, length, map, sym, ap, subst, ◌∙◌, arith}
 use Rattle.std.specs.List.{All}
 use Rattle.fvn_drafts.specs.declared.collected.Collected.{Collected}
 use Rattle.fvn_syntax.specs.Texts.{place_or_end}
@@ -25,23 +25,23 @@ module _ (c : In_ok-place) where
 pub returns-then-place-count-clause-exact : goal.returns-then-place-count-clause-exact
 returns-then-place-count-clause-exact c =
     let d = (goal.at.returns-then-place-count-clause-exact c).In_ok-place in
-    one-there c.args.builder c.args.codes.now (declared c.args.op c.args.shape.now c.args.axioms) c.as_slice.result.now c.requires.codes (text_is d) (old_place d c.if-place-count.true) (known d)
+    one-there c.args.builder c.args.codes.now (declared c.args.op c.args.shape.now c.args.axioms) c.as_slice.result.now c.requires.codes (text_is d) (old_place d (λ e. omega (arith, c.if-place-count.true))) (known d)
 
 pub returns-then-place-count-clause-codes : goal.returns-then-place-count-clause-codes
 returns-then-place-count-clause-codes c =
     let d = (goal.at.returns-then-place-count-clause-codes c).In_ok-place in
     c.in_ok-place.ensures.texts
-    ∙ codes-there c.args.builder c.args.codes.now (declared c.args.op c.args.shape.now c.args.axioms) c.as_slice.result.now c.requires.codes (text_is d) (old_place d c.if-place-count.true)
+    ∙ codes-there c.args.builder c.args.codes.now (declared c.args.op c.args.shape.now c.args.axioms) c.as_slice.result.now c.requires.codes (text_is d) (old_place d (λ e. omega (arith, c.if-place-count.true)))
 
 pub returns-clause-exact : goal.returns-clause-exact
 returns-clause-exact c =
     let d = (goal.at.returns-clause-exact c).In_ok-place in
     rw c.in_ok-rank.ensures at c.in_ok-builder.ensures
-    ∙ one-new c.args.builder c.args.codes.now (declared c.args.op c.args.shape.now c.args.axioms) c.as_slice.result.now c.requires.codes (text_is d) (new_place d c.if-place-count.false)
+    ∙ one-new c.args.builder c.args.codes.now (declared c.args.op c.args.shape.now c.args.axioms) c.as_slice.result.now c.requires.codes (text_is d) (new_place d (omega (arith, c.if-place-count.false)))
 
 pub returns-clause-codes : goal.returns-clause-codes
 returns-clause-codes c =
     let d = (goal.at.returns-clause-codes c).In_ok-place in
     c.in_ok-place.ensures.texts
-    ∙ codes-new c.args.builder c.args.codes.now (declared c.args.op c.args.shape.now c.args.axioms) c.as_slice.result.now c.requires.codes (text_is d) (new_place d c.if-place-count.false)
+    ∙ codes-new c.args.builder c.args.codes.now (declared c.args.op c.args.shape.now c.args.axioms) c.as_slice.result.now c.requires.codes (text_is d) (new_place d (omega (arith, c.if-place-count.false)))
     ∙ ap (λ (b : Collected). map code b.declarations) (sym (rw c.in_ok-rank.ensures at c.in_ok-builder.ensures))
