@@ -7,15 +7,15 @@ use Rattle.fvn_syntax.specs.Pieces.{Text}
 use Rattle.fvn_syntax.specs.Texts.{place_or_end}
 use Rattle.fvn_statements.specs.declared.statement.Statement.{Statement}
 use Rattle.fvn_statements.specs.declared.statement.Statement.TheVariants.{Sorts, Subsorts, Operator, Operators, Variables, Equation}
-use Rattle.fvn_declared.specs.Names.{joined, name_text, sorts_of, operators_of}
-use Rattle.fvn_declared.specs.Order.{with_pairs}
+use Rattle.fvn_naming.specs.Names.{joined, name_text, sorts_of, operators_of}
+use Rattle.fvn_naming.specs.Order.{with_pairs}
 use Rattle.fvn_declared.specs.Operators.{with_statements}
 use Rattle.fvn_declared.specs.Module.{collected_in}
 use Rattle.fvn_declared.specs.declared.shapes.Shape.{Shape}
-use Rattle.fvn_declared.specs.inner.Vocabulary.{Vocabulary, vocabulary_of}
+use Rattle.fvn_naming.specs.Vocabulary.{Vocabulary, vocabulary_of}
 use Rattle.fvn_declared.specs.inner.Shapes.{shape_of}
 use Rattle.fvn_declared.specs.inner.Drafts.{Draft, with_name, with_names, with_operators, with_all_operators}
-use Rattle.fvn_declared.proofs.TextCounts.{length-with_text}
+use Rattle.fvn_naming.proofs.TextCounts.{length-with_text}
 use Rattle.fvn_declared.proofs.Drafted.{IsDrafted, statements, all-others, all-names, drafted-none}
 
 -- as many operators were collected as there are names

@@ -10,10 +10,10 @@ use Rattle.fvn_base.proofs.Membership.{contains_here, contains_later, contains_c
 use Rattle.fvn_forms.specs.SortOrder.{sort_number, same_sort}
 use Rattle.fvn_forms.proofs.SortTests.{same_sort-true, same_sort-self}
 use Rattle.fvn_drafts.specs.declared.collected.Collected.{Collected}
-use Rattle.fvn_declared.specs.Order.{same_pair, with_new, with_all, crossed}
+use Rattle.fvn_naming.specs.Order.{same_pair, with_new, with_all, crossed}
 use Rattle.fvn_declared.specs.inner.Pairs.{with_more, row}
-use Rattle.fvn_declared.proofs.NewLists.{with_all-append, with_all_contains}
-use Rattle.fvn_declared.proofs.Partitions.{same_pair-true}
+use Rattle.fvn_naming.proofs.NewLists.{with_all-append, with_all_contains}
+use Rattle.fvn_naming.proofs.Partitions.{same_pair-true}
 
 abbrev Pair : Type 0
 Pair = SortId × SortId

@@ -11,7 +11,7 @@ use Rattle.fvn_drafts.specs.declared.collected.Collected.{Collected}
 use Rattle.fvn_syntax.specs.Pieces.{Text}
 use Rattle.fvn_syntax.specs.Texts.{place, or_end, place_or_end, unless_at, with_text}
 use Rattle.fvn_syntax.proofs.TextLemmas.{place-below}
-use Rattle.fvn_declared.specs.Order.{with_new}
+use Rattle.fvn_naming.specs.Order.{with_new}
 use Rattle.fvn_declared.specs.Operators.{same_declaration}
 use Rattle.fvn_declared.specs.inner.Codes.{code}
 use Rattle.fvn_declared.specs.inner.Drafts.{with_one}

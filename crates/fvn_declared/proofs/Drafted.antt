@@ -15,15 +15,15 @@ use Rattle.fvn_statements.specs.declared.statement.Attribute.{Attribute}
 use Rattle.fvn_statements.specs.declared.statement.Statement.{Statement}
 use Rattle.fvn_statements.specs.declared.statement.Statement.TheVariants.{Sorts, Subsorts, Operator, Operators, Variables, Equation}
 use Rattle.fvn_statements.specs.LeftOut.{is_ditto}
-use Rattle.fvn_declared.specs.Names.{joined, name_text, operators_in, with_texts, with_names as with_all_names}
-use Rattle.fvn_declared.specs.Order.{with_new, with_all}
+use Rattle.fvn_naming.specs.Names.{joined, name_text, operators_in, with_texts, with_names as with_all_names}
+use Rattle.fvn_naming.specs.Order.{with_new, with_all}
 use Rattle.fvn_declared.specs.Operators.{same_declaration, or_else, or_free, nearest, axioms_of, declared_axioms, declaration_of, with_declarations, with_statement, with_statements}
 use Rattle.fvn_declared.specs.declared.shapes.Shape.{Shape}
-use Rattle.fvn_declared.specs.inner.Vocabulary.{Vocabulary}
+use Rattle.fvn_naming.specs.Vocabulary.{Vocabulary}
 use Rattle.fvn_declared.specs.inner.Shapes.{shape_of}
 use Rattle.fvn_declared.specs.inner.Drafts.{Draft, declared, axioms_in, with_name, with_names, with_operators, with_all_operators}
-use Rattle.fvn_declared.proofs.NewLists.{with_all-append}
-use Rattle.fvn_declared.proofs.TextCounts.{length-with_text, begins-texts, begins-names, placed}
+use Rattle.fvn_naming.proofs.NewLists.{with_all-append}
+use Rattle.fvn_naming.proofs.TextCounts.{length-with_text, begins-texts, begins-names, placed}
 
 -- the axioms of the nearest declaration, with one declaration more
 nearest-push : (f : OpId) (es : List Declaration) (d : Declaration) → nearest f (es ++ d ∷ []) ≡ cond (same_op d.op f) (Some d.axioms) (nearest f es)

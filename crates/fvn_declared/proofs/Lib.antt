@@ -1,20 +1,10 @@
 -- The lemmas of the crate.
-mod ClassLemmas
-mod Links
-mod JoinLemmas
-mod NewLists
-mod Partitions
-mod OrderLemmas
-mod KindNumbers
-mod Tested
 mod PairTables
 mod DistinctLists
 mod CodeLemmas
 mod DraftLemmas
-mod TextCounts
 mod RankLemmas
 mod Drafted
 mod Collecting
 mod NamedRanks
 mod LongRanks
-mod VariableSorts

@@ -15,8 +15,8 @@ use Rattle.fvn_statements.specs.declared.statement.RawRank.{RawRank}
 use Rattle.fvn_statements.specs.declared.statement.Attribute.{Attribute}
 use Rattle.fvn_statements.specs.declared.statement.Statement.{Statement}
 use Rattle.fvn_statements.specs.declared.statement.Statement.TheVariants.{Sorts, Subsorts, Operator, Operators, Variables, Equation}
-use Rattle.fvn_declared.specs.Names.{joined, name_text, sorts_of, operators_of}
-use Rattle.fvn_declared.specs.Order.{with_new, with_all}
+use Rattle.fvn_naming.specs.Names.{joined, name_text, sorts_of, operators_of}
+use Rattle.fvn_naming.specs.Order.{with_new, with_all}
 use Rattle.fvn_declared.specs.Operators.{same_declaration, rank_number, declaration_of, with_declarations, with_statement, with_statements, declarations_in}
 use Rattle.fvn_declared.specs.Module.{collected_in}
 use Rattle.fvn_declared.specs.inner.Shapes.{has_long_rank}

@@ -8,9 +8,9 @@ use Rattle.fvn_statements.specs.declared.statement.RawRank.{RawRank}
 use Rattle.fvn_statements.specs.declared.statement.Attribute.{Attribute}
 use Rattle.fvn_statements.specs.declared.statement.Statement.{Statement}
 use Rattle.fvn_statements.specs.declared.statement.Statement.TheVariants.{Sorts, Subsorts, Operator, Operators, Variables, Equation}
-use Rattle.fvn_declared.specs.Names.{operators_in, operators_of}
-use Rattle.fvn_declared.specs.Faults.{has_unknown_sort, is_unknown_identity, lacks_earlier, has_unknown, names_unknown, AreNamed, HasNames}
-use Rattle.fvn_declared.specs.inner.Vocabulary.{Vocabulary, vocabulary_of}
+use Rattle.fvn_naming.specs.Names.{operators_in, operators_of}
+use Rattle.fvn_naming.specs.Faults.{has_unknown_sort, is_unknown_identity, lacks_earlier, has_unknown, names_unknown, AreNamed, HasNames}
+use Rattle.fvn_naming.specs.Vocabulary.{Vocabulary, vocabulary_of}
 use Rattle.fvn_declared.specs.inner.Shapes.{HasRank}
 
 module _ (v : Vocabulary) where

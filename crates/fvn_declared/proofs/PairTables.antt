@@ -7,7 +7,7 @@ use Rattle.std.proofs.lemmas.List.Folds.{list_any-append}
 use Rattle.fvn_base.specs.declared.limits.TheConstants.{SORTS}
 use Rattle.fvn_forms.specs.SortOrder.{sort_number}
 use Rattle.fvn_drafts.specs.declared.collected.Collected.{Collected}
-use Rattle.fvn_declared.specs.Order.{same_pair}
+use Rattle.fvn_naming.specs.Order.{same_pair}
 use Rattle.fvn_declared.specs.inner.Pairs.{IsTableOf}
 
 or_false : (b : Bool) → b ≡ (b || false)

@@ -13,8 +13,8 @@ use Rattle.fvn_syntax.specs.declared.sorts.RawSort.TheVariants.{Name, Kind}
 use Rattle.fvn_syntax.proofs.TextLemmas.{place-below}
 use Rattle.fvn_statements.specs.declared.statement.RawRank.{RawRank}
 use Rattle.fvn_declared.specs.Operators.{rank_number, rank_of}
-use Rattle.fvn_declared.specs.Faults.{is_none, is_unknown_sort, has_unknown_sort}
-use Rattle.fvn_declared.specs.inner.Vocabulary.{Vocabulary}
+use Rattle.fvn_naming.specs.Faults.{is_none, is_unknown_sort, has_unknown_sort}
+use Rattle.fvn_naming.specs.Vocabulary.{Vocabulary}
 
 module _ (v : Vocabulary) where
   -- the place of a name that is known

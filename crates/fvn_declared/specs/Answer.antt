@@ -5,7 +5,7 @@ use Rattle.fvn_statements.specs.declared.form.Form.{Form}
 use Rattle.fvn_declared.specs.declared.declaring.Declared.{Declared}
 use Rattle.fvn_declared.specs.declared.declaring.Declared.TheVariants.{Fitting, TooLarge}
 use Rattle.fvn_declared.specs.Module.{names_alone, names_in, collected_in}
-use Rattle.fvn_declared.specs.Faults.{HasNames}
+use Rattle.fvn_naming.specs.Faults.{HasNames}
 
 -- No name is at fault, and this is declared: names and what a signature is made of, or, where that is more than a
 -- signature may have, the names of sorts and operators alone.

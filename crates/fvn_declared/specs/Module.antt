@@ -1,18 +1,13 @@
 -- What a module declares: its names, and what its signature is made of.
 use Rattle.std.specs.Prelude.{List, [], length}
-use Rattle.fvn_terms.specs.declared.plain.SortId.{SortId}
 use Rattle.fvn_drafts.specs.declared.collected.Collected.{Collected}
 use Rattle.fvn_syntax.specs.declared.names.Names.{Names}
 use Rattle.fvn_statements.specs.declared.statement.Statement.{Statement}
 use Rattle.fvn_statements.specs.declared.form.Form.{Form}
-use Rattle.fvn_declared.specs.Names.{sorts_of, operators_of}
-use Rattle.fvn_declared.specs.Order.{with_pairs, kinds_of}
+use Rattle.fvn_naming.specs.Names.{sorts_of, operators_of}
+use Rattle.fvn_naming.specs.Order.{with_pairs, kinds_in}
 use Rattle.fvn_declared.specs.Operators.{declarations_in}
-use Rattle.fvn_declared.specs.Variables.{no_variables, variables_of}
-
--- the kinds of the sorts that statements declare
-abbrev pub kinds_in : List Statement → List SortId
-kinds_in sts = kinds_of (sorts_of sts) sts
+use Rattle.fvn_naming.specs.Variables.{no_variables, variables_of}
 
 -- the sorts, their order and the operators that statements declare
 abbrev pub collected_in : List Statement → Collected

@@ -19,8 +19,8 @@ use Rattle.fvn_statements.specs.declared.statement.Attribute.TheVariants.{Comm, 
 use Rattle.fvn_statements.specs.declared.statement.Statement.{Statement}
 use Rattle.fvn_statements.specs.declared.statement.Statement.TheVariants.{Sorts, Subsorts, Operator, Operators, Variables, Equation}
 use Rattle.fvn_statements.specs.LeftOut.{is_assoc, is_comm, is_ditto}
-use Rattle.fvn_declared.specs.Names.{joined, name_text}
-use Rattle.fvn_declared.specs.Order.{with_all}
+use Rattle.fvn_naming.specs.Names.{joined, name_text}
+use Rattle.fvn_naming.specs.Order.{with_all}
 
 -- Sameness of declarations.
 

@@ -2,12 +2,12 @@
 ghost use Rattle.std.specs.Prelude.{◌≡◌, ◌≤◌, [], length, IfOk};
 ghost use Rattle.fvn_base.specs.declared.limits.TheConstants.{SORTS as MOST_SORTS, OPERATORS as MOST};
 ghost use Rattle.fvn_declared.specs.Module.{collected_in};
-ghost use Rattle.fvn_declared.specs.Faults.{HasNames};
-ghost use Rattle.fvn_declared.specs.inner.Vocabulary.{vocabulary_of};
+ghost use Rattle.fvn_naming.specs.Faults.{HasNames};
+ghost use Rattle.fvn_naming.specs.Vocabulary.{vocabulary_of};
 
 use crate::drafts::Draft;
 use crate::pairs::add_pairs;
-use crate::vocabulary::Vocabulary;
+use fvn_naming::Vocabulary;
 use fvn_sorts::SignatureBuilder;
 use fvn_statements::Statement;
 use fvn_terms::NoMemory;

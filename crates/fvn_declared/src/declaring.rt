@@ -1,21 +1,18 @@
 //! What the statements of a module declare.
 ghost use Rattle.std.specs.Prelude.{◌≡◌, ◌⊎◌, IfOk, IfErr};
 ghost use Rattle.fvn_sorts.specs.Faults.{IsTooLarge};
-ghost use Rattle.fvn_declared.specs.declared.fault.NameFault.TheVariants.{NoMemory as OutOfMemory};
-ghost use Rattle.fvn_declared.specs.Variables.{variables_of};
+ghost use Rattle.fvn_naming.specs.declared.fault.NameFault.TheVariants.{NoMemory as OutOfMemory};
+ghost use Rattle.fvn_naming.specs.Variables.{variables_of};
 ghost use Rattle.fvn_declared.specs.Module.{collected_in, names_alone};
 ghost use Rattle.fvn_declared.specs.Answer.{IsDeclared};
-ghost use Rattle.fvn_declared.specs.Faults.{HasNames, IsFirstFault};
-ghost use Rattle.fvn_declared.specs.inner.Ranges.{IsInRange};
-ghost use Rattle.fvn_declared.specs.inner.Vocabulary.{vocabulary_of};
+ghost use Rattle.fvn_naming.specs.Faults.{HasNames, IsFirstFault};
+ghost use Rattle.fvn_naming.specs.Ranges.{IsInRange};
+ghost use Rattle.fvn_naming.specs.Vocabulary.{vocabulary_of};
 
 use crate::building::build;
-use crate::fault::NameFault;
 use crate::sizes::is_too_large;
-use crate::testing::test_statements;
-use crate::variables::VariableTable;
-use crate::vocabulary::Vocabulary;
 use fvn_base::Seq;
+use fvn_naming::{NameFault, VariableTable, Vocabulary, test_statements};
 use fvn_sorts::SignatureBuilder;
 use fvn_statements::Form;
 use fvn_syntax::{Names, Texts, Variables};

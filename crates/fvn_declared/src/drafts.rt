@@ -3,19 +3,18 @@ ghost use Rattle.std.specs.Prelude.{◌≡◌, ◌<◌, ◌≤◌, false, [], ma
 ghost use Rattle.fvn_base.specs.declared.limits.TheConstants.{SORTS as MOST_SORTS, OPERATORS as MOST};
 ghost use Rattle.fvn_drafts.specs.Collected.{Names};
 ghost use Rattle.fvn_syntax.specs.Texts.{with_text};
-ghost use Rattle.fvn_declared.specs.Names.{operators_in, with_texts, with_names as with_all_names};
+ghost use Rattle.fvn_naming.specs.Names.{operators_in, with_texts, with_names as with_all_names};
 ghost use Rattle.fvn_declared.specs.Operators.{or_else, or_free};
-ghost use Rattle.fvn_declared.specs.Faults.{has_unknown_sort};
+ghost use Rattle.fvn_naming.specs.Faults.{has_unknown_sort};
 ghost use Rattle.fvn_declared.specs.inner.Shapes.{shape_of, HasRank};
 ghost use Rattle.fvn_declared.specs.inner.Drafts.{declared, with_one, with_name, with_names, with_operators, with_all_operators};
 ghost use Rattle.fvn_declared.specs.inner.Codes.{code};
 
 use crate::codes::declaration_code;
-use crate::names::{as_texts, operator_names};
 use crate::shapes::{Shape, shape_of};
-use crate::vocabulary::Vocabulary;
 use fvn_base::Seq;
 use fvn_base::limits::OPERATORS;
+use fvn_naming::{Vocabulary, as_texts, operator_names};
 use fvn_sorts::SignatureBuilder;
 use fvn_statements::{Attribute, RawRank, Statement};
 use fvn_syntax::{Text, Texts};

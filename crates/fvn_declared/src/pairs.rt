@@ -3,7 +3,7 @@ ghost use Rattle.std.specs.Prelude.{◌≡◌, ◌<◌, ◌≤◌, [], ◌∷◌
 ghost use Rattle.fvn_base.specs.declared.limits.TheConstants.{SORTS as MOST};
 ghost use Rattle.fvn_forms.specs.SortOrder.{sort_number, same_sort};
 ghost use Rattle.fvn_syntax.specs.Names.{sort_at};
-ghost use Rattle.fvn_declared.specs.Order.{
+ghost use Rattle.fvn_naming.specs.Order.{
   with_all,
   with_sort,
   crossed,

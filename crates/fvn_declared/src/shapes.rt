@@ -13,9 +13,8 @@ ghost use Rattle.std.specs.List.{list_any};
 ghost use Rattle.fvn_declared.specs.inner.Shapes.{own_axioms, shape_of};
 ghost use Rattle.fvn_syntax.specs.Texts.{place_or_end};
 
-use crate::unknown::has_ditto;
-use crate::vocabulary::Vocabulary;
 use fvn_base::Seq;
+use fvn_naming::{Vocabulary, has_ditto};
 use fvn_statements::{Attribute, RawRank};
 use fvn_syntax::{RawSort, Text, Texts};
 use fvn_terms::{Axioms, NoMemory, OpId, Rank, SortId};

@@ -4,10 +4,10 @@ ghost use Rattle.std.specs.List.{list_any};
 ghost use Rattle.fvn_sorts.specs.Faults.{IsTooLarge};
 ghost use Rattle.fvn_declared.specs.Module.{collected_in};
 ghost use Rattle.fvn_declared.specs.inner.Shapes.{has_long_rank};
-ghost use Rattle.fvn_declared.specs.inner.Vocabulary.{vocabulary_of};
+ghost use Rattle.fvn_naming.specs.Vocabulary.{vocabulary_of};
 
-use crate::vocabulary::Vocabulary;
 use fvn_base::limits::{ARGUMENTS, OPERATORS, SORTS};
+use fvn_naming::Vocabulary;
 use fvn_statements::Statement;
 
 // Whether a statement declares an operator with more arguments than one may have.

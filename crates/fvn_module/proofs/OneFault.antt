@@ -14,11 +14,11 @@ use Rattle.fvn_syntax.specs.Raw.{RawTerm}
 use Rattle.fvn_syntax.specs.Scope.{Scope}
 use Rattle.fvn_syntax.specs.Resolve.{Resolved, resolve}
 use Rattle.fvn_statements.specs.declared.statement.Statement.{Statement}
-use Rattle.fvn_declared.specs.declared.fault.NameFault.{NameFault}
-use Rattle.fvn_declared.specs.declared.fault.NameFault.TheVariants as name
-use Rattle.fvn_declared.specs.Names.{sorts_of, operators_of}
-use Rattle.fvn_declared.specs.Module.{kinds_in}
-use Rattle.fvn_declared.specs.Faults.{names_unknown, declares_twice, AreNamed, IsFirstAt, NamesUnknown, DeclaresTwice, IsFirstFault as IsFirstNameFault}
+use Rattle.fvn_naming.specs.declared.fault.NameFault.{NameFault}
+use Rattle.fvn_naming.specs.declared.fault.NameFault.TheVariants as name
+use Rattle.fvn_naming.specs.Names.{sorts_of, operators_of}
+use Rattle.fvn_naming.specs.Order.{kinds_in}
+use Rattle.fvn_naming.specs.Faults.{names_unknown, declares_twice, AreNamed, IsFirstAt, NamesUnknown, DeclaresTwice, IsFirstFault as IsFirstNameFault}
 use Rattle.fvn_module.specs.declared.sides.Sides.{Sides}
 use Rattle.fvn_module.specs.declared.equation.Equation.{Equation}
 use Rattle.fvn_module.specs.declared.fault.ModuleFault.{ModuleFault}

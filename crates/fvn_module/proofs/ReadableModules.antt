@@ -13,9 +13,10 @@ use Rattle.fvn_syntax.specs.Pieces.{Text}
 use Rattle.fvn_syntax.specs.Names.{arity_of}
 use Rattle.fvn_statements.specs.declared.form.Form.{Form}
 use Rattle.fvn_statements.specs.Forms.{IsFormOf}
-use Rattle.fvn_declared.specs.Names.{sorts_in, sorts_of, operators_in, operators_of}
-use Rattle.fvn_declared.specs.Module.{kinds_in, collected_in, names_in}
-use Rattle.fvn_declared.specs.Faults.{HasNames}
+use Rattle.fvn_naming.specs.Names.{sorts_in, sorts_of, operators_in, operators_of}
+use Rattle.fvn_naming.specs.Order.{kinds_in}
+use Rattle.fvn_declared.specs.Module.{collected_in, names_in}
+use Rattle.fvn_naming.specs.Faults.{HasNames}
 use Rattle.fvn_module.specs.declared.equation.Equation.{Equation}
 use Rattle.fvn_module.specs.Equations.{equations_in, AreEquationsOf}
 use Rattle.fvn_module.specs.ModuleText.{scope_in}

@@ -25,9 +25,10 @@ use Rattle.fvn_syntax.proofs.WellKinded.{well-kinded}
 use Rattle.fvn_statements.specs.declared.statement.Statement.{Statement}
 use Rattle.fvn_statements.specs.declared.statement.Statement.TheVariants as statement
 use Rattle.fvn_statements.specs.declared.form.Form.{Form}
-use Rattle.fvn_declared.specs.Names.{sorts_of, operators_of}
-use Rattle.fvn_declared.specs.Variables.{no_variables, unless_declared, with_variables, where_sorted, with_declared, with_all_declared}
-use Rattle.fvn_declared.specs.Module.{kinds_in, collected_in, names_alone, names_in}
+use Rattle.fvn_naming.specs.Names.{sorts_of, operators_of}
+use Rattle.fvn_naming.specs.Variables.{no_variables, unless_declared, with_variables, where_sorted, with_declared, with_all_declared}
+use Rattle.fvn_naming.specs.Order.{kinds_in}
+use Rattle.fvn_declared.specs.Module.{collected_in, names_alone, names_in}
 use Rattle.fvn_module.specs.Contents.{scope_of}
 use Rattle.fvn_module.specs.ModuleText.{scope_in}
 

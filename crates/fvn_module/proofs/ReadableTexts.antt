@@ -17,7 +17,7 @@ use Rattle.fvn_statements.specs.Words.{names_touch}
 use Rattle.fvn_statements.specs.Written.{IsSortName, IsName, IsWritten}
 use Rattle.fvn_statements.specs.Forms.{dotted, end, spell_frame, IsStatement, IsFormOf}
 use Rattle.fvn_module.proofs.Stops.{is_stop}
-use Rattle.fvn_declared.specs.Names.{joined, name_text, sorts_in, operators_in, sorts_of, operators_of}
+use Rattle.fvn_naming.specs.Names.{joined, name_text, sorts_in, operators_in, sorts_of, operators_of}
 use Rattle.fvn_module.specs.Readable.{IsWord, IsSortText}
 use Rattle.fvn_module.proofs.ReadableLists.{all-contains, with_names-all}
 use Rattle.fvn_module.proofs.ReadableWords.{IsToken, joined-word}

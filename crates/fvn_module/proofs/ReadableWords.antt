@@ -19,7 +19,7 @@ use Rattle.fvn_syntax.specs.Pieces.{Text, word, is_word_class, is_word}
 use Rattle.fvn_statements.specs.Words.{begins_with_underscore, ends_with_underscore, are_apart, touch_after, touch}
 use Rattle.fvn_statements.specs.Written.{NotEmpty}
 use Rattle.fvn_module.proofs.Stops.{is_stop}
-use Rattle.fvn_declared.specs.Names.{quoted, joined}
+use Rattle.fvn_naming.specs.Names.{quoted, joined}
 
 -- Bytes.
 

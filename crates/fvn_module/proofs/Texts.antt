@@ -15,7 +15,7 @@ use Rattle.fvn_syntax.specs.Scope.{IsNumbered}
 use Rattle.fvn_statements.specs.declared.form.Form.{Form}
 use Rattle.fvn_statements.specs.Forms.{IsFormOf}
 use Rattle.fvn_declared.specs.Module.{names_in}
-use Rattle.fvn_declared.specs.Names.{sorts_of, operators_of}
+use Rattle.fvn_naming.specs.Names.{sorts_of, operators_of}
 use Rattle.fvn_module.specs.declared.signing.Signed.{Signed}
 use Rattle.fvn_module.specs.declared.fault.ModuleFault.{ModuleFault}
 use Rattle.fvn_module.specs.declared.fault.ModuleFault.TheVariants.{Lex, NoMemory}

@@ -9,7 +9,7 @@ use Rattle.fvn_syntax.specs.Scope.{Scope}
 use Rattle.fvn_statements.specs.declared.form.Form.{Form}
 use Rattle.fvn_statements.specs.Forms.{IsFormOf}
 use Rattle.fvn_declared.specs.Module.{names_in, collected_in}
-use Rattle.fvn_declared.specs.Faults.{HasNames}
+use Rattle.fvn_naming.specs.Faults.{HasNames}
 use Rattle.fvn_module.specs.declared.fault.ModuleFault.{ModuleFault}
 use Rattle.fvn_module.specs.declared.fault.ModuleFault.TheVariants.{NoMemory}
 use Rattle.fvn_module.specs.Contents.{Contents, scope_of}

@@ -2,7 +2,7 @@
 ghost use Rattle.std.specs.Prelude.{◌≡◌, ◌⊎◌, IfOk, IfErr};
 ghost use Rattle.fvn_sorts.specs.Faults.{IsTooLarge};
 ghost use Rattle.fvn_module.specs.inner.Steps.{IsFinished, IsFinishRefused, IsSigned, IsSigningRefused};
-ghost use Rattle.fvn_declared.specs.Variables.{no_variables};
+ghost use Rattle.fvn_naming.specs.Variables.{no_variables};
 ghost use Rattle.fvn_syntax.specs.declared.names.Names.{Names};
 
 use crate::fault::ModuleFault;

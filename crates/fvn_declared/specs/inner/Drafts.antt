@@ -11,10 +11,10 @@ use Rattle.fvn_syntax.specs.Texts.{place_or_end, with_text}
 use Rattle.fvn_statements.specs.declared.statement.Statement.{Statement}
 use Rattle.fvn_statements.specs.declared.statement.Statement.TheVariants.{Sorts, Subsorts, Operator, Operators, Variables, Equation}
 use Rattle.fvn_declared.specs.declared.shapes.Shape.{Shape}
-use Rattle.fvn_declared.specs.Names.{joined, name_text}
-use Rattle.fvn_declared.specs.Order.{with_new}
+use Rattle.fvn_naming.specs.Names.{joined, name_text}
+use Rattle.fvn_naming.specs.Order.{with_new}
 use Rattle.fvn_declared.specs.Operators.{same_declaration, or_else, or_free}
-use Rattle.fvn_declared.specs.inner.Vocabulary.{Vocabulary}
+use Rattle.fvn_naming.specs.Vocabulary.{Vocabulary}
 use Rattle.fvn_declared.specs.inner.Shapes.{shape_of}
 use Rattle.fvn_declared.specs.inner.Codes.{code}
 

@@ -5,7 +5,7 @@ use Rattle.fvn_base.specs.declared.limits.TheConstants.{SORTS}
 use Rattle.fvn_terms.specs.declared.plain.SortId.{SortId}
 use Rattle.fvn_forms.specs.SortOrder.{sort_number}
 use Rattle.fvn_drafts.specs.declared.collected.Collected.{Collected}
-use Rattle.fvn_declared.specs.Order.{same_pair, with_all}
+use Rattle.fvn_naming.specs.Order.{same_pair, with_all}
 
 -- the table tells of each pair whether it is in the list
 pub record IsTableOf (known : List Bool) (c : Collected) : Type 0 where

@@ -9,9 +9,9 @@ use Rattle.fvn_statements.specs.declared.statement.Statement.{Statement}
 use Rattle.fvn_statements.specs.declared.statement.Statement.TheVariants.{Sorts, Subsorts, Operator, Operators, Variables, Equation}
 use Rattle.fvn_statements.specs.LeftOut.{is_ditto}
 use Rattle.fvn_declared.specs.Operators.{rank_of, axioms_of}
-use Rattle.fvn_declared.specs.Faults.{has_unknown_sort}
+use Rattle.fvn_naming.specs.Faults.{has_unknown_sort}
 use Rattle.fvn_declared.specs.declared.shapes.Shape.{Shape}
-use Rattle.fvn_declared.specs.inner.Vocabulary.{Vocabulary}
+use Rattle.fvn_naming.specs.Vocabulary.{Vocabulary}
 
 -- the axioms that attributes give, unless `ditto` is among them
 abbrev pub own_axioms : Vocabulary → List Attribute → Option Axioms

@@ -12,12 +12,12 @@ use Rattle.fvn_statements.specs.declared.statement.Statement.{Statement}
 use Rattle.fvn_statements.specs.declared.form.Form.{Form}
 use Rattle.fvn_statements.specs.declared.form.FormFault.TheVariants as form
 use Rattle.fvn_statements.specs.Forms.{IsFormOf, IsFirstFault as IsFirstFormFault}
-use Rattle.fvn_declared.specs.declared.fault.NameFault.TheVariants as name
+use Rattle.fvn_naming.specs.declared.fault.NameFault.TheVariants as name
 use Rattle.fvn_drafts.specs.declared.collected.Collected.{Collected}
 use Rattle.fvn_syntax.specs.declared.names.Names.{Names}
-use Rattle.fvn_declared.specs.Variables.{no_variables}
+use Rattle.fvn_naming.specs.Variables.{no_variables}
 use Rattle.fvn_declared.specs.Module.{names_in, names_alone, collected_in}
-use Rattle.fvn_declared.specs.Faults.{HasNames, IsFirstFault as IsFirstNameFault}
+use Rattle.fvn_naming.specs.Faults.{HasNames, IsFirstFault as IsFirstNameFault}
 use Rattle.fvn_module.specs.declared.signing.Signed.{Signed}
 use Rattle.fvn_module.specs.declared.equation.Equation.{Equation}
 use Rattle.fvn_module.specs.declared.sides.Sides.{Sides}

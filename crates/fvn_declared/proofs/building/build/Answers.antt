@@ -3,8 +3,8 @@ use Rattle.std.proofs.Common.{◌≤◌, List, [], length, replicate, None, refl
 use Rattle.std.specs.List.{All}
 use Rattle.fvn_base.specs.declared.limits.TheConstants.{OPERATORS}
 use Rattle.fvn_statements.specs.declared.statement.Statement.{Statement}
-use Rattle.fvn_declared.specs.Order.{with_pairs}
-use Rattle.fvn_declared.specs.inner.Vocabulary.{Vocabulary}
+use Rattle.fvn_naming.specs.Order.{with_pairs}
+use Rattle.fvn_naming.specs.Vocabulary.{Vocabulary}
 use Rattle.fvn_declared.specs.inner.Shapes.{HasRank}
 use Rattle.fvn_declared.specs.inner.Drafts.{Draft, with_all_operators}
 use Rattle.fvn_declared.proofs.NamedRanks.{named-ranks}

@@ -3,7 +3,7 @@ use Rattle.std.proofs.Common.{sym, subst, ◌∙◌}
 use Rattle.std.proofs.lemmas.Bool.{true≢false}
 use Rattle.fvn_sorts.specs.Faults.{IsTooLarge}
 use Rattle.fvn_declared.specs.Module.{collected_in}
-use Rattle.fvn_declared.specs.Faults.{HasNames}
+use Rattle.fvn_naming.specs.Faults.{HasNames}
 use Rattle.fvn_declared.proofs.declaring.declare.Goals as goal
 
 pub returns-then-is_too_large-clause-ok : goal.returns-then-is_too_large-clause-ok

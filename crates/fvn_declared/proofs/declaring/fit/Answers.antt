@@ -4,9 +4,9 @@ use Rattle.std.specs.List.{All}
 use Rattle.fvn_terms.specs.declared.plain.SortId.{SortId}
 use Rattle.fvn_base.specs.declared.limits.TheConstants.{SORTS, OPERATORS}
 use Rattle.fvn_syntax.specs.declared.names.Variables.{Variables}
-use Rattle.fvn_declared.specs.inner.Vocabulary.{Vocabulary}
+use Rattle.fvn_naming.specs.Vocabulary.{Vocabulary}
 use Rattle.fvn_declared.proofs.LongRanks.{few-sorts, few-operators}
-use Rattle.fvn_declared.proofs.VariableSorts.{variables-small}
+use Rattle.fvn_naming.proofs.VariableSorts.{variables-small}
 use Rattle.fvn_declared.proofs.declaring.fit.Goals as goal
 
 pub build-requires-clause-sorts : goal.build-requires-clause-sorts

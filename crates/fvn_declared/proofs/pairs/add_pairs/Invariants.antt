@@ -1,6 +1,6 @@
 -- The statements that are left have the other pairs.
 use Rattle.std.proofs.Common.{◌≡◌, [], drop}
-use Rattle.fvn_declared.specs.Order.{with_pairs}
+use Rattle.fvn_naming.specs.Order.{with_pairs}
 use Rattle.fvn_declared.proofs.pairs.add_pairs.Given as goal
 
 -- the statements that are left have the other pairs

@@ -1,9 +1,9 @@
 -- One more name is looked up.
 use Rattle.std.proofs.Common.{[], ◌∷◌, take, sym, ap, ◌∙◌}
 use Rattle.fvn_forms.specs.SortOrder.{same_sort}
-use Rattle.fvn_declared.specs.Order.{with_all, declared_among}
-use Rattle.fvn_declared.proofs.NewLists.{with_all-append}
-use Rattle.fvn_declared.proofs.OrderLemmas.{declared-more, distinct-below}
+use Rattle.fvn_naming.specs.Order.{with_all, declared_among}
+use Rattle.fvn_naming.proofs.NewLists.{with_all-append}
+use Rattle.fvn_naming.proofs.OrderLemmas.{declared-more, distinct-below}
 use Rattle.fvn_declared.proofs.pairs.distinct_sorts.Goals as goal
 
 pub loop-name-preserved : goal.loop-name-preserved

@@ -1,7 +1,7 @@
 -- The sorts of the first names, each once.
 use Rattle.std.proofs.Common.{◌≡◌, [], map, take}
 use Rattle.fvn_forms.specs.SortOrder.{sort_number, same_sort}
-use Rattle.fvn_declared.specs.Order.{with_all, declared_among}
+use Rattle.fvn_naming.specs.Order.{with_all, declared_among}
 use Rattle.fvn_declared.proofs.pairs.distinct_sorts.Given as goal
 
 -- the sorts of the first names, each once

@@ -1,8 +1,8 @@
 -- Where there are few sorts and operators the ranks decide.
 use Rattle.std.proofs.Common.{◌≡◌, ◌≤◌, length, ap, arith}
 use Rattle.fvn_base.specs.declared.limits.TheConstants.{SORTS, OPERATORS}
-use Rattle.fvn_declared.specs.Names.{sorts_of, operators_of}
-use Rattle.fvn_declared.specs.inner.Vocabulary.{Vocabulary}
+use Rattle.fvn_naming.specs.Names.{sorts_of, operators_of}
+use Rattle.fvn_naming.specs.Vocabulary.{Vocabulary}
 use Rattle.fvn_declared.proofs.LongRanks.{long-ranks-decide}
 use Rattle.fvn_declared.proofs.sizes.is_too_large.Goals as goal
 

@@ -5,7 +5,7 @@ use Rattle.fvn_base.specs.declared.limits.TheConstants.{OPERATORS}
 use Rattle.fvn_drafts.specs.declared.collected.Collected.{Collected}
 use Rattle.fvn_syntax.specs.Texts.{with_text}
 use Rattle.fvn_declared.specs.inner.Drafts.{Draft}
-use Rattle.fvn_declared.proofs.TextCounts.{length-with_text}
+use Rattle.fvn_naming.proofs.TextCounts.{length-with_text}
 use Rattle.fvn_declared.proofs.drafts.Draft.add.Goals as goal
 use Rattle.fvn_declared.proofs.drafts.Draft.add.Goals.{In_ok-place}
 

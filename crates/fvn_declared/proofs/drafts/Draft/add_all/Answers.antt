@@ -3,9 +3,9 @@ use Rattle.std.proofs.Common.{◌+◌, ◌∷◌, List, length, drop, sym, ap, �
 use Rattle.std.proofs.lemmas.List.{drop_more}
 use Rattle.fvn_drafts.specs.declared.collected.Collected.{Collected}
 use Rattle.fvn_statements.specs.declared.statement.Statement.{Statement}
-use Rattle.fvn_declared.specs.Names.{operators_in, with_texts, with_names}
+use Rattle.fvn_naming.specs.Names.{operators_in, with_texts, with_names}
 use Rattle.fvn_declared.specs.inner.Drafts.{Draft, with_all_operators}
-use Rattle.fvn_declared.proofs.TextCounts.{grown-names}
+use Rattle.fvn_naming.proofs.TextCounts.{grown-names}
 use Rattle.fvn_declared.proofs.Drafted.{statement-names, statement-others}
 use Rattle.fvn_declared.proofs.drafts.Draft.add_all.Goals as goal
 

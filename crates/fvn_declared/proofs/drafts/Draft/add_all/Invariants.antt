@@ -1,6 +1,6 @@
 -- The statements that are left declare the rest.
 use Rattle.std.proofs.Common.{◌≡◌, drop}
-use Rattle.fvn_declared.specs.Names.{operators_in, with_names}
+use Rattle.fvn_naming.specs.Names.{operators_in, with_names}
 use Rattle.fvn_declared.specs.inner.Drafts.{with_all_operators}
 use Rattle.fvn_declared.proofs.drafts.Draft.add_all.Given as goal
 

@@ -2,8 +2,8 @@
 use Rattle.std.proofs.Common.{◌+◌, ◌∷◌, length, drop, sym, ap, ◌∙◌, arith}
 use Rattle.std.proofs.lemmas.List.{drop_more}
 use Rattle.fvn_syntax.specs.Texts.{with_text}
-use Rattle.fvn_declared.specs.Names.{with_texts}
-use Rattle.fvn_declared.proofs.TextCounts.{grown-texts}
+use Rattle.fvn_naming.specs.Names.{with_texts}
+use Rattle.fvn_naming.proofs.TextCounts.{grown-texts}
 use Rattle.fvn_declared.proofs.drafts.Draft.add_names.Goals as goal
 
 pub add-requires-clause-few : goal.add-requires-clause-few

@@ -1,6 +1,6 @@
 -- The names that are left are still to be declared.
 use Rattle.std.proofs.Common.{◌≡◌, drop}
-use Rattle.fvn_declared.specs.Names.{with_texts}
+use Rattle.fvn_naming.specs.Names.{with_texts}
 use Rattle.fvn_declared.specs.inner.Drafts.{with_names}
 use Rattle.fvn_declared.proofs.drafts.Draft.add_names.Given as goal
 

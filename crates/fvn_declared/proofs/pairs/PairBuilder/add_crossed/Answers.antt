@@ -3,7 +3,7 @@ use Rattle.std.proofs.Common.{ℕ, ◌+◌, List, map, drop, get_or, sym, ap, �
 use Rattle.std.proofs.lemmas.List.{drop_more}
 use Rattle.fvn_terms.specs.declared.plain.SortId.{SortId}
 use Rattle.fvn_forms.specs.SortOrder.{sort_number}
-use Rattle.fvn_declared.specs.Order.{crossed}
+use Rattle.fvn_naming.specs.Order.{crossed}
 use Rattle.fvn_declared.specs.inner.Pairs.{with_more, row}
 use Rattle.fvn_declared.proofs.DistinctLists.{with_more-append}
 use Rattle.fvn_declared.proofs.pairs.PairBuilder.add_crossed.Goals as goal

@@ -1,7 +1,7 @@
 -- The sorts that are left are still to be put below.
 use Rattle.std.proofs.Common.{◌≡◌, map, drop}
 use Rattle.fvn_forms.specs.SortOrder.{sort_number}
-use Rattle.fvn_declared.specs.Order.{crossed}
+use Rattle.fvn_naming.specs.Order.{crossed}
 use Rattle.fvn_declared.specs.inner.Pairs.{with_more}
 use Rattle.fvn_declared.proofs.pairs.PairBuilder.add_crossed.Given as goal
 

@@ -2,9 +2,9 @@
 use Rattle.std.proofs.Common.{◌-◌, List, take, sym, ap, ◌∙◌, arith}
 use Rattle.std.proofs.lemmas.List.{get_or_read}
 use Rattle.fvn_syntax.specs.Pieces.{Text}
-use Rattle.fvn_declared.specs.Order.{declared_among, crossed, pairs_of_groups}
+use Rattle.fvn_naming.specs.Order.{declared_among, crossed, pairs_of_groups}
 use Rattle.fvn_declared.specs.inner.Pairs.{with_more}
-use Rattle.fvn_declared.proofs.OrderLemmas.{groups-more-at}
+use Rattle.fvn_naming.proofs.OrderLemmas.{groups-more-at}
 use Rattle.fvn_declared.proofs.DistinctLists.{with_more-append}
 use Rattle.fvn_declared.proofs.pairs.PairBuilder.add_neighbours.Goals as goal
 

@@ -1,6 +1,6 @@
 -- The pairs of the first groups are there.
 use Rattle.std.proofs.Common.{◌≡◌, take}
-use Rattle.fvn_declared.specs.Order.{pairs_of_groups}
+use Rattle.fvn_naming.specs.Order.{pairs_of_groups}
 use Rattle.fvn_declared.specs.inner.Pairs.{with_more}
 use Rattle.fvn_declared.proofs.pairs.PairBuilder.add_neighbours.Given as goal
 
