@@ -88,7 +88,8 @@ sort A . foo bar . => 3 2
 sort A:B . => 3 1
 sort A . subsort A . => 3 2
 sort A . subsort A < < A . => 3 2
-sort A . op f A -> A . => 3 2
+sort A . op f A -> A . => 8 2 name
+sort A . op : -> A . => 3 2
 sort A . var X Y A . => 3 2
 sort A . op a : -> A . eq a a [variant] . => 3 3
 sort A . op a : -> A . eq a = [variant] . => 3 3
