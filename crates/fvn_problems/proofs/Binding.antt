@@ -1,12 +1,10 @@
 -- What bindings bind is determined, and read from left to right.
-use Rattle.std.proofs.Common.{◌≡◌, ◌≢◌, ℕ, zero, suc, ◌+◌, ◌-◌, ◌^◌, ◌<◌, ◌≤◌, max, min, ◌⊎◌, inl, inr, Bool, true, false, IsTrue, List, [], ◌∷◌, ◌++◌, length, take, drop, map, get_or, Option, Some, None, Result, Ok, Err, refl, sym, ap, ◌∙◌, subst, arith}
-use Rattle.std.specs.Prelude.{◌↔◌, slice_get, All, Contains, AllPairs, if◌then◌else◌}
-use Rattle.std.specs.List.{AllByRecursion}
+use Rattle.std.proofs.Common.{◌≡◌, ◌≢◌, ℕ, suc, ◌+◌, ◌<◌, ◌≤◌, max, ◌⊎◌, inl, inr, List, [], ◌∷◌, ◌++◌, length, take, drop, get_or, Some, None, refl, sym, ap, ◌∙◌, subst, arith}
+use Rattle.std.specs.Prelude.{All, AllPairs}
 use Rattle.std.proofs.lemmas.Bool.{cases_lt}
 use Rattle.std.proofs.lemmas.List.{length-map, take_all}
 use Rattle.std.proofs.lemmas.List.Elements.{All-push, Contains-push, Contains-append_left}
 use Rattle.fvn_base.specs.declared.limits.TheConstants.{TERM_SYMBOLS}
-use Rattle.fvn_lex.specs.Cut.{Piece}
 use Rattle.fvn_terms.specs.declared.plain.Var.{Var}
 use Rattle.fvn_terms.specs.declared.plain.SortId.{SortId}
 use Rattle.fvn_terms.specs.declared.plain.Plain.{Plain}
@@ -21,21 +19,20 @@ use Rattle.fvn_syntax.specs.declared.fault.TermFault.TheVariants as term_fault
 use Rattle.fvn_syntax.specs.declared.seen.Seen.{Seen}
 use Rattle.fvn_syntax.specs.declared.seen.Kinded.{Kinded}
 use Rattle.fvn_syntax.specs.Pieces.{Text}
-use Rattle.fvn_syntax.specs.Raw.{RawTerm, spell, IsWritten}
+use Rattle.fvn_syntax.specs.Raw.{RawTerm}
 use Rattle.fvn_syntax.specs.Readings.{sum_or_most, IsReadAs, Reads, Refuses}
-use Rattle.fvn_syntax.specs.Resolve.{Resolved, resolve}
+use Rattle.fvn_syntax.specs.Resolve.{Resolved}
 use Rattle.fvn_syntax.specs.Scope.{Scope}
 use Rattle.fvn_problems.specs.declared.fault.ProblemFault.{ProblemFault}
-use Rattle.fvn_problems.specs.declared.fault.ProblemFault.TheVariants.{UnknownName, WrongKind, WrongSort, TooLarge, NoMemory}
+use Rattle.fvn_problems.specs.declared.fault.ProblemFault.TheVariants.{UnknownName, WrongKind, WrongSort, TooLarge}
 use Rattle.fvn_problems.specs.declared.problem.Problem.{Problem}
-use Rattle.fvn_problems.specs.declared.bindings.Bindings.{Bindings}
 use Rattle.fvn_problems.specs.declared.split.Halves.{Halves}
 use Rattle.fvn_problems.specs.Faults.{fault_of}
-use Rattle.fvn_problems.specs.Bindings.{written_variable, IsVariableOf, IsBindingOf, IsBindingFault, no_variable, in_term, other_kind, other_sort, AreBindingsOf, IsBindingsFault, IsLarge, AreBindings, IsFault, in_bindings, too_large}
+use Rattle.fvn_problems.specs.Bindings.{IsVariableOf, IsBindingOf, IsBindingFault, no_variable, in_term, other_kind, other_sort, AreBindingsOf, IsBindingsFault, in_bindings, too_large}
 use Rattle.fvn_problems.specs.Spelling.{RawPair, IsWrittenBinding}
 use Rattle.fvn_problems.specs.inner.Split.{halves_of}
 use Rattle.fvn_problems.specs.inner.Sorting.{HasLeastSort}
-use Rattle.fvn_problems.specs.inner.Bound.{IsBound, AreBound, Finds, IsBindingRead, ReadsBinding, RefusesBinding, AreBindingsRead, Binds, BindsNothing}
+use Rattle.fvn_problems.specs.inner.Bound.{IsBound, AreBound, Finds, ReadsBinding, RefusesBinding, AreBindingsRead, Binds, BindsNothing}
 use Rattle.fvn_problems.proofs.Pairs.{same-meaning, no-fault, sort-of, At, at}
 use Rattle.fvn_problems.proofs.Writing.{named, place-only}
 
@@ -117,15 +114,6 @@ module _ (c : Scope) (p : Problem) where
   module _ (list : List Halves) where
     abbrev pub BoundSoFar : ℕ → List (Var × Plain) → List Text → ℕ → Type 0
     BoundSoFar i pairs texts most = (raws : List RawPair) → AreBound list raws → AreBindingsRead c p (take i raws) pairs texts most
-
-    pub bound-none : (pairs : List (Var × Plain)) (texts : List Text) → pairs ≡ [] → texts ≡ p.names.texts → BoundSoFar 0 pairs texts 0
-    bound-none pairs texts e f raws of =
-        record {
-          true_pairs = [];
-          stand = sym f;
-          built = λ _. (e, λ k d l. absurd (omega arith));
-          large = λ l. absurd (omega arith);
-        }
 
     module _ (i : ℕ) (pairs : List (Var × Plain)) (texts : List Text) (most : ℕ) (h : Halves) (so : BoundSoFar i pairs texts most) (within : i < length list) (is : h ≡ get_or list i h) where
       bound : (raws : List RawPair) (q : At IsWrittenBinding raws i h) → IsBound h q.raw

@@ -1,5 +1,5 @@
 -- What pairs stand for is determined, and read from left to right.
-use Rattle.std.proofs.Common.{◌≡◌, ℕ, zero, suc, ◌+◌, ◌-◌, ◌^◌, ◌<◌, ◌≤◌, min, ◌⊎◌, inl, inr, List, [], ◌∷◌, ◌++◌, length, take, drop, map, get_or, refl, sym, ap, ◌∙◌, subst, arith}
+use Rattle.std.proofs.Common.{◌≡◌, ℕ, zero, suc, ◌+◌, ◌-◌, ◌^◌, ◌<◌, ◌≤◌, ◌⊎◌, inl, inr, List, [], ◌∷◌, ◌++◌, length, take, drop, map, get_or, refl, sym, ap, ◌∙◌, subst, arith}
 use Rattle.std.specs.Prelude.{Result, Ok, Err}
 use Rattle.std.specs.List.{AllByRecursion}
 use Rattle.std.proofs.lemmas.List.{length-map, take_all}
@@ -184,15 +184,6 @@ module _ (c : Scope) (list : List Halves) where
   abbrev pub ReadSoFar : ℕ → List (Plain × Plain) → Seen → Type 0
   ReadSoFar i pairs seen = (raws : List RawPair) → AreOf list raws → ArePairsRead c (take i raws) pairs seen
 
-  pub none-so-far : (pairs : List (Plain × Plain)) (seen : Seen) → pairs ≡ [] → seen.texts ≡ [] → seen.count ≡ 0 → ReadSoFar 0 pairs seen
-  none-so-far pairs seen p t n raws of =
-      record {
-        true_pairs = [];
-        stand = sym t;
-        count = n;
-        built = λ _. p;
-      }
-
   module _ (i : ℕ) (pairs : List (Plain × Plain)) (seen : Seen) (h : Halves) (so : ReadSoFar i pairs seen) (within : i < length list) (is : h ≡ get_or list i h) where
     next-read : (read : (Plain × Plain) × Seen) → ReadsPair c seen h read → ReadSoFar (suc i) (pairs ++ (read.0 ∷ [])) read.1
     next-read read a raws of =
@@ -224,12 +215,3 @@ module _ (c : Scope) (list : List Halves) where
         let p = at IsWrittenPair list raws i h of.written of.are within is in
         let b = so raws of in
         subst (λ rs. IsPairsFault c [] rs f) (sym p.whole) (fault-more c [] (take i raws) b.true_pairs seen.texts p.raw (drop (suc i) raws) f b.stand (g p.raw (at-of raws i h p))))
-
-  length-raws : (raws : List RawPair) → AreOf list raws → length raws ≡ length list
-  length-raws raws of = sym (ap length of.are ∙ length-map raws halves_of)
-
-  pub all-read : (i : ℕ) (pairs : List (Plain × Plain)) (seen : Seen) → ReadSoFar i pairs seen → length list ≤ i → ReadsPairs c list (pairs, seen)
-  all-read i pairs seen so l raws of =
-      let n = length-raws raws of in
-      let e : take i raws ≡ raws = take_all i raws (omega arith) in
-      subst (λ rs. ArePairsRead c rs pairs seen) e (so raws of)

@@ -1,5 +1,5 @@
 -- What a problem asks is determined.
-use Rattle.std.proofs.Common.{◌≡◌, ℕ, zero, suc, ◌+◌, ◌<◌, ◌≤◌, ◌⊎◌, inl, inr, List, [], ◌∷◌, ◌++◌, length, get_or, Some, Result, Ok, Err, refl, sym, ap, ◌∙◌, subst, arith}
+use Rattle.std.proofs.Common.{◌≡◌, zero, suc, ◌<◌, ◌≤◌, ◌⊎◌, inl, inr, List, [], ◌∷◌, Some, Result, refl, sym, ap, ◌∙◌, subst, arith}
 use Rattle.std.specs.Prelude.{IfOk, IfErr, All, map}
 use Rattle.std.specs.List.{AllByRecursion}
 use Rattle.std.proofs.lemmas.List.{append-nil}
@@ -23,14 +23,14 @@ use Rattle.fvn_problems.specs.declared.fault.ProblemFault.TheVariants.{Text as N
 use Rattle.fvn_problems.specs.declared.problem.Problem.{Problem}
 use Rattle.fvn_problems.specs.declared.split.Halves.{Halves}
 use Rattle.fvn_problems.specs.Faults.{fault_of}
-use Rattle.fvn_problems.specs.Problems.{symbols_of, AreOfOneKind, IsPairOf, ArePairsOf, IsPairsFault, IsProblemOf, IsProblemFault, in_pairs, too_large, IsProblem, IsOnlyProblem, RefusesProblem, HasNoProblem, HasVariables}
+use Rattle.fvn_problems.specs.Problems.{symbols_of, AreOfOneKind, IsPairOf, ArePairsOf, IsProblemOf, IsProblemFault, in_pairs, too_large, IsProblem, IsOnlyProblem, RefusesProblem, HasNoProblem, HasVariables}
 use Rattle.fvn_problems.specs.Scopes.{guarded, AreNamesOf}
 use Rattle.fvn_problems.specs.Spelling.{RawPair, RawProblem, pairs_in, spell_problem, IsWrittenPair, IsProblemText}
-use Rattle.fvn_problems.specs.Variables.{with_sides, OccursInSides, IsNamed}
+use Rattle.fvn_problems.specs.Variables.{with_sides, OccursInSides}
 use Rattle.fvn_problems.specs.inner.Split.{halves_of, AreTerms, IsProblemRow, IsProblemSplit}
-use Rattle.fvn_problems.specs.inner.Steps.{MemoryOr, AreOf, ArePairsRead, ReadsPairs, RefusesPairs, Asks, AsksNothing}
+use Rattle.fvn_problems.specs.inner.Steps.{MemoryOr, AreOf, ReadsPairs, RefusesPairs, Asks, AsksNothing}
 use Rattle.fvn_problems.proofs.Answering.{on-ok, on-err, first-written, refuted, IsOfText, fault_of-text}
-use Rattle.fvn_problems.proofs.Named.{IsOld, Grown, grown-ok, grown-both, grown-same, old-later, sort-known}
+use Rattle.fvn_problems.proofs.Named.{Grown, grown-ok, grown-both, grown-same, sort-known}
 use Rattle.fvn_problems.proofs.Occurring.{Lists, lists-sides, lists-nothing, alone-listed}
 use Rattle.fvn_problems.proofs.Pairs.{pairs-same, pairs-faultless}
 use Rattle.fvn_problems.proofs.Spelled.{ends-nil, problems-once}
@@ -162,21 +162,12 @@ module _ (d : Declarations) (names : Names) (bytes : Text) where
       }
 
   module _ (row : List Piece) (cut : pieces_of bytes ≡ Some row) where
-    pub problem-no-form : ((p : RawProblem) → IsProblemRow row p → ⊥) → RefusesProblem d names bytes NoText
-    problem-no-form n = (
-      (row, cut),
-      λ raw t. n raw (record { written = t.written; spelled = (let f : Some row ≡ Some (spell_problem raw) = sym cut ∙ t.spelled in cc) }),
-    )
-
     module _ (list : List Halves) (split : IsProblemSplit row list) where
       in-text : IsProblemText bytes split.raw
       in-text = record { written = split.is.written; spelled = cut ∙ ap Some split.is.spelled }
 
       in-list : AreOf list (pairs_in split.raw)
       in-list = record { written = split.is.written; are = split.halves }
-
-      pub problem-ok : (r : Result Problem ProblemFault) → IfOk r (Asks (guarded d names) list) → IfOk r (IsProblem d names bytes)
-      problem-ok = on-ok (Asks (guarded d names) list) (IsProblem d names bytes) (λ p a. record { raw = split.raw; text = in-text; asked = a split.raw in-list })
 
       fault-of : (f : ProblemFault) → (f ≡ NoMemory) ⊎ IsProblemFault (guarded d names) split.raw f → RefusesProblem d names bytes f
       fault-of f (inl e) = subst (RefusesProblem d names bytes) (sym e) tt

@@ -1,5 +1,5 @@
 -- The walk over the pieces of a term gives its least sort.
-use Rattle.std.proofs.Common.{◌≡◌, ℕ, ◌≤◌, Bool, true, false, List, [], ◌∷◌, ◌++◌, map, length, Option, Some, None, Result, Ok, Err, refl, sym, ap, ◌∙◌, subst, append_assoc, arith}
+use Rattle.std.proofs.Common.{◌≡◌, ◌≤◌, Bool, true, false, List, [], ◌∷◌, ◌++◌, map, length, Option, Some, None, Result, Ok, Err, refl, sym, ap, ◌∙◌, subst, append_assoc, arith}
 use Rattle.std.specs.Prelude.{◌&&◌, if◌then◌else◌, codes}
 use Rattle.std.proofs.lemmas.List.{append-nil}
 use Rattle.fvn_lex.specs.Cut.{Piece}
@@ -7,7 +7,7 @@ use Rattle.fvn_terms.specs.declared.plain.OpId.{OpId}
 use Rattle.fvn_terms.specs.declared.plain.SortId.{SortId}
 use Rattle.fvn_terms.specs.declared.plain.Plain.{Plain}
 use Rattle.fvn_terms.specs.declared.declarations.Declarations.{Declarations}
-use Rattle.fvn_terms.specs.Plain.{term, terms}
+use Rattle.fvn_terms.specs.Plain.{term}
 use Rattle.fvn_terms.specs.Signature.{kind, axioms, HasKind, IsTerm}
 use Rattle.fvn_terms.specs.Sorts.{IsLeastSort}
 use Rattle.fvn_forms.specs.Good.{IsGood}

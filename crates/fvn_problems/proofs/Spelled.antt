@@ -1,9 +1,9 @@
 -- Terms and pairs that are spelled alike are one.
 use Rattle.std.proofs.Common.{◌≡◌, Bool, true, false, List, [], ◌∷◌, ◌++◌, refl, sym, ap, ◌∙◌, subst, append_assoc}
-use Rattle.std.specs.Prelude.{codes, if◌then◌else◌}
+use Rattle.std.specs.Prelude.{codes}
 use Rattle.std.specs.List.{AllByRecursion}
 use Rattle.fvn_lex.specs.Cut.{Piece}
-use Rattle.fvn_syntax.specs.Pieces.{Text, word, left_paren, right_paren, left_bracket, right_bracket, left_brace, right_brace, comma, dot, is_special, is_name, is_dot, is_colon_name}
+use Rattle.fvn_syntax.specs.Pieces.{Text, word, left_paren, right_paren, left_bracket, right_brace, comma, dot, is_special, is_dot, is_colon_name}
 use Rattle.fvn_syntax.specs.Raw.{RawTerm, RawTerms, name, call, round, kind_variable, last, and, spell, spell_all, spell_others, IsWritten, AreWritten, BeginsNot, EndsBefore}
 use Rattle.fvn_problems.specs.Spelling.{ending, RawQuery, RawPair, RawProblem, spell_query, spell_pair, spell_further, spell_pairs, spell_problem, spell_bindings, pairs_in, equals, goes_to, conjunction, IsWrittenPair, IsWrittenBinding}
 use Rattle.fvn_problems.specs.inner.Split.{IsBetween, Closes}

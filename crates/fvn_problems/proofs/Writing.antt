@@ -1,20 +1,18 @@
 -- The variables that are written before arrows.
-use Rattle.std.proofs.Common.{◌≡◌, ◌≢◌, ℕ, zero, suc, ◌+◌, ◌-◌, ◌*◌, ◌/◌, ◌%◌, ◌<◌, ◌≤◌, ◌⊎◌, inl, inr, Bool, true, false, IsTrue, List, [], ◌∷◌, ◌++◌, length, take, drop, map, get_or, min, Option, Some, None, Result, Ok, Err, refl, sym, ap, ◌∙◌, subst, arith}
-use Rattle.std.specs.Prelude.{◌&&◌, ◌||◌, ◌↔◌, cond, not, nat_eq, if◌then◌else◌, slice_get, Contains, AllPairs, IfSome, IfNone}
-use Rattle.std.specs.List.{AllByRecursion, position_from, list_any}
+use Rattle.std.proofs.Common.{◌≡◌, ◌≢◌, ℕ, zero, suc, ◌+◌, ◌-◌, ◌<◌, ◌≤◌, inl, inr, Bool, true, false, List, [], ◌∷◌, ◌++◌, take, Option, Some, None, Result, Ok, Err, refl, sym, ap, ◌∙◌, subst, arith}
+use Rattle.std.specs.Prelude.{◌&&◌, ◌||◌, cond, not, nat_eq, slice_get, Contains, AllPairs, IfSome, IfNone}
+use Rattle.std.specs.List.{position_from, list_any}
 use Rattle.std.specs.Str.{bytes_eq}
 use Rattle.std.proofs.lemmas.Bool.{eqb-true, eq-eqb, cases_order}
 use Rattle.std.proofs.lemmas.Option.{get_or_from_slice_get, slice_get_within}
-use Rattle.std.proofs.lemmas.List.{length-map, get_or_default, take_more}
+use Rattle.std.proofs.lemmas.List.{take_more}
 use Rattle.fvn_base.proofs.Membership.{contains_cases, contains_none}
 use Rattle.fvn_lex.specs.Cut.{Piece}
 use Rattle.fvn_terms.specs.declared.plain.Var.{Var}
 use Rattle.fvn_terms.specs.declared.plain.SortId.{SortId}
-use Rattle.fvn_terms.specs.declared.plain.Plain.{Plain}
 use Rattle.fvn_terms.specs.declared.declarations.Declarations.{Declarations}
 use Rattle.fvn_terms.specs.Term.{nodes}
 use Rattle.fvn_terms.specs.Plain.{term}
-use Rattle.fvn_terms.specs.Signature.{kind}
 use Rattle.fvn_syntax.specs.declared.fault.TermFault.{TermFault}
 use Rattle.fvn_syntax.specs.declared.naming.Meaning.{Meaning}
 use Rattle.fvn_syntax.specs.declared.naming.Meaning.TheVariants.{Constant, Variable}
@@ -23,14 +21,13 @@ use Rattle.fvn_syntax.specs.declared.seen.Seen.{Seen}
 use Rattle.fvn_syntax.specs.declared.seen.Kinded.{Kinded}
 use Rattle.fvn_syntax.specs.Names.{resolve_name, of_sort, bracket}
 use Rattle.fvn_syntax.specs.Pieces.{Text, without_last}
-use Rattle.fvn_syntax.specs.Raw.{RawTerm, name, call, round, kind_variable, spell, IsWritten}
-use Rattle.fvn_syntax.specs.Readings.{sum_or_most, IsReadAs, Reads, Refuses}
+use Rattle.fvn_syntax.specs.Raw.{RawTerm, name, call, round, kind_variable}
+use Rattle.fvn_syntax.specs.Readings.{sum_or_most, Reads, Refuses}
 use Rattle.fvn_syntax.specs.Resolve.{Resolved, resolve, resolve_meaning, resolve_kind}
-use Rattle.fvn_syntax.specs.Scope.{Scope}
 use Rattle.fvn_syntax.specs.Texts.{place, unless_at, with_text}
 use Rattle.fvn_syntax.proofs.PieceLemmas.{bytes_eq-refl, bytes_eq-is}
 use Rattle.fvn_problems.specs.declared.problem.Problem.{Problem}
-use Rattle.fvn_problems.specs.Bindings.{variable_of, written_variable, IsVariableOf}
+use Rattle.fvn_problems.specs.Bindings.{variable_of, written_variable}
 use Rattle.fvn_problems.specs.Scopes.{unguarded}
 use Rattle.fvn_problems.specs.Spelling.{IsAlone}
 use Rattle.fvn_problems.specs.inner.Bound.{text_and_sort, Writes, is_named, IsTheVariable, Finds}
