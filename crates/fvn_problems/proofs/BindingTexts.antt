@@ -24,7 +24,7 @@ use Rattle.fvn_problems.specs.declared.split.Halves.{Halves}
 use Rattle.fvn_problems.specs.Bindings.{BindsOnce, AreOneVariable, IsVariableOf, IsBindingFault, no_variable, in_term, other_kind, other_sort, AreBindingsOf, IsBindingsFault, AreBindings, IsFault, in_bindings, too_large, IsText, IsBindings, IsOnlyBindings, RefusesBindings, HasNoBindings, AreOfProblem, AreDistinct, AreNotFresh}
 use Rattle.fvn_problems.specs.Scopes.{unguarded, AreNamesOf}
 use Rattle.fvn_problems.specs.Spelling.{RawPair, spell_bindings, IsBindingText}
-use Rattle.fvn_problems.specs.inner.Split.{AreTerms, IsBindingRow, IsBindingSplit}
+use Rattle.fvn_problems.specs.inner.Split.{AreTerms, IsBindingSplit}
 use Rattle.fvn_problems.specs.inner.Bound.{AreBound, TellsOnce, Binds, BindsNothing}
 use Rattle.fvn_problems.proofs.Answering.{on-ok, on-err, first-written, refuted, IsOfText, fault_of-text}
 use Rattle.fvn_problems.proofs.Binding.{bindings-same, bindings-faultless}
@@ -63,7 +63,7 @@ module _ (c : Scope) (p : Problem) where
     bound-once b e u v = ap make (bindings-same c p distinct p.names.texts raws b.subst.pairs e.subst.pairs u.names v.names u.pairs v.pairs).0
 
     bound-faultless : (b : Bindings) (f : ProblemFault) → AreBindings c p raws b → IsFault c p raws f → ⊥
-    bound-faultless b f u (in_bindings h) = bindings-faultless c p distinct p.names.texts raws b.subst.pairs u.names f u.pairs h
+    bound-faultless b f u (in_bindings h) = bindings-faultless c p p.names.texts raws b.subst.pairs u.names f u.pairs h
     bound-faultless b f u (too_large bs after h l is) =
         let e = (bindings-same c p distinct p.names.texts raws b.subst.pairs bs u.names after u.pairs h).0 in
         let c : Contains b.subst.pairs l.0 = subst (λ ps. Contains ps l.0) (sym e) l.1.0 in
@@ -145,7 +145,7 @@ module _ (d : Declarations) (names : Names) (p : Problem) (fit : AreNamesOf d na
     go false e later = later
 
 module _ (d : Declarations) (names : Names) (p : Problem) (bytes : Text) where
-  text-once : (q r : List RawPair) → IsText d names p bytes q → IsText d names p bytes r → q ≡ r
+  pub text-once : (q r : List RawPair) → IsText d names p bytes q → IsText d names p bytes r → q ≡ r
   text-once q r a b =
       let e : spell_bindings q ≡ spell_bindings r = (let f : Some (spell_bindings q) ≡ Some (spell_bindings r) = sym (a.0).spelled ∙ (b.0).spelled in cc) in
       bindings-once q r (a.0).written (b.0).written e

@@ -18,6 +18,7 @@ use Rattle.fvn_syntax.specs.Laws.{TermsAreWellKinded}
 use Rattle.fvn_syntax.specs.Pieces.{Text}
 use Rattle.fvn_syntax.specs.Raw.{RawTerm, spell, IsWritten, IsTermBefore}
 use Rattle.fvn_syntax.specs.Scope.{Scope}
+use Rattle.fvn_syntax.proofs.SpelledOnce.{ends-nil}
 use Rattle.fvn_problems.specs.declared.fault.ProblemFault.{ProblemFault}
 use Rattle.fvn_problems.specs.declared.fault.ProblemFault.TheVariants.{Text as NoText, TooLarge, NoMemory}
 use Rattle.fvn_problems.specs.declared.problem.Problem.{Problem}
@@ -33,7 +34,7 @@ use Rattle.fvn_problems.proofs.Answering.{on-ok, on-err, first-written, refuted,
 use Rattle.fvn_problems.proofs.Named.{Grown, grown-ok, grown-both, grown-same, sort-known}
 use Rattle.fvn_problems.proofs.Occurring.{Lists, lists-sides, lists-nothing, alone-listed}
 use Rattle.fvn_problems.proofs.Pairs.{pairs-same, pairs-faultless}
-use Rattle.fvn_problems.proofs.Spelled.{ends-nil, problems-once}
+use Rattle.fvn_problems.proofs.Spelled.{problems-once}
 
 abbrev pub make : List (Plain × Plain) → List Var → List Text → Problem
 make ps vars texts = record { pairs = ps; vars = vars; names = record { texts = texts } }
@@ -125,7 +126,7 @@ side-sorted d x (p ∷ ps) a (inl (inr o)) = sort-known d x (term p.1) a.0.0 a.0
 side-sorted d x (p ∷ ps) a (inr o) = side-sorted d x ps a.1 o
 
 module _ (d : Declarations) (names : Names) (bytes : Text) where
-  text-once : (q r : RawProblem) → IsProblemText bytes q → IsProblemText bytes r → q ≡ r
+  pub text-once : (q r : RawProblem) → IsProblemText bytes q → IsProblemText bytes r → q ≡ r
   text-once q r a b =
       let e : spell_problem q ≡ spell_problem r = (let f : Some (spell_problem q) ≡ Some (spell_problem r) = sym a.spelled ∙ b.spelled in cc) in
       problems-once q r a.written b.written e

@@ -22,6 +22,7 @@ use Rattle.fvn_syntax.specs.Pieces.{Text}
 use Rattle.fvn_syntax.specs.Raw.{spell, IsTermBefore}
 use Rattle.fvn_syntax.specs.Resolve.{resolve}
 use Rattle.fvn_syntax.specs.Scope.{Scope}
+use Rattle.fvn_syntax.proofs.SpelledOnce.{ends-nil}
 use Rattle.fvn_problems.specs.declared.fault.ProblemFault.{ProblemFault}
 use Rattle.fvn_problems.specs.declared.fault.ProblemFault.TheVariants.{Text as NoText, TooLarge, NoMemory}
 use Rattle.fvn_problems.specs.declared.query.Query.{Query}
@@ -36,7 +37,7 @@ use Rattle.fvn_problems.proofs.Answering.{on-ok, on-err, first-written, refuted,
 use Rattle.fvn_problems.proofs.Named.{grown-ok, sort-known}
 use Rattle.fvn_problems.proofs.Occurring.{Lists, lists-term, lists-nothing, alone-listed}
 use Rattle.fvn_problems.proofs.Pairs.{same-meaning, no-fault}
-use Rattle.fvn_problems.proofs.Spelled.{ends-nil, queries-once}
+use Rattle.fvn_problems.proofs.Spelled.{queries-once}
 
 abbrev pub make : Plain → List Var → List Text → Query
 make t vars texts = record { term = t; vars = vars; names = record { texts = texts } }
@@ -64,7 +65,7 @@ module _ (c : Scope) (raw : RawQuery) where
   of-text f (too_large r h large is) = subst IsOfText (sym is) tt
 
 module _ (d : Declarations) (names : Names) (bytes : Text) where
-  text-once : (q r : RawQuery) → IsQueryText bytes q → IsQueryText bytes r → q ≡ r
+  pub text-once : (q r : RawQuery) → IsQueryText bytes q → IsQueryText bytes r → q ≡ r
   text-once q r a b =
       let e : spell_query q ≡ spell_query r = (let f : Some (spell_query q) ≡ Some (spell_query r) = sym a.spelled ∙ b.spelled in cc) in
       queries-once q r a.written b.written e

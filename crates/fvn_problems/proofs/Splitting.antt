@@ -5,10 +5,11 @@ use Rattle.std.proofs.lemmas.List.{append-nil, take-append-drop, append_cancel_r
 use Rattle.fvn_lex.specs.Cut.{Piece}
 use Rattle.fvn_syntax.specs.Pieces.{Text, word}
 use Rattle.fvn_syntax.specs.Raw.{spell, EndsBefore, IsTermBefore, BeginsWithNoTerm}
+use Rattle.fvn_syntax.proofs.SpelledOnce.{tail, once, ends-before}
 use Rattle.fvn_problems.specs.declared.split.Halves.{Halves}
 use Rattle.fvn_problems.specs.Spelling.{RawPair, spell_pair, spell_further, IsWrittenPair}
 use Rattle.fvn_problems.specs.inner.Split.{BeginsNotWith, IsBetween, Closes, IsTermSplit, halves_of, IsPairSplit, BeginsWithNoPair, IsFront, Decides, ArePairsSplit, BeginsWithNoPairs}
-use Rattle.fvn_problems.proofs.Spelled.{tail, once, ends-before, pair-rest, pair-once, further-ends, further-rest}
+use Rattle.fvn_problems.proofs.Spelled.{pair-rest, pair-once, further-ends, further-rest}
 
 abbrev pub halves : List Piece → List Piece → Halves
 halves l r = record { left = l; right = r }

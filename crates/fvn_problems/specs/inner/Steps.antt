@@ -86,9 +86,11 @@ module _ (c : Scope) where
     pub count : seen.count ≡ sum_or_most 0 (symbols_of true_pairs)
     pub built : seen.count ≤ TEXT_SYMBOLS → pairs ≡ true_pairs
 
+  -- all written pairs of these halves stand for what was read
   abbrev pub ReadsPairs : List Halves → List (Plain × Plain) × Seen → Type 0
   ReadsPairs list read = (raws : List RawPair) → AreOf list raws → ArePairsRead raws read.0 read.1
 
+  -- all written pairs of these halves have this first fault
   abbrev pub RefusesPairs : List Halves → TermFault → Type 0
   RefusesPairs list fault = (raws : List RawPair) → AreOf list raws → IsPairsFault c [] raws fault
 
