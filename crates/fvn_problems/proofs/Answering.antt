@@ -9,7 +9,6 @@ use Rattle.fvn_syntax.specs.Pieces.{Text}
 use Rattle.fvn_problems.specs.declared.fault.ProblemFault.{ProblemFault}
 use Rattle.fvn_problems.specs.declared.fault.ProblemFault.TheVariants.{Lex, Text as NoText, UnknownName, Arity, WrongKind, TooLarge, ReservedName, WrongSort, NoMemory}
 use Rattle.fvn_problems.specs.Faults.{fault_of, HasTokens, IsFirstFault, ButForMemory}
-use Rattle.fvn_problems.specs.inner.Steps.{IsLexFault}
 
 pub on-ok : {A F : Type 0} (P Q : A → Type 0) → ((a : A) → P a → Q a) → (r : Result A F) → IfOk r P → IfOk r Q
 on-ok P Q f (Ok a) h = f a h

@@ -1,6 +1,6 @@
 -- What a problem asks is determined.
 use Rattle.std.proofs.Common.{◌≡◌, zero, suc, ◌<◌, ◌≤◌, ◌⊎◌, inl, inr, List, [], ◌∷◌, Some, Result, refl, sym, ap, ◌∙◌, subst, arith}
-use Rattle.std.specs.Prelude.{IfOk, IfErr, All, map}
+use Rattle.std.specs.Prelude.{IfErr, All, map}
 use Rattle.std.specs.List.{AllByRecursion}
 use Rattle.std.proofs.lemmas.List.{append-nil}
 use Rattle.fvn_base.specs.declared.limits.TheConstants.{TEXT_SYMBOLS}
@@ -20,7 +20,7 @@ use Rattle.fvn_syntax.specs.Raw.{RawTerm, spell, IsWritten, IsTermBefore}
 use Rattle.fvn_syntax.specs.Scope.{Scope}
 use Rattle.fvn_syntax.proofs.SpelledOnce.{ends-nil}
 use Rattle.fvn_problems.specs.declared.fault.ProblemFault.{ProblemFault}
-use Rattle.fvn_problems.specs.declared.fault.ProblemFault.TheVariants.{Text as NoText, TooLarge, NoMemory}
+use Rattle.fvn_problems.specs.declared.fault.ProblemFault.TheVariants.{TooLarge, NoMemory}
 use Rattle.fvn_problems.specs.declared.problem.Problem.{Problem}
 use Rattle.fvn_problems.specs.declared.split.Halves.{Halves}
 use Rattle.fvn_problems.specs.Faults.{fault_of}
@@ -28,9 +28,9 @@ use Rattle.fvn_problems.specs.Problems.{symbols_of, AreOfOneKind, IsPairOf, AreP
 use Rattle.fvn_problems.specs.Scopes.{guarded, AreNamesOf}
 use Rattle.fvn_problems.specs.Spelling.{RawPair, RawProblem, pairs_in, spell_problem, IsWrittenPair, IsProblemText}
 use Rattle.fvn_problems.specs.Variables.{with_sides, OccursInSides}
-use Rattle.fvn_problems.specs.inner.Split.{halves_of, AreTerms, IsProblemRow, IsProblemSplit}
+use Rattle.fvn_problems.specs.inner.Split.{halves_of, AreTerms, IsProblemSplit}
 use Rattle.fvn_problems.specs.inner.Steps.{MemoryOr, AreOf, ReadsPairs, RefusesPairs, Asks, AsksNothing}
-use Rattle.fvn_problems.proofs.Answering.{on-ok, on-err, first-written, refuted, IsOfText, fault_of-text}
+use Rattle.fvn_problems.proofs.Answering.{on-err, first-written, refuted, IsOfText, fault_of-text}
 use Rattle.fvn_problems.proofs.Named.{Grown, grown-ok, grown-both, grown-same, sort-known}
 use Rattle.fvn_problems.proofs.Occurring.{Lists, lists-sides, lists-nothing, alone-listed}
 use Rattle.fvn_problems.proofs.Pairs.{pairs-same, pairs-faultless}

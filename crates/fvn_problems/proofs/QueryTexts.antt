@@ -1,7 +1,6 @@
 -- What a term text asks is determined.
-use Rattle.std.proofs.Common.{◌≡◌, ◌<◌, ◌≤◌, ◌⊎◌, inl, inr, List, [], length, Some, Result, Ok, refl, sym, ap, ◌∙◌, subst, arith}
-use Rattle.std.specs.Prelude.{IfOk, IfErr}
-use Rattle.std.proofs.lemmas.List.{append-nil}
+use Rattle.std.proofs.Common.{◌≡◌, ◌<◌, ◌⊎◌, inl, inr, List, [], length, Some, Result, Ok, refl, sym, ap, ◌∙◌, subst, arith}
+use Rattle.std.specs.Prelude.{IfErr}
 use Rattle.fvn_base.specs.declared.limits.TheConstants.{TEXT_SYMBOLS}
 use Rattle.fvn_lex.specs.Cut.{Piece, pieces_of}
 use Rattle.fvn_terms.specs.declared.plain.Var.{Var}
@@ -19,21 +18,19 @@ use Rattle.fvn_syntax.specs.declared.seen.Kinded.{Kinded}
 use Rattle.fvn_syntax.specs.Readings.{sum_or_most, Reads, Refuses}
 use Rattle.fvn_syntax.specs.Laws.{TermsAreWellKinded}
 use Rattle.fvn_syntax.specs.Pieces.{Text}
-use Rattle.fvn_syntax.specs.Raw.{spell, IsTermBefore}
 use Rattle.fvn_syntax.specs.Resolve.{resolve}
 use Rattle.fvn_syntax.specs.Scope.{Scope}
-use Rattle.fvn_syntax.proofs.SpelledOnce.{ends-nil}
 use Rattle.fvn_problems.specs.declared.fault.ProblemFault.{ProblemFault}
-use Rattle.fvn_problems.specs.declared.fault.ProblemFault.TheVariants.{Text as NoText, TooLarge, NoMemory}
+use Rattle.fvn_problems.specs.declared.fault.ProblemFault.TheVariants.{TooLarge, NoMemory}
 use Rattle.fvn_problems.specs.declared.query.Query.{Query}
 use Rattle.fvn_problems.specs.Faults.{fault_of}
 use Rattle.fvn_problems.specs.Queries.{IsQueryOf, IsQueryFault, in_term, too_large, IsQuery, IsOnlyQuery, RefusesQuery, HasNoQuery, HasVariables}
 use Rattle.fvn_problems.specs.Scopes.{guarded, AreNamesOf}
 use Rattle.fvn_problems.specs.Spelling.{RawQuery, spell_query, IsQueryText}
 use Rattle.fvn_problems.specs.Variables.{with_variables}
-use Rattle.fvn_problems.specs.inner.Split.{IsQueryRow, IsQuerySplit}
-use Rattle.fvn_problems.specs.inner.Steps.{IsTermOf, AsksTerm, AsksNoTerm}
-use Rattle.fvn_problems.proofs.Answering.{on-ok, on-err, first-written, refuted, IsOfText, fault_of-text}
+use Rattle.fvn_problems.specs.inner.Split.{IsQuerySplit}
+use Rattle.fvn_problems.specs.inner.Steps.{IsTermOf, AsksNoTerm}
+use Rattle.fvn_problems.proofs.Answering.{on-err, first-written, refuted, IsOfText, fault_of-text}
 use Rattle.fvn_problems.proofs.Named.{grown-ok, sort-known}
 use Rattle.fvn_problems.proofs.Occurring.{Lists, lists-term, lists-nothing, alone-listed}
 use Rattle.fvn_problems.proofs.Pairs.{same-meaning, no-fault}

@@ -1,10 +1,10 @@
 -- Rows are cut where the terms and pairs with which they begin end.
-use Rattle.std.proofs.Common.{◌≡◌, ℕ, List, [], ◌∷◌, ◌++◌, take, drop, map, refl, sym, ap, ◌∙◌, subst}
+use Rattle.std.proofs.Common.{◌≡◌, List, [], ◌∷◌, ◌++◌, map, refl, sym, ap, ◌∙◌}
 use Rattle.std.specs.List.{AllByRecursion}
-use Rattle.std.proofs.lemmas.List.{append-nil, take-append-drop, append_cancel_right, map-append}
+use Rattle.std.proofs.lemmas.List.{append-nil, map-append}
 use Rattle.fvn_lex.specs.Cut.{Piece}
 use Rattle.fvn_syntax.specs.Pieces.{Text, word}
-use Rattle.fvn_syntax.specs.Raw.{spell, EndsBefore, IsTermBefore, BeginsWithNoTerm}
+use Rattle.fvn_syntax.specs.Raw.{spell, BeginsWithNoTerm}
 use Rattle.fvn_syntax.proofs.SpelledOnce.{tail, once, ends-before}
 use Rattle.fvn_problems.specs.declared.split.Halves.{Halves}
 use Rattle.fvn_problems.specs.Spelling.{RawPair, spell_pair, spell_further, IsWrittenPair}
