@@ -68,7 +68,7 @@ keys-more [] v = refl
 keys-more (None ∷ ws) v = keys-more ws v
 keys-more (Some u ∷ ws) v = ap (λ x. key_of u ∷ x) (keys-more ws v)
 
-contains-text : (texts : List Text) (t : Text) → Contains texts t → place texts t ≡ None → ⊥
+pub contains-text : (texts : List Text) (t : Text) → Contains texts t → place texts t ≡ None → ⊥
 contains-text texts t h n = place-none texts t h.0 n (slice_get-get_or texts h.0 t h.1 ∙ ap Some h.2)
 
 text-contained : (texts : List Text) (t : Text) (i : ℕ) → place texts t ≡ Some i → Contains texts t

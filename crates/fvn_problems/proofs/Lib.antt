@@ -16,5 +16,6 @@ mod Keys
 mod Binding
 mod BindingTexts
 mod OneFault
+mod Results
 mod WordNames
 mod DistinctNames

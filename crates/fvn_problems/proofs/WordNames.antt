@@ -25,7 +25,7 @@ use Rattle.fvn_syntax.specs.declared.naming.Meaning.TheVariants.{Constant, Varia
 use Rattle.fvn_syntax.specs.Names.{last_colon, of_sort, sort_named, split_at, declared_sort, variable_or, variable_named, variable_of, constant_or, constant_named, resolve_name, op_named, bracket}
 use Rattle.fvn_syntax.specs.Pieces.{Text, word, is_colon_name, is_reserved, without_last, right_paren}
 use Rattle.fvn_syntax.specs.Raw.{RawTerm, RawTerms, name, call, round, kind_variable, last, and, spell, spell_all, IsWritten, AreWritten}
-use Rattle.fvn_syntax.specs.Resolve.{Resolved, AllResolved, bind, or_fault, unless, apply, the_variable, checked, resolve_meaning, resolve_kind, resolve, resolve_all}
+use Rattle.fvn_syntax.specs.Resolve.{Resolved, AllResolved, bind, or_fault, apply, the_variable, checked, resolve_meaning, resolve_kind, resolve, resolve_all}
 use Rattle.fvn_syntax.specs.Texts.{place, unless_at}
 use Rattle.fvn_syntax.proofs.PieceLemmas.{and-left}
 use Rattle.fvn_problems.specs.Laws.{QueryNamesAreWords, ProblemNamesAreWords}
@@ -34,6 +34,7 @@ use Rattle.fvn_problems.specs.Scopes.{guarded}
 use Rattle.fvn_problems.specs.Spelling.{RawPair, spell_pair, spell_further, spell_pairs, spell_query, spell_problem, ending, equals, conjunction, pairs_in, IsWrittenPair}
 use Rattle.fvn_problems.specs.VariableTexts.{IsVariableText}
 use Rattle.fvn_problems.proofs.ProblemTexts.{all-at}
+use Rattle.fvn_problems.proofs.Results.{after-bind, after-ok, after-unless, nothing-of}
 
 -- Beginnings of words.
 
@@ -179,13 +180,6 @@ texts-with : (xs : List Text) (x : Text) → AreTexts xs → IsVariableText x �
 texts-with xs x h i None = texts-more xs x h i
 texts-with xs x h i (Some k) = h
 
-after-bind : {A B : Type 0} (P : A → Type 0) (Q : B → Type 0) (r : Result A TermFault) (next : A → Result B TermFault) → IfOk r P → ((a : A) → P a → IfOk (next a) Q) → IfOk (bind r next) Q
-after-bind P Q (Ok a) next h f = f a h
-after-bind P Q (Err fault) next h f = tt
-
-after-ok : {A : Type 0} (P : A → Type 0) (r : Result A TermFault) (a : A) → r ≡ Ok a → IfOk r P → P a
-after-ok P r a e h = subst (λ x. IfOk x P) e h
-
 abbrev Kept : Resolved → Type 0
 Kept r = AreTexts r.texts
 
@@ -197,10 +191,6 @@ checked-kept x r f = go (is_reserved x) refl where
   go : (b : Bool) → is_reserved x ≡ b → IfOk (if b then Err ReservedName else r) Kept
   go true e = tt
   go false e = f e
-
-unless-kept : (d : Declarations) (o : Option TermFault) (r : Resolved) → Kept r → IfOk (unless d o r) Kept
-unless-kept d None r h = h
-unless-kept d (Some fault) r h = tt
 
 module _ (law : PiecesByForm) (d : Declarations) (names : Names) where
   form : (w : Text) → IsPiece (word w) → IsWordPiece (word w)
@@ -229,11 +219,7 @@ module _ (law : PiecesByForm) (d : Declarations) (names : Names) where
   kind-kept before w x h b a (Some k) = variable-kept before w x k (kind d k) h b a
 
   apply-kept : (f : OpId) (r : AllResolved) → KeptAll r → IfOk (apply d f r) Kept
-  apply-kept f r h = unless-kept d _ _ h
-
-  operator-there : (o : Option OpId) → IfOk (or_fault UnknownName o) (λ f. Unit {0})
-  operator-there None = tt
-  operator-there (Some f) = tt
+  apply-kept f r h = after-unless Kept d _ _ h
 
   mutual
     kept : (t : RawTerm) (before : List Text) → IsWritten t → Tokens (spell t) → AreTexts before → IfOk (resolve (guarded d names) before t) Kept
@@ -241,7 +227,7 @@ module _ (law : PiecesByForm) (d : Declarations) (names : Names) where
     kept (round t) before i h a = kept t before i (tokens-left (spell t) (right_paren ∷ []) h.1) a
     kept (kind_variable w s ss) before i h a = kind-kept before w (without_last w) h.0 (begins-colon w i) a (bracket names.sorts d.kinds s ss)
     kept (call w ts) before i h a =
-        after-bind (λ f. Unit {0}) Kept (or_fault UnknownName (op_named names w)) (λ f. bind (resolve_all (guarded d names) before ts) (apply d f)) (operator-there (op_named names w))
+        after-bind (λ f. Unit {0}) Kept (or_fault UnknownName (op_named names w)) (λ f. bind (resolve_all (guarded d names) before ts) (apply d f)) (nothing-of UnknownName (op_named names w))
         (λ f _. after-bind KeptAll Kept (resolve_all (guarded d names) before ts) (apply d f) (kept-all ts before i (tokens-left (spell_all ts) (right_paren ∷ []) h.1.1) a) (apply-kept f))
 
     kept-all : (ts : RawTerms) (before : List Text) → AreWritten ts → Tokens (spell_all ts) → AreTexts before → IfOk (resolve_all (guarded d names) before ts) KeptAll

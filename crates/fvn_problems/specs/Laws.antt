@@ -70,26 +70,26 @@ ProblemNamesAreWords =
     (d : Declarations) (names : Names) (bytes : Text) (p : Problem) →
     IsProblem d names bytes p → All IsVariableText p.names.texts
 
--- A word asks one problem at most.
+-- A text asks one problem at most.
 abbrev pub ProblemsAreDetermined : Type 0
 ProblemsAreDetermined =
     (d : Declarations) (names : Names) (bytes : Text) (p q : Problem) →
     IsProblem d names bytes p → IsProblem d names bytes q → p ≡ q
 
--- A word is one list of bindings at most in a problem.
+-- A text binds one thing at most in a problem that a text asks.
 abbrev pub BindingsAreDetermined : Type 0
 BindingsAreDetermined =
-    (d : Declarations) (names : Names) (word : Text) (p : Problem) → IsProblem d names word p →
+    (d : Declarations) (names : Names) (text : Text) (p : Problem) → IsProblem d names text p →
     (bytes : Text) (b c : Bindings) → IsBindings d names p bytes b → IsBindings d names p bytes c → b ≡ c
 
--- But for want of memory, what has a fault as a problem is none.
+-- But for want of memory, a text with a fault as a problem asks nothing.
 abbrev pub RefusedProblemsAskNothing : Type 0
 RefusedProblemsAskNothing =
     (d : Declarations) (names : Names) (bytes : Text) (f : ProblemFault) →
     RefusesProblem d names bytes f → HasNoProblem d names bytes f
 
--- But for want of memory, what has a fault as a binding text in a problem is none.
+-- But for want of memory, a text with a fault as a binding text binds nothing.
 abbrev pub RefusedBindingsBindNothing : Type 0
 RefusedBindingsBindNothing =
-    (d : Declarations) (names : Names) (word : Text) (p : Problem) → IsProblem d names word p →
+    (d : Declarations) (names : Names) (text : Text) (p : Problem) → IsProblem d names text p →
     (bytes : Text) (f : ProblemFault) → RefusesBindings d names p bytes f → HasNoBindings d names p bytes f

@@ -68,22 +68,22 @@ pub fn problem_names_are_words()
     pieces_stand_alone();
 }
 
-/// A word asks one problem at most.
+/// A text asks one problem at most.
 pub fn problems_are_determined()
     ensures { ProblemsAreDetermined }
 {}
 
-/// A word is one list of bindings at most in a problem.
+/// A text binds one thing at most in a problem that a text asks.
 pub fn bindings_are_determined()
     ensures { BindingsAreDetermined }
 {}
 
-/// But for want of memory, what has a fault as a problem is none.
+/// But for want of memory, a text with a fault as a problem asks nothing.
 pub fn refused_problems_ask_nothing()
     ensures { RefusedProblemsAskNothing }
 {}
 
-/// But for want of memory, what has a fault as a binding text in a problem is none.
+/// But for want of memory, a text with a fault as a binding text binds nothing.
 pub fn refused_bindings_bind_nothing()
     ensures { RefusedBindingsBindNothing }
 {}

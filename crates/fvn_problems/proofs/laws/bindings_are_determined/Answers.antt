@@ -1,4 +1,4 @@
--- A word is one list of bindings at most.
+-- A text binds one thing at most.
 use Rattle.fvn_problems.proofs.DistinctNames.{bindings-determined}
 use Rattle.fvn_problems.proofs.laws.bindings_are_determined.Goals as goal
 

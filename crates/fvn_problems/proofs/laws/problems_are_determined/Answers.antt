@@ -1,4 +1,4 @@
--- A word asks one problem at most.
+-- A text asks one problem at most.
 use Rattle.fvn_problems.proofs.ProblemTexts.{problem-only}
 use Rattle.fvn_problems.proofs.laws.problems_are_determined.Goals as goal
 

@@ -1,4 +1,4 @@
--- What has a fault binds nothing.
+-- A text with a fault binds nothing.
 use Rattle.fvn_problems.proofs.DistinctNames.{refused-bind-nothing}
 use Rattle.fvn_problems.proofs.laws.refused_bindings_bind_nothing.Goals as goal
 

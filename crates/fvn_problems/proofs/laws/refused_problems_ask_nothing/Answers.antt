@@ -1,4 +1,4 @@
--- What has a fault is no problem.
+-- A text with a fault asks nothing.
 use Rattle.fvn_problems.proofs.ProblemTexts.{problem-none}
 use Rattle.fvn_problems.proofs.laws.refused_problems_ask_nothing.Goals as goal
 
