@@ -3,8 +3,12 @@ mod module;
 mod showing;
 
 use crate::tests::module::{Module, are_names, finished, make_stated};
-use crate::tests::showing::{push_fault, push_term, push_variable, push_variables};
-use fvn_problems::{Bindings, Problem, Query, read_bindings, read_problem, read_query};
+use crate::tests::showing::{
+    push_between, push_fault, push_pair, push_term, push_variable, push_variables,
+};
+use fvn_problems::{
+    Bindings, Problem, ProblemFault, Query, read_bindings, read_problem, read_query,
+};
 use fvn_terms::NoMemory;
 use std::alloc::{AllocError, AllocFailed, Global};
 use std::process::Abort;
@@ -12,7 +16,7 @@ use std::process::Abort;
 // Each block has a signature with its names, and lines of texts with what they give: `p` a problem, its pairs and then
 // its variables; `t` a term text, its term and then its variables; `b` a problem and a binding text for it. Variables
 // are shown with their sorts, a kind as a star and its number, and variables that are not the problem's by their
-// numbers.
+// numbers. In a text `~`, `%`, `@` and `$` stand for the bytes 128, 255, 0 and 10.
 const TEXTS: &str =
     "A; B; C; A < B; a : -> A; b : -> B; c : -> C; e : -> A; f : A -> A; g : B C -> C; + : B B -> B [assoc comm]; + : A A -> A [assoc comm]; * : B B -> B [assoc comm id: e]; X:A; Y:B; Z:C
 p X =? a => X:A = a | X:A
@@ -81,6 +85,10 @@ p q =? c /\\ X => text
 p #1:A =? c /\\ X =? => text
 p #1:A =? ***( => comment 8
 p X =? ***( =? => comment 5
+p q ~ => byte 2
+p X =? a --- b$ . => X:A = a | X:A
+t @ => byte 0
+t a *** ~ => a |
 t a => a |
 t a . => a |
 t (a) => a |
@@ -162,6 +170,7 @@ b X =? Y # {Y --> f(a,a), X --> b} => arity
 b X =? Y # {X --> a, Y --> c, q --> a} => kind
 b X =? Y # {X --> b, X --> a} => text
 b X =? Y # {X --> ***( => comment 7
+b X =? Y # {X --> % => byte 7
 
 S; a : -> S; b : -> S; g : S -> S; c : S S -> S [comm]; _+_ : S S -> S [assoc comm]; X:S; Y:S; Z:S; U:S; V:S
 p X =? => text
@@ -185,30 +194,20 @@ b _;_(X,mt) =? X # {} =>";
 
 fn shown_problem(alloc: Global, module: &Module, problem: &Problem) -> Result<String, NoMemory> {
     let mut out = String::new(alloc);
-    let mut first = true;
     for (left, right) in problem.pairs.as_slice() {
-        if !first {
-            out.push_str(" & ")?;
-        }
-        first = false;
-        push_term(alloc, &mut out, &module.names, &problem.names, left)?;
-        out.push_str(" = ")?;
-        push_term(alloc, &mut out, &module.names, &problem.names, right)?;
+        push_between(&mut out, " & ")?;
+        push_pair(alloc, &mut out, &module.names, &problem.names, left, right)?;
     }
-    push_variables(
-        alloc,
-        &mut out,
-        module,
-        &problem.names,
-        problem.vars.as_slice(),
-    )?;
+    let vars = problem.vars.as_slice();
+    push_variables(alloc, &mut out, &module.names, &problem.names, vars)?;
     Ok(out)
 }
 
 fn shown_query(alloc: Global, module: &Module, query: &Query) -> Result<String, NoMemory> {
     let mut out = String::new(alloc);
     push_term(alloc, &mut out, &module.names, &query.names, &query.term)?;
-    push_variables(alloc, &mut out, module, &query.names, query.vars.as_slice())?;
+    let vars = query.vars.as_slice();
+    push_variables(alloc, &mut out, &module.names, &query.names, vars)?;
     Ok(out)
 }
 
@@ -219,16 +218,18 @@ fn shown_bindings(
     bindings: &Bindings,
 ) -> Result<String, NoMemory> {
     let mut out = String::new(alloc);
-    let mut first = true;
     for (x, t) in bindings.subst.pairs.as_slice() {
-        if !first {
-            out.push_str("; ")?;
-        }
-        first = false;
+        push_between(&mut out, "; ")?;
         push_variable(alloc, &mut out, &module.names, &problem.names, *x)?;
         out.push_str(" := ")?;
         push_term(alloc, &mut out, &module.names, &problem.names, t)?;
     }
+    Ok(out)
+}
+
+fn shown_fault(alloc: Global, fault: ProblemFault) -> Result<String, NoMemory> {
+    let mut out = String::new(alloc);
+    push_fault(alloc, &mut out, fault)?;
     Ok(out)
 }
 
@@ -245,12 +246,6 @@ fn told_problem(
     }
 }
 
-fn shown_fault(alloc: Global, fault: fvn_problems::ProblemFault) -> Result<String, NoMemory> {
-    let mut out = String::new(alloc);
-    push_fault(alloc, &mut out, fault)?;
-    Ok(out)
-}
-
 fn told_query(
     rt: &impl Abort,
     alloc: Global,
@@ -264,6 +259,21 @@ fn told_query(
     }
 }
 
+// What bytes bind in a problem.
+fn told_in(
+    rt: &impl Abort,
+    alloc: Global,
+    module: &Module,
+    problem: &Problem,
+    bytes: &[u8],
+) -> Result<String, NoMemory> {
+    assert!(rt; are_names(&module.signature, &module.names));
+    match read_bindings(alloc, &module.signature, &module.names, problem, bytes) {
+        Ok(bindings) => shown_bindings(alloc, module, problem, &bindings),
+        Err(fault) => shown_fault(alloc, fault),
+    }
+}
+
 fn told_bindings(
     rt: &impl Abort,
     alloc: Global,
@@ -273,27 +283,54 @@ fn told_bindings(
 ) -> Result<String, NoMemory> {
     assert!(rt; are_names(&module.signature, &module.names));
     match read_problem(alloc, &module.signature, &module.names, problem) {
+        Ok(problem) => told_in(rt, alloc, module, &problem, bytes),
         Err(fault) => shown_fault(alloc, fault),
-        Ok(problem) => {
-            match read_bindings(alloc, &module.signature, &module.names, &problem, bytes) {
-                Ok(bindings) => shown_bindings(alloc, module, &problem, &bindings),
-                Err(fault) => shown_fault(alloc, fault),
-            }
-        }
     }
+}
+
+fn byte_of(b: u8) -> u8 {
+    match b {
+        b'~' => 128,
+        b'%' => 255,
+        b'@' => 0,
+        b'$' => 10,
+        _ => b,
+    }
+}
+
+// The bytes that a text of the tables stands for.
+fn bytes_of(alloc: Global, text: &str) -> Result<Vec<u8>, NoMemory> {
+    let mut bytes = Vec::new(alloc);
+    for b in text.as_bytes() {
+        bytes.push(byte_of(*b))?;
+    }
+    Ok(bytes)
+}
+
+// What a binding text gives behind its problem.
+fn told_both(
+    rt: &impl Abort,
+    alloc: Global,
+    module: &Module,
+    text: &str,
+) -> Result<String, NoMemory> {
+    let (problem, text) = text.split_once(" # ").unwrap_or((text, ""));
+    let bytes = bytes_of(alloc, text)?;
+    told_bindings(rt, alloc, module, problem.as_bytes(), bytes.as_slice())
 }
 
 // What a text gives, by the letter before it.
 fn told(rt: &impl Abort, alloc: Global, module: &Module, text: &str) -> Result<String, NoMemory> {
     let (letter, text) = text.split_once(' ').unwrap_or((text, ""));
+    if letter == "b" {
+        return told_both(rt, alloc, module, text);
+    }
+    let bytes = bytes_of(alloc, text)?;
     if letter == "p" {
-        return told_problem(rt, alloc, module, text.as_bytes());
+        told_problem(rt, alloc, module, bytes.as_slice())
+    } else {
+        told_query(rt, alloc, module, bytes.as_slice())
     }
-    if letter == "t" {
-        return told_query(rt, alloc, module, text.as_bytes());
-    }
-    let (problem, text) = text.split_once(" # ").unwrap_or((text, ""));
-    told_bindings(rt, alloc, module, problem.as_bytes(), text.as_bytes())
 }
 
 fn module_of(rt: &impl Abort, alloc: Global, text: &str) -> Result<Module, NoMemory> {
@@ -306,19 +343,46 @@ fn module_of(rt: &impl Abort, alloc: Global, text: &str) -> Result<Module, NoMem
     }
 }
 
-#[test]
-fn texts_ask_and_bind(rt: HostRuntime) -> Result<(), NoMemory> {
-    let alloc = rt.alloc();
-    for block in TEXTS.split("\n\n") {
-        let (text, lines) = block.split_once('\n').unwrap_or((block, ""));
-        let module = module_of(&rt, alloc, text)?;
-        for line in lines.lines() {
-            let (text, want) = line.split_once(" =>").unwrap_or((line, ""));
-            let shown = told(&rt, alloc, &module, text)?;
-            assert_eq!(rt; shown.as_str(), want.trim_start(), "at {text}");
-        }
+fn line_is_told(
+    rt: &impl Abort,
+    alloc: Global,
+    module: &Module,
+    line: &str,
+) -> Result<(), NoMemory> {
+    let (text, want) = line.split_once(" =>").unwrap_or((line, ""));
+    let shown = told(rt, alloc, module, text)?;
+    assert_eq!(rt; shown.as_str(), want.trim_start(), "at {text}");
+    Ok(())
+}
+
+fn lines_are_told(
+    rt: &impl Abort,
+    alloc: Global,
+    module: &Module,
+    lines: &str,
+) -> Result<(), NoMemory> {
+    for line in lines.lines() {
+        line_is_told(rt, alloc, module, line)?;
     }
     Ok(())
+}
+
+fn block_is_told(rt: &impl Abort, alloc: Global, block: &str) -> Result<(), NoMemory> {
+    let (text, lines) = block.split_once('\n').unwrap_or((block, ""));
+    let module = module_of(rt, alloc, text)?;
+    lines_are_told(rt, alloc, &module, lines)
+}
+
+fn blocks_are_told(rt: &impl Abort, alloc: Global, blocks: &str) -> Result<(), NoMemory> {
+    for block in blocks.split("\n\n") {
+        block_is_told(rt, alloc, block)?;
+    }
+    Ok(())
+}
+
+#[test]
+fn texts_ask_and_bind(rt: HostRuntime) -> Result<(), NoMemory> {
+    blocks_are_told(&rt, rt.alloc(), TEXTS)
 }
 
 // An operator so many times over a leaf.
@@ -384,51 +448,47 @@ fn number(text: &str) -> u32 {
     text.parse::<u32>().unwrap_or(0)
 }
 
-#[test]
-fn symbols_are_counted_last(rt: HostRuntime) -> Result<(), NoMemory> {
-    let alloc = rt.alloc();
+// The text of a line, and what is wanted of it.
+fn deep_of<'a>(alloc: Global, line: &'a str) -> Result<(String, &'a str), NoMemory> {
+    let (before, rest) = line.split_once('|').unwrap_or((line, ""));
+    let (calls, rest) = rest.split_once('|').unwrap_or((rest, ""));
+    let (leaf, rest) = rest.split_once('|').unwrap_or((rest, ""));
+    let (behind, want) = rest.split_once('|').unwrap_or((rest, ""));
+    let text = deep(alloc, before, number(calls), leaf, behind)?;
+    Ok((text, want))
+}
+
+// Whether a term is shown where nothing is wanted, and else what is wanted.
+fn is_wanted(shown: &str, want: &str) -> bool {
+    if want.is_empty() {
+        shown.contains('f')
+    } else {
+        shown == want
+    }
+}
+
+fn deep_is_told(
+    rt: &impl Abort,
+    alloc: Global,
+    module: &Module,
+    line: &str,
+) -> Result<(), NoMemory> {
+    let (text, want) = deep_of(alloc, line)?;
+    let shown = told(rt, alloc, module, text.as_str())?;
+    assert!(rt; is_wanted(shown.as_str(), want), "at {line}");
+    Ok(())
+}
+
+fn deep_are_told(rt: &impl Abort, alloc: Global, lines: &str) -> Result<(), NoMemory> {
     let (statements, _) = TEXTS.split_once('\n').unwrap_or((TEXTS, ""));
-    let module = module_of(&rt, alloc, statements)?;
-    for line in DEEP.lines() {
-        let (before, rest) = line.split_once('|').unwrap_or((line, ""));
-        let (calls, rest) = rest.split_once('|').unwrap_or((rest, ""));
-        let (leaf, rest) = rest.split_once('|').unwrap_or((rest, ""));
-        let (behind, want) = rest.split_once('|').unwrap_or((rest, ""));
-        let text = deep(alloc, before, number(calls), leaf, behind)?;
-        let shown = told(&rt, alloc, &module, text.as_str())?;
-        if want.is_empty() {
-            assert_eq!(rt; shown.as_str().contains('f'), true, "at {line}");
-        } else {
-            assert_eq!(rt; shown.as_str(), want, "at {line}");
-        }
+    let module = module_of(rt, alloc, statements)?;
+    for line in lines.lines() {
+        deep_is_told(rt, alloc, &module, line)?;
     }
     Ok(())
 }
 
 #[test]
-fn bytes_are_told_first(rt: HostRuntime) -> Result<(), NoMemory> {
-    let alloc = rt.alloc();
-    let (statements, _) = TEXTS.split_once('\n').unwrap_or((TEXTS, ""));
-    let module = module_of(&rt, alloc, statements)?;
-    assert_eq!(rt;
-        told_problem(&rt, alloc, &module, b"q \x80")?.as_str(),
-        "byte 2"
-    );
-    assert_eq!(rt;
-        told_problem(&rt, alloc, &module, b"X =? a --- b\n .")?.as_str(),
-        "X:A = a | X:A"
-    );
-    assert_eq!(rt;
-        told_query(&rt, alloc, &module, b"\x00")?.as_str(),
-        "byte 0"
-    );
-    assert_eq!(rt;
-        told_query(&rt, alloc, &module, b"a *** \x80")?.as_str(),
-        "a |"
-    );
-    assert_eq!(rt;
-        told_bindings(&rt, alloc, &module, b"X =? Y", b"{X --> \xff")?.as_str(),
-        "byte 7"
-    );
-    Ok(())
+fn symbols_are_counted_last(rt: HostRuntime) -> Result<(), NoMemory> {
+    deep_are_told(&rt, rt.alloc(), DEEP)
 }

@@ -61,14 +61,20 @@ fn axioms_of(ops: &Texts, text: &str) -> Axioms {
     }
 }
 
-/// What the statements of a text name, and the signature so far.
+/// What the statements of a text name.
 #[derive(Drop)]
-pub struct Stated {
-    builder: SignatureBuilder,
+pub struct Words {
     sorts: Texts,
     ops: Texts,
     variables: Texts,
     variable_sorts: Vec<SortId>,
+}
+
+/// The signature so far, and what is named in it.
+#[derive(Drop)]
+pub struct Stated {
+    builder: SignatureBuilder,
+    words: Words,
 }
 
 fn sorts_of(alloc: Global, sorts: &Texts, text: &str) -> Result<Vec<SortId>, NoMemory> {
@@ -81,53 +87,93 @@ fn sorts_of(alloc: Global, sorts: &Texts, text: &str) -> Result<Vec<SortId>, NoM
     Ok(list)
 }
 
+fn one_sort(rt: &impl Abort, builder: SignatureBuilder) -> Result<SignatureBuilder, NoMemory> {
+    assert!(rt; builder.sort_count() < 100);
+    builder.sort()
+}
+
 fn with_sort(
     rt: &impl Abort,
     alloc: Global,
     stated: Stated,
     name: &str,
 ) -> Result<Stated, NoMemory> {
-    let Stated {
-        builder,
-        mut sorts,
-        ops,
-        variables,
-        variable_sorts,
-    } = stated;
-    assert!(rt; builder.sort_count() < 100);
-    let builder = builder.sort()?;
-    sorts.insert(alloc, name.as_bytes())?;
-    Ok(Stated {
-        builder,
-        sorts,
-        ops,
-        variables,
-        variable_sorts,
-    })
+    let Stated { builder, mut words } = stated;
+    let builder = one_sort(rt, builder)?;
+    words.sorts.insert(alloc, name.as_bytes())?;
+    Ok(Stated { builder, words })
+}
+
+fn one_pair(
+    rt: &impl Abort,
+    builder: SignatureBuilder,
+    low: SortId,
+    high: SortId,
+) -> Result<SignatureBuilder, NoMemory> {
+    assert!(rt; low.0 < builder.sort_count() && high.0 < builder.sort_count());
+    builder.subsort(low, high)
 }
 
 fn with_pair(rt: &impl Abort, stated: Stated, low: &str, high: &str) -> Result<Stated, NoMemory> {
-    let Stated {
-        builder,
-        sorts,
-        ops,
-        variables,
-        variable_sorts,
-    } = stated;
-    let low = SortId(place_of(&sorts, low));
-    let high = SortId(place_of(&sorts, high));
-    assert!(rt; low.0 < builder.sort_count() && high.0 < builder.sort_count());
-    let builder = builder.subsort(low, high)?;
-    Ok(Stated {
-        builder,
-        sorts,
-        ops,
-        variables,
-        variable_sorts,
+    let Stated { builder, words } = stated;
+    let low = SortId(place_of(&words.sorts, low));
+    let high = SortId(place_of(&words.sorts, high));
+    let builder = one_pair(rt, builder, low, high)?;
+    Ok(Stated { builder, words })
+}
+
+/// A declaration of an operator, as `A B -> C [comm]`.
+#[derive(Drop)]
+struct Declared {
+    op: OpId,
+    args: Vec<SortId>,
+    result: SortId,
+    axioms: Axioms,
+}
+
+fn read_declared(
+    alloc: Global,
+    words: &Words,
+    name: &str,
+    text: &str,
+) -> Result<Declared, NoMemory> {
+    let (from, to) = text.split_once("-> ").unwrap_or((text, ""));
+    let (gives, attributes) = to.split_once(" [").unwrap_or((to, ""));
+    let args = sorts_of(alloc, &words.sorts, from)?;
+    Ok(Declared {
+        op: OpId(place_of(&words.ops, name)),
+        args,
+        result: SortId(place_of(&words.sorts, gives)),
+        axioms: axioms_of(
+            &words.ops,
+            attributes.strip_suffix("]").unwrap_or(attributes),
+        ),
     })
 }
 
-/// One more declaration, as `A B -> C [comm]`.
+fn one_operator(
+    rt: &impl Abort,
+    builder: SignatureBuilder,
+    declared: Declared,
+) -> Result<SignatureBuilder, NoMemory> {
+    let Declared {
+        op,
+        args,
+        result,
+        axioms,
+    } = declared;
+    assert!(rt; op.0 <= builder.op_count());
+    assert!(rt; builder.op_count() < 1000);
+    assert!(rt; all_names(builder.sort_count(), args.as_slice()));
+    assert!(rt; names(builder.sort_count(), result));
+    let rank = Rank {
+        args: Seq::from_vec(args),
+        result,
+    };
+    builder.op(op, rank, false, axioms)
+}
+
+/// One more declaration.
 fn with_operator(
     rt: &impl Abort,
     alloc: Global,
@@ -135,36 +181,11 @@ fn with_operator(
     name: &str,
     text: &str,
 ) -> Result<Stated, NoMemory> {
-    let Stated {
-        builder,
-        sorts,
-        mut ops,
-        variables,
-        variable_sorts,
-    } = stated;
-    let (from, to) = text.split_once("-> ").unwrap_or((text, ""));
-    let (gives, attributes) = to.split_once(" [").unwrap_or((to, ""));
-    let axioms = axioms_of(&ops, attributes.strip_suffix("]").unwrap_or(attributes));
-    let op = OpId(place_of(&ops, name));
-    ops.insert(alloc, name.as_bytes())?;
-    let args = sorts_of(alloc, &sorts, from)?;
-    let gives = SortId(place_of(&sorts, gives));
-    assert!(rt; op.0 <= builder.op_count());
-    assert!(rt; builder.op_count() < 1000);
-    assert!(rt; all_names(builder.sort_count(), args.as_slice()));
-    assert!(rt; names(builder.sort_count(), gives));
-    let rank = Rank {
-        args: Seq::from_vec(args),
-        result: gives,
-    };
-    let builder = builder.op(op, rank, false, axioms)?;
-    Ok(Stated {
-        builder,
-        sorts,
-        ops,
-        variables,
-        variable_sorts,
-    })
+    let Stated { builder, mut words } = stated;
+    let declared = read_declared(alloc, &words, name, text)?;
+    words.ops.insert(alloc, name.as_bytes())?;
+    let builder = one_operator(rt, builder, declared)?;
+    Ok(Stated { builder, words })
 }
 
 /// One more variable.
@@ -174,22 +195,11 @@ fn with_variable(
     name: &str,
     sort: &str,
 ) -> Result<Stated, NoMemory> {
-    let Stated {
-        builder,
-        sorts,
-        ops,
-        mut variables,
-        mut variable_sorts,
-    } = stated;
-    variables.insert(alloc, name.as_bytes())?;
-    variable_sorts.push(SortId(place_of(&sorts, sort)))?;
-    Ok(Stated {
-        builder,
-        sorts,
-        ops,
-        variables,
-        variable_sorts,
-    })
+    let Stated { builder, mut words } = stated;
+    let sort = SortId(place_of(&words.sorts, sort));
+    words.variables.insert(alloc, name.as_bytes())?;
+    words.variable_sorts.push(sort)?;
+    Ok(Stated { builder, words })
 }
 
 /// One statement: a sort, a pair of them, a declaration, or a variable.
@@ -213,44 +223,45 @@ fn with_statement(
 
 /// What the statements of the text give.
 pub fn make_stated(rt: &impl Abort, alloc: Global, text: &str) -> Result<Stated, NoMemory> {
-    let mut so_far = Stated {
-        builder: SignatureBuilder::new(alloc),
+    let words = Words {
         sorts: Texts::new(alloc),
         ops: Texts::new(alloc),
         variables: Texts::new(alloc),
         variable_sorts: Vec::new(alloc),
     };
+    let builder = SignatureBuilder::new(alloc);
+    let mut stated = Stated { builder, words };
     for statement in text.split("; ") {
-        so_far = with_statement(rt, alloc, so_far, statement)?;
+        stated = with_statement(rt, alloc, stated, statement)?;
     }
-    Ok(so_far)
+    Ok(stated)
 }
 
-/// The module, where its signature is good.
-pub fn finished(alloc: Global, stated: Stated) -> Option<Module> {
-    let Stated {
-        builder,
+fn names_of(alloc: Global, words: Words) -> Names {
+    let Words {
         sorts,
         ops,
         variables,
         variable_sorts,
-    } = stated;
-    match builder.finish(alloc) {
-        Err(_) => None,
-        Ok(signature) => {
-            let variables = Variables {
-                texts: variables,
-                sorts: Seq::from_vec(variable_sorts),
-            };
-            let names = Names {
-                module_name: Seq::new(alloc),
-                sorts,
-                ops,
-                variables,
-            };
-            Some(Module { signature, names })
-        }
+    } = words;
+    let variables = Variables {
+        texts: variables,
+        sorts: Seq::from_vec(variable_sorts),
+    };
+    Names {
+        module_name: Seq::new(alloc),
+        sorts,
+        ops,
+        variables,
     }
+}
+
+/// The module, where its signature is good.
+pub fn finished(alloc: Global, stated: Stated) -> Option<Module> {
+    let Stated { builder, words } = stated;
+    let signature = builder.finish(alloc).ok()?;
+    let names = names_of(alloc, words);
+    Some(Module { signature, names })
 }
 
 fn are_sorts(signature: &Signature, list: &[SortId]) -> bool

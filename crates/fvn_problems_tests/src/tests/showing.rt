@@ -1,6 +1,5 @@
 //! Shows terms and faults in tests.
 
-use crate::tests::module::Module;
 use fvn_lex::LexFault;
 use fvn_problems::ProblemFault;
 use fvn_syntax::{Names, VarNames};
@@ -87,17 +86,35 @@ fn push_arguments(
     Ok(())
 }
 
-/// The fault by its name.
-pub fn push_fault(alloc: Global, out: &mut String, fault: ProblemFault) -> Result<(), NoMemory> {
-    let word = match fault {
-        ProblemFault::Lex(LexFault::BadByte(n)) => {
-            out.push_str(&format!(in alloc; "byte {n}")?)?;
-            return Ok(());
-        }
-        ProblemFault::Lex(LexFault::BlockComment(n)) => {
-            out.push_str(&format!(in alloc; "comment {n}")?)?;
-            return Ok(());
-        }
+/// Two terms with a sign between.
+pub fn push_pair(
+    alloc: Global,
+    out: &mut String,
+    names: &Names,
+    texts: &VarNames,
+    left: &Plain,
+    right: &Plain,
+) -> Result<(), NoMemory> {
+    push_term(alloc, out, names, texts, left)?;
+    out.push_str(" = ")?;
+    push_term(alloc, out, names, texts, right)
+}
+
+/// The text, where there is one before it.
+pub fn push_between(out: &mut String, text: &str) -> Result<(), NoMemory> {
+    if !out.is_empty() {
+        out.push_str(text)?;
+    }
+    Ok(())
+}
+
+fn push_offset(alloc: Global, out: &mut String, word: &str, n: usize) -> Result<(), NoMemory> {
+    out.push_str(&format!(in alloc; "{word} {n}")?)?;
+    Ok(())
+}
+
+fn word_of(fault: ProblemFault) -> &'static str {
+    match fault {
         ProblemFault::Text => "text",
         ProblemFault::UnknownName => "unknown",
         ProblemFault::Arity => "arity",
@@ -106,23 +123,33 @@ pub fn push_fault(alloc: Global, out: &mut String, fault: ProblemFault) -> Resul
         ProblemFault::ReservedName => "reserved",
         ProblemFault::WrongSort => "sort",
         _ => "memory",
-    };
-    out.push_str(word)?;
-    Ok(())
+    }
+}
+
+/// The fault by its name.
+pub fn push_fault(alloc: Global, out: &mut String, fault: ProblemFault) -> Result<(), NoMemory> {
+    match fault {
+        ProblemFault::Lex(LexFault::BadByte(n)) => push_offset(alloc, out, "byte", n),
+        ProblemFault::Lex(LexFault::BlockComment(n)) => push_offset(alloc, out, "comment", n),
+        _ => {
+            out.push_str(word_of(fault))?;
+            Ok(())
+        }
+    }
 }
 
 /// The variables, one after another.
 pub fn push_variables(
     alloc: Global,
     out: &mut String,
-    module: &Module,
+    names: &Names,
     texts: &VarNames,
     vars: &[Var],
 ) -> Result<(), NoMemory> {
     out.push_str(" |")?;
     for x in vars {
         out.push(' ')?;
-        push_variable(alloc, out, &module.names, texts, *x)?;
+        push_variable(alloc, out, names, texts, *x)?;
     }
     Ok(())
 }
