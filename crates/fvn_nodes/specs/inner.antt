@@ -1,0 +1,5 @@
+-- What mirrors the code.
+pub mod Drafts
+pub mod Closing
+pub mod Rounds
+pub mod Starts
