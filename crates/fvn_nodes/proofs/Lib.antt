@@ -10,3 +10,6 @@ mod Moves
 mod Joining
 mod Alike
 mod Settling
+mod Kernels
+mod Flatness
+mod Places

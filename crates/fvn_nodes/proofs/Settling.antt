@@ -2,7 +2,9 @@
 use Rattle.std.proofs.Common.{◌≡◌, ◌≢◌, ◌⊎◌, ℕ, ◌+◌, ◌<◌, ◌≤◌, ◌-◌, Bool, true, false, not, ◌&&◌, ◌||◌, nat_eq, List, [], ◌∷◌, length, map, refl, sym, ap, ◌∙◌, subst, inl, inr, arith, All, Some, slice_get}
 use Rattle.std.specs.Prelude.{cond}
 use Rattle.std.specs.List.{list_any}
-use Rattle.std.proofs.lemmas.Bool.{cases_eq, cases_order, eq-eqb, ne_eqb, both_ways, not-true, or_parts}
+use Rattle.std.proofs.lemmas.Bool.{cases_eq, cases_order, eqb-true, eq-eqb, ne_eqb, both_ways, or_parts}
+use Rattle.std.proofs.lemmas.List.Elements.{All-nil, All-cons}
+use Rattle.std.proofs.lemmas.List.Folds.{Any-from_list_any}
 use Rattle.std.proofs.lemmas.Option.{slice_get_within}
 use Rattle.fvn_terms.specs.declared.plain.Var.{Var as Variable}
 use Rattle.fvn_terms.specs.declared.plain.OpId.{OpId}
@@ -15,7 +17,7 @@ use Rattle.fvn_nodes.specs.declared.state.State.{State}
 use Rattle.fvn_nodes.specs.declared.table.Node.{Node}
 use Rattle.fvn_nodes.specs.declared.table.Node.TheVariants.{Var, App}
 use Rattle.fvn_nodes.specs.inner.Rounds.{AreSettled, IsRowSettled, IsAllSettled}
-use Rattle.fvn_nodes.proofs.Admitting.{admits_same, admits_together}
+use Rattle.fvn_nodes.proofs.Admitting.{admits_same, admits_together, admits_itself}
 
 -- a node is one operator over one list
 pub over_unique : (nodes : List Node) (i : ℕ) (f g : OpId) (ks ls : List ℕ) → IsOver nodes i f ks → IsOver nodes i g ls → (f ≡ g) × (ks ≡ ls)
@@ -147,3 +149,30 @@ all_rows d t s true count k whole end h i l = h i (omega arith)
 all_rows d t s false count k whole end h i l =
     let back : count - 1 - (count - 1 - i) ≡ i = omega arith in
     subst (λ n. IsRowSettled d t n n s) back (h (count - 1 - i) (omega arith))
+
+-- where nodes that are kept apart are in one class, there is no partition
+pub apart_clash : (s : State) (class : ℕ → ℕ) → IsNaming s → Admits s class → list_any (λ p. is_same s p.0 p.1) s.apart ≡ true → ⊥
+apart_clash s class naming h e =
+    let found = Any-from_list_any (λ p. is_same s p.0 p.1) s.apart e in
+    let k = found.0 in
+    let p = found.1 in
+    let apart = subst (λ q. class q.0 ≢ class q.1) found.3 (h.apart k p found.2) in
+    let within = subst (λ q. (q.0 < length s.names) × (q.1 < length s.names)) found.3 (naming.kept k p found.2) in
+    apart (admits_same s class h p.0 p.1 within.0 within.1 (eqb-true (class_of s p.0) (class_of s p.1) found.4))
+
+-- else they are in two
+pub apart_kept : (s : State) → list_any (λ p. is_same s p.0 p.1) s.apart ≡ false → All (λ p. class_of s p.0 ≢ class_of s p.1) s.apart
+apart_kept s e = go s.apart e
+  where
+    go : (ps : List (ℕ × ℕ)) → list_any (λ p. is_same s p.0 p.1) ps ≡ false → All (λ p. class_of s p.0 ≢ class_of s p.1) ps
+    go [] e = All-nil (λ p. class_of s p.0 ≢ class_of s p.1)
+    go (p ∷ ps) e =
+        let both = or_parts (is_same s p.0 p.1) (list_any (λ p. is_same s p.0 p.1) ps) e in
+        All-cons (λ p. class_of s p.0 ≢ class_of s p.1) p ps (λ q. both_ways (is_same s p.0 p.1) both.0 (eq-eqb (class_of s p.0) (class_of s p.1) q)) (go ps both.1)
+
+-- what was in one class stays so
+pub same_kept : (before after : State) → ((class : ℕ → ℕ) → Admits after class → Admits before class) → IsNaming after → All (λ p. class_of after p.0 ≢ class_of after p.1) after.apart → (i j : ℕ) → i < length before.names → j < length before.names → class_of before i ≡ class_of before j → class_of after i ≡ class_of after j
+same_kept before after grows naming apart i j l m e = admits_same before (class_of after) (grows (class_of after) (admits_itself after naming apart)) i j l m e
+
+pub sides_kept : (before after : State) → ((class : ℕ → ℕ) → Admits after class → Admits before class) → IsNaming after → All (λ p. class_of after p.0 ≢ class_of after p.1) after.apart → (n : ℕ) → length before.names ≡ n → (sides : List (ℕ × ℕ)) → All (λ p. (p.0 < n) × (p.1 < n)) sides → All (λ p. class_of before p.0 ≡ class_of before p.1) sides → All (λ p. class_of after p.0 ≡ class_of after p.1) sides
+sides_kept before after grows naming apart n whole sides within h k e l = let w = within k e l in let a = w.0 in let b = w.1 in same_kept before after grows naming apart _ _ (omega arith) (omega arith) (h k e l)

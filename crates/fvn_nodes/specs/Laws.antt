@@ -36,4 +36,4 @@ pub record ArePartitionsOf (d : Declarations) (problem : Problem) (t : NodeTable
 
 -- so they are where the table is of a problem that is flat
 abbrev pub NodePartitionsArePartitions : Type 0
-NodePartitionsArePartitions = (d : Declarations) → FitsKinds d → (pairs : FlatPairs) → All (λ p. Fits d p.0 × Fits d p.1) pairs → (t : NodeTable) → IsWellMade t → IsTableOf d (plain_pairs pairs) t → ArePartitionsOf d (plain_pairs pairs) t
+NodePartitionsArePartitions = (d : Declarations) (pairs : FlatPairs) → All (λ p. Fits d p.0 × Fits d p.1) pairs → (t : NodeTable) → IsWellMade t → IsTableOf d (plain_pairs pairs) t → ArePartitionsOf d (plain_pairs pairs) t

@@ -340,14 +340,15 @@ pub fn close(sig: &Signature, table: &Table, mut closing: Closing) -> Option<Sta
     requires sides { All (λ p. class_of (state_of closing) p.0 ≡ class_of (state_of closing) p.1) table.now.sides }
     ensures { IsClosureOf sig.now table.now (state_of closing) result }
 {
-    if !closing.settle_fully(sig, table) {
-        return None;
+    table.recall_well_made();
+    if closing.settle_fully(sig, table) {
+        if closing.meets_apart() {
+            return None;
+        }
+        return Some(State {
+            names: Seq::from_vec(closing.names),
+            apart: Seq::from_vec(closing.apart),
+        });
     }
-    if closing.meets_apart() {
-        return None;
-    }
-    Some(State {
-        names: Seq::from_vec(closing.names),
-        apart: Seq::from_vec(closing.apart),
-    })
+    None
 }
