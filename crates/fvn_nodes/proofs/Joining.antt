@@ -1,5 +1,5 @@
 -- Two classes become one.
-use Rattle.std.proofs.Common.{◌≡◌, ◌≢◌, ℕ, zero, suc, ◌+◌, ◌<◌, ◌≤◌, min, max, List, [], ◌∷◌, length, map, get_or, sum, refl, sym, ap, ◌∙◌, subst, inl, inr, arith, All}
+use Rattle.std.proofs.Common.{◌≡◌, ◌≢◌, ◌⊎◌, ℕ, zero, suc, ◌+◌, ◌<◌, ◌≤◌, min, max, List, [], ◌∷◌, length, map, get_or, sum, refl, sym, ap, ◌∙◌, subst, inl, inr, arith, All}
 use Rattle.std.specs.Prelude.{if◌then◌else◌}
 use Rattle.std.specs.List.{sum_by}
 use Rattle.std.proofs.lemmas.Bool.{cases_eq, cases_order, eq-eqb, ne_eqb}
@@ -86,14 +86,7 @@ module _ (before : State) (naming : IsNaming before) (from to : ℕ) (lower : to
 
   pub joined_forced : (Holds : (ℕ → ℕ) → Type 0) → ((class : ℕ → ℕ) → Holds class → Admits before class → class from ≡ class to) → IsForced Holds before after
   joined_forced Holds meet = record {
-    grows = λ class h.
-        let at = λ (k : ℕ) (l : k < length before.names). h.together k (let w = whole in omega arith) ∙ ap class (class-after k l) in
-        record {
-          together = λ k l.
-              let c : ℕ = class_of before k in
-              at k l ∙ ap (λ n. class (renamed from to n)) (sym (naming.named k l).1) ∙ sym (at c (class-within k l));
-          apart = subst (All (λ p. class p.0 ≢ class p.1)) apart h.apart;
-        };
+    coarser = λ k l. class-after (class_of before k) (class-within k l) ∙ ap (renamed from to) (naming.named k l).1 ∙ sym (class-after k l);
     forced = λ class holds h. record {
       together = λ k m.
           let l : k < length before.names = let w = whole in omega arith in
@@ -106,12 +99,20 @@ module _ (before : State) (naming : IsNaming before) (from to : ℕ) (lower : to
     };
   }
 
+  pub joined_class : (k : ℕ) → k < length before.names → (class_of before k ≡ from) ⊎ (class_of before k ≡ to) → class_of after k ≡ to
+  joined_class k l (inl e) = class-after k l ∙ renamed-same from to (class_of before k) e
+  joined_class k l (inr e) = class-after k l ∙ renamed-other from to (class_of before k) (λ f. omega arith) ∙ e
+
   pub joined_falls : sum after.names < sum before.names
   joined_falls =
       let m = sum-map (renamed from to) before.names in
       let lt = sum-renamed-lt from to lower before.names from within own_from in
       let e = ap sum names in
       omega (arith, m, lt, e)
+
+-- the classes of two nodes have become one
+abbrev pub AreJoined : (i j : ℕ) → (before after : State) → Type 0
+AreJoined i j before after = (HasSameNodes before after × IsForced (λ class. class i ≡ class j) before after × (sum after.names < sum before.names)) × (class_of after i ≡ class_of after j)
 
 -- two nodes of different classes are put into one
 module _ (before : State) (naming : IsNaming before) (i j : ℕ) (left : i < length before.names) (right : j < length before.names) (a b : ℕ) (a_is : a ≡ class_of before i) (b_is : b ≡ class_of before j) (apart : a ≢ b) (hi lo : ℕ) (hi_is : hi ≡ max a b) (lo_is : lo ≡ min a b) (after : State) (names : after.names ≡ map (renamed hi lo) before.names) (kept : after.apart ≡ before.apart) where
@@ -130,36 +131,42 @@ module _ (before : State) (naming : IsNaming before) (i j : ℕ) (left : i < len
   meet_ab : (class : ℕ → ℕ) → class i ≡ class j → Admits before class → class a ≡ class b
   meet_ab class e h = ap class a_is ∙ sym (h.together i left) ∙ e ∙ h.together j right ∙ ap class (sym b_is)
 
-  abbrev Result : Type 0
-  Result = HasSameNodes before after × IsForced (λ class. class i ≡ class j) before after × (sum after.names < sum before.names)
 
-  up_b : a < b → Result
+  up_b : a < b → AreJoined i j before after
   up_b lt =
       let h : hi ≡ b = omega arith in
       let l : lo ≡ a = omega arith in
       let lower : lo < hi = omega arith in
       let within : hi < length before.names = let w = within_b in omega arith in
       let own_hi = ap (class_of before) h ∙ own_b ∙ sym h in
-      let own_lo = ap (class_of before) l ∙ own_a ∙ sym l in (
-        joined_nodes before naming hi lo lower within own_hi own_lo after names kept,
-        joined_forced before naming hi lo lower within own_hi own_lo after names kept (λ class. class i ≡ class j) (λ class e admits. ap class h ∙ sym (meet_ab class e admits) ∙ sym (ap class l)),
-        joined_falls before naming hi lo lower within own_hi own_lo after names kept,
+      let own_lo = ap (class_of before) l ∙ own_a ∙ sym l in
+      let one = joined_class before naming hi lo lower within own_hi own_lo after names kept in (
+        (
+          joined_nodes before naming hi lo lower within own_hi own_lo after names kept,
+          joined_forced before naming hi lo lower within own_hi own_lo after names kept (λ class. class i ≡ class j) (λ class e admits. ap class h ∙ sym (meet_ab class e admits) ∙ sym (ap class l)),
+          joined_falls before naming hi lo lower within own_hi own_lo after names kept,
+        ),
+        one i left (inr (sym a_is ∙ sym l)) ∙ sym (one j right (inl (sym b_is ∙ sym h))),
       )
 
-  up_a : b < a → Result
+  up_a : b < a → AreJoined i j before after
   up_a lt =
       let h : hi ≡ a = omega arith in
       let l : lo ≡ b = omega arith in
       let lower : lo < hi = omega arith in
       let within : hi < length before.names = let w = within_a in omega arith in
       let own_hi = ap (class_of before) h ∙ own_a ∙ sym h in
-      let own_lo = ap (class_of before) l ∙ own_b ∙ sym l in (
-        joined_nodes before naming hi lo lower within own_hi own_lo after names kept,
-        joined_forced before naming hi lo lower within own_hi own_lo after names kept (λ class. class i ≡ class j) (λ class e admits. ap class h ∙ meet_ab class e admits ∙ sym (ap class l)),
-        joined_falls before naming hi lo lower within own_hi own_lo after names kept,
+      let own_lo = ap (class_of before) l ∙ own_b ∙ sym l in
+      let one = joined_class before naming hi lo lower within own_hi own_lo after names kept in (
+        (
+          joined_nodes before naming hi lo lower within own_hi own_lo after names kept,
+          joined_forced before naming hi lo lower within own_hi own_lo after names kept (λ class. class i ≡ class j) (λ class e admits. ap class h ∙ meet_ab class e admits ∙ sym (ap class l)),
+          joined_falls before naming hi lo lower within own_hi own_lo after names kept,
+        ),
+        one i left (inl (sym a_is ∙ sym h)) ∙ sym (one j right (inr (sym b_is ∙ sym l))),
       )
 
-  pub joined : HasSameNodes before after × IsForced (λ class. class i ≡ class j) before after × (sum after.names < sum before.names)
+  pub joined : AreJoined i j before after
   joined = elim (cases_order a b) [
     | inl e ↦ absurd (apart e)
     | inr o ↦ elim o [ inl lt ↦ up_b lt | inr gt ↦ up_a gt ]

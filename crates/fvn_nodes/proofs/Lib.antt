@@ -3,13 +3,19 @@ pub mod Nodes
 mod Terms
 mod Entering
 mod Walking
+mod Entries
 mod Once
+mod Tables
 mod Subterms
 pub mod Admitting
 mod Moves
 mod Joining
 mod Alike
 mod Settling
+mod Openness
+mod Starting
+mod Growing
+mod Swapping
 mod Kernels
 mod Flatness
 mod Places

@@ -1,6 +1,6 @@
 -- Moves one after another.
-use Rattle.std.proofs.Common.{◌≡◌, ℕ, ◌<◌, length, sum, refl, sym, ap, ◌∙◌, subst, arith}
-use Rattle.fvn_nodes.specs.States.{Admits, IsNaming}
+use Rattle.std.proofs.Common.{◌≡◌, ◌≢◌, ℕ, ◌<◌, ◌≤◌, length, sum, All, refl, sym, ap, ◌∙◌, subst, arith}
+use Rattle.fvn_nodes.specs.States.{Admits, IsNaming, class_of}
 use Rattle.fvn_nodes.specs.declared.state.State.{State}
 use Rattle.fvn_nodes.specs.declared.closing.Move.{Move}
 use Rattle.fvn_nodes.specs.declared.closing.Move.TheVariants.{Stays, Changes, Clashes}
@@ -18,11 +18,28 @@ moved_nodes Holds Settled a b Stays naming h = subst (HasSameNodes a) (sym h.0) 
 moved_nodes Holds Settled a b Changes naming h = h.0
 moved_nodes Holds Settled a b Clashes naming h = h.0
 
-pub forced-trans : (Holds : (ℕ → ℕ) → Type 0) (a b c : State) → IsForced Holds a b → IsForced Holds b c → IsForced Holds a c
-forced-trans Holds a b c p q = record {
-  grows = λ class h. p.grows class (q.grows class h);
+pub forced-refl : (Holds : (ℕ → ℕ) → Type 0) (a : State) → IsNaming a → IsForced Holds a a
+forced-refl Holds a naming = record { coarser = λ k l. (naming.named k l).1; forced = λ class holds h. h }
+
+pub forced-trans : (Holds : (ℕ → ℕ) → Type 0) (a b c : State) → IsNaming a → HasSameNodes a b → IsForced Holds a b → IsForced Holds b c → IsForced Holds a c
+forced-trans Holds a b c naming nodes p q = record {
+  coarser = λ k l.
+      let w = nodes.whole in
+      let m = (naming.named k l).0 in
+      sym (q.coarser (class_of a k) (omega arith)) ∙ ap (class_of c) (p.coarser k l) ∙ q.coarser k (omega arith);
   forced = λ class holds h. q.forced class holds (p.forced class holds h);
 }
+
+-- what the second state has the first has
+pub forced_grows : (Holds : (ℕ → ℕ) → Type 0) (a b : State) → IsNaming a → HasSameNodes a b → IsForced Holds a b → (class : ℕ → ℕ) → Admits b class → Admits a class
+forced_grows Holds a b naming nodes p class h =
+    let w = nodes.whole in
+    record {
+      together = λ k l.
+          let m = (naming.named k l).0 in
+          h.together k (omega arith) ∙ ap class (sym (p.coarser k l)) ∙ sym (h.together (class_of a k) (omega arith));
+      apart = subst (All (λ p. class p.0 ≢ class p.1)) nodes.apart h.apart;
+    }
 
 -- two moves are one
 pub moved-then : (Holds : (ℕ → ℕ) → Type 0) (S T : State → Type 0) (a b c : State) (m n : Move) → IsNaming a → HasMoved Holds S a b m → HasMoved Holds T b c n → HasMoved Holds (λ s. S s × T s) a c (then_move m n)
@@ -43,7 +60,7 @@ moved-then Holds S T a b c Changes Stays naming p q = (
 )
 moved-then Holds S T a b c Changes Changes naming p q = (
   same_nodes-trans a b c p.0 q.0,
-  forced-trans Holds a b c p.1 q.1,
+  forced-trans Holds a b c naming p.0 p.1 q.1,
   let x = p.2 in let y = q.2 in omega arith,
 )
 moved-then Holds S T a b c Changes Clashes naming p q = (same_nodes-trans a b c p.0 q.0, λ class holds h. q.1 class holds (p.1.forced class holds h))
@@ -54,7 +71,7 @@ pub moved-weaker : (Holds Known : (ℕ → ℕ) → Type 0) (S T : State → Typ
 moved-weaker Holds Known S T a b Stays stronger weaker h = (h.0, weaker h.1)
 moved-weaker Holds Known S T a b Changes stronger weaker h = (
   h.0,
-  record { grows = h.1.grows; forced = λ class known admits. h.1.forced class (stronger class admits known) admits },
+  record { coarser = h.1.coarser; forced = λ class known admits. h.1.forced class (stronger class admits known) admits },
   h.2,
 )
 moved-weaker Holds Known S T a b Clashes stronger weaker h = (h.0, λ class known admits. h.1 class (stronger class admits known) admits)

@@ -17,7 +17,7 @@ use Rattle.fvn_nodes.specs.declared.state.State.{State}
 use Rattle.fvn_nodes.specs.declared.table.Node.{Node}
 use Rattle.fvn_nodes.specs.declared.table.Node.TheVariants.{Var, App}
 use Rattle.fvn_nodes.specs.inner.Rounds.{AreSettled, IsRowSettled, IsAllSettled}
-use Rattle.fvn_nodes.proofs.Admitting.{admits_same, admits_together, admits_itself}
+use Rattle.fvn_nodes.proofs.Admitting.{admits_same, admits_together}
 
 -- a node is one operator over one list
 pub over_unique : (nodes : List Node) (i : ℕ) (f g : OpId) (ks ls : List ℕ) → IsOver nodes i f ks → IsOver nodes i g ls → (f ≡ g) × (ks ≡ ls)
@@ -171,8 +171,8 @@ apart_kept s e = go s.apart e
         All-cons (λ p. class_of s p.0 ≢ class_of s p.1) p ps (λ q. both_ways (is_same s p.0 p.1) both.0 (eq-eqb (class_of s p.0) (class_of s p.1) q)) (go ps both.1)
 
 -- what was in one class stays so
-pub same_kept : (before after : State) → ((class : ℕ → ℕ) → Admits after class → Admits before class) → IsNaming after → All (λ p. class_of after p.0 ≢ class_of after p.1) after.apart → (i j : ℕ) → i < length before.names → j < length before.names → class_of before i ≡ class_of before j → class_of after i ≡ class_of after j
-same_kept before after grows naming apart i j l m e = admits_same before (class_of after) (grows (class_of after) (admits_itself after naming apart)) i j l m e
+pub same_kept : (before after : State) → ((k : ℕ) → k < length before.names → class_of after (class_of before k) ≡ class_of after k) → (i j : ℕ) → i < length before.names → j < length before.names → class_of before i ≡ class_of before j → class_of after i ≡ class_of after j
+same_kept before after coarser i j l m e = sym (coarser i l) ∙ ap (class_of after) e ∙ coarser j m
 
-pub sides_kept : (before after : State) → ((class : ℕ → ℕ) → Admits after class → Admits before class) → IsNaming after → All (λ p. class_of after p.0 ≢ class_of after p.1) after.apart → (n : ℕ) → length before.names ≡ n → (sides : List (ℕ × ℕ)) → All (λ p. (p.0 < n) × (p.1 < n)) sides → All (λ p. class_of before p.0 ≡ class_of before p.1) sides → All (λ p. class_of after p.0 ≡ class_of after p.1) sides
-sides_kept before after grows naming apart n whole sides within h k e l = let w = within k e l in let a = w.0 in let b = w.1 in same_kept before after grows naming apart _ _ (omega arith) (omega arith) (h k e l)
+pub sides_kept : (before after : State) → ((k : ℕ) → k < length before.names → class_of after (class_of before k) ≡ class_of after k) → (n : ℕ) → length before.names ≡ n → (sides : List (ℕ × ℕ)) → All (λ p. (p.0 < n) × (p.1 < n)) sides → All (λ p. class_of before p.0 ≡ class_of before p.1) sides → All (λ p. class_of after p.0 ≡ class_of after p.1) sides
+sides_kept before after coarser n whole sides within h k e l = let w = within k e l in let a = w.0 in let b = w.1 in same_kept before after coarser _ _ (omega arith) (omega arith) (h k e l)

@@ -4,7 +4,7 @@ use Rattle.std.proofs.lemmas.List.{append-nil, append_assoc, length-append, leng
 use Rattle.std.proofs.lemmas.List.Elements.{All-append, All-weaker, All-cons, All-push, Contains-append_left, Contains-append_right}
 use Rattle.std.proofs.lemmas.Bool.{cases_lt}
 use Rattle.fvn_terms.specs.declared.plain.Plain.{Plain}
-use Rattle.fvn_terms.specs.Term.{Term, Terms, app, none, more, pack, nodes_all}
+use Rattle.fvn_terms.specs.Term.{Term, Terms, app, none, more, pack, nodes, nodes_all}
 use Rattle.fvn_terms.specs.Plain.{term, terms}
 use Rattle.fvn_terms.proofs.Plains.{push, terms-push}
 use Rattle.fvn_flat.specs.Problems.{subterms, subterms_among}
@@ -13,7 +13,7 @@ use Rattle.fvn_nodes.specs.declared.table.Node.{Node}
 use Rattle.fvn_nodes.specs.declared.building.Draft.{Draft}
 use Rattle.fvn_nodes.specs.inner.Drafts.{AreNodes, IsEntered, HasWalked}
 use Rattle.fvn_nodes.proofs.Nodes.{terms-more, term_at-more}
-use Rattle.fvn_nodes.proofs.Entering.{HasArguments, entered_within, entered_last}
+use Rattle.fvn_nodes.proofs.Entering.{HasArguments, term_of, entered_nodes, entered_within, entered_last, entered_term}
 
 pub walked-none : (a : Draft) → HasWalked a a []
 walked-none a = record {
@@ -102,6 +102,24 @@ module _ (before begun after : Draft) (ts : List Term) (now : List Node) (n : No
         ];
       }
 
+-- what stands after a term was walked through and noted
+pub record IsNoted (before final : Draft) (ts : List Term) (t : Term) (place : ℕ) : Type 0 where
+  pub nodes : AreNodes final.nodes.items
+  pub walked : HasWalked before final (t ∷ ts)
+  pub within : place < length final.nodes.items
+  pub is : term_at final.nodes.items place ≡ t
+
+pub noted : (before begun after final : Draft) (ts : List Term) (n : Node) (t : Term) (place start : ℕ) → begun.nodes.items ≡ before.nodes.items → begun.walk.items ≡ before.walk.items ++ 0 ∷ [] → start ≡ length before.walk.items → HasWalked begun after ts → AreNodes after.nodes.items → HasArguments after.nodes.items n →
+    IsEntered after.nodes.items final.nodes.items n place → final.walk.items ≡ set after.walk.items start place → term_of after.nodes.items n ≡ t → IsNoted before final ts t place
+noted before begun after final ts n t place start nodes walk at w are arguments entered noted term =
+    let is = entered_term after.nodes.items are n arguments final.nodes.items place entered ∙ term in
+    record {
+      nodes = entered_nodes after.nodes.items are n arguments final.nodes.items place entered;
+      walked = walked-under before begun after ts final.nodes.items n t place nodes walk w are arguments entered is final refl (noted ∙ ap (λ k. set after.walk.items k place) at);
+      within = entered_within after.nodes.items are n arguments final.nodes.items place entered;
+      is = is;
+    }
+
 pub pack-push : (ts : List Term) (u : Term) → pack (ts ++ u ∷ []) ≡ push (pack ts) u
 pack-push [] u = refl
 pack-push (t ∷ ts) u = ap (more t) (pack-push ts u)
@@ -128,3 +146,9 @@ module _ (items : List Plain) (i : ℕ) (u : Plain) (within : i < length items) 
       ∙ ap (λ ts. push ts (term_at b.nodes.items place)) so_far
       ∙ ap (push (terms (take i items))) one
       ∙ sym terms-more_items
+
+-- an argument has no more nodes than all arguments
+pub nodes-argument : (items : List Plain) (i : ℕ) (u : Plain) → i < length items → u ≡ get_or items i u → nodes (term u) ≤ nodes_all (terms items)
+nodes-argument [] i u h is = absurd (omega arith)
+nodes-argument (t ∷ ts) zero u h is = let e = ap (λ v. nodes (term v)) is in omega (arith, e)
+nodes-argument (t ∷ ts) (suc i) u h is = let r = nodes-argument ts i u (omega arith) is in omega (arith, r)

@@ -1,7 +1,10 @@
 -- What is left of a state when a question is answered.
-use Rattle.std.specs.Prelude.{◌≡◌, ◌≢◌, ℕ, ◌<◌, Option, Some, None}
+use Rattle.std.specs.Prelude.{◌≡◌, ◌≢◌, ℕ, ◌<◌, [], ◌∷◌, Option, Some, None}
+use Rattle.fvn_terms.specs.declared.plain.OpId.{OpId}
+use Rattle.fvn_terms.specs.declared.declarations.Axioms.TheVariants.{Comm}
 use Rattle.fvn_terms.specs.declared.declarations.Declarations.{Declarations}
-use Rattle.fvn_nodes.specs.Table.{NodeTable}
+use Rattle.fvn_terms.specs.Signature.{axioms}
+use Rattle.fvn_nodes.specs.Table.{NodeTable, IsOver}
 use Rattle.fvn_nodes.specs.Classes.{IsNodePartition}
 use Rattle.fvn_nodes.specs.States.{Admits, IsClosed, IsOpen, class_of, open_pairs}
 use Rattle.fvn_nodes.specs.declared.state.State.{State}
@@ -34,7 +37,20 @@ module _ (d : Declarations) (t : NodeTable) where
     pub same : IsAnswer s (λ class. class i ≡ class j) a.same
     pub apart : IsAnswer s (λ class. class i ≢ class j) a.apart
 
-  -- an open pair of nodes whose answer decides which way two commutative nodes meet; none where the classes are a partition
+  -- the two are the first arguments of commutative nodes of one class, and it is open whether they are in one class
+  pub record IsSwap (s : State) (p : ℕ × ℕ) : Type 0 where
+    pub left : ℕ
+    pub right : ℕ
+    pub operator : OpId
+    pub left_second : ℕ
+    pub right_second : ℕ
+    pub commutative : axioms d operator ≡ Comm
+    pub left_is : IsOver t.nodes left operator (p.0 ∷ left_second ∷ [])
+    pub right_is : IsOver t.nodes right operator (p.1 ∷ right_second ∷ [])
+    pub same : class_of s left ≡ class_of s right
+    pub undecided : IsOpen s p.0 p.1
+
+  -- two nodes whose answer decides which way commutative nodes meet; none where the classes are a partition
   abbrev pub IsUndecided : State → Option (ℕ × ℕ) → Type 0
   IsUndecided s None = IsNodePartition d t (class_of s)
-  IsUndecided s (Some p) = IsOpen s p.0 p.1
+  IsUndecided s (Some p) = IsSwap s p

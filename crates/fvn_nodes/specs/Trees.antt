@@ -26,14 +26,13 @@ pub record IsOpenAtTop (states : List State) (i j : ℕ) : Type 0 where
   pub open_there : IsOpen top i j
 
 -- the last state made way for what is left of it; the others stay
-pub record IsAsked (d : Declarations) (t : NodeTable) (i j : ℕ) (before after : List State) : Type 0 where
+pub record IsAsked (d : Declarations) (t : NodeTable) (before after : List State) : Type 0 where
   pub below : List State
   pub top : State
   pub answers : List State
   pub was : before ≡ below ++ top ∷ []
   pub is : after ≡ below ++ answers
-  -- each answer has what the last state had, and the two nodes in one class or apart
-  pub decided : All (λ s. IsOpen s i j → ⊥) answers
+  -- each answer has what the last state had
   pub kept : (class : ℕ → ℕ) → IsToCome answers class → Admits top class
   -- each partition that the last state admits is admitted by one answer, and by one alone
   pub all : (class : ℕ → ℕ) → IsNodePartition d t class → Admits top class → IsToCome answers class

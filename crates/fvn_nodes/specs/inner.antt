@@ -3,3 +3,4 @@ pub mod Drafts
 pub mod Closing
 pub mod Rounds
 pub mod Starts
+pub mod Swaps

@@ -85,6 +85,7 @@ fn ask_same(
     requires open { IsOpen state.now i j }
     ensures { IfOk result (IsAnswer sig.now table.now state.now (λ class. class i ≡ class j)) }
 {
+    table.recall_well_made();
     let mut closing = opened(alloc, state)?;
     let _moved = closing.join(i, j);
     let left = close(sig, table, closing);
@@ -106,6 +107,7 @@ fn ask_apart(
     requires open { IsOpen state.now i j }
     ensures { IfOk result (IsAnswer sig.now table.now state.now (λ class. class i ≢ class j)) }
 {
+    table.recall_well_made();
     let mut closing = opened(alloc, state)?;
     closing.apart.push((i, j))?;
     let left = close(sig, table, closing);

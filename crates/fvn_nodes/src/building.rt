@@ -58,6 +58,14 @@ fn enter(nodes: &mut Vec<Node>, node: Node) -> Result<usize, NoMemory>
     }
 }
 
+// Writes a number into its place.
+fn write(walk: &mut Vec<usize>, start: usize, place: usize)
+    requires { start < length walk.old.items }
+    ensures { walk.new.items ≡ slice_set walk.old.items start place }
+{
+    walk[start] = place;
+}
+
 impl Draft {
     // Enters a node, and notes it where the walk came to it.
     fn note(&mut self, start: usize, node: Node) -> Result<usize, NoMemory>
@@ -66,7 +74,7 @@ impl Draft {
         ensures noted { IfOk result (λ i. self.new.walk.items ≡ slice_set self.old.walk.items start i) }
     {
         let place = enter(&mut self.nodes, node)?;
-        self.walk[start] = place;
+        write(&mut self.walk, start, place);
         Ok(place)
     }
 
@@ -82,10 +90,14 @@ impl Draft {
         let start = self.walk.len();
         self.walk.push(0)?;
         match t {
-            Plain::Var(x) => self.note(start, Node::Var(*x)),
+            Plain::Var(x) => {
+                let place = self.note(start, Node::Var(*x))?;
+                Ok(place)
+            }
             Plain::App(f, us) => {
                 let kids = self.add_all(alloc, us)?;
-                self.note(start, Node::App(*f, Seq::from_vec(kids)))
+                let place = self.note(start, Node::App(*f, Seq::from_vec(kids)))?;
+                Ok(place)
             }
         }
     }

@@ -1,5 +1,5 @@
 //! How states are closed: nodes are joined as partitions ask, until nothing more is asked.
-ghost use Rattle.std.specs.Prelude.{◌≡◌, ◌⊎◌, ◌↔◌, ℕ, ◌<◌, [], ◌∷◌, length, map, is_some, All, IsTrue};
+ghost use Rattle.std.specs.Prelude.{◌≡◌, ◌≢◌, ◌⊎◌, ◌↔◌, ℕ, ◌<◌, [], ◌∷◌, length, map, is_some, All, IsTrue};
 ghost use Rattle.std.specs.List.{list_any};
 ghost use Rattle.fvn_terms.specs.Signature.{axioms};
 ghost use Rattle.fvn_forms.specs.Canon.{identity};
@@ -92,8 +92,10 @@ impl Closing {
         requires naming { IsNaming (state_of self.old) }
         requires left { i < length self.old.names.items }
         requires right { j < length self.old.names.items }
-        ensures { HasMoved (λ class. class i ≡ class j) (λ s. class_of s i ≡ class_of s j)
+        ensures moved { HasMoved (λ class. class i ≡ class j) (λ s. class_of s i ≡ class_of s j)
             (state_of self.old) (state_of self.new) result }
+        ensures together { class_of (state_of self.new) i ≡ class_of (state_of self.new) j }
+        ensures no_clash { result ≢ Move.Clashes }
     {
         let (a, b) = (self.names[i], self.names[j]);
         if a == b {

@@ -6,6 +6,7 @@ mod building;
 mod closing;
 mod laws;
 mod state;
+mod swaps;
 mod table;
 mod tree;
 
@@ -13,5 +14,6 @@ pub use asking::{Answers, ask, start};
 pub use building::table_of;
 pub use laws::{node_partitions_are_partitions, unifiers_partition};
 pub use state::State;
+pub use swaps::undecided;
 pub use table::{Node, Table};
 pub use tree::Tree;

@@ -27,30 +27,55 @@ impl Model for Tree {
     ghost view = { λ t. t.states.items };
 }
 
+// Puts a state in place of the last one.
+fn set_last(states: &mut Vec<State>, state: State)
+    requires { 0 < length states.old.items }
+    ensures { states.new.items ≡ take (length states.old.items - 1) states.old.items ++ state ∷ [] }
+{
+    let last = states.len() - 1;
+    states[last] = state;
+}
+
+// Puts two states in place of the last one.
+fn set_last_two(states: &mut Vec<State>, first: State, second: State) -> Result<(), NoMemory>
+    requires { 0 < length states.old.items }
+    ensures ok { OnOk result
+        (states.new.items ≡ take (length states.old.items - 1) states.old.items ++ first ∷ second ∷ []) }
+    ensures no_memory { OnErr result (states.new.items ≡ states.old.items) }
+{
+    let last = states.len() - 1;
+    states.push(second)?;
+    states[last] = first;
+    Ok(())
+}
+
 // Puts the answers in place of the last state.
 fn replace_top(states: &mut Vec<State>, answers: Answers) -> Result<(), NoMemory>
     requires { 0 < length states.old.items }
-    ensures ok { OnOk result (states.new.items ≡ take (length states.old.items - 1) states.old.items ++ listed answers) }
+    ensures ok { OnOk result
+        (states.new.items ≡ take (length states.old.items - 1) states.old.items ++ listed answers) }
     ensures no_memory { OnErr result (states.new.items ≡ states.old.items) }
 {
-    let top = states.len() - 1;
     let Answers { same, apart } = answers;
     match same {
-        Some(joined) => match apart {
-            Some(parted) => {
-                states.push(joined)?;
-                states[top] = parted;
-            }
-            None => states[top] = joined,
-        },
         None => match apart {
-            Some(parted) => states[top] = parted,
             None => {
                 let _top = states.pop();
+                Ok(())
+            }
+            Some(parted) => {
+                set_last(states, parted);
+                Ok(())
             }
         },
+        Some(joined) => match apart {
+            None => {
+                set_last(states, joined);
+                Ok(())
+            }
+            Some(parted) => set_last_two(states, parted, joined),
+        },
     }
-    Ok(())
 }
 
 impl Tree {
@@ -60,10 +85,13 @@ impl Tree {
         ensures all { IfOk result (λ t. (class : ℕ → ℕ) → IsNodePartition sig.now table.now class → IsToCome t class) }
     {
         let mut states = Vec::new(alloc);
-        if let Some(state) = start(alloc, sig, table)? {
-            states.push(state)?;
+        match start(alloc, sig, table)? {
+            None => Ok(Tree { states }),
+            Some(state) => {
+                states.push(state)?;
+                Ok(Tree { states })
+            }
         }
-        Ok(Tree { states })
     }
 
     /// The top.
@@ -95,7 +123,7 @@ impl Tree {
         requires left { i < length table.now.nodes }
         requires right { j < length table.now.nodes }
         requires open { IsOpenAtTop self.old i j }
-        ensures asked { OnOk result (IsAsked sig.now table.now i j self.old self.new) }
+        ensures asked { OnOk result (IsAsked sig.now table.now self.old self.new) }
         ensures closed { AreClosed sig.now table.now self.new }
         ensures falls { OnOk result (weight self.new < weight self.old) }
         ensures no_memory { OnErr result (self.new ≡ self.old) }

@@ -3,7 +3,7 @@ use Rattle.std.specs.Prelude.{◌≡◌, ℕ, ◌<◌, Bool, ◌||◌, length, s
 use Rattle.fvn_terms.specs.declared.declarations.Declarations.{Declarations}
 use Rattle.fvn_nodes.specs.Table.{NodeTable}
 use Rattle.fvn_nodes.specs.Classes.{IsNodePartition}
-use Rattle.fvn_nodes.specs.States.{Admits, IsNaming, IsClosed, IsImpossible, is_same, is_apart}
+use Rattle.fvn_nodes.specs.States.{Admits, IsNaming, IsClosed, IsImpossible, class_of, is_same, is_apart}
 use Rattle.fvn_nodes.specs.declared.state.State.{State}
 use Rattle.fvn_nodes.specs.declared.closing.Closing.{Closing}
 use Rattle.fvn_nodes.specs.declared.closing.Move.{Move}
@@ -36,9 +36,9 @@ pub record HasSameNodes (before after : State) : Type 0 where
   pub apart : after.apart ≡ before.apart
 
 module _ (Holds : (ℕ → ℕ) → Type 0) where
-  -- the second state has what the first has, and nothing but what classes have with which this is so and of which the fact holds
+  -- the second state has in one class what the first has, and nothing but what classes have that the first admits and of which the fact holds
   pub record IsForced (before after : State) : Type 0 where
-    pub grows : (class : ℕ → ℕ) → Admits after class → Admits before class
+    pub coarser : (k : ℕ) → k < length before.names → class_of after (class_of before k) ≡ class_of after k
     pub forced : (class : ℕ → ℕ) → Holds class → Admits before class → Admits after class
 
   -- what a move did: nothing, since all is settled; or the names fell; or no classes were found possible

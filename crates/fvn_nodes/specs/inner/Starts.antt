@@ -15,7 +15,7 @@ pub record IsSingles (n : ℕ) (s : State) : Type 0 where
 -- the sides of each pair are joined, and nothing else is
 pub record IsJoinedFrom (sides : List (ℕ × ℕ)) (before after : State) : Type 0 where
   pub nodes : HasSameNodes before after
-  pub joined : All (λ p. class_of after p.0 ≡ class_of after p.1) sides
+  pub joined : (class : ℕ → ℕ) → Admits after class → All (λ p. class p.0 ≡ class p.1) sides
   pub forced : IsForced (λ class. All (λ p. class p.0 ≡ class p.1) sides) before after
 
 -- the states that are left, those where the nodes are in one class at the end

@@ -21,7 +21,7 @@ returns-then-settle_fully c =
     let after = state_of c.settle_fully.new.self in
     let settled = c.if-settle_fully.ensures in
     let apart = apart_kept after (sym c.meets_apart.ensures ∙ c.if-meets_apart.false) in
-    let sides = sides_kept before after settled.1.grows settled.0.naming apart (length t.nodes) c.requires.whole t.sides c.recall_well_made.ensures.sides c.requires.sides in
+    let sides = sides_kept before after settled.1.coarser (length t.nodes) c.requires.whole t.sides c.recall_well_made.ensures.sides c.requires.sides in
     let names = c.from_vec.ensures in
     let kept = c.from_vec-then-settle_fully.ensures in
     let is : after ≡ record { names = c.from_vec.result; apart = c.from_vec-then-settle_fully.result } = λ i. record { names = sym names i; apart = sym kept i } in

@@ -43,7 +43,7 @@ loop-i-preserved c =
     let T : State → Type 0 = λ s. class_of s k ≡ class_of s l in
     let t = c.loop-i-test.true in
     let u : i < length ls = let n = c.if-ks-ls.false in omega arith in
-    let one : HasMoved Holds T b e c.join-one.result = moved-weaker (λ class. class k ≡ class l) Holds T T b e c.join-one.result (λ class admits h. together-at class ks ls h i t u) (λ h. h) c.join-one.ensures in
+    let one : HasMoved Holds T b e c.join-one.result = moved-weaker (λ class. class k ≡ class l) Holds T T b e c.join-one.result (λ class admits h. together-at class ks ls h i t u) (λ h. h) c.join-one.ensures.moved in
     let both = moved-then Holds S T a b e c.loop-i.whole c.join-one.result c.requires.naming c.loop-i.invariant one in
     subst (HasMoved Holds (λ s. (n : ℕ) → n < i + 1 → class_of s (get_or ks n 0) ≡ class_of s (get_or ls n 0)) a e) (sym c.then-whole.ensures)
     (moved-weaker Holds Holds (λ s. S s × T s) (λ s. (n : ℕ) → n < i + 1 → class_of s (get_or ks n 0) ≡ class_of s (get_or ls n 0)) a e _ (λ class admits h. h) (λ h. below_more _ _ h.0 h.1) both)

@@ -83,7 +83,7 @@ returns-then-are_together c =
     let b = subst (λ m. All (λ k. k < m) ls) (sym w) (arguments_within t.nodes c.recall_well_made.ensures.ordered j g ls (right_is at)) in
     moved-weaker (λ class. class i ≡ class j) (IsNodePartition d t) (λ s. class_of s i ≡ class_of s j) (AreSettled d t i j) s (state_of c.join.new.self) c.join.result
     (λ class admits partition. known_congruent d t s i j f g ks ls (left_is at) (right_is at) class admits partition a b one together)
-    (λ h. absurd (n h)) c.join.ensures
+    (λ h. absurd (n h)) c.join.ensures.moved
 
 pub returns-else-are_together : goal.returns-else-are_together
 returns-else-are_together c =

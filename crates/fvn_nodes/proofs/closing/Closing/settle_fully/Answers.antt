@@ -3,7 +3,7 @@ use Rattle.std.proofs.Common.{◌≡◌, ℕ, ◌<◌, sum, refl, sym, ap, ◌�
 use Rattle.fvn_nodes.specs.Classes.{IsNodePartition}
 use Rattle.fvn_nodes.specs.inner.Closing.{state_of, HasMoved, HasSameNodes, IsForced}
 use Rattle.fvn_nodes.specs.inner.Rounds.{IsAllSettled}
-use Rattle.fvn_nodes.proofs.Moves.{same_nodes, same_nodes-trans, forced-trans}
+use Rattle.fvn_nodes.proofs.Moves.{same_nodes, same_nodes-trans, forced-refl, forced-trans}
 use Rattle.fvn_nodes.proofs.closing.Closing.settle_fully.Goals as goal
 
 -- what the moves so far and this one did
@@ -26,7 +26,7 @@ pub settle_all-requires : goal.settle_all-requires
 settle_all-requires c = record { naming = c.rounds.invariant.nodes.naming; whole = c.rounds.invariant.nodes.whole ∙ c.requires.whole }
 
 pub rounds-init : goal.rounds-init
-rounds-init c = record { nodes = same_nodes (state_of c.args.self.now) c.requires.naming; forced = record { grows = λ class h. h; forced = λ class p h. h } }
+rounds-init c = record { nodes = same_nodes (state_of c.args.self.now) c.requires.naming; forced = forced-refl (IsNodePartition c.args.sig.now c.args.table.now) (state_of c.args.self.now) c.requires.naming }
 
 pub rounds-preserved : goal.rounds-preserved
 rounds-preserved c =
@@ -35,7 +35,7 @@ rounds-preserved c =
     let e = state_of c.settle_all.new.self in
     record {
       nodes = same_nodes-trans a b e c.rounds.invariant.nodes c.in-Changes.ensures.0;
-      forced = forced-trans (IsNodePartition c.args.sig.now c.args.table.now) a b e c.rounds.invariant.forced c.in-Changes.ensures.1;
+      forced = forced-trans (IsNodePartition c.args.sig.now c.args.table.now) a b e c.requires.naming c.rounds.invariant.nodes c.rounds.invariant.forced c.in-Changes.ensures.1;
     }
 
 pub rounds-smaller : goal.rounds-smaller
