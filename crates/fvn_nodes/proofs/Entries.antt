@@ -11,9 +11,16 @@ use Rattle.fvn_forms.specs.Canon.{identity}
 use Rattle.fvn_nodes.specs.Table.{term_at, IsOver}
 use Rattle.fvn_nodes.specs.declared.table.Node.{Node}
 use Rattle.fvn_nodes.specs.declared.table.Node.TheVariants.{App}
-use Rattle.fvn_nodes.specs.inner.Drafts.{AreNodes, IsEntered, IsEntry, AreUnitsOf}
+use Rattle.fvn_nodes.specs.inner.Drafts.{AreNodes, IsEntered, IsEntry, IsNewUnit, AreUnitsOf}
 use Rattle.fvn_nodes.proofs.Nodes.{term_at-more}
-use Rattle.fvn_nodes.proofs.Entering.{entered_term, entered_within, entered_last}
+use Rattle.fvn_nodes.proofs.Entering.{slice_get-append_left, entered_term, entered_within, entered_last}
+
+same_some : {A : Type 0} (x y : A) → Some x ≡ Some y → x ≡ y
+same_some x y e = cc
+
+-- a node is where it was before others came
+pub node_before : (before now rest : List Node) (i : ℕ) (n : Node) → now ≡ before ++ rest → i < length before → slice_get now i ≡ Some n → slice_get before i ≡ Some n
+node_before before now rest i n is h at = sym (slice_get-append_left before rest i h) ∙ ap (λ ns. slice_get ns i) (sym is) ∙ at
 
 module _ (d : Declarations) where
   pub no_units : (nodes : List Node) → AreUnitsOf d 0 nodes nodes []
@@ -79,9 +86,6 @@ module _ (d : Declarations) where
       is = entered_term now nodes (App e []) (All-nil (λ k. k < length now)) after place entered;
     }
 
-    same_some : {A : Type 0} (x y : A) → Some x ≡ Some y → x ≡ y
-    same_some x y e = cc
-
     pub units_more : AreUnitsOf d (m + 1) before after (units ++ (f, place) ∷ [])
     units_more = record {
       rest = are.rest ++ more.0;
@@ -117,3 +121,12 @@ module _ (d : Declarations) where
         ]
       ];
     }
+
+  -- after a look at the node at m
+  module _ (m : ℕ) (before now : List Node) (units : List (OpId × ℕ)) (are : AreUnitsOf d m before now units) (n : Node) (at : slice_get before m ≡ Some n) where
+    pub kept_at : IsNewUnit d units n None → AreUnitsOf d (m + 1) before now units
+    kept_at found = units_kept m before now units are (λ f e ks over is. found f e ks (same_some n (App f ks) (sym at ∙ over)) is)
+
+    pub more_at : (p : OpId × OpId) → IsNewUnit d units n (Some p) → AreNodes now → (after : List Node) (place : ℕ) → IsEntered now after (App p.1 []) place → AreUnitsOf d (m + 1) before after (units ++ (p.0, place) ∷ [])
+    more_at p found nodes after place entered =
+        units_more m before now units are nodes p.0 p.1 found.0.0 (at ∙ ap Some found.0.1) found.1 found.2 after place entered

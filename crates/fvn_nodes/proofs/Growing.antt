@@ -1,12 +1,12 @@
 -- How trees change.
-use Rattle.std.proofs.Common.{◌≡◌, ◌≢◌, ◌⊎◌, ℕ, zero, suc, ◌+◌, ◌-◌, ◌*◌, ◌^◌, ◌<◌, ◌≤◌, List, [], ◌∷◌, ◌++◌, length, take, get_or, set, refl, sym, ap, ◌∙◌, subst, inl, inr, arith, All, Any, AllPairs, Option, Some, None}
+use Rattle.std.proofs.Common.{◌≡◌, ◌≢◌, ◌⊎◌, ℕ, zero, suc, ◌+◌, ◌-◌, ◌*◌, ◌^◌, ◌<◌, ◌≤◌, List, [], ◌∷◌, ◌++◌, length, take, get_or, set, refl, sym, ap, ◌∙◌, subst, inl, inr, arith, All, Any, AllPairs, Option, Some, None, slice_get}
 use Rattle.std.specs.Prelude.{MatchOption, IfSome}
 use Rattle.std.specs.List.{sum_by}
 use Rattle.std.specs.Option.{option_to_list}
 use Rattle.std.proofs.Math.Nat.{pow-le-pow_right, one-le-pow}
 use Rattle.std.proofs.lemmas.Grind.{pow_more}
 use Rattle.std.proofs.lemmas.Bool.{cases_eq}
-use Rattle.std.proofs.lemmas.List.{take_at, length_push, length-append, get_or_append_left, get_or-append-add, set_split, set-append_left, drop_all, append_assoc, get_or_push}
+use Rattle.std.proofs.lemmas.List.{take_at, length_push, length-append, get_or_append_left, get_or-append-add, set_split, set-append_left, drop_all, append_assoc, append-nil, nil_from_length}
 use Rattle.std.proofs.lemmas.List.Elements.{All-nil, All-cons, All-append, All-take}
 use Rattle.std.proofs.lemmas.List.Sums.{sum_by-append, sum_by-cons}
 use Rattle.fvn_terms.specs.declared.declarations.Declarations.{Declarations}
@@ -54,9 +54,9 @@ weight_falls states s =
     omega arith
 
 -- the top is taken out
-pub taken : (before after : List State) (r : Option State) → before ≡ after ++ option_to_list r → MatchOption r ((before ≡ []) × (after ≡ [])) (λ s. before ≡ after ++ s ∷ [])
-taken before after None e = ?
-taken before after (Some s) e = e
+pub taken : (before after : List State) (r : Option State) → before ≡ after ++ option_to_list r → MatchOption r (length after ≡ 0) (λ s. Unit {0}) → MatchOption r ((before ≡ []) × (after ≡ [])) (λ s. before ≡ after ++ s ∷ [])
+taken before after None e h = let none : after ≡ [] = nil_from_length after h in (e ∙ append-nil after ∙ none, none)
+taken before after (Some s) e h = e
 
 pub taken_falls : (before after : List State) (r : Option State) → before ≡ after ++ option_to_list r → IfSome r (λ s. weight after < weight before)
 taken_falls before after None e = tt
@@ -69,10 +69,16 @@ set_last_is states s n e = set_split states n s (omega arith) ∙ ap (λ l. take
 pub set_last_two_is : (states : List State) (s r : State) (n : ℕ) → n + 1 ≡ length states → set (states ++ r ∷ []) n s ≡ take n states ++ s ∷ r ∷ []
 set_last_two_is states s r n e = set-append_left states (r ∷ []) n s (omega arith) ∙ ap (λ l. l ++ r ∷ []) (set_last_is states s n e) ∙ append_assoc (take n states) (s ∷ []) (r ∷ [])
 
-pub last_is : (states below : List State) (top last : State) → states ≡ below ++ top ∷ [] → (n : ℕ) → n + 1 ≡ length states → last ≡ get_or states n last → last ≡ top
-last_is states below top last is n e at =
-    let m = ap length is ∙ length_push below top in
-    at ∙ ap (λ l. get_or l n last) is ∙ get_or_push below top last n (omega arith)
+slice_get-push : (states : List State) (s : State) → slice_get (states ++ s ∷ []) (length states) ≡ Some s
+slice_get-push [] s = refl
+slice_get-push (r ∷ states) s = slice_get-push states s
+
+-- the last state is the top
+pub last_is : (states below : List State) (top last : State) → states ≡ below ++ top ∷ [] → Some last ≡ slice_get states (length states - 1) → last ≡ top
+last_is states below top last is at =
+    let n : length (below ++ top ∷ []) - 1 ≡ length below = let m = length_push below top in omega arith in
+    let e : Some last ≡ Some top = at ∙ ap (λ l. slice_get l (length l - 1)) is ∙ ap (slice_get (below ++ top ∷ [])) n ∙ slice_get-push below top in
+    cc
 
 module _ (d : Declarations) (t : NodeTable) where
   -- a tree that begins with a state or none

@@ -3,6 +3,7 @@ pub mod Nodes
 mod Terms
 mod Entering
 mod Walking
+mod Pairing
 mod Entries
 mod Once
 mod Tables

@@ -25,7 +25,7 @@ pub empty_nodes : AreNodes []
 empty_nodes = (λ i f ks is. absurd (let p : None ≡ Some (App f ks) = is in cc), λ i j d l m. absurd (omega arith))
 
 -- the terms of sides in a longer table
-sides-more : (nodes rest : List Node) (sides : List (ℕ × ℕ)) → All (λ p. (p.0 < length nodes) × (p.1 < length nodes)) sides → map (λ p. (term_at (nodes ++ rest) p.0, term_at (nodes ++ rest) p.1)) sides ≡ map (λ p. (term_at nodes p.0, term_at nodes p.1)) sides
+sides-more : (nodes rest : List Node) (sides : List (ℕ × ℕ)) → All (λ p. (p.0 < length nodes) × (p.1 < length nodes)) sides → map {B = Term × Term} (λ p. (term_at (nodes ++ rest) p.0, term_at (nodes ++ rest) p.1)) sides ≡ map {B = Term × Term} (λ p. (term_at nodes p.0, term_at nodes p.1)) sides
 sides-more nodes rest [] h = refl
 sides-more nodes rest (p ∷ sides) h =
     let P = λ (p : ℕ × ℕ). (p.0 < length nodes) × (p.1 < length nodes) in
@@ -106,7 +106,7 @@ module _ (d : Declarations) (problem : Problem) (empty draft : Draft) (no_nodes 
 
   pub table_is : IsTableOf d problem table
   table_is = record {
-    sides = ap (λ ns. map (λ p. (term_at ns p.0, term_at ns p.1)) sides) are_units.nodes ∙ sides-more before are_units.rest sides are_sides.within ∙ are_sides.are;
+    sides = ap (λ ns. map {B = Term × Term} (λ p. (term_at ns p.0, term_at ns p.1)) sides) are_units.nodes ∙ sides-more before are_units.rest sides are_sides.within ∙ are_sides.are;
     subterms =
         ap (λ ns. map (term_at ns) subterms) are_units.nodes
         ∙ terms-more before are_units.rest subterms subterms_within

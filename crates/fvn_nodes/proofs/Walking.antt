@@ -111,11 +111,11 @@ pub record IsNoted (before final : Draft) (ts : List Term) (t : Term) (place : �
 
 pub noted : (before begun after final : Draft) (ts : List Term) (n : Node) (t : Term) (place start : ℕ) → begun.nodes.items ≡ before.nodes.items → begun.walk.items ≡ before.walk.items ++ 0 ∷ [] → start ≡ length before.walk.items → HasWalked begun after ts → AreNodes after.nodes.items → HasArguments after.nodes.items n →
     IsEntered after.nodes.items final.nodes.items n place → final.walk.items ≡ set after.walk.items start place → term_of after.nodes.items n ≡ t → IsNoted before final ts t place
-noted before begun after final ts n t place start nodes walk at w are arguments entered noted term =
-    let is = entered_term after.nodes.items are n arguments final.nodes.items place entered ∙ term in
+noted before begun after final ts n t place start same_nodes one_step at w are arguments entered written whole =
+    let is = entered_term after.nodes.items are n arguments final.nodes.items place entered ∙ whole in
     record {
       nodes = entered_nodes after.nodes.items are n arguments final.nodes.items place entered;
-      walked = walked-under before begun after ts final.nodes.items n t place nodes walk w are arguments entered is final refl (noted ∙ ap (λ k. set after.walk.items k place) at);
+      walked = walked-under before begun after ts final.nodes.items n t place same_nodes one_step w are arguments entered is final refl (written ∙ ap (λ k. set after.walk.items k place) at);
       within = entered_within after.nodes.items are n arguments final.nodes.items place entered;
       is = is;
     }
