@@ -5,7 +5,7 @@ use Rattle.fvn_terms.specs.declared.declarations.Axioms.TheVariants.{Comm}
 use Rattle.fvn_terms.specs.declared.declarations.Declarations.{Declarations}
 use Rattle.fvn_terms.specs.Signature.{axioms}
 use Rattle.fvn_nodes.specs.Table.{NodeTable, IsOver}
-use Rattle.fvn_nodes.specs.Classes.{IsNodePartition}
+use Rattle.fvn_nodes.specs.Classes.{MeetEitherWay, IsNodePartition}
 use Rattle.fvn_nodes.specs.States.{Admits, IsClosed, IsOpen, class_of, open_pairs}
 use Rattle.fvn_nodes.specs.declared.state.State.{State}
 use Rattle.fvn_nodes.specs.declared.asking.Answers.{Answers}
@@ -37,7 +37,7 @@ module _ (d : Declarations) (t : NodeTable) where
     pub same : IsAnswer s (λ class. class i ≡ class j) a.same
     pub apart : IsAnswer s (λ class. class i ≢ class j) a.apart
 
-  -- the two are the first arguments of commutative nodes of one class, and it is open whether they are in one class
+  -- the two are the first arguments of commutative nodes of one class that meet neither way, and it is open whether they are in one class
   pub record IsSwap (s : State) (p : ℕ × ℕ) : Type 0 where
     pub left : ℕ
     pub right : ℕ
@@ -49,6 +49,7 @@ module _ (d : Declarations) (t : NodeTable) where
     pub right_is : IsOver t.nodes right operator (p.1 ∷ right_second ∷ [])
     pub same : class_of s left ≡ class_of s right
     pub undecided : IsOpen s p.0 p.1
+    pub neither : MeetEitherWay (class_of s) p.0 left_second p.1 right_second → ⊥
 
   -- two nodes whose answer decides which way commutative nodes meet; none where the classes are a partition
   abbrev pub IsUndecided : State → Option (ℕ × ℕ) → Type 0

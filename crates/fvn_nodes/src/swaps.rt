@@ -1,6 +1,6 @@
 //! Questions that decide which way commutative nodes of one class meet.
-ghost use Rattle.std.specs.Prelude.{◌≡◌, ◌<◌, ◌↔◌, IsTrue, length, All};
-ghost use Rattle.fvn_nodes.specs.States.{IsClosed, IsNaming};
+ghost use Rattle.std.specs.Prelude.{◌≡◌, ◌<◌, ◌↔◌, ◌&&◌, [], ◌∷◌, IsTrue, length, All};
+ghost use Rattle.fvn_nodes.specs.States.{IsClosed, IsNaming, is_same};
 ghost use Rattle.fvn_nodes.specs.Questions.{IsUndecided};
 ghost use Rattle.fvn_nodes.specs.inner.Swaps.{IsOpenFirst, IsUndecidedAt, IsUndecidedIn};
 
@@ -21,7 +21,18 @@ fn is_commutative(axioms: Axioms) -> bool
     }
 }
 
-// The first of two nodes and of two others, where these are open.
+// Whether a is in the class of w, and b in that of v.
+fn are_crosswise(state: &State, a: usize, b: usize, v: usize, w: usize) -> bool
+    requires all { All (λ k. k < length state.now.names) (a ∷ b ∷ v ∷ w ∷ []) }
+    ensures { result ≡ (is_same state.now a w && is_same state.now b v) }
+{
+    if !state.is_same(a, w) {
+        return false;
+    }
+    state.is_same(b, v)
+}
+
+// The first of two nodes and of two others that meet neither way, where these are open.
 fn open_first(state: &State, ks: &[usize], ls: &[usize]) -> Option<(usize, usize)>
     requires naming { IsNaming state.now }
     requires left { All (λ k. k < length state.now.names) ks.now }
@@ -32,6 +43,9 @@ fn open_first(state: &State, ks: &[usize], ls: &[usize]) -> Option<(usize, usize
         return None;
     }
     if ls.len() != 2 {
+        return None;
+    }
+    if are_crosswise(state, ks[0], ks[1], ls[0], ls[1]) {
         return None;
     }
     if state.is_open(ks[0], ls[0]) {

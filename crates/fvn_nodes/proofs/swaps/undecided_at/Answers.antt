@@ -1,5 +1,5 @@
 -- Nothing is open, or the first arguments are.
-use Rattle.std.proofs.Common.{◌≡◌, ◌≢◌, ◌<◌, ℕ, Bool, true, false, not, nat_eq, [], ◌∷◌, length, All, refl, sym, ap, ◌∙◌, subst, Some, None, Option}
+use Rattle.std.proofs.Common.{◌≡◌, ◌≢◌, ◌<◌, ℕ, Bool, true, false, not, nat_eq, [], ◌∷◌, length, All, refl, sym, ap, ◌∙◌, subst, inl, inr, Some, None, Option}
 use Rattle.std.proofs.lemmas.Bool.{eq-eqb, eqb-true, not-false, not-true}
 use Rattle.fvn_terms.specs.declared.plain.OpId.{OpId}
 use Rattle.fvn_terms.specs.Signature.{axioms}
@@ -29,20 +29,20 @@ pub returns-then-ne : goal.returns-then-ne
 returns-then-ne c =
     let at = (goal.at.returns-then-ne c).In-App-node in
     decided_from c.args.sig.now c.args.table.now c.args.state.now c.requires.closed c.args.i c.args.j c.in-App.f c.in-App-node.g c.in-App.ks c.in-App-node.ls (left_is at) (right_is at)
-    (λ e is same a b v w p q o. let z : true ≡ false = sym c.if-ne.true ∙ c.ne.ensures ∙ ap not (eq-eqb c.in-App.f.0 c.in-App-node.g.0 (ap (λ o. o.0) same)) in cc)
+    (λ e is same a b v w p q. inr (λ o. let z : true ≡ false = sym c.if-ne.true ∙ c.ne.ensures ∙ ap not (eq-eqb c.in-App.f.0 c.in-App-node.g.0 (ap (λ o. o.0) same)) in cc))
 
 pub returns-then-not-is_commutative : goal.returns-then-not-is_commutative
 returns-then-not-is_commutative c =
     let at = (goal.at.returns-then-not-is_commutative c).In-App-node in
     decided_from c.args.sig.now c.args.table.now c.args.state.now c.requires.closed c.args.i c.args.j c.in-App.f c.in-App-node.g c.in-App.ks c.in-App-node.ls (left_is at) (right_is at)
-    (λ e is same a b v w p q o. let z : true ≡ false = sym (c.is_commutative.ensures.1 (c.axioms.ensures ∙ is)) ∙ c.if-not-is_commutative.true in cc)
+    (λ e is same a b v w p q. inr (λ o. let z : true ≡ false = sym (c.is_commutative.ensures.1 (c.axioms.ensures ∙ is)) ∙ c.if-not-is_commutative.true in cc))
 
 pub returns-then-not-is_same : goal.returns-then-not-is_same
 returns-then-not-is_same c =
     let at = (goal.at.returns-then-not-is_same c).In-App-node in
     let s = c.args.state.now in
     decided_from c.args.sig.now c.args.table.now s c.requires.closed c.args.i c.args.j c.in-App.f c.in-App-node.g c.in-App.ks c.in-App-node.ls (left_is at) (right_is at)
-    (λ e is same a b v w p q o. let z : true ≡ false = sym (eq-eqb (class_of s c.args.i) (class_of s c.args.j) e) ∙ sym c.is_same.ensures ∙ c.if-not-is_same.true in cc)
+    (λ e is same a b v w p q. inr (λ o. let z : true ≡ false = sym (eq-eqb (class_of s c.args.i) (class_of s c.args.j) e) ∙ sym c.is_same.ensures ∙ c.if-not-is_same.true in cc))
 
 -- the lists of arguments
 first_is : (c : goal.After-open_first) → IsOpenFirst c.args.state.now c.in-App.ks c.in-App-node.ls c.open_first.result
