@@ -3,6 +3,7 @@ use Rattle.std.proofs.Common.{◌≡◌, ◌≢◌, ◌⊎◌, ℕ, zero, suc, �
 use Rattle.std.proofs.lemmas.Bool.{cases_lt}
 use Rattle.std.proofs.lemmas.List.{append-nil, append_assoc, length-append, length_push, get_or_append_left, get_or_push, get_or_default}
 use Rattle.std.proofs.lemmas.List.Elements.{All-nil, All-push, All-weaker}
+use Rattle.std.proofs.lemmas.Option.{slice_get-get_or}
 use Rattle.fvn_terms.specs.declared.plain.OpId.{OpId}
 use Rattle.fvn_terms.specs.declared.declarations.Declarations.{Declarations}
 use Rattle.fvn_terms.specs.Signature.{axioms}
@@ -19,8 +20,8 @@ same_some : {A : Type 0} (x y : A) → Some x ≡ Some y → x ≡ y
 same_some x y e = cc
 
 -- a node is where it was before others came
-pub node_before : (before now rest : List Node) (i : ℕ) (n : Node) → now ≡ before ++ rest → i < length before → slice_get now i ≡ Some n → slice_get before i ≡ Some n
-node_before before now rest i n is h at = sym (slice_get-append_left before rest i h) ∙ ap (λ ns. slice_get ns i) (sym is) ∙ at
+pub node_before : (before now rest : List Node) (i : ℕ) (n : Node) → now ≡ before ++ rest → i < length before → n ≡ get_or now i n → slice_get before i ≡ Some n
+node_before before now rest i n is h at = slice_get-get_or before i n h ∙ ap Some (sym (at ∙ ap (λ ns. get_or ns i n) is ∙ get_or_append_left before rest n i h))
 
 module _ (d : Declarations) where
   pub no_units : (nodes : List Node) → AreUnitsOf d 0 nodes nodes []

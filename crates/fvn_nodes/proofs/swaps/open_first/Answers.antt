@@ -28,8 +28,8 @@ returns-then-is_open c =
       neither_way s (get_or ks 0 0) (get_or ks 1 0) (get_or ls 0 0) (get_or ls 1 0) o (sym c.are_crosswise.ensures ∙ c.if-are_crosswise.false),
     )
 
-pub returns-else-is_open : goal.returns-else-is_open
-returns-else-is_open c a b v w p q = inr (λ o.
+pub returns : goal.returns
+returns c a b v w p q = inr (λ o.
     let s = c.args.state.now in
     let ks = c.args.ks.now in
     let ls = c.args.ls.now in
