@@ -1,6 +1,6 @@
 -- How members of one class are made alike.
-use Rattle.std.proofs.Common.{◌≡◌, ◌≢◌, ◌⊎◌, ℕ, zero, suc, ◌+◌, ◌<◌, ◌≤◌, Bool, true, false, ◌||◌, List, [], ◌∷◌, length, map, get_or, refl, sym, ap, ◌∙◌, subst, inl, inr, arith, All, Option, is_some}
-use Rattle.std.proofs.lemmas.Bool.{eqb-true, or_cases, or_parts, or_from, not_from_false, cases_eq}
+use Rattle.std.proofs.Common.{◌≡◌, ◌≢◌, ◌⊎◌, ℕ, ◌<◌, Bool, true, false, ◌||◌, List, [], ◌∷◌, length, map, get_or, refl, sym, ap, ◌∙◌, subst, inl, inr, arith, All, is_some}
+use Rattle.std.proofs.lemmas.Bool.{eqb-true, or_cases, or_parts, or_from, not_from_false}
 use Rattle.std.proofs.lemmas.List.{get_or-map, length-map, same_lists}
 use Rattle.fvn_terms.specs.declared.plain.OpId.{OpId}
 use Rattle.fvn_terms.specs.declared.declarations.Axioms.{Axioms}
@@ -10,7 +10,7 @@ use Rattle.fvn_terms.specs.Signature.{axioms}
 use Rattle.fvn_forms.specs.Canon.{identity}
 use Rattle.fvn_flat.specs.Partitions.{HasNoIdentity}
 use Rattle.fvn_nodes.specs.Classes.{AreTogether, MeetEitherWay, MeetInPairs, AreAlike}
-use Rattle.fvn_nodes.specs.States.{Admits, IsNaming, class_of, is_same, is_apart, is_open, IsOpen}
+use Rattle.fvn_nodes.specs.States.{Admits, IsNaming, class_of, is_same, is_apart, IsOpen}
 use Rattle.fvn_nodes.specs.declared.state.State.{State}
 use Rattle.fvn_nodes.specs.inner.Closing.{is_straight}
 use Rattle.fvn_nodes.proofs.Admitting.{admits_same, admits_apart}

@@ -1,16 +1,14 @@
 -- A node is entered.
-use Rattle.std.proofs.Common.{◌≡◌, ◌≢◌, ◌⊎◌, ℕ, zero, suc, ◌+◌, ◌<◌, ◌≤◌, List, [], ◌∷◌, ◌++◌, length, map, get_or, refl, sym, ap, ◌∙◌, subst, inl, inr, arith, All, AllPairs, Some, None, slice_get}
+use Rattle.std.proofs.Common.{◌≡◌, ◌≢◌, ℕ, zero, suc, ◌<◌, List, [], ◌∷◌, ◌++◌, length, map, get_or, refl, sym, ap, ◌∙◌, subst, inl, inr, arith, All, AllPairs, Some, slice_get}
 use Rattle.std.proofs.lemmas.List.{get_or_append_left, length_push, get_or_push, get_or_default}
-use Rattle.std.proofs.lemmas.Option.{slice_get_within, get_or_from_slice_get, slice_get-get_or}
-use Rattle.std.proofs.lemmas.Bool.{cases_order, cases_lt}
-use Rattle.fvn_terms.specs.declared.plain.Var.{Var as Variable}
-use Rattle.fvn_terms.specs.declared.plain.OpId.{OpId}
-use Rattle.fvn_terms.specs.Term.{Term, Terms, var, app, pack}
-use Rattle.fvn_nodes.specs.Table.{nothing, term_over, terms_from, terms_of, term_at, IsOver, IsOrdered}
+use Rattle.std.proofs.lemmas.Option.{slice_get_within}
+use Rattle.std.proofs.lemmas.Bool.{cases_lt}
+use Rattle.fvn_terms.specs.Term.{Term, pack}
+use Rattle.fvn_nodes.specs.Table.{nothing, term_over, terms_of, term_at, IsOrdered}
 use Rattle.fvn_nodes.specs.declared.table.Node.{Node}
 use Rattle.fvn_nodes.specs.declared.table.Node.TheVariants.{Var, App}
 use Rattle.fvn_nodes.specs.inner.Drafts.{AreNodes, IsEntered}
-use Rattle.fvn_nodes.proofs.Nodes.{terms_from-append, length-terms_of, term_at-more, term_at-new, term_at-over, term_at-variable, application_at, variable_at, pack-injective, terms-injective, arguments_within}
+use Rattle.fvn_nodes.proofs.Nodes.{terms_from-append, length-terms_of, term_at-new, term_at-over, term_at-variable, application_at, variable_at, pack-injective, terms-injective, arguments_within}
 
 pub slice_get-append_left : (nodes rest : List Node) (i : ℕ) → i < length nodes → slice_get (nodes ++ rest) i ≡ slice_get nodes i
 slice_get-append_left [] rest i h = absurd (omega arith)

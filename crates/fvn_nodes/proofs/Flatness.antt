@@ -1,18 +1,17 @@
 -- Subterms of flat terms are flat, so that equal ones are one term.
-use Rattle.std.proofs.Common.{◌≡◌, ◌⊎◌, ℕ, zero, suc, ◌+◌, ◌<◌, ◌≤◌, true, false, List, [], ◌∷◌, ◌++◌, length, refl, sym, ap, ◌∙◌, subst, inl, inr, arith, All, Contains}
+use Rattle.std.proofs.Common.{◌≡◌, ◌≤◌, true, false, List, [], ◌∷◌, ◌++◌, length, refl, sym, ap, ◌∙◌, inl, inr, arith, All, Contains}
 use Rattle.std.specs.List.{AllByRecursion}
 use Rattle.std.proofs.lemmas.List.Elements.{All-head, All-tail, Contains-append_cases}
 use Rattle.fvn_base.proofs.Membership.{contains_cases, contains_none}
 use Rattle.fvn_terms.specs.declared.plain.OpId.{OpId}
 use Rattle.fvn_terms.specs.declared.declarations.Declarations.{Declarations}
-use Rattle.fvn_terms.specs.Term.{Term, Terms, var, app, none, more}
+use Rattle.fvn_terms.specs.Term.{Term, var, app, none, more}
 use Rattle.fvn_terms.specs.Signature.{axioms}
 use Rattle.fvn_terms.specs.Equality.{BEqual, IsAssociative}
-use Rattle.fvn_terms.specs.Unifiers.{Problem}
 use Rattle.fvn_forms.specs.Flat.{FlatTerm, FlatTerms, fvar, fapp, fnone, fmore, funpack, fconstant, nest, nest_all, plain, plain_all}
 use Rattle.fvn_forms.specs.InOrder.{InOrder}
 use Rattle.fvn_forms.specs.Canon.{canon}
-use Rattle.fvn_forms.specs.Settled.{Settled, SettledAll, IsPiece, IsJoined}
+use Rattle.fvn_forms.specs.Settled.{Settled, SettledAll, IsPiece}
 use Rattle.fvn_forms.proofs.Sums.{constant_settled}
 use Rattle.fvn_forms.proofs.Eval.{canon_plain, canon_respects}
 use Rattle.fvn_flat.specs.Fits.{Fits}

@@ -1,7 +1,6 @@
 -- How trees change.
 use Rattle.std.proofs.Common.{◌≡◌, ◌≢◌, ◌⊎◌, ℕ, zero, suc, ◌+◌, ◌-◌, ◌*◌, ◌^◌, ◌<◌, ◌≤◌, List, [], ◌∷◌, ◌++◌, length, take, get_or, set, refl, sym, ap, ◌∙◌, subst, inl, inr, arith, All, Any, AllPairs, Option, Some, None, slice_get}
 use Rattle.std.specs.Prelude.{MatchOption, IfSome}
-use Rattle.std.specs.List.{sum_by}
 use Rattle.std.specs.Option.{option_to_list}
 use Rattle.std.proofs.Math.Nat.{pow-le-pow_right, one-le-pow}
 use Rattle.std.proofs.lemmas.Grind.{pow_more}
@@ -12,8 +11,8 @@ use Rattle.std.proofs.lemmas.List.Sums.{sum_by-append, sum_by-cons}
 use Rattle.fvn_terms.specs.declared.declarations.Declarations.{Declarations}
 use Rattle.fvn_nodes.specs.Table.{NodeTable}
 use Rattle.fvn_nodes.specs.Classes.{IsNodePartition}
-use Rattle.fvn_nodes.specs.States.{Admits, IsClosed, IsOpen, open_pairs}
-use Rattle.fvn_nodes.specs.Questions.{IsStart, IsLeft, IsAnswer, AreAnswers}
+use Rattle.fvn_nodes.specs.States.{Admits, IsClosed, open_pairs}
+use Rattle.fvn_nodes.specs.Questions.{IsStart, IsAnswer, AreAnswers}
 use Rattle.fvn_nodes.specs.Trees.{weight, IsToCome, AreClosed, IsAsked}
 use Rattle.fvn_nodes.specs.declared.state.State.{State}
 use Rattle.fvn_nodes.specs.declared.asking.Answers.{Answers}
@@ -111,7 +110,6 @@ module _ (d : Declarations) (t : NodeTable) where
   any_right P xs ys h = (length xs + h.0, h.1, let l = h.2 in let n = length-append xs ys in omega arith, get_or-append-add xs ys h.0 h.1 ∙ h.3, h.4)
 
   module _ (top : State) (i j : ℕ) (a : Answers) (are : AreAnswers d t top i j a) where
-
     pub answers_closed : All (IsClosed d t) (listed a)
     answers_closed = All-append (IsClosed d t) (option_to_list a.apart) (option_to_list a.same) (left_closed top (λ class. class i ≢ class j) a.apart are.apart) (left_closed top (λ class. class i ≡ class j) a.same are.same)
 

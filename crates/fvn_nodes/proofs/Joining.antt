@@ -1,5 +1,5 @@
 -- Two classes become one.
-use Rattle.std.proofs.Common.{◌≡◌, ◌≢◌, ◌⊎◌, ℕ, zero, suc, ◌+◌, ◌<◌, ◌≤◌, min, max, List, [], ◌∷◌, length, map, get_or, sum, refl, sym, ap, ◌∙◌, subst, inl, inr, arith, All}
+use Rattle.std.proofs.Common.{◌≡◌, ◌≢◌, ◌⊎◌, ℕ, zero, suc, ◌+◌, ◌<◌, ◌≤◌, min, max, List, [], ◌∷◌, length, map, get_or, sum, sym, ap, ◌∙◌, subst, inl, inr, arith, All}
 use Rattle.std.specs.Prelude.{if◌then◌else◌}
 use Rattle.std.specs.List.{sum_by}
 use Rattle.std.proofs.lemmas.Bool.{cases_eq, cases_order, eq-eqb, ne_eqb}
@@ -130,7 +130,6 @@ module _ (before : State) (naming : IsNaming before) (i j : ℕ) (left : i < len
 
   meet_ab : (class : ℕ → ℕ) → class i ≡ class j → Admits before class → class a ≡ class b
   meet_ab class e h = ap class a_is ∙ sym (h.together i left) ∙ e ∙ h.together j right ∙ ap class (sym b_is)
-
 
   up_b : a < b → AreJoined i j before after
   up_b lt =

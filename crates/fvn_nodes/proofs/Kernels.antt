@@ -1,28 +1,26 @@
 -- The partition of nodes that a substitution makes.
-use Rattle.std.proofs.Common.{◌≡◌, ◌≢◌, ◌⊎◌, ℕ, zero, suc, ◌+◌, ◌<◌, ◌≤◌, ◌-◌, Bool, true, false, List, [], ◌∷◌, ◌++◌, length, map, get_or, refl, sym, ap, ◌∙◌, subst, inl, inr, arith, All, Option, Some, None, slice_get}
-use Rattle.std.specs.Prelude.{◌↔◌, if◌then◌else◌}
+use Rattle.std.proofs.Common.{◌≡◌, ◌⊎◌, ℕ, zero, suc, ◌+◌, ◌≤◌, ◌-◌, true, false, List, [], ◌∷◌, ◌++◌, length, map, refl, sym, ap, ◌∙◌, subst, inl, inr, arith, All, Option, Some, None}
+use Rattle.std.specs.Prelude.{if◌then◌else◌}
 use Rattle.std.specs.Ordering.{is_gt}
 use Rattle.std.specs.List.{AllByRecursion}
 use Rattle.std.proofs.lemmas.Bool.{cases_lt, cases_Bool}
-use Rattle.std.proofs.lemmas.List.Elements.{All-head, All-tail}
 use Rattle.std.proofs.lemmas.List.{length-map, get_or-map, length-append}
 use Rattle.std.proofs.lemmas.Option.{slice_get_within}
-use Rattle.fvn_terms.specs.declared.plain.Var.{Var as Variable}
 use Rattle.fvn_terms.specs.declared.plain.OpId.{OpId}
 use Rattle.fvn_terms.specs.declared.plain.SortId.{SortId}
 use Rattle.fvn_terms.specs.declared.declarations.Axioms.{Axioms}
 use Rattle.fvn_terms.specs.declared.declarations.Axioms.TheVariants.{Free, Comm, AssocComm, AssocCommId}
 use Rattle.fvn_terms.specs.declared.declarations.Declarations.{Declarations}
-use Rattle.fvn_terms.specs.Term.{Term, Terms, app, none, more, pack}
+use Rattle.fvn_terms.specs.Term.{Term, app, pack}
 use Rattle.fvn_terms.specs.Substitution.{Substitution, apply, apply_all}
-use Rattle.fvn_terms.specs.Signature.{kind, axioms, HasKind, HaveKinds, KeepsKinds, IsTerm}
+use Rattle.fvn_terms.specs.Signature.{kind, axioms, HaveKinds, IsTerm}
 use Rattle.fvn_terms.specs.Equality.{BEqual, IsAssociative}
 use Rattle.fvn_terms.specs.Unifiers.{Problem}
 use Rattle.fvn_terms.proofs.Equal.{HasKind-apply}
-use Rattle.fvn_forms.specs.Flat.{FlatTerm, FlatTerms, fvar, fapp, fnone, fmore, fpack, funpack}
+use Rattle.fvn_forms.specs.Flat.{FlatTerm, FlatTerms, fvar, fapp, fnone, fpack, funpack}
 use Rattle.fvn_forms.specs.Order.{flat_cmp, same_flat}
-use Rattle.fvn_forms.specs.InOrder.{sort, insert}
-use Rattle.fvn_forms.specs.Canon.{identity, parts, all_parts, joined, sum, built, build, canon, eval_all}
+use Rattle.fvn_forms.specs.InOrder.{sort}
+use Rattle.fvn_forms.specs.Canon.{identity, parts, all_parts, joined, built, build, canon, eval_all}
 use Rattle.fvn_forms.specs.Settled.{Settled}
 use Rattle.fvn_forms.specs.FitsKinds.{FitsKinds}
 use Rattle.fvn_forms.proofs.Order.{same_flat_is, same_flat_itself}
@@ -35,10 +33,10 @@ use Rattle.fvn_flat.specs.Problems.{IsProblem}
 use Rattle.fvn_flat.specs.Partitions.{HasNoIdentity}
 use Rattle.fvn_flat.specs.SolvedLists.{IsKindUnifier}
 use Rattle.fvn_nodes.specs.Table.{NodeTable, term_at, IsOver, IsOrdered, IsWellMade, IsTableOf}
-use Rattle.fvn_nodes.specs.Classes.{AreTogether, MeetEitherWay, AreAlike, FitTogether, IsNodePartition}
+use Rattle.fvn_nodes.specs.Classes.{AreTogether, AreAlike}
 use Rattle.fvn_nodes.specs.Unifiers.{value_at, first_at, kernel, Partitions}
 use Rattle.fvn_nodes.specs.declared.table.Node.{Node}
-use Rattle.fvn_nodes.specs.declared.table.Node.TheVariants.{Var, App}
+use Rattle.fvn_nodes.specs.declared.table.Node.TheVariants.{App}
 use Rattle.fvn_nodes.proofs.Nodes.{term_at-over}
 use Rattle.fvn_nodes.proofs.Subterms.{node_kinded}
 
@@ -138,12 +136,12 @@ module _ (d : Declarations) (f : OpId) where
   head_sum e a b ha hb =
       ap head (build_sum d f (subst IsAssociative (sym e) tt) a (b ∷ []))
       ∙ head_joined (sort (all_parts d f (a ∷ b ∷ []))) (
-        let l = length_sort (all_parts d f (a ∷ b ∷ [])) in
-            let m = length-append (parts d f a) (parts d f b ++ []) in
-            let n = length-append (parts d f b) [] in
-            let p = some_part e a ha in
-            let q = some_part e b hb in
-            omega (arith, l, m, n)
+      let l = length_sort (all_parts d f (a ∷ b ∷ [])) in
+      let m = length-append (parts d f a) (parts d f b ++ []) in
+      let n = length-append (parts d f b) [] in
+      let p = some_part e a ha in
+      let q = some_part e b hb in
+      omega (arith, l, m, n)
       )
 
   -- an operator without an identity heads what it builds, if an associative one stands over two

@@ -1,5 +1,5 @@
 -- Moves one after another.
-use Rattle.std.proofs.Common.{◌≡◌, ◌≢◌, ℕ, ◌<◌, ◌≤◌, length, sum, All, refl, sym, ap, ◌∙◌, subst, arith}
+use Rattle.std.proofs.Common.{◌≡◌, ◌≢◌, ℕ, ◌<◌, sum, All, refl, sym, ap, ◌∙◌, subst, arith}
 use Rattle.fvn_nodes.specs.States.{Admits, IsNaming, class_of}
 use Rattle.fvn_nodes.specs.declared.state.State.{State}
 use Rattle.fvn_nodes.specs.declared.closing.Move.{Move}

@@ -1,12 +1,12 @@
 -- The terms of nodes.
-use Rattle.std.proofs.Common.{◌≡◌, ◌≢◌, ◌⊎◌, ℕ, zero, suc, ◌+◌, ◌<◌, ◌≤◌, List, [], ◌∷◌, ◌++◌, length, map, get_or, take, drop, refl, sym, ap, ◌∙◌, subst, inl, inr, arith, All, AllPairs, Some, slice_get}
-use Rattle.std.proofs.lemmas.List.{get_or_append_left, length_push, get_or_push, take-append-drop, drop_more, length-take-le, length-append, append_assoc}
+use Rattle.std.proofs.Common.{◌≡◌, ◌≢◌, ℕ, zero, suc, ◌+◌, ◌<◌, List, [], ◌∷◌, ◌++◌, length, map, get_or, take, drop, refl, sym, ap, ◌∙◌, subst, inl, inr, arith, All, AllPairs, Some, slice_get}
+use Rattle.std.proofs.lemmas.List.{get_or_append_left, length_push, get_or_push, take-append-drop, drop_more, length-take-le, append_assoc}
 use Rattle.std.proofs.lemmas.List.Elements.{All-head, All-tail}
 use Rattle.std.proofs.lemmas.Option.{slice_get_within, get_or_from_slice_get}
 use Rattle.std.proofs.lemmas.Bool.{cases_order}
 use Rattle.fvn_terms.specs.declared.plain.Var.{Var as Variable}
 use Rattle.fvn_terms.specs.declared.plain.OpId.{OpId}
-use Rattle.fvn_terms.specs.Term.{Term, Terms, var, app, none, more, pack}
+use Rattle.fvn_terms.specs.Term.{Term, Terms, var, app, pack}
 use Rattle.fvn_nodes.specs.Table.{nothing, term_over, terms_from, terms_of, term_at, IsOver, IsOrdered}
 use Rattle.fvn_nodes.specs.declared.table.Node.{Node}
 use Rattle.fvn_nodes.specs.declared.table.Node.TheVariants.{Var, App}

@@ -1,13 +1,12 @@
 -- Lists with each member once.
-use Rattle.std.proofs.Common.{◌≡◌, ◌≢◌, ◌⊎◌, ℕ, zero, suc, ◌+◌, ◌<◌, Bool, true, false, not, nat_eq, List, [], ◌∷◌, ◌++◌, length, map, refl, sym, ap, ◌∙◌, subst, inl, inr, arith, All, Contains}
+use Rattle.std.proofs.Common.{◌≡◌, ◌≢◌, ℕ, zero, suc, ◌<◌, Bool, true, false, not, nat_eq, List, [], ◌∷◌, ◌++◌, length, map, refl, sym, ap, ◌∙◌, inl, inr, arith, All, Contains}
 use Rattle.std.specs.Prelude.{◌||◌, cond}
 use Rattle.std.specs.List.{filter, list_any}
-use Rattle.std.proofs.lemmas.Bool.{cases_Bool, cases_eq, eqb-true, eq-eqb, ne_eqb, false_from_ne_true, true_from_ne_false, or_cases, or_parts, or_left, or_right, not_from_false, not_from_true, not-true, not-false}
+use Rattle.std.proofs.lemmas.Bool.{cases_Bool, cases_eq, eqb-true, eq-eqb, ne_eqb, false_from_ne_true, or_cases, or_parts, or_left, or_right}
 use Rattle.std.proofs.lemmas.List.{append-nil}
-use Rattle.std.proofs.lemmas.List.Elements.{filter-append, All-head, All-tail, All-filter, All-weaker, All-cons, All-nil, Contains-get_or}
-use Rattle.fvn_terms.specs.Term.{Term}
+use Rattle.std.proofs.lemmas.List.Elements.{filter-append, All-head, All-tail, All-filter, All-cons}
 use Rattle.fvn_flat.specs.Problems.{same_term, once}
-use Rattle.fvn_nodes.specs.Table.{terms_of, term_at}
+use Rattle.fvn_nodes.specs.Table.{term_at}
 use Rattle.fvn_nodes.specs.declared.table.Node.{Node}
 use Rattle.fvn_nodes.specs.inner.Drafts.{AreNodes, once_each}
 use Rattle.fvn_nodes.proofs.Nodes.{term_at-injective}

@@ -1,5 +1,5 @@
 -- Drafts that grow along pairs.
-use Rattle.std.proofs.Common.{◌≡◌, ℕ, zero, suc, ◌+◌, ◌<◌, List, [], ◌∷◌, ◌++◌, length, map, get_or, take, refl, sym, ap, ◌∙◌, subst, arith, All}
+use Rattle.std.proofs.Common.{◌≡◌, ℕ, ◌+◌, ◌<◌, List, [], ◌∷◌, ◌++◌, length, map, get_or, take, refl, sym, ap, ◌∙◌, subst, arith, All}
 use Rattle.std.proofs.lemmas.List.{append-nil, append_assoc, take_more, map_push}
 use Rattle.std.proofs.lemmas.List.Elements.{All-nil, All-push, All-weaker, All-head, All-tail}
 use Rattle.fvn_terms.specs.Term.{Term}
@@ -10,7 +10,6 @@ use Rattle.fvn_nodes.specs.Table.{term_at}
 use Rattle.fvn_nodes.specs.declared.table.Node.{Node}
 use Rattle.fvn_nodes.specs.declared.building.Draft.{Draft}
 use Rattle.fvn_nodes.specs.inner.Drafts.{HasWalked, AreSides}
-use Rattle.fvn_nodes.proofs.Nodes.{term_at-more}
 use Rattle.fvn_nodes.proofs.Walking.{walked_length, walked_term, walked-then}
 
 subterms_of-push : (problem : Problem) (p : Term × Term) → subterms_of (problem ++ p ∷ []) ≡ subterms_of problem ++ (subterms p.0 ++ subterms p.1)
@@ -53,18 +52,18 @@ module _ (pairs : List (FlatTerm × FlatTerm)) (i : ℕ) (p : FlatTerm × FlatTe
             ∙ ap (λ q. q ++ (plain p.0, plain p.1) ∷ []) (kept sides so_far.within ∙ so_far.are)
             ∙ sym pairs_more;
       }
-      where
-        kept : (qs : List (ℕ × ℕ)) → All (λ q. (q.0 < length b.nodes.items) × (q.1 < length b.nodes.items)) qs → map {B = Term × Term} (λ q. (term_at e.nodes.items q.0, term_at e.nodes.items q.1)) qs ≡ map {B = Term × Term} (λ q. (term_at b.nodes.items q.0, term_at b.nodes.items q.1)) qs
-        kept [] h = refl
-        kept (q ∷ qs) h =
-            let P : ℕ × ℕ → Type 0 = λ q. (q.0 < length b.nodes.items) × (q.1 < length b.nodes.items) in
-            let more = walked-then b c e (subterms (plain p.0)) (subterms (plain p.1)) left right in
-            let w = All-head P q qs h in
-            let x = walked_term b e (subterms (plain p.0) ++ subterms (plain p.1)) more q.0 w.0 in
-            let y = walked_term b e (subterms (plain p.0) ++ subterms (plain p.1)) more q.1 w.1 in
-            let F : ℕ × ℕ → Term × Term = λ q. (term_at e.nodes.items q.0, term_at e.nodes.items q.1) in
-            let one : F q ≡ (term_at b.nodes.items q.0, term_at b.nodes.items q.1) = λ k. (x k, y k) in
-            ap (λ v. v ∷ map F qs) one ∙ ap (λ l. (term_at b.nodes.items q.0, term_at b.nodes.items q.1) ∷ l) (kept qs (All-tail P q qs h))
+    where
+      kept : (qs : List (ℕ × ℕ)) → All (λ q. (q.0 < length b.nodes.items) × (q.1 < length b.nodes.items)) qs → map {B = Term × Term} (λ q. (term_at e.nodes.items q.0, term_at e.nodes.items q.1)) qs ≡ map {B = Term × Term} (λ q. (term_at b.nodes.items q.0, term_at b.nodes.items q.1)) qs
+      kept [] h = refl
+      kept (q ∷ qs) h =
+          let P : ℕ × ℕ → Type 0 = λ q. (q.0 < length b.nodes.items) × (q.1 < length b.nodes.items) in
+          let more = walked-then b c e (subterms (plain p.0)) (subterms (plain p.1)) left right in
+          let w = All-head P q qs h in
+          let x = walked_term b e (subterms (plain p.0) ++ subterms (plain p.1)) more q.0 w.0 in
+          let y = walked_term b e (subterms (plain p.0) ++ subterms (plain p.1)) more q.1 w.1 in
+          let F : ℕ × ℕ → Term × Term = λ q. (term_at e.nodes.items q.0, term_at e.nodes.items q.1) in
+          let one : F q ≡ (term_at b.nodes.items q.0, term_at b.nodes.items q.1) = λ k. (x k, y k) in
+          ap (λ v. v ∷ map F qs) one ∙ ap (λ l. (term_at b.nodes.items q.0, term_at b.nodes.items q.1) ∷ l) (kept qs (All-tail P q qs h))
 
 pub no_sides : (nodes : List Node) → AreSides nodes [] []
 no_sides nodes = record { within = All-nil (λ p. (p.0 < length nodes) × (p.1 < length nodes)); are = refl }

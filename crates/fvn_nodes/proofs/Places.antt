@@ -1,14 +1,13 @@
 -- Partitions of nodes and of terms.
-use Rattle.std.proofs.Common.{◌≡◌, ◌≢◌, ◌⊎◌, ℕ, zero, suc, ◌+◌, ◌<◌, ◌≤◌, Bool, true, false, not, List, [], ◌∷◌, ◌++◌, length, map, get_or, refl, sym, ap, ◌∙◌, subst, inl, inr, arith, All, AllPairs, Contains, Any, Some, slice_get}
+use Rattle.std.proofs.Common.{◌≡◌, ◌≢◌, ◌⊎◌, ℕ, zero, suc, ◌<◌, not, List, [], ◌∷◌, length, map, get_or, refl, sym, ap, ◌∙◌, subst, inl, inr, arith, All, AllPairs, Contains, Some}
 use Rattle.std.specs.Prelude.{if◌then◌else◌}
-use Rattle.std.specs.List.{filter}
 use Rattle.std.proofs.lemmas.Bool.{cases_Bool, false_from_ne_true, not_from_false}
 use Rattle.std.proofs.lemmas.List.{get_or-map, length-map}
 use Rattle.std.proofs.lemmas.List.Elements.{All-head, All-tail, All-map}
 use Rattle.std.proofs.lemmas.Option.{slice_get_within}
 use Rattle.fvn_base.proofs.Membership.{contains_cases, contains_none, contains_filter}
 use Rattle.fvn_terms.specs.declared.plain.OpId.{OpId}
-use Rattle.fvn_terms.specs.declared.declarations.Axioms.TheVariants.{Free, Comm, AssocCommId}
+use Rattle.fvn_terms.specs.declared.declarations.Axioms.TheVariants.{Free, Comm}
 use Rattle.fvn_terms.specs.declared.declarations.Declarations.{Declarations}
 use Rattle.fvn_terms.specs.Term.{Term, Terms, app, none, more, pack}
 use Rattle.fvn_terms.specs.Signature.{axioms}
@@ -18,15 +17,14 @@ use Rattle.fvn_forms.specs.Canon.{identity}
 use Rattle.fvn_forms.proofs.ToCanon.{identity_is}
 use Rattle.fvn_flat.specs.Fits.{Fits}
 use Rattle.fvn_flat.specs.Problems.{subterms_of, same_term, once, plain_pairs}
-use Rattle.fvn_flat.specs.Partitions.{HasNoIdentity, PlaceByPlace, Heads, IsUnit, IsNode, IsPartition}
+use Rattle.fvn_flat.specs.Partitions.{PlaceByPlace, IsUnit, IsNode, IsPartition}
 use Rattle.fvn_flat.specs.Solving.{FlatPairs}
 use Rattle.fvn_nodes.specs.Table.{nothing, NodeTable, IsWellMade, IsTableOf, IsUnitOf, IsOver, terms_of, term_at}
-use Rattle.fvn_nodes.specs.Classes.{AreTogether, MeetEitherWay, AreAlike, FitTogether, IsNodePartition}
+use Rattle.fvn_nodes.specs.Classes.{AreTogether, MeetEitherWay, AreAlike, IsNodePartition}
 use Rattle.fvn_nodes.specs.Laws.{place_of, class_at, ArePartitionsOf}
-use Rattle.fvn_nodes.specs.declared.table.Node.{Node}
 use Rattle.fvn_nodes.specs.declared.table.Node.TheVariants.{App}
 use Rattle.fvn_nodes.proofs.Terms.{same_term_itself, same_term_is}
-use Rattle.fvn_nodes.proofs.Nodes.{length-terms_of, term_at-over, IsApplication, application_at, arguments_within}
+use Rattle.fvn_nodes.proofs.Nodes.{length-terms_of, term_at-over, application_at, arguments_within}
 use Rattle.fvn_nodes.proofs.Subterms.{listed_subterm}
 use Rattle.fvn_nodes.proofs.Flatness.{IsFlatTerm, flat_equal, pairs_flat, constant_flat}
 

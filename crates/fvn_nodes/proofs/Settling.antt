@@ -1,5 +1,5 @@
 -- What is settled of two nodes, and what partitions ask of them.
-use Rattle.std.proofs.Common.{◌≡◌, ◌≢◌, ◌⊎◌, ℕ, ◌+◌, ◌<◌, ◌≤◌, ◌-◌, Bool, true, false, not, ◌&&◌, ◌||◌, nat_eq, List, [], ◌∷◌, length, map, refl, sym, ap, ◌∙◌, subst, inl, inr, arith, All, Some, slice_get}
+use Rattle.std.proofs.Common.{◌≡◌, ◌≢◌, ℕ, ◌<◌, ◌≤◌, ◌-◌, Bool, true, false, not, ◌&&◌, ◌||◌, nat_eq, List, [], ◌∷◌, length, map, refl, sym, ap, ◌∙◌, subst, inl, inr, arith, All, Some, slice_get}
 use Rattle.std.specs.Prelude.{cond}
 use Rattle.std.specs.List.{list_any}
 use Rattle.std.proofs.lemmas.Bool.{cases_eq, cases_order, eqb-true, eq-eqb, ne_eqb, both_ways, or_parts}
@@ -11,7 +11,7 @@ use Rattle.fvn_terms.specs.declared.plain.OpId.{OpId}
 use Rattle.fvn_terms.specs.declared.declarations.Declarations.{Declarations}
 use Rattle.fvn_terms.specs.Signature.{axioms}
 use Rattle.fvn_nodes.specs.Table.{NodeTable, IsOver}
-use Rattle.fvn_nodes.specs.Classes.{AreTogether, MeetEitherWay, MeetInPairs, AreAlike, FitTogether, IsPartitionBut, IsNodePartition}
+use Rattle.fvn_nodes.specs.Classes.{AreTogether, MeetEitherWay, AreAlike, FitTogether, IsNodePartition}
 use Rattle.fvn_nodes.specs.States.{Admits, IsNaming, class_of, is_same, is_apart, is_open, IsOpen, IsClosed}
 use Rattle.fvn_nodes.specs.declared.state.State.{State}
 use Rattle.fvn_nodes.specs.declared.table.Node.{Node}

@@ -1,12 +1,12 @@
 -- How states begin, and what is left of them after a question.
-use Rattle.std.proofs.Common.{◌≡◌, ◌≢◌, ℕ, ◌+◌, ◌<◌, ◌≤◌, true, false, List, [], ◌∷◌, ◌++◌, length, take, get_or, refl, sym, ap, ◌∙◌, subst, arith, All, Contains, Option, Some, None}
+use Rattle.std.proofs.Common.{◌≡◌, ◌≢◌, ℕ, ◌+◌, ◌<◌, List, [], ◌∷◌, ◌++◌, length, take, get_or, refl, sym, ap, ◌∙◌, subst, arith, All, Contains, Option, Some, None}
 use Rattle.std.proofs.lemmas.List.{take-take, get_or-take, length-take-le, get_or_default}
 use Rattle.std.proofs.lemmas.List.Elements.{All-nil, All-more, All-push, All-take, All-same, Contains-append_left, Contains-push}
 use Rattle.fvn_terms.specs.declared.declarations.Declarations.{Declarations}
 use Rattle.fvn_nodes.specs.Table.{NodeTable, IsWellMade}
 use Rattle.fvn_nodes.specs.Classes.{IsNodePartition}
-use Rattle.fvn_nodes.specs.States.{Admits, IsNaming, IsClosed, IsOpen, class_of, is_open}
-use Rattle.fvn_nodes.specs.Questions.{IsStart, IsLeft, IsAnswer}
+use Rattle.fvn_nodes.specs.States.{Admits, IsNaming, IsClosed, IsOpen, class_of}
+use Rattle.fvn_nodes.specs.Questions.{IsStart, IsAnswer}
 use Rattle.fvn_nodes.specs.declared.state.State.{State}
 use Rattle.fvn_nodes.specs.declared.closing.Move.{Move}
 use Rattle.fvn_nodes.specs.declared.closing.Move.TheVariants.{Stays, Changes, Clashes}
@@ -110,7 +110,7 @@ module _ (d : Declarations) (t : NodeTable) where
                 );
             forced = λ class partition a e. h.2.forced class partition (forced.forced class e a);
             falls = open_falls s r all.whole whole.coarser closed.naming (λ p c. subst (λ l. Contains l p) (sym all.apart) c) i j l m open_now
-              (same_not_open r i j (sym (h.2.coarser i (omega arith)) ∙ ap (class_of r) together ∙ h.2.coarser j (omega arith)));
+                (same_not_open r i j (sym (h.2.coarser i (omega arith)) ∙ ap (class_of r) together ∙ h.2.coarser j (omega arith)));
           }
 
     -- the two nodes are kept apart
@@ -163,6 +163,6 @@ module _ (d : Declarations) (t : NodeTable) where
                 );
             forced = λ class partition a n. h.2.forced class partition (parted_admits class a n);
             falls = open_falls s r (h.1.whole ∙ n_is) (λ k l. ap (class_of r) (sym (class_is k)) ∙ h.2.coarser k (let m = n_is in omega arith)) closed.naming
-              (λ p c. subst (λ l. Contains l p) (sym h.1.apart) (kept_apart p c)) i j left_in right_in open_now
-              (apart_not_open r i j (subst (λ l. Contains l (i, j)) (sym h.1.apart) there));
+                (λ p c. subst (λ l. Contains l p) (sym h.1.apart) (kept_apart p c)) i j left_in right_in open_now
+                (apart_not_open r i j (subst (λ l. Contains l (i, j)) (sym h.1.apart) there));
           }

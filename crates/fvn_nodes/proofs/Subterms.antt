@@ -1,23 +1,18 @@
 -- Subterms are well-kinded where the terms of a problem are.
-use Rattle.std.proofs.Common.{◌≡◌, ◌⊎◌, ℕ, zero, suc, ◌<◌, List, [], ◌∷◌, ◌++◌, length, map, get_or, refl, sym, ap, ◌∙◌, subst, inl, inr, arith, All, Contains}
+use Rattle.std.proofs.Common.{◌≡◌, ℕ, zero, suc, ◌<◌, List, [], ◌∷◌, ◌++◌, length, sym, subst, inl, inr, arith, All, Contains}
 use Rattle.std.specs.Prelude.{not}
 use Rattle.std.specs.List.{filter}
 use Rattle.std.proofs.lemmas.List.Elements.{All-head, All-tail, All-cons, All-filter, All-contains, All-contains_itself, Contains-append_cases}
 use Rattle.fvn_base.proofs.Membership.{contains_cases, contains_none, contains_map}
 use Rattle.fvn_terms.specs.declared.plain.OpId.{OpId}
 use Rattle.fvn_terms.specs.declared.plain.SortId.{SortId}
-use Rattle.fvn_terms.specs.declared.declarations.Axioms.{Axioms}
-use Rattle.fvn_terms.specs.declared.declarations.Axioms.TheVariants.{AssocCommId}
 use Rattle.fvn_terms.specs.declared.declarations.Declarations.{Declarations}
 use Rattle.fvn_terms.specs.Term.{Term, Terms, var, app, none, more}
 use Rattle.fvn_terms.specs.Signature.{kind, axioms, HasKind, HaveKinds, IsTerm}
-use Rattle.fvn_terms.specs.Equality.{constant}
 use Rattle.fvn_terms.specs.Unifiers.{Problem}
 use Rattle.fvn_forms.specs.FitsKinds.{FitsKinds}
-use Rattle.fvn_forms.specs.Canon.{identity}
 use Rattle.fvn_forms.proofs.ToCanon.{identity_is}
 use Rattle.fvn_flat.specs.Problems.{subterms, subterms_among, subterms_of, same_term, once, IsProblem}
-use Rattle.fvn_flat.specs.Partitions.{Heads}
 use Rattle.fvn_nodes.specs.Table.{NodeTable, IsTableOf, IsUnitOf, term_at}
 
 -- a list of one

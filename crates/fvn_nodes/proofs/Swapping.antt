@@ -1,5 +1,5 @@
 -- When it is decided which way commutative nodes meet.
-use Rattle.std.proofs.Common.{◌≡◌, ◌≢◌, ◌⊎◌, ℕ, ◌<◌, true, false, not, ◌&&◌, ◌||◌, List, [], ◌∷◌, length, refl, sym, ap, ◌∙◌, subst, inl, inr, Option, Some, None, slice_get}
+use Rattle.std.proofs.Common.{◌≡◌, ◌≢◌, ◌⊎◌, ℕ, ◌<◌, true, false, not, ◌&&◌, ◌||◌, List, [], ◌∷◌, length, sym, ap, ◌∙◌, subst, inl, inr, Option, Some, None, slice_get}
 use Rattle.std.proofs.lemmas.Bool.{eq-eqb, eqb-true, or_left, and_parts, and_from}
 use Rattle.std.proofs.lemmas.Option.{slice_get_within}
 use Rattle.fvn_terms.specs.declared.plain.Var.{Var as Variable}
@@ -8,7 +8,7 @@ use Rattle.fvn_terms.specs.declared.declarations.Axioms.TheVariants.{Comm}
 use Rattle.fvn_terms.specs.declared.declarations.Declarations.{Declarations}
 use Rattle.fvn_terms.specs.Signature.{axioms}
 use Rattle.fvn_nodes.specs.Table.{NodeTable, IsOver}
-use Rattle.fvn_nodes.specs.Classes.{MeetEitherWay, FitTogether, IsNodePartition}
+use Rattle.fvn_nodes.specs.Classes.{MeetEitherWay, IsNodePartition}
 use Rattle.fvn_nodes.specs.States.{class_of, is_same, is_apart, IsOpen, IsClosed}
 use Rattle.fvn_nodes.specs.declared.state.State.{State}
 use Rattle.fvn_nodes.specs.declared.table.Node.TheVariants.{Var, App}

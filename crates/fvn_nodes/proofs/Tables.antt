@@ -1,8 +1,8 @@
 -- The table of a problem.
-use Rattle.std.proofs.Common.{◌≡◌, ◌≢◌, ◌⊎◌, ℕ, zero, suc, ◌+◌, ◌<◌, ◌≤◌, List, [], ◌∷◌, ◌++◌, length, map, get_or, refl, sym, ap, ◌∙◌, subst, inl, inr, arith, All, Any, AllPairs, Contains, Some, None, slice_get}
+use Rattle.std.proofs.Common.{◌≡◌, ℕ, ◌<◌, ◌≤◌, List, [], ◌∷◌, ◌++◌, length, map, refl, sym, ap, ◌∙◌, subst, inl, inr, arith, All, Any, Contains, Some, None}
 use Rattle.std.proofs.lemmas.Bool.{cases_lt}
-use Rattle.std.proofs.lemmas.List.{append-nil, append_assoc, length-append, get_or_append_left}
-use Rattle.std.proofs.lemmas.List.Elements.{All-nil, All-weaker, All-map, All-head, All-tail, All-get_or}
+use Rattle.std.proofs.lemmas.List.{length-append}
+use Rattle.std.proofs.lemmas.List.Elements.{All-weaker, All-head, All-tail}
 use Rattle.std.proofs.lemmas.Option.{slice_get_within}
 use Rattle.fvn_base.proofs.Membership.{contains_map, map_contains}
 use Rattle.fvn_terms.specs.declared.plain.OpId.{OpId}
@@ -13,7 +13,7 @@ use Rattle.fvn_terms.specs.Unifiers.{Problem}
 use Rattle.fvn_forms.specs.Canon.{identity}
 use Rattle.fvn_flat.specs.Problems.{subterms_of, once}
 use Rattle.fvn_flat.specs.Partitions.{Heads}
-use Rattle.fvn_nodes.specs.Table.{NodeTable, IsWellMade, IsTableOf, IsUnitOf, IsOver, IsOrdered, terms_of, term_at}
+use Rattle.fvn_nodes.specs.Table.{NodeTable, IsWellMade, IsTableOf, IsUnitOf, term_at}
 use Rattle.fvn_nodes.specs.declared.table.Node.{Node}
 use Rattle.fvn_nodes.specs.declared.table.Node.TheVariants.{App}
 use Rattle.fvn_nodes.specs.declared.building.Draft.{Draft}
@@ -37,7 +37,7 @@ sides-more nodes rest (p ∷ sides) h =
     ap (λ q. q ∷ map F sides) one ∙ ap (λ l. (term_at nodes p.0, term_at nodes p.1) ∷ l) (sides-more nodes rest sides (All-tail P p sides h))
 
 module _ (d : Declarations) (problem : Problem) (empty draft : Draft) (no_nodes : empty.nodes.items ≡ []) (no_walk : empty.walk.items ≡ []) (walked : HasWalked empty draft (subterms_of problem)) (are : AreNodes draft.nodes.items) (sides : List (ℕ × ℕ)) (are_sides : AreSides draft.nodes.items sides problem) (subterms : List ℕ) (once_is : subterms ≡ once_each draft.walk.items)
-  (now : List Node) (units : List (OpId × ℕ)) (nodes : AreNodes now) (are_units : AreUnitsOf d (length draft.nodes.items) draft.nodes.items now units) where
+    (now : List Node) (units : List (OpId × ℕ)) (nodes : AreNodes now) (are_units : AreUnitsOf d (length draft.nodes.items) draft.nodes.items now units) where
   abbrev before : List Node
   before = draft.nodes.items
 

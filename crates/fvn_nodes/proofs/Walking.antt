@@ -1,10 +1,10 @@
 -- Drafts that grow along terms.
-use Rattle.std.proofs.Common.{◌≡◌, ◌≢◌, ◌⊎◌, ℕ, zero, suc, ◌+◌, ◌<◌, ◌≤◌, List, [], ◌∷◌, ◌++◌, length, map, get_or, set, take, refl, sym, ap, ◌∙◌, subst, inl, inr, arith, All, Contains, Some, slice_get}
+use Rattle.std.proofs.Common.{◌≡◌, ℕ, zero, suc, ◌+◌, ◌<◌, ◌≤◌, List, [], ◌∷◌, ◌++◌, length, map, get_or, set, take, refl, sym, ap, ◌∙◌, subst, inl, inr, arith, All}
 use Rattle.std.proofs.lemmas.List.{append-nil, append_assoc, length-append, length_push, map-append, set_at, take_more, map_push}
-use Rattle.std.proofs.lemmas.List.Elements.{All-append, All-weaker, All-cons, All-push, Contains-append_left, Contains-append_right}
+use Rattle.std.proofs.lemmas.List.Elements.{All-append, All-weaker, All-cons, Contains-append_left, Contains-append_right}
 use Rattle.std.proofs.lemmas.Bool.{cases_lt}
 use Rattle.fvn_terms.specs.declared.plain.Plain.{Plain}
-use Rattle.fvn_terms.specs.Term.{Term, Terms, app, none, more, pack, nodes, nodes_all}
+use Rattle.fvn_terms.specs.Term.{Term, Terms, none, more, pack, nodes, nodes_all}
 use Rattle.fvn_terms.specs.Plain.{term, terms}
 use Rattle.fvn_terms.proofs.Plains.{push, terms-push}
 use Rattle.fvn_flat.specs.Problems.{subterms, subterms_among}
@@ -62,7 +62,7 @@ walked-then a b c ts us p q =
 
 -- a walk that begins at a place that is filled in at its end
 module _ (before begun after : Draft) (ts : List Term) (now : List Node) (n : Node) (t : Term) (place : ℕ) (begun_nodes : begun.nodes.items ≡ before.nodes.items) (begun_walk : begun.walk.items ≡ before.walk.items ++ 0 ∷ []) (w : HasWalked begun after ts)
-  (are : AreNodes after.nodes.items) (arguments : HasArguments after.nodes.items n) (entered : IsEntered after.nodes.items now n place) (is : term_at now place ≡ t) where
+    (are : AreNodes after.nodes.items) (arguments : HasArguments after.nodes.items n) (entered : IsEntered after.nodes.items now n place) (is : term_at now place ≡ t) where
   -- the nodes that are new with n
   rest_with : (xs : List Node) × (now ≡ after.nodes.items ++ xs)
   rest_with = elim entered.how [

@@ -200,7 +200,13 @@ fn new_unit(sig: &Signature, units: &[(OpId, usize)], node: &Node) -> Option<(Op
         Node::Var(_) => None,
         Node::App(f, _) => match identity_of(sig.axioms(*f)) {
             None => None,
-            Some(e) => { if is_listed(units, *f) { None } else { Some((*f, e)) } }
+            Some(e) => {
+                if is_listed(units, *f) {
+                    None
+                } else {
+                    Some((*f, e))
+                }
+            }
         },
     }
 }

@@ -89,12 +89,7 @@ fn undecided_at(
 }
 
 // The first arguments of node i and another one.
-fn undecided_in(
-    sig: &Signature,
-    table: &Table,
-    state: &State,
-    i: usize,
-) -> Option<(usize, usize)>
+fn undecided_in(sig: &Signature, table: &Table, state: &State, i: usize) -> Option<(usize, usize)>
     requires closed { IsClosed sig.now table.now state.now }
     requires within { i < length table.now.nodes }
     ensures { IsUndecidedIn sig.now table.now state.now i result }

@@ -1,7 +1,6 @@
 -- The pair is kept apart, and the state is closed again.
-use Rattle.std.proofs.Common.{◌≡◌, ◌<◌, ℕ, [], ◌∷◌, ◌++◌, length, All, refl, sym, ap, ◌∙◌, subst}
+use Rattle.std.proofs.Common.{◌≡◌, [], ◌∷◌, ◌++◌, length, ap, ◌∙◌}
 use Rattle.fvn_nodes.specs.declared.state.State.{State}
-use Rattle.fvn_nodes.specs.inner.Closing.{state_of}
 use Rattle.fvn_nodes.proofs.Starting.{parted_naming, parted_sides, apart_is}
 use Rattle.fvn_nodes.proofs.asking.ask_apart.Goals as goal
 use Rattle.fvn_nodes.proofs.asking.ask_apart.Goals.{In_ok-push}

@@ -1,5 +1,5 @@
 -- The nodes are joined, and the state is closed again.
-use Rattle.std.proofs.Common.{◌≡◌, ◌<◌, ℕ, length, All, refl, sym, ap, ◌∙◌, subst}
+use Rattle.std.proofs.Common.{◌≡◌, ℕ, sym, ◌∙◌, subst}
 use Rattle.fvn_nodes.specs.States.{IsNaming, class_of}
 use Rattle.fvn_nodes.specs.declared.state.State.{State}
 use Rattle.fvn_nodes.specs.inner.Closing.{state_of, HasSameNodes, IsForced}

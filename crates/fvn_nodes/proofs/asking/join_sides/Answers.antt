@@ -1,5 +1,5 @@
 -- One more pair.
-use Rattle.std.proofs.Common.{◌≡◌, ◌<◌, ℕ, length, get_or, refl, sym, ap, ◌∙◌, arith}
+use Rattle.std.proofs.Common.{get_or, refl, arith}
 use Rattle.fvn_nodes.specs.inner.Closing.{state_of}
 use Rattle.fvn_nodes.proofs.Starting.{joined_none, joined_more}
 use Rattle.fvn_nodes.proofs.asking.join_sides.Goals as goal

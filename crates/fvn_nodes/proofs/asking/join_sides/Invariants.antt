@@ -1,5 +1,5 @@
 -- The sides so far are joined.
-use Rattle.std.proofs.Common.{ℕ, take}
+use Rattle.std.proofs.Common.{take}
 use Rattle.fvn_nodes.specs.inner.Closing.{state_of}
 use Rattle.fvn_nodes.specs.inner.Starts.{IsJoinedFrom}
 use Rattle.fvn_nodes.proofs.asking.join_sides.Given as goal

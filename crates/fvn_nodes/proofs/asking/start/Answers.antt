@@ -1,5 +1,5 @@
 -- What every partition has, closed.
-use Rattle.std.proofs.Common.{◌≡◌, ◌<◌, ℕ, length, All, refl, sym, ap, ◌∙◌, subst}
+use Rattle.std.proofs.Common.{◌<◌, length, All, sym, ◌∙◌, subst}
 use Rattle.fvn_nodes.specs.inner.Closing.{state_of}
 use Rattle.fvn_nodes.specs.inner.Starts.{IsSingles, IsJoinedFrom}
 use Rattle.fvn_nodes.proofs.Starting.{singles_naming, started_sides, start_is}

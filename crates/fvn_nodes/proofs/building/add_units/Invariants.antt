@@ -1,5 +1,4 @@
 -- The operators of the nodes so far have their entries.
-use Rattle.std.proofs.Common.{◌≡◌, ◌<◌, ℕ}
 use Rattle.fvn_nodes.specs.inner.Drafts.{AreNodes, AreUnitsOf}
 use Rattle.fvn_nodes.proofs.building.add_units.Given as goal
 

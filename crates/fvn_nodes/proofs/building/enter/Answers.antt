@@ -1,6 +1,5 @@
 -- The node is there, or it comes to the end.
-use Rattle.std.proofs.Common.{◌≡◌, ◌≢◌, ℕ, [], ◌∷◌, ◌++◌, length, Some, slice_get, refl, sym, ap, ◌∙◌, subst, inl, inr}
-use Rattle.fvn_nodes.specs.declared.table.Node.{Node}
+use Rattle.std.proofs.Common.{[], ◌∷◌, ◌++◌, slice_get, refl, sym, ap, ◌∙◌, inl, inr}
 use Rattle.fvn_nodes.proofs.Entering.{slice_get-push}
 use Rattle.fvn_nodes.proofs.building.enter.Goals as goal
 

@@ -1,5 +1,5 @@
 -- The table is that of the problem.
-use Rattle.std.proofs.Common.{◌≡◌, ℕ, [], refl, sym, ap, ◌∙◌, subst}
+use Rattle.std.proofs.Common.{sym, ap, ◌∙◌, subst}
 use Rattle.fvn_flat.specs.Problems.{subterms_of, plain_pairs}
 use Rattle.fvn_flat.specs.Solving.{problem_of}
 use Rattle.fvn_nodes.specs.declared.building.Draft.{Draft}

@@ -1,8 +1,5 @@
 -- What is settled without a clash is closed.
-use Rattle.std.proofs.Common.{◌≡◌, ◌≢◌, ℕ, ◌<◌, true, false, length, All, refl, sym, ap, ◌∙◌, subst}
-use Rattle.fvn_nodes.specs.Classes.{IsNodePartition}
-use Rattle.fvn_nodes.specs.States.{class_of, is_same}
-use Rattle.fvn_nodes.specs.declared.state.State.{State}
+use Rattle.std.proofs.Common.{◌≡◌, length, sym, ◌∙◌, subst}
 use Rattle.fvn_nodes.specs.inner.Closing.{state_of, IsClosureOf}
 use Rattle.fvn_nodes.proofs.Settling.{closed_from, apart_clash, apart_kept, sides_kept}
 use Rattle.std.specs.Prelude.{Some}

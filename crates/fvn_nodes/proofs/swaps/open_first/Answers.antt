@@ -1,7 +1,7 @@
 -- Two and two nodes, whose first are open.
-use Rattle.std.proofs.Common.{◌≡◌, ℕ, true, false, ◌&&◌, [], ◌∷◌, get_or, refl, sym, ap, ◌∙◌, subst, inl, inr}
+use Rattle.std.proofs.Common.{◌≡◌, true, false, get_or, sym, ◌∙◌, subst, inl, inr}
 use Rattle.fvn_nodes.specs.Classes.{MeetEitherWay}
-use Rattle.fvn_nodes.specs.States.{class_of, is_same, is_open, IsOpen}
+use Rattle.fvn_nodes.specs.States.{class_of, is_open, IsOpen}
 use Rattle.fvn_nodes.proofs.Alike.{two_items}
 use Rattle.fvn_nodes.proofs.Swapping.{crosswise, neither_way}
 use Rattle.fvn_nodes.proofs.swaps.open_first.Goals as goal

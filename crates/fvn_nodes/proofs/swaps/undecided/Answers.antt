@@ -1,5 +1,5 @@
 -- One more node; when all are decided the classes are a partition.
-use Rattle.std.proofs.Common.{ℕ, ◌<◌, length, arith, below_more, ◌≡◌, sym, ap, ◌∙◌, subst, None}
+use Rattle.std.proofs.Common.{length, arith, below_more, ap, None}
 use Rattle.fvn_nodes.specs.inner.Swaps.{IsUndecidedIn}
 use Rattle.fvn_nodes.proofs.Swapping.{decided_partition}
 use Rattle.fvn_nodes.proofs.swaps.undecided.Goals as goal

@@ -1,13 +1,11 @@
 -- Nothing is open, or the first arguments are.
-use Rattle.std.proofs.Common.{◌≡◌, ◌≢◌, ◌<◌, ℕ, Bool, true, false, not, nat_eq, [], ◌∷◌, length, All, refl, sym, ap, ◌∙◌, subst, inl, inr, Some, None, Option}
-use Rattle.std.proofs.lemmas.Bool.{eq-eqb, eqb-true, not-false, not-true}
-use Rattle.fvn_terms.specs.declared.plain.OpId.{OpId}
-use Rattle.fvn_terms.specs.Signature.{axioms}
+use Rattle.std.proofs.Common.{◌≡◌, ◌<◌, true, false, not, length, All, sym, ap, ◌∙◌, subst, inr, Some}
+use Rattle.std.proofs.lemmas.Bool.{eq-eqb, eqb-true, not-false}
 use Rattle.fvn_forms.specs.Canon.{same_op}
 use Rattle.fvn_forms.proofs.Sums.{same_op_is}
 use Rattle.fvn_nodes.specs.Table.{IsOver}
-use Rattle.fvn_nodes.specs.States.{class_of, is_same}
-use Rattle.fvn_nodes.specs.inner.Swaps.{IsOpenFirst, IsUndecidedAt}
+use Rattle.fvn_nodes.specs.States.{class_of}
+use Rattle.fvn_nodes.specs.inner.Swaps.{IsOpenFirst}
 use Rattle.fvn_nodes.proofs.Nodes.{arguments_within}
 use Rattle.fvn_nodes.proofs.Swapping.{decided_variable, decided_variable_right, decided_from, swap_from}
 use Rattle.fvn_nodes.proofs.swaps.undecided_at.Goals as goal

@@ -1,5 +1,5 @@
 -- One more node.
-use Rattle.std.proofs.Common.{ℕ, ◌<◌, length, arith, below_more, ◌≡◌, sym, ap, ◌∙◌, subst}
+use Rattle.std.proofs.Common.{below_more}
 use Rattle.fvn_nodes.specs.inner.Swaps.{AreDecided}
 use Rattle.fvn_nodes.proofs.swaps.undecided_in.Goals as goal
 

@@ -1,5 +1,5 @@
 -- The last state is overwritten.
-use Rattle.std.proofs.Common.{◌≡◌, ℕ, ◌+◌, ◌-◌, [], ◌∷◌, ◌++◌, length, take, set, refl, sym, ap, ◌∙◌, arith}
+use Rattle.std.proofs.Common.{◌≡◌, ◌-◌, length, set, ap, ◌∙◌, arith}
 use Rattle.fvn_nodes.proofs.Growing.{set_last_is}
 use Rattle.fvn_nodes.proofs.tree.set_last.Goals as goal
 

@@ -1,5 +1,5 @@
 -- One state is pushed, and then the last one before is overwritten.
-use Rattle.std.proofs.Common.{◌≡◌, ℕ, ◌+◌, ◌-◌, [], ◌∷◌, ◌++◌, length, take, set, refl, sym, ap, ◌∙◌, arith}
+use Rattle.std.proofs.Common.{◌≡◌, ◌-◌, [], ◌∷◌, ◌++◌, length, set, ap, ◌∙◌, arith}
 use Rattle.fvn_nodes.proofs.Growing.{set_last_two_is}
 use Rattle.fvn_nodes.proofs.tree.set_last_two.Goals as goal
 

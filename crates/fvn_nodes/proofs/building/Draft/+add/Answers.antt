@@ -1,8 +1,7 @@
 -- The walk goes on.
-use Rattle.std.proofs.Common.{◌≡◌, ◌<◌, ◌+◌, ℕ, [], ◌∷◌, ◌++◌, length, map, take, All, refl, sym, ap, ◌∙◌, subst, arith}
+use Rattle.std.proofs.Common.{◌≡◌, ◌<◌, ℕ, [], ◌∷◌, length, map, take, All, refl, sym, ap, ◌∙◌, subst, arith}
 use Rattle.std.proofs.lemmas.List.{take_all, length_push, length-append}
 use Rattle.std.proofs.lemmas.List.Elements.{All-nil, All-push}
-use Rattle.fvn_terms.specs.declared.plain.Plain.{Plain}
 use Rattle.fvn_terms.specs.Term.{app, pack, nodes_all}
 use Rattle.fvn_terms.specs.Plain.{term, terms}
 use Rattle.fvn_terms.specs.Falls.{deep_le_nodes}
@@ -10,7 +9,7 @@ use Rattle.fvn_flat.specs.Problems.{subterms, subterms_among}
 use Rattle.fvn_nodes.specs.Table.{term_at}
 use Rattle.fvn_nodes.specs.declared.building.Draft.{Draft}
 use Rattle.fvn_nodes.specs.declared.table.Node.TheVariants.{Var, App}
-use Rattle.fvn_nodes.specs.inner.Drafts.{AreNodes, HasWalked}
+use Rattle.fvn_nodes.specs.inner.Drafts.{HasWalked}
 use Rattle.fvn_nodes.proofs.Walking.{IsNoted, noted, walked-none, walked-then, walked_within, nodes-argument, subterms_among-more, places-more}
 use Rattle.fvn_nodes.proofs.building.Draft.+add.Goals as goal
 use Rattle.fvn_nodes.proofs.building.Draft.+add.Goals.{add-In_ok-place-in-Var, add-In_ok-place-in-App, add_all-After-loop-u}

@@ -1,5 +1,5 @@
 -- The terms so far are walked through.
-use Rattle.std.proofs.Common.{◌≡◌, ◌<◌, ℕ, length, map, take, All}
+use Rattle.std.proofs.Common.{◌≡◌, ◌<◌, length, map, take, All}
 use Rattle.fvn_terms.specs.Term.{pack}
 use Rattle.fvn_terms.specs.Plain.{terms}
 use Rattle.fvn_flat.specs.Problems.{subterms_among}

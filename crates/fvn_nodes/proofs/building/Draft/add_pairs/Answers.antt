@@ -1,8 +1,7 @@
 -- The walk goes on along one more pair.
-use Rattle.std.proofs.Common.{◌≡◌, ℕ, ◌+◌, [], ◌∷◌, ◌++◌, length, take, refl, sym, ap, ◌∙◌, subst}
-use Rattle.std.proofs.lemmas.List.{take_all}
-use Rattle.fvn_flat.specs.Problems.{subterms_of, plain_pairs}
-use Rattle.fvn_nodes.specs.inner.Drafts.{AreNodes, HasWalked, AreSides}
+use Rattle.std.proofs.Common.{◌+◌, [], take, sym, subst}
+use Rattle.fvn_flat.specs.Problems.{plain_pairs}
+use Rattle.fvn_nodes.specs.inner.Drafts.{AreSides}
 use Rattle.fvn_nodes.proofs.Walking.{walked-none}
 use Rattle.fvn_nodes.proofs.Pairing.{no_sides, walked_pair, sides_pair}
 use Rattle.fvn_nodes.proofs.building.Draft.add_pairs.Goals as goal

@@ -1,7 +1,6 @@
 -- The pairs so far are walked through.
-use Rattle.std.proofs.Common.{◌≡◌, ◌<◌, ℕ, length, map, take, All}
+use Rattle.std.proofs.Common.{take}
 use Rattle.fvn_flat.specs.Problems.{subterms_of, plain_pairs}
-use Rattle.fvn_nodes.specs.Table.{term_at}
 use Rattle.fvn_nodes.specs.inner.Drafts.{AreNodes, HasWalked, AreSides}
 use Rattle.fvn_nodes.proofs.building.Draft.add_pairs.Given as goal
 

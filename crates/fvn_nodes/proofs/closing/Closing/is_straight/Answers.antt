@@ -1,8 +1,8 @@
 -- The first test that holds decides.
-use Rattle.std.proofs.Common.{◌≡◌, ◌<◌, ℕ, Bool, true, false, length, refl, sym, ap, ◌∙◌}
+use Rattle.std.proofs.Common.{sym, ◌∙◌}
 use Rattle.fvn_nodes.specs.States.{is_same, is_apart}
 use Rattle.fvn_nodes.specs.declared.state.State.{State}
-use Rattle.fvn_nodes.specs.inner.Closing.{state_of, is_straight}
+use Rattle.fvn_nodes.specs.inner.Closing.{state_of}
 use Rattle.fvn_nodes.proofs.Alike.{first_of_four, second_of_four, third_of_four, last_of_four}
 use Rattle.fvn_nodes.proofs.closing.Closing.is_straight.Goals as goal
 

@@ -1,6 +1,6 @@
 -- One class is renamed to the other.
-use Rattle.std.proofs.Common.{◌≡◌, ◌≢◌, ◌<◌, length, map, get_or, refl, sym, ap, ◌∙◌, subst, arith}
-use Rattle.std.proofs.lemmas.List.{with_items_is, get_or_default, length-map}
+use Rattle.std.proofs.Common.{◌≡◌, length, map, refl, sym, ap, ◌∙◌}
+use Rattle.std.proofs.lemmas.List.{with_items_is, get_or_default}
 use Rattle.std.specs.Vec.{with_items}
 use Rattle.fvn_nodes.specs.States.{class_of}
 use Rattle.fvn_nodes.specs.inner.Closing.{state_of, renamed}

@@ -1,5 +1,5 @@
 -- One more place.
-use Rattle.std.proofs.Common.{◌≡◌, ◌≢◌, ℕ, ◌+◌, ◌<◌, length, get_or, refl, sym, ap, ◌∙◌, subst, below_more, arith}
+use Rattle.std.proofs.Common.{◌≡◌, ℕ, ◌+◌, ◌<◌, length, get_or, refl, sym, subst, below_more, arith}
 use Rattle.fvn_nodes.specs.Classes.{AreTogether}
 use Rattle.fvn_nodes.specs.States.{class_of}
 use Rattle.fvn_nodes.specs.declared.state.State.{State}
@@ -20,7 +20,7 @@ join-one-requires c =
     let ls = c.args.ls.now in
     let a = state_of c.args.self.now in
     let nodes : HasSameNodes a (state_of c.loop-i.self) =
-        moved_nodes (λ class. AreTogether class ks ls) (λ s. (k : ℕ) → k < c.loop-i.i → class_of s (get_or ks k 0) ≡ class_of s (get_or ls k 0)) a (state_of c.loop-i.self) c.loop-i.whole c.requires.naming c.loop-i.invariant in
+    moved_nodes (λ class. AreTogether class ks ls) (λ s. (k : ℕ) → k < c.loop-i.i → class_of s (get_or ks k 0) ≡ class_of s (get_or ls k 0)) a (state_of c.loop-i.self) c.loop-i.whole c.requires.naming c.loop-i.invariant in
     let w = nodes.whole in
     let t = c.loop-i-test.true in
     let e = c.if-ks-ls.false in

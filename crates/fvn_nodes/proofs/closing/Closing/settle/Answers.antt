@@ -1,7 +1,6 @@
 -- Nodes of one class are made alike, and congruent nodes are joined.
-use Rattle.std.proofs.Common.{◌≡◌, ◌≢◌, ℕ, ◌<◌, Bool, true, false, not, nat_eq, length, refl, sym, ap, ◌∙◌, subst, inl, inr, arith, Some, All}
+use Rattle.std.proofs.Common.{◌≡◌, ◌≢◌, ◌<◌, true, false, not, refl, sym, ap, ◌∙◌, subst, Some, All}
 use Rattle.std.proofs.lemmas.Bool.{eqb-true, eqb-false, eq-eqb, not-false}
-use Rattle.fvn_terms.specs.declared.plain.OpId.{OpId}
 use Rattle.fvn_forms.specs.Canon.{same_op}
 use Rattle.fvn_forms.proofs.Sums.{same_op_is}
 use Rattle.fvn_nodes.specs.Table.{IsOver}
@@ -59,7 +58,7 @@ returns-then-ne c =
     let n : class_of s c.args.i ≢ class_of s c.args.j = eqb-false (class_of s c.args.i) (class_of s c.args.j) (sym c.is_same.ensures ∙ c.if-is_same.false) in (
       refl,
       settled_apart d t s c.args.i c.args.j f g c.in-App.ks c.in-App-node.ls (left_is at) (right_is at) n
-      (λ one e. let z : true ≡ false = sym c.if-ne.true ∙ c.ne.ensures ∙ ap not (eq-eqb f.0 g.0 (ap (λ o. o.0) one)) in cc),
+          (λ one e. let z : true ≡ false = sym c.if-ne.true ∙ c.ne.ensures ∙ ap not (eq-eqb f.0 g.0 (ap (λ o. o.0) one)) in cc),
     )
 
 pub returns-then-are_together : goal.returns-then-are_together
@@ -96,10 +95,10 @@ returns-else-are_together c =
     let n : class_of s c.args.i ≢ class_of s c.args.j = eqb-false (class_of s c.args.i) (class_of s c.args.j) (sym c.is_same.ensures ∙ c.if-is_same.false) in (
       refl,
       settled_apart d t s c.args.i c.args.j c.in-App.f c.in-App-node.g ks ls (left_is at) (right_is at) n
-      (
-      λ one e.
-      let raw = subst (λ ms. AreTogether (class_of s) ms c.as_slice-ls.result.now) (sym c.as_slice-ks.ensures) (subst (AreTogether (class_of s) ks) (sym c.as_slice-ls.ensures) e) in
-      let z : true ≡ false = sym (c.are_together.ensures.1 raw) ∙ c.if-are_together.false in
-      cc
-      ),
+          (
+          λ one e.
+          let raw = subst (λ ms. AreTogether (class_of s) ms c.as_slice-ls.result.now) (sym c.as_slice-ks.ensures) (subst (AreTogether (class_of s) ks) (sym c.as_slice-ls.ensures) e) in
+          let z : true ≡ false = sym (c.are_together.ensures.1 raw) ∙ c.if-are_together.false in
+          cc
+          ),
     )

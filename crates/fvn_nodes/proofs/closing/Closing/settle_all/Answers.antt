@@ -1,5 +1,5 @@
 -- One more row.
-use Rattle.std.proofs.Common.{◌≡◌, ◌≢◌, ℕ, ◌+◌, ◌-◌, ◌<◌, Bool, true, false, cond, length, refl, sym, ap, ◌∙◌, subst, below_more, arith}
+use Rattle.std.proofs.Common.{◌≡◌, ℕ, ◌+◌, ◌-◌, ◌<◌, cond, length, refl, sym, ap, ◌∙◌, subst, below_more, arith}
 use Rattle.fvn_nodes.specs.Classes.{IsNodePartition}
 use Rattle.fvn_nodes.specs.declared.state.State.{State}
 use Rattle.fvn_nodes.specs.inner.Closing.{state_of, HasMoved, HasSameNodes, then_move}
@@ -25,7 +25,7 @@ settle_row-one-requires c =
     let t = c.args.table.now in
     let row = row_number c.args.up c.len-count.result in
     let nodes : HasSameNodes (state_of c.args.self.now) (state_of c.loop-k.self) =
-        moved_nodes (IsNodePartition d t) (λ s. (n : ℕ) → n < c.loop-k.k → IsRowSettled d t (row n) (row n) s) (state_of c.args.self.now) (state_of c.loop-k.self) c.loop-k.whole c.requires.naming c.loop-k.invariant in
+    moved_nodes (IsNodePartition d t) (λ s. (n : ℕ) → n < c.loop-k.k → IsRowSettled d t (row n) (row n) s) (state_of c.args.self.now) (state_of c.loop-k.self) c.loop-k.whole c.requires.naming c.loop-k.invariant in
     let count : c.len-count.result ≡ length t.nodes = c.len-count.ensures ∙ c.args.self.now.names.ok.0 ∙ c.requires.whole in
     let is = number (goal.at.settle_row-one-requires c).Joined-up in
     let w = row_within c.args.up c.len-count.result c.loop-k.k c.loop-k-test.true in

@@ -1,7 +1,7 @@
 -- A round without a change has settled all.
-use Rattle.std.proofs.Common.{◌≡◌, ℕ, ◌<◌, sum, refl, sym, ap, ◌∙◌, subst, arith}
+use Rattle.std.proofs.Common.{◌≡◌, sym, ◌∙◌, subst}
 use Rattle.fvn_nodes.specs.Classes.{IsNodePartition}
-use Rattle.fvn_nodes.specs.inner.Closing.{state_of, HasMoved, HasSameNodes, IsForced}
+use Rattle.fvn_nodes.specs.inner.Closing.{state_of, HasSameNodes, IsForced}
 use Rattle.fvn_nodes.specs.inner.Rounds.{IsAllSettled}
 use Rattle.fvn_nodes.proofs.Moves.{same_nodes, same_nodes-trans, forced-refl, forced-trans}
 use Rattle.fvn_nodes.proofs.closing.Closing.settle_fully.Goals as goal

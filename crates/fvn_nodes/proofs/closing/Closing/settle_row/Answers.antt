@@ -1,5 +1,5 @@
 -- One more node.
-use Rattle.std.proofs.Common.{◌≡◌, ◌≢◌, ℕ, ◌+◌, ◌<◌, length, refl, sym, ap, ◌∙◌, subst, below_more, arith}
+use Rattle.std.proofs.Common.{ℕ, ◌+◌, refl, sym, ◌∙◌, subst, below_more, arith}
 use Rattle.fvn_nodes.specs.Classes.{IsNodePartition}
 use Rattle.fvn_nodes.specs.declared.state.State.{State}
 use Rattle.fvn_nodes.specs.inner.Closing.{state_of, HasMoved, HasSameNodes, then_move}
@@ -14,7 +14,7 @@ loop-j-init c = (refl, λ j h. absurd (omega arith))
 pub settle-one-requires : goal.settle-one-requires
 settle-one-requires c =
     let nodes : HasSameNodes (state_of c.args.self.now) (state_of c.loop-j.self) =
-        moved_nodes (IsNodePartition c.args.sig.now c.args.table.now) (IsRowSettled c.args.sig.now c.args.table.now c.args.i c.loop-j.j) (state_of c.args.self.now) (state_of c.loop-j.self) c.loop-j.whole c.requires.naming c.loop-j.invariant in
+    moved_nodes (IsNodePartition c.args.sig.now c.args.table.now) (IsRowSettled c.args.sig.now c.args.table.now c.args.i c.loop-j.j) (state_of c.args.self.now) (state_of c.loop-j.self) c.loop-j.whole c.requires.naming c.loop-j.invariant in
     let t = c.loop-j-test.true in
     let l = c.requires.within in
     record { naming = nodes.naming; whole = nodes.whole ∙ c.requires.whole; left = c.requires.within; right = omega arith }

@@ -1,9 +1,8 @@
 -- The way that is known.
-use Rattle.std.proofs.Common.{◌≡◌, ◌⊎◌, ◌<◌, ℕ, true, false, [], ◌∷◌, length, get_or, All, refl, sym, ap, ◌∙◌, subst, inl, inr, arith}
+use Rattle.std.proofs.Common.{◌≡◌, ◌⊎◌, ◌<◌, true, length, refl, sym, ◌∙◌, inl, inr}
 use Rattle.fvn_nodes.specs.Classes.{MeetEitherWay}
 use Rattle.fvn_nodes.specs.States.{class_of, IsOpen}
-use Rattle.fvn_nodes.specs.declared.state.State.{State}
-use Rattle.fvn_nodes.specs.inner.Closing.{state_of, HasMoved, is_straight}
+use Rattle.fvn_nodes.specs.inner.Closing.{state_of, is_straight}
 use Rattle.fvn_nodes.proofs.Moves.{moved-weaker}
 use Rattle.fvn_nodes.proofs.Alike.{straight, crosswise, undecided, four}
 use Rattle.fvn_nodes.proofs.closing.Closing.turn.Goals as goal

@@ -1,5 +1,5 @@
 -- Two and two nodes meet; of others nothing is asked.
-use Rattle.std.proofs.Common.{◌≡◌, ◌⊎◌, ◌<◌, ℕ, [], ◌∷◌, length, get_or, All, refl, sym, ap, ◌∙◌, inl, inr, arith}
+use Rattle.std.proofs.Common.{◌⊎◌, get_or, refl, inl, inr}
 use Rattle.fvn_nodes.specs.Classes.{MeetEitherWay, MeetInPairs}
 use Rattle.fvn_nodes.specs.States.{class_of, IsOpen}
 use Rattle.fvn_nodes.specs.inner.Closing.{state_of}

@@ -1,9 +1,8 @@
 -- What is asked depends on the operators' axioms.
-use Rattle.std.proofs.Common.{◌≡◌, ◌≢◌, ◌⊎◌, ℕ, ◌<◌, Bool, true, false, not, nat_eq, length, refl, sym, ap, ◌∙◌, subst, inl, inr, arith}
+use Rattle.std.proofs.Common.{◌≡◌, true, false, not, refl, sym, ap, ◌∙◌}
 use Rattle.std.specs.Prelude.{is_some}
-use Rattle.std.proofs.lemmas.Bool.{eqb-true, eq-eqb, not-false}
-use Rattle.fvn_terms.specs.declared.plain.OpId.{OpId}
-use Rattle.fvn_terms.specs.declared.declarations.Axioms.TheVariants.{Free, Comm, AssocComm, AssocCommId}
+use Rattle.std.proofs.lemmas.Bool.{eq-eqb, not-false}
+use Rattle.fvn_terms.specs.declared.declarations.Axioms.TheVariants.{Free, Comm}
 use Rattle.fvn_terms.specs.Signature.{axioms}
 use Rattle.fvn_forms.specs.Canon.{identity, same_op}
 use Rattle.fvn_forms.proofs.Sums.{same_op_is}
@@ -15,12 +14,18 @@ use Rattle.fvn_nodes.proofs.Alike.{no_identity, some_identity, alike_identity, a
 use Rattle.fvn_nodes.proofs.closing.Closing.unite.Goals as goal
 
 pub returns-then-has_identity : goal.returns-then-has_identity
-returns-then-has_identity c = (refl, alike_identity c.args.sig.now _ _ c.args.f c.args.g c.args.ks.now c.args.ls.now
-  (λ a b. some_identity (axioms c.args.sig.now c.args.f) (ap (λ o. is_some (identity o)) (sym c.axioms.ensures) ∙ sym c.has_identity.ensures ∙ c.if-has_identity.true) a))
+returns-then-has_identity c = (
+  refl,
+  alike_identity c.args.sig.now _ _ c.args.f c.args.g c.args.ks.now c.args.ls.now
+      (λ a b. some_identity (axioms c.args.sig.now c.args.f) (ap (λ o. is_some (identity o)) (sym c.axioms.ensures) ∙ sym c.has_identity.ensures ∙ c.if-has_identity.true) a),
+)
 
 pub returns-then-has_identity-2 : goal.returns-then-has_identity-2
-returns-then-has_identity-2 c = (refl, alike_identity c.args.sig.now _ _ c.args.f c.args.g c.args.ks.now c.args.ls.now
-  (λ a b. some_identity (axioms c.args.sig.now c.args.g) (ap (λ o. is_some (identity o)) (sym c.axioms-2.ensures) ∙ sym c.has_identity-2.ensures ∙ c.if-has_identity-2.true) b))
+returns-then-has_identity-2 c = (
+  refl,
+  alike_identity c.args.sig.now _ _ c.args.f c.args.g c.args.ks.now c.args.ls.now
+      (λ a b. some_identity (axioms c.args.sig.now c.args.g) (ap (λ o. is_some (identity o)) (sym c.axioms-2.ensures) ∙ sym c.has_identity-2.ensures ∙ c.if-has_identity-2.true) b),
+)
 
 pub returns-then-ne : goal.returns-then-ne
 returns-then-ne c = (
@@ -67,5 +72,8 @@ returns-in-AssocComm c =
     (refl, alike_associative c.args.sig.now (IsOpen (state_of c.args.self.now)) (class_of (state_of c.args.self.now)) f g c.args.ks.now c.args.ls.now one (sym c.axioms-3.ensures ∙ c.in-AssocComm.is))
 
 pub returns-in-AssocCommId : goal.returns-in-AssocCommId
-returns-in-AssocCommId c = (refl, alike_identity c.args.sig.now _ _ c.args.f c.args.g c.args.ks.now c.args.ls.now
-  (λ a b. absurd (let e : false ≡ true = sym c.if-has_identity.false ∙ c.has_identity.ensures ∙ ap (λ o. is_some (identity o)) (c.axioms.ensures ∙ sym c.axioms-3.ensures ∙ c.in-AssocCommId.is) in cc)))
+returns-in-AssocCommId c = (
+  refl,
+  alike_identity c.args.sig.now _ _ c.args.f c.args.g c.args.ks.now c.args.ls.now
+      (λ a b. absurd (let e : false ≡ true = sym c.if-has_identity.false ∙ c.has_identity.ensures ∙ ap (λ o. is_some (identity o)) (c.axioms.ensures ∙ sym c.axioms-3.ensures ∙ c.in-AssocCommId.is) in cc)),
+)

@@ -1,8 +1,7 @@
 -- The answers stand in place of the top.
-use Rattle.std.proofs.Common.{◌≡◌, ℕ, ◌+◌, ◌-◌, ◌<◌, [], ◌∷◌, ◌++◌, length, take, get_or, slice_get, refl, sym, ap, ◌∙◌, subst, arith, All}
+use Rattle.std.proofs.Common.{◌≡◌, ◌-◌, ◌++◌, length, take, get_or, slice_get, refl, sym, ap, ◌∙◌, subst, arith}
 use Rattle.std.proofs.lemmas.List.{length_push, get_or_push}
 use Rattle.fvn_nodes.specs.States.{IsClosed, IsOpen}
-use Rattle.fvn_nodes.specs.declared.state.State.{State}
 use Rattle.fvn_nodes.specs.Questions.{AreAnswers}
 use Rattle.fvn_nodes.specs.inner.Starts.{listed}
 use Rattle.fvn_nodes.proofs.Growing.{asked_is, asked_closed, asked_falls, last_is}

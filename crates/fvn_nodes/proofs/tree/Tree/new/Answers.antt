@@ -1,6 +1,5 @@
 -- All partitions are to come in the state at the start.
-use Rattle.std.proofs.Common.{◌≡◌, ℕ, [], ◌∷◌, ◌++◌, Some, None, refl, sym, ap, ◌∙◌, subst, All}
-use Rattle.fvn_nodes.specs.States.{IsClosed}
+use Rattle.std.proofs.Common.{[], ◌∷◌, ◌++◌, Some, sym, ap, ◌∙◌, subst}
 use Rattle.fvn_nodes.specs.Trees.{IsToCome}
 use Rattle.fvn_nodes.specs.Questions.{IsStart}
 use Rattle.fvn_nodes.proofs.Growing.{begun_all}
