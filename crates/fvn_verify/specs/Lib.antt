@@ -1,0 +1,3 @@
+-- What is said of a problem under bindings.
+pub mod Verdicts
+pub mod inner
