@@ -9,37 +9,47 @@ use Rattle.fvn_first.specs.ProblemText.{IsProblemText}
 use Rattle.fvn_first.specs.Laws.{ModulesAreDetermined, ModulesAreFirst, ProblemsAreDetermined}
 use Rattle.fvn_outside.specs.Source.{Takes, TakesCount}
 use Rattle.fvn_tool.specs.declared.status.Status.{Status}
-use Rattle.fvn_tool.specs.declared.status.Status.TheVariants.{Usage, ModuleRefused, ProblemRefused, ReadFault, WriteFault}
+use Rattle.fvn_tool.specs.declared.status.Status.TheVariants.{Solved, Usage, ModuleRefused, ProblemRefused, ReadFault, WriteFault}
 use Rattle.fvn_tool.specs.Statuses.{IsSilent, IsSpoken}
-use Rattle.fvn_tool.specs.Words.{Command, unify, command_of}
+use Rattle.fvn_module.specs.Contents.{Contents}
+use Rattle.fvn_module.specs.ModuleText.{IsModule}
+use Rattle.fvn_module.specs.Laws.{ModulesAreDetermined as EachIsOneModule, RefusedTextsDeclareNothing}
+use Rattle.fvn_tool.specs.Words.{Command, check, unify, command_of}
+use Rattle.fvn_tool.specs.Checks.{AreNoModule, summary_line}
 use Rattle.fvn_tool.specs.Replies.{complete, bound_size, line_of, IsReply, IsUnifyReply, no_module, no_problem, answered, IsAnswer, unified, not_unified, too_large, no_module_line, no_problem_line, DeclareNoModule}
 use Rattle.fvn_tool.specs.Runs.{Outside, Run, Leaves, HasFailed}
 use Rattle.fvn_tool.specs.Outcomes.{usage_line, too_long_line, IsOutcome, no_command, too_long, replied}
-use Rattle.fvn_tool.specs.Claims.{IsOneText, Is, RefusesWords, Asks, RefusesLongText, RefusesModule, RefusesProblem, HasNoProblem, IsAsked, IsRight, Shows, EndsComplete, AnswersRight, AnswersWithoutEvent, AnswersUnify, IsReport}
+use Rattle.fvn_tool.specs.Claims.{IsUnifyText, IsOneText, IsFirstRefusalOf, RefusesText, TellsModule, AnswersCheck, Is, RefusesWords, Asks, RefusesLongText, RefusesModule, RefusesProblem, HasNoProblem, IsAsked, IsRight, Shows, EndsComplete, AnswersRight, AnswersWithoutEvent, AnswersUnify, IsReport}
+use Rattle.fvn_tool.proofs.Checks.{check_one_text, check_not_usage, check_refuses, check_no_module, check_tells, check_module}
 use Rattle.fvn_tool.proofs.Outcomes.{Leaves-weaker, Leaves-goes, Leaves-without_fault}
 use Rattle.fvn_tool.proofs.Shows.{shows_right, shows_end}
-use Rattle.fvn_tool.proofs.Sizes.{same_sizes}
-use Rattle.fvn_tool.proofs.FreeSorted.{free_operators}
+use Rattle.fvn_free.proofs.Sizes.{same_sizes}
+use Rattle.fvn_free.proofs.FreeSorted.{free_operators}
 
 -- Texts
 
-answer_one_text : (scope : FirstModule) (problem : FirstProblem) (s : Status) (t : List ℕ) → IsAnswer scope problem s t → IsOneText s t
+answer_one_text : (scope : FirstModule) (problem : FirstProblem) (s : Status) (t : List ℕ) → IsAnswer scope problem s t → IsUnifyText s t
 answer_one_text scope problem s t (unified c p is) = record { texts = line_of scope problem c ∷ []; end = complete 1; text_is = is; status_is = refl }
 answer_one_text scope problem s t (not_unified h is) = record { texts = []; end = complete 0; text_is = is; status_is = refl }
 answer_one_text scope problem s t (too_large h is) = record { texts = []; end = bound_size; text_is = is; status_is = refl }
 
-unify_one_text : (bytes word : List ℕ) (s : Status) (t : List ℕ) → IsUnifyReply bytes word s t → IsOneText s t
+unify_one_text : (bytes word : List ℕ) (s : Status) (t : List ℕ) → IsUnifyReply bytes word s t → IsUnifyText s t
 unify_one_text bytes word s t (no_module h is) = inr is
 unify_one_text bytes word s t (no_problem scope m h is) = is
 unify_one_text bytes word s t (answered scope problem m p a) = answer_one_text scope problem s t a
 
-reply_one_text : (command : Command) (bytes : List ℕ) (s : Status) (t : List ℕ) → IsReply command bytes s t → IsOneText s t
+reply_one_text : (command : Command) (bytes : List ℕ) (s : Status) (t : List ℕ) → IsReply command bytes s t → IsOneText (Some command) s t
+reply_one_text check bytes s t r = check_one_text bytes s t r
 reply_one_text (unify word) bytes s t r = unify_one_text bytes word s t r
 
-outcome_one_text : (words : List (List ℕ)) (source : Outside) (s : Status) (t : List ℕ) → IsOutcome words source s t → IsOneText s t
-outcome_one_text words source s t (no_command h is) = is
-outcome_one_text words source s t (too_long command h n is) = inl is
-outcome_one_text words source s t (replied command bytes h n e f r) = reply_one_text command bytes s t r
+long_one_text : (command : Command) (t : List ℕ) → t ≡ too_long_line → IsOneText (Some command) ModuleRefused t
+long_one_text check t is = inl is
+long_one_text (unify word) t is = inl is
+
+outcome_one_text : (words : List (List ℕ)) (source : Outside) (s : Status) (t : List ℕ) → IsOutcome words source s t → IsOneText (command_of words) s t
+outcome_one_text words source s t (no_command h is) = subst (λ c. IsOneText c s t) (sym h) (refl, is)
+outcome_one_text words source s t (too_long command h n is) = subst (λ c. IsOneText c s t) (sym h) (long_one_text command t is)
+outcome_one_text words source s t (replied command bytes h n e f r) = subst (λ c. IsOneText c s t) (sym h) (reply_one_text command bytes s t r)
 
 -- Words
 
@@ -59,6 +69,7 @@ unify_not_usage bytes word s t e (no_problem scope m k is) = cc
 unify_not_usage bytes word s t e (answered scope problem m p k) = answer_not_usage scope problem s t e k
 
 reply_not_usage : (command : Command) (bytes : List ℕ) (s : Status) (t : List ℕ) → s ≡ Usage → IsReply command bytes s t → ⊥
+reply_not_usage check bytes s t e r = check_not_usage bytes s t e r
 reply_not_usage (unify word) bytes s t e r = unify_not_usage bytes word s t e r
 
 usage_only : (words : List (List ℕ)) (source : Outside) (s : Status) (t : List ℕ) → s ≡ Usage → IsOutcome words source s t → command_of words ≡ None
@@ -157,6 +168,38 @@ module _ (run : Run) (h : Leaves (IsOutcome run.words run.source) run.status run
   refuses_long : RefusesLongText run
   refuses_long command bytes asks l = weaker command bytes asks (Is ModuleRefused too_long_line) (long_text command bytes asks l)
 
+  module _ (bytes : List ℕ) (asks : Asks run check bytes) (one : EachIsOneModule) (nothing : RefusedTextsDeclareNothing) where
+    text_only : run.status ≡ ModuleRefused → (t : List ℕ) → Comes bytes check run.status t → (MODULE_BYTES < length bytes) ⊎ ((length bytes ≤ MODULE_BYTES) × AreNoModule bytes)
+    text_only e t (comes_long i l is) = inl l
+    text_only e t (comes_reply f r) = inr (f, check_refuses bytes one nothing run.status t e r)
+
+    text_none : length bytes ≤ MODULE_BYTES → AreNoModule bytes → (u : Status) (t : List ℕ) → Comes bytes check u t → IsFirstRefusalOf bytes u t
+    text_none f none u t (comes_long i k is) = absurd (omega (arith, f, k))
+    text_none f none u t (comes_reply g r) = check_no_module bytes none u t r
+
+    told_only : run.status ≡ Solved → (t : List ℕ) → Comes bytes check run.status t → (length bytes ≤ MODULE_BYTES) × ((m : Contents) × IsModule bytes m)
+    told_only e t (comes_long i l is) = cc
+    told_only e t (comes_reply f r) = (f, check_tells bytes run.status t e r)
+
+    told_always : length bytes ≤ MODULE_BYTES → (m : Contents) → IsModule bytes m → (u : Status) (t : List ℕ) → Comes bytes check u t → Is Solved (summary_line m) u t
+    told_always f m is_module u t (comes_long i k is) = absurd (omega (arith, f, k))
+    told_always f m is_module u t (comes_reply g r) = check_module bytes one nothing m is_module u t r
+
+    refuses_text : RefusesText bytes run
+    refuses_text = record {
+      only = λ e. let g = came check bytes asks (subst IsSpoken (sym e) tt) in text_only e g.0 g.1;
+      no_module = λ f none. weaker check bytes asks (IsFirstRefusalOf bytes) (text_none f none);
+    }
+
+    tells_module : TellsModule bytes run
+    tells_module = record {
+      only = λ e. let g = came check bytes asks (subst IsSpoken (sym e) tt) in told_only e g.0 g.1;
+      always = λ f m is_module. weaker check bytes asks (Is Solved (summary_line m)) (told_always f m is_module);
+    }
+
+    answers_check : AnswersCheck bytes run
+    answers_check = record { refused = refuses_text; told = tells_module }
+
   module _ (word bytes : List ℕ) (asks : Asks run (unify word) bytes) where
     module_only : run.status ≡ ModuleRefused → (t : List ℕ) → Comes bytes (unify word) run.status t → (MODULE_BYTES < length bytes) ⊎ ((length bytes ≤ MODULE_BYTES) × DeclareNoModule bytes)
     module_only e t (comes_long i l is) = inl l
@@ -220,16 +263,17 @@ module _ (run : Run) (h : Leaves (IsOutcome run.words run.source) run.status run
     }
 
     -- the outcome, what stays the same and the causes of faults are all that there is to prove of a run
-    pub report : (command_of run.words ≡ None → (run.status ≡ Usage) ⊎ (run.status ≡ WriteFault)) →
+    pub report : EachIsOneModule → RefusedTextsDeclareNothing → (command_of run.words ≡ None → (run.status ≡ Usage) ⊎ (run.status ≡ WriteFault)) →
         (command_of run.words ≡ None → run.source.after ≡ run.source.before) → (IsSilent run.status → run.sink.after ≡ run.sink.before) → IsReport run
-    report always unread unwritten = record {
+    report one nothing always unread unwritten = record {
       outcome = h;
       unread = unread;
       unwritten = unwritten;
-      whole = Leaves-weaker (IsOutcome run.words run.source) IsOneText (outcome_one_text run.words run.source) run.status run.sink h;
+      whole = Leaves-weaker (IsOutcome run.words run.source) (IsOneText (command_of run.words)) (outcome_one_text run.words run.source) run.status run.sink h;
       read_fault = read;
       write_fault = write;
       usage = refuses_words always;
       too_long = refuses_long;
+      check = λ bytes asks. answers_check bytes asks one nothing;
       unify = answers_unify;
     }

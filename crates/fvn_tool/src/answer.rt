@@ -9,7 +9,7 @@ ghost use Rattle.fvn_tool.specs.Replies.{IsReply, IsUnifyReply, IsAnswer, IsProb
 ghost use Rattle.fvn_tool.specs.Outcomes.{usage_line, too_long_line};
 ghost use Rattle.fvn_tool.specs.Texts.{bytes_of};
 
-use crate::free::{Unified, unify};
+use crate::checking::check_reply;
 use crate::lines::push_unifier;
 use crate::status::Status;
 use crate::words::Command;
@@ -18,6 +18,7 @@ use fvn_first::first::{
     FirstFault, FirstModule, FirstProblem, Names, VarNames, modules_are_first, problems_are_first,
     read_module, read_problem,
 };
+use fvn_free::{Unified, unify};
 use fvn_terms::{NoMemory, PlainSubst};
 use std::alloc::Global;
 
@@ -151,6 +152,7 @@ pub(crate) fn reply(alloc: Global, bytes: &[u8], command: Command<'_>) -> Result
     ensures { IfOk result (λ a. IsReply (meant command.entry) bytes.now a.status (bytes_of a.text)) }
 {
     match command {
+        Command::Check => check_reply(alloc, bytes),
         Command::Unify(word) => unify_reply(alloc, bytes, word),
     }
 }

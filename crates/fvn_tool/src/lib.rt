@@ -2,7 +2,7 @@
 #![tactic(auto)]
 
 mod answer;
-mod free;
+mod checking;
 mod laws;
 mod lines;
 mod status;

@@ -7,6 +7,8 @@ use std::string::String;
 /// What the words ask.
 #[derive(Clone, Copy)]
 pub(crate) enum Command<'a> {
+    /// To tell how much a module declares.
+    Check,
     /// To unify the two sides of a problem.
     Unify(&'a [u8]),
 }
@@ -25,6 +27,9 @@ pub(crate) fn read_command(words: &[String]) -> Option<Command<'_>>
         (command_of (map string_bytes words.now) ≡ None)
         (λ command. command_of (map string_bytes words.now) ≡ Some (meant command)) }
 {
+    if words.len() == 1 && words[0].as_bytes() == b"check".as_slice() {
+        return Some(Command::Check);
+    }
     if words.len() != 2 {
         return None;
     }

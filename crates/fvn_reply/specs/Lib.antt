@@ -1,0 +1,3 @@
+-- The texts of refusals, and of what modules declare.
+pub mod Refusals
+pub mod Summaries
