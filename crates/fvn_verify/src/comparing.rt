@@ -1,5 +1,5 @@
 //! Comparing the two sides of a pair under bindings.
-ghost use Rattle.std.specs.Prelude.{◌≡◌, IfOk};
+ghost use Rattle.std.specs.Prelude.{◌≡◌, ◌<◌, IfOk};
 ghost use Rattle.fvn_terms.specs.Plain.{term};
 ghost use Rattle.fvn_terms.specs.Signature.{KeepsKinds, IsTerm};
 ghost use Rattle.fvn_terms.specs.Substitution.{value};
@@ -44,18 +44,19 @@ pub fn compare(
     signature: &Signature,
     bindings: &PlainSubst,
     pair: &(Plain, Plain),
-    size: u32,
+    size: u64,
 ) -> Result<Compared, NoMemory>
     requires keeps { KeepsKinds signature.now (value bindings.now.pairs) }
     requires kinded { AreKinded signature.now pair.now }
+    requires limited { size < u64.MAX }
     ensures { IfOk result (IsCompared signature.now (value bindings.now.pairs) size pair.now) }
 {
     let left = form_of(alloc, signature, bindings, &pair.0)?;
-    if u64::from(size) < left.size() {
+    if size < left.size() {
         return Ok(Compared::Large(left));
     }
     let right = form_of(alloc, signature, bindings, &pair.1)?;
-    if u64::from(size) < right.size() {
+    if size < right.size() {
         return Ok(Compared::Large(right));
     }
     if left.same(&right) {

@@ -1,5 +1,5 @@
 //! Whether bindings solve a problem modulo the axioms.
-ghost use Rattle.std.specs.Prelude.{◌≡◌, All, IfOk};
+ghost use Rattle.std.specs.Prelude.{◌≡◌, ◌<◌, All, IfOk};
 ghost use Rattle.fvn_terms.specs.Signature.{KeepsKinds};
 ghost use Rattle.fvn_terms.specs.Sorts.{IsWellSorted};
 ghost use Rattle.fvn_terms.specs.Substitution.{value};
@@ -31,10 +31,11 @@ fn verify_pairs(
     signature: &Signature,
     pairs: &[(Plain, Plain)],
     bindings: &PlainSubst,
-    size: u32,
+    size: u64,
 ) -> Result<Verdict, NoMemory>
     requires keeps { KeepsKinds signature.now (value bindings.now.pairs) }
     requires kinded { All (AreKinded signature.now) pairs.now }
+    requires limited { size < u64.MAX }
     ensures { IfOk result (IsVerdict signature.now (value bindings.now.pairs) size pairs.now) }
 {
     let mut first = None;
@@ -57,9 +58,10 @@ pub fn verify(
     signature: &Signature,
     problem: &Problem,
     bindings: &Bindings,
-    size: u32,
+    size: u64,
 ) -> Result<Verdict, NoMemory>
     requires kinded { All (AreOfOneKind signature.now) problem.now.pairs }
+    requires limited { size < u64.MAX }
     requires sorted { IsWellSorted signature.now (value bindings.now.subst.pairs) }
     ensures { IfOk result (IsVerdict signature.now (value bindings.now.subst.pairs) size problem.now.pairs) }
 {
