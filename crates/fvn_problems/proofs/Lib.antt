@@ -15,3 +15,5 @@ mod Writing
 mod Keys
 mod Binding
 mod BindingTexts
+mod OneFault
+mod WordNames

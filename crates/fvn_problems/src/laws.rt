@@ -4,7 +4,14 @@ ghost use Rattle.fvn_problems.specs.Laws.{
   ProblemsAreSpelledOnce,
   BindingsAreSpelledOnce,
   NamesGoOn,
+  QueryFaultsAreDetermined,
+  ProblemFaultsAreDetermined,
+  BindingFaultsAreDetermined,
+  QueryNamesAreWords,
+  ProblemNamesAreWords,
 };
+
+use fvn_lex::{pieces_by_form, pieces_stand_alone};
 
 /// Two term texts that are spelled alike are one.
 pub fn queries_are_spelled_once()
@@ -25,3 +32,34 @@ pub fn bindings_are_spelled_once()
 pub fn names_go_on()
     ensures { NamesGoOn }
 {}
+
+/// But for want of memory, a term text has one first fault at most.
+pub fn query_faults_are_determined()
+    ensures { QueryFaultsAreDetermined }
+{}
+
+/// But for want of memory, a problem has one first fault at most.
+pub fn problem_faults_are_determined()
+    ensures { ProblemFaultsAreDetermined }
+{}
+
+/// But for want of memory, a binding text has one first fault at most.
+pub fn binding_faults_are_determined()
+    ensures { BindingFaultsAreDetermined }
+{}
+
+/// The name of each variable of a term text is a word with a colon behind it, and does not begin with `#`.
+pub fn query_names_are_words()
+    ensures { QueryNamesAreWords }
+{
+    pieces_by_form();
+    pieces_stand_alone();
+}
+
+/// The name of each variable of a problem is a word with a colon behind it, and does not begin with `#`.
+pub fn problem_names_are_words()
+    ensures { ProblemNamesAreWords }
+{
+    pieces_by_form();
+    pieces_stand_alone();
+}
