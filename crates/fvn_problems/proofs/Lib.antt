@@ -17,3 +17,4 @@ mod Binding
 mod BindingTexts
 mod OneFault
 mod WordNames
+mod DistinctNames

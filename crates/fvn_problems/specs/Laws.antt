@@ -12,8 +12,9 @@ use Rattle.fvn_problems.specs.declared.problem.Problem.{Problem}
 use Rattle.fvn_problems.specs.declared.query.Query.{Query}
 use Rattle.fvn_problems.specs.Faults.{AreOneFault}
 use Rattle.fvn_problems.specs.Queries.{IsQuery, RefusesQuery}
-use Rattle.fvn_problems.specs.Problems.{IsProblem, RefusesProblem}
-use Rattle.fvn_problems.specs.Bindings.{RefusesBindings}
+use Rattle.fvn_problems.specs.Problems.{IsProblem, RefusesProblem, HasNoProblem}
+use Rattle.fvn_problems.specs.declared.bindings.Bindings.{Bindings}
+use Rattle.fvn_problems.specs.Bindings.{IsBindings, RefusesBindings, HasNoBindings}
 use Rattle.fvn_problems.specs.VariableTexts.{IsVariableText}
 use Rattle.fvn_problems.specs.Spelling.{RawQuery, RawProblem, RawPair, spell_query, spell_problem, spell_bindings, pairs_in, IsWrittenPair, IsWrittenBinding}
 
@@ -68,3 +69,27 @@ abbrev pub ProblemNamesAreWords : Type 0
 ProblemNamesAreWords =
     (d : Declarations) (names : Names) (bytes : Text) (p : Problem) →
     IsProblem d names bytes p → All IsVariableText p.names.texts
+
+-- A word asks one problem at most.
+abbrev pub ProblemsAreDetermined : Type 0
+ProblemsAreDetermined =
+    (d : Declarations) (names : Names) (bytes : Text) (p q : Problem) →
+    IsProblem d names bytes p → IsProblem d names bytes q → p ≡ q
+
+-- A word is one list of bindings at most in a problem.
+abbrev pub BindingsAreDetermined : Type 0
+BindingsAreDetermined =
+    (d : Declarations) (names : Names) (word : Text) (p : Problem) → IsProblem d names word p →
+    (bytes : Text) (b c : Bindings) → IsBindings d names p bytes b → IsBindings d names p bytes c → b ≡ c
+
+-- But for want of memory, what has a fault as a problem is none.
+abbrev pub RefusedProblemsAskNothing : Type 0
+RefusedProblemsAskNothing =
+    (d : Declarations) (names : Names) (bytes : Text) (f : ProblemFault) →
+    RefusesProblem d names bytes f → HasNoProblem d names bytes f
+
+-- But for want of memory, what has a fault as a binding text in a problem is none.
+abbrev pub RefusedBindingsBindNothing : Type 0
+RefusedBindingsBindNothing =
+    (d : Declarations) (names : Names) (word : Text) (p : Problem) → IsProblem d names word p →
+    (bytes : Text) (f : ProblemFault) → RefusesBindings d names p bytes f → HasNoBindings d names p bytes f

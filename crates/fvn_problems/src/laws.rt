@@ -9,6 +9,10 @@ ghost use Rattle.fvn_problems.specs.Laws.{
   BindingFaultsAreDetermined,
   QueryNamesAreWords,
   ProblemNamesAreWords,
+  ProblemsAreDetermined,
+  BindingsAreDetermined,
+  RefusedProblemsAskNothing,
+  RefusedBindingsBindNothing,
 };
 
 use fvn_lex::{pieces_by_form, pieces_stand_alone};
@@ -63,3 +67,23 @@ pub fn problem_names_are_words()
     pieces_by_form();
     pieces_stand_alone();
 }
+
+/// A word asks one problem at most.
+pub fn problems_are_determined()
+    ensures { ProblemsAreDetermined }
+{}
+
+/// A word is one list of bindings at most in a problem.
+pub fn bindings_are_determined()
+    ensures { BindingsAreDetermined }
+{}
+
+/// But for want of memory, what has a fault as a problem is none.
+pub fn refused_problems_ask_nothing()
+    ensures { RefusedProblemsAskNothing }
+{}
+
+/// But for want of memory, what has a fault as a binding text in a problem is none.
+pub fn refused_bindings_bind_nothing()
+    ensures { RefusedBindingsBindNothing }
+{}

@@ -1,0 +1,6 @@
+-- What has a fault is no problem.
+use Rattle.fvn_problems.proofs.ProblemTexts.{problem-none}
+use Rattle.fvn_problems.proofs.laws.refused_problems_ask_nothing.Goals as goal
+
+pub returns : goal.returns
+returns c = problem-none
