@@ -1,8 +1,6 @@
 //! The answer to `check`.
 ghost use Rattle.std.specs.Prelude.{◌≡◌, IfOk};
-ghost use Rattle.fvn_module.specs.Laws.{
-  ModulesAreDetermined, RefusalsAreDetermined, RefusedTextsDeclareNothing,
-};
+ghost use Rattle.fvn_tool.specs.Laws.{ReadersAreLawful};
 ghost use Rattle.fvn_tool.specs.Lines.{line};
 ghost use Rattle.fvn_tool.specs.Checks.{IsCheckReply, IsRefusalLine};
 ghost use Rattle.fvn_tool.specs.Texts.{bytes_of};
@@ -12,8 +10,13 @@ use crate::status::Status;
 use fvn_module::{
     ModuleFault, modules_are_determined, read_module, refusals_are_determined, refused_texts_declare_nothing,
 };
+use fvn_problems::{
+    binding_faults_are_determined, bindings_are_determined, problem_faults_are_determined,
+    problems_are_determined, refused_bindings_bind_nothing, refused_problems_ask_nothing,
+};
 use fvn_reply::{refusal_text, summary_text};
 use fvn_terms::NoMemory;
+use fvn_verify::verdicts_are_determined;
 use std::alloc::Global;
 
 /// An answer of one line.
@@ -55,13 +58,18 @@ pub(crate) fn check_reply(alloc: Global, bytes: &[u8]) -> Result<Answer, NoMemor
     }
 }
 
-/// Tells what holds of all module texts; it does nothing.
-pub(crate) fn modules_are_lawful()
-    ensures determined { ModulesAreDetermined }
-    ensures refusals { RefusalsAreDetermined }
-    ensures nothing { RefusedTextsDeclareNothing }
+/// Tells what holds of all that is read and said; it does nothing.
+pub(crate) fn readers_are_lawful()
+    ensures { ReadersAreLawful }
 {
     modules_are_determined();
     refusals_are_determined();
     refused_texts_declare_nothing();
+    problems_are_determined();
+    refused_problems_ask_nothing();
+    problem_faults_are_determined();
+    bindings_are_determined();
+    refused_bindings_bind_nothing();
+    binding_faults_are_determined();
+    verdicts_are_determined();
 }

@@ -2,8 +2,10 @@
 #![tactic(auto)]
 
 mod comparing;
+mod laws;
 mod verdict;
 mod verifying;
 
+pub use laws::verdicts_are_determined;
 pub use verdict::Verdict;
 pub use verifying::verify;
