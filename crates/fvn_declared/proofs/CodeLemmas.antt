@@ -1,5 +1,5 @@
 -- The code of a declaration tells it.
-use Rattle.std.proofs.Common.{◌≡◌, ℕ, ◌+◌, ◌*◌, ◌/◌, ◌%◌, Bool, true, false, ◌&&◌, ◌||◌, List, [], ◌∷◌, ◌++◌, length, map, refl, sym, ap, subst, ◌∙◌, ◌⊎◌, inl, inr, arith, Option, Some, None, cond, nat_eq}
+use Rattle.std.proofs.Common.{◌≡◌, ℕ, ◌/◌, ◌%◌, Bool, true, false, ◌||◌, List, [], ◌∷◌, ◌++◌, map, refl, sym, ap, subst, ◌∙◌, arith, cond, nat_eq}
 use Rattle.std.specs.List.{list_any}
 use Rattle.std.specs.Prelude.{is_none, not}
 use Rattle.std.specs.Str.{bytes_eq}
@@ -9,13 +9,11 @@ use Rattle.fvn_terms.specs.declared.plain.OpId.{OpId}
 use Rattle.fvn_terms.specs.declared.plain.SortId.{SortId}
 use Rattle.fvn_terms.specs.declared.declarations.Axioms.{Axioms}
 use Rattle.fvn_terms.specs.declared.declarations.Axioms.TheVariants.{Free, Comm, AssocComm, AssocCommId}
-use Rattle.fvn_terms.specs.declared.declarations.Rank.{Rank}
 use Rattle.fvn_forms.specs.SortOrder.{sort_number, same_sort}
 use Rattle.fvn_forms.proofs.SortTests.{same_sort-true, same_sort-self}
 use Rattle.fvn_drafts.specs.declared.collected.Declaration.{Declaration}
 use Rattle.fvn_drafts.specs.Collected.{op_number, same_op}
 use Rattle.fvn_drafts.proofs.Parts.{same_tests}
-use Rattle.fvn_syntax.specs.Pieces.{Text}
 use Rattle.fvn_syntax.specs.Texts.{place}
 use Rattle.fvn_syntax.proofs.TextLemmas.{position-any}
 use Rattle.fvn_declared.specs.Operators.{alike, same_sorts, same_axioms, same_declaration}
@@ -151,8 +149,8 @@ partial-told false true e = absurd (omega arith)
 pub code-told : (d e : Declaration) → code d ≡ code e → d ≡ e
 code-told d e h =
     let parts : partial_code d.partial ∷ (number_code d.op.0 ++ ((axioms_mark d.axioms ∷ number_code (axioms_number d.axioms)) ++ (number_code d.rank.result.0 ++ sorts_code d.rank.args)))
-            ≡ partial_code e.partial ∷ (number_code e.op.0 ++ ((axioms_mark e.axioms ∷ number_code (axioms_number e.axioms)) ++ (number_code e.rank.result.0 ++ sorts_code e.rank.args))) =
-                rw (axioms_code-parts d.axioms, axioms_code-parts e.axioms) at h in
+    ≡ partial_code e.partial ∷ (number_code e.op.0 ++ ((axioms_mark e.axioms ∷ number_code (axioms_number e.axioms)) ++ (number_code e.rank.result.0 ++ sorts_code e.rank.args))) =
+    rw (axioms_code-parts d.axioms, axioms_code-parts e.axioms) at h in
     let partial : partial_code d.partial ≡ partial_code e.partial = cc in
     let op_high : d.op.0 / 256 ≡ e.op.0 / 256 = cc in
     let op_low : d.op.0 % 256 ≡ e.op.0 % 256 = cc in
@@ -163,8 +161,8 @@ code-told d e h =
     let result_low : d.rank.result.0 % 256 ≡ e.rank.result.0 % 256 = cc in
     let args : sorts_code d.rank.args ≡ sorts_code e.rank.args = cc in
     let axioms : d.axioms ≡ e.axioms =
-            sym (axioms_of_code-told d.axioms) ∙ ap (λ m. axioms_of_code m (axioms_number d.axioms)) mark
-            ∙ ap (axioms_of_code (axioms_mark e.axioms)) (number-told (axioms_number d.axioms) (axioms_number e.axioms) id_high id_low) ∙ axioms_of_code-told e.axioms in
+    sym (axioms_of_code-told d.axioms) ∙ ap (λ m. axioms_of_code m (axioms_number d.axioms)) mark
+    ∙ ap (axioms_of_code (axioms_mark e.axioms)) (number-told (axioms_number d.axioms) (axioms_number e.axioms) id_high id_low) ∙ axioms_of_code-told e.axioms in
     whole d e (ap op_number (number-told d.op.0 e.op.0 op_high op_low)) (partial-told d.partial e.partial partial) axioms
     (ap sort_number (number-told d.rank.result.0 e.rank.result.0 result_high result_low)) (sorts-told d.rank.args e.rank.args args)
 

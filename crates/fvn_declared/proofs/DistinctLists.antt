@@ -1,18 +1,18 @@
 -- Pairs of two groups are those of their distinct sorts.
-use Rattle.std.proofs.Common.{◌≡◌, ℕ, ◌<◌, Bool, true, false, cond, List, [], ◌∷◌, ◌++◌, length, map, get_or, refl, sym, ap, subst, ◌∙◌, ◌⊎◌, inl, inr, nat_eq}
-use Rattle.std.specs.List.{All, Contains, list_any}
+use Rattle.std.proofs.Common.{◌≡◌, ℕ, Bool, true, false, cond, List, [], ◌∷◌, ◌++◌, map, refl, sym, ap, subst, ◌∙◌, ◌⊎◌, inl, inr, nat_eq}
+use Rattle.std.specs.List.{Contains, list_any}
 use Rattle.std.proofs.lemmas.Bool.{cond-true, cases_eq, eq-eqb, ne_eqb, or_left, or_right}
 use Rattle.std.proofs.lemmas.List.{append-nil, append_assoc, map-append}
-use Rattle.std.proofs.lemmas.List.Elements.{All-weaker, All-contains_itself, Contains-append_left, Contains-append_right, Contains-append_cases, Contains-get_or}
+use Rattle.std.proofs.lemmas.List.Elements.{Contains-append_left, Contains-append_right}
 use Rattle.std.proofs.lemmas.Map.Views.{Contains-from_any}
 use Rattle.fvn_terms.specs.declared.plain.SortId.{SortId}
-use Rattle.fvn_base.proofs.Membership.{contains_here, contains_later, contains_cases, contains_none, contains_map, map_contains}
+use Rattle.fvn_base.proofs.Membership.{contains_here, contains_later, contains_cases, contains_none, contains_map}
 use Rattle.fvn_forms.specs.SortOrder.{sort_number, same_sort}
 use Rattle.fvn_forms.proofs.SortTests.{same_sort-true, same_sort-self}
 use Rattle.fvn_drafts.specs.declared.collected.Collected.{Collected}
 use Rattle.fvn_declared.specs.Order.{same_pair, with_new, with_all, crossed}
 use Rattle.fvn_declared.specs.inner.Pairs.{with_more, row}
-use Rattle.fvn_declared.proofs.NewLists.{with_all-append, contains_with_all, with_all_contains, with_all_contains_old, with_new_contains}
+use Rattle.fvn_declared.proofs.NewLists.{with_all-append, with_all_contains}
 use Rattle.fvn_declared.proofs.Partitions.{same_pair-true}
 
 abbrev Pair : Type 0

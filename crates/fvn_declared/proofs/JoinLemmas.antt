@@ -1,15 +1,10 @@
 -- Classes in which more and more pairs are joined.
-use Rattle.std.proofs.Common.{◌≡◌, ℕ, ◌+◌, ◌<◌, true, List, [], ◌∷◌, ◌++◌, length, map, get_or, take, Option, Some, None, refl, sym, ap, subst, ◌∙◌, ◌⊎◌, inl, inr, arith}
-use Rattle.std.specs.List.{All, Contains}
-use Rattle.std.specs.Prelude.{slice_get, slice_index_or}
-use Rattle.std.proofs.lemmas.List.{append-nil, append_assoc, map-append}
-use Rattle.std.proofs.lemmas.List.Elements.{All-nil, All-cons, All-head, All-tail, All-append, All-weaker, All-map, All-contains, All-contains_itself}
+use Rattle.std.proofs.Common.{◌≡◌, ℕ, ◌<◌, List, [], ◌∷◌, ◌++◌, length, get_or, refl, subst, ◌∙◌, ◌⊎◌, inl, inr, arith}
+use Rattle.std.specs.List.{All}
+use Rattle.std.proofs.lemmas.List.Elements.{All-nil, All-cons, All-head, All-tail, All-append}
 use Rattle.fvn_terms.specs.declared.plain.SortId.{SortId}
-use Rattle.fvn_base.proofs.Membership.{contains_here, contains_later, contains_cases, contains_none, contains_map}
-use Rattle.fvn_forms.specs.SortOrder.{sort_number, reaches}
-use Rattle.fvn_forms.proofs.SortTests.{reaches-self, reaches-trans, reaches-one}
-use Rattle.fvn_drafts.specs.Collected.{both_ways}
-use Rattle.fvn_declared.specs.inner.Classes.{label, AreAlike, IsJoin}
+use Rattle.fvn_forms.specs.SortOrder.{sort_number}
+use Rattle.fvn_declared.specs.inner.Classes.{AreAlike, IsJoin}
 use Rattle.fvn_declared.specs.inner.Joining.{AreLinked, AreSound, IsJoinedBy}
 use Rattle.fvn_declared.proofs.Links.{linked-sym, linked-trans}
 

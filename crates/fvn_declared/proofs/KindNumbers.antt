@@ -1,7 +1,6 @@
 -- A sort whose label is new begins a kind, and any other one has the kind of an earlier sort.
-use Rattle.std.proofs.Common.{◌≡◌, ℕ, ◌+◌, ◌<◌, true, List, [], ◌∷◌, ◌++◌, map, length, get_or, set, replicate, Option, Some, None, refl, sym, ap, subst, ◌∙◌, ◌⊎◌, inl, inr, arith, nat_eq}
+use Rattle.std.proofs.Common.{◌≡◌, ℕ, ◌+◌, ◌<◌, true, List, [], ◌∷◌, ◌++◌, map, length, get_or, set, replicate, Option, Some, None, refl, sym, ap, subst, ◌∙◌, ◌⊎◌, inl, inr, arith}
 use Rattle.std.specs.List.{All}
-use Rattle.std.specs.Prelude.{MatchOption}
 use Rattle.std.proofs.lemmas.Bool.{cases_eq, cases_lt, cases_order, eq-eqb, eqb-true}
 use Rattle.std.proofs.lemmas.List.{get_or-set_same, get_or-set_other, get_or-replicate, get_or_past, length-replicate, length-map, get_or-map, map-append}
 use Rattle.std.proofs.lemmas.List.Elements.{All-push, All-weaker}
@@ -33,7 +32,7 @@ listed_below c kinds n f kind next e l is below =
     let long : length kinds ≡ n = sym (length-map kinds sort_number) ∙ ap length e ∙ kinds-length c n in
     let within : f < length kinds = omega arith in
     let at : sort_number (get_or kinds f 0) ≡ sort_number kind =
-            sym (get_or-map sort_number kinds f 0 (sort_number 0) within) ∙ ap (λ ks. get_or ks f (sort_number 0)) e ∙ kinds-at c n f (sort_number 0) l ∙ sym is in
+    sym (get_or-map sort_number kinds f 0 (sort_number 0) within) ∙ ap (λ ks. get_or ks f (sort_number 0)) e ∙ kinds-at c n f (sort_number 0) l ∙ sym is in
     let one : get_or kinds f 0 ≡ kind = ap (λ (s : SortId). s.0) at in
     let b : get_or kinds f 0 < next = below f 0 within in
     omega arith
@@ -123,9 +122,11 @@ module _ (c : Collected) (labels : List ℕ) (h : HasLabels c labels) where
       IsNumbered c (kinds ++ next ∷ []) (next + 1) (n + 1) × ((l : ℕ) → IsKnown c labels (n + 1) l (get_or (set known (label labels n) (Some next)) l None))
   numbered_new known kinds next n few within e all is =
       let first = first_kind n few (known_not c labels n known e all) in
-      let kind : sort_number next ≡ kind_of c (sort_number n) = ap sort_number is.following ∙ sym first.0 in
-      (record {
-        numbers = rw (map-append, is.numbers, kinds-more, kind);
-        following = ap (λ m. m + 1) is.following ∙ (let f = first.1 in omega arith);
-        below = All-push (λ i. i < next + 1) kinds next (All-weaker (λ i. i < next) (λ i. i < next + 1) (λ i m. omega arith) kinds is.below) (omega arith);
-      }, known_new known n next within kind all)
+      let kind : sort_number next ≡ kind_of c (sort_number n) = ap sort_number is.following ∙ sym first.0 in (
+        record {
+          numbers = rw (map-append, is.numbers, kinds-more, kind);
+          following = ap (λ m. m + 1) is.following ∙ (let f = first.1 in omega arith);
+          below = All-push (λ i. i < next + 1) kinds next (All-weaker (λ i. i < next) (λ i. i < next + 1) (λ i m. omega arith) kinds is.below) (omega arith);
+        },
+        known_new known n next within kind all,
+      )

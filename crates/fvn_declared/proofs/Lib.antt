@@ -10,3 +10,11 @@ mod Tested
 mod PairTables
 mod DistinctLists
 mod CodeLemmas
+mod DraftLemmas
+mod TextCounts
+mod RankLemmas
+mod Drafted
+mod Collecting
+mod NamedRanks
+mod LongRanks
+mod VariableSorts

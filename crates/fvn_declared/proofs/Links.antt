@@ -1,5 +1,5 @@
 -- Sorts that pairs link.
-use Rattle.std.proofs.Common.{◌≡◌, true, List, []}
+use Rattle.std.proofs.Common.{List, []}
 use Rattle.std.specs.List.{Contains}
 use Rattle.fvn_terms.specs.declared.plain.SortId.{SortId}
 use Rattle.fvn_forms.proofs.SortTests.{reaches-self, reaches-trans}

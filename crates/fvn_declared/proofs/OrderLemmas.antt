@@ -1,9 +1,9 @@
 -- The pairs that groups of sorts declare, as a loop goes through them.
-use Rattle.std.proofs.Common.{◌≡◌, ℕ, zero, suc, ◌+◌, ◌<◌, true, List, [], ◌∷◌, ◌++◌, length, map, get_or, take, Option, Some, None, refl, sym, ap, subst, ◌∙◌, ◌⊎◌, inl, inr, arith}
-use Rattle.std.specs.List.{All, Contains, range_with_len, flat_map}
+use Rattle.std.proofs.Common.{◌≡◌, ℕ, zero, suc, ◌+◌, ◌<◌, List, [], ◌∷◌, ◌++◌, length, map, get_or, take, Option, Some, None, refl, sym, ap, subst, ◌∙◌, ◌⊎◌, inl, inr, arith}
+use Rattle.std.specs.List.{All, Contains}
 use Rattle.std.specs.Prelude.{slice_get}
 use Rattle.std.proofs.lemmas.List.{append-nil, append_assoc, map-append, take_more, get_or_read, flat_map_more}
-use Rattle.std.proofs.lemmas.List.Elements.{All-nil, All-weaker, All-contains, All-contains_itself, Contains-append_left, Contains-append_right, Contains-append_cases}
+use Rattle.std.proofs.lemmas.List.Elements.{All-weaker, All-contains, All-contains_itself, Contains-append_left, Contains-append_right, Contains-append_cases}
 use Rattle.fvn_terms.specs.declared.plain.SortId.{SortId}
 use Rattle.fvn_base.proofs.Membership.{contains_here, contains_later, contains_cases, contains_none, contains_map, map_contains}
 use Rattle.fvn_forms.specs.SortOrder.{sort_number, same_sort}
@@ -13,11 +13,11 @@ use Rattle.fvn_syntax.specs.Names.{sort_named, sort_at}
 use Rattle.fvn_syntax.proofs.TextLemmas.{place-below}
 use Rattle.fvn_statements.specs.declared.statement.Statement.{Statement}
 use Rattle.fvn_declared.specs.Order.{with_all, with_sort, crossed, declared_among, pairs_between, pairs_of_groups, pairs_in}
-use Rattle.fvn_declared.specs.inner.Classes.{label, AreAlike}
-use Rattle.fvn_declared.specs.inner.Joining.{AreLinked, AreSound, IsJoinedBy}
+use Rattle.fvn_declared.specs.inner.Classes.{AreAlike}
+use Rattle.fvn_declared.specs.inner.Joining.{AreLinked, IsJoinedBy}
 use Rattle.fvn_declared.proofs.Links.{linked-sym}
 use Rattle.fvn_declared.proofs.NewLists.{contains_with_all}
-use Rattle.fvn_declared.proofs.JoinLemmas.{joined-none, joined-both, joined-other}
+use Rattle.fvn_declared.proofs.JoinLemmas.{joined-both, joined-other}
 use Rattle.fvn_declared.proofs.Partitions.{all_pairs}
 
 abbrev Pair : Type 0
@@ -51,7 +51,7 @@ crossed-none (s ∷ ss) = crossed-none ss
 
 -- Each sort is joined with the first one of the other group.
 module _ (old mid new : List ℕ) (ls hs : List SortId) (low high : ℕ) (has_low : Contains ls (sort_number low)) (has_high : Contains hs (sort_number high))
-  (g : IsJoinedBy old mid (map (λ s. (s, sort_number high)) ls)) (h : IsJoinedBy mid new (map (λ s. (s, sort_number low)) hs)) where
+    (g : IsJoinedBy old mid (map (λ s. (s, sort_number high)) ls)) (h : IsJoinedBy mid new (map (λ s. (s, sort_number low)) hs)) where
   both : IsJoinedBy old new (map (λ s. (s, sort_number high)) ls ++ map (λ s. (s, sort_number low)) hs)
   both = joined-both old mid new (map (λ s. (s, sort_number high)) ls) (map (λ s. (s, sort_number low)) hs) g h
 
@@ -111,7 +111,7 @@ module _ (sorts : List Text) where
   joined-name_more old mid new f names i w l e g h =
       let more : take (i + 1) names ≡ take i names ++ w ∷ [] = take_more names i w l ∙ ap (λ z. take i names ++ z ∷ []) (sym e) in
       let parts : map f (declared_among sorts (take (i + 1) names)) ≡ map f (declared_among sorts (take i names)) ++ map f (declared_among sorts (w ∷ [])) =
-              ap (λ z. map f (declared_among sorts z)) more ∙ ap (map f) (declared_among-append (take i names) (w ∷ [])) ∙ map-append f (declared_among sorts (take i names)) (declared_among sorts (w ∷ [])) in
+      ap (λ z. map f (declared_among sorts z)) more ∙ ap (map f) (declared_among-append (take i names) (w ∷ [])) ∙ map-append f (declared_among sorts (take i names)) (declared_among sorts (w ∷ [])) in
       subst (IsJoinedBy old new) (sym parts) (joined-both old mid new (map f (declared_among sorts (take i names))) (map f (declared_among sorts (w ∷ []))) g h)
 
   -- a declared sort has a number below that of all sorts

@@ -1,12 +1,12 @@
 -- Classes in which all pairs of statements are joined are those that the order joins.
-use Rattle.std.proofs.Common.{◌≡◌, ℕ, ◌<◌, Bool, true, false, List, [], ◌∷◌, ◌++◌, length, map, refl, sym, ap, subst, ◌∙◌, ◌⊎◌, inl, inr, arith, nat_eq}
-use Rattle.std.specs.List.{All, Contains, range_with_len, flat_map}
+use Rattle.std.proofs.Common.{◌≡◌, ℕ, ◌<◌, true, List, [], ◌∷◌, length, map, refl, sym, ap, subst, ◌∙◌, inl, inr, arith, nat_eq}
+use Rattle.std.specs.List.{Contains, range_with_len, flat_map}
 use Rattle.std.proofs.lemmas.Bool.{eqb-true, eq-eqb, and_parts}
 use Rattle.std.proofs.lemmas.List.FromFn.{length-range_with_len, get_or-range_with_len}
 use Rattle.std.proofs.lemmas.List.Elements.{All-contains, All-contains_itself, All-weaker, Contains-append_cases}
 use Rattle.fvn_terms.specs.declared.plain.SortId.{SortId}
 use Rattle.fvn_base.proofs.Membership.{map_contains}
-use Rattle.fvn_forms.specs.SortOrder.{sort_number, same_sort, reaches}
+use Rattle.fvn_forms.specs.SortOrder.{sort_number, same_sort}
 use Rattle.fvn_forms.proofs.SortTests.{same_sort-true, reaches-sound}
 use Rattle.fvn_drafts.specs.Collected.{both_ways, turned, joins}
 use Rattle.fvn_drafts.proofs.Parts.{same_tests}

@@ -1,5 +1,5 @@
 -- Statements that were tested one after the other.
-use Rattle.std.proofs.Common.{◌≡◌, ℕ, ◌+◌, ◌<◌, true, false, List, [], ◌∷◌, ◌++◌, length, take, drop, get_or, refl, sym, ap, subst, ◌∙◌, arith}
+use Rattle.std.proofs.Common.{◌≡◌, ℕ, ◌+◌, ◌<◌, false, List, [], ◌∷◌, ◌++◌, length, take, drop, get_or, refl, sym, ap, subst, ◌∙◌, arith}
 use Rattle.std.proofs.lemmas.List.{append-nil, append_assoc, take-append-drop, drop_more, take_more, length-take-le}
 use Rattle.fvn_syntax.specs.Pieces.{Text}
 use Rattle.fvn_syntax.specs.declared.names.Variables.{Variables}
@@ -7,11 +7,11 @@ use Rattle.fvn_statements.specs.declared.statement.Statement.{Statement}
 use Rattle.fvn_declared.specs.declared.fault.NameFault.{NameFault}
 use Rattle.fvn_declared.specs.declared.fault.NameFault.TheVariants.{UnknownName, Twice, NoMemory}
 use Rattle.fvn_declared.specs.Names.{operators_in, constants_in, sorts_of, operators_of, with_texts, with_names}
-use Rattle.fvn_declared.specs.Variables.{no_variables, with_declared, with_all_declared, variables_of}
+use Rattle.fvn_declared.specs.Variables.{no_variables, with_declared, with_all_declared}
 use Rattle.fvn_declared.specs.inner.Vocabulary.{Vocabulary, vocabulary_of}
 use Rattle.fvn_declared.specs.Module.{kinds_in}
-use Rattle.fvn_declared.specs.Faults.{names_unknown, declares_twice, AreNamed, IsFirstAt, IsFirstFault}
-use Rattle.fvn_declared.specs.inner.Testing.{Past, past, with_past, Passes, IsFault}
+use Rattle.fvn_declared.specs.Faults.{names_unknown, declares_twice, AreNamed, IsFirstFault}
+use Rattle.fvn_declared.specs.inner.Testing.{past, with_past, Passes, IsFault}
 
 pub with_names-push : (names : Statement → List Text) (texts : List Text) (sts : List Statement) (st : Statement) →
     with_names names texts (sts ++ st ∷ []) ≡ with_texts (with_names names texts sts) (names st)
@@ -30,8 +30,12 @@ module _ (v : Vocabulary) where
   pub named-push : (before sts : List Statement) (st : Statement) → AreNamed v.sorts v.ops v.kinds before sts →
       names_unknown v.sorts v.ops v.kinds (before ++ sts) st ≡ false → declares_twice v.sorts v.ops v.kinds (before ++ sts) st ≡ false → AreNamed v.sorts v.ops v.kinds before (sts ++ st ∷ [])
   named-push before [] st h unknown twice = (rw append-nil at unknown, rw append-nil at twice, tt)
-  named-push before (s ∷ sts) st h unknown twice = (h.0, h.1, named-push (before ++ s ∷ []) sts st h.2
-      (rw (append_assoc before (s ∷ []) sts) unknown) (rw (append_assoc before (s ∷ []) sts) twice))
+  named-push before (s ∷ sts) st h unknown twice = (
+    h.0,
+    h.1,
+    named-push (before ++ s ∷ []) sts st h.2
+        (rw (append_assoc before (s ∷ []) sts) unknown) (rw (append_assoc before (s ∷ []) sts) twice),
+  )
 
 module _ (sts : List Statement) (i : ℕ) (st : Statement) (within : i < length sts) (at : st ≡ get_or sts i st) where
   taken : take (i + 1) sts ≡ take i sts ++ st ∷ []

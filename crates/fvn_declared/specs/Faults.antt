@@ -1,15 +1,15 @@
 -- Which names of statements are at fault, and the first of them.
-use Rattle.std.specs.Prelude.{ℕ, ◌≡◌, ◌+◌, Bool, true, false, not, ◌&&◌, ◌||◌, List, [], ◌∷◌, ◌++◌, map, length, slice_get, Option, Some, None}
+use Rattle.std.specs.Prelude.{ℕ, ◌≡◌, ◌+◌, Bool, true, false, not, ◌&&◌, ◌||◌, List, [], ◌∷◌, ◌++◌, length, Option, Some, None}
 use Rattle.std.specs.List.{list_any}
 use Rattle.fvn_terms.specs.declared.plain.SortId.{SortId}
 use Rattle.fvn_syntax.specs.Pieces.{Text, is_colon_name}
 use Rattle.fvn_syntax.specs.Texts.{place}
-use Rattle.fvn_syntax.specs.Names.{sort_named, sorted_name, resolve_sort, declared_sort, same_sort}
+use Rattle.fvn_syntax.specs.Names.{sorted_name, resolve_sort, declared_sort, same_sort}
 use Rattle.fvn_syntax.specs.declared.sorts.RawSort.{RawSort}
 use Rattle.fvn_syntax.specs.declared.names.Variables.{Variables}
 use Rattle.fvn_statements.specs.declared.statement.RawRank.{RawRank}
 use Rattle.fvn_statements.specs.declared.statement.Attribute.{Attribute}
-use Rattle.fvn_statements.specs.declared.statement.Attribute.TheVariants.{Assoc, Comm, Identity, Constructor, Ditto, Precedence, Gather, Format}
+use Rattle.fvn_statements.specs.declared.statement.Attribute.TheVariants.{Identity}
 use Rattle.fvn_statements.specs.declared.statement.Statement.{Statement}
 use Rattle.fvn_statements.specs.declared.statement.Statement.TheVariants as statement
 use Rattle.fvn_statements.specs.LeftOut.{is_ditto}

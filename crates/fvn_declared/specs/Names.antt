@@ -1,10 +1,9 @@
 -- The names that statements declare, in order of first occurrence, each once.
-use Rattle.std.specs.Prelude.{Bool, true, false, if◌then◌else◌, List, [], ◌∷◌, ◌++◌, map, codes}
+use Rattle.std.specs.Prelude.{if◌then◌else◌, List, [], ◌∷◌, ◌++◌, map, codes}
 use Rattle.fvn_lex.specs.Cut.{Piece}
 use Rattle.fvn_syntax.specs.Pieces.{Text, is_word}
 use Rattle.fvn_syntax.specs.Texts.{with_text}
 use Rattle.fvn_syntax.specs.declared.sorts.RawSort.{RawSort}
-use Rattle.fvn_statements.specs.declared.statement.RawRank.{RawRank}
 use Rattle.fvn_statements.specs.declared.statement.OperatorName.{OperatorName}
 use Rattle.fvn_statements.specs.declared.statement.OperatorName.TheVariants.{Single, Round}
 use Rattle.fvn_statements.specs.declared.statement.Statement.{Statement}

@@ -1,5 +1,5 @@
 -- The order of sorts that statements declare, and the kinds that follow from it.
-use Rattle.std.specs.Prelude.{ℕ, Bool, ◌&&◌, true, false, if◌then◌else◌, List, [], ◌∷◌, ◌++◌, map, length, Option, Some, None}
+use Rattle.std.specs.Prelude.{Bool, ◌&&◌, if◌then◌else◌, List, [], ◌∷◌, ◌++◌, map, length, Option, Some, None}
 use Rattle.std.specs.List.{list_any}
 use Rattle.fvn_terms.specs.declared.plain.SortId.{SortId}
 use Rattle.fvn_forms.specs.SortOrder.{same_sort}

@@ -1,13 +1,25 @@
 //! What the statements of a module declare.
 ghost use Rattle.std.specs.Prelude.{◌≡◌, ◌⊎◌, IfOk, IfErr};
+ghost use Rattle.fvn_sorts.specs.Faults.{IsTooLarge};
 ghost use Rattle.fvn_declared.specs.declared.fault.NameFault.TheVariants.{NoMemory as OutOfMemory};
+ghost use Rattle.fvn_declared.specs.Variables.{variables_of};
+ghost use Rattle.fvn_declared.specs.Module.{collected_in, names_alone};
 ghost use Rattle.fvn_declared.specs.Answer.{IsDeclared};
-ghost use Rattle.fvn_declared.specs.Faults.{IsFirstFault};
+ghost use Rattle.fvn_declared.specs.Faults.{HasNames, IsFirstFault};
+ghost use Rattle.fvn_declared.specs.inner.Ranges.{IsInRange};
+ghost use Rattle.fvn_declared.specs.inner.Vocabulary.{vocabulary_of};
 
+use crate::building::build;
 use crate::fault::NameFault;
+use crate::sizes::is_too_large;
+use crate::testing::test_statements;
+use crate::variables::VariableTable;
+use crate::vocabulary::Vocabulary;
+use fvn_base::Seq;
 use fvn_sorts::SignatureBuilder;
 use fvn_statements::Form;
-use fvn_syntax::Names;
+use fvn_syntax::{Names, Texts, Variables};
+use fvn_terms::NoMemory;
 use std::alloc::Global;
 
 /// What statements declare: names with what a signature is made of, or names of sorts and operators alone, where
@@ -16,6 +28,48 @@ use std::alloc::Global;
 pub enum Declared {
     Fitting(Names, SignatureBuilder),
     TooLarge(Names),
+}
+
+// A copy of the name of a module.
+fn copy_name(alloc: Global, form: &Form<'_>) -> Result<Seq<u8>, NoMemory>
+    ensures { IfOk result (λ name. name ≡ form.now.name) }
+{
+    let name = Vec::from_slice(alloc, form.name.bytes())?;
+    Ok(Seq::from_vec(name))
+}
+
+// The names of a module without its variables.
+fn name_alone(alloc: Global, form: &Form<'_>, v: Vocabulary) -> Result<Names, NoMemory>
+    requires { v ≡ vocabulary_of form.now.statements }
+    ensures { IfOk result (λ names. names ≡ names_alone form.now) }
+{
+    let name = copy_name(alloc, form)?;
+    let none = Variables {
+        texts: Texts::new(alloc),
+        sorts: Seq::new(alloc),
+    };
+    Ok(v.into_names(name, none))
+}
+
+// What the statements of a module declare, where their names are not at fault and they fit.
+fn fit(
+    alloc: Global,
+    form: &Form<'_>,
+    v: Vocabulary,
+    table: VariableTable,
+) -> Result<Declared, NoMemory>
+    requires vocabulary { v ≡ vocabulary_of form.now.statements }
+    requires in_range { IsInRange v }
+    requires variables { table ≡ variables_of v.sorts v.kinds form.now.statements }
+    requires named { HasNames form.now.statements }
+    requires small { IsTooLarge (collected_in form.now.statements) → ⊥ }
+    ensures { IfOk result (IsDeclared form.now) }
+{
+    let builder = build(alloc, &v, form.statements.as_slice())?;
+    let variables = table.into_variables(alloc)?;
+    let name = copy_name(alloc, form)?;
+    let names = v.into_names(name, variables);
+    Ok(Declared::Fitting(names, builder))
 }
 
 /// What the statements of a module declare, or the first fault among their names.
@@ -27,5 +81,13 @@ pub fn declare(alloc: Global, form: &Form<'_>) -> Result<Declared, NameFault>
     ensures ok { IfOk result (IsDeclared form.now) }
     ensures err { IfErr result (λ fault. (fault ≡ OutOfMemory) ⊎ IsFirstFault form.now.statements fault) }
 {
-    Err(NameFault::NoMemory)
+    let statements = form.statements.as_slice();
+    let v = Vocabulary::collect(alloc, statements)?;
+    let table = test_statements(alloc, &v, statements)?;
+    if is_too_large(&v, statements) {
+        let names = name_alone(alloc, form, v)?;
+        return Ok(Declared::TooLarge(names));
+    }
+    let declared = fit(alloc, form, v, table)?;
+    Ok(declared)
 }

@@ -22,7 +22,7 @@ struct SortKinds {
 fn sort_kinds(alloc: Global, labels: &[usize]) -> Result<SortKinds, NoMemory>
     requires { All (λ l. l < length labels.now) labels.now }
     ensures { IfOk result (λ k. (order : Collected) → HasLabels order labels.now →
-      IsNumbered order k.kinds.items k.next order.sorts) }
+        IsNumbered order k.kinds.items k.next order.sorts) }
 {
     let mut next = labels.len();
     let mut kinds = Vec::new(alloc);

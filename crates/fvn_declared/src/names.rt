@@ -7,7 +7,6 @@ ghost use Rattle.fvn_declared.specs.Names.{
   sorts_in,
   operators_in,
   constants_in,
-
   with_texts,
   sorts_of,
   operators_of,
@@ -70,10 +69,7 @@ fn all_names(alloc: Global, names: &[OperatorName<'_>]) -> Result<Vec<Seq<u8>>, 
 }
 
 /// The operators that a statement declares.
-pub fn operator_names(
-    alloc: Global,
-    statement: &Statement<'_>,
-) -> Result<Vec<Seq<u8>>, NoMemory>
+pub fn operator_names(alloc: Global, statement: &Statement<'_>) -> Result<Vec<Seq<u8>>, NoMemory>
     ensures { IfOk result (λ v. v.items ≡ operators_in statement.now) }
 {
     match statement {
@@ -113,11 +109,7 @@ pub fn as_texts<'b>(alloc: Global, owned: &'b [Seq<u8>]) -> Result<Vec<Text<'b>>
 }
 
 // The texts with the sorts that a statement declares.
-fn insert_sorts(
-    alloc: Global,
-    sorts: &mut Texts,
-    statement: &Statement<'_>,
-) -> Result<(), NoMemory>
+fn insert_sorts(alloc: Global, sorts: &mut Texts, statement: &Statement<'_>) -> Result<(), NoMemory>
     ensures { OnOk result (sorts.new ≡ with_texts sorts.old (sorts_in statement.now)) }
 {
     match statement {

@@ -158,11 +158,7 @@ impl PairBuilder {
 }
 
 // The declared sorts among these names, each once.
-fn distinct_sorts(
-    alloc: Global,
-    sorts: &Texts,
-    names: &[Text<'_>],
-) -> Result<Vec<usize>, NoMemory>
+fn distinct_sorts(alloc: Global, sorts: &Texts, names: &[Text<'_>]) -> Result<Vec<usize>, NoMemory>
     ensures exact { IfOk result (λ v. map sort_number v.items ≡ with_all same_sort [] (declared_among sorts.now names.now)) }
     ensures in_range { IfOk result (λ v. All (λ s. s < length sorts.now) v.items) }
 {
@@ -176,7 +172,7 @@ fn distinct_sorts(
 // Adds a number, where there is one and it is new.
 fn insert_sort(distinct: &mut Vec<usize>, place: Option<usize>) -> Result<(), NoMemory>
     ensures { OnOk result (map sort_number distinct.new.items ≡
-      with_all same_sort (map sort_number distinct.old.items) (with_sort (sort_at place) [])) }
+        with_all same_sort (map sort_number distinct.old.items) (with_sort (sort_at place) [])) }
 {
     if let Some(i) = place {
         if !distinct.as_slice().contains(&i) {

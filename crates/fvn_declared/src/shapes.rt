@@ -10,14 +10,13 @@ ghost use Rattle.fvn_declared.specs.Operators.{
 };
 ghost use Rattle.fvn_statements.specs.LeftOut.{is_assoc, is_comm};
 ghost use Rattle.std.specs.List.{list_any};
-ghost use Rattle.fvn_declared.specs.inner.Shapes.{own_axioms, shape_of, has_long_rank};
+ghost use Rattle.fvn_declared.specs.inner.Shapes.{own_axioms, shape_of};
 ghost use Rattle.fvn_syntax.specs.Texts.{place_or_end};
 
 use crate::unknown::has_ditto;
 use crate::vocabulary::Vocabulary;
 use fvn_base::Seq;
-use fvn_base::limits::ARGUMENTS;
-use fvn_statements::{Attribute, RawRank, Statement};
+use fvn_statements::{Attribute, RawRank};
 use fvn_syntax::{RawSort, Text, Texts};
 use fvn_terms::{Axioms, NoMemory, OpId, Rank, SortId};
 use std::alloc::Global;
@@ -88,14 +87,18 @@ fn find_identity<'b>(attributes: &'b [Attribute<'_>]) -> Option<&'b [u8]>
 fn has_comm(attributes: &[Attribute<'_>]) -> bool
     ensures { result ≡ list_any is_comm attributes.now }
 {
-    attributes.iter().any(|attribute| matches!(attribute, Attribute::Comm))
+    attributes
+        .iter()
+        .any(|attribute| matches!(attribute, Attribute::Comm))
 }
 
 // Whether one of the attributes is `assoc`.
 fn has_assoc(attributes: &[Attribute<'_>]) -> bool
     ensures { result ≡ list_any is_assoc attributes.now }
 {
-    attributes.iter().any(|attribute| matches!(attribute, Attribute::Assoc))
+    attributes
+        .iter()
+        .any(|attribute| matches!(attribute, Attribute::Assoc))
 }
 
 // The axioms of a sum, with an identity where one is named.

@@ -34,7 +34,13 @@ fn find_fault(
     if names_unknown(v, earlier.operators(), names, statement) {
         return Err(NameFault::UnknownName(number));
     }
-    if declares_twice(v, earlier.constants(), earlier.variables(), names, statement) {
+    if declares_twice(
+        v,
+        earlier.constants(),
+        earlier.variables(),
+        names,
+        statement,
+    ) {
         return Err(NameFault::Twice(number));
     }
     Ok(())

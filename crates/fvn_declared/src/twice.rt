@@ -92,9 +92,7 @@ fn any_declared_otherwise(
 ) -> bool
     ensures { result ≡ list_any (is_declared_otherwise v.now.sorts v.now.ops v.now.kinds constants.now variables.now (option_map sort_number sort)) names.now }
 {
-    names
-        .iter()
-        .any(|name| is_declared_otherwise(v, constants, variables, sort, name.bytes()))
+    names.iter().any(|name| is_declared_otherwise(v, constants, variables, sort, name.bytes()))
 }
 
 /// Whether a statement that declares the operators with these names, behind those of the earlier constants and
@@ -110,7 +108,8 @@ pub fn declares_twice(
     ensures { result ≡ declares_twice_after v.now.sorts v.now.ops v.now.kinds constants.now variables.now statement.now }
 {
     match statement {
-        Statement::Operator { .. } => declares_constants(statement) && any_clash(v, variables, names),
+        Statement::Operator { .. } => declares_constants(statement)
+            && any_clash(v, variables, names),
         Statement::Operators { .. } => {
             declares_constants(statement) && any_clash(v, variables, names)
         }

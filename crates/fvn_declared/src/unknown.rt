@@ -36,7 +36,9 @@ fn any_missing(texts: &Texts, names: &[Text<'_>]) -> bool
 fn any_missing_in(texts: &Texts, groups: &[Seq<Text<'_>>]) -> bool
     ensures { result ≡ list_any (list_any (is_missing texts.now)) groups.now }
 {
-    groups.iter().any(|group| any_missing(texts, group.as_slice()))
+    groups
+        .iter()
+        .any(|group| any_missing(texts, group.as_slice()))
 }
 
 // Whether a sort is not declared, or is a bracket that is not of one kind.
@@ -74,11 +76,18 @@ fn is_unknown_identity(v: &Vocabulary, attribute: &Attribute<'_>) -> bool
 pub fn has_ditto(attributes: &[Attribute<'_>]) -> bool
     ensures { result ≡ list_any is_ditto attributes.now }
 {
-    attributes.iter().any(|attribute| matches!(attribute, Attribute::Ditto))
+    attributes
+        .iter()
+        .any(|attribute| matches!(attribute, Attribute::Ditto))
 }
 
 // Whether there is `ditto`, and a name without an earlier declaration.
-fn lacks_earlier(v: &Vocabulary, earlier: &Texts, names: &[Text<'_>], attributes: &[Attribute<'_>]) -> bool
+fn lacks_earlier(
+    v: &Vocabulary,
+    earlier: &Texts,
+    names: &[Text<'_>],
+    attributes: &[Attribute<'_>],
+) -> bool
     ensures { result ≡ lacks_earlier v.now.sorts v.now.ops v.now.kinds earlier.now names.now attributes.now }
 {
     has_ditto(attributes) && any_missing(earlier, names)
@@ -88,7 +97,9 @@ fn lacks_earlier(v: &Vocabulary, earlier: &Texts, names: &[Text<'_>], attributes
 fn any_unknown_identity(v: &Vocabulary, attributes: &[Attribute<'_>]) -> bool
     ensures { result ≡ list_any (is_unknown_identity v.now.sorts v.now.ops v.now.kinds) attributes.now }
 {
-    attributes.iter().any(|attribute| is_unknown_identity(v, attribute))
+    attributes
+        .iter()
+        .any(|attribute| is_unknown_identity(v, attribute))
 }
 
 // Whether something is unknown in the declaration of operators.
@@ -120,10 +131,14 @@ pub fn names_unknown(
     match statement {
         Statement::Subsorts { groups, .. } => any_missing_in(v.sorts(), groups.as_slice()),
         Statement::Operator {
-            rank, attributes, ..
+            rank,
+            attributes,
+            ..
         } => has_unknown(v, earlier, names, rank, attributes.as_slice()),
         Statement::Operators {
-            rank, attributes, ..
+            rank,
+            attributes,
+            ..
         } => has_unknown(v, earlier, names, rank, attributes.as_slice()),
         Statement::Variables { sort, .. } => is_unknown_sort(v, sort),
         _ => false,

@@ -1,13 +1,14 @@
 //! The variables that are declared so far.
-ghost use Rattle.std.specs.Prelude.{◌≡◌, map, not, option_map, OnOk};
+ghost use Rattle.std.specs.Prelude.{◌≡◌, ◌≤◌, map, not, option_map, All, IfOk, OnOk};
 ghost use Rattle.fvn_forms.specs.SortOrder.{sort_number};
 ghost use Rattle.fvn_syntax.specs.Texts.{place};
 ghost use Rattle.fvn_syntax.specs.Names.{declared_sort};
 ghost use Rattle.fvn_declared.specs.Variables.{no_variables, unless_declared, with_variables};
 ghost use Rattle.fvn_declared.specs.Faults.{is_missing};
 
-use fvn_syntax::{Text, Texts};
-use fvn_terms::NoMemory;
+use fvn_base::Seq;
+use fvn_syntax::{Text, Texts, Variables};
+use fvn_terms::{NoMemory, SortId};
 use std::alloc::Global;
 use std::marker::Model;
 
@@ -81,5 +82,24 @@ impl VariableTable {
             self.insert(alloc, name.bytes(), sort)?;
         }
         Ok(())
+    }
+
+    /// The variables, where the numbers of their sorts are small.
+    pub fn into_variables(self, alloc: Global) -> Result<Variables, NoMemory>
+        requires { All (λ s. s.0 ≤ u16.MAX) self.sorts }
+        ensures { IfOk result (λ x. x ≡ self) }
+    {
+        let VariableTable {
+            texts,
+            sorts: numbers,
+        } = self;
+        let mut sorts = Vec::new(alloc);
+        for number in numbers.as_slice() {
+            sorts.push(SortId(*number as u16))?;
+        }
+        Ok(Variables {
+            texts,
+            sorts: Seq::from_vec(sorts),
+        })
     }
 }

@@ -7,8 +7,9 @@ ghost use Rattle.fvn_declared.specs.inner.Ranges.{IsInRange};
 
 use crate::kinds::find_kinds;
 use crate::names::{collect_operators, collect_sorts};
+use fvn_base::Seq;
 use fvn_statements::Statement;
-use fvn_syntax::{RawSort, Text, Texts};
+use fvn_syntax::{Names, RawSort, Text, Texts, Variables};
 use fvn_terms::NoMemory;
 use std::alloc::Global;
 use std::marker::Model;
@@ -78,7 +79,7 @@ impl Vocabulary {
     // The kind, where the name is that of a sort of it.
     fn keep_kind(&self, kind: usize, name: &[u8]) -> Option<usize>
         ensures { option_map sort_number result ≡
-          if_of_kind self.now.kinds (sort_number kind) (sort_named self.now.sorts name.now) }
+            if_of_kind self.now.kinds (sort_number kind) (sort_named self.now.sorts name.now) }
     {
         let s = self.sorts.place(name)?;
         if kind_among(self.kinds.as_slice(), s) == kind {
@@ -91,7 +92,7 @@ impl Vocabulary {
     // The kind of the sorts of a bracket, which are all of one kind.
     fn find_bracket(&self, first: &[u8], others: &[Text<'_>]) -> Option<usize>
         ensures { option_map sort_number result ≡
-          bracket self.now.sorts self.now.kinds first.now others.now }
+            bracket self.now.sorts self.now.kinds first.now others.now }
     {
         let mut kind = self.find_kind(first)?;
         for other in others {
@@ -103,11 +104,23 @@ impl Vocabulary {
     /// The number of the sort that is written.
     pub fn find_sort(&self, written: &RawSort<'_>) -> Option<usize>
         ensures { option_map sort_number result ≡
-          resolve_sort self.now.sorts self.now.kinds written.now }
+            resolve_sort self.now.sorts self.now.kinds written.now }
     {
         match written {
             RawSort::Name(name) => self.sorts.place(name.bytes()),
             RawSort::Kind(first, others) => self.find_bracket(first.bytes(), others.as_slice()),
+        }
+    }
+
+    /// The names of the module with this name and these variables.
+    pub fn into_names(self, module_name: Seq<u8>, variables: Variables) -> Names
+        ensures { result ≡ record { module_name = module_name; sorts = self.sorts; ops = self.ops; variables = variables } }
+    {
+        Names {
+            module_name,
+            sorts: self.sorts,
+            ops: self.ops,
+            variables,
         }
     }
 }

@@ -1,6 +1,5 @@
 -- The numbers of kinds, from the labels of classes.
 use Rattle.std.specs.Prelude.{◌≡◌, ◌<◌, ◌+◌, ℕ, List, map, length, nat_eq, Option, MatchOption, All}
-use Rattle.fvn_terms.specs.declared.plain.SortId.{SortId}
 use Rattle.fvn_forms.specs.SortOrder.{sort_number}
 use Rattle.fvn_drafts.specs.declared.collected.Collected.{Collected}
 use Rattle.fvn_drafts.specs.Collected.{joins, kind_of, first_sorts, parts_before}

@@ -1,5 +1,5 @@
 -- Which pairs of sorts were declared, as a table of them all.
-use Rattle.std.specs.Prelude.{◌≡◌, ◌<◌, ◌≤◌, ◌+◌, ◌*◌, ℕ, Bool, true, false, List, map, length, slice_index_or}
+use Rattle.std.specs.Prelude.{◌≡◌, ◌<◌, ◌≤◌, ◌+◌, ◌*◌, ℕ, Bool, false, List, map, length, slice_index_or}
 use Rattle.std.specs.List.{list_any}
 use Rattle.fvn_base.specs.declared.limits.TheConstants.{SORTS}
 use Rattle.fvn_terms.specs.declared.plain.SortId.{SortId}

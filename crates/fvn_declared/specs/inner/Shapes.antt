@@ -1,10 +1,8 @@
 -- What a statement declares of each of its operators.
-use Rattle.std.specs.Prelude.{◌≡◌, Bool, true, false, if◌then◌else◌, List, map, length, Option, Some, None, nat_lt, not, ◌&&◌, nat_eq}
+use Rattle.std.specs.Prelude.{◌≡◌, Bool, false, if◌then◌else◌, List, length, Option, Some, None, nat_lt, not, ◌&&◌, nat_eq}
 use Rattle.std.specs.List.{list_any}
 use Rattle.fvn_base.specs.declared.limits.TheConstants.{ARGUMENTS}
 use Rattle.fvn_terms.specs.declared.declarations.Axioms.{Axioms}
-use Rattle.fvn_terms.specs.declared.declarations.Rank.{Rank}
-use Rattle.fvn_syntax.specs.Pieces.{Text}
 use Rattle.fvn_statements.specs.declared.statement.RawRank.{RawRank}
 use Rattle.fvn_statements.specs.declared.statement.Attribute.{Attribute}
 use Rattle.fvn_statements.specs.declared.statement.Statement.{Statement}

@@ -1,6 +1,6 @@
 -- One more number has the label.
 use Rattle.std.proofs.Common.{get_or, refl}
-use Rattle.fvn_declared.proofs.ClassLemmas.{relabelled-none, relabelled-more}
+use Rattle.fvn_declared.proofs.ClassLemmas.{relabelled-more}
 use Rattle.fvn_declared.proofs.classes.relabel.Goals as goal
 
 pub loop-i-preserved : goal.loop-i-preserved

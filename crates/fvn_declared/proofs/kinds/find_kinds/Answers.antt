@@ -1,16 +1,15 @@
 -- The kinds of the sorts, and then the kinds.
-use Rattle.std.proofs.Common.{◌≡◌, ◌<◌, ◌≤◌, ◌+◌, ◌-◌, ◌++◌, [], ◌∷◌, ℕ, List, map, length, sym, ap, subst, ◌∙◌, arith}
+use Rattle.std.proofs.Common.{◌≡◌, ◌<◌, ◌≤◌, ◌+◌, ◌-◌, ◌++◌, ℕ, map, length, sym, ap, subst, ◌∙◌, arith}
 use Rattle.std.specs.List.{All, range_with_len}
 use Rattle.std.proofs.lemmas.List.{append-nil, append_assoc, map-append, length-map, length-append}
 use Rattle.std.proofs.lemmas.List.Elements.{All-push}
 use Rattle.std.proofs.lemmas.List.FromFn.{map-range_with_len_more, length-map-range_with_len}
-use Rattle.fvn_terms.specs.declared.plain.SortId.{SortId}
 use Rattle.fvn_forms.specs.SortOrder.{sort_number}
 use Rattle.fvn_drafts.specs.declared.collected.Collected.{Collected}
 use Rattle.fvn_drafts.specs.Collected.{kind_of, first_sorts, parts_before, kinds}
 use Rattle.fvn_drafts.proofs.Parts.{parts_before-le, kinds-length}
-use Rattle.fvn_declared.specs.Order.{ordered, kinds_of}
-use Rattle.fvn_declared.specs.inner.Numbering.{HasLabels, IsNumbered}
+use Rattle.fvn_declared.specs.Order.{ordered}
+use Rattle.fvn_declared.specs.inner.Numbering.{IsNumbered}
 use Rattle.fvn_declared.proofs.kinds.find_kinds.Goals as goal
 use Rattle.fvn_declared.proofs.kinds.find_kinds.Goals.{In_ok-kinds, After-drop-classes-inside-3}
 
@@ -34,7 +33,6 @@ loop-kind-preserved c =
       numbers = rw (c.in_ok-push.ensures.items, map-append, c.loop-kind.invariant.numbers, count, more, append_assoc);
       below = rw c.in_ok-push.ensures.items (All-push (λ k. k < c.in_ok-kinds.field-0.next) c.loop-kind.kinds.items c.loop-kind.kind c.loop-kind.invariant.below c.loop-kind-test.true);
     }
-
 
 module _ (c : After-drop-classes-inside-3) (is : IsNumbered (ordered c.args.sorts.now c.args.statements.now) c.in_ok-kinds.field-0.kinds.items c.in_ok-kinds.field-0.next (length c.args.sorts.now)) where
   last : c.loop-kind.kind ≡ c.in_ok-kinds.field-0.next

@@ -1,9 +1,9 @@
 -- A sort has the kind that is known for its label, or else a new one.
-use Rattle.std.proofs.Common.{◌≡◌, ℕ, ◌+◌, ◌<◌, ◌≤◌, ◌++◌, [], ◌∷◌, length, get_or, set, Some, None, sym, ap, subst, ◌∙◌, arith, Option}
+use Rattle.std.proofs.Common.{◌≡◌, ℕ, ◌<◌, length, get_or, Some, None, sym, subst, ◌∙◌, arith}
 use Rattle.std.proofs.lemmas.List.{length-set, get_or_default}
 use Rattle.fvn_drafts.specs.declared.collected.Collected.{Collected}
 use Rattle.fvn_declared.specs.inner.Classes.{label}
-use Rattle.fvn_declared.specs.inner.Numbering.{HasLabels, IsKnown, IsNumbered}
+use Rattle.fvn_declared.specs.inner.Numbering.{HasLabels, IsNumbered}
 use Rattle.fvn_declared.proofs.KindNumbers.{known_old, numbered_old, numbered_new}
 use Rattle.fvn_declared.proofs.kinds.sort_kinds.Goals as goal
 use Rattle.fvn_declared.proofs.kinds.sort_kinds.Goals.{in-Some+in_ok-push-in-Some, in-None+in_ok-push-in-None}

@@ -1,5 +1,5 @@
 -- The statements that are left declare the rest.
-use Rattle.std.proofs.Common.{◌≡◌, [], drop}
+use Rattle.std.proofs.Common.{◌≡◌, drop}
 use Rattle.fvn_declared.specs.Names.{with_names, operators_in, operators_of}
 use Rattle.fvn_declared.proofs.names.collect_operators.Given as goal
 

@@ -1,5 +1,5 @@
 -- The statements that are left declare the rest.
-use Rattle.std.proofs.Common.{◌≡◌, [], drop}
+use Rattle.std.proofs.Common.{◌≡◌, drop}
 use Rattle.fvn_declared.specs.Names.{with_names, sorts_in, sorts_of}
 use Rattle.fvn_declared.proofs.names.collect_sorts.Given as goal
 

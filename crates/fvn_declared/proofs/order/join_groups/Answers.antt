@@ -1,10 +1,8 @@
 -- Each sort of a group is joined with the first one of the other.
-use Rattle.std.proofs.Common.{◌≡◌, ℕ, ◌<◌, [], List, length, sym, ap, subst, ◌∙◌}
+use Rattle.std.proofs.Common.{◌≡◌, []}
 use Rattle.std.specs.List.{Contains}
-use Rattle.fvn_terms.specs.declared.plain.SortId.{SortId}
 use Rattle.fvn_forms.specs.SortOrder.{sort_number}
-use Rattle.fvn_declared.specs.Order.{declared_among, crossed}
-use Rattle.fvn_declared.specs.inner.Joining.{IsJoinedBy}
+use Rattle.fvn_declared.specs.Order.{declared_among}
 use Rattle.fvn_declared.proofs.JoinLemmas.{joined-none}
 use Rattle.fvn_declared.proofs.OrderLemmas.{joined-crossed, first_is, first_none, crossed-none, declared-below}
 use Rattle.fvn_declared.proofs.order.join_groups.Goals as goal

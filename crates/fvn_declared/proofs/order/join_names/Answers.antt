@@ -1,9 +1,6 @@
 -- One more name is joined.
-use Rattle.std.proofs.Common.{map, length, take, subst, arith}
 use Rattle.std.proofs.lemmas.List.{take_all}
 use Rattle.fvn_forms.specs.SortOrder.{sort_number}
-use Rattle.fvn_declared.specs.Order.{declared_among}
-use Rattle.fvn_declared.specs.inner.Joining.{IsJoinedBy}
 use Rattle.fvn_declared.proofs.OrderLemmas.{joined-name_more}
 use Rattle.fvn_declared.proofs.order.join_names.Goals as goal
 

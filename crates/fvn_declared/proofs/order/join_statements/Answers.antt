@@ -1,11 +1,11 @@
 -- The pairs of one more statement are joined.
-use Rattle.std.proofs.Common.{◌≡◌, length, sym, ap, subst, ◌∙◌, take, arith}
+use Rattle.std.proofs.Common.{length, sym, subst, ◌∙◌, take}
 use Rattle.std.specs.List.{range_with_len}
 use Rattle.std.proofs.lemmas.List.{take_all}
 use Rattle.std.proofs.lemmas.List.FromFn.{length-range_with_len}
 use Rattle.fvn_declared.specs.Order.{pairs_in}
 use Rattle.fvn_declared.specs.inner.Joining.{IsJoinedBy}
-use Rattle.fvn_declared.proofs.JoinLemmas.{joined-none, joined-both}
+use Rattle.fvn_declared.proofs.JoinLemmas.{joined-both}
 use Rattle.fvn_declared.proofs.Partitions.{all_pairs, partition}
 use Rattle.fvn_declared.proofs.OrderLemmas.{all_pairs-more}
 use Rattle.fvn_declared.proofs.order.join_statements.Goals as goal

@@ -1,5 +1,5 @@
 -- The statements that are left have the other pairs.
-use Rattle.std.proofs.Common.{◌≡◌, [], drop, length}
+use Rattle.std.proofs.Common.{◌≡◌, [], drop}
 use Rattle.fvn_declared.specs.Order.{with_pairs}
 use Rattle.fvn_declared.proofs.pairs.add_pairs.Given as goal
 

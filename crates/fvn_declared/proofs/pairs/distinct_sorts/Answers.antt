@@ -1,11 +1,7 @@
 -- One more name is looked up.
-use Rattle.std.proofs.Common.{◌≡◌, ◌<◌, ◌+◌, ◌++◌, ℕ, [], ◌∷◌, map, length, take, get_or, sym, ap, ◌∙◌, subst, inl, inr}
-use Rattle.std.specs.List.{All, Contains}
-use Rattle.std.proofs.lemmas.List.{take_more, take_all}
-use Rattle.fvn_terms.specs.declared.plain.SortId.{SortId}
-use Rattle.fvn_forms.specs.SortOrder.{sort_number, same_sort}
-use Rattle.fvn_syntax.specs.Names.{sort_at}
-use Rattle.fvn_declared.specs.Order.{with_all, with_sort, declared_among}
+use Rattle.std.proofs.Common.{[], ◌∷◌, take, sym, ap, ◌∙◌}
+use Rattle.fvn_forms.specs.SortOrder.{same_sort}
+use Rattle.fvn_declared.specs.Order.{with_all, declared_among}
 use Rattle.fvn_declared.proofs.NewLists.{with_all-append}
 use Rattle.fvn_declared.proofs.OrderLemmas.{declared-more, distinct-below}
 use Rattle.fvn_declared.proofs.pairs.distinct_sorts.Goals as goal

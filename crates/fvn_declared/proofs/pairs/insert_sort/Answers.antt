@@ -1,11 +1,10 @@
 -- A number is added where it is new.
-use Rattle.std.proofs.Common.{◌≡◌, ℕ, map, [], ◌∷◌, ◌++◌, Bool, true, false, List, sym, ap, ◌∙◌, nat_eq}
+use Rattle.std.proofs.Common.{◌≡◌, map, [], ◌∷◌, ◌++◌, true, false, List, sym, ap, ◌∙◌, nat_eq}
 use Rattle.std.specs.List.{list_any}
 use Rattle.std.proofs.lemmas.Bool.{cond-true, cond-false}
 use Rattle.std.proofs.lemmas.List.{map-append}
 use Rattle.fvn_terms.specs.declared.plain.SortId.{SortId}
 use Rattle.fvn_forms.specs.SortOrder.{sort_number, same_sort}
-use Rattle.fvn_declared.specs.Order.{with_all, with_new}
 use Rattle.fvn_declared.proofs.DistinctLists.{any_number}
 use Rattle.fvn_declared.proofs.pairs.insert_sort.Goals as goal
 use Rattle.fvn_declared.proofs.pairs.insert_sort.Goals.{After-contains}

@@ -1,9 +1,7 @@
 -- One more statement is tested.
-use Rattle.std.proofs.Common.{◌≡◌, [], ◌∙◌, sym, ap, subst, take, get_or, Err, inl, inr, ◌⊎◌}
-use Rattle.std.specs.Prelude.{IfErr}
+use Rattle.std.proofs.Common.{◌∙◌, sym, ap, inl, inr}
 use Rattle.std.proofs.lemmas.Result.{err_from_is_err_and}
-use Rattle.fvn_declared.specs.Faults.{AreNamed, IsFirstFault}
-use Rattle.fvn_declared.specs.inner.Testing.{past, with_past, Passes, IsFault}
+use Rattle.fvn_declared.specs.inner.Testing.{with_past}
 use Rattle.fvn_declared.proofs.Tested.{past-more, named-more, first-fault}
 use Rattle.fvn_declared.proofs.testing.test_statements.Goals as goal
 

@@ -1,9 +1,9 @@
 -- The members of one class have the label of the other.
-use Rattle.std.proofs.Common.{◌≡◌, ◌≢◌, ℕ, ◌<◌, List, [], ◌++◌, length, get_or, set, take, drop, sym, ap, subst, ◌∙◌, arith}
+use Rattle.std.proofs.Common.{◌≡◌, ℕ, ◌<◌, List, [], ◌++◌, length, get_or, set, take, drop, sym, ap, subst, ◌∙◌, arith}
 use Rattle.std.specs.List.{All}
 use Rattle.std.proofs.lemmas.List.{with_items_is, set-set, get_or-set_other, get_or_default}
-use Rattle.fvn_declared.specs.inner.Classes.{IsClassed, IsRelabelled, IsMerged}
-use Rattle.fvn_declared.proofs.ClassLemmas.{moving, staying, after, moved-in_range, merged, classed-merged}
+use Rattle.fvn_declared.specs.inner.Classes.{IsRelabelled}
+use Rattle.fvn_declared.proofs.ClassLemmas.{moved-in_range, merged, classed-merged}
 use Rattle.fvn_declared.proofs.classes.Classes.merge.Goals as goal
 use Rattle.fvn_declared.proofs.classes.Classes.merge.Goals.{After-as_slice-2, After-relabel}
 

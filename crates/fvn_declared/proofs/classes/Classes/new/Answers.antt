@@ -1,9 +1,8 @@
 -- One more class of one number.
-use Rattle.std.proofs.Common.{◌≡◌, ℕ, List, [], ◌∷◌, map, ap, ◌∙◌, subst, arith}
+use Rattle.std.proofs.Common.{◌≡◌, [], ◌∷◌, ◌∙◌, arith}
 use Rattle.std.specs.List.{range_with_len}
 use Rattle.std.proofs.lemmas.List.{map-id}
 use Rattle.std.proofs.lemmas.List.FromFn.{map-range_with_len_more}
-use Rattle.fvn_declared.specs.inner.Classes.{IsClassed}
 use Rattle.fvn_declared.proofs.ClassLemmas.{classed-new}
 use Rattle.fvn_declared.proofs.classes.Classes.new.Goals as goal
 

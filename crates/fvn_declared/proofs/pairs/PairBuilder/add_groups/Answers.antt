@@ -1,8 +1,7 @@
 -- The pairs of distinct sorts are those of the groups.
-use Rattle.std.proofs.Common.{◌≡◌, map, ap, ◌∙◌}
+use Rattle.std.proofs.Common.{map, ap, ◌∙◌}
 use Rattle.fvn_forms.specs.SortOrder.{sort_number}
-use Rattle.fvn_declared.specs.Order.{crossed, declared_among}
-use Rattle.fvn_declared.specs.inner.Pairs.{with_more}
+use Rattle.fvn_declared.specs.Order.{declared_among}
 use Rattle.fvn_declared.proofs.DistinctLists.{crossed_distinct}
 use Rattle.fvn_declared.proofs.pairs.PairBuilder.add_groups.Goals as goal
 

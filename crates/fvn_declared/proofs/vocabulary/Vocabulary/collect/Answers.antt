@@ -1,5 +1,5 @@
 -- The kinds that were found are places in their list.
-use Rattle.std.proofs.Common.{◌≡◌, ◌<◌, ◌≤◌, ◌*◌, map, length, sym, subst, arith}
+use Rattle.std.proofs.Common.{◌<◌, map, length, sym, subst, arith}
 use Rattle.std.specs.List.{All}
 use Rattle.std.proofs.lemmas.List.{length-map}
 use Rattle.std.proofs.lemmas.List.Elements.{All-map}
