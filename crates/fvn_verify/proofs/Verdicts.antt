@@ -1,16 +1,23 @@
--- One more pair is compared.
-use Rattle.std.proofs.Common.{◌≡◌, ℕ, ◌+◌, ◌<◌, ◌≤◌, List, [], ◌∷◌, ◌++◌, length, take, drop, get_or, Option, Some, None, refl, sym, ap, ◌∙◌, subst}
+-- Pairs are compared, one after another.
+use Rattle.std.proofs.Common.{◌≡◌, ℕ, ◌+◌, ◌-◌, ◌^◌, ◌<◌, ◌≤◌, min, List, [], ◌∷◌, ◌++◌, length, take, drop, get_or, Option, Some, None, refl, sym, ap, ◌∙◌, subst, arith}
 use Rattle.std.specs.Prelude.{All}
+use Rattle.std.proofs.lemmas.List.{length-take, take_all}
 use Rattle.std.proofs.lemmas.List.{append_assoc, take_more, take-append-drop}
 use Rattle.std.proofs.lemmas.List.Elements.{All-append, All-cons, All-nil}
 use Rattle.fvn_base.proofs.Drops.{drop-at}
 use Rattle.fvn_terms.specs.declared.plain.Plain.{Plain}
 use Rattle.fvn_terms.specs.declared.declarations.Declarations.{Declarations}
-use Rattle.fvn_terms.specs.Substitution.{Substitution}
-use Rattle.fvn_forms.specs.Flat.{FlatTerm}
+use Rattle.fvn_terms.specs.Plain.{term}
+use Rattle.fvn_terms.specs.Signature.{KeepsKinds, IsTerm}
+use Rattle.fvn_terms.specs.Substitution.{Substitution, apply}
+use Rattle.fvn_terms.specs.Term.{Term}
+use Rattle.fvn_terms.proofs.Equal.{HasKind-apply}
+use Rattle.fvn_forms.specs.Flat.{FlatTerm, symbols}
+use Rattle.fvn_forms.specs.FitsKinds.{FitsKinds}
+use Rattle.fvn_forms.specs.Laws.{EqualityIsThatOfFlatForms}
 use Rattle.fvn_verify.specs.declared.verdict.Verdict.TheVariants.{Size}
-use Rattle.fvn_verify.specs.Verdicts.{AreEqual, AreWithin, IsOverIn, IsFirstDifference, IsFirstOver, IsVerdict}
-use Rattle.fvn_verify.specs.inner.Comparing.{earlier, concluded, IsDifference, IsFirst, IsSoFar}
+use Rattle.fvn_verify.specs.Verdicts.{AreEqual, form, AreWithin, IsOverIn, IsFirstDifference, IsFirstOver, IsVerdict}
+use Rattle.fvn_verify.specs.inner.Comparing.{AreKinded, earlier, concluded, IsDifference, IsFirst, IsSoFar}
 
 -- what holds of all, and of one more
 all-push : {X : Type 0} (P : X → Type 0) (xs : List X) (x : X) → All P xs → P x → All P (xs ++ x ∷ [])
@@ -19,6 +26,25 @@ all-push P xs x all h = All-append P xs (x ∷ []) all (All-cons P x [] h (All-n
 -- a list is what stands before a place, what stands there, and the rest
 split-at : {X : Type 0} (xs : List X) (i : ℕ) (x : X) → i < length xs → x ≡ get_or xs i x → xs ≡ take i xs ++ x ∷ drop (i + 1) xs
 split-at xs i x within is = sym (take-append-drop i xs) ∙ ap (λ rest. take i xs ++ rest) (drop-at xs i x within is)
+
+-- a count that is told up to the greatest number
+within : (n m size : ℕ) → m ≡ min n (2 ^ 64 - 1) → m ≤ size → size < 2 ^ 64 - 1 → n ≤ size
+within n m size e h l = omega (arith, e, h, l)
+
+-- an instance of a well-kinded term is well-kinded
+pub instance-kinded : (d : Declarations) (s : Substitution) → KeepsKinds d s → (t : Term) → IsTerm d t → IsTerm d (apply s t)
+instance-kinded d s keeps t h = (h.0, HasKind-apply d s keeps t h.0 h.1)
+
+module _ (law : EqualityIsThatOfFlatForms) (d : Declarations) (fits : FitsKinds d) (s : Substitution) (keeps : KeepsKinds d s) (p : Plain × Plain) (kinded : AreKinded d p) where
+  -- the sides are equal where their forms are
+  pub are-equal : form d s p.0 ≡ form d s p.1 → AreEqual d s p
+  are-equal e =
+      (law d fits (apply s (term p.0)) (apply s (term p.1)) (instance-kinded d s keeps (term p.0) kinded.0) (instance-kinded d s keeps (term p.1) kinded.1)).1 e
+
+  -- the sides differ where their forms do
+  pub are-apart : (form d s p.0 ≡ form d s p.1 → ⊥) → AreEqual d s p → ⊥
+  are-apart n e =
+      n ((law d fits (apply s (term p.0)) (apply s (term p.1)) (instance-kinded d s keeps (term p.0) kinded.0) (instance-kinded d s keeps (term p.1) kinded.1)).0 e)
 
 module _ (d : Declarations) (s : Substitution) where
   -- the first difference stays the first where more pairs come
@@ -51,9 +77,10 @@ module _ (d : Declarations) (s : Substitution) where
 
     -- the pairs before a place and the one there
     pub one-more : (all : List (Plain × Plain)) (i : ℕ) (p : Plain × Plain) (first : Option (ℕ × FlatTerm × FlatTerm)) (difference : Option (FlatTerm × FlatTerm)) →
-        i < length all → p ≡ get_or all i p → length (take i all) ≡ i → IsSoFar d s size (take i all) first → AreWithin d s size p → IsDifference d s p difference →
+        i < length all → p ≡ get_or all i p → IsSoFar d s size (take i all) first → AreWithin d s size p → IsDifference d s p difference →
         IsSoFar d s size (take (i + 1) all) (earlier first (i + 1) difference)
-    one-more all i p first difference within is long so w e =
+    one-more all i p first difference within is so w e =
+      let long : length (take i all) ≡ i = length-take i all ∙ (omega (arith, within)) in
       subst (λ ps. IsSoFar d s size ps (earlier first (i + 1) difference)) (ap (λ q. take i all ++ q ∷ []) is ∙ sym (take_more all i p within))
         (so-far-push (take i all) p (i + 1) first difference (ap (λ n. n + 1) (sym long)) so w e)
 
@@ -67,3 +94,17 @@ module _ (d : Declarations) (s : Substitution) where
     pub conclude : (all : List (Plain × Plain)) (first : Option (ℕ × FlatTerm × FlatTerm)) → IsSoFar d s size all first → IsVerdict d s size all (concluded first)
     conclude all None so = so
     conclude all (Some found) so = so
+
+    -- before the first pair nothing is found
+    pub none-so-far : IsSoFar d s size [] None
+    none-so-far = (All-nil (AreWithin d s size), All-nil (AreEqual d s))
+
+    -- after the last pair all are compared
+    pub all-of : (all : List (Plain × Plain)) (i : ℕ) (first : Option (ℕ × FlatTerm × FlatTerm)) → length all ≤ i → IsSoFar d s size (take i all) first → IsSoFar d s size all first
+    all-of all i first ended so = subst (λ ps. IsSoFar d s size ps first) (take_all i all ended) so
+
+    -- both forms are small enough
+    pub are-within : (p : Plain × Plain) (l r : FlatTerm) → l ≡ form d s p.0 → r ≡ form d s p.1 → (n m : ℕ) → n ≡ min (symbols l) (2 ^ 64 - 1) → m ≡ min (symbols r) (2 ^ 64 - 1) →
+        n ≤ size → m ≤ size → size < 2 ^ 64 - 1 → AreWithin d s size p
+    are-within p l r is are n m told also small too limit =
+        (subst (λ f. symbols f ≤ size) is (within (symbols l) n size told small limit), subst (λ f. symbols f ≤ size) are (within (symbols r) m size also too limit))

@@ -8,6 +8,7 @@ ghost use Rattle.fvn_verify.specs.Verdicts.{form};
 ghost use Rattle.fvn_verify.specs.inner.Comparing.{AreKinded, IsCompared, earlier};
 
 use fvn_flat::{Flat, flatten};
+use fvn_forms::equality_is_that_of_flat_forms;
 use fvn_sorts::Signature;
 use fvn_terms::{NoMemory, Plain, PlainSubst};
 use std::alloc::Global;
@@ -51,6 +52,8 @@ pub fn compare(
     requires limited { size < u64.MAX }
     ensures { IfOk result (IsCompared signature.now (value bindings.now.pairs) size pair.now) }
 {
+    equality_is_that_of_flat_forms();
+    signature.recall_good();
     let left = form_of(alloc, signature, bindings, &pair.0)?;
     if size < left.size() {
         return Ok(Compared::Large(left));
