@@ -45,7 +45,7 @@ module _ (bytes : List ℕ) where
   check_tells s t e (summed m h is) = (m, h)
 
   module _ (determined : ModulesAreDetermined) (nothing : RefusedTextsDeclareNothing) where
-    refused_declares_nothing : (t : List ℕ) → IsFirstRefusal bytes t → AreNoModule bytes
+    pub refused_declares_nothing : (t : List ℕ) → IsFirstRefusal bytes t → AreNoModule bytes
     refused_declares_nothing t a m h = not_memory a.fault t a.line_of (nothing bytes a.fault m a.first h)
 
     pub check_refuses : (s : Status) (t : List ℕ) → s ≡ ModuleRefused → IsCheckReply bytes s t → AreNoModule bytes
@@ -58,7 +58,7 @@ module _ (bytes : List ℕ) where
 
     module _ (refusals : RefusalsAreDetermined) where
       -- first faults have one line
-      refusals_alike : (t v : List ℕ) → IsFirstRefusal bytes t → IsFirstRefusal bytes v → v ≡ t
+      pub refusals_alike : (t v : List ℕ) → IsFirstRefusal bytes t → IsFirstRefusal bytes v → v ≡ t
       refusals_alike t v a b =
           elim (refusals bytes a.fault b.fault a.first b.first) [
             | inl e ↦ absurd (not_memory a.fault t a.line_of e)

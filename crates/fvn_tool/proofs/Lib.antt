@@ -1,6 +1,7 @@
 -- Lemmas of this crate; none is for other crates.
 mod Printing
 mod Checks
+mod Verifying
 mod Outcomes
 mod Claims
 mod Shows

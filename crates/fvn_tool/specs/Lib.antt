@@ -5,6 +5,7 @@ pub mod Words
 pub mod Statuses
 pub mod Runs
 pub mod Checks
+pub mod Verifying
 pub mod Replies
 pub mod Outcomes
 pub mod Texts

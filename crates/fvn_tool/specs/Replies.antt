@@ -11,10 +11,11 @@ use Rattle.fvn_first.specs.ModuleText.{IsModuleText}
 use Rattle.fvn_first.specs.ProblemText.{IsProblemText}
 use Rattle.fvn_tool.specs.declared.status.Status.{Status}
 use Rattle.fvn_tool.specs.declared.status.Status.TheVariants.{Solved, Nothing, ModuleRefused, ProblemRefused, Ended}
-use Rattle.fvn_tool.specs.Words.{Command, check, unify}
+use Rattle.fvn_tool.specs.Words.{Command, check, unify, verify}
 use Rattle.fvn_tool.specs.Lines.{line, lines, unifier_line}
 use Rattle.fvn_tool.specs.Spellings.{spelling}
 use Rattle.fvn_tool.specs.Checks.{IsCheckReply}
+use Rattle.fvn_tool.specs.Verifying.{IsVerifyReply}
 use Rattle.fvn_free.specs.Free.{IsMostGeneral, HasNoUnifier, IsTooLarge, AreNumbered, variables_among}
 
 -- how an answer ends: all was found, with so many lines; or a term would have had over 1,000 symbols
@@ -104,3 +105,4 @@ pub data IsUnifyReply (bytes word : List ℕ) : Status → List ℕ → Type 0 w
 abbrev pub IsReply : Command → List ℕ → Status → List ℕ → Type 0
 IsReply check bytes status text = IsCheckReply bytes status text
 IsReply (unify word) bytes status text = IsUnifyReply bytes word status text
+IsReply (verify problem bindings) bytes status text = IsVerifyReply bytes problem bindings status text

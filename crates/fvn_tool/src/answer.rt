@@ -12,6 +12,7 @@ ghost use Rattle.fvn_tool.specs.Texts.{bytes_of};
 use crate::checking::check_reply;
 use crate::lines::push_unifier;
 use crate::status::Status;
+use crate::verifying::verify_reply;
 use crate::words::Command;
 use fvn_base::limits::TERM_SYMBOLS;
 use fvn_first::first::{
@@ -154,5 +155,6 @@ pub(crate) fn reply(alloc: Global, bytes: &[u8], command: Command<'_>) -> Result
     match command {
         Command::Check => check_reply(alloc, bytes),
         Command::Unify(word) => unify_reply(alloc, bytes, word),
+        Command::Verify(problem, bindings) => verify_reply(alloc, bytes, problem, bindings),
     }
 }

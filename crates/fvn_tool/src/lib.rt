@@ -7,6 +7,7 @@ mod laws;
 mod lines;
 mod status;
 mod top;
+mod verifying;
 mod words;
 
 pub use laws::outcomes_are_determined;
