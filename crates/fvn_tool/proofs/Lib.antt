@@ -1,7 +1,8 @@
 -- Lemmas of this crate; none is for other crates.
 mod Printing
 mod Checks
-mod Verifying
+mod Verified
+mod Replying
 mod Outcomes
 mod Claims
 mod Shows
