@@ -207,13 +207,21 @@ fn modules_and_faults(rt: HostRuntime) -> Result<(), Fail> {
     for line in MODULES.lines() {
         if let Some((statements, want)) = line.rsplit_once(" => ") {
             let text = module_of(alloc, statements)?;
-            assert_eq!(rt; shown(alloc, text.as_bytes())?.as_str(), want, "at {statements}");
+            assert_eq!(rt;
+                shown(alloc, text.as_bytes())?.as_str(),
+                want,
+                "at {statements}"
+            );
         }
     }
     for line in FAULTS.lines() {
         if let Some((statements, want)) = line.rsplit_once(" => ") {
             let text = module_of(alloc, statements)?;
-            assert_eq!(rt; shown(alloc, text.as_bytes())?.as_str(), want, "at {statements}");
+            assert_eq!(rt;
+                shown(alloc, text.as_bytes())?.as_str(),
+                want,
+                "at {statements}"
+            );
         }
     }
     Ok(())
@@ -228,7 +236,10 @@ fn whole_texts(rt: HostRuntime) -> Result<(), Fail> {
         }
     }
     assert_eq!(rt; shown(alloc, b"")?.as_str(), "2");
-    assert_eq!(rt; shown(alloc, b"fmod M is endfm --- ***( no fault")?.as_str(), "0 0 0 0");
+    assert_eq!(rt;
+        shown(alloc, b"fmod M is endfm --- ***( no fault")?.as_str(),
+        "0 0 0 0"
+    );
     Ok(())
 }
 
@@ -257,21 +268,40 @@ fn limits_of_signatures(rt: HostRuntime) -> Result<(), Fail> {
         let names = numbered(alloc, "S", count)?;
         let names = names.as_str();
         let text = module_of(alloc, &format!(in alloc; "sorts {names} .")?)?;
-        assert_eq!(rt; shown(alloc, text.as_bytes())?.as_str(), want, "at {count} sorts");
-        let text = module_of(alloc, &format!(in alloc; "sorts {names} . subsort S0 < T .")?)?;
-        assert_eq!(rt; shown(alloc, text.as_bytes())?.as_str(), "4 2", "at {count} sorts");
+        assert_eq!(rt;
+            shown(alloc, text.as_bytes())?.as_str(),
+            want,
+            "at {count} sorts"
+        );
+        let text = module_of(
+            alloc,
+            &format!(in alloc; "sorts {names} . subsort S0 < T .")?,
+        )?;
+        assert_eq!(rt;
+            shown(alloc, text.as_bytes())?.as_str(),
+            "4 2",
+            "at {count} sorts"
+        );
     }
     for (count, want) in [(256, "1 1 256 0"), (257, "9.9")] {
         let names = numbered(alloc, "a", count)?;
         let names = names.as_str();
         let text = module_of(alloc, &format!(in alloc; "sort S . ops {names} : -> S .")?)?;
-        assert_eq!(rt; shown(alloc, text.as_bytes())?.as_str(), want, "at {count} operators");
+        assert_eq!(rt;
+            shown(alloc, text.as_bytes())?.as_str(),
+            want,
+            "at {count} operators"
+        );
     }
     for (count, want) in [(8, "1 1 1 0"), (9, "9.9")] {
         let sorts = repeated(alloc, "S ", count)?;
         let sorts = sorts.as_str();
         let text = module_of(alloc, &format!(in alloc; "sort S . op f : {sorts} -> S .")?)?;
-        assert_eq!(rt; shown(alloc, text.as_bytes())?.as_str(), want, "at {count} arguments");
+        assert_eq!(rt;
+            shown(alloc, text.as_bytes())?.as_str(),
+            want,
+            "at {count} arguments"
+        );
     }
     Ok(())
 }
@@ -284,23 +314,55 @@ fn limits_of_equations(rt: HostRuntime) -> Result<(), Fail> {
         let equations = repeated(alloc, "eq g(a) = a [variant] . ", count)?;
         let equations = equations.as_str();
         let text = module_of(alloc, &format!(in alloc; "{base} {equations}")?)?;
-        assert_eq!(rt; shown(alloc, text.as_bytes())?.as_str(), want, "at {count} equations");
+        assert_eq!(rt;
+            shown(alloc, text.as_bytes())?.as_str(),
+            want,
+            "at {count} equations"
+        );
     }
     for (count, want) in [(399, "1 1 2 1"), (400, "13 e1"), (100000, "13 e1")] {
         let calls = repeated(alloc, "g(", count)?;
         let ends = repeated(alloc, ")", count)?;
         let (calls, ends) = (calls.as_str(), ends.as_str());
-        let text = module_of(alloc, &format!(in alloc; "{base} eq {calls}a{ends} = a [variant] .")?)?;
-        assert_eq!(rt; shown(alloc, text.as_bytes())?.as_str(), want, "at {count} on the left");
-        let text = module_of(alloc, &format!(in alloc; "{base} eq a = {calls}a{ends} [variant] .")?)?;
-        assert_eq!(rt; shown(alloc, text.as_bytes())?.as_str(), want, "at {count} on the right");
-        let text = module_of(alloc, &format!(in alloc; "{base} eq {calls}a{ends} = q [variant] .")?)?;
-        assert_eq!(rt; shown(alloc, text.as_bytes())?.as_str(), "4 4", "at {count} and no name");
+        let text = module_of(
+            alloc,
+            &format!(in alloc; "{base} eq {calls}a{ends} = a [variant] .")?,
+        )?;
+        assert_eq!(rt;
+            shown(alloc, text.as_bytes())?.as_str(),
+            want,
+            "at {count} on the left"
+        );
+        let text = module_of(
+            alloc,
+            &format!(in alloc; "{base} eq a = {calls}a{ends} [variant] .")?,
+        )?;
+        assert_eq!(rt;
+            shown(alloc, text.as_bytes())?.as_str(),
+            want,
+            "at {count} on the right"
+        );
+        let text = module_of(
+            alloc,
+            &format!(in alloc; "{base} eq {calls}a{ends} = q [variant] .")?,
+        )?;
+        assert_eq!(rt;
+            shown(alloc, text.as_bytes())?.as_str(),
+            "4 4",
+            "at {count} and no name"
+        );
     }
     let opened = repeated(alloc, "(", 100000)?;
     let closed = repeated(alloc, ")", 100000)?;
     let (opened, closed) = (opened.as_str(), closed.as_str());
-    let text = module_of(alloc, &format!(in alloc; "{base} eq {opened}g(a){closed} = a [variant] .")?)?;
-    assert_eq!(rt; shown(alloc, text.as_bytes())?.as_str(), "1 1 2 1", "in parentheses");
+    let text = module_of(
+        alloc,
+        &format!(in alloc; "{base} eq {opened}g(a){closed} = a [variant] .")?,
+    )?;
+    assert_eq!(rt;
+        shown(alloc, text.as_bytes())?.as_str(),
+        "1 1 2 1",
+        "in parentheses"
+    );
     Ok(())
 }

@@ -19,13 +19,13 @@ use Rattle.fvn_problems.specs.declared.bindings.Bindings.{Bindings}
 use Rattle.fvn_tool.specs.Words.{Command, check, unify, verify, command_of}
 use Rattle.fvn_tool.specs.Laws.{ReadersAreLawful}
 use Rattle.fvn_tool.specs.Checks.{AreNoModule, summary_line}
-use Rattle.fvn_tool.specs.Verifying.{HasEquations, later_line, IsModuleOfAxioms, IsAskedIn, IsAskedOf}
+use Rattle.fvn_tool.specs.Verifying.{HasEquations, later_line, AreSolvedBy, IsModuleOfAxioms, IsAskedIn, IsAskedOf}
 use Rattle.fvn_tool.specs.Replies.{complete, bound_size, line_of, IsReply, IsUnifyReply, no_module, no_problem, answered, IsAnswer, unified, not_unified, too_large, no_module_line, no_problem_line, DeclareNoModule}
 use Rattle.fvn_tool.specs.Runs.{Outside, Run, Leaves, HasFailed}
 use Rattle.fvn_tool.specs.Outcomes.{usage_line, too_long_line, IsOutcome, no_command, too_long, replied}
 use Rattle.fvn_tool.specs.Claims.{IsUnifyText, IsOneText, IsFirstRefusalOf, RefusesText, TellsModule, AnswersCheck, Is, RefusesWords, Asks, RefusesLongText, RefusesModule, RefusesProblem, HasNoProblem, IsAsked, IsRight, Shows, EndsComplete, AnswersRight, AnswersWithoutEvent, AnswersUnify, RefusesToVerify, AsksNoProblem, BindsNothing, IsProblemRefusalOf, IsBindingRefusalOf, RefusesToVerifyWords, TellsVerdict, AnswersVerify, IsReport}
 use Rattle.fvn_tool.proofs.Checks.{check_one_text, check_not_usage, check_refuses, check_no_module, check_tells, check_module}
-use Rattle.fvn_tool.proofs.Verified.{verify_one_text, verify_not_usage, verify_no_module, verify_answers, verify_refuses, verify_later, verify_refuses_words, verify_no_problem, verify_no_bindings, verify_verdict}
+use Rattle.fvn_tool.proofs.Verified.{verify_one_text, verify_not_usage, verify_no_module, verify_answers, verify_yes, verify_refuses, verify_later, verify_refuses_words, verify_no_problem, verify_no_bindings, verify_verdict}
 use Rattle.fvn_tool.proofs.Outcomes.{Leaves-weaker, Leaves-goes, Leaves-without_fault}
 use Rattle.fvn_tool.proofs.Shows.{shows_right, shows_end}
 use Rattle.fvn_free.proofs.Sizes.{same_sizes}
@@ -243,7 +243,7 @@ module _ (run : Run) (h : Leaves (IsOutcome run.words run.source) run.status run
 
     verified_words : run.status ≡ ProblemRefused → (t : List ℕ) → Comes bytes (verify problem bindings) run.status t → (length bytes ≤ MODULE_BYTES)
         × (((m : Contents) × (IsModuleOfAxioms bytes m × AsksNoProblem m problem))
-          ⊎ ((m : Contents) × (p : Problem) × (IsAskedIn bytes problem m p × BindsNothing m p bindings)))
+        ⊎ ((m : Contents) × (p : Problem) × (IsAskedIn bytes problem m p × BindsNothing m p bindings)))
     verified_words e t (comes_long i l is) = cc
     verified_words e t (comes_reply f r) = (f, verify_refuses_words bytes problem bindings laws run.status t e r)
 
@@ -266,6 +266,10 @@ module _ (run : Run) (h : Leaves (IsOutcome run.words run.source) run.status run
     verified_only a t (comes_long i l is) = absurd (subst IsAnswering i a)
     verified_only a t (comes_reply f r) = verify_answers bytes problem bindings run.status t a r
 
+    verified_yes : run.status ≡ Solved → (t : List ℕ) → Comes bytes (verify problem bindings) run.status t → (m : Contents) × (p : Problem) × (b : Bindings) × (IsAskedOf bytes problem bindings m p b × AreSolvedBy m p b)
+    verified_yes e t (comes_long i l is) = cc
+    verified_yes e t (comes_reply f r) = verify_yes bytes problem bindings run.status t e r
+
     verified_verdict : length bytes ≤ MODULE_BYTES → (m : Contents) (p : Problem) (b : Bindings) → IsAskedOf bytes problem bindings m p b → (u : Status) (t : List ℕ) → Comes bytes (verify problem bindings) u t → TellsVerdict m p b u t
     verified_verdict f m p b a u t (comes_long i k is) = absurd (omega (arith, f, k))
     verified_verdict f m p b a u t (comes_reply g r) = verify_verdict bytes problem bindings laws m a.asked_in.module_text p a.asked_in.problem_text b a.bindings_text u t r
@@ -275,6 +279,7 @@ module _ (run : Run) (h : Leaves (IsOutcome run.words run.source) run.status run
       module_refused = refuses_to_verify;
       words_refused = refuses_words_of;
       only = λ a. let g = came (verify problem bindings) bytes asks (answering_spoken run.status a) in verified_only a g.0 g.1;
+      yes = λ e. let g = came (verify problem bindings) bytes asks (subst IsSpoken (sym e) tt) in verified_yes e g.0 g.1;
       verdict = λ f m p b a. weaker (verify problem bindings) bytes asks (TellsVerdict m p b) (verified_verdict f m p b a);
     }
 

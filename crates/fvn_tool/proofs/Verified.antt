@@ -17,12 +17,12 @@ use Rattle.fvn_verify.specs.declared.verdict.Verdict.{Verdict}
 use Rattle.fvn_verify.specs.declared.verdict.Verdict.TheVariants.{Yes, No, Size}
 use Rattle.fvn_reply.specs.ProblemRefusals.{problem_text}
 use Rattle.fvn_tool.specs.declared.status.Status.{Status}
-use Rattle.fvn_tool.specs.declared.status.Status.TheVariants.{Usage, ModuleRefused, ProblemRefused}
+use Rattle.fvn_tool.specs.declared.status.Status.TheVariants.{Solved, Usage, ModuleRefused, ProblemRefused}
 use Rattle.fvn_tool.specs.Statuses.{IsSpoken, IsAnswering}
 use Rattle.fvn_tool.specs.Lines.{line}
 use Rattle.fvn_tool.specs.Laws.{ReadersAreLawful}
 use Rattle.fvn_tool.specs.Checks.{AreNoModule, IsFirstRefusal}
-use Rattle.fvn_tool.specs.Verifying.{HasEquations, HasNoEquation, later_line, status_of_verdict, verdict_line, IsProblemRefusalLine, IsVerdictOn, IsFirstProblemRefusal, IsFirstBindingRefusal, IsModuleOfAxioms, IsAskedIn, IsAskedOf, IsVerifyReply, module_refused, later, problem_refused, bindings_refused, verified}
+use Rattle.fvn_tool.specs.Verifying.{HasEquations, HasNoEquation, later_line, status_of_verdict, verdict_line, IsProblemRefusalLine, IsVerdictOn, AreSolvedBy, IsFirstProblemRefusal, IsFirstBindingRefusal, IsModuleOfAxioms, IsAskedIn, IsAskedOf, IsVerifyReply, module_refused, later, problem_refused, bindings_refused, verified}
 use Rattle.fvn_tool.specs.Claims.{Is, IsVerifyText, IsFirstRefusalOf, AsksNoProblem, BindsNothing, IsProblemRefusalOf, IsBindingRefusalOf, TellsVerdict}
 use Rattle.fvn_tool.proofs.Checks.{refused_declares_nothing, refusals_alike}
 
@@ -76,8 +76,8 @@ no_equation m n h e = let are = h.are in cc
 first_is : (m : Contents) (n k : ℕ) → HasEquations m n → HasEquations m k → n ≡ k
 first_is m n k a b =
     a.number_is ∙ ap (λ (e : Equation). e.statement) (head_is a.first b.first a.more b.more (sym a.are ∙ b.are)) ∙ sym b.number_is where
-  head_is : (x y : Equation) (xs ys : List Equation) → x ∷ xs ≡ y ∷ ys → x ≡ y
-  head_is x y xs ys e = cc
+      head_is : (x y : Equation) (xs ys : List Equation) → x ∷ xs ≡ y ∷ ys → x ≡ y
+      head_is x y xs ys e = cc
 
 module _ (bytes problem bindings : List ℕ) where
   pub verify_spoken : {s : Status} {t : List ℕ} → IsVerifyReply bytes problem bindings s t → IsSpoken s
@@ -114,6 +114,18 @@ module _ (bytes problem bindings : List ℕ) where
   verify_answers s t a (problem_refused m h first) = absurd a
   verify_answers s t a (bindings_refused m p h first) = absurd a
   verify_answers s t a (verified m p b v h k e is) = (m, p, b, h)
+
+  solved_by : (m : Contents) (p : Problem) (b : Bindings) (v : Verdict) → Solved ≡ status_of_verdict v → IsVerdictOn m p b v → AreSolvedBy m p b
+  solved_by m p b Yes e k = k.1
+  solved_by m p b (No n l r) e k = cc
+  solved_by m p b (Size f) e k = cc
+
+  pub verify_yes : (s : Status) (t : List ℕ) → s ≡ Solved → IsVerifyReply bytes problem bindings s t → (m : Contents) × (p : Problem) × (b : Bindings) × (IsAskedOf bytes problem bindings m p b × AreSolvedBy m p b)
+  verify_yes s t e (module_refused first) = cc
+  verify_yes s t e (later m n h k is) = cc
+  verify_yes s t e (problem_refused m h first) = cc
+  verify_yes s t e (bindings_refused m p h first) = cc
+  verify_yes s t e (verified m p b v h k i is) = (m, p, b, (h, solved_by m p b v (sym e ∙ i) k))
 
   module _ (laws : ReadersAreLawful) where
     pub verify_refuses : (s : Status) (t : List ℕ) → s ≡ ModuleRefused → IsVerifyReply bytes problem bindings s t → AreNoModule bytes ⊎ ((m : Contents) × (n : ℕ) × (IsModule bytes m × HasEquations m n))

@@ -21,7 +21,7 @@ use Rattle.fvn_problems.specs.Problems.{IsProblem}
 use Rattle.fvn_problems.specs.Bindings.{IsBindings}
 use Rattle.fvn_verify.specs.declared.verdict.Verdict.{Verdict}
 use Rattle.fvn_tool.specs.Checks.{AreNoModule, IsFirstRefusal, IsRefusalLine, summary_line}
-use Rattle.fvn_tool.specs.Verifying.{HasEquations, later_line, status_of_verdict, verdict_line, IsProblemRefusalLine, IsVerdictOn, IsFirstProblemRefusal, IsFirstBindingRefusal, IsModuleOfAxioms, IsAskedIn, IsAskedOf}
+use Rattle.fvn_tool.specs.Verifying.{HasEquations, later_line, status_of_verdict, verdict_line, IsProblemRefusalLine, IsVerdictOn, AreSolvedBy, IsFirstProblemRefusal, IsFirstBindingRefusal, IsModuleOfAxioms, IsAskedIn, IsAskedOf}
 use Rattle.fvn_tool.specs.Replies.{End, complete, bound_size, answer_text, line_of, Unifies, IsInstanceOf, CannotBeUnified, ExceedsSize, DeclareNoModule, AsksNothing, no_module_line, no_problem_line}
 use Rattle.fvn_tool.specs.Runs.{Run, Leaves, WritesWhole, HasFailed}
 use Rattle.fvn_tool.specs.Outcomes.{usage_line, too_long_line, IsOutcome}
@@ -242,7 +242,7 @@ IsBindingRefusalOf m p bindings status text = (status ≡ ProblemRefused) × IsF
 pub record RefusesToVerifyWords (bytes problem bindings : List ℕ) (run : Run) : Type 0 where
   pub only : run.status ≡ ProblemRefused → (length bytes ≤ MODULE_BYTES)
       × (((m : Contents) × (IsModuleOfAxioms bytes m × AsksNoProblem m problem))
-        ⊎ ((m : Contents) × (p : Problem) × (IsAskedIn bytes problem m p × BindsNothing m p bindings)))
+      ⊎ ((m : Contents) × (p : Problem) × (IsAskedIn bytes problem m p × BindsNothing m p bindings)))
   pub no_problem : length bytes ≤ MODULE_BYTES → (m : Contents) → IsModuleOfAxioms bytes m → AsksNoProblem m problem →
       Leaves (IsProblemRefusalOf m problem) run.status run.sink
   pub no_bindings : length bytes ≤ MODULE_BYTES → (m : Contents) (p : Problem) → IsAskedIn bytes problem m p → BindsNothing m p bindings →
@@ -258,6 +258,7 @@ pub record AnswersVerify (bytes problem bindings : List ℕ) (run : Run) : Type 
   pub module_refused : RefusesToVerify bytes run
   pub words_refused : RefusesToVerifyWords bytes problem bindings run
   pub only : IsAnswering run.status → (m : Contents) × (p : Problem) × (b : Bindings) × IsAskedOf bytes problem bindings m p b
+  pub yes : run.status ≡ Solved → (m : Contents) × (p : Problem) × (b : Bindings) × (IsAskedOf bytes problem bindings m p b × AreSolvedBy m p b)
   pub verdict : length bytes ≤ MODULE_BYTES → (m : Contents) (p : Problem) (b : Bindings) → IsAskedOf bytes problem bindings m p b →
       Leaves (TellsVerdict m p b) run.status run.sink
 

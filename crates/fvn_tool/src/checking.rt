@@ -8,7 +8,8 @@ ghost use Rattle.fvn_tool.specs.Texts.{bytes_of};
 use crate::answer::{Answer, Text};
 use crate::status::Status;
 use fvn_module::{
-    ModuleFault, modules_are_determined, read_module, refusals_are_determined, refused_texts_declare_nothing,
+    ModuleFault, modules_are_determined, read_module, refusals_are_determined,
+    refused_texts_declare_nothing,
 };
 use fvn_problems::{
     binding_faults_are_determined, bindings_are_determined, problem_faults_are_determined,

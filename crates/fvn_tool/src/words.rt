@@ -51,7 +51,11 @@ pub(crate) fn read_command(words: &[String]) -> Option<Command<'_>>
         return Some(Command::Check);
     }
     if words.len() == 3 {
-        return read_verify(words[0].as_bytes(), words[1].as_bytes(), words[2].as_bytes());
+        return read_verify(
+            words[0].as_bytes(),
+            words[1].as_bytes(),
+            words[2].as_bytes(),
+        );
     }
     if words.len() != 2 {
         return None;

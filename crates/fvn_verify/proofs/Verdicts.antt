@@ -67,7 +67,7 @@ module _ (d : Declarations) (s : Substitution) where
   first-push pairs p n (Some found) difference count f e = goes-on pairs (p ∷ []) found.0 found.1 found.2 f
   first-push pairs p n None None count f e = all-push (AreEqual d s) pairs p f e
   first-push pairs p n None (Some forms) count f e =
-    record { before = pairs; pair = p; after = []; split = refl; number_is = count; equal = f; differ = e.0; left_is = e.1; right_is = e.2 }
+      record { before = pairs; pair = p; after = []; split = refl; number_is = count; equal = f; differ = e.0; left_is = e.1; right_is = e.2 }
 
   module _ (size : ℕ) where
     -- one more pair is small enough
@@ -80,15 +80,15 @@ module _ (d : Declarations) (s : Substitution) where
         i < length all → p ≡ get_or all i p → IsSoFar d s size (take i all) first → AreWithin d s size p → IsDifference d s p difference →
         IsSoFar d s size (take (i + 1) all) (earlier first (i + 1) difference)
     one-more all i p first difference within is so w e =
-      let long : length (take i all) ≡ i = length-take i all ∙ (omega (arith, within)) in
-      subst (λ ps. IsSoFar d s size ps (earlier first (i + 1) difference)) (ap (λ q. take i all ++ q ∷ []) is ∙ sym (take_more all i p within))
+        let long : length (take i all) ≡ i = length-take i all ∙ (omega (arith, within)) in
+        subst (λ ps. IsSoFar d s size ps (earlier first (i + 1) difference)) (ap (λ q. take i all ++ q ∷ []) is ∙ sym (take_more all i p within))
         (so-far-push (take i all) p (i + 1) first difference (ap (λ n. n + 1) (sym long)) so w e)
 
     -- a form of the pair at a place is too large
     pub too-large : (all : List (Plain × Plain)) (i : ℕ) (p : Plain × Plain) (first : Option (ℕ × FlatTerm × FlatTerm)) (f : FlatTerm) →
         i < length all → p ≡ get_or all i p → IsSoFar d s size (take i all) first → IsOverIn d s size f p → IsVerdict d s size all (Size f)
     too-large all i p first f within is so over =
-      record { before = take i all; pair = p; after = drop (i + 1) all; split = split-at all i p within is; within = so.0; over = over }
+        record { before = take i all; pair = p; after = drop (i + 1) all; split = split-at all i p within is; within = so.0; over = over }
 
     -- all pairs are small enough
     pub conclude : (all : List (Plain × Plain)) (first : Option (ℕ × FlatTerm × FlatTerm)) → IsSoFar d s size all first → IsVerdict d s size all (concluded first)

@@ -65,5 +65,11 @@ pub fn verify(
     requires sorted { IsWellSorted signature.now (value bindings.now.subst.pairs) }
     ensures { IfOk result (IsVerdict signature.now (value bindings.now.subst.pairs) size problem.now.pairs) }
 {
-    verify_pairs(alloc, signature, problem.pairs.as_slice(), &bindings.subst, size)
+    verify_pairs(
+        alloc,
+        signature,
+        problem.pairs.as_slice(),
+        &bindings.subst,
+        size,
+    )
 }

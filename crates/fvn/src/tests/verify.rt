@@ -103,7 +103,8 @@ fn doubled(alloc: Global, depth: u32) -> Result<std::string::String, NoMemory> {
 
 #[test]
 fn sides_of_over_1000_symbols_are_told(rt: HostRuntime) -> Result<(), NoMemory> {
-    let module = "fmod F is sort A . op a : -> A . op f : A A -> A . op s : A -> A . var X : A . endfm";
+    let module =
+        "fmod F is sort A . op a : -> A . op f : A A -> A . op s : A -> A . var X : A . endfm";
     // f over 8 variables has 15 symbols; with terms of 124 symbols for them it has 999, with 125 it has 1007
     for (count, said) in [(123, "no 1"), (124, "bound size 1000")] {
         let mut term = std::string::String::from_str(rt.alloc(), "a")?;
