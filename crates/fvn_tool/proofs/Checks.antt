@@ -1,5 +1,5 @@
 -- What is promised of `check` follows from its reply.
-use Rattle.std.proofs.Common.{◌≡◌, ◌⊎◌, ℕ, List, Some, refl, sym, ap, ◌∙◌, subst, inl, inr}
+use Rattle.std.proofs.Common.{◌≡◌, ℕ, List, refl, sym, ap, ◌∙◌, inl, inr}
 use Rattle.fvn_base.proofs.Options.{Some-injective}
 use Rattle.fvn_module.specs.declared.fault.ModuleFault.{ModuleFault}
 use Rattle.fvn_module.specs.declared.fault.ModuleFault.TheVariants.{NoMemory}

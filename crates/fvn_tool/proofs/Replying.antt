@@ -22,7 +22,7 @@ use Rattle.fvn_tool.specs.declared.status.Status.{Status}
 use Rattle.fvn_tool.specs.declared.status.Status.TheVariants.{Solved, ModuleRefused, ProblemRefused}
 use Rattle.fvn_tool.specs.Lines.{line}
 use Rattle.fvn_tool.specs.Checks.{IsRefusalLine, IsCheckReply, refused, summed}
-use Rattle.fvn_tool.specs.Verifying.{later_line, status_of_verdict, verdict_line, IsProblemRefusalLine, IsModuleOfAxioms, IsVerifyReply, module_refused, later, problem_refused, bindings_refused, verified, RepliesToProblem, RepliesToBindings, RepliesIn}
+use Rattle.fvn_tool.specs.Verifying.{later_line, status_of_verdict, verdict_line, IsProblemRefusalLine, IsVerifyReply, module_refused, later, problem_refused, bindings_refused, verified, RepliesToProblem, RepliesToBindings, RepliesIn}
 
 pub summed_reply : (bytes : List ℕ) (m : Contents) → IsModule bytes m → (s : Status) (t text : List ℕ) → s ≡ Solved → t ≡ line text → text ≡ summary_text m → IsCheckReply bytes s t
 summed_reply bytes m h s t text e is told = subst (λ x. IsCheckReply bytes x t) (sym e) (summed m h (is ∙ ap line told))

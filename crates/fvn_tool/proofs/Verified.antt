@@ -1,5 +1,5 @@
 -- What is promised of `verify` follows from its reply.
-use Rattle.std.proofs.Common.{◌≡◌, ◌⊎◌, ℕ, List, [], ◌∷◌, Some, refl, sym, ap, ◌∙◌, subst, inl, inr}
+use Rattle.std.proofs.Common.{◌≡◌, ◌⊎◌, ℕ, List, ◌∷◌, refl, sym, ap, ◌∙◌, subst, inl, inr}
 use Rattle.fvn_base.proofs.Options.{Some-injective}
 use Rattle.fvn_base.specs.declared.limits.TheConstants.{TERM_SYMBOLS}
 use Rattle.fvn_terms.specs.Substitution.{value}

@@ -1,14 +1,13 @@
 -- Of pairs under a substitution there is one verdict at most.
-use Rattle.std.proofs.Common.{◌≡◌, ℕ, zero, suc, ◌+◌, ◌<◌, ◌≤◌, ◌⊎◌, inl, inr, List, [], ◌∷◌, ◌++◌, length, refl, sym, ap, ◌∙◌, subst, arith}
+use Rattle.std.proofs.Common.{◌≡◌, ℕ, suc, ◌+◌, ◌<◌, ◌≤◌, inl, inr, List, [], ◌∷◌, ◌++◌, length, refl, sym, ap, ◌∙◌, subst, arith}
 use Rattle.std.specs.Prelude.{All}
 use Rattle.std.proofs.lemmas.List.Elements.{All-head, All-tail}
 use Rattle.fvn_terms.specs.declared.plain.Plain.{Plain}
 use Rattle.fvn_terms.specs.declared.declarations.Declarations.{Declarations}
 use Rattle.fvn_terms.specs.Substitution.{Substitution}
 use Rattle.fvn_forms.specs.Flat.{FlatTerm, symbols}
-use Rattle.fvn_verify.specs.declared.verdict.Verdict.{Verdict}
 use Rattle.fvn_verify.specs.declared.verdict.Verdict.TheVariants.{Yes, No, Size}
-use Rattle.fvn_verify.specs.Verdicts.{AreEqual, form, IsFirstDifference, AreWithin, IsOverIn, IsFirstOver, IsVerdict}
+use Rattle.fvn_verify.specs.Verdicts.{AreEqual, form, IsFirstDifference, AreWithin, IsOverIn, IsFirstOver}
 use Rattle.fvn_verify.specs.Laws.{VerdictsAreDetermined}
 
 head-is : {A : Type 0} (x y : A) (xs ys : List A) → x ∷ xs ≡ y ∷ ys → x ≡ y

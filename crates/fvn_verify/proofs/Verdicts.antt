@@ -16,7 +16,7 @@ use Rattle.fvn_forms.specs.Flat.{FlatTerm, symbols}
 use Rattle.fvn_forms.specs.FitsKinds.{FitsKinds}
 use Rattle.fvn_forms.specs.Laws.{EqualityIsThatOfFlatForms}
 use Rattle.fvn_verify.specs.declared.verdict.Verdict.TheVariants.{Size}
-use Rattle.fvn_verify.specs.Verdicts.{AreEqual, form, AreWithin, IsOverIn, IsFirstDifference, IsFirstOver, IsVerdict}
+use Rattle.fvn_verify.specs.Verdicts.{AreEqual, form, AreWithin, IsOverIn, IsFirstDifference, IsVerdict}
 use Rattle.fvn_verify.specs.inner.Comparing.{AreKinded, earlier, concluded, IsDifference, IsFirst, IsSoFar}
 
 -- what holds of all, and of one more

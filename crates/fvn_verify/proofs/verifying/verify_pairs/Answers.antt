@@ -1,5 +1,5 @@
 -- One more pair is compared; after the last one the verdict is told.
-use Rattle.std.proofs.Common.{◌≡◌, ◌+◌, take, sym, subst}
+use Rattle.std.proofs.Common.{◌+◌, take, sym, subst}
 use Rattle.fvn_terms.specs.Substitution.{value}
 use Rattle.fvn_verify.specs.declared.comparing.Compared.TheVariants.{Small}
 use Rattle.fvn_verify.specs.Verdicts.{IsVerdict}
