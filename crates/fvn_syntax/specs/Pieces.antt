@@ -83,11 +83,6 @@ is_special text p = is_special_class p.class && bytes_eq p.text text
 abbrev pub is_dot : Piece → Bool
 is_dot p = is_dot_class p.class
 
--- a test of the piece at a place; past the end it fails
-abbrev pub passes : (Piece → Bool) → Option Piece → Bool
-passes test None = false
-passes test (Some p) = test p
-
 -- a text that ends with a colon and has a byte before it
 abbrev pub is_colon_name : Text → Bool
 is_colon_name w = nat_lt 1 (length w) && (slice_index_or w (length w - 1) 0 == 58)

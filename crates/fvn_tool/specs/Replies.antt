@@ -9,13 +9,14 @@ use Rattle.fvn_first.specs.declared.first.module_text.FirstModule.{FirstModule}
 use Rattle.fvn_first.specs.declared.first.problem_text.FirstProblem.{FirstProblem}
 use Rattle.fvn_first.specs.ModuleText.{IsModuleText}
 use Rattle.fvn_first.specs.ProblemText.{IsProblemText}
-use Rattle.fvn_tool.specs.declared.status.Status.{Status}
-use Rattle.fvn_tool.specs.declared.status.Status.TheVariants.{Solved, Nothing, ModuleRefused, ProblemRefused, Ended}
+use Rattle.fvn_commands.specs.declared.status.Status.{Status}
+use Rattle.fvn_commands.specs.declared.status.Status.TheVariants.{Solved, Nothing, ModuleRefused, ProblemRefused, Ended}
 use Rattle.fvn_tool.specs.Words.{Command, check, unify, verify}
-use Rattle.fvn_tool.specs.Lines.{line, lines, unifier_line}
+use Rattle.fvn_tool.specs.Lines.{lines, unifier_line}
+use Rattle.fvn_commands.specs.Texts.{line}
 use Rattle.fvn_tool.specs.Spellings.{spelling}
-use Rattle.fvn_tool.specs.Checks.{IsCheckReply}
-use Rattle.fvn_tool.specs.Verifying.{IsVerifyReply}
+use Rattle.fvn_commands.specs.Checks.{IsCheckReply}
+use Rattle.fvn_commands.specs.Verifying.{IsVerifyReply}
 use Rattle.fvn_free.specs.Free.{IsMostGeneral, HasNoUnifier, IsTooLarge, AreNumbered, variables_among}
 
 -- how an answer ends: all was found, with so many lines; or a term would have had over 1,000 symbols
