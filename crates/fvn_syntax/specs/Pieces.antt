@@ -1,5 +1,5 @@
 -- Pieces of texts: words, special bytes and the dot, and tests of single pieces.
-use Rattle.std.specs.Prelude.{ℕ, Bool, true, false, ◌&&◌, ◌==◌, ◌-◌, List, length, take, slice_index_or, nat_lt, Option, Some, None, codes}
+use Rattle.std.specs.Prelude.{ℕ, Bool, true, false, ◌&&◌, ◌==◌, ◌-◌, List, length, take, slice_index_or, nat_lt, codes}
 use Rattle.std.specs.Str.{bytes_eq}
 use Rattle.fvn_lex.specs.declared.token.Class.{Class}
 use Rattle.fvn_lex.specs.declared.token.Class.TheVariants.{Word, Special, Dot}
