@@ -110,7 +110,8 @@ fn unify_reply(alloc: Global, bytes: &[u8], word: &[u8]) -> Result<Answer, NoMem
 
 /// What is replied to a command over the text of a module.
 pub(crate) fn reply(alloc: Global, bytes: &[u8], command: Command<'_>) -> Result<Answer, NoMemory>
-    ensures { IfOk result (λ a. IsReply (meant command.entry) bytes.now a.status (bytes_of a.text)) }
+    ensures { IfOk result (λ a.
+        IsReply (meant command.entry) bytes.now a.status (bytes_of a.text)) }
 {
     match command {
         Command::Check => check_reply(alloc, bytes),

@@ -8,8 +8,7 @@ ghost use Rattle.fvn_tool.specs.Runs.{seen, Leaves};
 ghost use Rattle.fvn_tool.specs.Outcomes.{IsOutcome};
 ghost use Rattle.fvn_tool.specs.Claims.{IsReport};
 
-use crate::answer;
-use crate::words;
+use crate::{answer, words};
 use fvn_base::limits::MODULE_BYTES;
 use fvn_commands::{Answer, Status, readers_are_lawful};
 use fvn_first::first::{modules_are_determined, modules_are_first, problems_are_determined};

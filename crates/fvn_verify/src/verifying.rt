@@ -62,7 +62,8 @@ pub fn verify(
     requires kinded { All (AreOfOneKind signature.now) problem.now.pairs }
     requires limited { size < u64.MAX }
     requires keeps { KeepsKinds signature.now (value bindings.now.subst.pairs) }
-    ensures { IfOk result (IsVerdict signature.now (value bindings.now.subst.pairs) size problem.now.pairs) }
+    ensures { IfOk result
+        (IsVerdict signature.now (value bindings.now.subst.pairs) size problem.now.pairs) }
 {
     verify_pairs(
         alloc,
