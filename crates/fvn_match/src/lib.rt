@@ -1,0 +1,6 @@
+//! Matching of flat terms modulo the axioms.
+#![tactic(auto)]
+
+mod matching;
+
+pub use matching::matches;
