@@ -1,4 +1,6 @@
 -- What mirrors the code.
 pub mod Choices
 pub mod Tallies
+pub mod Summands
 pub mod Candidates
+pub mod Goals

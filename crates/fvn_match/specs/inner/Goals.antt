@@ -1,0 +1,134 @@
+-- The goals of a search, and what they ask.
+use Rattle.std.specs.Prelude.{◌≡◌, ◌≤◌, ◌<◌, ◌^◌, ℕ, ◌+◌, ◌*◌, List, [], ◌∷◌, length, map, sum as std_sum, Contains}
+use Rattle.std.specs.List.{AllZip, AllByRecursion}
+use Rattle.fvn_terms.specs.declared.plain.Var.{Var}
+use Rattle.fvn_terms.specs.declared.plain.OpId.{OpId}
+use Rattle.fvn_terms.specs.declared.plain.SortId.{SortId}
+use Rattle.fvn_terms.specs.declared.declarations.Rank.{Rank}
+use Rattle.fvn_terms.specs.declared.declarations.Declarations.{Declarations}
+use Rattle.fvn_terms.specs.Signature.{kind, declared, axioms, HasKind}
+use Rattle.fvn_terms.specs.Equality.{IsAssociative}
+use Rattle.fvn_forms.specs.Flat.{FlatTerm, FlatTerms, fvar, fapp, fnone, fmore, plain}
+use Rattle.fvn_forms.specs.Canon.{inst}
+use Rattle.fvn_forms.specs.Settled.{IsPiece, Settled}
+use Rattle.fvn_flat.specs.Bindings.{Bindings}
+use Rattle.fvn_match.specs.inner.Tallies.{AreDistinct, AddsUp}
+use Rattle.fvn_match.specs.inner.Candidates.{Values}
+use Rattle.fvn_match.specs.declared.goals.Goals.{Goals, Done, Lists', Pair'}
+use Rattle.fvn_match.specs.declared.goals.SumGoal.{SumGoal}
+use Rattle.fvn_match.specs.declared.goals.Sums.{Sums, NoSum, WithSum'}
+use Rattle.fvn_match.specs.declared.goals.Bound.{Bound, Nothing, Bind'}
+
+-- the variables that were bound, with their values
+abbrev pub bindings_of : Bound → Bindings
+bindings_of Nothing = []
+bindings_of (Bind' x t p rest) = (x, t.now) ∷ bindings_of rest
+
+-- the patterns, pieces and numbers of a sum
+abbrev pub patterns_of : SumGoal → List FlatTerm
+patterns_of sum = map (λ p. p.now) sum.patterns.now
+
+abbrev pub pieces_of : SumGoal → List FlatTerm
+pieces_of sum = map (λ t. t.now) sum.pieces.now
+
+module _ (d : Declarations) where
+  -- under c each pattern is its target
+  abbrev pub AllMake : List FlatTerm → List FlatTerm → Values → Type 0
+  AllMake ps ts c = AllZip (λ p t. inst d c p ≡ t) ps ts
+
+  -- what goals ask of c
+  abbrev pub Holds : Goals → Values → Type 0
+  Holds Done c = Unit {0}
+  Holds (Lists' ps ts r rest) c = AllMake ps.now ts.now c × Holds rest c
+  Holds (Pair' p t r rest) c = (inst d c p.now ≡ t.now) × Holds rest c
+
+  -- what a sum asks of c
+  abbrev pub SumHolds : SumGoal → Values → Type 0
+  SumHolds sum = AddsUp d sum.op (patterns_of sum) (pieces_of sum) sum.left.now
+
+  -- what sums ask of c
+  abbrev pub SumsHold : Sums → Values → Type 0
+  SumsHold NoSum c = Unit {0}
+  SumsHold (WithSum' sum r rest) c = SumHolds sum c × SumsHold rest c
+
+  -- what is asked of c: goals and sums
+  abbrev pub Asked : Goals → Sums → Values → Type 0
+  Asked goals sums c = Holds goals c × SumsHold sums c
+
+  -- a pair, then goals and sums
+  abbrev pub PairAsked : FlatTerm → FlatTerm → Goals → Sums → Values → Type 0
+  PairAsked p t goals sums c = (inst d c p ≡ t) × Asked goals sums c
+
+  -- pairs place by place, then goals and sums
+  abbrev pub ListsAsked : List FlatTerm → List FlatTerm → Goals → Sums → Values → Type 0
+  ListsAsked ps ts goals sums c = AllMake ps ts c × Asked goals sums c
+
+  -- a sum, then sums
+  abbrev pub SumAsked : SumGoal → Sums → Values → Type 0
+  SumAsked sum sums c = SumHolds sum c × SumsHold sums c
+
+  -- the two are flat forms of one kind
+  pub record IsPair (p t : FlatTerm) : Type 0 where
+    pub pattern : Settled d p
+    pub target : Settled d t
+    pub of_kind : SortId
+    pub pattern_kind : HasKind d (plain p) of_kind
+    pub target_kind : HasKind d (plain t) of_kind
+
+  -- patterns and targets of goals are flat forms of one kind
+  abbrev pub GoalsFit : Goals → Type 0
+  GoalsFit Done = Unit {0}
+  GoalsFit (Lists' ps ts r rest) = AllZip IsPair ps.now ts.now × GoalsFit rest
+  GoalsFit (Pair' p t r rest) = IsPair p.now t.now × GoalsFit rest
+
+  -- a flat form of the kind
+  pub record IsFlatOf (k : SortId) (t : FlatTerm) : Type 0 where
+    pub flat : Settled d t
+    pub has_kind : HasKind d (plain t) k
+
+  -- patterns and different pieces of a sum are flat forms of the kind of an associative operator; each piece has its number
+  pub record SumFits (sum : SumGoal) : Type 0 where
+    pub associative : IsAssociative (axioms d sum.op)
+    pub rank : Rank
+    pub listed : Contains (declared d sum.op).ranks rank
+    pub patterns : AllByRecursion (IsFlatOf (kind d rank.result)) (patterns_of sum)
+    pub pieces : AllByRecursion (IsFlatOf (kind d rank.result)) (pieces_of sum)
+    pub each_is_one : AllByRecursion (IsPiece d sum.op) (pieces_of sum)
+    pub distinct : AreDistinct (pieces_of sum)
+    pub long : length sum.left.now ≡ length sum.pieces.now
+    pub small : std_sum sum.left.now < 2 ^ 64
+
+  -- the sums fit
+  abbrev pub SumsFit : Sums → Type 0
+  SumsFit NoSum = Unit {0}
+  SumsFit (WithSum' sum r rest) = SumFits sum × SumsFit rest
+
+-- a number for each form that falls as a search takes it apart
+abbrev mutual
+  pub weight : FlatTerm → ℕ
+  weight (fvar x) = 1
+  weight (fapp f joined ts) = weights ts + 1
+
+  pub weights : FlatTerms → ℕ
+  weights fnone = 0
+  weights (fmore t ts) = weight t + 2 + weights ts
+
+-- that of a list of patterns
+abbrev pub weight_of : List FlatTerm → ℕ
+weight_of [] = 0
+weight_of (t ∷ ts) = weight t + 2 + weight_of ts
+
+-- that of goals
+abbrev pub goals_weight : Goals → ℕ
+goals_weight Done = 0
+goals_weight (Lists' ps ts r rest) = weight_of ps.now + 1 + goals_weight rest
+goals_weight (Pair' p t r rest) = weight p.now + 1 + goals_weight rest
+
+-- that of a sum
+abbrev pub sum_weight : SumGoal → ℕ
+sum_weight sum = weight_of (patterns_of sum) + 1
+
+-- that of sums
+abbrev pub sums_weight : Sums → ℕ
+sums_weight NoSum = 0
+sums_weight (WithSum' sum r rest) = sum_weight sum + sums_weight rest

@@ -1,0 +1,41 @@
+//! The goals of a search for a matcher, and the values that were bound so far.
+use fvn_flat::Flat;
+use fvn_terms::{OpId, Var};
+
+// Pairs of a pattern and its target, which come one after another.
+#[derive(Drop)]
+pub(crate) enum Goals<'a> {
+    // Nothing is left.
+    Done,
+    // Patterns and their targets, place by place.
+    Lists(&'a [Flat], &'a [Flat], &'a Goals<'a>),
+    // A pattern and its target.
+    Pair(&'a Flat, &'a Flat, &'a Goals<'a>),
+}
+
+// Patterns whose summands under the operator are to be different pieces, each so often as its number says.
+#[derive(Clone, Copy)]
+pub(crate) struct SumGoal<'a> {
+    pub(crate) op: OpId,
+    pub(crate) patterns: &'a [&'a Flat],
+    pub(crate) pieces: &'a [&'a Flat],
+    pub(crate) left: &'a [usize],
+}
+
+// Sums, which wait until no pair is left.
+#[derive(Drop)]
+pub(crate) enum Sums<'a> {
+    // No sum is left.
+    NoSum,
+    // A sum, and others.
+    WithSum(SumGoal<'a>, &'a Sums<'a>),
+}
+
+// Values of variables, the newest first.
+#[derive(Drop)]
+pub(crate) enum Bound<'a> {
+    // No variable is bound.
+    Nothing,
+    // A variable with its value, and others.
+    Bind(Var, &'a Flat, &'a Bound<'a>),
+}
