@@ -1,6 +1,6 @@
 -- The lemmas of the crate.
 mod Symbols
-mod Occurrences
+pub mod Occurrences
 mod Comparisons
 mod Views
 mod SortedLists
@@ -10,7 +10,7 @@ mod Evaluation
 pub mod Fitting
 pub mod Rebuilding
 mod Instances
-mod Binding
+pub mod Binding
 mod Listed
 pub mod Composing
 mod Renamings

@@ -7,6 +7,7 @@ use Rattle.std.specs.declared.cmp.Ordering.TheVariants.{Less, Equal, Greater}
 use Rattle.std.specs.Ordering.{ordering_reverse, is_gt}
 use Rattle.std.proofs.lemmas.Cmp.{upto}
 use Rattle.std.proofs.lemmas.List.{take_more, take-append-drop, length-map, length-append, length-replicate, length-drop, get_or-drop, replicate-append-replicate}
+use Rattle.std.specs.List.{AllByRecursion}
 use Rattle.fvn_forms.specs.Flat.{FlatTerm}
 use Rattle.fvn_forms.specs.Order.{flat_cmp, same_flat}
 use Rattle.fvn_forms.specs.InOrder.{InOrder, one_if, count}
@@ -98,6 +99,7 @@ sum-push (m ∷ ns) n = let a = sum-push ns n in omega (arith, sum-cons m ns, su
 -- what was counted of a list in order, and what is left of it
 pub record Counting (ts pieces : List FlatTerm) (left : List ℕ) (rest : List FlatTerm) : Type 0 where
   pub counts : (q : FlatTerm) → tally q pieces left + count q rest ≡ count q ts
+  pub among : (q : FlatTerm) → 1 ≤ count q pieces → 1 ≤ count q ts
   pub distinct : AreDistinct pieces
   pub long : length left ≡ length pieces
   pub together : sum left + length rest ≡ length ts
@@ -105,13 +107,14 @@ pub record Counting (ts pieces : List FlatTerm) (left : List ℕ) (rest : List F
   pub in_order : InOrder rest
 
 pub counting_none : (ts : List FlatTerm) → InOrder ts → Counting ts [] [] ts
-counting_none ts h = record { counts = λ q. omega arith; distinct = λ q. omega arith; long = refl; together = omega arith; behind = λ q some. absurd (omega arith); in_order = h }
+counting_none ts h = record { counts = λ q. omega arith; among = λ q some. absurd (omega arith); distinct = λ q. omega arith; long = refl; together = omega arith; behind = λ q some. absurd (omega arith); in_order = h }
 
 pub counting_more : (ts pieces : List FlatTerm) (left : List ℕ) (rest : List FlatTerm) (k : ℕ) (t : FlatTerm) → Counting ts pieces left rest → IsRun rest k → t ≡ get_or rest 0 t → Counting ts (pieces ++ t ∷ []) (left ++ k ∷ []) (drop k rest)
 counting_more ts pieces left [] k t c r head = absurd (let a = r.some in let b = r.within in omega arith)
 counting_more ts pieces left (u ∷ us) k t c r head =
     record {
       counts = λ q. let a = c.counts q in let b = tally-push q pieces left t k c.long in let e = split q in omega arith;
+      among = λ q some. among q (same_flat q t) refl some;
       distinct = λ q. distinct q (same_flat q t) refl;
       long = let a = length-append left (k ∷ []) in let b = length-append pieces (t ∷ []) in let e = c.long in omega arith;
       together = let a = sum-push left k in let b = length-drop k (u ∷ us) in let e = c.together in let f = r.within in omega arith;
@@ -133,6 +136,14 @@ counting_more ts pieces left (u ∷ us) k t c r head =
 
     pushed : (q : FlatTerm) → count q (pieces ++ t ∷ []) ≡ count q pieces + one_if (same_flat q t)
     pushed q = let a = count_append q pieces (t ∷ []) in omega arith
+
+    among : (q : FlatTerm) (b : Bool) → same_flat q t ≡ b → 1 ≤ count q (pieces ++ t ∷ []) → 1 ≤ count q ts
+    among q true e some =
+        let a = c.counts q in
+        let b = count_itself u us in
+        let g : count q (u ∷ us) ≡ count u (u ∷ us) = ap (λ v. count v (u ∷ us)) (same_flat_is q t e ∙ head) in
+        omega arith
+    among q false e some = let a : count q (pieces ++ t ∷ []) ≡ count q pieces + 0 = pushed q ∙ ap (λ b. count q pieces + one_if b) e in c.among q (omega arith)
 
     distinct : (q : FlatTerm) (b : Bool) → same_flat q t ≡ b → count q (pieces ++ t ∷ []) ≤ 1
     distinct q true e = let a : count q (pieces ++ t ∷ []) ≡ count q pieces + 1 = pushed q ∙ ap (λ b. count q pieces + one_if b) e in let f = fresh q (same_flat_is q t e) in omega arith
@@ -156,3 +167,30 @@ counting_more ts pieces left (u ∷ us) k t c r head =
         let b = c.behind q (omega arith) in
         let f = split q in
         omega arith
+
+-- what holds of each of a list holds of what stands among it
+holds_of : (P : FlatTerm → Type 0) (q : FlatTerm) (ts : List FlatTerm) → AllByRecursion P ts → 1 ≤ count q ts → P q
+holds_of P q [] h some = absurd (omega arith)
+holds_of P q (t ∷ ts) h some = go (same_flat q t) refl (λ k. holds_of P q ts h.1 k)
+  where
+    go : (b : Bool) → same_flat q t ≡ b → (1 ≤ count q ts → P q) → P q
+    go true e rest = subst P (sym (same_flat_is q t e)) h.0
+    go false e rest = let more : 1 ≤ 0 + count q ts = rw e at some in rest (omega arith)
+
+pub each_among : (P : FlatTerm → Type 0) (ts us : List FlatTerm) → ((q : FlatTerm) → 1 ≤ count q us → 1 ≤ count q ts) → AllByRecursion P ts → AllByRecursion P us
+each_among P ts [] among h = tt
+each_among P ts (u ∷ us) among h = (holds_of P u ts h (among u (let a = count_itself u us in omega arith)), each_among P ts us (λ q some. among q (omega arith)) h)
+
+pub references-drop : (k : ℕ) (xs : List (Bor FlatTerm)) → references (drop k xs) ≡ drop k (references xs)
+references-drop zero xs = refl
+references-drop (suc k) [] = refl
+references-drop (suc k) (x ∷ xs) = references-drop k xs
+
+pub each_drop : {A : Type 0} (P : A → Type 0) (k : ℕ) (xs : List A) → AllByRecursion P xs → AllByRecursion P (drop k xs)
+each_drop P zero xs h = h
+each_drop P (suc k) [] h = h
+each_drop P (suc k) (x ∷ xs) h = each_drop P k xs h.1
+
+pub each_append_back : {A : Type 0} (P : A → Type 0) (xs ys : List A) → AllByRecursion P (xs ++ ys) → AllByRecursion P xs × AllByRecursion P ys
+each_append_back P [] ys h = (tt, h)
+each_append_back P (x ∷ xs) ys h = let r = each_append_back P xs ys h.1 in ((h.0, r.0), r.1)

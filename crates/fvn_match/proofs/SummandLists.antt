@@ -24,7 +24,7 @@ module _ (d : Declarations) (f : OpId) where
   parts_of_constant (fapp h false fnone) g e a s = let q : h ≡ g = cc in ap (λ o. if is_identity (identity (axioms d f)) o then [] else fapp h false fnone ∷ []) q
   parts_of_constant (fapp h false (fmore u us)) g e a s = cc
 
-  unjoined_none : (a : Axioms) (l : List FlatTerm) → IsAssociative a → FitsUnjoined d a l → l ≡ []
+  pub unjoined_none : (a : Axioms) (l : List FlatTerm) → IsAssociative a → FitsUnjoined d a l → l ≡ []
   unjoined_none Free l i h = absurd i
   unjoined_none Comm l i h = absurd i
   unjoined_none AssocComm l i h = h

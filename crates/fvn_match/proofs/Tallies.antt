@@ -214,3 +214,13 @@ count_take_more q us i u h at = ap (count q) (take_more us i u h) ∙ count_appe
 
 pub count_take_le : (q : FlatTerm) (us : List FlatTerm) (i : ℕ) → count q (take i us) ≤ count q us
 count_take_le q us i = let a = ap (count q) (take-append-drop i us) in let b = count_append q (take i us) (drop i us) in omega arith
+
+-- what holds of each piece holds of each repeated
+each_replicate : (P : FlatTerm → Type 0) (n : ℕ) (t : FlatTerm) (l : List FlatTerm) → P t → AllByRecursion P l → AllByRecursion P (replicate n t ++ l)
+each_replicate P zero t l a h = h
+each_replicate P (suc n) t l a h = (a, each_replicate P n t l a h)
+
+pub each_repeated : (P : FlatTerm → Type 0) (ts : List FlatTerm) (ns : List ℕ) → AllByRecursion P ts → AllByRecursion P (repeated ts ns)
+each_repeated P [] ns h = tt
+each_repeated P (t ∷ ts) [] h = tt
+each_repeated P (t ∷ ts) (n ∷ ns) h = each_replicate P n t (repeated ts ns) h.0 (each_repeated P ts ns h.1)

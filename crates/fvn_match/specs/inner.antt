@@ -4,3 +4,5 @@ pub mod Tallies
 pub mod Summands
 pub mod Candidates
 pub mod Goals
+pub mod Known
+pub mod Searching

@@ -1,4 +1,8 @@
 //! The goals of a search for a matcher, and the values that were bound so far.
+ghost use Rattle.std.specs.Prelude.{◌≡◌, Some, None, MatchOption};
+ghost use Rattle.fvn_flat.specs.Bindings.{bound};
+ghost use Rattle.fvn_match.specs.inner.Goals.{bindings_of};
+
 use fvn_flat::Flat;
 use fvn_terms::{OpId, Var};
 
@@ -38,4 +42,21 @@ pub(crate) enum Bound<'a> {
     Nothing,
     // A variable with its value, and others.
     Bind(Var, &'a Flat, &'a Bound<'a>),
+}
+
+impl Bound<'_> {
+    // What the variable is bound to.
+    pub(crate) fn get(&self, v: Var) -> Option<&Flat>
+        ensures { MatchOption result (bound (bindings_of self.now) v ≡ None) (λ t. bound (bindings_of self.now) v ≡ Some t.now) }
+    {
+        match self {
+            Bound::Nothing => None,
+            Bound::Bind(x, t, rest) => {
+                if *x == v {
+                    return Some(&**t);
+                }
+                rest.get(v)
+            }
+        }
+    }
 }

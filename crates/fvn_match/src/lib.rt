@@ -3,7 +3,11 @@
 
 mod choices;
 mod goals;
+mod known;
 mod matching;
+mod scratch;
+mod search;
 mod summands;
+mod wholes;
 
 pub use matching::matches;

@@ -62,6 +62,7 @@ pub(crate) fn summands<'a>(sig: &Signature, f: OpId, t: &'a Flat) -> &'a [Flat]
 }
 
 // Different pieces with their numbers.
+#[derive(Drop)]
 pub(crate) struct Counted<'a> {
     pub(crate) pieces: Vec<&'a Flat>,
     pub(crate) left: Vec<usize>,

@@ -1,5 +1,5 @@
 -- The goals of a search, and what they ask.
-use Rattle.std.specs.Prelude.{◌≡◌, ◌≤◌, ◌<◌, ◌^◌, ℕ, ◌+◌, ◌*◌, List, [], ◌∷◌, length, map, sum as std_sum, Contains}
+use Rattle.std.specs.Prelude.{◌≡◌, ◌≤◌, ◌<◌, ◌^◌, ℕ, ◌+◌, ◌*◌, List, [], ◌∷◌, length, map, sum as std_sum, drop, Contains}
 use Rattle.std.specs.List.{AllZip, AllByRecursion}
 use Rattle.fvn_terms.specs.declared.plain.Var.{Var}
 use Rattle.fvn_terms.specs.declared.plain.OpId.{OpId}
@@ -9,11 +9,12 @@ use Rattle.fvn_terms.specs.declared.declarations.Declarations.{Declarations}
 use Rattle.fvn_terms.specs.Signature.{kind, declared, axioms, HasKind}
 use Rattle.fvn_terms.specs.Equality.{IsAssociative}
 use Rattle.fvn_forms.specs.Flat.{FlatTerm, FlatTerms, fvar, fapp, fnone, fmore, plain}
-use Rattle.fvn_forms.specs.Canon.{inst}
+use Rattle.fvn_forms.specs.Canon.{sum, inst}
 use Rattle.fvn_forms.specs.Settled.{IsPiece, Settled}
-use Rattle.fvn_flat.specs.Bindings.{Bindings}
-use Rattle.fvn_match.specs.inner.Tallies.{AreDistinct, AddsUp}
-use Rattle.fvn_match.specs.inner.Candidates.{Values}
+use Rattle.fvn_flat.specs.Bindings.{Bindings, value}
+use Rattle.fvn_match.specs.inner.Choices.{reduced}
+use Rattle.fvn_match.specs.inner.Tallies.{repeated, AreDistinct, AddsUp}
+use Rattle.fvn_match.specs.inner.Candidates.{Values, IsCandidate}
 use Rattle.fvn_match.specs.declared.goals.Goals.{Goals, Done, Lists', Pair'}
 use Rattle.fvn_match.specs.declared.goals.SumGoal.{SumGoal}
 use Rattle.fvn_match.specs.declared.goals.Sums.{Sums, NoSum, WithSum'}
@@ -26,46 +27,35 @@ bindings_of (Bind' x t p rest) = (x, t.now) ∷ bindings_of rest
 
 -- the patterns, pieces and numbers of a sum
 abbrev pub patterns_of : SumGoal → List FlatTerm
-patterns_of sum = map (λ p. p.now) sum.patterns.now
+patterns_of goal = map (λ p. p.now) goal.patterns.now
 
 abbrev pub pieces_of : SumGoal → List FlatTerm
-pieces_of sum = map (λ t. t.now) sum.pieces.now
+pieces_of goal = map (λ t. t.now) goal.pieces.now
 
 module _ (d : Declarations) where
   -- under c each pattern is its target
   abbrev pub AllMake : List FlatTerm → List FlatTerm → Values → Type 0
   AllMake ps ts c = AllZip (λ p t. inst d c p ≡ t) ps ts
 
-  -- what goals ask of c
-  abbrev pub Holds : Goals → Values → Type 0
-  Holds Done c = Unit {0}
-  Holds (Lists' ps ts r rest) c = AllMake ps.now ts.now c × Holds rest c
-  Holds (Pair' p t r rest) c = (inst d c p.now ≡ t.now) × Holds rest c
-
   -- what a sum asks of c
   abbrev pub SumHolds : SumGoal → Values → Type 0
-  SumHolds sum = AddsUp d sum.op (patterns_of sum) (pieces_of sum) sum.left.now
+  SumHolds goal = AddsUp d goal.op (patterns_of goal) (pieces_of goal) goal.left.now
 
   -- what sums ask of c
   abbrev pub SumsHold : Sums → Values → Type 0
   SumsHold NoSum c = Unit {0}
-  SumsHold (WithSum' sum r rest) c = SumHolds sum c × SumsHold rest c
+  SumsHold (WithSum' goal r rest) c = SumHolds goal c × SumsHold rest c
 
-  -- what is asked of c: goals and sums
+  -- what goals ask of c, and then sums
   abbrev pub Asked : Goals → Sums → Values → Type 0
-  Asked goals sums c = Holds goals c × SumsHold sums c
+  Asked Done sums c = SumsHold sums c
+  Asked (Lists' ps ts r rest) sums c = AllMake ps.now ts.now c × Asked rest sums c
+  Asked (Pair' p t r rest) sums c = (inst d c p.now ≡ t.now) × Asked rest sums c
 
-  -- a pair, then goals and sums
-  abbrev pub PairAsked : FlatTerm → FlatTerm → Goals → Sums → Values → Type 0
-  PairAsked p t goals sums c = (inst d c p ≡ t) × Asked goals sums c
-
-  -- pairs place by place, then goals and sums
-  abbrev pub ListsAsked : List FlatTerm → List FlatTerm → Goals → Sums → Values → Type 0
-  ListsAsked ps ts goals sums c = AllMake ps ts c × Asked goals sums c
-
-  -- a sum, then sums
-  abbrev pub SumAsked : SumGoal → Sums → Values → Type 0
-  SumAsked sum sums c = SumHolds sum c × SumsHold sums c
+  -- what k copies of a pattern ask that are to be this choice of the pieces of a sum, and the other patterns, and then sums
+  abbrev pub ChoiceAsked : SumGoal → FlatTerm → ℕ → List ℕ → Sums → Values → Type 0
+  ChoiceAsked goal p k chosen sums c =
+      (inst d c p ≡ sum d goal.op (repeated (pieces_of goal) chosen)) × (AddsUp d goal.op (drop k (patterns_of goal)) (pieces_of goal) (reduced k goal.left.now chosen) c × SumsHold sums c)
 
   -- the two are flat forms of one kind
   pub record IsPair (p t : FlatTerm) : Type 0 where
@@ -87,21 +77,27 @@ module _ (d : Declarations) where
     pub has_kind : HasKind d (plain t) k
 
   -- patterns and different pieces of a sum are flat forms of the kind of an associative operator; each piece has its number
-  pub record SumFits (sum : SumGoal) : Type 0 where
-    pub associative : IsAssociative (axioms d sum.op)
+  pub record SumFits (goal : SumGoal) : Type 0 where
+    pub associative : IsAssociative (axioms d goal.op)
     pub rank : Rank
-    pub listed : Contains (declared d sum.op).ranks rank
-    pub patterns : AllByRecursion (IsFlatOf (kind d rank.result)) (patterns_of sum)
-    pub pieces : AllByRecursion (IsFlatOf (kind d rank.result)) (pieces_of sum)
-    pub each_is_one : AllByRecursion (IsPiece d sum.op) (pieces_of sum)
-    pub distinct : AreDistinct (pieces_of sum)
-    pub long : length sum.left.now ≡ length sum.pieces.now
-    pub small : std_sum sum.left.now < 2 ^ 64
+    pub listed : Contains (declared d goal.op).ranks rank
+    pub patterns : AllByRecursion (IsFlatOf (kind d rank.result)) (patterns_of goal)
+    pub pieces : AllByRecursion (IsFlatOf (kind d rank.result)) (pieces_of goal)
+    pub each_is_one : AllByRecursion (IsPiece d goal.op) (pieces_of goal)
+    pub distinct : AreDistinct (pieces_of goal)
+    pub long : length goal.left.now ≡ length goal.pieces.now
+    pub small : std_sum goal.left.now < 2 ^ 64
 
   -- the sums fit
   abbrev pub SumsFit : Sums → Type 0
   SumsFit NoSum = Unit {0}
-  SumsFit (WithSum' sum r rest) = SumFits sum × SumsFit rest
+  SumsFit (WithSum' goal r rest) = SumFits goal × SumsFit rest
+
+  -- goals, sums and values so far that go together
+  pub record StateFits (goals : Goals) (waiting : Sums) (so_far : Bound) : Type 0 where
+    pub pairs : GoalsFit goals
+    pub sums : SumsFit waiting
+    pub values : IsCandidate d (value (bindings_of so_far))
 
 -- a number for each form that falls as a search takes it apart
 abbrev mutual
@@ -126,9 +122,9 @@ goals_weight (Pair' p t r rest) = weight p.now + 1 + goals_weight rest
 
 -- that of a sum
 abbrev pub sum_weight : SumGoal → ℕ
-sum_weight sum = weight_of (patterns_of sum) + 1
+sum_weight goal = weight_of (patterns_of goal) + 1
 
 -- that of sums
 abbrev pub sums_weight : Sums → ℕ
 sums_weight NoSum = 0
-sums_weight (WithSum' sum r rest) = sum_weight sum + sums_weight rest
+sums_weight (WithSum' goal r rest) = sum_weight goal + sums_weight rest

@@ -18,6 +18,7 @@ IsTakenAway pieces old new us false = (q : FlatTerm) × (tally q pieces old < co
 -- different pieces with their numbers in the list
 pub record IsCounted (ts : List FlatTerm) (r : Counted) : Type 0 where
   pub counts : (q : FlatTerm) → tally q (references r.pieces.items) r.left.items ≡ count q ts
+  pub among : (q : FlatTerm) → 1 ≤ count q (references r.pieces.items) → 1 ≤ count q ts
   pub distinct : AreDistinct (references r.pieces.items)
   pub long : length r.left.items ≡ length r.pieces.items
   pub together : sum r.left.items ≡ length ts

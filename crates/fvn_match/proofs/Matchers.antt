@@ -1,0 +1,157 @@
+-- Matchers, and candidates that make of each pattern its target.
+use Rattle.std.proofs.Common.{◌≡◌, ℕ, ◌<◌, zero, suc, Bool, true, false, List, [], ◌∷◌, map, Option, Some, None, refl, sym, ap, ◌∙◌, subst, inl, inr, arith}
+use Rattle.std.specs.Prelude.{◌↔◌, ◌⊎◌, if◌then◌else◌, Any, Contains}
+use Rattle.std.specs.List.{AllZip, AllByRecursion}
+use Rattle.fvn_terms.specs.declared.plain.Var.{Var}
+use Rattle.fvn_terms.specs.declared.plain.SortId.{SortId}
+use Rattle.fvn_terms.specs.declared.declarations.Declarations.{Declarations}
+use Rattle.fvn_terms.specs.Term.{Term, Terms, var, app, none, more}
+use Rattle.fvn_terms.specs.Substitution.{Substitution, apply, same_var, Occurs, OccursAmong}
+use Rattle.fvn_terms.specs.Signature.{kind, IsSort, HasKind, HaveKinds, IsTerm, AtOrBelow, KeepsKinds}
+use Rattle.fvn_terms.specs.Equality.{BEqual}
+use Rattle.fvn_terms.specs.Sorts.{HasSort, IsWellSorted}
+use Rattle.fvn_terms.specs.Variants.{OccursInSome}
+use Rattle.fvn_terms.proofs.Substitutions.{apply-agree}
+use Rattle.fvn_terms.proofs.Equal.{HasKind-apply}
+use Rattle.fvn_terms.specs.Signature.{same}
+use Rattle.fvn_terms.specs.Places.{stop}
+use Rattle.fvn_forms.specs.Flat.{FlatTerm, fvar, plain}
+use Rattle.fvn_forms.specs.Canon.{canon, inst}
+use Rattle.fvn_forms.specs.Settled.{Settled}
+use Rattle.fvn_forms.specs.Good.{IsGood}
+use Rattle.fvn_forms.specs.LeastSort.{least_sort, IsFlatSubstitution}
+use Rattle.fvn_forms.proofs.Eval.{canon_settled, canon_respects, canon_plain, eval_apply}
+use Rattle.fvn_forms.proofs.ToCanon.{canon_of_kind, b_equal_iff_canon}
+use Rattle.fvn_forms.proofs.LeastSort.{eval_is_canon, least_sort_exact, least_sort_of_settled}
+use Rattle.fvn_flat.specs.Fits.{Fits, AllFit}
+use Rattle.fvn_flat.specs.Bindings.{Bindings, bound, value, form_or}
+use Rattle.fvn_flat.specs.Solving.{substitution}
+use Rattle.fvn_flat.proofs.Binding.{same_var_is, same_var_itself}
+use Rattle.fvn_match.specs.Matching.{IsMatcher, HasNoMatcher, Matches, BindsJust}
+use Rattle.fvn_match.specs.inner.Candidates.{Values, IsCandidate, pairs_of}
+use Rattle.fvn_match.specs.inner.Goals.{AllMake}
+
+-- variables of terms have known sorts
+mutual
+  pub occurs_known : (d : Declarations) (x : Var) (t : Term) (k : SortId) → HasKind d t k → Occurs x t → IsSort d x.sort
+  occurs_known d x (var y) k h o = subst (λ z. IsSort d z.sort) (sym o) h.0
+  occurs_known d x (app f ts) k h o = occurs_among_known d x ts (map (kind d) h.rank.args) h.args o
+
+  occurs_among_known : (d : Declarations) (x : Var) (ts : Terms) (ks : List SortId) → HaveKinds d ts ks → OccursAmong x ts → IsSort d x.sort
+  occurs_among_known d x none ks h o = absurd o
+  occurs_among_known d x (more t ts) [] h o = absurd h
+  occurs_among_known d x (more t ts) (k ∷ ks) h (inl o) = occurs_known d x t k h.0 o
+  occurs_among_known d x (more t ts) (k ∷ ks) h (inr o) = occurs_among_known d x ts ks h.1 o
+
+-- x is one of the variables
+abbrev pub IsAmong : List Var → Var → Type 0
+IsAmong [] x = ⊥
+IsAmong (y ∷ ys) x = (y ≡ x) ⊎ IsAmong ys x
+
+pub contained_is_among : (vars : List Var) (x : Var) → Contains vars x → IsAmong vars x
+contained_is_among [] x (k, l, e) = absurd (omega (arith, l))
+contained_is_among (y ∷ ys) x (zero, l, e) = inl e
+contained_is_among (y ∷ ys) x (suc k, l, e) = inr (contained_is_among ys x (k, omega (arith, l), e))
+
+pub among_is_contained : (vars : List Var) (x : Var) → IsAmong vars x → Contains vars x
+among_is_contained [] x h = absurd h
+among_is_contained (y ∷ ys) x (inl e) = (0, omega arith, e)
+among_is_contained (y ∷ ys) x (inr h) = let r = among_is_contained ys x h in (suc r.0, omega (arith, r.1), r.2)
+
+pub any_first : {A : Type 0} (P : A → Type 0) (x : A) (xs : List A) → P x → Any P (x ∷ xs)
+any_first P x xs h = (0, x, omega arith, refl, h)
+
+pub any_later : {A : Type 0} (P : A → Type 0) (x : A) (xs : List A) → Any P xs → Any P (x ∷ xs)
+any_later P x xs h = (suc h.0, h.1, omega (arith, h.2), h.3, h.4)
+
+-- what the values of variables bind
+module _ (c : Values) where
+  pub bound_among : (vars : List Var) (x : Var) → IsAmong vars x → bound (pairs_of vars c) x ≡ Some (c x)
+  bound_among [] x h = absurd h
+  bound_among (y ∷ ys) x h = go (same_var y x) refl h (λ k. bound_among ys x k)
+    where
+      go : (b : Bool) → same_var y x ≡ b → (y ≡ x) ⊎ IsAmong ys x → (IsAmong ys x → bound (pairs_of ys c) x ≡ Some (c x)) → (if b then Some (c y) else bound (pairs_of ys c) x) ≡ Some (c x)
+      go true e h k = ap (λ z. Some (c z)) (same_var_is y x e)
+      go false e (inl p) k = let z : same_var y x ≡ true = ap (same_var y) (sym p) ∙ same_var_itself y in cc
+      go false e (inr h) k = k h
+
+  pub among_bound : (vars : List Var) (x : Var) (t : FlatTerm) → bound (pairs_of vars c) x ≡ Some t → IsAmong vars x × (t ≡ c x)
+  among_bound [] x t e = cc
+  among_bound (y ∷ ys) x t e = go (same_var y x) refl e (λ k. among_bound ys x t k)
+    where
+      go : (b : Bool) → same_var y x ≡ b → (if b then Some (c y) else bound (pairs_of ys c) x) ≡ Some t → (bound (pairs_of ys c) x ≡ Some t → IsAmong ys x × (t ≡ c x)) → IsAmong (y ∷ ys) x × (t ≡ c x)
+      go true p q k = (inl (same_var_is y x p), (let z : c y ≡ t = cc in sym z) ∙ ap c (same_var_is y x p))
+      go false p q k = let r = k q in (inr r.0, r.1)
+
+module _ (d : Declarations) (good : IsGood d) where
+  -- a well-sorted substitution gives a candidate
+  pub candidate_of : (s : Substitution) → IsWellSorted d s → IsCandidate d (λ x. canon d (s x))
+  candidate_of s h = record {
+    flat = record { settled = λ x. canon_settled d (s x); keeps_kinds = λ x i. canon_of_kind d good.fits (s x) (kind d x.sort) (h.0 x i) };
+    sorts = λ x i. (least_sort_exact d good (s x) (kind d x.sort, h.0 x i) x.sort).0 (h.1 x);
+  }
+
+  pub matched_makes : (s : Substitution) (ps ts : List FlatTerm) → AllFit d ts → AllZip (λ p t. BEqual d (apply s p) t) (map plain ps) (map plain ts) → AllMake d ps ts (λ x. canon d (s x))
+  matched_makes s [] [] fit h = tt
+  matched_makes s [] (t ∷ ts) fit h = absurd h
+  matched_makes s (p ∷ ps) [] fit h = absurd h
+  matched_makes s (p ∷ ps) (t ∷ ts) fit h = (sym (eval_apply d fvar s (plain p)) ∙ canon_respects d h.0 ∙ canon_plain d t fit.0.flat, matched_makes s ps ts fit.1 h.1)
+
+  -- the values of a candidate, bound
+  module _ (c : Values) (candidate : IsCandidate d c) (vars : List Var) (known : (x : Var) → IsAmong vars x → IsSort d x.sort) where
+    bindings : Bindings
+    bindings = pairs_of vars c
+
+    pub bindings_candidate : IsCandidate d (value (pairs_of vars c))
+    bindings_candidate = record { flat = record { settled = settled; keeps_kinds = kinds }; sorts = sorts }
+      where
+        settled : (x : Var) → Settled d (value (pairs_of vars c) x)
+        settled x = go (bound (pairs_of vars c) x) refl
+          where
+            go : (o : Option FlatTerm) → bound (pairs_of vars c) x ≡ o → Settled d (form_or x o)
+            go None e = tt
+            go (Some t) e = subst (Settled d) (sym (among_bound c vars x t e).1) (candidate.flat.settled x)
+
+        kinds : (x : Var) → IsSort d x.sort → HasKind d (plain (value (pairs_of vars c) x)) (kind d x.sort)
+        kinds x i = go (bound (pairs_of vars c) x) refl
+          where
+            go : (o : Option FlatTerm) → bound (pairs_of vars c) x ≡ o → HasKind d (plain (form_or x o)) (kind d x.sort)
+            go None e = (i, refl)
+            go (Some t) e = subst (λ u. HasKind d (plain u) (kind d x.sort)) (sym (among_bound c vars x t e).1) (candidate.flat.keeps_kinds x i)
+
+        sorts : (x : Var) → IsSort d x.sort → AtOrBelow d (least_sort d (value (pairs_of vars c) x)) x.sort
+        sorts x i = go (bound (pairs_of vars c) x) refl
+          where
+            go : (o : Option FlatTerm) → bound (pairs_of vars c) x ≡ o → AtOrBelow d (least_sort d (form_or x o)) x.sort
+            go None e = same
+            go (Some t) e = subst (λ u. AtOrBelow d (least_sort d u) x.sort) (sym (among_bound c vars x t e).1) (candidate.sorts x i)
+
+    pub bindings_well_sorted : IsWellSorted d (substitution (pairs_of vars c))
+    bindings_well_sorted = (bindings_candidate.flat.keeps_kinds, λ x. go x (bound (pairs_of vars c) x) refl)
+      where
+        go : (x : Var) (o : Option FlatTerm) → bound (pairs_of vars c) x ≡ o → HasSort d (plain (form_or x o)) x.sort
+        go x None e = record { form = var x; equal = stop; gets = record { sort = x.sort; gets = refl; below = same } }
+        go x (Some t) e =
+            let r = among_bound c vars x t e in
+            let i = known x r.0 in
+            subst (λ u. HasSort d (plain u) x.sort) (sym r.1) ((least_sort_of_settled d good (c x) (candidate.flat.settled x) (kind d x.sort, candidate.flat.keeps_kinds x i) x.sort).1 (candidate.sorts x i))
+
+    value_among : (x : Var) → IsAmong vars x → value (pairs_of vars c) x ≡ c x
+    value_among x h = ap (form_or x) (bound_among c vars x h)
+
+    pub made_matches : (ps ts : List FlatTerm) → AllFit d ps → AllFit d ts → ((x : Var) → OccursInSome x (map plain ps) → IsAmong vars x) → AllMake d ps ts c → AllZip (λ p t. BEqual d (apply (substitution (pairs_of vars c)) p) t) (map plain ps) (map plain ts)
+    made_matches [] [] fp ft all h = tt
+    made_matches [] (t ∷ ts) fp ft all h = absurd h
+    made_matches (p ∷ ps) [] fp ft all h = absurd h
+    made_matches (p ∷ ps) (t ∷ ts) fp ft all h = (equal, made_matches ps ts fp.1 ft.1 (λ x o. all x (any_later (Occurs x) (plain p) (map plain ps) o)) h.1)
+      where
+        agree : apply (substitution (pairs_of vars c)) (plain p) ≡ apply (λ x. plain (c x)) (plain p)
+        agree = apply-agree (substitution (pairs_of vars c)) (λ x. plain (c x)) (plain p) (λ x o. ap plain (value_among x (all x (any_first (Occurs x) (plain p) (map plain ps) o))))
+
+        term : IsTerm d (apply (substitution (pairs_of vars c)) (plain p))
+        term = (fp.0.kinded.0, HasKind-apply d (substitution (pairs_of vars c)) bindings_well_sorted.0 (plain p) fp.0.kinded.0 fp.0.kinded.1)
+
+        equal : BEqual d (apply (substitution (pairs_of vars c)) (plain p)) (plain t)
+        equal =
+            (b_equal_iff_canon d good.fits (apply (substitution (pairs_of vars c)) (plain p)) (plain t) term ft.0.kinded).1
+            (ap (canon d) agree ∙ eval_is_canon d good c candidate.flat (plain p) ∙ h.0 ∙ sym (canon_plain d t ft.0.flat))
