@@ -1,83 +1,162 @@
 #!/usr/bin/env bash
-# Times of flattening and of comparing sums of 999 symbols as LLVM builds them: nested to the left, to the right and in a tree. Run at the top of the repository; it works in a copy, which it proves first.
+# Times of flattening sums of 999 symbols, nested to the left, to the right and in a tree, of the sum of their two flattened arguments, of comparing them and of replacing a variable in them, as LLVM builds them. Run at the top of the repository; it works in a copy, which it proves first.
 set -e
 here=$(cd "$(dirname "$0")/.." && pwd)
 there=$(mktemp -d)
 trap 'rm -rf "$there"' EXIT
 mkdir -p "$there/crates"
 cp "$here/HANDLES" "$there/HANDLES"
-for crate in fvn_base fvn_terms fvn_forms fvn_sorts fvn_lindio fvn_flat; do cp -r "$here/crates/$crate" "$there/crates/"; done
-grep -E '^fvn_(base|terms|forms|sorts|lindio|flat):' "$here/crates.txt" > "$there/crates.txt"
-cd "$there/crates/fvn_flat"
-rm -rf src/tests/showing.rt src/tests/substituting.rt proofs/tests/substituting must-fail
+for crate in fvn_base fvn_terms fvn_forms fvn_drafts fvn_sorts fvn_lindio fvn_flat fvn_flat_tests; do cp -r "$here/crates/$crate" "$there/crates/"; done
+grep -E '^fvn_(base|terms|forms|drafts|sorts|lindio|flat|flat_tests):' "$here/crates.txt" > "$there/crates.txt"
+cd "$there/crates/fvn_flat_tests"
+rm -rf must-fail src/tests/solving.rt
 cat > src/tests.rt <<'PROGRAM'
-//! Times of flattening and of comparing sums.
+//! Times of flattening, of comparing and of replacing variables.
+mod building;
 mod reading;
+mod showing;
+mod substituting;
 mod terms;
 
+use self::building::{flattened_again, nested, over_arguments, pair, tree};
 use self::reading::collected;
-use self::terms::{has_kind, is_term, kind_of, term_of, var_of};
-use crate::flatten;
+use self::substituting::{shown_instance, subst_of};
+use self::terms::{is_term, term_of};
+use fvn_flat::{Flat, Subst, flatten};
 use fvn_sorts::Signature;
-use fvn_terms::{Args, NoMemory, OpId, Plain};
-use std::alloc::{AllocError, AllocFailed, Global};
+use fvn_terms::{NoMemory, OpId, Plain, Var};
+use std::alloc::Global;
 use std::process::Abort;
 use std::time::Instant;
 
-const SUMS: &str = "A; f : -> A; g : -> A; h : A -> A; i : A A -> A [assoc comm]";
+ghost use Rattle.fvn_terms.specs.Plain.{term};
+ghost use Rattle.fvn_terms.specs.Signature.{IsTerm};
+ghost use Rattle.fvn_flat.specs.Fits.{Fits};
+ghost use Rattle.fvn_flat.specs.Bindings.{BindingsFit};
 
-fn leaf(alloc: Global, k: u16) -> Plain {
-    Plain::App(OpId(k.wrapping_mul(7) % 2), Args::from_vec(Vec::new(alloc)))
+/// A sum, a free pair and a variable's replacement.
+const SUMS: &str = "A; f : -> A; g : -> A; h : A A -> A [assoc comm]; i : A A -> A";
+
+fn told(rt: &HostRuntime, what: &str, start: Instant) {
+    if let Ok(time) = start.elapsed(rt) {
+        let _ = println!(rt; "flat: {what}: {} us", time.as_micros());
+    }
 }
 
-fn pair(alloc: Global, t: Plain, u: Plain) -> Result<Plain, NoMemory> {
-    let mut items = Vec::new(alloc);
-    items.push(t)?;
-    items.push(u)?;
-    Ok(Plain::App(OpId(3), Args::from_vec(items)))
+/// A hundred times the flat form.
+fn flattenings(rt: &HostRuntime, sig: &Signature, t: &Plain) -> Result<(), NoMemory>
+    requires { IsTerm sig.now (term t.now) }
+{
+    if let Ok(start) = Instant::now(rt) {
+        for _ in 0..100u8 {
+            let _flat = flatten(rt.alloc(), sig, t)?;
+        }
+        told(rt, "flattened", start);
+    }
+    Ok(())
 }
 
-fn nested(alloc: Global, left: bool) -> Result<Plain, NoMemory> {
-    let mut t = leaf(alloc, 0);
-    for k in 1..500u16 {
-        let u = leaf(alloc, k);
-        t = if left { pair(alloc, t, u)? } else { pair(alloc, u, t)? };
+/// A hundred times the arguments flattened, and what the operator gives over them.
+fn sums(rt: &HostRuntime, sig: &Signature, t: &Plain) -> Result<(), NoMemory>
+    requires { IsTerm sig.now (term t.now) }
+{
+    if let Ok(start) = Instant::now(rt) {
+        for _ in 0..100u8 {
+            let _flat = over_arguments(rt.alloc(), sig, t)?;
+        }
+        told(rt, "argument by argument", start);
     }
-    Ok(t)
+    Ok(())
 }
 
-/// How many microseconds a hundred times of flattening take, and as many comparisons.
-fn timed(rt: &HostRuntime, sig: &Signature, t: &Plain) -> Result<(u128, u128, bool), NoMemory> {
-    let alloc = rt.alloc();
-    if !is_term(sig, t) {
-        return Ok((0, 0, false));
+/// A hundred comparisons.
+fn comparisons(rt: &HostRuntime, t: &Flat, u: &Flat) {
+    if let Ok(start) = Instant::now(rt) {
+        let mut equal = true;
+        for _ in 0..100u8 {
+            equal = equal && t.same(u);
+        }
+        told(rt, if equal { "compared" } else { "compared, other" }, start);
     }
-    let start = match Instant::now(rt) {
-        Ok(start) => start,
-        Err(_) => return Ok((0, 0, false)),
-    };
-    let first = flatten(alloc, sig, t)?;
-    for _ in 0..99u8 {
-        let _again = flatten(alloc, sig, t)?;
+}
+
+/// A hundred times the variable replaced.
+fn replacements(rt: &HostRuntime, sig: &Signature, s: &Subst, t: &Flat) -> Result<(), NoMemory>
+    requires subst { BindingsFit sig.now s.now }
+    requires term { Fits sig.now t.now }
+{
+    if let Ok(start) = Instant::now(rt) {
+        for _ in 0..100u8 {
+            let _instance = s.apply(rt.alloc(), sig, t)?;
+        }
+        told(rt, "replaced", start);
     }
-    let flat = match start.elapsed(rt) {
-        Ok(time) => time.as_micros(),
-        Err(_) => 0,
-    };
-    let copy = first.copy(alloc)?;
-    let mut equal = true;
-    let second = match Instant::now(rt) {
-        Ok(start) => start,
-        Err(_) => return Ok((flat, 0, false)),
-    };
-    for _ in 0..100u8 {
-        equal = equal && first.same(&copy);
+    Ok(())
+}
+
+fn shown(rt: &HostRuntime, sig: &Signature, what: &str, t: &Plain) -> Result<(), NoMemory> {
+    let _ = println!(rt; "flat: {what}");
+    if is_term(sig, t) {
+        flattenings(rt, sig, t)?;
+        sums(rt, sig, t)?;
+        let u = flatten(rt.alloc(), sig, t)?;
+        let copy = u.copy(rt.alloc())?;
+        comparisons(rt, &u, &copy);
+        if let Some(s) = subst_of(rt.alloc(), sig, "A0 f")? {
+            replacements(rt, sig, &s, &u)?;
+        }
     }
-    let compared = match second.elapsed(rt) {
-        Ok(time) => time.as_micros(),
-        Err(_) => 0,
+    Ok(())
+}
+
+fn with_variable(alloc: Global, op: OpId, t: Plain) -> Result<Plain, NoMemory> {
+    let x = Var {
+        name: 0,
+        sort: fvn_terms::SortId(0),
+        fresh: false,
     };
-    Ok((flat, compared, equal))
+    pair(alloc, op, t, Plain::Var(x))
+}
+
+fn sums_of_constants(rt: &HostRuntime, sig: &Signature) -> Result<(), NoMemory> {
+    let left = nested(rt.alloc(), true)?;
+    shown(rt, sig, "to the left", &left)?;
+    let right = nested(rt.alloc(), false)?;
+    shown(rt, sig, "to the right", &right)?;
+    let even = tree(rt.alloc(), 500)?;
+    shown(rt, sig, "in a tree", &even)
+}
+
+fn sums_and_a_variable(rt: &HostRuntime, sig: &Signature) -> Result<(), NoMemory> {
+    let one = nested(rt.alloc(), false)?;
+    let inside = with_variable(rt.alloc(), OpId(2), one)?;
+    shown(rt, sig, "one variable in the sum", &inside)?;
+    let other = nested(rt.alloc(), false)?;
+    let beside = with_variable(rt.alloc(), OpId(3), other)?;
+    shown(rt, sig, "one variable beside the sum", &beside)
+}
+
+fn used(alloc: Global, sig: &Signature) -> Result<bool, NoMemory> {
+    match term_of(alloc, sig, "f A0 h")? {
+        Some(t) => {
+            if !is_term(sig, &t) {
+                return Ok(false);
+            }
+            let u = flatten(alloc, sig, &t)?;
+            let again = flattened_again(alloc, sig, &u)?;
+            let text = shown_instance(alloc, sig, "A0 f | A0 A0 h")?;
+            Ok(again.same(&u) && !text.is_empty())
+        }
+        None => Ok(false),
+    }
+}
+
+fn rows(rt: &HostRuntime, sig: &Signature) -> Result<(), NoMemory> {
+    for _ in 0..5u8 {
+        sums_of_constants(rt, sig)?;
+        sums_and_a_variable(rt, sig)?;
+    }
+    Ok(())
 }
 
 #[test]
@@ -85,18 +164,12 @@ fn times(rt: HostRuntime) -> Result<(), NoMemory> {
     let alloc = rt.alloc();
     match collected(&rt, alloc, SUMS)?.finish(alloc) {
         Ok(sig) => {
-            for left in [true, false] {
-                let t = nested(alloc, left)?;
-                let (flat, compared, equal) = timed(&rt, &sig, &t)?;
-                let _ = println!(rt; "flat: to the left {left}, 100 times: flattened {flat} us, compared {compared} us, equal {equal}");
-            }
-            if let Some(t) = term_of(alloc, &sig, "f A0 i")? {
-                let _ = println!(rt; "flat: read {}, kind {}, {}", is_term(&sig, &t), has_kind(&sig, &t, kind_of(&sig, &t)), var_of("A0").name);
-            }
+            rows(&rt, &sig)?;
+            assert!(rt; used(alloc, &sig)?);
         }
         Err(_) => assert!(rt; false, "no signature"),
     }
     Ok(())
 }
 PROGRAM
-rt test 2>&1 | grep -E 'flat: |not proved|no proof|error|test result' | sed 's/^ *//'
+rt test 2>&1 | grep -aE 'flat: |not proved|no proof|error|test result' | sed 's/^ *//'

@@ -1,5 +1,5 @@
 -- What substitutions bind that are made of others.
-use Rattle.std.proofs.Common.{◌≡◌, ℕ, ◌+◌, ◌<◌, Bool, true, false, List, [], ◌∷◌, ◌++◌, length, take, get_or, Option, Some, None, refl, sym, ap, ◌∙◌, subst}
+use Rattle.std.proofs.Common.{◌≡◌, ℕ, zero, suc, ◌+◌, ◌<◌, Bool, true, false, List, [], ◌∷◌, ◌++◌, length, take, get_or, Option, Some, None, refl, sym, ap, ◌∙◌, subst, arith}
 use Rattle.std.specs.Prelude.{not, if◌then◌else◌, is_some, Contains}
 use Rattle.std.specs.Option.{option_map}
 use Rattle.std.proofs.lemmas.List.{map_more}
@@ -16,9 +16,7 @@ use Rattle.fvn_forms.proofs.Instances.{inst-inst}
 use Rattle.fvn_forms.proofs.LeastSort.{inst_of_kind}
 use Rattle.fvn_flat.specs.Fits.{Fits}
 use Rattle.fvn_flat.specs.Bindings.{Bindings, bound, form_or, value, BindsOnce, BindingsFit, changed, chosen, is_free, composed, IsOneThenOther, IsRestriction}
-use Rattle.fvn_flat.specs.inner.Rebuilt.{rebuilt}
 use Rattle.fvn_flat.proofs.Binding.{same_var_is, or_else, bound-append, bound_first, Apart, BindsOnce-append}
-use Rattle.fvn_flat.proofs.Instances.{rebuilt_is_inst}
 use Rattle.fvn_flat.specs.Variables.{listed}
 use Rattle.fvn_flat.proofs.Listed.{listed_if, listed_only}
 
@@ -110,13 +108,13 @@ module _ (d : Declarations) where
       go true e = subst (λ y. Settled d (value s y)) (same_var_is p.0 x e) (subst (λ o. Settled d (form_or p.0 o)) (sym h.0) tt)
       go false e = subst (λ b. Settled d (form_or x (if b then Some p.1 else bound s x))) e (k x)
 
-  -- the terms are built as instances
-  pub changed_is : (c : Bindings) → SettledValues d (value c) → (s : Bindings) → BindsOnce s → SettledValues d (value s) → changed (rebuilt d (value c)) s ≡ changed (inst d (value c)) s
-  changed_is c hc [] h k = refl
-  changed_is c hc (p ∷ s) h k =
-      let first : Settled d p.1 = subst (λ o. Settled d (form_or p.0 o)) (bound_first p s) (k p.0) in
-      ap (λ u. (p.0, u) ∷ changed (rebuilt d (value c)) s) (rebuilt_is_inst d (value c) hc p.1 first)
-      ∙ ap (λ l. (p.0, inst d (value c) p.1) ∷ l) (changed_is c hc s h.1 (tail_settled p s h k))
+  -- the term of each pair
+  pub pair_settled : (s : Bindings) → BindsOnce s → SettledValues d (value s) → (i : ℕ) (p : Var × FlatTerm) → i < length s → p ≡ get_or s i p → Settled d p.1
+  pair_settled [] h k i p within is = absurd (omega arith)
+  pair_settled (q ∷ s) h k zero p within is =
+      let first : Settled d q.1 = subst (λ o. Settled d (form_or q.0 o)) (bound_first q s) (k q.0) in
+      subst (λ (r : Var × FlatTerm). Settled d r.1) (sym is) first
+  pair_settled (q ∷ s) h k (suc i) p within is = pair_settled s h.1 (tail_settled q s h k) i p (omega arith) is
 
 pub chosen_is_restriction : (vars : List Var) (s : Bindings) → IsRestriction vars s (chosen (listed vars) s)
 chosen_is_restriction vars s = record {

@@ -9,11 +9,11 @@ use Rattle.fvn_terms.specs.declared.declarations.Axioms.{Axioms}
 use Rattle.fvn_terms.specs.declared.declarations.Axioms.TheVariants.{Free, Comm, AssocComm, AssocCommId}
 use Rattle.fvn_terms.specs.declared.declarations.Rank.{Rank}
 use Rattle.fvn_terms.specs.declared.declarations.Declarations.{Declarations}
-use Rattle.fvn_terms.specs.Term.{Term, app}
+use Rattle.fvn_terms.specs.Term.{Term, Terms, app, none, more}
 use Rattle.fvn_terms.specs.Equality.{IsAssociative, BEqual}
 use Rattle.fvn_terms.specs.Signature.{kind, declared, axioms, IsSort, HasKind, HaveKinds, IsTerm}
 use Rattle.fvn_forms.specs.Flat.{FlatTerm, FlatTerms, fvar, fapp, fnone, fmore, fpack, funpack, nest, nest_all, plain, plain_all}
-use Rattle.fvn_forms.specs.Canon.{parts, all_parts, empty_sum, sum, build, canon}
+use Rattle.fvn_forms.specs.Canon.{parts, all_parts, empty_sum, sum, build, eval_all, canon}
 use Rattle.fvn_forms.specs.Settled.{Settled, SettledAll}
 use Rattle.fvn_forms.specs.FitsKinds.{FitsKinds}
 use Rattle.fvn_forms.proofs.InOrder.{each_append}
@@ -119,6 +119,40 @@ module _ (d : Declarations) where
     -- what an operator builds over forms that it takes fits
     pub build_fits : (l : List FlatTerm) → AllFit d l → Takes d f l → Fits d (build d f l)
     build_fits l h j = record { flat = build_settled d f l (all_settled l h); kinded = (kind d j.rank.result, build_has_kind l (all_settled l h) j) }
+
+  module _ (fits : FitsKinds d) where
+    forms_of_kinds : (ts : Terms) (ks : List SortId) → HaveKinds d ts ks → HaveKinds d (plain_all (fpack (eval_all d fvar ts))) ks
+    forms_of_kinds none [] h = tt
+    forms_of_kinds none (k ∷ ks) h = absurd h
+    forms_of_kinds (more t ts) [] h = absurd h
+    forms_of_kinds (more t ts) (k ∷ ks) h = (canon_of_kind d fits t k h.0, forms_of_kinds ts ks h.1)
+
+    forms_fit : (ts : Terms) (ks : List SortId) → HaveKinds d ts ks → AllFit d (eval_all d fvar ts)
+    forms_fit none ks h = tt
+    forms_fit (more t ts) [] h = absurd h
+    forms_fit (more t ts) (k ∷ ks) h = (record { flat = canon_settled d t; kinded = (k, canon_of_kind d fits t k h.0) }, forms_fit ts ks h.1)
+
+    two_forms : (ts : Terms) (k : SortId) → HaveKinds d ts (k ∷ k ∷ []) → (2 ≤ length (eval_all d fvar ts)) × AllOfKind d k (eval_all d fvar ts)
+    two_forms none k h = absurd h
+    two_forms (more t none) k h = absurd h.1
+    two_forms (more t (more u none)) k h = (omega arith, (canon_of_kind d fits t k h.0, (canon_of_kind d fits u k h.1.0, tt)))
+    two_forms (more t (more u (more v vs))) k h = absurd h.1.1
+
+    -- the flat forms of a term's arguments fit, and its operator takes them
+    pub arguments_fit : (f : OpId) (ts : Terms) → IsTerm d (app f ts) → AllFit d (eval_all d fvar ts)
+    arguments_fit f ts h = forms_fit ts _ h.1.args
+
+    pub takes_arguments : (f : OpId) (ts : Terms) → IsTerm d (app f ts) → Takes d f (eval_all d fvar ts)
+    takes_arguments f ts h = record { rank = h.1.rank; listed = h.1.listed; args = go (axioms d f) refl }
+      where
+        summed : IsAssociative (axioms d f) → (2 ≤ length (eval_all d fvar ts)) × AllOfKind d (kind d h.1.rank.result) (eval_all d fvar ts)
+        summed assoc = two_forms ts (kind d h.1.rank.result) (subst (HaveKinds d ts) (fits.associative f h.1.rank assoc h.1.listed) h.1.args)
+
+        go : (a : Axioms) → axioms d f ≡ a → TakesAsDeclared d a h.1.rank (eval_all d fvar ts)
+        go Free e = forms_of_kinds ts _ h.1.args
+        go Comm e = forms_of_kinds ts _ h.1.args
+        go AssocComm e = summed (rw e tt)
+        go (AssocCommId o) e = summed (rw e tt)
 
   -- the flat form of a term fits
   pub canon_fits : FitsKinds d → (t : Term) → IsTerm d t → Fits d (canon d t)

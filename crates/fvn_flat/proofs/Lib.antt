@@ -3,23 +3,27 @@ mod Symbols
 pub mod Occurrences
 mod Comparisons
 mod Views
+pub mod Smaller
 mod SortedLists
 mod Summands
 mod Nesting
-mod Evaluation
+pub mod Evaluation
+mod Gathering
 pub mod Fitting
 pub mod Rebuilding
-mod Instances
+pub mod Instances
 pub mod Binding
 mod Listed
 pub mod Composing
 mod Renamings
 mod SortsOfFlats
-mod VariableLists
+pub mod VariableLists
 mod OneAnswer
 mod PlainAnswers
-mod GroundProblems
 mod Examples
 mod ExampleLists
 mod ExampleSystems
 mod ExampleSums
+mod ExampleRules
+mod ExamplePlaces
+mod ExampleSuccessors

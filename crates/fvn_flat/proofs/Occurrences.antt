@@ -1,11 +1,13 @@
 -- Where a variable occurs in a flat form.
-use Rattle.std.proofs.Common.{◌≡◌, ℕ, ◌+◌, ◌<◌, Bool, true, false, List, [], ◌∷◌, length, drop, get_or, sym, ap, ◌∙◌, subst, inl, inr, add-one}
+use Rattle.std.proofs.Common.{◌≡◌, ℕ, ◌+◌, ◌<◌, Bool, true, false, List, [], ◌∷◌, length, drop, get_or, None, sym, ap, ◌∙◌, subst, inl, inr, add-one}
 use Rattle.std.specs.Prelude.{◌↔◌}
 use Rattle.std.proofs.Math.Seq.{drop-cons}
 use Rattle.fvn_terms.specs.declared.plain.Var.{Var}
 use Rattle.fvn_terms.specs.declared.plain.OpId.{OpId}
 use Rattle.fvn_terms.specs.Substitution.{Occurs, OccursAmong}
-use Rattle.fvn_forms.specs.Flat.{FlatTerm, FlatTerms, fapp, fnone, fmore, fpack, nest, plain, plain_all}
+use Rattle.fvn_forms.specs.Flat.{FlatTerm, FlatTerms, fvar, fapp, fnone, fmore, fpack, nest, plain, plain_all}
+use Rattle.fvn_forms.proofs.Sums.{fpack-funpack}
+use Rattle.fvn_flat.specs.Forms.{variable_of, args_of}
 
 -- the variable occurs in one of the forms
 abbrev pub OccursIn : Var → List FlatTerm → Type 0
@@ -27,6 +29,11 @@ pub occurs_in_app : (x : Var) (f : OpId) (joined : Bool) (ts : FlatTerms) → Oc
 occurs_in_app x f false ts = (λ h. h, λ h. h)
 occurs_in_app x f true fnone = (λ h. h, λ h. h)
 occurs_in_app x f true (fmore t ts) = (out_of_nest x f t ts, into_nest x f t ts)
+
+-- of a form that is no variable, in one of its arguments
+pub occurs_in_args : (x : Var) (t : FlatTerm) → variable_of t ≡ None → Occurs x (plain t) ↔ OccursIn x (args_of t)
+occurs_in_args x (fvar y) e = cc
+occurs_in_args x (fapp f joined ts) e = subst (λ us. Occurs x (plain (fapp f joined ts)) ↔ OccursAmong x (plain_all us)) (sym (fpack-funpack ts)) (occurs_in_app x f joined ts)
 
 first_dropped : (l : List FlatTerm) (i : ℕ) (t : FlatTerm) → i < length l → t ≡ get_or l i t → drop i l ≡ t ∷ drop (i + 1) l
 first_dropped l i t within is = rw add-one (drop-cons l i t within) ∙ ap (λ u. u ∷ drop (i + 1) l) (sym is)

@@ -1,6 +1,6 @@
 -- The least sort of a form that fits, from the sorts of its arguments.
-use Rattle.std.proofs.Common.{◌≡◌, ℕ, zero, suc, ◌+◌, ◌<◌, ◌≤◌, Bool, true, false, List, [], ◌∷◌, ◌++◌, map, length, take, get_or, Some, refl, sym, ap, ◌∙◌, subst, arith}
-use Rattle.std.specs.List.{AllByRecursion, fold}
+use Rattle.std.proofs.Common.{◌≡◌, ℕ, ◌+◌, ◌<◌, ◌≤◌, Bool, true, false, List, [], ◌∷◌, ◌++◌, map, length, take, get_or, Some, refl, sym, ap, ◌∙◌, subst, arith}
+use Rattle.std.specs.List.{fold}
 use Rattle.std.proofs.lemmas.List.{map_more, length-map}
 use Rattle.fvn_terms.specs.declared.plain.Var.{Var}
 use Rattle.fvn_terms.specs.declared.plain.OpId.{OpId}
@@ -15,23 +15,15 @@ use Rattle.fvn_forms.proofs.Sums.{funpack-fpack}
 use Rattle.fvn_forms.proofs.Eval.{canon_plain}
 use Rattle.fvn_forms.proofs.LeastSort.{least_sort_is_least}
 use Rattle.fvn_flat.specs.Fits.{Fits, AllFit}
-use Rattle.fvn_flat.specs.inner.Weight.{places, places_all}
+use Rattle.fvn_flat.specs.Weight.{places}
 use Rattle.fvn_flat.specs.inner.SumSorts.{with_summand, sort_so_far, whole_sort}
 use Rattle.fvn_flat.proofs.Fitting.{args_fit}
+use Rattle.fvn_flat.proofs.Instances.{each_at}
+use Rattle.fvn_flat.proofs.Smaller.{places_at}
 
 sorts_of_list : (d : Declarations) (env : Var → SortId) (l : List FlatTerm) → sorts_in d env (fpack l) ≡ map (sort_in d env) l
 sorts_of_list d env [] = refl
 sorts_of_list d env (t ∷ l) = ap (λ ss. sort_in d env t ∷ ss) (sorts_of_list d env l)
-
-each_at : {A : Type 0} (P : A → Type 0) (l : List A) → AllByRecursion P l → (i : ℕ) (t : A) → i < length l → t ≡ get_or l i t → P t
-each_at P [] h i t within is = absurd (omega arith)
-each_at P (u ∷ l) h zero t within is = subst P (sym is) h.0
-each_at P (u ∷ l) h (suc i) t within is = each_at P l h.1 i t (omega arith) is
-
-pub places_at : (l : List FlatTerm) (i : ℕ) (t : FlatTerm) → i < length l → t ≡ get_or l i t → places t ≤ places_all (fpack l)
-places_at [] i t within is = absurd (omega arith)
-places_at (u ∷ l) zero t within is = let e = ap places is in omega arith
-places_at (u ∷ l) (suc i) t within is = let e = places_at l i t (omega arith) is in omega arith
 
 sorts_in-fpack : (d : Declarations) (env : Var → SortId) (l : List FlatTerm) → sorts_in d env (fpack l) ≡ map (sort_in d env) l
 sorts_in-fpack d env [] = refl

@@ -2,8 +2,9 @@
 use Rattle.std.specs.Prelude.{◌≡◌, Bool, not, if◌then◌else◌, List, [], ◌∷◌, ◌++◌, map, filter, Contains, Option, Some, None, is_some}
 use Rattle.fvn_terms.specs.declared.plain.Var.{Var}
 use Rattle.fvn_terms.specs.declared.declarations.Declarations.{Declarations}
-use Rattle.fvn_terms.specs.Substitution.{same_var}
-use Rattle.fvn_forms.specs.Flat.{FlatTerm, fvar}
+use Rattle.fvn_terms.specs.Substitution.{apply, same_var}
+use Rattle.fvn_terms.specs.Equality.{BEqual}
+use Rattle.fvn_forms.specs.Flat.{FlatTerm, fvar, plain}
 use Rattle.fvn_forms.specs.Canon.{inst}
 use Rattle.fvn_forms.specs.LeastSort.{IsFlatSubstitution}
 
@@ -34,6 +35,10 @@ BindsOnce (p ∷ s) = (bound s p.0 ≡ None) × BindsOnce s
 abbrev pub BindingsFit : Declarations → Bindings → Type 0
 BindingsFit d s = IsFlatSubstitution d (value s)
 
+-- the plain term of t with all bound variables replaced is equal modulo the axioms to that of u
+abbrev pub IsInstanceBy : Declarations → Bindings → FlatTerm → FlatTerm → Type 0
+IsInstanceBy d s t u = BEqual d (apply (λ x. plain (value s x)) (plain t)) (plain u)
+
 -- the pairs with their terms changed
 abbrev pub changed : (FlatTerm → FlatTerm) → Bindings → Bindings
 changed g s = map (λ p. (p.0, g p.1)) s
@@ -50,7 +55,7 @@ is_free s x = not (is_some (bound s x))
 abbrev pub composed : Declarations → Bindings → Bindings → Bindings
 composed d s c = changed (inst d (value c)) s ++ chosen (is_free s) c
 
--- r is s and then c, on each variable
+-- r is s and then c, on every form
 abbrev pub IsOneThenOther : Declarations → Bindings → Bindings → Bindings → Type 0
 IsOneThenOther d s c r = (t : FlatTerm) → inst d (value r) t ≡ inst d (value c) (inst d (value s) t)
 

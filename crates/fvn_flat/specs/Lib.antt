@@ -1,5 +1,6 @@
 -- What contracts of flat terms and substitutions speak of.
 pub mod Forms
+pub mod Weight
 pub mod Fits
 pub mod Bindings
 pub mod Variables

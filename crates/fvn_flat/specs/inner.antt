@@ -1,9 +1,9 @@
 -- What mirrors the code.
-pub mod Weight
 pub mod Node
 pub mod Falls
 pub mod Own
 pub mod Summands
-pub mod Rebuilt
+pub mod Gathered
+pub mod SoFar
 pub mod SumSorts
 pub mod FlatCode

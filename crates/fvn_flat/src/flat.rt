@@ -36,7 +36,7 @@ impl Model for Flat {
     ghost coded = { coded_flat };
 
     ghost use Rattle.fvn_flat.specs.inner.Node.{form_of};
-    ghost use Rattle.fvn_flat.specs.inner.Weight.{places};
+    ghost use Rattle.fvn_flat.specs.Weight.{places};
 
     ghost view = { λ t. form_of t.node };
 

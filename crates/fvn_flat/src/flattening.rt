@@ -1,33 +1,89 @@
 //! Plain terms in flat form, and back.
-ghost use Rattle.std.specs.Prelude.{◌≡◌, ◌<◌, length, IfOk};
+ghost use Rattle.std.specs.Prelude.{◌≡◌, ◌++◌, ◌∷◌, [], MatchOption, IfOk, OnOk};
 ghost use Rattle.fvn_terms.specs.Plain.{term, terms};
 ghost use Rattle.fvn_terms.specs.Signature.{IsTerm};
 ghost use Rattle.fvn_terms.specs.Equality.{two, BEqual};
 ghost use Rattle.fvn_forms.specs.Flat.{plain, nest_all};
 ghost use Rattle.fvn_forms.specs.Canon.{canon};
 ghost use Rattle.fvn_flat.specs.Fits.{Fits};
+ghost use Rattle.fvn_flat.specs.inner.Gathered.{joins, gathered_of, gathered, IsNested};
 
 use crate::building::built;
 use crate::flat::{Flat, Node};
 use fvn_sorts::Signature;
-use fvn_terms::{Args, NoMemory, OpId, Plain};
+use fvn_terms::{Args, Axioms, NoMemory, OpId, Plain};
 use std::alloc::Global;
 
+// Whether an operator with these axioms joins nested sums.
+fn joins(axioms: Axioms) -> bool
+    ensures { result ≡ joins axioms }
+{
+    match axioms {
+        Axioms::Free => false,
+        Axioms::Comm => false,
+        Axioms::AssocComm => true,
+        Axioms::AssocCommId(_) => true,
+    }
+}
+
+// The arguments of a nested sum of the operator.
+fn nested_args<'a>(sig: &Signature, f: OpId, t: &'a Plain) -> Option<&'a Args>
+    ensures { MatchOption result
+        (gathered_of sig.now f (term t.now) ≡ canon sig.now (term t.now) ∷ [])
+        (λ us. IsNested sig.now f (term t.now) us.now) }
+{
+    match t {
+        Plain::Var(_) => None,
+        Plain::App(g, us) => {
+            if us.items.is_empty() {
+                return None;
+            }
+            if f != *g {
+                return None;
+            }
+            if joins(sig.axioms(f)) { Some(us) } else { None }
+        }
+    }
+}
+
 // The flat form, also of what is no well-kinded term.
+#[cycle(flat_form)]
 fn flat_form(alloc: Global, sig: &Signature, t: &Plain) -> Result<Flat, NoMemory>
     ensures { IfOk result (λ u. u ≡ canon sig.now (term t.now)) }
 {
     match t {
         Plain::Var(x) => Ok(Flat::var(*x)),
         Plain::App(f, us) => {
-            let mut args = Vec::new(alloc);
-            for u in &us.items {
-                args.push(flat_form(alloc, sig, u)?)?;
-            }
-            let whole = built(alloc, sig, *f, args)?;
+            let mut forms = Vec::new(alloc);
+            add_forms(alloc, sig, *f, &mut forms, us)?;
+            let whole = built(alloc, sig, *f, forms)?;
             Ok(whole)
         }
     }
+}
+
+// Adds the flat forms of the arguments; of a nested sum, in place of its own form, those of its arguments,
+// so that all summands are put in order once.
+#[cycle(flat_form)]
+fn add_forms(
+    alloc: Global,
+    sig: &Signature,
+    f: OpId,
+    forms: &mut Vec<Flat>,
+    us: &Args,
+) -> Result<(), NoMemory>
+    ensures { OnOk result (forms.new.items ≡ forms.old.items ++ gathered sig.now f us.now) }
+{
+    for u in &us.items {
+        match nested_args(sig, f, u) {
+            Some(vs) => add_forms(alloc, sig, f, forms, vs)?,
+            None => {
+                let form = flat_form(alloc, sig, u)?;
+                forms.push(form)?;
+            }
+        }
+    }
+    Ok(())
 }
 
 /// The flat form of a term.

@@ -4,16 +4,13 @@
 mod building;
 mod flat;
 mod flattening;
-#[cfg(test)]
-mod ground_solver;
 mod laws;
 mod order;
 mod renaming;
+mod replacing;
 mod solver;
 mod sorting;
 mod substitution;
-#[cfg(test)]
-mod tests;
 
 pub use flat::Flat;
 pub use flattening::flatten;
@@ -22,5 +19,7 @@ pub use laws::{
     flattened_pairs_have_one_answer,
 };
 pub use renaming::{MOST_RENAMED, rename_apart};
-pub use solver::{AxiomSolver, Normal, Pairs, SizeCause, SolveEnd, Solved, SolvedList};
+pub use solver::{
+    AxiomSolver, Normal, Pairs, SizeCause, SolveEnd, Solved, SolvedList, all_answers_shared,
+};
 pub use substitution::{Subst, all_shared};

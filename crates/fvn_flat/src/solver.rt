@@ -7,7 +7,7 @@ ghost use Rattle.fvn_flat.specs.Solving.{IsGiven, AreUnifiers, AreDrawn, AreBind
 ghost use Rattle.fvn_base.specs.declared.limits.TheConstants.{NEXT_FRESH};
 
 use crate::flat::Flat;
-use crate::substitution::Subst;
+use crate::substitution::{Subst, shared};
 use fvn_base::Seq;
 use fvn_lindio::System;
 use fvn_terms::{NoMemory, OpId, Var};
@@ -69,6 +69,13 @@ pub enum Normal {
     Steps(Flat, Flat),
     /// A term with more symbols than were allowed.
     Size(Flat),
+}
+
+/// Problems, answers and normal forms may be sent to and shared between threads.
+pub fn all_answers_shared(problem: &Pairs, solved: &Solved, normal: &Normal) {
+    shared(problem);
+    shared(solved);
+    shared(normal);
 }
 
 /// A solver modulo the axioms. It may be shared between threads.

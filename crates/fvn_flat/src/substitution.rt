@@ -3,13 +3,11 @@ ghost use Rattle.std.specs.Prelude.{◌≡◌, ◌<◌, ◌++◌, ◌∷◌, [],
 ghost use Rattle.fvn_terms.specs.Signature.{HasKind, IsSort, kind};
 ghost use Rattle.fvn_forms.specs.Flat.{plain};
 ghost use Rattle.fvn_forms.specs.Canon.{inst};
-ghost use Rattle.fvn_forms.specs.Settled.{Settled};
+ghost use Rattle.fvn_forms.specs.Settled.{SettledValues};
 ghost use Rattle.fvn_flat.specs.Fits.{Fits};
-ghost use Rattle.fvn_flat.specs.Bindings.{bound, value, BindsOnce, BindingsFit, changed, chosen, is_free, composed, IsOneThenOther, IsRestriction};
-ghost use Rattle.fvn_flat.specs.inner.Rebuilt.{rebuilt};
+ghost use Rattle.fvn_flat.specs.Bindings.{bound, value, BindsOnce, BindingsFit, IsInstanceBy, changed, chosen, is_free, composed, IsOneThenOther, IsRestriction};
 
-use crate::building::built;
-use crate::flat::{Flat, Node};
+use crate::flat::Flat;
 use crate::renaming::is_listed;
 use fvn_sorts::Signature;
 use fvn_terms::{NoMemory, Var};
@@ -106,31 +104,13 @@ impl Subst {
         Ok(Subst { pairs })
     }
 
-    // The operators over the instances of the arguments.
-    fn instance(&self, alloc: Global, sig: &Signature, t: &Flat) -> Result<Flat, NoMemory>
-        ensures { IfOk result (λ u. u ≡ rebuilt sig.now (value self.now) t.now) }
-    {
-        match &t.node {
-            Node::Var(x) => match self.get(*x) {
-                Some(u) => u.copy(alloc),
-                None => Ok(Flat::var(*x)),
-            },
-            Node::App(f, _, ts) => {
-                let mut args = Vec::new(alloc);
-                for u in ts {
-                    args.push(self.instance(alloc, sig, u)?)?;
-                }
-                let whole = built(alloc, sig, *f, args)?;
-                Ok(whole)
-            }
-        }
-    }
-
     /// The flat form of the term with all bound variables replaced at once.
     pub fn apply(&self, alloc: Global, sig: &Signature, t: &Flat) -> Result<Flat, NoMemory>
         requires subst { BindingsFit sig.now self.now }
         requires term { Fits sig.now t.now }
+        // The flat form, which is equal modulo the axioms to the instance of the plain term.
         ensures exact { IfOk result (λ u. u ≡ inst sig.now (value self.now) t.now) }
+        ensures equal { IfOk result (IsInstanceBy sig.now self.now t.now) }
         ensures fits { IfOk result (Fits sig.now) }
     {
         sig.recall_good();
@@ -152,7 +132,10 @@ impl Subst {
         sig: &Signature,
         later: &Subst,
     ) -> Result<Vec<(Var, Flat)>, NoMemory>
-        ensures { IfOk result (λ pairs. pairs.items ≡ changed (rebuilt sig.now (value later.now)) self.now) }
+        requires once { BindsOnce self.now }
+        requires first { SettledValues sig.now (value self.now) }
+        requires then { SettledValues sig.now (value later.now) }
+        ensures { IfOk result (λ pairs. pairs.items ≡ changed (inst sig.now (value later.now)) self.now) }
     {
         let mut pairs = Vec::new(alloc);
         for (x, t) in &self.pairs {
@@ -218,7 +201,8 @@ impl Subst {
     }
 }
 
-fn shared<T: Send + Sync>(_value: &T) {}
+// Tells that the type may be sent and shared.
+pub(crate) fn shared<T: Send + Sync>(_value: &T) {}
 
 /// Flat terms and substitutions may be sent to and shared between threads.
 pub fn all_shared(term: &Flat, subst: &Subst) {

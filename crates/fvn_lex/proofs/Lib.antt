@@ -1,11 +1,11 @@
--- Lemmas on bytes, on the reading of a text and on its rows of parts.
+-- Lemmas on bytes, on the reading of a text and on its rows of parts; the public ones are for callers.
 mod ByteLemmas
 mod CutLemmas
-mod JoinLemmas
+pub mod JoinLemmas
 mod Reading
 mod RowReading
 mod Rows
 mod SpaceLemmas
 mod SpanLemmas
 mod TrailLemmas
-mod WordLemmas
+pub mod WordLemmas

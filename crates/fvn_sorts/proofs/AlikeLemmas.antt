@@ -1,41 +1,22 @@
--- Operators with the same declarations give the same results and have the same faults.
-use Rattle.std.proofs.Common.{◌≡◌, ℕ, List, [], ◌∷◌, ◌++◌, map, refl, sym, ap, subst, ◌∙◌, ◌⊎◌}
-use Rattle.std.specs.Prelude.{find, unwrap_or}
+-- Operators with the same declarations have the same faults.
+use Rattle.std.proofs.Common.{◌≡◌, List, [], ◌∷◌, sym, subst}
 use Rattle.std.specs.List.{Contains}
 use Rattle.fvn_terms.specs.declared.plain.OpId.{OpId}
 use Rattle.fvn_terms.specs.declared.plain.SortId.{SortId}
 use Rattle.fvn_terms.specs.declared.declarations.Rank.{Rank}
 use Rattle.fvn_terms.specs.declared.declarations.OpDecl.{OpDecl}
 use Rattle.fvn_terms.specs.declared.declarations.Declarations.{Declarations}
-use Rattle.fvn_terms.specs.Signature.{kind, declared, axioms, AtOrBelow}
+use Rattle.fvn_terms.specs.Signature.{declared}
 use Rattle.fvn_terms.specs.Equality.{IsAssociative}
 use Rattle.fvn_forms.specs.Good.{TakesKinds, IsOfKind, Associates}
-use Rattle.fvn_forms.specs.Ranks.{kind_rank, swaps, results, is_lowest, first_result, Serves, IsResult, result}
-use Rattle.fvn_sorts.specs.declared.collecting.collected.Collected.{Collected}
-use Rattle.fvn_sorts.specs.Collected.{first_sorts, completed}
+use Rattle.fvn_forms.specs.Ranks.{Serves, IsResult}
+use Rattle.fvn_drafts.specs.declared.collected.Collected.{Collected}
+use Rattle.fvn_drafts.specs.Collected.{completed}
 use Rattle.fvn_sorts.specs.Faults.{HasNoResult, HasBadBrackets}
-use Rattle.fvn_sorts.specs.inner.Drafts.{AreAlike, IsTable, results_of_two}
-
-module _ (d : Declarations) where
-  -- the ranks that serve what is so declared
-  abbrev serving : OpDecl → List Rank
-  serving o = let written = o.ranks ++ map (kind_rank d) o.ranks in written ++ swaps o.axioms written
-
-  -- what is so declared gives over these sorts
-  abbrev given : OpDecl → List SortId → SortId
-  given o ss = let rs = results d (serving o) ss in unwrap_or (find (is_lowest d rs) rs) (first_result d o.ranks)
-
-  results_given : (f : OpId) → result d f ≡ given (declared d f)
-  unfolding result
-  results_given f = refl
+use Rattle.fvn_drafts.specs.Drafts.{AreAlike}
+use Rattle.fvn_drafts.proofs.AlikeLemmas.{serving, same_results}
 
 module _ (d : Declarations) (f g : OpId) (alike : AreAlike d f g) where
-  same_results : result d f ≡ result d g
-  same_results = results_given d f ∙ ap (given d) alike ∙ sym (results_given d g)
-
-  pub alike_table : (n : ℕ) (rows : List (List SortId)) → IsTable d f n rows → IsTable d g n rows
-  alike_table n rows = subst (λ (r : List SortId → SortId). (rows ≡ []) ⊎ (rows ≡ map (λ s. map (λ q. r (s ∷ q ∷ [])) (first_sorts n)) (first_sorts n))) same_results
-
   alike_listed : (r : Rank) → Contains (declared d g).ranks r → Contains (declared d f).ranks r
   alike_listed r = subst (λ (o : OpDecl). Contains o.ranks r) (sym alike)
 
@@ -55,7 +36,7 @@ module _ (d : Declarations) (f g : OpId) (alike : AreAlike d f g) where
   alike_of_kind s h = record { rank = h.rank; listed = alike_listed h.rank h.listed; kind_is = h.kind_is }
 
   alike_associates : (s q r : SortId) → Associates d f s q r → Associates d g s q r
-  alike_associates s q r = subst (λ (give : List SortId → SortId). give (give (s ∷ q ∷ []) ∷ r ∷ []) ≡ give (s ∷ give (q ∷ r ∷ []) ∷ [])) same_results
+  alike_associates s q r = subst (λ (give : List SortId → SortId). give (give (s ∷ q ∷ []) ∷ r ∷ []) ≡ give (s ∷ give (q ∷ r ∷ []) ∷ [])) (same_results d f g alike)
 
 module _ (c : Collected) (d : Declarations) (is : d ≡ completed c) (f g : OpId) (alike : AreAlike d f g) where
   same : AreAlike (completed c) f g

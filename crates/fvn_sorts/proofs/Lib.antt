@@ -1,13 +1,6 @@
 -- The lemmas of the crate.
-mod Operators
 mod CollectedSteps
-mod Closures
-mod Parts
 mod AlikeLemmas
-mod TableLemmas
-mod CompletedKinds
-mod Orders
-mod Serving
 mod ShapeLemmas
 mod LowestResults
 mod PairLemmas

@@ -18,11 +18,12 @@ use Rattle.fvn_forms.specs.Good.{IsOfKind}
 use Rattle.fvn_base.proofs.Membership.{contains_here, contains_later, contains_cases, contains_none, list_all_from, list_all_gives}
 use Rattle.fvn_forms.proofs.SortTests.{at_or_below-true, at_or_below-complete}
 use Rattle.fvn_forms.proofs.Results.{Serves-contains, contains-Serves}
-use Rattle.fvn_sorts.specs.declared.collecting.collected.Collected.{Collected}
-use Rattle.fvn_sorts.specs.declared.queries.draft.Draft.{Draft}
+use Rattle.fvn_drafts.specs.declared.collected.Collected.{Collected}
+use Rattle.fvn_drafts.specs.declared.draft.Draft.{Draft}
 use Rattle.fvn_sorts.specs.declared.conditions.brackets.Triple.{Triple}
-use Rattle.fvn_sorts.specs.Collected.{completed}
-use Rattle.fvn_sorts.specs.inner.Drafts.{IsDraft}
+use Rattle.fvn_drafts.specs.Collected.{completed}
+use Rattle.fvn_drafts.specs.FoundAlike.{FindAlike}
+use Rattle.fvn_drafts.proofs.FoundAlike.{same_lowest}
 use Rattle.fvn_forms.specs.FitsKinds.{HaveOneKind}
 use Rattle.fvn_sorts.specs.Faults.{Differ, HasNoResult, HasBadBrackets, HasBadCollapse}
 use Rattle.fvn_sorts.specs.inner.Searches.{AgreeInKinds, has_lowest, HasNoLowest, AreBad, DoesNotCollapse}
@@ -71,12 +72,12 @@ module _ (d : Declarations) (f : OpId) (ss : List SortId) where
       (w.0, record { serves = contains-Serves d f ss w.0 w.1.0; least = λ q s. at_or_below-true d w.0 q (list_all_gives (at_or_below d w.0) (results d (ranks_of d f) ss) q w.1.1 (Serves-contains d f ss q s)) })
 
 -- what the first declaration's kinds are good for
-module _ (t : Draft) (draft : IsDraft t) (f : OpId) (r : Rank) (listed : Contains (declared t.declarations f).ranks r) where
+module _ (t : Draft) (f : OpId) (r : Rank) (listed : Contains (declared t.declarations f).ranks r) where
   pub arg_kinds_listed : All (λ k. k.0 < t.total) (map (kind t.declarations) r.args)
-  arg_kinds_listed = All-map (λ k. k.0 < t.total) (kind t.declarations) r.args (All-weaker (IsSort t.declarations) (λ s. (kind t.declarations s).0 < t.total) (λ s h. let k = draft.kinded.listed s h in let e = draft.total in omega arith) r.args (draft.kinded.ranks f r listed).0)
+  arg_kinds_listed = All-map (λ k. k.0 < t.total) (kind t.declarations) r.args (All-weaker (IsSort t.declarations) (λ s. (kind t.declarations s).0 < t.total) (λ s h. let k = t.sound.kinded.listed s h in let e = t.sound.total in omega arith) r.args (t.sound.kinded.ranks f r listed).0)
 
   result_kind_listed : (kind t.declarations r.result).0 < t.total
-  result_kind_listed = let k = draft.kinded.listed r.result (draft.kinded.ranks f r listed).1 in let e = draft.total in omega arith
+  result_kind_listed = let k = t.sound.kinded.listed r.result (t.sound.kinded.ranks f r listed).1 in let e = t.sound.total in omega arith
 
 module _ (c : Collected) (agree : AgreeInKinds c) (f : OpId) (r : Rank) where
   no_result_of : Contains (declared (completed c) f).ranks r → (ss : List SortId) → HasNoLowest (completed c) (map (kind (completed c)) r.args) (ranks_of (completed c) f) ss ↔ HasNoResult c f ss
@@ -85,8 +86,15 @@ module _ (c : Collected) (agree : AgreeInKinds c) (f : OpId) (r : Rank) where
     λ w. (w.0.kinds ∙ (agree_of (completed c) (declared (completed c) f).ranks (agree f) w.0.rank r w.0.listed h).0, false_from_ne_true _ (λ e. let q = lowest_result (completed c) f ss e in w.1 q.0 q.1)),
   )
 
-  pub no_result : (d : Declarations) → d ≡ completed c → Contains (declared d f).ranks r → (ss : List SortId) → HasNoLowest d (map (kind d) r.args) (ranks_of d f) ss ↔ HasNoResult c f ss
+  no_result : (d : Declarations) → d ≡ completed c → Contains (declared d f).ranks r → (ss : List SortId) → HasNoLowest d (map (kind d) r.args) (ranks_of d f) ss ↔ HasNoResult c f ss
   no_result d is = rw is no_result_of
+
+  -- the same by ranks that give what the operator's own do
+  pub no_result_by : (d : Declarations) → d ≡ completed c → Contains (declared d f).ranks r → (rs : List Rank) → FindAlike rs (ranks_of d f) → (ss : List SortId) → HasNoLowest d (map (kind d) r.args) rs ss ↔ HasNoResult c f ss
+  no_result_by d is listed rs alike ss =
+      let same : has_lowest d rs ss ≡ has_lowest d (ranks_of d f) ss = ap (λ o. is_some o) (same_lowest rs (ranks_of d f) alike d ss) in
+      let own = no_result d is listed ss in
+      (λ w. own.0 (w.0, sym same ∙ w.1), λ h. let w = own.1 h in (w.0, same ∙ w.1))
 
   of_kind : Contains (declared (completed c) f).ranks r → (s : SortId) → (kind (completed c) s ≡ kind (completed c) r.result) ↔ IsOfKind (completed c) f s
   of_kind h s = (λ e. record { rank = r; listed = h; kind_is = e }, λ w. w.kind_is ∙ (agree_of (completed c) (declared (completed c) f).ranks (agree f) w.rank r w.listed h).1)
@@ -122,5 +130,5 @@ first_listed ranks all r some e =
     let within = positive (length ranks) some in
     subst (λ (l : List Rank). Contains l (get_or ranks 0 r)) e (0, within, get_or_default ranks 0 (get_or ranks 0 r) r within)
 
-pub first_kind_listed : (t : Draft) → IsDraft t → (f : OpId) (ranks : List Rank) (r : Rank) → false ≡ nat_eq (length ranks) 0 → ranks ≡ (declared t.declarations f).ranks → (k : SortId) → k ≡ kind t.declarations (get_or ranks 0 r).result → k.0 < t.total
-first_kind_listed t draft f ranks r some declares k is = subst (λ (q : SortId). q.0 < t.total) (sym is) (result_kind_listed t draft f (get_or ranks 0 r) (first_listed ranks _ r some declares))
+pub first_kind_listed : (t : Draft) → (f : OpId) (ranks : List Rank) (r : Rank) → false ≡ nat_eq (length ranks) 0 → ranks ≡ (declared t.declarations f).ranks → (k : SortId) → k ≡ kind t.declarations (get_or ranks 0 r).result → k.0 < t.total
+first_kind_listed t f ranks r some declares k is = subst (λ (q : SortId). q.0 < t.total) (sym is) (result_kind_listed t f (get_or ranks 0 r) (first_listed ranks _ r some declares))

@@ -1,8 +1,8 @@
 -- The conditions on the declarations of an operator.
-use Rattle.std.proofs.Common.{◌≡◌, ℕ, ◌+◌, ◌<◌, ◌≤◌, List, [], ◌∷◌, map, length, get_or, refl, sym, ap, subst, ◌∙◌, ◌⊎◌, ◌↔◌, inl, inr, arith}
+use Rattle.std.proofs.Common.{◌≡◌, ℕ, ◌+◌, ◌<◌, ◌≤◌, List, [], ◌∷◌, map, length, get_or, refl, sym, ap, subst, ◌∙◌, ◌⊎◌, ◌↔◌, inl, inr, Bool, true, false, not, nat_eq, IsTrue, arith}
 use Rattle.std.specs.List.{Contains, Any}
-use Rattle.std.proofs.lemmas.Bool.{cases_eq, cases_lt}
-use Rattle.std.proofs.lemmas.List.{get_or_read, get_or_past}
+use Rattle.std.proofs.lemmas.Bool.{cases_eq, cases_lt, eq-eqb, false≢true}
+use Rattle.std.proofs.lemmas.List.{get_or_read, get_or_past, length-map}
 use Rattle.std.proofs.lemmas.List.Elements.{All-contains}
 use Rattle.fvn_sorts.specs.declared.conditions.shapes.Condition.{Condition}
 use Rattle.fvn_sorts.specs.declared.conditions.shapes.Condition.TheVariants.{Kinds, Shape, Same, Identity}
@@ -15,22 +15,75 @@ use Rattle.fvn_terms.specs.declared.declarations.OpDecl.{OpDecl}
 use Rattle.fvn_terms.specs.declared.declarations.Declarations.{Declarations}
 use Rattle.fvn_terms.specs.Signature.{kind, declared, axioms, unknown, HasKind, HaveKinds}
 use Rattle.fvn_terms.specs.Term.{none}
+use Rattle.fvn_forms.specs.SortOrder.{sort_number}
 use Rattle.fvn_terms.specs.Equality.{IsCommutative, IsAssociative, constant}
 use Rattle.fvn_base.proofs.Membership.{contains_here, contains_none}
-use Rattle.fvn_sorts.specs.declared.collecting.collected.Declaration.{Declaration}
-use Rattle.fvn_sorts.specs.declared.collecting.collected.Collected.{Collected}
-use Rattle.fvn_sorts.specs.Collected.{IsClosed, op_number, declarations_of, first_axioms, completed}
-use Rattle.fvn_sorts.specs.Faults.{Differ, HasBadIdentity, IsOnCycle, HasFault}
+use Rattle.fvn_drafts.specs.declared.collected.Declaration.{Declaration}
+use Rattle.fvn_drafts.specs.declared.collected.Collected.{Collected}
+use Rattle.fvn_forms.specs.FitsKinds.{TakesTwoAlike, TakesTwoOfItsKind}
+use Rattle.fvn_forms.proofs.SortTests.{same_sort-true}
+use Rattle.fvn_drafts.specs.Collected.{IsClosed, op_number, declarations_of, first_axioms, rank_meant, completed}
+use Rattle.fvn_sorts.specs.Faults.{Differ, HasBadShape, HasBadIdentity, IsOnCycle, HasFault}
 use Rattle.fvn_sorts.specs.inner.Searches.{fault_at}
 use Rattle.fvn_base.proofs.Decided.{unrefuted}
-use Rattle.fvn_sorts.proofs.Operators.{operators-long, declared_of}
-use Rattle.fvn_sorts.proofs.CompletedKinds.{below-range}
+use Rattle.fvn_drafts.proofs.Operators.{operators-long, declared_of}
+use Rattle.fvn_drafts.proofs.CompletedKinds.{below-range}
 
 pub associative_commutes : (a : Axioms) → IsAssociative a → IsCommutative a
 associative_commutes Free h = h
 associative_commutes Comm h = absurd h
 associative_commutes AssocComm h = tt
 associative_commutes (AssocCommId e) h = tt
+
+-- the kinds of two arguments, each by what stands at its place
+pub kinds_of_two : (h f : SortId → SortId) (some all : List SortId) (x y : SortId) → some ≡ all → length some ≡ 2 → x ≡ h (f (get_or some 0 (sort_number 0))) → y ≡ h (f (get_or some 1 (sort_number 0))) → map h (map f all) ≡ x ∷ y ∷ []
+kinds_of_two h f some all x y same long first second = subst (λ (l : List SortId). map h (map f l) ≡ x ∷ y ∷ []) same (go some long first second) where
+  go : (l : List SortId) → length l ≡ 2 → x ≡ h (f (get_or l 0 (sort_number 0))) → y ≡ h (f (get_or l 1 (sort_number 0))) → map h (map f l) ≡ x ∷ y ∷ []
+  go [] e p q = absurd (omega (arith, e))
+  go (s ∷ []) e p q = absurd (omega (arith, e))
+  go (s ∷ t ∷ []) e p q = ap (λ k. k ∷ h (f t) ∷ []) (sym p) ∙ ap (λ k. x ∷ k ∷ []) (sym q)
+  go (s ∷ t ∷ u ∷ l) e p q = absurd (omega (arith, e))
+
+-- where the kinds are two, so are the arguments
+pub two_long : (h f : SortId → SortId) (args : List SortId) (x y : SortId) → map h (map f args) ≡ x ∷ y ∷ [] → length args ≡ 2
+two_long h f args x y e = sym (length-map (map f args) h ∙ length-map args f) ∙ ap (λ l. length l) e
+
+-- lists with the same elements have the same first one
+same_first : {x y k q : SortId} → x ∷ y ∷ [] ≡ k ∷ q ∷ [] → x ≡ k
+same_first e = cc
+
+-- two of one kind are the same
+pub same_two : {x y k q : SortId} → x ∷ y ∷ [] ≡ k ∷ q ∷ [] → k ≡ q → x ≡ y
+same_two {x} {y} {k} {q} e h = let a : x ≡ k = cc in let b : y ≡ q = cc in a ∙ h ∙ sym b
+
+-- whether the declaration is bad, by what its arguments, its axioms and its result are
+module _ (c : Collected) (e : Declaration) where
+  -- where it does not take two of one kind
+  pub bad_alone : {b : Bool} → (TakesTwoAlike (completed c) (rank_meant c e) → ⊥) → IsTrue b ↔ IsCommutative e.axioms → IsTrue b ↔ HasBadShape c e
+  bad_alone {b} alone tells = (λ h. inl (tells.0 h, alone), back) where
+    back : HasBadShape c e → IsTrue b
+    back (inl p) = tells.1 p.0
+    back (inr p) = tells.1 (associative_commutes e.axioms p.0)
+
+  module _ (k : SortId) (two : map (kind (completed c)) (rank_meant c e).args ≡ k ∷ k ∷ []) where
+    -- where its axioms do not join its arguments
+    pub never_bad : (IsAssociative e.axioms → ⊥) → HasBadShape c e → ⊥
+    never_bad free (inl p) = p.1 (k, two)
+    never_bad free (inr p) = free p.0
+
+    -- where they do
+    pub bad_result : {b : Bool} {r : SortId} → IsAssociative e.axioms → r ≡ kind (completed c) (rank_meant c e).result → b ≡ not (nat_eq r.0 k.0) → IsTrue b ↔ HasBadShape c e
+    bad_result {b} {r} joined is tells = (forth, back) where
+      forth : IsTrue b → HasBadShape c e
+      forth h = inr (joined, λ t. false≢true (sym (tells ∙ ap not (eq-eqb r.0 k.0 (ap (λ (s : SortId). s.0) (is ∙ same_first (sym t ∙ two))))) ∙ h))
+
+      by : (t : Bool) → nat_eq r.0 k.0 ≡ t → (TakesTwoOfItsKind (completed c) (rank_meant c e) → ⊥) → IsTrue b
+      by false h other = tells ∙ ap not h
+      by true h other = absurd (other (subst (λ q. map (kind (completed c)) (rank_meant c e).args ≡ q ∷ q ∷ []) (sym (same_sort-true r k h) ∙ is) two))
+
+      back : HasBadShape c e → IsTrue b
+      back (inl p) = absurd (p.1 (k, two))
+      back (inr p) = by (nat_eq r.0 k.0) refl p.1
 
 -- none among one more
 pub none_more : {A : Type 0} (P : A → Type 0) (xs : List A) (i : ℕ) (x : A) → i < length xs → x ≡ get_or xs i x → ((k : ℕ) (d : A) → k < i → P (get_or xs k d) → ⊥) → (P x → ⊥) → (k : ℕ) (d : A) → k < i + 1 → P (get_or xs k d) → ⊥

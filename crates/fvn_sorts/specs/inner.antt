@@ -1,5 +1,4 @@
 -- What the code keeps and searches.
-pub mod Words
-pub mod Drafts
+pub mod Kept
 pub mod Searches
 pub mod Pairs

@@ -1,13 +1,11 @@
 //! The conditions on a signature, and the first fault.
 
-pub mod axioms;
 pub mod brackets;
 pub mod cycles;
 pub mod fault;
 pub mod finish;
 pub mod pairs;
 pub mod preregular;
-pub mod ranks;
 pub mod shapes;
 pub mod sizes;
 pub mod stages;

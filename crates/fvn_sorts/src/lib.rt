@@ -1,14 +1,14 @@
 //! Order-sorted signatures: collected, and found good or refused with their first fault.
 #![tactic(auto)]
 
-mod collecting;
+mod builder;
 mod conditions;
 mod laws;
 mod queries;
 
-pub use collecting::builder::SignatureBuilder;
-pub use collecting::collected::{Collected, Declaration};
+pub use builder::SignatureBuilder;
 pub use conditions::fault::SigFault;
+pub use fvn_drafts::{Collected, Declaration};
 pub use laws::{
     direct_subsorts_are_listed, direct_subsorts_cover, direct_subsorts_of_kinds,
     kinds_are_components,

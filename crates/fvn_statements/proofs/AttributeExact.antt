@@ -1,22 +1,21 @@
 -- The reader of attributes finds exactly the spelled attributes.
-use Rattle.std.proofs.Common.{◌≡◌, ℕ, ◌≤◌, Bool, true, false, ◌||◌, ◌&&◌, List, [], ◌∷◌, ◌++◌, length, Option, Some, None, refl, sym, ap, ◌∙◌, subst, append_assoc, arith}
+use Rattle.std.proofs.Common.{◌≡◌, ◌≤◌, Bool, true, false, ◌||◌, ◌&&◌, List, [], ◌∷◌, ◌++◌, length, Option, Some, None, refl, sym, ap, ◌∙◌, subst, append_assoc, arith}
 use Rattle.std.specs.Prelude.{codes}
 use Rattle.std.specs.List.{AllByRecursion}
 use Rattle.std.specs.Str.{bytes_eq}
 use Rattle.fvn_lex.specs.Cut.{Piece}
-use Rattle.fvn_syntax.specs.Pieces.{Text, word, left_paren, right_paren, left_bracket, right_bracket, is_word, is_name, is_special}
+use Rattle.fvn_syntax.specs.Pieces.{Text, word, left_paren, right_paren, left_bracket, right_bracket, is_word, is_special}
 use Rattle.fvn_syntax.proofs.PieceLemmas.{bytes_eq-is, and-left, and-right, word-is, special-is}
 use Rattle.fvn_statements.specs.declared.statement.Attribute.{Attribute}
 use Rattle.fvn_statements.specs.declared.statement.Attribute.TheVariants.{Assoc, Comm, Identity, Constructor, Ditto, Precedence, Gather, Format}
 use Rattle.fvn_statements.specs.declared.statement.Feature.{Feature}
-use Rattle.fvn_statements.specs.declared.statement.Reading.{Reading}
-use Rattle.fvn_statements.specs.declared.statement.Reading.TheVariants.{Read, LeftOut, NoForm}
+use Rattle.fvn_statements.specs.declared.statement.Reading.TheVariants.{Read}
 use Rattle.fvn_statements.specs.Spelling.{each, spell_word, words, in_parens, spell_attribute, bracketed}
 use Rattle.fvn_statements.specs.Written.{NotEmpty, IsAttribute, AreAttributes}
 use Rattle.fvn_statements.specs.inner.Gather.{gather}
 use Rattle.fvn_statements.specs.inner.Attributes.{word_of, words_before, words_in_parens, identity_of, made, attribute_named, attribute_of, is_close, is_some, attributes_before, attributes_of}
 use Rattle.fvn_statements.specs.LeftOut.{left_out_in}
-use Rattle.fvn_statements.proofs.GatherExact.{Gathered, gather-sound, gather-spelled}
+use Rattle.fvn_statements.proofs.GatherExact.{gather-sound, gather-spelled}
 use Rattle.fvn_statements.proofs.SortExact.{Any, all_any}
 
 -- the text, or another one
@@ -184,7 +183,7 @@ attribute_some (Gather ws) = omega arith
 attribute_some (Format ws) = omega arith
 
 -- attributes in brackets
-close-is : (ps : List Piece) → is_close ps ≡ true → ps ≡ right_bracket ∷ []
+pub close-is : (ps : List Piece) → is_close ps ≡ true → ps ≡ right_bracket ∷ []
 close-is [] h = cc
 close-is (p ∷ []) h = ap (λ x. x ∷ []) (special-is (codes "]") p h)
 close-is (p ∷ q ∷ ps) h = cc
@@ -193,7 +192,7 @@ pub some-is : {A : Type 0} (xs : List A) → is_some xs ≡ true → NotEmpty xs
 some-is [] h = cc
 some-is (x ∷ xs) h = tt
 
-bracketed-is : {A : Type 0} (spell : A → List Piece) (xs : List A) → NotEmpty xs → bracketed spell xs ≡ left_bracket ∷ each spell xs ++ (right_bracket ∷ [])
+pub bracketed-is : {A : Type 0} (spell : A → List Piece) (xs : List A) → NotEmpty xs → bracketed spell xs ≡ left_bracket ∷ each spell xs ++ (right_bracket ∷ [])
 bracketed-is spell [] h = absurd h
 bracketed-is spell (x ∷ xs) h = refl
 

@@ -1,5 +1,5 @@
 -- The reader of modules finds exactly the spelled modules, and else the first fault.
-use Rattle.std.proofs.Common.{◌≡◌, ℕ, ◌+◌, ◌≤◌, ◌⊎◌, inl, inr, Bool, true, false, ◌&&◌, List, [], ◌∷◌, ◌++◌, length, Option, Some, None, Result, Ok, Err, refl, sym, ap, ◌∙◌, subst, append_assoc, length-append, arith}
+use Rattle.std.proofs.Common.{◌≡◌, ℕ, ◌+◌, ◌≤◌, ◌⊎◌, inl, inr, Bool, true, false, List, [], ◌∷◌, ◌++◌, length, Option, Some, None, Result, Ok, Err, refl, sym, ap, ◌∙◌, subst, append_assoc, length-append, arith}
 use Rattle.std.specs.Prelude.{codes}
 use Rattle.std.specs.List.{AllByRecursion}
 use Rattle.std.specs.Str.{bytes_eq}
@@ -8,9 +8,8 @@ use Rattle.std.proofs.Math.Nat.{le_refl}
 use Rattle.fvn_lex.specs.declared.token.Class.{Class}
 use Rattle.fvn_lex.specs.declared.token.Class.TheVariants.{Word, Special, Dot}
 use Rattle.fvn_lex.specs.Cut.{Piece}
-use Rattle.fvn_syntax.specs.Pieces.{Text, word, dot, is_dot_class, is_word, is_name, is_dot}
-use Rattle.fvn_syntax.proofs.PieceLemmas.{and-left, and-right, bytes_eq-is, word-is, name-is}
-use Rattle.fvn_statements.specs.declared.statement.Feature.{Feature}
+use Rattle.fvn_syntax.specs.Pieces.{Text, word, dot, is_dot_class, is_name}
+use Rattle.fvn_syntax.proofs.PieceLemmas.{and-left, and-right, bytes_eq-is, name-is}
 use Rattle.fvn_statements.specs.declared.statement.Statement.{Statement}
 use Rattle.fvn_statements.specs.declared.statement.Reading.{Reading}
 use Rattle.fvn_statements.specs.declared.statement.Reading.TheVariants.{Read, LeftOut, NoForm}
@@ -18,13 +17,11 @@ use Rattle.fvn_statements.specs.declared.form.Form.{Form}
 use Rattle.fvn_statements.specs.declared.form.FormFault.{FormFault}
 use Rattle.fvn_statements.specs.declared.form.FormFault.TheVariants as fault
 use Rattle.fvn_statements.specs.Spelling.{each, spell_statement}
-use Rattle.fvn_statements.specs.Written.{NotEmpty}
-use Rattle.fvn_statements.specs.Forms.{dotted, end, spell_frame, HasNo, IsFrame, IsStatement, IsFormOf, IsFront, HasNoStatement, HasLeftOut, LeadsTo, IsRefused, IsFirstFault, HasNoForm}
-use Rattle.fvn_statements.specs.inner.Gather.{bind}
+use Rattle.fvn_statements.specs.Forms.{dotted, end, HasNo, IsFrame, IsStatement, IsFormOf, HasNoStatement, HasLeftOut, IsFirstFault, HasNoForm}
 use Rattle.fvn_statements.specs.inner.Attributes.{word_of}
 use Rattle.fvn_statements.specs.inner.Names.{is_empty}
 use Rattle.fvn_statements.specs.inner.Statements.{statement_of}
-use Rattle.fvn_statements.specs.inner.Forms.{behind, before_end, named_frame, frame_of, is_stop, split_dot, end_at, on_reading, on_dot, statements_from, body_of, form_with, form_in, form_of}
+use Rattle.fvn_statements.specs.inner.Forms.{behind, before_end, frame_of, is_stop, split_dot, end_at, on_reading, on_dot, statements_from, body_of, form_with, form_in, form_of}
 use Rattle.fvn_statements.proofs.NamesExact.{empty-is}
 use Rattle.fvn_statements.proofs.AttributeExact.{word_of-sound}
 use Rattle.fvn_statements.proofs.StatementExact.{statement-sound, statement-complete}

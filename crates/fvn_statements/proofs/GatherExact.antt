@@ -1,5 +1,5 @@
 -- All that is read, one after another, is all that is spelled.
-use Rattle.std.proofs.Common.{◌≡◌, ℕ, ◌≤◌, List, [], ◌∷◌, ◌++◌, length, Option, Some, None, refl, sym, ap, ◌∙◌, subst, append_assoc, length-append, arith}
+use Rattle.std.proofs.Common.{◌≡◌, ◌≤◌, List, [], ◌∷◌, ◌++◌, length, Option, Some, None, refl, sym, ap, ◌∙◌, subst, append_assoc, length-append, arith}
 use Rattle.std.specs.List.{AllByRecursion}
 use Rattle.std.proofs.lemmas.List.{append-nil}
 use Rattle.fvn_lex.specs.Cut.{Piece}
@@ -29,6 +29,24 @@ module _ {A : Type 0} (item : List Piece → Option (A × List Piece)) (spell : 
           left = rw e (s.0 ∙ ap (λ qs. spell r.0 ++ qs) g.left ∙ sym (append_assoc (spell r.0) (each spell g.more) ((gather item fs (xs ++ (r.0 ∷ [])) r.1).1)));
           fit = (s.1, g.fit);
         }
+
+  -- where all is read, nothing more is read of what is left
+  pub gather-stops : (Fits : A → Type 0) → ((ps : List Piece) (r : A × List Piece) → item ps ≡ Some r → (ps ≡ spell r.0 ++ r.1) × Fits r.0) →
+      ((x : A) → 1 ≤ length (spell x)) → item [] ≡ None → (fs : List Piece) (xs : List A) (ps : List Piece) → length ps ≤ length fs →
+      item (gather item fs xs ps).1 ≡ None
+  gather-stops Fits sound some nothing [] xs [] few = nothing
+  gather-stops Fits sound some nothing [] xs (p ∷ ps) few = absurd (omega arith)
+  gather-stops Fits sound some nothing (f ∷ fs) xs ps few =
+      go (item ps) refl (λ ys qs fewer. gather-stops Fits sound some nothing fs ys qs fewer) where
+        go : (o : Option (A × List Piece)) → item ps ≡ o → ((ys : List A) (qs : List Piece) → length qs ≤ length fs → item (gather item fs ys qs).1 ≡ None) →
+            item (gather item (f ∷ fs) xs ps).1 ≡ None
+        go None e later = rw e e
+        go (Some r) e later =
+            let s = sound ps r e in
+            let n = ap length s.0 ∙ length-append (spell r.0) r.1 in
+            let m = some r.0 in
+            let fewer : length r.1 ≤ length fs = omega arith in
+            rw e (later (xs ++ (r.0 ∷ [])) r.1 fewer)
 
   module _ (Fits : A → Type 0) (Ends : List Piece → Type 0)
       (step : (x : A) (qs : List Piece) → Fits x → Ends qs → (item (spell x ++ qs) ≡ Some (x, qs)) × Ends (spell x ++ qs))

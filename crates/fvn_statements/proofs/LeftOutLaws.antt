@@ -1,21 +1,18 @@
 -- What left-out forms are read as.
-use Rattle.std.proofs.Common.{◌≡◌, ◌≢◌, ◌⊎◌, inl, inr, ◌||◌, Bool, true, false, List, [], ◌∷◌, ◌++◌, Option, Some, None, refl, sym, ap, ◌∙◌, subst}
-use Rattle.std.specs.Prelude.{codes, ◌↔◌, ◌&&◌}
+use Rattle.std.proofs.Common.{◌≡◌, ◌⊎◌, inl, inr, ◌||◌, Bool, true, false, List, [], ◌∷◌, ◌++◌, Some, None, refl, sym, ap, ◌∙◌, subst}
+use Rattle.std.specs.Prelude.{codes}
 use Rattle.std.specs.List.{AllByRecursion}
 use Rattle.fvn_lex.specs.Cut.{Piece}
-use Rattle.fvn_syntax.specs.Pieces.{Text, word, left_bracket, right_bracket, is_word, is_special}
-use Rattle.fvn_syntax.proofs.PieceLemmas.{and-left, and-right, word-is}
-use Rattle.fvn_statements.specs.declared.statement.RawRank.{RawRank}
+use Rattle.fvn_syntax.specs.Pieces.{Text, word, left_bracket, is_word, is_special}
+use Rattle.fvn_syntax.proofs.PieceLemmas.{word-is}
 use Rattle.fvn_statements.specs.declared.statement.Attribute.{Attribute}
 use Rattle.fvn_statements.specs.declared.statement.Feature.{Feature}
 use Rattle.fvn_statements.specs.declared.statement.Statement.TheVariants as statement
-use Rattle.fvn_statements.specs.declared.statement.Reading.TheVariants.{Read, LeftOut}
-use Rattle.fvn_statements.specs.Spelling.{each, colon, spell_rank, spell_attribute}
-use Rattle.fvn_statements.specs.Words.{touch}
+use Rattle.fvn_statements.specs.declared.statement.Reading.TheVariants.{LeftOut}
+use Rattle.fvn_statements.specs.Spelling.{each, spell_rank, spell_attribute}
 use Rattle.fvn_statements.specs.LeftOut.{left_out_in}
-use Rattle.fvn_statements.specs.Written.{NotEmpty, NoColons, IsRank, IsAttribute}
-use Rattle.fvn_statements.specs.Laws.{StatementsAreExact, FirstWordsAreLeftOut, NamesAreLeftOut, Closes, BeginsNone, BeginsIdentity, AttributesAreLeftOut}
-use Rattle.fvn_statements.specs.inner.Gather.{gather}
+use Rattle.fvn_statements.specs.Written.{IsAttribute}
+use Rattle.fvn_statements.specs.Laws.{StatementsAreExact, FirstWordsAreLeftOut, NamesAreLeftOut, attribute_words, Closes, BeginsNone, BeginsIdentity, AttributesAreLeftOut}
 use Rattle.fvn_statements.specs.inner.Attributes.{identity_of, attribute_of, attributes_of}
 use Rattle.fvn_statements.specs.inner.Statements.{with_rank, statement_of}
 use Rattle.fvn_statements.specs.inner.Sorts.{rank_of}
@@ -48,7 +45,7 @@ record Ends (rest : List Piece) : Type 0 where
   pub ends : AttributeEnds rest
   pub stops : attribute_of rest ≡ None
 
-ends_there : (rest : List Piece) → Closes rest ⊎ (BeginsNone rest ⊎ BeginsIdentity rest) → Ends rest
+ends_there : (rest : List Piece) → Closes rest ⊎ (BeginsNone attribute_words rest ⊎ BeginsIdentity rest) → Ends rest
 ends_there rest (inl c) = let P : List Piece → Type 0 = λ x. Ends x in subst P (sym c.is) (record { ends = refl; stops = refl })
 ends_there rest (inr (inl n)) =
     let P : List Piece → Type 0 = λ x. Ends x in

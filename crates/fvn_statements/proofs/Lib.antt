@@ -1,11 +1,14 @@
--- Lemmas of this crate.
+-- Lemmas of this crate; the public ones are for callers.
 mod Unequal
 mod GatherExact
 mod SortExact
 mod AttributeExact
 mod NamesExact
 mod OperatorNamesExact
+pub mod Sides
+mod EquationExact
 mod StatementExact
 mod Results
 mod FormExact
 mod LeftOutLaws
+mod EquationLeftOut

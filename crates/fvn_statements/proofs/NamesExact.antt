@@ -1,27 +1,20 @@
 -- The readers of names find exactly the spelled names.
-use Rattle.std.proofs.Common.{◌≡◌, ◌≢◌, ℕ, ◌+◌, ◌≤◌, ◌==◌, Bool, true, false, not, ◌||◌, ◌&&◌, List, [], ◌∷◌, ◌++◌, length, Option, Some, None, refl, sym, ap, ◌∙◌, subst, append_assoc, arith}
+use Rattle.std.proofs.Common.{◌≡◌, ◌≤◌, Bool, true, false, not, ◌&&◌, List, [], ◌∷◌, ◌++◌, length, Option, Some, None, refl, sym, ap, ◌∙◌, subst, arith}
 use Rattle.std.specs.Prelude.{codes}
 use Rattle.std.specs.List.{AllByRecursion}
-use Rattle.std.specs.Str.{bytes_eq}
 use Rattle.std.proofs.lemmas.List.{append-nil}
 use Rattle.fvn_lex.specs.Cut.{Piece}
-use Rattle.fvn_syntax.specs.Pieces.{Text, word, left_paren, right_paren, is_word, is_name, is_special}
-use Rattle.fvn_syntax.specs.declared.sorts.RawSort.{RawSort}
-use Rattle.fvn_syntax.specs.declared.sorts.RawSort.TheVariants.{Name, Kind}
-use Rattle.fvn_syntax.specs.Raw.{spell_sort}
-use Rattle.fvn_syntax.proofs.PieceLemmas.{bytes_eq-refl, and-left, and-right, word-is, name-is, special-is}
-use Rattle.fvn_statements.specs.declared.statement.OperatorName.{OperatorName}
-use Rattle.fvn_statements.specs.declared.statement.OperatorName.TheVariants.{Single, Round}
-use Rattle.fvn_statements.specs.Spelling.{each, spell_word, words, colon, in_parens, spell_name, spell_above, spell_groups}
-use Rattle.fvn_statements.specs.Written.{NotEmpty, IsSortName, IsMember, IsGroup, NoColons, IsBalanced, IsName}
-use Rattle.fvn_statements.specs.inner.Gather.{bind, gather}
-use Rattle.fvn_statements.specs.inner.Sorts.{sort_of}
+use Rattle.fvn_syntax.specs.Pieces.{Text, word, is_word, is_name}
+use Rattle.fvn_syntax.proofs.PieceLemmas.{bytes_eq-refl, and-left, and-right, word-is, name-is}
+use Rattle.fvn_statements.specs.Spelling.{each, spell_word, words, spell_above, spell_groups}
+use Rattle.fvn_statements.specs.Written.{NotEmpty, IsSortName, IsMember, IsGroup}
+use Rattle.fvn_statements.specs.inner.Gather.{gather}
 use Rattle.fvn_statements.specs.inner.Attributes.{is_some}
-use Rattle.fvn_statements.specs.inner.Names.{sort_name_of, member_of, if_some, group_of, group_above, is_empty, sort_names_of, groups_with, groups_of, alone, whole_sort, declared_sort, is_none, variable_of, variables_with, variables_of, split_colon, before_close, round_name, name_of}
-use Rattle.fvn_statements.specs.Words.{has_colon, depth_behind}
+use Rattle.fvn_statements.specs.inner.Names.{sort_name_of, member_of, if_some, group_of, group_above, is_empty, sort_names_of, groups_of}
+use Rattle.fvn_statements.specs.Words.{has_colon}
 use Rattle.fvn_statements.proofs.Unequal.{bytes_eq-not}
-use Rattle.fvn_statements.proofs.GatherExact.{Gathered, gather-sound, gather-spelled, gather-whole}
-use Rattle.fvn_statements.proofs.SortExact.{Any, all_any, sort-sound, sort-complete}
+use Rattle.fvn_statements.proofs.GatherExact.{gather-sound, gather-spelled, gather-whole}
+use Rattle.fvn_statements.proofs.SortExact.{Any}
 use Rattle.fvn_statements.proofs.AttributeExact.{some-is}
 
 pub not-true : (b : Bool) → not b ≡ true → b ≡ false

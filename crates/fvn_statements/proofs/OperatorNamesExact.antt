@@ -1,26 +1,25 @@
 -- The readers of variables and of operators' names find exactly what is spelled.
-use Rattle.std.proofs.Common.{◌≡◌, ◌≢◌, ℕ, ◌+◌, ◌≤◌, ◌==◌, Bool, true, false, not, ◌||◌, ◌&&◌, List, [], ◌∷◌, ◌++◌, length, Option, Some, None, refl, sym, ap, ◌∙◌, subst, append_assoc, arith}
+use Rattle.std.proofs.Common.{◌≡◌, ℕ, ◌≤◌, ◌==◌, Bool, true, false, not, ◌&&◌, List, [], ◌∷◌, ◌++◌, length, Option, Some, None, refl, sym, ap, ◌∙◌, subst, append_assoc, arith}
 use Rattle.std.specs.Prelude.{codes}
-use Rattle.std.specs.List.{AllByRecursion}
 use Rattle.std.specs.Str.{bytes_eq}
 use Rattle.std.proofs.lemmas.List.{append-nil}
 use Rattle.fvn_lex.specs.Cut.{Piece}
-use Rattle.fvn_syntax.specs.Pieces.{Text, word, left_paren, right_paren, left_bracket, is_word, is_name, is_special}
+use Rattle.fvn_syntax.specs.Pieces.{Text, word, left_paren, right_paren, is_word, is_name, is_special}
 use Rattle.fvn_syntax.specs.declared.sorts.RawSort.{RawSort}
 use Rattle.fvn_syntax.specs.declared.sorts.RawSort.TheVariants.{Name, Kind}
 use Rattle.fvn_syntax.specs.Raw.{spell_sort}
 use Rattle.fvn_syntax.proofs.PieceLemmas.{bytes_eq-refl, and-left, and-right, word-is, name-is, special-is}
 use Rattle.fvn_statements.specs.declared.statement.OperatorName.{OperatorName}
 use Rattle.fvn_statements.specs.declared.statement.OperatorName.TheVariants.{Single, Round}
-use Rattle.fvn_statements.specs.Spelling.{each, spell_word, words, colon, in_parens, spell_name}
+use Rattle.fvn_statements.specs.Spelling.{spell_word, words, colon, spell_name}
 use Rattle.fvn_statements.specs.Written.{NotEmpty, NoColons, IsBalanced, IsName}
 use Rattle.fvn_statements.specs.inner.Gather.{bind, gather}
 use Rattle.fvn_statements.specs.inner.Sorts.{sort_of}
 use Rattle.fvn_statements.specs.inner.Attributes.{is_some}
-use Rattle.fvn_statements.specs.inner.Names.{is_empty, alone, whole_sort, declared_sort, is_none, variable_of, variables_with, variables_of, split_colon, before_close, round_name, name_of}
+use Rattle.fvn_statements.specs.inner.Names.{is_empty, alone, whole_sort, declared_sort, is_none, variable_of, variables_of, split_colon, before_close, round_name, name_of}
 use Rattle.fvn_statements.specs.Words.{depth_behind}
 use Rattle.fvn_statements.proofs.Unequal.{bytes_eq-not}
-use Rattle.fvn_statements.proofs.GatherExact.{Gathered, gather-sound, gather-spelled}
+use Rattle.fvn_statements.proofs.GatherExact.{gather-sound, gather-spelled}
 use Rattle.fvn_statements.proofs.SortExact.{Any, all_any, sort-sound, sort-complete}
 use Rattle.fvn_statements.proofs.AttributeExact.{some-is}
 use Rattle.fvn_statements.proofs.NamesExact.{not-true, word_some, is_some-of, empty-is}

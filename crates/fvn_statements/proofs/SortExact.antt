@@ -1,5 +1,5 @@
 -- The reader of sorts finds exactly the spelled sorts.
-use Rattle.std.proofs.Common.{◌≡◌, ◌≢◌, ℕ, ◌≤◌, Bool, true, false, ◌||◌, ◌&&◌, List, [], ◌∷◌, ◌++◌, length, Option, Some, None, refl, sym, ap, ◌∙◌, subst, append_assoc, arith}
+use Rattle.std.proofs.Common.{◌≡◌, ◌≤◌, Bool, true, false, ◌&&◌, List, [], ◌∷◌, ◌++◌, length, Option, Some, None, refl, sym, ap, ◌∙◌, subst, append_assoc, arith}
 use Rattle.std.specs.Prelude.{codes}
 use Rattle.std.specs.List.{AllByRecursion}
 use Rattle.fvn_lex.specs.Cut.{Piece}
@@ -11,10 +11,10 @@ use Rattle.fvn_syntax.proofs.PieceLemmas.{bytes_eq-refl, and-left, and-right, wo
 use Rattle.fvn_statements.specs.declared.statement.RawRank.{RawRank}
 use Rattle.fvn_statements.specs.Spelling.{each, arrow, spell_rank}
 use Rattle.fvn_statements.specs.Written.{IsArgument, IsRank}
-use Rattle.fvn_statements.specs.inner.Gather.{bind, gather}
+use Rattle.fvn_statements.specs.inner.Gather.{gather}
 use Rattle.fvn_statements.specs.inner.Sorts.{after_comma, kind_before, bracket_sort, sort_of, arrow_of, argument_of, rank_before, rank_of}
 use Rattle.fvn_statements.proofs.Unequal.{bytes_eq-not}
-use Rattle.fvn_statements.proofs.GatherExact.{Gathered, gather-sound, gather-spelled}
+use Rattle.fvn_statements.proofs.GatherExact.{gather-sound, gather-spelled}
 
 abbrev pub spell_after_comma : Text → List Piece
 spell_after_comma s = comma ∷ word s ∷ []

@@ -1,5 +1,5 @@
 -- The reader of statements finds exactly the spelled statements.
-use Rattle.std.proofs.Common.{◌≡◌, ℕ, ◌≤◌, Bool, true, false, List, [], ◌∷◌, ◌++◌, length, Option, Some, None, refl, sym, ap, ◌∙◌, subst, append_assoc, arith}
+use Rattle.std.proofs.Common.{◌≡◌, Bool, true, false, List, [], ◌∷◌, ◌++◌, Option, Some, None, refl, sym, ap, ◌∙◌, subst}
 use Rattle.std.specs.Prelude.{codes}
 use Rattle.std.specs.List.{AllByRecursion, list_all}
 use Rattle.std.specs.Str.{bytes_eq}
@@ -17,19 +17,20 @@ use Rattle.fvn_statements.specs.declared.statement.Feature.{Feature}
 use Rattle.fvn_statements.specs.declared.statement.Reading.{Reading}
 use Rattle.fvn_statements.specs.declared.statement.Reading.TheVariants.{Read, LeftOut, NoForm}
 use Rattle.fvn_statements.specs.declared.reading.Keyword.{Keyword}
-use Rattle.fvn_statements.specs.declared.reading.Keyword.TheVariants.{Sorts, Subsorts, Operator, Operators, Variables}
-use Rattle.fvn_statements.specs.Spelling.{each, words, colon, spell_rank, spell_attribute, bracketed, spell_name, spell_groups, sort_word, subsort_word, variable_word, spell_statement}
+use Rattle.fvn_statements.specs.declared.reading.Keyword.TheVariants.{Sorts, Subsorts, Operator, Operators, Variables, Equation}
+use Rattle.fvn_statements.specs.Spelling.{each, equals, spell_label, spell_mark, words, colon, spell_rank, spell_attribute, bracketed, spell_name, spell_groups, sort_word, subsort_word, variable_word, spell_statement}
 use Rattle.fvn_statements.specs.Written.{NotEmpty, IsRank, AreAttributes, IsName, IsWritten}
 use Rattle.fvn_statements.specs.inner.Gather.{gather}
 use Rattle.fvn_statements.specs.inner.Sorts.{rank_of}
 use Rattle.fvn_statements.specs.inner.Attributes.{is_some, attributes_of}
 use Rattle.fvn_statements.specs.inner.Names.{is_empty, sort_names_of, groups_of, variables_of, split_colon, name_of}
 use Rattle.fvn_statements.specs.Words.{touch, names_touch}
-use Rattle.fvn_statements.specs.inner.Statements.{with_attributes, with_rank, operator_of, operators_behind, operators_at, operators_of, keyword_of, statement_behind, statement_of}
+use Rattle.fvn_statements.specs.inner.Statements.{with_rank, operator_of, operators_behind, operators_of, keyword_of, statement_behind, statement_of}
 use Rattle.fvn_statements.specs.LeftOut.{feature_of}
-use Rattle.fvn_statements.proofs.GatherExact.{Gathered, gather-sound, gather-spelled}
+use Rattle.fvn_statements.proofs.GatherExact.{gather-sound, gather-spelled}
 use Rattle.fvn_statements.proofs.SortExact.{Any, rank-sound, rank-complete}
 use Rattle.fvn_statements.proofs.AttributeExact.{by_text, some-is, attributes-sound, attributes-complete}
+use Rattle.fvn_statements.proofs.EquationExact.{equation-sound, equation-complete}
 use Rattle.fvn_statements.proofs.NamesExact.{is_some-of, sort_names-sound, sort_names-complete, groups-sound, groups-complete}
 use Rattle.fvn_statements.proofs.OperatorNamesExact.{variables-sound, variables-complete, split_colon-sound, split_colon-complete, name-sound, name-complete, name_some}
 use Rattle.fvn_syntax.proofs.PieceLemmas.{bytes_eq-is}
@@ -41,6 +42,7 @@ keyword_word (Subsorts plural) = subsort_word plural
 keyword_word Operator = codes "op"
 keyword_word Operators = codes "ops"
 keyword_word (Variables plural) = variable_word plural
+keyword_word Equation = codes "eq"
 
 keyword-sound : (w : Text) (k : Keyword) → keyword_of w ≡ Some k → w ≡ keyword_word k
 keyword-sound w k h =
@@ -52,7 +54,8 @@ keyword-sound w k h =
     (λ e. by_text w (codes "ops") (λ f. found (codes "ops") f Operators refl (rw (a, b, c, d, e, f) at h))
     (λ f. by_text w (codes "var") (λ g. found (codes "var") g (Variables false) refl (rw (a, b, c, d, e, f, g) at h))
     (λ g. by_text w (codes "vars") (λ i. found (codes "vars") i (Variables true) refl (rw (a, b, c, d, e, f, g, i) at h))
-    (λ i. let j = rw (a, b, c, d, e, f, g, i) at h in cc))))))))
+    (λ i. by_text w (codes "eq") (λ l. found (codes "eq") l Equation refl (rw (a, b, c, d, e, f, g, i, l) at h))
+    (λ l. let j = rw (a, b, c, d, e, f, g, i, l) at h in cc)))))))))
   where
     found : (t : Text) → bytes_eq w t ≡ true → (q : Keyword) → t ≡ keyword_word q → Some q ≡ Some k → w ≡ keyword_word k
     found t e q s j = let i : q ≡ k = cc in bytes_eq-is w t e ∙ s ∙ ap keyword_word i
@@ -66,6 +69,7 @@ keyword-complete Operator = refl
 keyword-complete Operators = refl
 keyword-complete (Variables false) = refl
 keyword-complete (Variables true) = refl
+keyword-complete Equation = refl
 
 no_feature : (k : Keyword) → feature_of (keyword_word k) ≡ None
 no_feature (Sorts false) = refl
@@ -76,8 +80,9 @@ no_feature Operator = refl
 no_feature Operators = refl
 no_feature (Variables false) = refl
 no_feature (Variables true) = refl
+no_feature Equation = refl
 
-behind-keyword : (k : Keyword) (ps : List Piece) → statement_of (word (keyword_word k) ∷ ps) ≡ statement_behind ps (Some k)
+pub behind-keyword : (k : Keyword) (ps : List Piece) → statement_of (word (keyword_word k) ∷ ps) ≡ statement_behind ps (Some k)
 behind-keyword k ps = rw (no_feature k, keyword-complete k) refl
 
 pub not_empty : (ps : List Piece) → NotEmpty ps → is_empty ps ≡ false
@@ -196,6 +201,7 @@ behind-sound (Subsorts plural) ps st h = go (groups_of ps) refl where
       subst Q i (ap (λ x. word (subsort_word plural) ∷ x) s.0, (s.1, s.2))
 behind-sound Operator ps st h = operator-sound ps st h
 behind-sound Operators ps st h = operators-sound ps st h
+behind-sound Equation ps st h = equation-sound ps st h
 behind-sound (Variables plural) ps st h = go (variables_of ps) refl where
   go : (o : Option (List Text × RawSort)) → variables_of ps ≡ o → (word (variable_word plural) ∷ ps ≡ spell_statement st) × IsWritten st
   go None e = let g = rw e at h in cc
@@ -232,3 +238,6 @@ statement-complete (statement.Operators names rank attributes) h =
     (with_rank-complete (statement.Operators names) rank attributes h.3 h.4)
 statement-complete (statement.Variables plural names sort) h =
     behind-keyword (Variables plural) (words names ++ (colon ∷ spell_sort sort)) ∙ rw (variables-complete names sort h) refl
+statement-complete (statement.Equation label left right marks) h =
+    behind-keyword Equation (spell_label label ++ (left ++ (equals ∷ right ++ bracketed spell_mark marks)))
+    ∙ equation-complete label left right marks h

@@ -1,4 +1,4 @@
--- Texts that are not equal.
+-- Tests of texts that fail.
 use Rattle.std.proofs.Common.{◌≡◌, ◌≢◌, Bool, true, false, refl}
 use Rattle.std.specs.Str.{bytes_eq}
 use Rattle.fvn_syntax.specs.Pieces.{Text}

@@ -1,11 +1,11 @@
 -- A module as it is written, and the first fault of tokens that are none.
-use Rattle.std.specs.Prelude.{ℕ, ◌≡◌, ◌+◌, ◌⊎◌, Bool, true, false, List, [], ◌∷◌, ◌++◌, length, Option, Some, None, codes}
+use Rattle.std.specs.Prelude.{ℕ, ◌≡◌, ◌+◌, ◌⊎◌, Bool, false, List, [], ◌∷◌, ◌++◌, length, codes}
 use Rattle.std.specs.List.{AllByRecursion}
 use Rattle.fvn_lex.specs.Cut.{Piece}
 use Rattle.fvn_syntax.specs.Pieces.{Text, word, dot, is_name}
 use Rattle.fvn_statements.specs.declared.statement.Feature.{Feature}
 use Rattle.fvn_statements.specs.declared.statement.Statement.{Statement}
-use Rattle.fvn_statements.specs.declared.statement.Reading.TheVariants.{Read, LeftOut, NoForm}
+use Rattle.fvn_statements.specs.declared.statement.Reading.TheVariants.{LeftOut, NoForm}
 use Rattle.fvn_statements.specs.declared.form.Form.{Form}
 use Rattle.fvn_statements.specs.declared.form.FormFault.{FormFault}
 use Rattle.fvn_statements.specs.declared.form.FormFault.TheVariants as fault

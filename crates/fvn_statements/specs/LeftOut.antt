@@ -5,7 +5,7 @@ use Rattle.std.specs.Str.{bytes_eq}
 use Rattle.fvn_lex.specs.Cut.{Piece}
 use Rattle.fvn_syntax.specs.Pieces.{Text, is_word, is_name, is_special}
 use Rattle.fvn_statements.specs.declared.statement.Attribute.{Attribute}
-use Rattle.fvn_statements.specs.declared.statement.Attribute.TheVariants.{Assoc, Comm, Identity, Constructor, Ditto, Precedence, Gather, Format}
+use Rattle.fvn_statements.specs.declared.statement.Attribute.TheVariants.{Assoc, Comm, Identity, Ditto}
 use Rattle.fvn_statements.specs.declared.statement.Feature.{Feature}
 use Rattle.fvn_statements.specs.declared.statement.Feature.TheVariants as feature
 
@@ -17,7 +17,6 @@ feature_of w =
     else if bytes_eq w (codes "mb") || bytes_eq w (codes "cmb") then Some feature.Membership
     else if bytes_eq w (codes "ceq") || bytes_eq w (codes "cq") then Some feature.Condition
     else if bytes_eq w (codes "rl") || bytes_eq w (codes "crl") then Some feature.Rule
-    else if bytes_eq w (codes "eq") then Some feature.Later
     else None
 
 -- Attributes.

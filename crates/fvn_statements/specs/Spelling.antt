@@ -1,17 +1,17 @@
 -- How statements are spelled.
-use Rattle.std.specs.Prelude.{ℕ, ◌≡◌, ◌≢◌, ◌≤◌, Bool, true, false, if◌then◌else◌, List, [], ◌∷◌, ◌++◌, map, length, Option, Some, None, codes}
-use Rattle.std.specs.List.{AllByRecursion}
+use Rattle.std.specs.Prelude.{Bool, true, false, List, [], ◌∷◌, ◌++◌, Option, Some, None, codes}
 use Rattle.fvn_lex.specs.Cut.{Piece}
 use Rattle.fvn_syntax.specs.Pieces.{Text, word, left_paren, right_paren, left_bracket, right_bracket}
-use Rattle.fvn_syntax.specs.declared.sorts.RawSort.{RawSort}
 use Rattle.fvn_syntax.specs.Raw.{spell_sort}
 use Rattle.fvn_statements.specs.declared.statement.RawRank.{RawRank}
 use Rattle.fvn_statements.specs.declared.statement.Attribute.{Attribute}
 use Rattle.fvn_statements.specs.declared.statement.Attribute.TheVariants.{Assoc, Comm, Identity, Constructor, Ditto, Precedence, Gather, Format}
+use Rattle.fvn_statements.specs.declared.statement.Mark.{Mark}
+use Rattle.fvn_statements.specs.declared.statement.Mark.TheVariants.{Variant, Label}
 use Rattle.fvn_statements.specs.declared.statement.OperatorName.{OperatorName}
 use Rattle.fvn_statements.specs.declared.statement.OperatorName.TheVariants.{Single, Round}
 use Rattle.fvn_statements.specs.declared.statement.Statement.{Statement}
-use Rattle.fvn_statements.specs.declared.statement.Statement.TheVariants.{Sorts, Subsorts, Operator, Operators, Variables}
+use Rattle.fvn_statements.specs.declared.statement.Statement.TheVariants.{Sorts, Subsorts, Operator, Operators, Variables, Equation}
 
 -- one after another
 abbrev pub each : {A : Type 0} → (A → List Piece) → List A → List Piece
@@ -54,6 +54,11 @@ spell_attribute (Precedence n) = word (codes "prec") ∷ word n ∷ []
 spell_attribute (Gather ws) = word (codes "gather") ∷ in_parens (words ws)
 spell_attribute (Format ws) = word (codes "format") ∷ in_parens (words ws)
 
+-- one attribute of an equation
+abbrev pub spell_mark : Mark → List Piece
+spell_mark Variant = word (codes "variant") ∷ []
+spell_mark (Label w) = word (codes "label") ∷ word w ∷ []
+
 -- these things in brackets, or nothing where there are none
 abbrev pub bracketed : {A : Type 0} → (A → List Piece) → List A → List Piece
 bracketed spell [] = []
@@ -88,6 +93,20 @@ abbrev pub variable_word : (plural : Bool) → Text
 variable_word false = codes "var"
 variable_word true = codes "vars"
 
+-- =
+abbrev pub equals : Piece
+equals = word (codes "=")
+
+-- [ WORD ] : or nothing
+abbrev pub spell_label : Option Text → List Piece
+spell_label None = []
+spell_label (Some w) = left_bracket ∷ word w ∷ right_bracket ∷ colon ∷ []
+
+-- eq, a label, the sides with = between them, and what stands behind them
+abbrev pub spell_equation : Option Text → (left right behind : List Piece) → List Piece
+spell_equation label left right behind =
+    word (codes "eq") ∷ spell_label label ++ (left ++ (equals ∷ right ++ behind))
+
 -- a statement, without its dot
 abbrev pub spell_statement : Statement → List Piece
 spell_statement (Sorts plural names) = word (sort_word plural) ∷ words names
@@ -97,3 +116,5 @@ spell_statement (Operator name rank attributes) =
 spell_statement (Operators names rank attributes) =
     word (codes "ops") ∷ each spell_name names ++ (colon ∷ spell_rank rank ++ bracketed spell_attribute attributes)
 spell_statement (Variables plural names sort) = word (variable_word plural) ∷ words names ++ (colon ∷ spell_sort sort)
+spell_statement (Equation label left right marks) =
+    spell_equation label left right (bracketed spell_mark marks)

@@ -1,17 +1,20 @@
 -- Which statements can be written: what holds of them beside their spelling.
-use Rattle.std.specs.Prelude.{ℕ, ◌≡◌, ◌≢◌, ◌≤◌, ◌==◌, ◌&&◌, Bool, true, false, List, [], ◌∷◌, length, Option, Some, None, codes}
-use Rattle.std.specs.List.{AllByRecursion}
+use Rattle.std.specs.Prelude.{ℕ, ◌≡◌, ◌≢◌, ◌≤◌, ◌==◌, ◌&&◌, true, false, List, [], ◌∷◌, length, None, codes}
+use Rattle.std.specs.List.{AllByRecursion, Contains}
 use Rattle.fvn_lex.specs.Cut.{Piece}
 use Rattle.fvn_syntax.specs.Pieces.{Text, right_bracket, is_name, is_special}
 use Rattle.fvn_syntax.specs.declared.sorts.RawSort.{RawSort}
 use Rattle.fvn_syntax.specs.declared.sorts.RawSort.TheVariants.{Name, Kind}
+use Rattle.fvn_syntax.specs.Raw.{RawTerm, spell, IsWritten as IsWrittenTerm, EndsBefore}
 use Rattle.fvn_statements.specs.declared.statement.RawRank.{RawRank}
 use Rattle.fvn_statements.specs.declared.statement.Attribute.{Attribute}
 use Rattle.fvn_statements.specs.declared.statement.Attribute.TheVariants.{Assoc, Comm, Identity, Constructor, Ditto, Precedence, Gather, Format}
+use Rattle.fvn_statements.specs.declared.statement.Mark.TheVariants.{Variant}
 use Rattle.fvn_statements.specs.declared.statement.OperatorName.{OperatorName}
 use Rattle.fvn_statements.specs.declared.statement.OperatorName.TheVariants.{Single, Round}
 use Rattle.fvn_statements.specs.declared.statement.Statement.{Statement}
-use Rattle.fvn_statements.specs.declared.statement.Statement.TheVariants.{Sorts, Subsorts, Operator, Operators, Variables}
+use Rattle.fvn_statements.specs.declared.statement.Statement.TheVariants.{Sorts, Subsorts, Operator, Operators, Variables, Equation}
+use Rattle.fvn_statements.specs.Spelling.{bracketed, spell_mark, equals}
 use Rattle.fvn_statements.specs.Words.{has_colon, touch, names_touch, depth_behind}
 use Rattle.fvn_statements.specs.LeftOut.{left_out_in}
 
@@ -70,7 +73,15 @@ abbrev pub IsName : OperatorName → Type 0
 IsName (Single w) = w ≢ codes ":"
 IsName (Round ps) = NotEmpty ps × IsBalanced 0 ps
 
--- a statement that can be written; words of an operator's name that stand side by side touch at an underscore
+-- a side of an equation: a written term, which ends before the rest
+pub record IsSide (rest side : List Piece) : Type 0 where
+  pub term : RawTerm
+  pub written : IsWrittenTerm term
+  pub ends : EndsBefore rest term
+  pub spelled : side ≡ spell term
+
+-- a statement that can be written; words of an operator's name that stand side by side touch at an underscore,
+-- and among the attributes of an equation is `variant`
 abbrev pub IsWritten : Statement → Type 0
 IsWritten (Sorts plural names) = NotEmpty names × AllByRecursion IsSortName names
 IsWritten (Subsorts plural groups) = (2 ≤ length groups) × AllByRecursion IsGroup groups
@@ -79,3 +90,5 @@ IsWritten (Operator name rank attributes) =
 IsWritten (Operators names rank attributes) =
     NotEmpty names × AllByRecursion IsName names × AllByRecursion (λ n. names_touch n ≡ true) names × IsRank rank × AreAttributes attributes
 IsWritten (Variables plural names sort) = NotEmpty names
+IsWritten (Equation label left right marks) =
+    IsSide (equals ∷ []) left × IsSide (bracketed spell_mark marks) right × Contains marks Variant

@@ -3,5 +3,6 @@ pub mod Gather
 pub mod Sorts
 pub mod Attributes
 pub mod Names
+pub mod Equations
 pub mod Statements
 pub mod Forms

@@ -4,6 +4,7 @@ ghost use Rattle.fvn_statements.specs.Laws.{
   FirstWordsAreLeftOut,
   NamesAreLeftOut,
   AttributesAreLeftOut,
+  EquationsAreLeftOut,
 };
 
 /// Tokens are read as a statement exactly where they are its spelling and it can be written.
@@ -24,4 +25,10 @@ pub fn names_are_left_out()
 /// The first left-out form of an operator's attributes is told.
 pub fn attributes_are_left_out()
     ensures { AttributesAreLeftOut }
+{}
+
+/// An equation is left out exactly where its label and its sides have their form, and then `variant` is lacking or
+/// a word stands among the attributes that begins none.
+pub fn equations_are_left_out()
+    ensures { EquationsAreLeftOut }
 {}

@@ -2,6 +2,7 @@
 #![tactic(auto)]
 
 mod attributes;
+mod equations;
 mod form;
 mod laws;
 mod names;
@@ -9,11 +10,10 @@ mod reader;
 mod reading;
 mod sorts;
 mod statement;
-#[cfg(test)]
-mod tests;
 
 pub use form::{Form, FormFault, read_form};
 pub use laws::{
-    attributes_are_left_out, first_words_are_left_out, names_are_left_out, statements_are_exact,
+    attributes_are_left_out, equations_are_left_out, first_words_are_left_out, names_are_left_out,
+    statements_are_exact,
 };
-pub use statement::{Attribute, Feature, OperatorName, RawRank, Reading, Statement};
+pub use statement::{Attribute, Feature, Mark, OperatorName, RawRank, Reading, Statement};

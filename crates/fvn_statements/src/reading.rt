@@ -4,6 +4,7 @@ ghost use Rattle.fvn_statements.specs.inner.Statements.{operator_with, operators
 ghost use Rattle.fvn_statements.specs.LeftOut.{feature_of};
 
 use crate::attributes::read_attributes;
+use crate::equations::read_equation;
 use crate::names::{
     AnyName, all_touch, read_groups, read_sort_names, read_variables, split_colon, touch,
 };
@@ -23,6 +24,7 @@ pub enum Keyword {
     Operator,
     Operators,
     Variables(bool),
+    Equation,
 }
 
 fn keyword_of(word: &[u8]) -> Option<Keyword>
@@ -44,6 +46,8 @@ fn keyword_of(word: &[u8]) -> Option<Keyword>
         Some(Keyword::Variables(false))
     } else if word == b"vars".as_slice() {
         Some(Keyword::Variables(true))
+    } else if word == b"eq".as_slice() {
+        Some(Keyword::Equation)
     } else {
         None
     }
@@ -67,8 +71,6 @@ fn feature_of(word: &[u8]) -> Option<Feature>
         Some(Feature::Condition)
     } else if word == b"rl".as_slice() || word == b"crl".as_slice() {
         Some(Feature::Rule)
-    } else if word == b"eq".as_slice() {
-        Some(Feature::Later)
     } else {
         None
     }
@@ -191,6 +193,7 @@ fn read_behind<'a>(
         },
         Some(Keyword::Operator) => read_operator(alloc, row),
         Some(Keyword::Operators) => read_operators(alloc, row),
+        Some(Keyword::Equation) => read_equation(alloc, row),
         Some(Keyword::Variables(plural)) => match read_variables(alloc, row)? {
             None => Ok(Reading::NoForm),
             Some((names, sort)) => Ok(Reading::Read(Statement::Variables {

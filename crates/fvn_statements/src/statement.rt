@@ -23,6 +23,13 @@ pub enum Attribute<'a> {
     Format(Seq<Text<'a>>),
 }
 
+/// An attribute of an equation.
+#[derive(Drop)]
+pub enum Mark<'a> {
+    Variant,
+    Label(Text<'a>),
+}
+
 /// A name behind `ops`: a word, or tokens in parentheses.
 #[derive(Drop)]
 pub enum OperatorName<'a> {
@@ -41,8 +48,7 @@ pub enum Feature {
     Assoc,
     Identity,
     Attribute,
-    /// A form that is not built yet.
-    Later,
+    Equation,
 }
 
 /// What was read of some tokens: they are of a form, or a left-out form stands in them, or they are of none.
@@ -78,5 +84,11 @@ pub enum Statement<'a> {
         plural: bool,
         names: Seq<Text<'a>>,
         sort: RawSort<'a>,
+    },
+    Equation {
+        label: Option<Text<'a>>,
+        left: Row<'a>,
+        right: Row<'a>,
+        marks: Seq<Mark<'a>>,
     },
 }

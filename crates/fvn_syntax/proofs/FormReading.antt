@@ -1,5 +1,5 @@
 -- The reader of forms reads each term that is spelled, up to what is left behind it.
-use Rattle.std.proofs.Common.{◌≡◌, Bool, true, false, ◌&&◌, List, [], ◌∷◌, ◌++◌, Option, Some, None, refl, sym, ap, ◌∙◌, append_assoc}
+use Rattle.std.proofs.Common.{◌≡◌, Bool, true, false, ◌&&◌, List, [], ◌∷◌, ◌++◌, Some, None, refl, sym, ap, ◌∙◌, append_assoc}
 use Rattle.std.specs.Prelude.{codes, if◌then◌else◌}
 use Rattle.fvn_lex.specs.Cut.{Piece}
 use Rattle.fvn_syntax.specs.declared.form.Mark.{Mark}
@@ -7,8 +7,8 @@ use Rattle.fvn_syntax.specs.declared.form.Mark.TheVariants.{Round, Call}
 use Rattle.fvn_syntax.specs.declared.form.Spot.{Spot}
 use Rattle.fvn_syntax.specs.declared.form.Spot.TheVariants.{Wanted, Named, SortWanted, SortNamed, Whole}
 use Rattle.fvn_syntax.specs.Pieces.{Text, word, left_paren, right_paren, left_bracket, right_bracket, comma, is_special, is_colon_name}
-use Rattle.fvn_syntax.specs.Raw.{RawTerm, RawTerms, name, call, round, kind_variable, last, and, spell, spell_all, spell_others, IsWritten, AreWritten, BeginsNot, EndsBefore, IsTermBefore}
-use Rattle.fvn_syntax.specs.inner.Form.{Step, behind, step, follow, is_closed, is_whole, left_behind}
+use Rattle.fvn_syntax.specs.Raw.{RawTerm, RawTerms, name, call, round, kind_variable, last, and, spell, spell_all, spell_others, IsWritten, AreWritten, EndsBefore, IsTermBefore}
+use Rattle.fvn_syntax.specs.inner.Form.{behind, step, follow, is_closed, is_whole, left_behind}
 
 pub left_behind-nil : (ms : List Mark) (spot : Spot) → left_behind ms spot [] ≡ (if is_closed ms && is_whole spot then Some [] else None)
 unfolding left_behind

@@ -1,5 +1,5 @@
 -- What the reader of forms has read when it ends: a spelled term.
-use Rattle.std.proofs.Common.{◌≡◌, Bool, true, false, ◌&&◌, List, [], ◌∷◌, ◌++◌, Option, Some, None, refl, sym, ap, ◌∙◌, subst, append_assoc}
+use Rattle.std.proofs.Common.{◌≡◌, Bool, true, false, ◌&&◌, List, [], ◌∷◌, ◌++◌, Some, None, refl, sym, ap, ◌∙◌, subst, append_assoc}
 use Rattle.std.specs.Prelude.{codes, if◌then◌else◌}
 use Rattle.std.proofs.lemmas.List.{append-nil}
 use Rattle.fvn_lex.specs.Cut.{Piece}
@@ -7,7 +7,7 @@ use Rattle.fvn_syntax.specs.declared.form.Mark.{Mark}
 use Rattle.fvn_syntax.specs.declared.form.Mark.TheVariants.{Round, Call}
 use Rattle.fvn_syntax.specs.declared.form.Spot.{Spot}
 use Rattle.fvn_syntax.specs.declared.form.Spot.TheVariants.{Wanted, Named, SortWanted, SortNamed, Whole}
-use Rattle.fvn_syntax.specs.Pieces.{Text, word, left_paren, right_paren, left_bracket, right_bracket, comma, is_word, is_special, is_colon_name}
+use Rattle.fvn_syntax.specs.Pieces.{Text, word, left_paren, left_bracket, right_bracket, comma, is_word, is_special, is_colon_name}
 use Rattle.fvn_syntax.specs.Raw.{RawTerm, RawTerms, name, call, round, kind_variable, last, and, spell, spell_all, spell_others, IsWritten, AreWritten, EndsBefore, IsTermBefore}
 use Rattle.fvn_syntax.specs.inner.Form.{Step, Goes, Ends, Stops, behind, step, follow, is_closed, is_whole, left_behind}
 use Rattle.fvn_syntax.proofs.PieceLemmas.{special-is, word-is, and-left, and-right, and-other}

@@ -2,10 +2,11 @@
 pub mod PieceLemmas
 mod FormReading
 mod FormSound
-mod FormExact
-mod TextLemmas
+pub mod FormExact
+pub mod TextLemmas
 mod TermReading
 mod TermMeaning
 mod Nesting
-mod WellKinded
+pub mod WellKinded
 mod Colons
+pub mod SpelledOnce

@@ -1,5 +1,5 @@
 -- What a written term is read as is what it stands for.
-use Rattle.std.proofs.Common.{◌≡◌, ℕ, ◌+◌, ◌-◌, ◌^◌, ◌≤◌, Bool, true, false, ◌&&◌, List, [], ◌∷◌, ◌++◌, length, min, Option, Some, None, Result, Ok, Err, refl, sym, ap, ◌∙◌, subst, append_assoc, suc, arith, ◌⊎◌, inl, inr}
+use Rattle.std.proofs.Common.{◌≡◌, ℕ, ◌+◌, ◌-◌, ◌^◌, ◌≤◌, Bool, true, false, ◌&&◌, List, [], ◌∷◌, ◌++◌, length, Option, Some, None, Result, Ok, Err, refl, sym, ap, ◌∙◌, subst, append_assoc, suc, arith, ◌⊎◌, inl, inr}
 use Rattle.std.specs.Prelude.{nat_le, if◌then◌else◌, IfOk, IfErr}
 use Rattle.std.proofs.lemmas.Bool.{le-leb}
 use Rattle.fvn_lex.specs.Cut.{Piece}
@@ -19,9 +19,9 @@ use Rattle.fvn_syntax.specs.Pieces.{Text, is_reserved, without_last}
 use Rattle.fvn_syntax.specs.Raw.{RawTerm, RawTerms, name, call, round, kind_variable, last, and}
 use Rattle.fvn_syntax.specs.Names.{resolve_name, op_named, bracket, is_sum, result_of}
 use Rattle.fvn_syntax.specs.Scope.{Scope}
-use Rattle.fvn_syntax.specs.Resolve.{Resolved, AllResolved, bind, or_fault, checked, nested, nested_all, applied, application_fault, unless, apply, the_constant, the_variable, resolve_meaning, resolve_kind, resolve, resolve_all}
+use Rattle.fvn_syntax.specs.Resolve.{Resolved, AllResolved, bind, or_fault, checked, nested, applied, application_fault, unless, apply, the_constant, the_variable, resolve_meaning, resolve_kind, resolve, resolve_all}
 use Rattle.fvn_syntax.specs.Readings.{sum_or_most, IsReadAs, Reads, Refuses}
-use Rattle.fvn_syntax.specs.inner.Reading.{unbuilt, own_symbols, kept, grown, closed, start, run}
+use Rattle.fvn_syntax.specs.inner.Reading.{Gives, own_symbols, kept, grown, closed, start, run}
 use Rattle.fvn_syntax.proofs.TermReading.{Arguments, arguments, kind_value, value, values, read-whole}
 
 pub sum-sum : (a b n : ℕ) → sum_or_most (sum_or_most a b) n ≡ sum_or_most a (b + n)
@@ -247,13 +247,13 @@ module _ (limit : ℕ) where
     pub refuses : (s : Seen) (row : List Piece) (fault : TermFault) → run limit c (start s) row ≡ Err fault → Refuses c s.texts row fault
     refuses s row fault h t w is = refused-as s t fault (sym (read-whole limit c t w s) ∙ ap (run limit c (start s)) (sym is) ∙ h)
 
-    pub reads-ok : (s : Seen) (row : List Piece) (r : Result (Kinded × Seen) TermFault) → IfOk r (λ v. run limit c (start s) row ≡ Ok v) →
+    pub reads-ok : (s : Seen) (row : List Piece) (r : Result (Kinded × Seen) TermFault) → Gives (run limit c (start s) row) r →
         IfOk r (Reads c limit s row)
     reads-ok s row (Ok v) h = reads s row v h
     reads-ok s row (Err fault) h = tt
 
-    pub refuses-err : (s : Seen) (row : List Piece) (r : Result (Kinded × Seen) TermFault) →
-        IfErr r (λ fault. (fault ≡ NoMemory) ⊎ (run limit c (start s) row ≡ Err fault)) → IfErr r (λ fault. (fault ≡ NoMemory) ⊎ Refuses c s.texts row fault)
+    pub refuses-err : (s : Seen) (row : List Piece) (r : Result (Kinded × Seen) TermFault) → Gives (run limit c (start s) row) r →
+        IfErr r (λ fault. (fault ≡ NoMemory) ⊎ Refuses c s.texts row fault)
     refuses-err s row (Ok v) h = tt
     refuses-err s row (Err fault) (inl e) = inl e
     refuses-err s row (Err fault) (inr e) = inr (refuses s row fault e)

@@ -18,7 +18,7 @@ use Rattle.fvn_syntax.specs.Raw.{RawTerm, RawTerms, name, call, round, kind_vari
 use Rattle.fvn_syntax.specs.Names.{op_named, sort_named, kind_of, if_of_kind, kind_of_all, bracket}
 use Rattle.fvn_syntax.specs.Scope.{Scope}
 use Rattle.fvn_syntax.specs.Resolve.{bind, or_fault, checked}
-use Rattle.fvn_syntax.specs.inner.Reading.{State, state, start, leaf, kind_leaf, closed, whole, behind, step, step_at, finish_at, end_sorts, read_sort, next_kind, open_call, run}
+use Rattle.fvn_syntax.specs.inner.Reading.{State, state, start, leaf, sorted_leaf, closed, whole, behind, step, step_at, finish_at, read_sort, open_call, run}
 use Rattle.fvn_syntax.proofs.FormReading.{ends-close, ends-comma, ends-nil}
 
 -- arguments that were read: what was seen, their kinds and their terms
@@ -58,7 +58,7 @@ module _ (limit : ℕ) (c : Scope) where
 
   abbrev pub kind_value : Seen → Text → Option SortId → Result (Kinded × Seen) TermFault
   kind_value s x None = Err UnknownName
-  kind_value s x (Some k) = Ok (kind_leaf limit c s x k)
+  kind_value s x (Some k) = Ok (sorted_leaf limit c s x k)
 
   -- what a written term is read as
   abbrev mutual

@@ -1,6 +1,6 @@
 -- What written terms stand for is well-kinded.
-use Rattle.std.proofs.Common.{◌≡◌, ℕ, ◌+◌, ◌<◌, ◌≤◌, Bool, true, false, ◌&&◌, ◌==◌, List, [], ◌∷◌, length, map, take, drop, slice_get, Option, Some, None, Result, Ok, Err, Contains, suc, refl, sym, ap, ◌∙◌, subst, arith}
-use Rattle.std.specs.Prelude.{slice_index_or, nat_le, not, if◌then◌else◌}
+use Rattle.std.proofs.Common.{◌≡◌, ℕ, ◌+◌, ◌<◌, ◌≤◌, Bool, true, false, ◌&&◌, ◌==◌, List, [], ◌∷◌, length, map, take, drop, Option, Some, None, Result, Ok, Err, Contains, suc, refl, sym, ap, ◌∙◌, subst, arith}
+use Rattle.std.specs.Prelude.{slice_index_or, if◌then◌else◌}
 use Rattle.std.proofs.lemmas.Bool.{eqb-true}
 use Rattle.fvn_terms.specs.declared.plain.OpId.{OpId}
 use Rattle.fvn_terms.specs.declared.plain.SortId.{SortId}
@@ -14,14 +14,12 @@ use Rattle.fvn_terms.specs.Signature.{kind, declared, axioms, IsSort, HasKind, H
 use Rattle.fvn_terms.specs.Plain.{term, terms}
 use Rattle.fvn_syntax.specs.declared.fault.TermFault.{TermFault}
 use Rattle.fvn_syntax.specs.declared.fault.TermFault.TheVariants.{UnknownName, ReservedName}
-use Rattle.fvn_syntax.specs.declared.naming.Meaning.{Meaning}
-use Rattle.fvn_syntax.specs.declared.naming.Meaning.TheVariants.{Constant, Variable}
 use Rattle.fvn_syntax.specs.Pieces.{Text, is_reserved, without_last}
 use Rattle.fvn_syntax.specs.Texts.{place}
 use Rattle.fvn_syntax.specs.Raw.{RawTerm, RawTerms, name, call, round, kind_variable, last, and}
-use Rattle.fvn_syntax.specs.Names.{sort_at, op_at, of_sort, kind_in, same_sort, sort_named, split_at, last_colon, sorted_name, kind_of, if_of_kind, kind_of_all, bracket, variable_of, declared_sort, first_args, first_result, is_sum, args_of, arity_of, result_of, if_constant, op_named, variable_or, variable_named, constant_or, constant_named, resolve_name}
+use Rattle.fvn_syntax.specs.Names.{of_sort, kind_in, same_sort, sort_named, split_at, last_colon, if_of_kind, kind_of_all, bracket, variable_of, declared_sort, first_args, first_result, is_sum, args_of, arity_of, result_of, op_named, variable_named, constant_named}
 use Rattle.fvn_syntax.specs.Scope.{Scope}
-use Rattle.fvn_syntax.specs.Resolve.{Resolved, AllResolved, bind, or_fault, checked, nested, nested_all, applied, wanted, fit_from, fits_number, application_fault, unless, apply, the_constant, the_variable, resolve_meaning, resolve_kind, resolve, resolve_all}
+use Rattle.fvn_syntax.specs.Resolve.{Resolved, AllResolved, bind, or_fault, nested, nested_all, applied, wanted, fit_from, fits_number, apply, the_constant, the_variable, resolve_meaning, resolve_kind, resolve, resolve_all}
 use Rattle.fvn_syntax.specs.Laws.{IsFitting}
 use Rattle.fvn_syntax.proofs.PieceLemmas.{and-left, and-right}
 use Rattle.fvn_syntax.proofs.TextLemmas.{place-below}

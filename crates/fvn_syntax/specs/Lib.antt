@@ -1,4 +1,5 @@
 -- How sorts and terms are written, and what they stand for.
+pub mod Behind
 pub mod Laws
 pub mod Names
 pub mod Pieces

@@ -3,7 +3,7 @@ ghost use Rattle.std.specs.Prelude.{◌≡◌, ◌≤◌, [], ◌∷◌, length,
 ghost use Rattle.fvn_syntax.specs.Pieces.{is_colon_name};
 ghost use Rattle.fvn_syntax.specs.Raw.{IsTermBefore, LeavesOnly, BeginsWithNoTerm};
 ghost use Rattle.fvn_syntax.specs.declared.form.Spot.TheVariants.{Wanted};
-ghost use Rattle.fvn_syntax.specs.inner.Form.{Goes, view, behind, step, is_whole, left_behind};
+ghost use Rattle.fvn_syntax.specs.inner.Form.{Goes, view, behind, step, is_whole, behind_term};
 
 use crate::piece::Piece;
 use fvn_terms::NoMemory;
@@ -141,7 +141,7 @@ fn is_whole_at(spot: Spot) -> bool
 #[tactic(auto, unfolding(crate::specs::inner::Form::left_behind))]
 fn skip(alloc: Global, row: &[Piece<'_>]) -> Result<Option<usize>, NoMemory>
     ensures within { IfOk result (λ r. IfSome r (λ n. n ≤ length row.now)) }
-    ensures rest { IfOk result (λ r. option_map (λ n. drop n row.now) r ≡ left_behind [] Wanted row.now) }
+    ensures rest { IfOk result (λ r. option_map (λ n. drop n row.now) r ≡ behind_term row.now) }
 {
     let mut form = Form {
         marks: Vec::new(alloc),

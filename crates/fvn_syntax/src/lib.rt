@@ -12,8 +12,6 @@ mod reading;
 mod scope;
 mod seen;
 mod sorts;
-#[cfg(test)]
-mod tests;
 mod texts;
 
 pub use fault::TermFault;

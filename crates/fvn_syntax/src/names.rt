@@ -6,7 +6,7 @@ use fvn_base::Seq;
 use fvn_terms::{OpId, SortId};
 
 /// Declared variables: their texts, and the sort of each.
-#[derive(Drop)]
+#[derive(Debug, Drop)]
 pub struct Variables {
     pub texts: Texts,
     pub sorts: Seq<SortId>,
@@ -15,7 +15,7 @@ pub struct Variables {
 /// The texts of a module's name, of its sorts and of its operators, and the declared variables.
 ///
 /// Sorts and operators are numbered by their places.
-#[derive(Drop)]
+#[derive(Debug, Drop)]
 pub struct Names {
     pub module_name: Seq<u8>,
     pub sorts: Texts,
@@ -24,7 +24,7 @@ pub struct Names {
 }
 
 /// The names of a text's variables, numbered by their places.
-#[derive(Drop)]
+#[derive(Debug, Drop)]
 pub struct VarNames {
     pub texts: Texts,
 }

@@ -1,11 +1,10 @@
 //! Reading what a term stands for, piece by piece, with what is not closed on a stack.
 ghost use Rattle.std.specs.Prelude.{◌≡◌, ◌⊎◌, ◌&&◌, ◌++◌, [], ◌∷◌, reverse, Ok, Err, None, IfOk, IfErr};
-ghost use Rattle.fvn_terms.specs.Signature.{kind};
 ghost use Rattle.fvn_syntax.specs.declared.fault.TermFault.TheVariants.{NoMemory as OutOfMemory};
 ghost use Rattle.fvn_syntax.specs.Pieces.{without_last, is_reserved};
 ghost use Rattle.fvn_syntax.specs.Raw.{IsTermBefore};
 ghost use Rattle.fvn_syntax.specs.Names.{op_named};
-ghost use Rattle.fvn_syntax.specs.Resolve.{the_constant, the_variable, applied, checked};
+ghost use Rattle.fvn_syntax.specs.Resolve.{the_constant, applied, checked};
 ghost use Rattle.fvn_syntax.specs.Readings.{Reads, Refuses};
 ghost use Rattle.fvn_syntax.specs.inner.Reading.{
   state,
@@ -15,8 +14,11 @@ ghost use Rattle.fvn_syntax.specs.inner.Reading.{
   unbuilt,
   own_symbols,
   kept,
+  Reaches,
+  Gives,
   grown,
   leaf,
+  sorted_leaf,
   closed,
   behind,
   behind_argument,
@@ -75,7 +77,8 @@ fn reading_at<'a>(frames: Vec<Frame>, spot: Spot<'a>, seen: Seen) -> Reading<'a>
 
 // The reading behind one more open frame.
 fn open<'a>(mut frames: Vec<Frame>, seen: Seen, frame: Frame) -> Result<Reading<'a>, TermFault>
-    ensures ok { IfOk result (λ next. view next ≡ state (frame ∷ reverse frames.items) Spot.Wanted seen) }
+    ensures ok { IfOk result
+        (λ next. view next ≡ state (frame ∷ reverse frames.items) Spot.Wanted seen) }
     ensures err { IfErr result (λ fault. fault ≡ OutOfMemory) }
 {
     frames.push(frame)?;
@@ -91,7 +94,7 @@ fn give_variable(
     name: &[u8],
     sort: SortId,
 ) -> Result<(Kinded, Seen), TermFault>
-    ensures ok { IfOk result (λ x. x ≡ grown limit 1 seen (the_variable seen.texts name.now sort (kind scope.now.declarations sort))) }
+    ensures ok { IfOk result (λ x. x ≡ sorted_leaf limit scope.now seen name.now sort) }
     ensures err { IfErr result (λ fault. fault ≡ OutOfMemory) }
 {
     let Seen { mut texts, count } = seen;
@@ -158,8 +161,7 @@ fn give_name(
     seen: Seen,
     name: &[u8],
 ) -> Result<(Kinded, Seen), TermFault>
-    ensures ok { IfOk result (λ x. leaf limit scope.now seen name.now ≡ Ok x) }
-    ensures err { IfErr result (λ fault. (fault ≡ OutOfMemory) ⊎ (leaf limit scope.now seen name.now ≡ Err fault)) }
+    ensures { Gives (leaf limit scope.now seen name.now) result }
 {
     match find_meaning(scope.declarations(), scope.names(), name) {
         None => Err(TermFault::UnknownName),
@@ -190,8 +192,7 @@ fn close(
     kinds: Vec<SortId>,
     terms: Vec<Plain>,
 ) -> Result<(Kinded, Seen), TermFault>
-    ensures ok { IfOk result (λ x. closed limit scope.now seen op kinds.items terms.items ≡ Ok x) }
-    ensures err { IfErr result (λ fault. (fault ≡ OutOfMemory) ⊎ (closed limit scope.now seen op kinds.items terms.items ≡ Err fault)) }
+    ensures { Gives (closed limit scope.now seen op kinds.items terms.items) result }
 {
     let d = scope.declarations();
     let sum = is_sum_operator(d, op);
@@ -235,8 +236,9 @@ fn read_behind_argument<'a>(
     kinds: Vec<SortId>,
     terms: Vec<Plain>,
 ) -> Result<Reading<'a>, TermFault>
-    ensures ok { IfOk result (λ next. behind_argument limit scope.now (reverse frames.items) seen piece.now op kinds.items terms.items ≡ Ok (view next)) }
-    ensures err { IfErr result (λ fault. (fault ≡ OutOfMemory) ⊎ (behind_argument limit scope.now (reverse frames.items) seen piece.now op kinds.items terms.items ≡ Err fault)) }
+    ensures { Reaches
+        (behind_argument limit scope.now (reverse frames.items) seen piece.now op
+        kinds.items terms.items) result }
 {
     if piece.is_special(b",") {
         return open(
@@ -262,8 +264,9 @@ fn add_argument<'a>(
     terms: Seq<Plain>,
     whole: Kinded,
 ) -> Result<Reading<'a>, TermFault>
-    ensures ok { IfOk result (λ next. behind_argument limit scope.now (reverse frames.items) seen piece.now op (kinds ++ (whole.kind ∷ [])) (terms ++ (whole.term ∷ [])) ≡ Ok (view next)) }
-    ensures err { IfErr result (λ fault. (fault ≡ OutOfMemory) ⊎ (behind_argument limit scope.now (reverse frames.items) seen piece.now op (kinds ++ (whole.kind ∷ [])) (terms ++ (whole.term ∷ [])) ≡ Err fault)) }
+    ensures { Reaches
+        (behind limit scope.now (whole, seen) piece.now
+        (Frame.Call op kinds terms ∷ reverse frames.items)) result }
 {
     let Kinded { term, kind } = whole;
     let mut kinds = kinds.into_vec();
@@ -283,8 +286,8 @@ fn read_in_frame<'a>(
     given: (Kinded, Seen),
     piece: &Piece<'a>,
 ) -> Result<Reading<'a>, TermFault>
-    ensures ok { IfOk result (λ next. behind limit scope.now given piece.now (frame ∷ reverse frames.items) ≡ Ok (view next)) }
-    ensures err { IfErr result (λ fault. (fault ≡ OutOfMemory) ⊎ (behind limit scope.now given piece.now (frame ∷ reverse frames.items) ≡ Err fault)) }
+    ensures { Reaches
+        (behind limit scope.now given piece.now (frame ∷ reverse frames.items)) result }
 {
     let (whole, seen) = given;
     match frame {
@@ -306,8 +309,7 @@ fn read_behind<'a>(
     given: (Kinded, Seen),
     piece: &Piece<'a>,
 ) -> Result<Reading<'a>, TermFault>
-    ensures ok { IfOk result (λ next. behind limit scope.now given piece.now (reverse frames.items) ≡ Ok (view next)) }
-    ensures err { IfErr result (λ fault. (fault ≡ OutOfMemory) ⊎ (behind limit scope.now given piece.now (reverse frames.items) ≡ Err fault)) }
+    ensures { Reaches (behind limit scope.now given piece.now (reverse frames.items)) result }
 {
     match frames.pop() {
         None => {
@@ -326,8 +328,8 @@ fn open_arguments<'a>(
     seen: Seen,
     name: &[u8],
 ) -> Result<Reading<'a>, TermFault>
-    ensures ok { IfOk result (λ next. open_call (reverse frames.items) seen (op_named scope.now.names name.now) ≡ Ok (view next)) }
-    ensures err { IfErr result (λ fault. (fault ≡ OutOfMemory) ⊎ (open_call (reverse frames.items) seen (op_named scope.now.names name.now) ≡ Err fault)) }
+    ensures { Reaches
+        (open_call (reverse frames.items) seen (op_named scope.now.names name.now)) result }
 {
     match find_operator(scope.names(), name) {
         None => Err(TermFault::UnknownName),
@@ -353,7 +355,8 @@ fn open_bracket<'a>(
     seen: Seen,
     name: &'a [u8],
 ) -> Result<Reading<'a>, TermFault>
-    ensures { result_view result ≡ checked scope.now.guarded name.now (Ok (state (reverse frames.items) (Spot.Sorts name.now None) seen)) }
+    ensures { result_view result ≡ checked scope.now.guarded name.now
+        (Ok (state (reverse frames.items) (Spot.Sorts name.now None) seen)) }
 {
     if is_refused(scope, name) {
         return Err(TermFault::ReservedName);
@@ -371,8 +374,9 @@ fn read_named<'a>(
     name: &'a [u8],
     piece: &Piece<'a>,
 ) -> Result<Reading<'a>, TermFault>
-    ensures ok { IfOk result (λ next. step_at limit scope.now (reverse frames.items) seen piece.now (Spot.Named name.now) ≡ Ok (view next)) }
-    ensures err { IfErr result (λ fault. (fault ≡ OutOfMemory) ⊎ (step_at limit scope.now (reverse frames.items) seen piece.now (Spot.Named name.now) ≡ Err fault)) }
+    ensures { Reaches
+        (step_at limit scope.now (reverse frames.items) seen piece.now (Spot.Named name.now))
+        result }
 {
     if piece.is_special(b"(") {
         return open_arguments(alloc, scope, frames, seen, name);
@@ -407,8 +411,9 @@ fn read_sorts<'a>(
     kind: Option<SortId>,
     piece: &Piece<'a>,
 ) -> Result<Reading<'a>, TermFault>
-    ensures ok { IfOk result (λ next. step_at limit scope.now (reverse frames.items) seen piece.now (Spot.Sorts name.entry kind) ≡ Ok (view next)) }
-    ensures err { IfErr result (λ fault. (fault ≡ OutOfMemory) ⊎ (step_at limit scope.now (reverse frames.items) seen piece.now (Spot.Sorts name.entry kind) ≡ Err fault)) }
+    ensures { Reaches
+        (step_at limit scope.now (reverse frames.items) seen piece.now
+        (Spot.Sorts name.entry kind)) result }
 {
     if piece.is_special(b"]") {
         return match kind {
@@ -437,8 +442,7 @@ impl<'a> Reading<'a> {
         scope: &Scope<'_>,
         piece: &Piece<'a>,
     ) -> Result<Reading<'a>, TermFault>
-        ensures ok { IfOk result (λ next. step limit scope.now (view self.entry) piece.now ≡ Ok (view next)) }
-        ensures err { IfErr result (λ fault. (fault ≡ OutOfMemory) ⊎ (step limit scope.now (view self.entry) piece.now ≡ Err fault)) }
+        ensures { Reaches (step limit scope.now (view self.entry) piece.now) result }
     {
         let Reading { frames, spot, seen } = self;
         match spot {
@@ -466,8 +470,7 @@ impl<'a> Reading<'a> {
         limit: usize,
         scope: &Scope<'_>,
     ) -> Result<(Kinded, Seen), TermFault>
-        ensures ok { IfOk result (λ x. finish_at limit scope.now self.entry.seen self.entry.spot ≡ Ok x) }
-        ensures err { IfErr result (λ fault. (fault ≡ OutOfMemory) ⊎ (finish_at limit scope.now self.entry.seen self.entry.spot ≡ Err fault)) }
+        ensures { Gives (finish_at limit scope.now self.entry.seen self.entry.spot) result }
     {
         let Reading { spot, seen, .. } = self;
         match spot {
@@ -488,8 +491,7 @@ fn read_row(
     seen: Seen,
     row: &[Piece<'_>],
 ) -> Result<(Kinded, Seen), TermFault>
-    ensures ok { IfOk result (λ x. run limit scope.now (start seen) row.now ≡ Ok x) }
-    ensures err { IfErr result (λ fault. (fault ≡ OutOfMemory) ⊎ (run limit scope.now (start seen) row.now ≡ Err fault)) }
+    ensures { Gives (run limit scope.now (start seen) row.now) result }
 {
     let mut reading = Reading {
         frames: Vec::new(alloc),
@@ -515,7 +517,8 @@ pub fn read_term(
 ) -> Result<(Kinded, Seen), TermFault>
     requires { IsTermBefore [] row.now }
     ensures ok { IfOk result (Reads scope.now limit seen row.now) }
-    ensures err { IfErr result (λ fault. (fault ≡ OutOfMemory) ⊎ Refuses scope.now seen.texts row.now fault) }
+    ensures err { IfErr result
+        (λ fault. (fault ≡ OutOfMemory) ⊎ Refuses scope.now seen.texts row.now fault) }
 {
     read_row(alloc, limit, scope, seen, row)
 }

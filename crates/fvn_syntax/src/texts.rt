@@ -8,7 +8,7 @@ use std::alloc::Global;
 use std::marker::Model;
 
 /// Different texts in their order; contracts see the list of them.
-#[derive(Drop)]
+#[derive(Debug, Drop)]
 pub struct Texts {
     set: IndexSet<Vec<u8>>,
 }

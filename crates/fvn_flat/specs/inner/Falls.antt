@@ -3,7 +3,7 @@ use Rattle.std.specs.Prelude.{◌≤◌, ◌+◌, List, [], ◌∷◌}
 use Rattle.std.proofs.Common.{arith}
 use denote.Param.Weighed.{most}
 use Rattle.fvn_forms.specs.Flat.{FlatTerm, fpack}
-use Rattle.fvn_flat.specs.inner.Weight.{places, places_all}
+use Rattle.fvn_flat.specs.Weight.{places, places_all}
 use Rattle.fvn_flat.specs.inner.Node.{form_of}
 use Rattle.fvn_flat.specs.declared.flat.Node.{Node}
 use Rattle.fvn_flat.specs.declared.flat.Node.TheVariants.{Var, App}

@@ -1,7 +1,6 @@
 //! The conditions on the sorts of sums.
 ghost use Rattle.std.specs.Prelude.{◌≡◌, ◌↔◌, ◌<◌, IsTrue};
 ghost use Rattle.fvn_terms.specs.Signature.{kind};
-ghost use Rattle.fvn_sorts.specs.inner.Drafts.{IsDraft};
 ghost use Rattle.fvn_sorts.specs.inner.Searches.{
   IsFirstList,
   one_sort,
@@ -14,7 +13,7 @@ ghost use Rattle.fvn_sorts.specs.inner.Searches.{
 };
 
 use crate::conditions::twins::{are_listed, has_twin};
-use crate::queries::draft::Draft;
+use fvn_drafts::Draft;
 use fvn_terms::{OpId, SortId};
 
 /// Three sorts.
@@ -27,7 +26,6 @@ pub struct Triple {
 
 /// Whether the sort is of the kind, and the sort of the sum of the three depends on its brackets.
 fn is_bad_third(draft: &Draft, op: OpId, of: SortId, s: SortId, q: SortId, r: SortId) -> bool
-    requires { IsDraft draft.now }
     ensures { IsTrue result ↔ IsBadThird draft.now.declarations op of s q r }
 {
     if draft.declarations.kind(r) != of {
@@ -39,7 +37,6 @@ fn is_bad_third(draft: &Draft, op: OpId, of: SortId, s: SortId, q: SortId, r: So
 }
 
 fn bad_third(draft: &Draft, op: OpId, of: SortId, s: SortId, q: SortId) -> Option<SortId>
-    requires draft { IsDraft draft.now }
     requires listed { of.0 < draft.now.total }
     ensures { IsFirstList one_sort (IsBadThird draft.now.declarations op of s q) result }
 {
@@ -53,7 +50,6 @@ fn bad_third(draft: &Draft, op: OpId, of: SortId, s: SortId, q: SortId) -> Optio
 
 /// A bad third sort, where the second is of the kind.
 fn bad_third_of(draft: &Draft, op: OpId, of: SortId, s: SortId, q: SortId) -> Option<SortId>
-    requires draft { IsDraft draft.now }
     requires listed { of.0 < draft.now.total }
     ensures { IsFirstList one_sort (λ r. AreBadAfter draft.now.declarations op of s (q, r)) result }
 {
@@ -64,7 +60,6 @@ fn bad_third_of(draft: &Draft, op: OpId, of: SortId, s: SortId, q: SortId) -> Op
 }
 
 fn bad_pair(draft: &Draft, op: OpId, of: SortId, s: SortId) -> Option<(SortId, SortId)>
-    requires draft { IsDraft draft.now }
     requires listed { of.0 < draft.now.total }
     ensures { IsFirstList two_sorts (AreBadAfter draft.now.declarations op of s) result }
 {
@@ -79,7 +74,6 @@ fn bad_pair(draft: &Draft, op: OpId, of: SortId, s: SortId) -> Option<(SortId, S
 
 /// A bad pair, where the first sort is of the kind.
 fn bad_pair_of(draft: &Draft, op: OpId, of: SortId, s: SortId) -> Option<(SortId, SortId)>
-    requires draft { IsDraft draft.now }
     requires listed { of.0 < draft.now.total }
     ensures { IsFirstList two_sorts (λ p. AreBad draft.now.declarations op of record { first = s; second = p.0; third = p.1 }) result }
 {
@@ -91,7 +85,6 @@ fn bad_pair_of(draft: &Draft, op: OpId, of: SortId, s: SortId) -> Option<(SortId
 
 /// The first three sorts of the kind over which the sort of a sum depends on its brackets.
 pub fn bad_triple(draft: &Draft, op: OpId, of: SortId) -> Option<Triple>
-    requires draft { IsDraft draft.now }
     requires listed { of.0 < draft.now.total }
     ensures { IsFirstList three_sorts (AreBad draft.now.declarations op of) result }
 {
@@ -118,7 +111,6 @@ pub fn bad_triple(draft: &Draft, op: OpId, of: SortId) -> Option<Triple>
 
 /// Whether the sort is of the kind, and not at or below that of its sum with the identity.
 fn does_not_collapse(draft: &Draft, op: OpId, identity: OpId, of: SortId, s: SortId) -> bool
-    requires { IsDraft draft.now }
     ensures { IsTrue result ↔ DoesNotCollapse draft.now.declarations op identity of s }
 {
     if draft.declarations.kind(s) != of {
@@ -129,7 +121,6 @@ fn does_not_collapse(draft: &Draft, op: OpId, identity: OpId, of: SortId, s: Sor
 
 /// The first sort of the kind that is not at or below that of its sum with the identity.
 pub fn first_not_collapsing(draft: &Draft, op: OpId, identity: OpId, of: SortId) -> Option<SortId>
-    requires draft { IsDraft draft.now }
     requires listed { of.0 < draft.now.total }
     ensures { IsFirstList one_sort (DoesNotCollapse draft.now.declarations op identity of) result }
 {

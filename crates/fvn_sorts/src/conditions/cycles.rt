@@ -2,16 +2,14 @@
 ghost use Rattle.std.specs.Prelude.{◌≡◌, ◌↔◌, ◌<◌, Any, IsTrue, MatchOption};
 ghost use Rattle.fvn_terms.specs.Signature.{AtOrBelow};
 ghost use Rattle.fvn_terms.specs.declared.plain.SortId.{SortId};
-ghost use Rattle.fvn_sorts.specs.inner.Drafts.{IsDraft, IsDraftOf};
+ghost use Rattle.fvn_drafts.specs.DraftOf.{IsDraftOf};
 ghost use Rattle.fvn_sorts.specs.Faults.{IsOnCycle};
 
-use crate::collecting::collected::Collected;
-use crate::queries::draft::Draft;
+use fvn_drafts::{Collected, Draft};
 use fvn_terms::SortId;
 
 /// Whether the pair leads up from the sort, and the order back to it.
 fn closes(draft: &Draft, pair: (SortId, SortId), s: SortId) -> bool
-    requires { IsDraft draft.now }
     ensures { IsTrue result ↔ ((pair.0 ≡ s) × AtOrBelow draft.now.declarations pair.1 s) }
 {
     if pair.0 != s {
@@ -22,7 +20,6 @@ fn closes(draft: &Draft, pair: (SortId, SortId), s: SortId) -> bool
 
 /// Whether the order leads from the sort up and back to it.
 fn is_on_cycle(draft: &Draft, s: SortId) -> bool
-    requires { IsDraft draft.now }
     ensures { IsTrue result ↔ Any (λ p. (p.0 ≡ s) × AtOrBelow draft.now.declarations p.1 s) draft.now.declarations.below }
 {
     for pair in draft.declarations.below.as_slice() {

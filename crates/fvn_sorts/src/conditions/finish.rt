@@ -1,17 +1,16 @@
 //! A signature from what was collected.
 ghost use Rattle.std.specs.Prelude.{◌≡◌, ◌⊎◌, IfOk, IfErr, OnOk};
 ghost use Rattle.fvn_forms.specs.Good.{IsGood};
-ghost use Rattle.fvn_sorts.specs.Collected.{IsClosed, completed};
+ghost use Rattle.fvn_drafts.specs.Collected.{IsClosed, completed};
 ghost use Rattle.fvn_sorts.specs.Faults.{HasNoFault, IsFirstFault};
 
-use crate::collecting::builder::SignatureBuilder;
-use crate::collecting::collected::Collected;
+use crate::builder::SignatureBuilder;
 use crate::conditions::fault::SigFault;
 use crate::conditions::sizes::is_too_large;
 use crate::conditions::stages::first_fault;
-use crate::queries::making::draft_of;
 use crate::queries::signature::Signature;
 use crate::queries::subsorts::all_direct_subsorts;
+use fvn_drafts::{Collected, draft_of};
 use fvn_terms::NoMemory;
 use std::alloc::Global;
 

@@ -3,7 +3,6 @@ ghost use Rattle.std.specs.Prelude.{◌≡◌, ◌≤◌, [], ◌∷◌, All, An
 ghost use Rattle.fvn_terms.specs.declared.plain.SortId.{SortId};
 ghost use Rattle.fvn_terms.specs.Signature.{IsSort};
 ghost use Rattle.fvn_forms.specs.SortOrder.{at_or_below};
-ghost use Rattle.fvn_sorts.specs.inner.Drafts.{IsDraft};
 ghost use Rattle.fvn_sorts.specs.inner.Pairs.{
   rank_at,
   IsBelowOne,
@@ -17,14 +16,13 @@ ghost use Rattle.fvn_sorts.specs.inner.Pairs.{
   TakesAt,
 };
 
-use crate::queries::draft::Draft;
 use fvn_base::Seq;
+use fvn_drafts::Draft;
 use fvn_terms::{NoMemory, Rank, SortId};
 use std::alloc::{AllocError, AllocFailed, Global};
 
 /// The sorts and kinds at or below both.
 fn common(alloc: Global, draft: &Draft, x: SortId, y: SortId) -> Result<Vec<SortId>, NoMemory>
-    requires { IsDraft draft.now }
     ensures { IfOk result (λ v. (s : SortId) → IsSort draft.now.declarations s → at_or_below draft.now.declarations s x ≡ true → at_or_below draft.now.declarations s y ≡ true → Contains v.items s) }
 {
     let mut list = Vec::new(alloc);
@@ -37,7 +35,6 @@ fn common(alloc: Global, draft: &Draft, x: SortId, y: SortId) -> Result<Vec<Sort
 }
 
 fn is_below_one(draft: &Draft, list: &[SortId], s: SortId) -> bool
-    requires { IsDraft draft.now }
     ensures { IsTrue result → IsBelowOne draft.now.declarations list.now s }
 {
     for m in list {
@@ -50,7 +47,6 @@ fn is_below_one(draft: &Draft, list: &[SortId], s: SortId) -> bool
 
 /// From the last to the first those that are not below one that was kept.
 fn thinned(alloc: Global, draft: &Draft, list: &[SortId]) -> Result<Vec<SortId>, NoMemory>
-    requires { IsDraft draft.now }
     ensures { IfOk result (λ v. (s : SortId) → Contains list.now s → IsBelowOne draft.now.declarations v.items s) }
 {
     let mut kept = Vec::new(alloc);
@@ -74,7 +70,6 @@ fn one(alloc: Global, s: SortId) -> Result<Vec<SortId>, NoMemory>
 
 /// The maximal sorts among those at or below both.
 fn bounds(alloc: Global, draft: &Draft, x: SortId, y: SortId) -> Result<Vec<SortId>, NoMemory>
-    requires { IsDraft draft.now }
     ensures { IfOk result (λ v. AreBounds draft.now.declarations x y v.items) }
 {
     if draft.is_at_or_below(x, y) {
@@ -98,7 +93,6 @@ fn all_bounds(
     some: &[SortId],
     others: &[SortId],
 ) -> Result<Option<Vec<Seq<SortId>>>, NoMemory>
-    requires { IsDraft draft.now }
     ensures { IfOk result (λ r. MatchOption r (AreApart draft.now.declarations some.now others.now) (λ v. BoundAll draft.now.declarations some.now others.now v.items)) }
 {
     if some.len() != others.len() {
@@ -117,7 +111,6 @@ fn all_bounds(
 
 /// Whether each is at or below the sort.
 fn are_below(draft: &Draft, list: &[SortId], s: SortId) -> bool
-    requires { IsDraft draft.now }
     ensures { IsTrue result → All (λ m. at_or_below draft.now.declarations m s ≡ true) list.now }
 {
     for m in list {
@@ -136,7 +129,6 @@ fn takes_bounds(
     place: usize,
     number: usize,
 ) -> bool
-    requires { IsDraft draft.now }
     ensures { IsTrue result → TakesBounds draft.now.declarations ranks.now bounds.now place number }
 {
     let args = match ranks.get(number) {
@@ -162,7 +154,6 @@ fn one_takes_bounds(
     place: usize,
     left: &[usize],
 ) -> bool
-    requires { IsDraft draft.now }
     ensures { IsTrue result → Any (TakesBounds draft.now.declarations ranks.now bounds.now place) left.now }
 {
     for number in left {
@@ -175,7 +166,6 @@ fn one_takes_bounds(
 
 /// Whether the rank of this number takes an argument of the sort at the place.
 fn takes(draft: &Draft, ranks: &[Rank], number: usize, place: usize, s: SortId) -> bool
-    requires { IsDraft draft.now }
     ensures { IsTrue result → TakesAt draft.now.declarations ranks.now number place s }
 {
     let args = match ranks.get(number) {
@@ -197,7 +187,6 @@ fn still_left(
     s: SortId,
     left: &[usize],
 ) -> Result<Vec<usize>, NoMemory>
-    requires { IsDraft draft.now }
     ensures { IfOk result (λ v. All (λ i. Contains left.now i × TakesAt draft.now.declarations ranks.now i place s) v.items) }
 {
     let mut list = Vec::with_capacity(alloc, left.len())?;
@@ -218,7 +207,6 @@ fn are_covered(
     place: usize,
     left: &[usize],
 ) -> Result<bool, NoMemory>
-    requires draft { IsDraft draft.now }
     requires place { place ≤ length bounds.now }
     ensures { IfOk result (λ b. IsTrue b → Cover draft.now.declarations ranks.now bounds.now place left.now) }
 {
@@ -239,7 +227,6 @@ fn are_covered(
 
 /// Whether the rank's result is at or below both.
 fn gives_below(draft: &Draft, rank: &Rank, x: SortId, y: SortId) -> bool
-    requires { IsDraft draft.now }
     ensures { IsTrue result → GivesBelow draft.now.declarations x y rank.now }
 {
     draft.is_at_or_below(rank.result, x) && draft.is_at_or_below(rank.result, y)
@@ -253,7 +240,6 @@ fn giving_below(
     x: SortId,
     y: SortId,
 ) -> Result<Vec<usize>, NoMemory>
-    requires { IsDraft draft.now }
     ensures { IfOk result (λ v. All (λ i. Contains ranks.now (rank_at ranks.now i) × GivesBelow draft.now.declarations x y (rank_at ranks.now i)) v.items) }
 {
     let mut list = Vec::new(alloc);
@@ -273,7 +259,6 @@ pub fn have_third(
     one: &Rank,
     other: &Rank,
 ) -> Result<bool, NoMemory>
-    requires draft { IsDraft draft.now }
     requires one { Contains ranks.now one.now }
     requires other { Contains ranks.now other.now }
     ensures { IfOk result (λ b. IsTrue b → HaveThird draft.now.declarations ranks.now one.now other.now) }

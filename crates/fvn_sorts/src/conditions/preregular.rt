@@ -1,20 +1,17 @@
 //! Whether arguments of all sorts have a least result, and the first without one.
 ghost use Rattle.std.specs.Prelude.{◌≡◌, ◌<◌, [], ◌∷◌, ℕ, All, Any, IsTrue, IfOk, length};
 ghost use Rattle.fvn_terms.specs.declared.declarations.Rank.{Rank};
-ghost use Rattle.fvn_sorts.specs.inner.Drafts.{IsDraft};
 ghost use Rattle.fvn_sorts.specs.inner.Searches.{IsFirstList, the_list, advanced_one, advanced, HasNoLowest};
 ghost use Rattle.fvn_sorts.specs.inner.Pairs.{rank_at, Take, HaveThird, HaveLowest};
 
 use crate::conditions::pairs::have_third;
-use crate::conditions::ranks::appended;
-use crate::queries::draft::Draft;
 use fvn_base::Seq;
+use fvn_drafts::{Draft, appended};
 use fvn_terms::{NoMemory, Rank, SortId};
 use std::alloc::{AllocError, AllocFailed, Global};
 
 /// Whether the rank takes arguments of these kinds.
 fn takes(draft: &Draft, rank: &Rank, kinds: &[SortId]) -> bool
-    requires { IsDraft draft.now }
     ensures { IsTrue result → Take draft.now.declarations rank.now.args kinds.now }
 {
     draft.serves(kinds, rank.args.as_slice())
@@ -22,7 +19,6 @@ fn takes(draft: &Draft, rank: &Rank, kinds: &[SortId]) -> bool
 
 /// Whether one of the ranks takes arguments of these kinds.
 fn one_takes(draft: &Draft, ranks: &[Rank], kinds: &[SortId]) -> bool
-    requires { IsDraft draft.now }
     ensures { IsTrue result → Any (λ r. Take draft.now.declarations r.args kinds.now) ranks.now }
 {
     for rank in ranks {
@@ -40,7 +36,6 @@ fn have_thirds(
     ranks: &[Rank],
     number: usize,
 ) -> Result<bool, NoMemory>
-    requires draft { IsDraft draft.now }
     requires number { number < length ranks.now }
     ensures { IfOk result (λ b. IsTrue b → (i : ℕ) → i < number → HaveThird draft.now.declarations ranks.now (rank_at ranks.now number) (rank_at ranks.now i)) }
 {
@@ -54,7 +49,6 @@ fn have_thirds(
 
 /// Whether any two of the ranks have a third.
 fn all_have_thirds(alloc: Global, draft: &Draft, ranks: &[Rank]) -> Result<bool, NoMemory>
-    requires { IsDraft draft.now }
     ensures { IfOk result (λ b. IsTrue b → (j : ℕ) → j < length ranks.now → (i : ℕ) → i < j → HaveThird draft.now.declarations ranks.now (rank_at ranks.now j) (rank_at ranks.now i)) }
 {
     for number in 0..ranks.len() {
@@ -75,7 +69,6 @@ fn have_lowest(
     kinds: &[SortId],
     ranks: &[Rank],
 ) -> Result<bool, NoMemory>
-    requires draft { IsDraft draft.now }
     requires listed { All (λ k. k.0 < draft.now.total) kinds.now }
     ensures { IfOk result (λ b. IsTrue b → HaveLowest draft.now.declarations kinds.now ranks.now) }
 {
@@ -88,7 +81,6 @@ fn have_lowest(
 
 /// The rank one argument further, where it takes one of the sort first.
 fn advanced_one(alloc: Global, draft: &Draft, s: SortId, rank: &Rank) -> Result<Vec<Rank>, NoMemory>
-    requires { IsDraft draft.now }
     ensures { IfOk result (λ v. v.items ≡ advanced_one draft.now.declarations s rank.now.args rank.now.result) }
 {
     let mut list = Vec::new(alloc);
@@ -108,7 +100,6 @@ fn advanced_one(alloc: Global, draft: &Draft, s: SortId, rank: &Rank) -> Result<
 
 /// The ranks that take an argument of the sort first, without this argument.
 fn advanced(alloc: Global, draft: &Draft, s: SortId, ranks: &[Rank]) -> Result<Vec<Rank>, NoMemory>
-    requires { IsDraft draft.now }
     ensures { IfOk result (λ v. v.items ≡ advanced draft.now.declarations s ranks.now) }
 {
     let mut all = Vec::new(alloc);
@@ -132,7 +123,6 @@ fn preceded(alloc: Global, s: SortId, list: Seq<SortId>) -> Result<Seq<SortId>, 
 
 /// The empty list, where the ranks have no least result without arguments.
 fn at_the_end(alloc: Global, draft: &Draft, ranks: &[Rank]) -> Option<Seq<SortId>>
-    requires { IsDraft draft.now }
     ensures { IsFirstList the_list (HasNoLowest draft.now.declarations [] ranks.now) result }
 {
     match draft.lowest(ranks, &[]) {
@@ -151,7 +141,6 @@ pub fn first_without(
     kinds: &[SortId],
     ranks: &[Rank],
 ) -> Result<Option<Seq<SortId>>, NoMemory>
-    requires draft { IsDraft draft.now }
     requires listed { All (λ k. k.0 < draft.now.total) kinds.now }
     ensures { IfOk result (IsFirstList the_list (HasNoLowest draft.now.declarations kinds.now ranks.now)) }
 {

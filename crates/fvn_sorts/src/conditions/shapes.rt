@@ -2,16 +2,16 @@
 ghost use Rattle.std.specs.Prelude.{◌≡◌, ◌↔◌, [], ◌∷◌, map, Any, IsTrue, MatchOption};
 ghost use Rattle.fvn_terms.specs.Signature.{kind, declared, axioms, HasKind};
 ghost use Rattle.fvn_terms.specs.Equality.{constant as constant_term};
-ghost use Rattle.fvn_sorts.specs.Collected.{declarations_of, completed, meant_or_kind, rank_meant};
-ghost use Rattle.fvn_sorts.specs.inner.Drafts.{IsDraftOf};
+ghost use Rattle.fvn_drafts.specs.Collected.{declarations_of, completed, meant_or_kind, rank_meant};
+ghost use Rattle.fvn_drafts.specs.DraftOf.{IsDraftOf};
 ghost use Rattle.fvn_forms.specs.FitsKinds.{HaveOneKind, TakesTwoAlike};
 ghost use Rattle.fvn_sorts.specs.Faults.{Differ, HasBadShape, HasBadIdentity, HasFault};
 ghost use Rattle.fvn_sorts.specs.inner.Searches.{fault_at, IsFirstOperator};
 
-use crate::collecting::collected::{Collected, Declaration};
-use crate::collecting::completing::{first_axioms, meant_or_kind};
-use crate::conditions::axioms::{identity_of, is_associative, is_commutative};
-use crate::queries::draft::Draft;
+use fvn_drafts::{
+    Collected, Declaration, Draft, first_axioms, identity_of, is_associative, is_commutative,
+    meant_or_kind,
+};
 use fvn_terms::{Axioms, Declarations, OpDecl, OpId, Rank, SortId};
 
 /// A condition that speaks of the declarations of one operator alone.

@@ -2,8 +2,8 @@
 ghost use Rattle.std.specs.Prelude.{◌↔◌, IsTrue};
 ghost use Rattle.fvn_sorts.specs.Faults.{IsTooLarge};
 
-use crate::collecting::collected::Collected;
 use fvn_base::limits::{ARGUMENTS, OPERATORS, SORTS};
+use fvn_drafts::Collected;
 
 /// Whether more was collected than a signature may have.
 pub fn is_too_large(collected: &Collected) -> bool

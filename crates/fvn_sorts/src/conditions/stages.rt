@@ -2,20 +2,19 @@
 ghost use Rattle.std.specs.Prelude.{◌≡◌, ◌+◌, IfOk, map};
 ghost use Rattle.fvn_terms.specs.declared.plain.OpId.{OpId};
 ghost use Rattle.fvn_terms.specs.Signature.{kind};
-ghost use Rattle.fvn_sorts.specs.inner.Drafts.{IsDraftOf};
+ghost use Rattle.fvn_drafts.specs.DraftOf.{IsDraftOf};
 ghost use Rattle.fvn_sorts.specs.Faults.{HasNoResult, HasBadBrackets, HasBadCollapse};
 ghost use Rattle.fvn_sorts.specs.inner.Searches.{IsFirstFrom, AgreeInKinds, fault_at, place_of, IsFirstList, the_list, one_sort, three_sorts};
 
-use crate::collecting::collected::Collected;
-use crate::conditions::axioms::{identity_of, is_associative};
 use crate::conditions::brackets::{Triple, bad_triple, first_not_collapsing};
 use crate::conditions::cycles::first_cycle;
 use crate::conditions::fault::SigFault;
 use crate::conditions::preregular::first_without;
 use crate::conditions::shapes::{Condition, first_failing};
-use crate::queries::alike::has_earlier_alike;
-use crate::queries::draft::Draft;
 use fvn_base::Seq;
+use fvn_drafts::{
+    Collected, Draft, has_earlier_alike, identity_of, is_associative, without_repeats,
+};
 use fvn_terms::{Axioms, Declarations, NoMemory, OpId, Rank, SortId};
 use std::alloc::{AllocFailed, Global};
 
@@ -83,8 +82,8 @@ fn without_result(
         return Ok(None);
     }
     let kinds = kinds_of_sorts(alloc, &draft.declarations, ranks[0].args.as_slice())?;
-    let all = draft.ranks_of(op);
-    let found = first_without(alloc, draft, kinds.as_slice(), all)?;
+    let fewer = without_repeats(alloc, draft.ranks_of(op))?;
+    let found = first_without(alloc, draft, kinds.as_slice(), fewer.as_slice())?;
     Ok(found)
 }
 

@@ -1,15 +1,13 @@
 //! Sorts that give the same results as first arguments: of those the first alone need be looked at.
 ghost use Rattle.std.specs.Prelude.{◌≡◌, ◌<◌, IsTrue};
 ghost use Rattle.fvn_terms.specs.Signature.{kind};
-ghost use Rattle.fvn_sorts.specs.inner.Drafts.{IsDraft};
 ghost use Rattle.fvn_sorts.specs.inner.Searches.{GivesListed, AreListed, AreTwins, HasTwin};
 
-use crate::queries::draft::Draft;
+use fvn_drafts::Draft;
 use fvn_terms::{OpId, SortId};
 
 /// Whether all results with this sort first are sorts or kinds of the signature.
 fn gives_listed(draft: &Draft, op: OpId, q: SortId) -> bool
-    requires { IsDraft draft.now }
     ensures { IsTrue result → GivesListed draft.now.declarations op draft.now.total q }
 {
     for r in 0..draft.total {
@@ -22,7 +20,6 @@ fn gives_listed(draft: &Draft, op: OpId, q: SortId) -> bool
 
 /// Whether all results over two sorts and kinds are such.
 pub fn are_listed(draft: &Draft, op: OpId) -> bool
-    requires { IsDraft draft.now }
     ensures { IsTrue result → AreListed draft.now.declarations op draft.now.total }
 {
     for q in 0..draft.total {
@@ -34,7 +31,6 @@ pub fn are_listed(draft: &Draft, op: OpId) -> bool
 }
 
 fn are_twins(draft: &Draft, op: OpId, q: SortId, s: SortId) -> bool
-    requires { IsDraft draft.now }
     ensures { IsTrue result → AreTwins draft.now.declarations op draft.now.total q s }
 {
     for r in 0..draft.total {
@@ -47,7 +43,6 @@ fn are_twins(draft: &Draft, op: OpId, q: SortId, s: SortId) -> bool
 
 /// Whether an earlier sort of the kind gives the same results as first argument.
 pub fn has_twin(draft: &Draft, op: OpId, of: SortId, s: SortId) -> bool
-    requires { IsDraft draft.now }
     ensures { IsTrue result → HasTwin draft.now.declarations op draft.now.total of s }
 {
     for q in 0..s.0 {

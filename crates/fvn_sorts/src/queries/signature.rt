@@ -7,10 +7,9 @@ ghost use Rattle.fvn_forms.specs.Good.{IsGood, TakesKinds};
 ghost use Rattle.fvn_forms.specs.Ranks.{ranks_of, IsResult, result as least_result};
 ghost use Rattle.fvn_sorts.specs.Queries.{arity, direct_subsorts, IsKind, IsTop, IsCompleted};
 
-use crate::conditions::axioms::identity_of;
-use crate::queries::draft::Draft;
 use crate::queries::subsorts::first_maximal;
 use fvn_base::Seq;
+use fvn_drafts::{Draft, identity_of};
 use fvn_terms::{Axioms, Declarations, OpId, Rank, SortId};
 use std::marker::Model;
 
@@ -31,7 +30,7 @@ impl Model for Signature {
 
     ghost view = { λ s. s.draft.declarations };
 
-    ghost use Rattle.fvn_sorts.specs.inner.Drafts.{IsKept};
+    ghost use Rattle.fvn_sorts.specs.inner.Kept.{IsKept};
 
     ghost invariant = { λ s. IsKept s.draft s.direct.items };
 }

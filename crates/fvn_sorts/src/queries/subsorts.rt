@@ -2,24 +2,21 @@
 ghost use Rattle.std.specs.Prelude.{◌≡◌, ◌&&◌, not, map, IfOk, ◌↔◌, ◌<◌, Any, IsTrue, MatchOption};
 ghost use Rattle.fvn_terms.specs.declared.plain.SortId.{SortId};
 ghost use Rattle.std.specs.List.{list_all};
-ghost use Rattle.fvn_sorts.specs.Collected.{first_sorts};
-ghost use Rattle.fvn_sorts.specs.inner.Drafts.{IsDraft};
+ghost use Rattle.fvn_drafts.specs.Collected.{first_sorts};
 ghost use Rattle.fvn_sorts.specs.Queries.{is_below, is_direct, direct_subsorts, IsMaximalOf, IsTop};
 
-use crate::queries::draft::Draft;
 use fvn_base::Seq;
+use fvn_drafts::Draft;
 use fvn_terms::{NoMemory, SortId};
 use std::alloc::{AllocError, AllocFailed, Global};
 
 fn is_below(draft: &Draft, s: SortId, q: SortId) -> bool
-    requires { IsDraft draft.now }
     ensures { result ≡ is_below draft.now.declarations s q }
 {
     draft.is_at_or_below(s, q) && s != q
 }
 
 fn stands_between(draft: &Draft, t: SortId, q: SortId, s: SortId) -> bool
-    requires { IsDraft draft.now }
     ensures { result ≡ (is_below draft.now.declarations t q && is_below draft.now.declarations q s) }
 {
     is_below(draft, t, q) && is_below(draft, q, s)
@@ -27,7 +24,6 @@ fn stands_between(draft: &Draft, t: SortId, q: SortId, s: SortId) -> bool
 
 /// Whether no declared sort stands between the two.
 fn is_nothing_between(draft: &Draft, t: SortId, s: SortId) -> bool
-    requires { IsDraft draft.now }
     ensures { result ≡ list_all (λ q. not (is_below draft.now.declarations t q && is_below draft.now.declarations q s)) (first_sorts draft.now.declarations.sorts) }
 {
     for q in 0..draft.declarations.sorts {
@@ -39,7 +35,6 @@ fn is_nothing_between(draft: &Draft, t: SortId, s: SortId) -> bool
 }
 
 fn is_direct(draft: &Draft, s: SortId, t: SortId) -> bool
-    requires { IsDraft draft.now }
     ensures { result ≡ is_direct draft.now.declarations s t }
 {
     is_below(draft, t, s) && is_nothing_between(draft, t, s)
@@ -47,7 +42,6 @@ fn is_direct(draft: &Draft, s: SortId, t: SortId) -> bool
 
 /// The declared sorts right below a sort.
 fn direct_subsorts(alloc: Global, draft: &Draft, s: SortId) -> Result<Vec<SortId>, NoMemory>
-    requires { IsDraft draft.now }
     ensures { IfOk result (λ v. v.items ≡ direct_subsorts draft.now.declarations s) }
 {
     let mut list = Vec::new(alloc);
@@ -61,7 +55,6 @@ fn direct_subsorts(alloc: Global, draft: &Draft, s: SortId) -> Result<Vec<SortId
 
 /// For each sort and kind the declared sorts right below it.
 pub fn all_direct_subsorts(alloc: Global, draft: &Draft) -> Result<Vec<Seq<SortId>>, NoMemory>
-    requires { IsDraft draft.now }
     ensures { IfOk result (λ v. v.items ≡ map (direct_subsorts draft.now.declarations) (first_sorts draft.now.total)) }
 {
     let mut all = Vec::new(alloc);

@@ -1,9 +1,8 @@
 -- How the reader goes over a module.
-use Rattle.std.specs.Prelude.{ℕ, ◌+◌, ◌&&◌, not, Bool, true, false, if◌then◌else◌, List, [], ◌∷◌, ◌++◌, Option, Some, None, Result, Ok, Err, codes}
+use Rattle.std.specs.Prelude.{ℕ, ◌+◌, ◌&&◌, Bool, if◌then◌else◌, List, [], ◌∷◌, ◌++◌, Option, Some, None, Result, Ok, Err, codes}
 use Rattle.std.specs.Str.{bytes_eq}
 use Rattle.fvn_lex.specs.Cut.{Piece}
-use Rattle.fvn_syntax.specs.Pieces.{Text, is_word, is_name, is_dot}
-use Rattle.fvn_statements.specs.declared.statement.Feature.{Feature}
+use Rattle.fvn_syntax.specs.Pieces.{Text, is_name, is_dot}
 use Rattle.fvn_statements.specs.declared.statement.Statement.{Statement}
 use Rattle.fvn_statements.specs.declared.statement.Reading.{Reading}
 use Rattle.fvn_statements.specs.declared.statement.Reading.TheVariants.{Read, LeftOut, NoForm}
@@ -55,14 +54,18 @@ abbrev pub end_at : ℕ → List Statement → List Piece → Result (List State
 end_at n sts [] = Ok sts
 end_at n sts (p ∷ ps) = Err (fault.Statement n)
 
+-- how the reading goes on, from the number of the next statement, those that were read and the pieces that are left
+abbrev pub Onward : Type 0
+Onward = ℕ → List Statement → List Piece → Result (List Statement) FormFault
+
 -- what was read of a statement, and then the later ones
-abbrev pub on_reading : ℕ → List Statement → List Piece → Reading Statement → (ℕ → List Statement → List Piece → Result (List Statement) FormFault) → Result (List Statement) FormFault
+abbrev pub on_reading : ℕ → List Statement → List Piece → Reading Statement → Onward → Result (List Statement) FormFault
 on_reading n sts ps (Read st) later = later (n + 1) (sts ++ (st ∷ [])) ps
 on_reading n sts ps (LeftOut f) later = Err (fault.LeftOut n f)
 on_reading n sts ps NoForm later = Err (fault.Statement n)
 
 -- a statement before a dot, and then the later ones
-abbrev pub on_dot : ℕ → List Statement → List Piece → Option (List Piece × List Piece) → (ℕ → List Statement → List Piece → Result (List Statement) FormFault) → Result (List Statement) FormFault
+abbrev pub on_dot : ℕ → List Statement → List Piece → Option (List Piece × List Piece) → Onward → Result (List Statement) FormFault
 on_dot n sts ps None later = end_at n sts ps
 on_dot n sts ps (Some r) later = on_reading n sts r.1 (statement_of r.0) later
 

@@ -1,6 +1,5 @@
 -- How the reader goes over names of sorts, operators and variables.
-use Rattle.std.specs.Prelude.{ℕ, ◌||◌, ◌&&◌, ◌==◌, ◌+◌, ◌-◌, not, Bool, true, false, if◌then◌else◌, List, [], ◌∷◌, ◌++◌, length, slice_index_or, Option, Some, None, codes}
-use Rattle.std.specs.List.{list_any, list_all}
+use Rattle.std.specs.Prelude.{ℕ, ◌&&◌, ◌==◌, not, Bool, true, false, if◌then◌else◌, List, [], ◌∷◌, Option, Some, None, codes}
 use Rattle.fvn_lex.specs.Cut.{Piece}
 use Rattle.fvn_syntax.specs.Pieces.{Text, is_word, is_name, is_special}
 use Rattle.fvn_syntax.specs.declared.sorts.RawSort.{RawSort}
@@ -9,7 +8,7 @@ use Rattle.fvn_statements.specs.declared.statement.OperatorName.TheVariants.{Sin
 use Rattle.fvn_statements.specs.Words.{has_colon, depth_behind}
 use Rattle.fvn_statements.specs.inner.Gather.{bind, gather}
 use Rattle.fvn_statements.specs.inner.Sorts.{sort_of}
-use Rattle.fvn_statements.specs.inner.Attributes.{is_some, word_of}
+use Rattle.fvn_statements.specs.inner.Attributes.{is_some}
 
 -- Sorts.
 

@@ -1,5 +1,5 @@
 -- How the reader goes over a statement.
-use Rattle.std.specs.Prelude.{Bool, true, false, not, ◌||◌, if◌then◌else◌, List, [], ◌∷◌, Option, Some, None, codes}
+use Rattle.std.specs.Prelude.{Bool, true, false, if◌then◌else◌, List, [], ◌∷◌, Option, Some, None, codes}
 use Rattle.std.specs.List.{list_all}
 use Rattle.std.specs.Str.{bytes_eq}
 use Rattle.fvn_lex.specs.Cut.{Piece}
@@ -15,24 +15,19 @@ use Rattle.fvn_statements.specs.declared.statement.Feature.TheVariants as featur
 use Rattle.fvn_statements.specs.declared.statement.Reading.{Reading}
 use Rattle.fvn_statements.specs.declared.statement.Reading.TheVariants.{Read, LeftOut, NoForm}
 use Rattle.fvn_statements.specs.declared.reading.Keyword.{Keyword}
-use Rattle.fvn_statements.specs.declared.reading.Keyword.TheVariants.{Sorts, Subsorts, Operator, Operators, Variables}
+use Rattle.fvn_statements.specs.declared.reading.Keyword.TheVariants.{Sorts, Subsorts, Operator, Operators, Variables, Equation}
 use Rattle.fvn_statements.specs.Words.{touch, names_touch}
 use Rattle.fvn_statements.specs.LeftOut.{feature_of}
-use Rattle.fvn_statements.specs.inner.Gather.{gather}
+use Rattle.fvn_statements.specs.inner.Gather.{map_reading, gather}
 use Rattle.fvn_statements.specs.inner.Sorts.{rank_of}
 use Rattle.fvn_statements.specs.inner.Attributes.{is_some, attributes_of}
+use Rattle.fvn_statements.specs.inner.Equations.{equation_of}
 use Rattle.fvn_statements.specs.inner.Names.{is_empty, sort_names_of, groups_of, variables_of, split_colon, name_of}
-
--- the statement with what is read behind it
-abbrev pub with_attributes : (List Attribute → Statement) → Reading (List Attribute) → Reading Statement
-with_attributes make (Read xs) = Read (make xs)
-with_attributes make (LeftOut f) = LeftOut f
-with_attributes make NoForm = NoForm
 
 -- sorts and attributes of an operator
 abbrev pub with_rank : (RawRank → List Attribute → Statement) → Option (RawRank × List Piece) → Reading Statement
 with_rank make None = NoForm
-with_rank make (Some r) = with_attributes (make r.0) (attributes_of r.1)
+with_rank make (Some r) = map_reading (make r.0) (attributes_of r.1)
 
 -- what follows the colon behind one name
 abbrev pub operator_with : List Piece → List Piece → Reading Statement
@@ -94,6 +89,7 @@ keyword_of w =
     else if bytes_eq w (codes "ops") then Some Operators
     else if bytes_eq w (codes "var") then Some (Variables false)
     else if bytes_eq w (codes "vars") then Some (Variables true)
+    else if bytes_eq w (codes "eq") then Some Equation
     else None
 
 -- what follows the word that begins a statement
@@ -104,6 +100,7 @@ statement_behind ps (Some (Subsorts plural)) = groups_read plural (groups_of ps)
 statement_behind ps (Some Operator) = operator_of ps
 statement_behind ps (Some Operators) = operators_of ps
 statement_behind ps (Some (Variables plural)) = variables_read plural (variables_of ps)
+statement_behind ps (Some Equation) = equation_of ps
 
 -- a left-out form, or else the statement
 abbrev pub unless_left_out : Option Feature → Reading Statement → Reading Statement

@@ -1,5 +1,5 @@
 -- The search for the last colon.
-use Rattle.std.specs.Prelude.{ℕ, ◌+◌, ◌==◌, if◌then◌else◌, [], ◌∷◌, Option, Some, None}
+use Rattle.std.specs.Prelude.{ℕ, ◌+◌, ◌==◌, if◌then◌else◌, [], ◌∷◌, Option, Some}
 use Rattle.fvn_syntax.specs.Pieces.{Text}
 
 -- the place of the last colon, where i bytes were passed and the last colon so far is found

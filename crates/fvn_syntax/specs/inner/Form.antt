@@ -70,3 +70,7 @@ follow ps Stops next = None
 unfoldable pub left_behind : List Mark → Spot → List Piece → Option (List Piece)
 left_behind ms spot [] = if is_closed ms && is_whole spot then Some [] else None
 left_behind ms spot (p ∷ ps) = follow (p ∷ ps) (step ms p spot) (λ next at. left_behind next at ps)
+
+-- what is left behind the term with which these pieces begin, where they begin with one
+abbrev pub behind_term : List Piece → Option (List Piece)
+behind_term ps = left_behind [] Wanted ps

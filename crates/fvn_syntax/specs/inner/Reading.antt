@@ -1,5 +1,5 @@
 -- The reader of what a term stands for, piece by piece, with what is not closed on a stack.
-use Rattle.std.specs.Prelude.{ℕ, ◌≡◌, ◌-◌, Bool, true, false, ◌&&◌, nat_le, if◌then◌else◌, List, [], ◌∷◌, ◌++◌, length, reverse, Result, Ok, Err, Option, Some, None, codes}
+use Rattle.std.specs.Prelude.{ℕ, ◌≡◌, ◌⊎◌, ◌-◌, Bool, true, false, ◌&&◌, nat_le, if◌then◌else◌, List, [], ◌∷◌, ◌++◌, length, reverse, Result, Ok, Err, Option, Some, None, codes}
 use Rattle.fvn_lex.specs.Cut.{Piece}
 use Rattle.fvn_terms.specs.declared.plain.OpId.{OpId}
 use Rattle.fvn_terms.specs.declared.plain.SortId.{SortId}
@@ -7,7 +7,7 @@ use Rattle.fvn_terms.specs.declared.plain.Plain.{Plain}
 use Rattle.fvn_terms.specs.declared.plain.Plain.TheVariants.{Var as AVar}
 use Rattle.fvn_terms.specs.Signature.{kind, axioms}
 use Rattle.fvn_syntax.specs.declared.fault.TermFault.{TermFault}
-use Rattle.fvn_syntax.specs.declared.fault.TermFault.TheVariants.{UnknownName}
+use Rattle.fvn_syntax.specs.declared.fault.TermFault.TheVariants.{UnknownName, NoMemory}
 use Rattle.fvn_syntax.specs.declared.seen.Seen.{Seen}
 use Rattle.fvn_syntax.specs.declared.seen.Kinded.{Kinded}
 use Rattle.fvn_syntax.specs.declared.reading.Frame.{Frame}
@@ -18,7 +18,7 @@ use Rattle.fvn_syntax.specs.declared.reading.Reading.{Reading}
 use Rattle.fvn_syntax.specs.Scope.{Scope}
 use Rattle.fvn_syntax.specs.Pieces.{Text, is_special, is_colon_name, without_last}
 use Rattle.fvn_syntax.specs.Names.{resolve_name, op_named, sort_named, kind_of, if_of_kind, is_sum}
-use Rattle.fvn_syntax.specs.Resolve.{Resolved, bind, or_fault, checked, the_variable, resolve_meaning, apply}
+use Rattle.fvn_syntax.specs.Resolve.{Resolved, bind, checked, the_variable, resolve_meaning, apply}
 use Rattle.fvn_syntax.specs.Readings.{sum_or_most}
 
 -- what is not closed, the innermost first, what was read last, and what was seen so far
@@ -43,6 +43,16 @@ start seen = state [] Wanted seen
 abbrev pub result_view : Result Reading TermFault → Result State TermFault
 result_view (Ok r) = Ok (view r)
 result_view (Err fault) = Err fault
+
+-- The program's next reading is what is wanted, or both have this fault; want of memory may come in place of either.
+abbrev pub Reaches : Result State TermFault → Result Reading TermFault → Type 0
+Reaches wanted (Ok next) = wanted ≡ Ok (view next)
+Reaches wanted (Err fault) = (fault ≡ NoMemory) ⊎ (wanted ≡ Err fault)
+
+-- What is given is what is wanted, or both have this fault; want of memory may come in place of either.
+abbrev pub Gives : {A : Type 0} → Result A TermFault → Result A TermFault → Type 0
+Gives wanted (Ok x) = wanted ≡ Ok x
+Gives wanted (Err fault) = (fault ≡ NoMemory) ⊎ (wanted ≡ Err fault)
 
 -- a term in place of those that are not built
 abbrev pub unbuilt : Plain
@@ -88,9 +98,9 @@ module _ (limit : ℕ) where
     abbrev pub leaf : Seen → Text → Result (Kinded × Seen) TermFault
     leaf s w = bind (resolve_meaning c s.texts (resolve_name c.declarations c.names w)) (λ r. Ok (grown 1 s r))
 
-    -- a variable of a kind
-    abbrev pub kind_leaf : Seen → Text → SortId → Kinded × Seen
-    kind_leaf s x k = grown 1 s (the_variable s.texts x k (kind c.declarations k))
+    -- a variable of a sort
+    abbrev pub sorted_leaf : Seen → Text → SortId → Kinded × Seen
+    sorted_leaf s x k = grown 1 s (the_variable s.texts x k (kind c.declarations k))
 
     -- an operator over its arguments
     abbrev pub closed : Seen → OpId → List SortId → List Plain → Result (Kinded × Seen) TermFault
@@ -112,7 +122,7 @@ module _ (limit : ℕ) where
     -- the state behind the end of a bracket, a variable of its kind
     abbrev pub end_sorts : List Frame → Seen → Text → Option SortId → Result State TermFault
     end_sorts fs s x None = Err UnknownName
-    end_sorts fs s x (Some k) = whole fs (kind_leaf s x k)
+    end_sorts fs s x (Some k) = whole fs (sorted_leaf s x k)
 
     -- one more piece
     abbrev pub step_at : List Frame → Seen → Piece → Spot → Result State TermFault

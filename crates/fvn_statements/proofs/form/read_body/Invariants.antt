@@ -1,5 +1,5 @@
 -- What holds in the loop.
-use Rattle.std.proofs.Common.{◌≡◌, ◌+◌, [], drop}
+use Rattle.std.proofs.Common.{◌≡◌, ◌+◌, drop}
 use Rattle.fvn_statements.specs.inner.Forms.{statements_from, body_of}
 use Rattle.fvn_statements.proofs.form.read_body.Given as goal
 

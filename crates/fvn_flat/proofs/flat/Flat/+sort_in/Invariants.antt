@@ -1,7 +1,7 @@
 -- The sorts of the arguments so far.
 use Rattle.std.proofs.Common.{◌≡◌, length, map, take}
 use Rattle.fvn_forms.specs.LeastSort.{least_sort}
-use Rattle.fvn_flat.specs.inner.Weight.{places}
+use Rattle.fvn_flat.specs.Weight.{places}
 use Rattle.fvn_flat.specs.inner.SumSorts.{sort_so_far}
 use Rattle.fvn_flat.proofs.flat.Flat.+sort_in.Given as goal
 

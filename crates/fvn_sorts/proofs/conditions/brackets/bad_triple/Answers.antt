@@ -21,7 +21,7 @@ loop-s-preserved-then-has_twin c t l h = elim (cases_lt t.first.0 c.loop-s.s) [
       let d = c.args.draft.now.declarations in
       let w = c.if-has_twin.ensures refl in
       let same : t.first.0 ≡ c.loop-s.s = omega arith in
-      c.loop-s.invariant record { first = w.0; second = t.second; third = t.third } w.1.0 (twin_bad d c.args.op c.args.draft.now.total (c.are_listed-listed.ensures c.if-listed.true) c.requires.draft.kinded c.requires.draft.total c.args.of c.requires.listed (sort_number c.loop-s.s) w t (ap sort_number same) h)
+      c.loop-s.invariant record { first = w.0; second = t.second; third = t.third } w.1.0 (twin_bad d c.args.op c.args.draft.now.total (c.are_listed-listed.ensures c.if-listed.true) c.args.draft.now.sound.kinded c.args.draft.now.sound.total c.args.of c.requires.listed (sort_number c.loop-s.s) w t (ap sort_number same) h)
 ]
 
 pub loop-s-preserved : goal.loop-s-preserved

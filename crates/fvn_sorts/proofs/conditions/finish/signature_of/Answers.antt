@@ -19,7 +19,6 @@ returns-clause-good c =
 pub invariant_of-result : goal.invariant_of-result
 invariant_of-result c = record {
   good = returns-clause-good c;
-  draft = c.in_ok-draft.ensures.draft;
   direct = c.in_ok-direct.ensures;
   completed = subst IsCompleted (sym c.in_ok-draft.ensures.is) (completed-is c.args.collected.now c.requires);
 }

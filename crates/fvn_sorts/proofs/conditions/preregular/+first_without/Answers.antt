@@ -33,4 +33,4 @@ returns t c =
     let ks : List SortId = c.args.kinds.now in
     let some : 0 < length ks = positive (length ks) c.if-is_empty.ensures in
     let at_end : c.loop-s.s ≡ c.args.draft.now.total = omega arith in
-    none_at_end d ks c.args.ranks.now some c.requires.draft.kinded c.args.draft.now.total c.requires.draft.total c.requires.listed (subst (NoneBefore d ks c.args.ranks.now) at_end c.loop-s.invariant)
+    none_at_end d ks c.args.ranks.now some c.args.draft.now.sound.kinded c.args.draft.now.total c.args.draft.now.sound.total c.requires.listed (subst (NoneBefore d ks c.args.ranks.now) at_end c.loop-s.invariant)

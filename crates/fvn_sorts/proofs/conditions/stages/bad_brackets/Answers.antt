@@ -10,8 +10,8 @@ use Rattle.fvn_sorts.proofs.FaultOrder.{IsFirstList-same}
 use Rattle.fvn_sorts.proofs.ResultLemmas.{first_listed, first_kind_listed, bad_brackets}
 use Rattle.fvn_sorts.proofs.conditions.stages.bad_brackets.Goals as goal
 
-pub bad_triple-requires-clause-listed : goal.bad_triple-requires-clause-listed
-bad_triple-requires-clause-listed c = first_kind_listed c.args.draft.now c.requires.draft.draft c.args.op c.declared_ranks-ranks.result.now c.index-ranks-0.result c.if-is_empty.ensures c.declared_ranks-ranks.ensures c.kind.result c.kind.ensures
+pub bad_triple-requires : goal.bad_triple-requires
+bad_triple-requires c = record { listed = first_kind_listed c.args.draft.now c.args.op c.declared_ranks-ranks.result.now c.index-ranks-0.result c.if-is_empty.ensures c.declared_ranks-ranks.ensures c.kind.result c.kind.ensures }
 
 pub returns : goal.returns
 returns c =

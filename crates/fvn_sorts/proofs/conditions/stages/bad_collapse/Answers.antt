@@ -8,8 +8,8 @@ use Rattle.fvn_sorts.proofs.FaultOrder.{IsFirstList-same}
 use Rattle.fvn_sorts.proofs.ResultLemmas.{first_listed, first_kind_listed, bad_collapse}
 use Rattle.fvn_sorts.proofs.conditions.stages.bad_collapse.Goals as goal
 
-pub first_not_collapsing-requires-clause-listed : goal.first_not_collapsing-requires-clause-listed
-first_not_collapsing-requires-clause-listed c = first_kind_listed c.args.draft.now c.requires.draft.draft c.args.op c.declared_ranks-ranks.result.now c.index-ranks-0.result c.if-is_empty.ensures c.declared_ranks-ranks.ensures c.kind.result c.kind.ensures
+pub first_not_collapsing-requires : goal.first_not_collapsing-requires
+first_not_collapsing-requires c = record { listed = first_kind_listed c.args.draft.now c.args.op c.declared_ranks-ranks.result.now c.index-ranks-0.result c.if-is_empty.ensures c.declared_ranks-ranks.ensures c.kind.result c.kind.ensures }
 
 pub returns-in-Some : goal.returns-in-Some
 returns-in-Some c =

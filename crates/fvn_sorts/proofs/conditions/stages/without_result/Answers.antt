@@ -1,13 +1,14 @@
 -- Sorts without a result are looked for among those of the first declared rank's argument kinds.
-use Rattle.std.proofs.Common.{◌≡◌, map, get_or, ap, ◌∙◌}
+use Rattle.std.proofs.Common.{◌≡◌, List, map, get_or, ap, subst, ◌∙◌}
 use Rattle.std.specs.List.{Contains}
 use Rattle.fvn_terms.specs.declared.declarations.Rank.{Rank}
 use Rattle.fvn_terms.specs.Signature.{kind, declared}
 use Rattle.fvn_forms.specs.Ranks.{ranks_of}
+use Rattle.fvn_drafts.specs.FoundAlike.{FindAlike}
 use Rattle.fvn_sorts.specs.Faults.{HasNoResult}
 use Rattle.fvn_sorts.specs.inner.Searches.{the_list, HasNoLowest}
 use Rattle.fvn_sorts.proofs.FaultOrder.{IsFirstList-same}
-use Rattle.fvn_sorts.proofs.ResultLemmas.{first_listed, arg_kinds_listed, no_result}
+use Rattle.fvn_sorts.proofs.ResultLemmas.{first_listed, arg_kinds_listed, no_result_by}
 use Rattle.fvn_sorts.proofs.conditions.stages.without_result.Goals as goal
 use Rattle.fvn_sorts.proofs.conditions.stages.without_result.Goals.{After-as_slice-2}
 
@@ -20,16 +21,17 @@ listed c = first_listed c.declared_ranks-ranks.result.now _ c.index-ranks-0.resu
 kinds : (c : After-as_slice-2) → c.as_slice-2.result.now ≡ map (kind c.args.draft.now.declarations) (first c).args
 kinds c = c.as_slice-2.ensures.value ∙ c.in_ok-kinds.ensures ∙ ap (map (kind c.args.draft.now.declarations)) c.as_slice.ensures
 
-pub first_without-requires-clause-listed : goal.first_without-requires-clause-listed
-first_without-requires-clause-listed c =
-    let at = (goal.at.first_without-requires-clause-listed c).After-as_slice-2 in
-    rw (kinds at) (arg_kinds_listed c.args.draft.now c.requires.draft.draft c.args.op (first at) (listed at))
+pub first_without-requires : goal.first_without-requires
+first_without-requires c =
+    let at = (goal.at.first_without-requires c).After-as_slice-2 in
+    record { listed = rw (kinds at) (arg_kinds_listed c.args.draft.now c.args.op (first at) (listed at)) }
 
 pub returns : goal.returns
 returns c =
     let at = (goal.at.returns c).After-as_slice-2 in
     let d = c.args.draft.now.declarations in
     let f = c.args.op in
-    IsFirstList-same the_list (HasNoLowest d (map (kind d) (first at).args) (ranks_of d f)) (HasNoResult c.args.collected.now f)
-    (no_result c.args.collected.now c.requires.agree f (first at) d c.requires.draft.is (listed at))
-    c.in_ok-found.found (rw (kinds at, c.ranks_of-all.ensures) at c.in_ok-found.ensures)
+    let alike : FindAlike c.in_ok-fewer.fewer.items (ranks_of d f) = subst (λ (l : List Rank). FindAlike c.in_ok-fewer.fewer.items l) c.ranks_of.ensures c.in_ok-fewer.ensures in
+    IsFirstList-same the_list (HasNoLowest d (map (kind d) (first at).args) c.in_ok-fewer.fewer.items) (HasNoResult c.args.collected.now f)
+    (no_result_by c.args.collected.now c.requires.agree f (first at) d c.requires.draft.is (listed at) c.in_ok-fewer.fewer.items alike)
+    c.in_ok-found.found (rw (kinds at, c.as_slice-3.ensures.value) at c.in_ok-found.ensures)

@@ -1,10 +1,9 @@
 -- The index of a key is the place of its text.
-use Rattle.std.proofs.Common.{◌≡◌, ◌≢◌, List, [], ◌∷◌, ◌++◌, length, map, Option, Some, None, sym, ap, subst, ◌∙◌}
-use Rattle.std.specs.Prelude.{AllPairs}
+use Rattle.std.proofs.Common.{sym, ap, ◌∙◌}
 use Rattle.std.specs.Str.{bytes_eq}
 use Rattle.std.proofs.lemmas.Iterator.Adapters.{position_from-zero}
-use Rattle.fvn_syntax.specs.Texts.{place, place_or_end, with_text}
-use Rattle.fvn_syntax.proofs.TextLemmas.{position-map, position-any, distinct-pairs, bytes_in}
+use Rattle.fvn_syntax.specs.Texts.{place}
+use Rattle.fvn_syntax.proofs.TextLemmas.{position-map, bytes_in}
 use Rattle.fvn_syntax.proofs.texts.Texts.place.Goals as goal
 
 pub returns : goal.returns

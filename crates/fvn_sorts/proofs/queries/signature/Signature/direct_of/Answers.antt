@@ -2,10 +2,10 @@
 use Rattle.std.proofs.Common.{◌≡◌, ◌<◌, ◌≤◌, ℕ, List, length, map, ap, ◌∙◌, arith}
 use Rattle.fvn_terms.specs.declared.plain.SortId.{SortId}
 use Rattle.fvn_terms.specs.declared.declarations.Declarations.{Declarations}
-use Rattle.fvn_sorts.specs.Collected.{first_sorts}
+use Rattle.fvn_drafts.specs.Collected.{first_sorts}
 use Rattle.fvn_sorts.specs.Queries.{direct_subsorts}
-use Rattle.fvn_sorts.proofs.Parts.{map_sorts-at, map_sorts-length}
-use Rattle.fvn_sorts.proofs.TableLemmas.{looked_up}
+use Rattle.fvn_drafts.proofs.Parts.{map_sorts-at, map_sorts-length}
+use Rattle.fvn_drafts.proofs.TableLemmas.{looked_up}
 use Rattle.fvn_sorts.proofs.queries.signature.Signature.direct_of.Goals as goal
 use Rattle.fvn_sorts.proofs.queries.signature.Signature.direct_of.Goals.{After-from}
 
@@ -15,7 +15,7 @@ lists c = c.deref.ensures.value ∙ c.self.invariant.direct
 within : (c : After-from) → c.args.s.0 < c.self.inside.draft.total
 within c =
     let kinds : length c.self.inside.draft.declarations.kinds ≡ length c.args.self.now.kinds = ap (λ (x : Declarations). length x.kinds) c.self.view_is in
-    omega (arith, c.self.invariant.draft.total, c.requires)
+    omega (arith, c.self.inside.draft.sound.total, c.requires)
 
 pub returns-in-Some : goal.returns-in-Some
 returns-in-Some c =

@@ -1,0 +1,3 @@
+-- What the code keeps and goes through.
+pub mod Words
+pub mod Lowering

@@ -1,0 +1,80 @@
+-- The first fault of a text, and that a refused text is none.
+use Rattle.std.proofs.Common.{◌≡◌, ◌⊎◌, inl, inr, List, Option, Some, None, Result, Ok, Err, refl, sym, ap, ◌∙◌, subst}
+use Rattle.std.specs.Prelude.{IfOk, IfErr}
+use Rattle.fvn_lex.specs.declared.token.LexFault.{LexFault}
+use Rattle.fvn_lex.specs.Cut.{Piece, lex, pieces_of, pieces_in}
+use Rattle.fvn_syntax.specs.declared.fault.TermFault.{TermFault}
+use Rattle.fvn_syntax.specs.declared.fault.TermFault.TheVariants as term
+use Rattle.fvn_syntax.specs.Pieces.{Text}
+use Rattle.fvn_problems.specs.declared.fault.ProblemFault.{ProblemFault}
+use Rattle.fvn_problems.specs.declared.fault.ProblemFault.TheVariants.{Lex, Text as NoText, UnknownName, Arity, WrongKind, TooLarge, ReservedName, WrongSort, NoMemory}
+use Rattle.fvn_problems.specs.Faults.{fault_of, HasTokens, IsFirstFault, ButForMemory}
+use Rattle.fvn_problems.specs.inner.Steps.{IsLexFault}
+
+pub on-ok : {A F : Type 0} (P Q : A → Type 0) → ((a : A) → P a → Q a) → (r : Result A F) → IfOk r P → IfOk r Q
+on-ok P Q f (Ok a) h = f a h
+on-ok P Q f (Err e) h = tt
+
+pub on-err : {A F : Type 0} (P Q : F → Type 0) → ((e : F) → P e → Q e) → (r : Result A F) → IfErr r P → IfErr r Q
+on-err P Q f (Ok a) h = tt
+on-err P Q f (Err e) h = f e h
+
+pub no-tokens : (bytes : Text) (fault : LexFault) → lex bytes ≡ Err fault → HasTokens bytes → ⊥
+unfolding pieces_of
+no-tokens bytes fault h t = (let e : None ≡ Some t.0 = ap (pieces_in bytes) (sym h) ∙ t.1 in cc)
+
+-- the fault of a term is none of bytes or form
+abbrev pub IsOfText : ProblemFault → Type 0
+IsOfText (Lex fault) = ⊥
+IsOfText NoText = ⊥
+IsOfText UnknownName = Unit {0}
+IsOfText Arity = Unit {0}
+IsOfText WrongKind = Unit {0}
+IsOfText TooLarge = Unit {0}
+IsOfText ReservedName = Unit {0}
+IsOfText WrongSort = Unit {0}
+IsOfText NoMemory = Unit {0}
+
+pub fault_of-text : (first : TermFault) → IsOfText (fault_of first)
+fault_of-text term.ReservedName = tt
+fault_of-text term.UnknownName = tt
+fault_of-text term.Arity = tt
+fault_of-text term.WrongKind = tt
+fault_of-text term.NoMemory = tt
+
+module _ {Raw : Type 0} (IsText : Raw → Type 0) (IsFault : Raw → ProblemFault → Type 0) (bytes : Text) where
+  pub first-lex : (fault : ProblemFault) → IsLexFault bytes fault → IsFirstFault IsText IsFault bytes fault
+  first-lex (Lex fault) h = h
+  first-lex NoText h = absurd h
+  first-lex UnknownName h = absurd h
+  first-lex Arity h = absurd h
+  first-lex WrongKind h = absurd h
+  first-lex TooLarge h = absurd h
+  first-lex ReservedName h = absurd h
+  first-lex WrongSort h = absurd h
+  first-lex NoMemory h = tt
+
+  pub first-written : (fault : ProblemFault) → IsOfText fault → (raw : Raw) → IsText raw → IsFault raw fault → IsFirstFault IsText IsFault bytes fault
+  first-written (Lex fault) o raw t h = absurd o
+  first-written NoText o raw t h = absurd o
+  first-written UnknownName o raw t h = (raw, t, h)
+  first-written Arity o raw t h = (raw, t, h)
+  first-written WrongKind o raw t h = (raw, t, h)
+  first-written TooLarge o raw t h = (raw, t, h)
+  first-written ReservedName o raw t h = (raw, t, h)
+  first-written WrongSort o raw t h = (raw, t, h)
+  first-written NoMemory o raw t h = tt
+
+  module _ {Answer : Type 0} (IsAnswer : Answer → Type 0) (tokens : (raw : Raw) → IsText raw → HasTokens bytes)
+      (form : (a : Answer) → IsAnswer a → (raw : Raw) × IsText raw)
+      (never : (raw : Raw) → IsText raw → (fault : ProblemFault) → IsFault raw fault → (a : Answer) → IsAnswer a → ⊥) where
+    pub refuted : (fault : ProblemFault) → IsFirstFault IsText IsFault bytes fault → ButForMemory ((a : Answer) → IsAnswer a → ⊥) fault
+    refuted (Lex fault) h = inr (λ a w. let r = form a w in no-tokens bytes fault h (tokens r.0 r.1))
+    refuted NoText h = inr (λ a w. let r = form a w in h.1 r.0 r.1)
+    refuted UnknownName h = inr (never h.0 h.1 UnknownName h.2)
+    refuted Arity h = inr (never h.0 h.1 Arity h.2)
+    refuted WrongKind h = inr (never h.0 h.1 WrongKind h.2)
+    refuted TooLarge h = inr (never h.0 h.1 TooLarge h.2)
+    refuted ReservedName h = inr (never h.0 h.1 ReservedName h.2)
+    refuted WrongSort h = inr (never h.0 h.1 WrongSort h.2)
+    refuted NoMemory h = inl refl
