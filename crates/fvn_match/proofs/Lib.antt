@@ -1,12 +1,19 @@
 -- The lemmas of the crate.
-pub mod Advancing
-pub mod Tallies
-pub mod Placing
-pub mod SummandLists
-pub mod Runs
-pub mod Finding
-pub mod PairSteps
-pub mod SumSteps
-pub mod Matchers
-pub mod KnownSteps
-pub mod SumFitting
+mod Advancing
+mod Tallies
+mod Placing
+mod SummandLists
+mod Runs
+mod VariableSteps
+mod PairingSteps
+mod Finding
+mod PairSteps
+mod PairFinding
+mod SumSteps
+mod SumFitting
+mod KnownSteps
+mod SumFinding
+mod ChoiceFinding
+mod SummedFinding
+mod Weights
+mod Matchers

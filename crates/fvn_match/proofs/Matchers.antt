@@ -1,6 +1,6 @@
 -- Matchers, and candidates that make of each pattern its target.
-use Rattle.std.proofs.Common.{◌≡◌, ℕ, ◌<◌, zero, suc, Bool, true, false, List, [], ◌∷◌, map, Option, Some, None, refl, sym, ap, ◌∙◌, subst, inl, inr, arith}
-use Rattle.std.specs.Prelude.{◌↔◌, ◌⊎◌, if◌then◌else◌, Any, Contains}
+use Rattle.std.proofs.Common.{◌≡◌, Bool, true, false, List, [], ◌∷◌, map, Option, Some, None, refl, sym, ap, ◌∙◌, subst, inl, inr}
+use Rattle.std.specs.Prelude.{◌↔◌, ◌⊎◌, if◌then◌else◌, IfSome}
 use Rattle.std.specs.List.{AllZip, AllByRecursion}
 use Rattle.fvn_terms.specs.declared.plain.Var.{Var}
 use Rattle.fvn_terms.specs.declared.plain.SortId.{SortId}
@@ -24,12 +24,15 @@ use Rattle.fvn_forms.proofs.Eval.{canon_settled, canon_respects, canon_plain, ev
 use Rattle.fvn_forms.proofs.ToCanon.{canon_of_kind, b_equal_iff_canon}
 use Rattle.fvn_forms.proofs.LeastSort.{eval_is_canon, least_sort_exact, least_sort_of_settled}
 use Rattle.fvn_flat.specs.Fits.{Fits, AllFit}
-use Rattle.fvn_flat.specs.Bindings.{Bindings, bound, value, form_or}
+use Rattle.fvn_flat.specs.Bindings.{Bindings, bound, value, form_or, BindingsFit}
 use Rattle.fvn_flat.specs.Solving.{substitution}
 use Rattle.fvn_flat.proofs.Binding.{same_var_is, same_var_itself}
+use Rattle.fvn_flat.proofs.Occurrences.{OccursIn}
 use Rattle.fvn_match.specs.Matching.{IsMatcher, HasNoMatcher, Matches, BindsJust}
-use Rattle.fvn_match.specs.inner.Candidates.{Values, IsCandidate, pairs_of}
+use Rattle.fvn_match.specs.inner.Variables.{IsAmong, AreVariablesOf}
+use Rattle.fvn_match.specs.inner.Candidates.{Values, IsCandidate, IsSolution, pairs_of, Finds}
 use Rattle.fvn_match.specs.inner.Goals.{AllMake}
+use Rattle.fvn_match.proofs.VariableSteps.{occurs_in_some}
 
 -- variables of terms have known sorts
 mutual
@@ -42,27 +45,6 @@ mutual
   occurs_among_known d x (more t ts) [] h o = absurd h
   occurs_among_known d x (more t ts) (k ∷ ks) h (inl o) = occurs_known d x t k h.0 o
   occurs_among_known d x (more t ts) (k ∷ ks) h (inr o) = occurs_among_known d x ts ks h.1 o
-
--- x is one of the variables
-abbrev pub IsAmong : List Var → Var → Type 0
-IsAmong [] x = ⊥
-IsAmong (y ∷ ys) x = (y ≡ x) ⊎ IsAmong ys x
-
-pub contained_is_among : (vars : List Var) (x : Var) → Contains vars x → IsAmong vars x
-contained_is_among [] x (k, l, e) = absurd (omega (arith, l))
-contained_is_among (y ∷ ys) x (zero, l, e) = inl e
-contained_is_among (y ∷ ys) x (suc k, l, e) = inr (contained_is_among ys x (k, omega (arith, l), e))
-
-pub among_is_contained : (vars : List Var) (x : Var) → IsAmong vars x → Contains vars x
-among_is_contained [] x h = absurd h
-among_is_contained (y ∷ ys) x (inl e) = (0, omega arith, e)
-among_is_contained (y ∷ ys) x (inr h) = let r = among_is_contained ys x h in (suc r.0, omega (arith, r.1), r.2)
-
-pub any_first : {A : Type 0} (P : A → Type 0) (x : A) (xs : List A) → P x → Any P (x ∷ xs)
-any_first P x xs h = (0, x, omega arith, refl, h)
-
-pub any_later : {A : Type 0} (P : A → Type 0) (x : A) (xs : List A) → Any P xs → Any P (x ∷ xs)
-any_later P x xs h = (suc h.0, h.1, omega (arith, h.2), h.3, h.4)
 
 -- what the values of variables bind
 module _ (c : Values) where
@@ -143,10 +125,10 @@ module _ (d : Declarations) (good : IsGood d) where
     made_matches [] [] fp ft all h = tt
     made_matches [] (t ∷ ts) fp ft all h = absurd h
     made_matches (p ∷ ps) [] fp ft all h = absurd h
-    made_matches (p ∷ ps) (t ∷ ts) fp ft all h = (equal, made_matches ps ts fp.1 ft.1 (λ x o. all x (any_later (Occurs x) (plain p) (map plain ps) o)) h.1)
+    made_matches (p ∷ ps) (t ∷ ts) fp ft all h = (equal, made_matches ps ts fp.1 ft.1 (λ x o. all x ((occurs_in_some x (p ∷ ps)).0 (inr ((occurs_in_some x ps).1 o)))) h.1)
       where
         agree : apply (substitution (pairs_of vars c)) (plain p) ≡ apply (λ x. plain (c x)) (plain p)
-        agree = apply-agree (substitution (pairs_of vars c)) (λ x. plain (c x)) (plain p) (λ x o. ap plain (value_among x (all x (any_first (Occurs x) (plain p) (map plain ps) o))))
+        agree = apply-agree (substitution (pairs_of vars c)) (λ x. plain (c x)) (plain p) (λ x o. ap plain (value_among x (all x ((occurs_in_some x (p ∷ ps)).0 (inl o)))))
 
         term : IsTerm d (apply (substitution (pairs_of vars c)) (plain p))
         term = (fp.0.kinded.0, HasKind-apply d (substitution (pairs_of vars c)) bindings_well_sorted.0 (plain p) fp.0.kinded.0 fp.0.kinded.1)
@@ -155,3 +137,39 @@ module _ (d : Declarations) (good : IsGood d) where
         equal =
             (b_equal_iff_canon d good.fits (apply (substitution (pairs_of vars c)) (plain p)) (plain t) term ft.0.kinded).1
             (ap (canon d) agree ∙ eval_is_canon d good c candidate.flat (plain p) ∙ h.0 ∙ sym (canon_plain d t ft.0.flat))
+
+  -- what is found for the patterns and targets
+  module _ (ps ts : List FlatTerm) (fp : AllFit d ps) (ft : AllFit d ts) (vars : List Var) (v : AreVariablesOf ps vars) where
+    sorted : (qs : List FlatTerm) → AllFit d qs → (x : Var) → OccursIn x qs → IsSort d x.sort
+    sorted [] fit x o = absurd o
+    sorted (q ∷ qs) fit x (inl o) = occurs_known d x (plain q) fit.0.kinded.0 fit.0.kinded.1 o
+    sorted (q ∷ qs) fit x (inr o) = sorted qs fit.1 x o
+
+    known_sorts : (x : Var) → IsAmong vars x → IsSort d x.sort
+    known_sorts x h = sorted ps fp x ((occurs_in_some x ps).1 ((v.just x).0 h))
+
+    -- each pattern is its target, and nothing else is asked
+    abbrev pub Makes : Values → Type 0
+    Makes c = AllMake d ps ts c × Unit {0}
+
+    pub found_matches : (o : Option Bindings) → Finds vars (IsSolution d [] Makes) o → IfSome o (Matches d ps ts)
+    found_matches None f = tt
+    found_matches (Some s) f =
+        let k = f.1 in
+        subst (Matches d ps ts) (sym f.2)
+        (bindings_well_sorted f.0 k.candidate vars known_sorts, made_matches f.0 k.candidate vars known_sorts ps ts fp ft (λ x o. (v.just x).1 o) k.holds.0)
+
+    pub found_binds : (o : Option Bindings) → Finds vars (IsSolution d [] Makes) o → IfSome o (BindsJust ps)
+    found_binds None f = tt
+    found_binds (Some s) f = subst (BindsJust ps) (sym f.2) (λ x. (
+      λ o. (f.0 x, bound_among f.0 vars x ((v.just x).1 o)),
+      λ b. (v.just x).0 (among_bound f.0 vars x b.0 b.1).0,
+    ))
+
+    pub found_fits : (o : Option Bindings) → Finds vars (IsSolution d [] Makes) o → IfSome o (BindingsFit d)
+    found_fits None f = tt
+    found_fits (Some s) f = subst (BindingsFit d) (sym f.2) (bindings_candidate f.0 f.1.candidate vars known_sorts).flat
+
+    pub found_nothing : (o : Option Bindings) → Finds vars (IsSolution d [] Makes) o → o ≡ None → HasNoMatcher d ps ts
+    found_nothing None f e s m = f (λ x. canon d (s x)) record { candidate = candidate_of s m.0; agrees = λ x t q. cc; holds = (matched_makes s ps ts ft m.1, tt) }
+    found_nothing (Some s) f e = cc

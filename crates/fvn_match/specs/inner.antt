@@ -2,6 +2,8 @@
 pub mod Choices
 pub mod Tallies
 pub mod Summands
+pub mod Variables
+pub mod Pairing
 pub mod Candidates
 pub mod Goals
 pub mod Known

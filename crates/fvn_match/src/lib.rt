@@ -5,9 +5,11 @@ mod choices;
 mod goals;
 mod known;
 mod matching;
+mod pairing;
 mod scratch;
 mod search;
 mod summands;
+mod variables;
 mod wholes;
 
 pub use matching::matches;

@@ -1,12 +1,13 @@
 //! Matchers of lists of flat terms.
-ghost use Rattle.std.specs.Prelude.{◌≡◌, ◌↔◌, length, map, IsTrue, OnOk};
-ghost use Rattle.fvn_terms.specs.Variants.{Covers};
-ghost use Rattle.fvn_forms.specs.Flat.{plain};
+ghost use Rattle.std.specs.Prelude.{◌≡◌, length};
 ghost use Rattle.fvn_flat.specs.Fits.{AllFit};
 ghost use Rattle.fvn_flat.specs.Bindings.{BindingsFit};
-ghost use Rattle.fvn_flat.specs.Solving.{substitution};
 ghost use Rattle.fvn_match.specs.Matching.{HasNoMatcher, Matches, BindsJust, IfFound, IfNothing};
 
+use crate::goals::{Bound, Goals, Sums};
+use crate::pairing::all_have_one_kind;
+use crate::search::Search;
+use crate::variables::variables;
 use fvn_flat::{Flat, Subst};
 use fvn_sorts::Signature;
 use fvn_terms::NoMemory;
@@ -31,5 +32,17 @@ pub fn matches(
     // Nothing is found only where no well-sorted substitution does so.
     ensures none { IfNothing result (HasNoMatcher sig.now pattern.now target.now) }
 {
-    Err(NoMemory)
+    sig.recall_good();
+    if !all_have_one_kind(sig, pattern, target) {
+        return Ok(None);
+    }
+    let vars = variables(alloc, pattern)?;
+    let search = Search {
+        alloc,
+        sig,
+        vars: vars.as_slice(),
+    };
+    let goals = Goals::Lists(pattern, target, &Goals::Done);
+    let found = search.solve(&goals, &Sums::NoSum, &Bound::Nothing)?;
+    Ok(found)
 }

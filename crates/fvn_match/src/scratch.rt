@@ -1,6 +1,20 @@
 //! scratch
 ghost use Rattle.std.specs.Prelude.{◌≡◌};
 
+#[tactic(auto, using(crate::proofs::VariableSteps::are_variables))]
+fn variable_steps(x: usize) -> usize
+    ensures { result ≡ x }
+{
+    x
+}
+
+#[tactic(auto, using(crate::proofs::PairingSteps::one_kind_pairs))]
+fn pairing_steps(x: usize) -> usize
+    ensures { result ≡ x }
+{
+    x
+}
+
 #[tactic(auto, using(crate::proofs::Finding::nothing_found))]
 fn finding(x: usize) -> usize
     ensures { result ≡ x }
@@ -15,15 +29,15 @@ fn pair_steps(x: usize) -> usize
     x
 }
 
-#[tactic(auto, using(crate::proofs::SumSteps::choice_length))]
-fn sum_steps(x: usize) -> usize
+#[tactic(auto, using(crate::proofs::PairFinding::found_across))]
+fn pair_finding(x: usize) -> usize
     ensures { result ≡ x }
 {
     x
 }
 
-#[tactic(auto, using(crate::proofs::Matchers::made_matches))]
-fn matchers(x: usize) -> usize
+#[tactic(auto, using(crate::proofs::SumSteps::choice_length))]
+fn sum_steps(x: usize) -> usize
     ensures { result ≡ x }
 {
     x
@@ -38,6 +52,41 @@ fn sum_fitting(x: usize) -> usize
 
 #[tactic(auto, using(crate::proofs::KnownSteps::leaving_refused))]
 fn known_steps(x: usize) -> usize
+    ensures { result ≡ x }
+{
+    x
+}
+
+#[tactic(auto, using(crate::proofs::SumFinding::tried_all))]
+fn sum_finding(x: usize) -> usize
+    ensures { result ≡ x }
+{
+    x
+}
+
+#[tactic(auto, using(crate::proofs::ChoiceFinding::found_whole))]
+fn choice_finding(x: usize) -> usize
+    ensures { result ≡ x }
+{
+    x
+}
+
+#[tactic(auto, using(crate::proofs::SummedFinding::found_summed))]
+fn summed_finding(x: usize) -> usize
+    ensures { result ≡ x }
+{
+    x
+}
+
+#[tactic(auto, using(crate::proofs::Weights::weight_of-group))]
+fn weights(x: usize) -> usize
+    ensures { result ≡ x }
+{
+    x
+}
+
+#[tactic(auto, using(crate::proofs::Matchers::found_nothing))]
+fn matchers(x: usize) -> usize
     ensures { result ≡ x }
 {
     x

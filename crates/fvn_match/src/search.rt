@@ -7,10 +7,11 @@ ghost use Rattle.fvn_forms.specs.Flat.{fvar};
 ghost use Rattle.fvn_flat.specs.Forms.{head_of};
 ghost use Rattle.fvn_match.specs.inner.Choices.{quotients};
 ghost use Rattle.fvn_flat.specs.Bindings.{value};
+ghost use Rattle.fvn_match.specs.inner.Variables.{AreOnce};
 ghost use Rattle.fvn_match.specs.inner.Candidates.{pairs_of};
 ghost use Rattle.fvn_match.specs.inner.Goals.{bindings_of, IsPair, StateFits};
 ghost use Rattle.fvn_match.specs.inner.Searching.{
-  AreOnce, IsCrossing, SumStateFits, IsGroup,
+  IsCrossing, SumStateFits, IsGroup,
   SearchesGoals, SearchesPair, SearchesLists, SearchesEither, SearchesSum, SearchesChoice, SearchesChoices,
 };
 

@@ -1,27 +1,22 @@
 -- What each step of a search finds.
 use Rattle.std.specs.Prelude.{◌≡◌, ◌⊎◌, ◌≤◌, ◌<◌, ◌*◌, ℕ, List, [], ◌∷◌, length, sum as std_sum, Option, Some, None}
 use Rattle.std.specs.List.{AllZip}
-use Rattle.fvn_terms.specs.declared.plain.Var.{Var}
 use Rattle.fvn_terms.specs.declared.plain.OpId.{OpId}
 use Rattle.fvn_terms.specs.declared.declarations.Declarations.{Declarations}
 use Rattle.fvn_terms.specs.Signature.{axioms}
-use Rattle.fvn_forms.specs.Flat.{FlatTerm, fvar}
+use Rattle.fvn_forms.specs.Flat.{FlatTerm}
 use Rattle.fvn_forms.specs.Canon.{identity, parts, sum, inst}
-use Rattle.fvn_flat.specs.Bindings.{Bindings, value, BindsOnce}
+use Rattle.fvn_flat.specs.Bindings.{Bindings, value}
 use Rattle.fvn_match.specs.inner.Choices.{IsWithin}
 use Rattle.fvn_match.specs.inner.Tallies.{repeated}
 use Rattle.fvn_match.specs.inner.Summands.{IsRun}
-use Rattle.fvn_match.specs.inner.Candidates.{Values, IsCandidate, IsSolution, pairs_of, Finds}
+use Rattle.fvn_match.specs.inner.Candidates.{Values, IsCandidate, IsSolution, Finds}
 use Rattle.fvn_match.specs.inner.Goals.{bindings_of, patterns_of, pieces_of, AllMake, SumHolds, SumsHold, Asked, ChoiceAsked, IsPair, SumFits, SumsFit}
 use Rattle.fvn_match.specs.declared.goals.Goals.{Goals}
 use Rattle.fvn_match.specs.declared.goals.SumGoal.{SumGoal}
 use Rattle.fvn_match.specs.declared.goals.Sums.{Sums}
 use Rattle.fvn_match.specs.declared.goals.Bound.{Bound}
 use Rattle.fvn_match.specs.declared.search.Search.{Search}
-
--- each variable stands there once
-abbrev pub AreOnce : List Var → Type 0
-AreOnce vars = BindsOnce (pairs_of vars fvar)
 
 -- the values of a candidate that agrees with those so far and does what is asked, or that there is none
 abbrev pub Searches : Search → Bound → (Values → Type 0) → Option Bindings → Type 0

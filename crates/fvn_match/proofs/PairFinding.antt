@@ -1,0 +1,113 @@
+-- What is found for a pair, by what is found for what it is taken apart into.
+use Rattle.std.proofs.Common.{◌≡◌, ℕ, ◌+◌, ◌≤◌, Bool, true, false, List, [], ◌∷◌, length, drop, get_or, Option, Some, None, refl, sym, ap, ◌∙◌, subst, inl, inr, arith}
+use Rattle.std.specs.Prelude.{◌↔◌, ◌⊎◌, if◌then◌else◌, is_some}
+use Rattle.fvn_terms.specs.declared.plain.Var.{Var}
+use Rattle.fvn_terms.specs.declared.plain.SortId.{SortId}
+use Rattle.fvn_terms.specs.declared.declarations.Declarations.{Declarations}
+use Rattle.fvn_terms.specs.Substitution.{same_var}
+use Rattle.fvn_terms.specs.Signature.{kind, IsSort, HasKind, AtOrBelow, same}
+use Rattle.fvn_forms.specs.Flat.{FlatTerm, fvar, plain}
+use Rattle.fvn_forms.specs.Canon.{inst}
+use Rattle.fvn_forms.specs.Settled.{Settled}
+use Rattle.fvn_forms.specs.LeastSort.{least_sort}
+use Rattle.fvn_flat.specs.Bindings.{Bindings, bound, value, form_or}
+use Rattle.fvn_flat.proofs.Binding.{same_var_is, same_var_itself}
+use Rattle.fvn_match.specs.inner.Candidates.{Values, IsCandidate, Agrees, IsSolution, Finds}
+use Rattle.fvn_match.specs.inner.Goals.{AllMake, IsPair}
+use Rattle.fvn_match.proofs.Finding.{found_same, found_first, found_none}
+
+module _ (d : Declarations) where
+  -- variables as they are
+  pub variables_are_candidate : IsCandidate d (value [])
+  variables_are_candidate = record { flat = record { settled = λ x. tt; keeps_kinds = λ x i. (i, refl) }; sorts = λ x i. same }
+
+  -- the values so far are a solution where nothing is asked
+  pub values_agree : (b : Bindings) → Agrees b (value b)
+  values_agree b x t e = ap (form_or x) e
+
+  -- one variable more is bound, to its target
+  module _ (b : Bindings) (x : Var) (t : FlatTerm) (pair : IsPair d (fvar x) t) where
+    known : IsSort d x.sort
+    known = pair.pattern_kind.0
+
+    target_kind : HasKind d (plain t) (kind d x.sort)
+    target_kind = subst (HasKind d (plain t)) (sym pair.pattern_kind.1) pair.target_kind
+
+    pub one_more_candidate : IsCandidate d (value b) → AtOrBelow d (least_sort d t) x.sort → IsCandidate d (value ((x, t) ∷ b))
+    one_more_candidate h low = record {
+      flat = record { settled = λ y. settled y (same_var x y) refl; keeps_kinds = λ y i. kinds y i (same_var x y) refl };
+      sorts = λ y i. sorts y i (same_var x y) refl;
+    }
+      where
+        settled : (y : Var) (z : Bool) → same_var x y ≡ z → Settled d (form_or y (if z then Some t else bound b y))
+        settled y true e = pair.target
+        settled y false e = h.flat.settled y
+
+        kinds : (y : Var) → IsSort d y.sort → (z : Bool) → same_var x y ≡ z → HasKind d (plain (form_or y (if z then Some t else bound b y))) (kind d y.sort)
+        kinds y i true e = subst (λ v. HasKind d (plain t) (kind d v.sort)) (same_var_is x y e) target_kind
+        kinds y i false e = h.flat.keeps_kinds y i
+
+        sorts : (y : Var) → IsSort d y.sort → (z : Bool) → same_var x y ≡ z → AtOrBelow d (least_sort d (form_or y (if z then Some t else bound b y))) y.sort
+        sorts y i true e = subst (λ v. AtOrBelow d (least_sort d t) v.sort) (same_var_is x y e) low
+        sorts y i false e = h.sorts y i
+
+    agrees_more : (c : Values) → Agrees b c → c x ≡ t → Agrees ((x, t) ∷ b) c
+    agrees_more c a is y u q = go (same_var x y) refl q
+      where
+        go : (z : Bool) → same_var x y ≡ z → (if z then Some t else bound b y) ≡ Some u → c y ≡ u
+        go true e q = ap c (sym (same_var_is x y e)) ∙ is ∙ (let w : t ≡ u = cc in w)
+        go false e q = a y u q
+
+    agrees_less : (c : Values) → bound b x ≡ None → Agrees ((x, t) ∷ b) c → Agrees b c
+    agrees_less c free a y u q = go (same_var x y) refl (a y u)
+      where
+        go : (z : Bool) → same_var x y ≡ z → ((if z then Some t else bound b y) ≡ Some u → c y ≡ u) → c y ≡ u
+        go true e k = let w : bound b x ≡ Some u = ap (bound b) (same_var_is x y e) ∙ q in cc
+        go false e k = k q
+
+    agrees_here : (c : Values) → Agrees ((x, t) ∷ b) c → c x ≡ t
+    agrees_here c a = a x t (ap (λ z. if z then Some t else bound b x) (same_var_itself x))
+
+    module _ (vars : List Var) (P : Values → Type 0) where
+      pub found_bound : bound b x ≡ None → (r : Option Bindings) → Finds vars (IsSolution d ((x, t) ∷ b) P) r → Finds vars (IsSolution d b (λ c. (inst d c (fvar x) ≡ t) × P c)) r
+      found_bound free None f = λ c s. f c record { candidate = s.candidate; agrees = agrees_more c s.agrees s.holds.0; holds = s.holds.1 }
+      found_bound free (Some s) f = let k = f.1 in (f.0, record { candidate = k.candidate; agrees = agrees_less f.0 free k.agrees; holds = (agrees_here f.0 k.agrees, k.holds) }, f.2)
+
+      -- a target of another sort
+      pub refused_sort : (AtOrBelow d (least_sort d t) x.sort → ⊥) → Finds vars (IsSolution d b (λ c. (inst d c (fvar x) ≡ t) × P c)) None
+      refused_sort high = λ c s. high (subst (λ u. AtOrBelow d (least_sort d u) x.sort) s.holds.0 (s.candidate.sorts x known))
+
+      -- a variable that is bound has its value
+      pub found_known : bound b x ≡ Some t → (r : Option Bindings) → Finds vars (IsSolution d b P) r → Finds vars (IsSolution d b (λ c. (inst d c (fvar x) ≡ t) × P c)) r
+      found_known e r f = found_same vars d b P (λ c. (inst d c (fvar x) ≡ t) × P c) (λ c k a. (λ h. (a x t e, h), λ h. h.1)) r f
+
+      pub refused_known : (v : FlatTerm) → bound b x ≡ Some v → (v ≡ t → ⊥) → Finds vars (IsSolution d b (λ c. (inst d c (fvar x) ≡ t) × P c)) None
+      refused_known v e other = λ c s. other (sym (s.agrees x v e) ∙ s.holds.0)
+
+-- a list of two
+pub two_is : {A : Type 0} (xs : List A) (x y : A) → length xs ≡ 2 → x ≡ get_or xs 0 x → y ≡ get_or xs 1 y → xs ≡ x ∷ y ∷ []
+two_is [] x y two p q = absurd (omega arith)
+two_is (u ∷ []) x y two p q = absurd (omega arith)
+two_is (u ∷ v ∷ []) x y two p q = ap (λ z. z ∷ v ∷ []) (sym p) ∙ ap (λ z. x ∷ z ∷ []) (sym q)
+two_is (u ∷ v ∷ w ∷ ws) x y two p q = absurd (omega arith)
+
+-- two pairs, in one way or the other
+module _ (d : Declarations) (b : Bindings) (vars : List Var) (p q t u : FlatTerm) (X : Values → Type 0) where
+  abbrev pub Straight : Values → Type 0
+  Straight c = (inst d c p ≡ t) × ((inst d c q ≡ u) × X c)
+
+  abbrev pub Across : Values → Type 0
+  Across c = (inst d c p ≡ u) × ((inst d c q ≡ t) × X c)
+
+  abbrev pub EitherWay : Values → Type 0
+  EitherWay c = (AllMake d (p ∷ q ∷ []) (t ∷ u ∷ []) c ⊎ AllMake d (p ∷ q ∷ []) (u ∷ t ∷ []) c) × X c
+
+  pub found_straight : (r : Option Bindings) → is_some r ≡ true → Finds vars (IsSolution d b Straight) r → Finds vars (IsSolution d b EitherWay) r
+  found_straight r e f = found_first vars d b Straight EitherWay (λ c k a h. (inl (h.0, (h.1.0, tt)), h.1.1)) r e f
+
+  pub found_across : (r : Option Bindings) → is_some r ≡ false → Finds vars (IsSolution d b Straight) r → (s : Option Bindings) → Finds vars (IsSolution d b Across) s → Finds vars (IsSolution d b EitherWay) s
+  found_across r e f s g = found_same vars d b Across EitherWay (λ c k a. (λ h. (inr (h.0, (h.1.0, tt)), h.1.1), λ h. only c k a h.0 h.1)) s g
+    where
+      only : (c : Values) → IsCandidate d c → Agrees b c → AllMake d (p ∷ q ∷ []) (t ∷ u ∷ []) c ⊎ AllMake d (p ∷ q ∷ []) (u ∷ t ∷ []) c → X c → Across c
+      only c k a (inl h) x = absurd (found_none vars d b Straight r e f c k a (h.0, (h.1.0, x)))
+      only c k a (inr h) x = (h.0, (h.1.0, x))
