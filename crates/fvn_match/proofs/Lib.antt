@@ -16,4 +16,6 @@ mod SumFinding
 mod ChoiceFinding
 mod SummedFinding
 mod Weights
+mod OnePiece
+mod Rooms
 mod Matchers

@@ -171,5 +171,5 @@ module _ (d : Declarations) (good : IsGood d) where
     found_fits (Some s) f = subst (BindingsFit d) (sym f.2) (bindings_candidate f.0 f.1.candidate vars known_sorts).flat
 
     pub found_nothing : (o : Option Bindings) → Finds vars (IsSolution d [] Makes) o → o ≡ None → HasNoMatcher d ps ts
-    found_nothing None f e s m = f (λ x. canon d (s x)) record { candidate = candidate_of s m.0; agrees = λ x t q. cc; holds = (matched_makes s ps ts ft m.1, tt) }
+    found_nothing None f e = λ s m. f (λ x. canon d (s x)) record { candidate = candidate_of s m.0; agrees = λ x t q. cc; holds = (matched_makes s ps ts ft m.1, tt) }
     found_nothing (Some s) f e = cc

@@ -61,7 +61,7 @@ module _ (d : Declarations) where
   makes_map c (p ∷ ps) (u ∷ us) h = ap (λ v. v ∷ map (inst d c) ps) h.0 ∙ ap (λ l. u ∷ l) (makes_map c ps us h.1)
 
   -- a form headed by an operator that is not associative is that operator over its arguments
-  not_joined : (a : Axioms) → (IsAssociative a → ⊥) → (f : OpId) → axioms d f ≡ a → (p : FlatTerm) → Settled d p → head_of p ≡ Some f → (ts : FlatTerms) × (p ≡ fapp f false ts)
+  pub not_joined : (a : Axioms) → (IsAssociative a → ⊥) → (f : OpId) → axioms d f ≡ a → (p : FlatTerm) → Settled d p → head_of p ≡ Some f → (ts : FlatTerms) × (p ≡ fapp f false ts)
   not_joined a n f e (fvar x) s h = cc
   not_joined a n f e (fapp g true ts) s h = let q : g ≡ f = cc in absurd (n (subst IsAssociative (ap (axioms d) q ∙ e) s.0.associative))
   not_joined a n f e (fapp g false ts) s h = let q : g ≡ f = cc in (ts, ap (λ o. fapp o false ts) q)

@@ -33,6 +33,10 @@ abbrev pub IsTried : Declarations → Bindings → SumGoal → FlatTerm → ℕ 
 IsTried d b goal p k limits room sums chosen =
     (c : Values) → IsCandidate d c → Agrees b c → (js : List ℕ) → IsWithin room limits js → ChoiceAsked d goal p k js sums c → FromOn chosen js
 
+pub each_itself : (ls : List ℕ) → AllZip (λ j l. j ≤ l) ls ls
+each_itself [] = tt
+each_itself (l ∷ ls) = (omega arith, each_itself ls)
+
 module _ (d : Declarations) (b : Bindings) (vars : List Var) (goal : SumGoal) (fit : SumFits d goal) where
   long : length goal.left.now ≡ length (pieces_of goal)
   long = fit.long ∙ sym (length_references goal.pieces.now)
@@ -54,9 +58,6 @@ module _ (d : Declarations) (b : Bindings) (vars : List Var) (goal : SumGoal) (f
 
     -- known patterns taken away
     module _ (open_ : Open) (left_open : IsOpen d b goal open_) (patterns : Bor (List (Bor FlatTerm))) (are : patterns.now ≡ open_.patterns.items) (left : Bor (List ℕ)) (left_is : left.now ≡ open_.left.items) where
-      smaller : SumGoal
-      smaller = record { op = goal.op; patterns = patterns; pieces = goal.pieces; left = left }
-
       open_holds : (c : Values) → AddsUp d goal.op (references open_.patterns.items) (pieces_of goal) open_.left.items c ↔ SumHolds d (record { op = goal.op; patterns = patterns; pieces = goal.pieces; left = left }) c
       open_holds c =
           subst (λ l. AddsUp d goal.op (references open_.patterns.items) (pieces_of goal) open_.left.items c ↔ AddsUp d goal.op (references l) (pieces_of goal) left.now c) (sym are)
@@ -88,7 +89,7 @@ module _ (d : Declarations) (b : Bindings) (vars : List Var) (goal : SumGoal) (f
 
     -- what a candidate chooses
     module _ (c : Values) (candidate : IsCandidate d c) where
-      its_choice : List ℕ
+      abbrev its_choice : List ℕ
       its_choice = numbers_in (pieces_of goal) (parts d goal.op (inst d c p))
 
       pub choice_makes : (js : List ℕ) → AllZip (λ j l. j ≤ l) js limits → ChoiceAsked d goal p k js sums c → Whole c
@@ -113,10 +114,10 @@ module _ (d : Declarations) (b : Bindings) (vars : List Var) (goal : SumGoal) (f
             (nil_from_length (drop k (patterns_of goal)) (let z = length-drop k (patterns_of goal) in omega arith)) ∙ sym limits_are
 
     -- the last group takes all that is left
-    pub found_only : k ≡ length (patterns_of goal) → AllZip (λ j l. j ≤ l) limits limits → {E : Type 0} (r : Result (Option Bindings) E) → IfOk r (Finds vars (IsSolution d b (ChoiceAsked d goal p k limits sums))) → IfOk r (Finds vars (IsSolution d b Whole))
-    found_only all same r f =
+    pub found_only : k ≡ length (patterns_of goal) → {E : Type 0} (r : Result (Option Bindings) E) → IfOk r (Finds vars (IsSolution d b (ChoiceAsked d goal p k limits sums))) → IfOk r (Finds vars (IsSolution d b Whole))
+    found_only all r f =
         if_found_same vars d b (ChoiceAsked d goal p k limits sums) Whole
-        (λ c h a. (λ asked. choice_makes c h limits same asked, λ w. subst (λ js. ChoiceAsked d goal p k js sums c) (its_choice_only c h w.0 all) (its_choice_asked c h w.0 w.1))) r f
+        (λ c h a. (λ asked. choice_makes c h limits (each_itself limits) asked, λ w. subst (λ js. ChoiceAsked d goal p k js sums c) (its_choice_only c h w.0 all) (its_choice_asked c h w.0 w.1))) r f
 
     -- some choice within the limits and the room
     abbrev pub SomeChoice : ℕ → Values → Type 0

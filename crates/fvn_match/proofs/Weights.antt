@@ -7,14 +7,14 @@ use Rattle.fvn_match.specs.inner.Goals.{weight, weights, weight_of}
 use Rattle.fvn_match.proofs.SumSteps.{reverse_more}
 use Rattle.fvn_match.proofs.KnownSteps.{weight_of-append}
 
-weight_of-funpack : (ts : FlatTerms) → weight_of (funpack ts) ≡ weights ts
-weight_of-funpack fnone = refl
-weight_of-funpack (fmore t ts) = ap (λ n. weight t + 2 + n) (weight_of-funpack ts)
+weight_of_funpack : (ts : FlatTerms) → weight_of (funpack ts) ≡ weights ts
+weight_of_funpack fnone = refl
+weight_of_funpack (fmore t ts) = ap (λ n. weight t + 2 + n) (weight_of_funpack ts)
 
 -- arguments weigh one less than the form
-pub weight-args : (p : FlatTerm) (f : OpId) → head_of p ≡ Some f → weight_of (args_of p) + 1 ≡ weight p
-weight-args (fvar x) f e = cc
-weight-args (fapp g joined ts) f e = ap (λ n. n + 1) (weight_of-funpack ts)
+pub weight_args : (p : FlatTerm) (f : OpId) → head_of p ≡ Some f → weight_of (args_of p) + 1 ≡ weight p
+weight_args (fvar x) f e = cc
+weight_args (fapp g joined ts) f e = ap (λ n. n + 1) (weight_of_funpack ts)
 
 pub weight_of-reverse : (l : List FlatTerm) → weight_of (reverse l) ≡ weight_of l
 weight_of-reverse [] = refl

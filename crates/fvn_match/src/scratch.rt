@@ -78,7 +78,7 @@ fn summed_finding(x: usize) -> usize
     x
 }
 
-#[tactic(auto, using(crate::proofs::Weights::weight_of-group))]
+#[tactic(auto, using(crate::proofs::Weights::weight_args))]
 fn weights(x: usize) -> usize
     ensures { result ≡ x }
 {
@@ -87,6 +87,20 @@ fn weights(x: usize) -> usize
 
 #[tactic(auto, using(crate::proofs::Matchers::found_nothing))]
 fn matchers(x: usize) -> usize
+    ensures { result ≡ x }
+{
+    x
+}
+
+#[tactic(auto, using(crate::proofs::OnePiece::sum_is_one))]
+fn one_piece(x: usize) -> usize
+    ensures { result ≡ x }
+{
+    x
+}
+
+#[tactic(auto, using(crate::proofs::Rooms::room_beside_others))]
+fn rooms(x: usize) -> usize
     ensures { result ≡ x }
 {
     x

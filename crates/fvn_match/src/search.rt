@@ -26,6 +26,7 @@ use fvn_terms::{Axioms, NoMemory, OpId, Var};
 use std::alloc::Global;
 
 // A search for the values of some variables.
+#[derive(Clone, Copy)]
 pub(crate) struct Search<'s> {
     pub(crate) alloc: Global,
     pub(crate) sig: &'s Signature,

@@ -75,6 +75,10 @@ module _ (d : Declarations) where
     pub first : patterns_of goal ≡ p ∷ others
     pub run : IsRun (patterns_of goal) k
 
+  -- an instance of the pattern has at most one summand
+  abbrev pub IsOnePiece : OpId → FlatTerm → Type 0
+  IsOnePiece f p = (c : Values) → IsCandidate d c → length (parts d f (inst d c p)) ≤ 1
+
   -- in no way has an instance of the pattern more summands than this
   abbrev pub IsRoom : SumGoal → FlatTerm → ℕ → Type 0
   IsRoom goal p room = (c : Values) → IsCandidate d c → SumHolds d goal c → length (parts d goal.op (inst d c p)) ≤ room
