@@ -1,6 +1,6 @@
 -- What is found for a pair, by what is found for what it is taken apart into.
 use Rattle.std.proofs.Common.{◌≡◌, ℕ, ◌+◌, ◌≤◌, Bool, true, false, List, [], ◌∷◌, length, drop, get_or, Option, Some, None, refl, sym, ap, ◌∙◌, subst, inl, inr, arith}
-use Rattle.std.specs.Prelude.{◌↔◌, ◌⊎◌, if◌then◌else◌, is_some}
+use Rattle.std.specs.Prelude.{◌↔◌, ◌⊎◌, if◌then◌else◌, is_some, Result, Ok, Err, IfOk}
 use Rattle.fvn_terms.specs.declared.plain.Var.{Var}
 use Rattle.fvn_terms.specs.declared.plain.SortId.{SortId}
 use Rattle.fvn_terms.specs.declared.declarations.Declarations.{Declarations}
@@ -14,7 +14,7 @@ use Rattle.fvn_flat.specs.Bindings.{Bindings, bound, value, form_or}
 use Rattle.fvn_flat.proofs.Binding.{same_var_is, same_var_itself}
 use Rattle.fvn_match.specs.inner.Candidates.{Values, IsCandidate, Agrees, IsSolution, Finds}
 use Rattle.fvn_match.specs.inner.Goals.{AllMake, IsPair}
-use Rattle.fvn_match.proofs.Finding.{found_same, found_first, found_none}
+use Rattle.fvn_match.proofs.Finding.{if_found_same, found_first, found_none}
 
 module _ (d : Declarations) where
   -- variables as they are
@@ -73,13 +73,17 @@ module _ (d : Declarations) where
       found_bound free None f = λ c s. f c record { candidate = s.candidate; agrees = agrees_more c s.agrees s.holds.0; holds = s.holds.1 }
       found_bound free (Some s) f = let k = f.1 in (f.0, record { candidate = k.candidate; agrees = agrees_less f.0 free k.agrees; holds = (agrees_here f.0 k.agrees, k.holds) }, f.2)
 
+      pub if_found_bound : bound b x ≡ None → {E : Type 0} (r : Result (Option Bindings) E) → IfOk r (Finds vars (IsSolution d ((x, t) ∷ b) P)) → IfOk r (Finds vars (IsSolution d b (λ c. (inst d c (fvar x) ≡ t) × P c)))
+      if_found_bound free (Ok o) f = found_bound free o f
+      if_found_bound free (Err e) f = tt
+
       -- a target of another sort
       pub refused_sort : (AtOrBelow d (least_sort d t) x.sort → ⊥) → Finds vars (IsSolution d b (λ c. (inst d c (fvar x) ≡ t) × P c)) None
       refused_sort high = λ c s. high (subst (λ u. AtOrBelow d (least_sort d u) x.sort) s.holds.0 (s.candidate.sorts x known))
 
       -- a variable that is bound has its value
-      pub found_known : bound b x ≡ Some t → (r : Option Bindings) → Finds vars (IsSolution d b P) r → Finds vars (IsSolution d b (λ c. (inst d c (fvar x) ≡ t) × P c)) r
-      found_known e r f = found_same vars d b P (λ c. (inst d c (fvar x) ≡ t) × P c) (λ c k a. (λ h. (a x t e, h), λ h. h.1)) r f
+      pub found_known : (v : FlatTerm) → bound b x ≡ Some v → v ≡ t → {E : Type 0} (r : Result (Option Bindings) E) → IfOk r (Finds vars (IsSolution d b P)) → IfOk r (Finds vars (IsSolution d b (λ c. (inst d c (fvar x) ≡ t) × P c)))
+      found_known v e equal r f = if_found_same vars d b P (λ c. (inst d c (fvar x) ≡ t) × P c) (λ c k a. (λ h. (a x v e ∙ equal, h), λ h. h.1)) r f
 
       pub refused_known : (v : FlatTerm) → bound b x ≡ Some v → (v ≡ t → ⊥) → Finds vars (IsSolution d b (λ c. (inst d c (fvar x) ≡ t) × P c)) None
       refused_known v e other = λ c s. other (sym (s.agrees x v e) ∙ s.holds.0)
@@ -105,8 +109,8 @@ module _ (d : Declarations) (b : Bindings) (vars : List Var) (p q t u : FlatTerm
   pub found_straight : (r : Option Bindings) → is_some r ≡ true → Finds vars (IsSolution d b Straight) r → Finds vars (IsSolution d b EitherWay) r
   found_straight r e f = found_first vars d b Straight EitherWay (λ c k a h. (inl (h.0, (h.1.0, tt)), h.1.1)) r e f
 
-  pub found_across : (r : Option Bindings) → is_some r ≡ false → Finds vars (IsSolution d b Straight) r → (s : Option Bindings) → Finds vars (IsSolution d b Across) s → Finds vars (IsSolution d b EitherWay) s
-  found_across r e f s g = found_same vars d b Across EitherWay (λ c k a. (λ h. (inr (h.0, (h.1.0, tt)), h.1.1), λ h. only c k a h.0 h.1)) s g
+  pub found_across : (r : Option Bindings) → is_some r ≡ false → Finds vars (IsSolution d b Straight) r → {E : Type 0} (s : Result (Option Bindings) E) → IfOk s (Finds vars (IsSolution d b Across)) → IfOk s (Finds vars (IsSolution d b EitherWay))
+  found_across r e f s g = if_found_same vars d b Across EitherWay (λ c k a. (λ h. (inr (h.0, (h.1.0, tt)), h.1.1), λ h. only c k a h.0 h.1)) s g
     where
       only : (c : Values) → IsCandidate d c → Agrees b c → AllMake d (p ∷ q ∷ []) (t ∷ u ∷ []) c ⊎ AllMake d (p ∷ q ∷ []) (u ∷ t ∷ []) c → X c → Across c
       only c k a (inl h) x = absurd (found_none vars d b Straight r e f c k a (h.0, (h.1.0, x)))

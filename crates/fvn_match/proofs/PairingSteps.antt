@@ -1,8 +1,8 @@
 -- Kinds of patterns and of their targets.
-use Rattle.std.proofs.Common.{◌≡◌, ℕ, ◌+◌, ◌<◌, List, [], ◌∷◌, length, map, drop, get_or, refl, sym, ap, ◌∙◌, subst, arith}
+use Rattle.std.proofs.Common.{◌≡◌, ℕ, ◌+◌, ◌<◌, ◌≤◌, List, [], ◌∷◌, length, map, drop, get_or, refl, sym, ap, ◌∙◌, subst, arith}
 use Rattle.std.specs.Prelude.{◌↔◌}
 use Rattle.std.specs.List.{AllZip}
-use Rattle.std.proofs.lemmas.List.{drop_more}
+use Rattle.std.proofs.lemmas.List.{drop_more, drop_all}
 use Rattle.fvn_terms.specs.declared.plain.Var.{Var}
 use Rattle.fvn_terms.specs.declared.plain.SortId.{SortId}
 use Rattle.fvn_terms.specs.declared.declarations.Declarations.{Declarations}
@@ -26,6 +26,9 @@ pub zip-drop : {A B : Type 0} (R : A → B → Type 0) (xs : List A) (ys : List 
 zip-drop R xs ys i x y h k p q =
     subst (λ l. AllZip R l (drop i ys) ↔ (R x y × AllZip R (drop (i + 1) xs) (drop (i + 1) ys))) (sym (drop_more xs i x h ∙ ap (λ u. u ∷ drop (i + 1) xs) (sym p)))
     (subst (λ l. AllZip R (x ∷ drop (i + 1) xs) l ↔ (R x y × AllZip R (drop (i + 1) xs) (drop (i + 1) ys))) (sym (drop_more ys i y k ∙ ap (λ u. u ∷ drop (i + 1) ys) (sym q))) (λ z. z, λ z. z))
+
+pub zip-end : {A B : Type 0} (R : A → B → Type 0) (xs : List A) (ys : List B) (i : ℕ) → length xs ≤ i → length ys ≤ i → AllZip R (drop i xs) (drop i ys)
+zip-end R xs ys i h k = subst (λ l. AllZip R l (drop i ys)) (sym (drop_all i xs h)) (subst (AllZip R []) (sym (drop_all i ys k)) tt)
 
 module _ (d : Declarations) (good : IsGood d) where
   kind_is : (t : FlatTerm) → Settled d t → (k : SortId) → HasKind d (plain t) k → kind d (least_sort d t) ≡ k

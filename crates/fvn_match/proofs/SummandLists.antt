@@ -8,6 +8,7 @@ use Rattle.fvn_terms.specs.declared.declarations.Declarations.{Declarations}
 use Rattle.fvn_terms.specs.Signature.{axioms}
 use Rattle.fvn_terms.specs.Equality.{IsAssociative}
 use Rattle.fvn_forms.specs.Flat.{FlatTerm, FlatTerms, fvar, fapp, fnone, fmore, funpack}
+use Rattle.fvn_forms.specs.InOrder.{InOrder}
 use Rattle.fvn_forms.specs.Canon.{same_op, identity, is_identity, parts}
 use Rattle.fvn_forms.specs.Settled.{FitsUnjoined, Settled}
 use Rattle.fvn_forms.proofs.Sums.{same_op_itself, same_op_is}
@@ -47,3 +48,17 @@ module _ (d : Declarations) (f : OpId) where
       go false p = refl
   parts_other (fapp h false fnone) g e n a = absurd (a refl)
   parts_other (fapp h false (fmore u us)) g e n a = refl
+
+  pub parts_in_order : (t : FlatTerm) → Settled d t → InOrder (parts d f t)
+  parts_in_order (fvar x) s = tt
+  parts_in_order (fapp g true ts) s = go (same_op f g)
+    where
+      go : (b : Bool) → InOrder (if b then funpack ts else fapp g true ts ∷ [])
+      go true = s.0.in_order
+      go false = tt
+  parts_in_order (fapp g false fnone) s = go (is_identity (identity (axioms d f)) g)
+    where
+      go : (b : Bool) → InOrder (if b then [] else fapp g false fnone ∷ [])
+      go true = tt
+      go false = tt
+  parts_in_order (fapp g false (fmore t ts)) s = tt

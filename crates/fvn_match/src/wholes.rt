@@ -1,16 +1,16 @@
 //! Sums of chosen pieces, and how many pieces a pattern may have.
 ghost use Rattle.std.specs.Prelude.{◌≡◌, ◌↔◌, ◌++◌, ◌≤◌, length, replicate, sum, IsTrue, IfOk};
-ghost use Rattle.fvn_forms.specs.Flat.{fapp};
+ghost use Rattle.fvn_flat.specs.Fits.{Fits};
 ghost use Rattle.fvn_match.specs.inner.Tallies.{repeated};
 ghost use Rattle.fvn_match.specs.inner.Summands.{references};
 ghost use Rattle.fvn_match.specs.inner.Goals.{SumFits};
-ghost use Rattle.fvn_match.specs.inner.Searching.{IsGroup, IsRoom, IsWhole, IsShort};
+ghost use Rattle.fvn_match.specs.inner.Searching.{IsGroup, IsOnePiece, IsRoom, IsWhole, IsShort};
 
 use crate::choices::total;
 use crate::goals::SumGoal;
 use fvn_flat::Flat;
 use fvn_sorts::Signature;
-use fvn_terms::NoMemory;
+use fvn_terms::{Axioms, NoMemory, OpId};
 use std::alloc::Global;
 
 // Whether all numbers are zero.
@@ -93,13 +93,33 @@ pub(crate) fn is_short(sig: &Signature, goal: &SumGoal<'_>) -> bool
     }
 }
 
+// Whether no instance of the pattern has more than one summand.
+fn is_one_piece(sig: &Signature, f: OpId, p: &Flat) -> bool
+    requires { Fits sig.now p.now }
+    ensures { IsTrue result → IsOnePiece sig.now f p.now }
+{
+    sig.recall_good();
+    let g = match p.head() {
+        None => return false,
+        Some(g) => g,
+    };
+    match sig.axioms(g) {
+        Axioms::Free => true,
+        Axioms::Comm => true,
+        Axioms::AssocComm => g != f,
+        Axioms::AssocCommId(_) => false,
+    }
+}
+
 // How many of the pieces the first pattern may have at most.
 pub(crate) fn room(sig: &Signature, goal: &SumGoal<'_>, p: &Flat, k: usize) -> usize
     requires fits { SumFits sig.now goal.now }
     requires group { IsGroup sig.now goal.now p.now k }
     ensures { IsRoom sig.now goal.now p.now result }
 {
-    let _pattern = p;
+    if is_one_piece(sig, goal.op, p) {
+        return 1;
+    }
     let all = total(goal.left);
     match sig.identity(goal.op) {
         Some(_) => all / k,

@@ -1,10 +1,12 @@
 //! Patterns and targets with what is found for them.
+mod counting;
 mod matching;
 mod reading;
 mod showing;
 mod terms;
 
-use self::matching::shown_match;
+use self::counting::{flat_many, is_matched};
+use self::matching::{flat_of, shown_match};
 use self::reading::collected;
 use fvn_sorts::Signature;
 use fvn_terms::NoMemory;
@@ -164,6 +166,21 @@ C0 f | g f f => C0 f(g)
 A0 | g f => no
 B0 f | B1 f => B0 B1";
 
+// Signatures with a sum, and then patterns with a number of equal pieces, and whether they are matched.
+const COUNTED: &str = "A; f : -> A; g : -> A; h : A A -> A [assoc comm]
+A0 A0 A0 h h | 200 => no
+A0 A0 A0 h h | 201 => yes
+A0 A0 A0 A1 A1 h h h h | 200 => yes
+A0 A0 h A0 A0 h h A1 A1 h A1 A1 h h h | 201 => no
+A0 g h | 200 => no
+
+A B; A < B; f : -> A; g : -> B; h : B B -> B [assoc comm id: g]
+A0 A1 A2 h h | 200 => no
+A0 A1 B0 h h | 200 => yes
+B0 B0 B0 h h | 200 => no
+A0 A0 h B0 B0 B0 h h h | 200 => yes
+A0 A0 h B0 B0 B0 h h h | 201 => no";
+
 fn assert_rows(
     rt: &impl Abort,
     alloc: Global,
@@ -187,6 +204,63 @@ fn patterns_are_matched(rt: HostRuntime) -> Result<(), NoMemory> {
             Ok(sig) => assert_rows(&rt, alloc, &sig, lines)?,
             Err(_) => assert!(rt; false, "at {text}"),
         }
+    }
+    Ok(())
+}
+
+fn assert_counted(
+    rt: &impl Abort,
+    alloc: Global,
+    sig: &Signature,
+    lines: &str,
+) -> Result<(), NoMemory> {
+    for line in lines.lines() {
+        let (text, want) = line.split_once(" => ").unwrap_or((line, ""));
+        let (word, count) = text.split_once(" | ").unwrap_or((text, ""));
+        let number = if count == "200" { 200 } else { 201 };
+        match (flat_of(alloc, sig, word)?, flat_many(alloc, sig, false, number)?) {
+            (Some(p), Some(t)) => {
+                assert_eq!(rt; is_matched(alloc, sig, &p, &t)?, want == "yes", "at {text}");
+            }
+            _ => assert!(rt; false, "at {text}"),
+        }
+    }
+    Ok(())
+}
+
+/// Equal pieces are divided by their number.
+#[test]
+fn equal_pieces_are_divided(rt: HostRuntime) -> Result<(), NoMemory> {
+    let alloc = rt.alloc();
+    for block in COUNTED.split("\n\n") {
+        let (text, lines) = block.split_once('\n').unwrap_or((block, ""));
+        match collected(&rt, alloc, text)?.finish(alloc) {
+            Ok(sig) => assert_counted(&rt, alloc, &sig, lines)?,
+            Err(_) => assert!(rt; false, "at {text}"),
+        }
+    }
+    Ok(())
+}
+
+/// A pattern of 500 variables is matched with 500 pieces, and not with 499.
+#[test]
+fn large_patterns_are_matched(rt: HostRuntime) -> Result<(), NoMemory> {
+    let alloc = rt.alloc();
+    let text = "A; f : -> A; g : -> A; h : A A -> A [assoc comm]";
+    match collected(&rt, alloc, text)?.finish(alloc) {
+        Ok(sig) => {
+            let pattern = flat_many(alloc, &sig, true, 500)?;
+            let enough = flat_many(alloc, &sig, false, 500)?;
+            let short = flat_many(alloc, &sig, false, 499)?;
+            match (pattern, enough, short) {
+                (Some(p), Some(t), Some(u)) => {
+                    assert!(rt; is_matched(alloc, &sig, &p, &t)?);
+                    assert!(rt; !is_matched(alloc, &sig, &p, &u)?);
+                }
+                _ => assert!(rt; false),
+            }
+        }
+        Err(_) => assert!(rt; false, "at {text}"),
     }
     Ok(())
 }

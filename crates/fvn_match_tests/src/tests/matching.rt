@@ -11,7 +11,7 @@ use fvn_terms::NoMemory;
 use std::alloc::{AllocError, AllocFailed, Global};
 
 /// The flat form of the term that is written, where it is well-kinded.
-fn flat_of(alloc: Global, sig: &Signature, word: &str) -> Result<Option<Flat>, NoMemory>
+pub fn flat_of(alloc: Global, sig: &Signature, word: &str) -> Result<Option<Flat>, NoMemory>
     ensures { IfOk result (λ o. IfSome o (Fits sig.now)) }
 {
     match term_of(alloc, sig, word)? {
