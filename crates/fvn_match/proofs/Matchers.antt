@@ -1,5 +1,6 @@
 -- Matchers, and candidates that make of each pattern its target.
-use Rattle.std.proofs.Common.{◌≡◌, Bool, true, false, List, [], ◌∷◌, map, Option, Some, None, refl, sym, ap, ◌∙◌, subst, inl, inr}
+use Rattle.std.proofs.Common.{◌≡◌, ℕ, ◌+◌, ◌<◌, zero, suc, Bool, true, false, List, [], ◌∷◌, ◌++◌, length, map, take, get_or, Option, Some, None, refl, sym, ap, ◌∙◌, subst, inl, inr, arith}
+use Rattle.std.proofs.lemmas.List.{take_more}
 use Rattle.std.specs.Prelude.{◌↔◌, ◌⊎◌, if◌then◌else◌, IfSome}
 use Rattle.std.specs.List.{AllZip, AllByRecursion}
 use Rattle.fvn_terms.specs.declared.plain.Var.{Var}
@@ -29,7 +30,7 @@ use Rattle.fvn_flat.specs.Solving.{substitution}
 use Rattle.fvn_flat.proofs.Binding.{same_var_is, same_var_itself}
 use Rattle.fvn_flat.proofs.Occurrences.{OccursIn}
 use Rattle.fvn_match.specs.Matching.{IsMatcher, HasNoMatcher, Matches, BindsJust}
-use Rattle.fvn_match.specs.inner.Variables.{IsAmong, AreVariablesOf}
+use Rattle.fvn_match.specs.inner.Variables.{IsAmong, AreOnce, AreVariablesOf}
 use Rattle.fvn_match.specs.inner.Candidates.{Values, IsCandidate, IsSolution, pairs_of, Finds}
 use Rattle.fvn_match.specs.inner.Goals.{AllMake}
 use Rattle.fvn_match.proofs.VariableSteps.{occurs_in_some}
@@ -64,6 +65,36 @@ module _ (c : Values) where
       go : (b : Bool) → same_var y x ≡ b → (if b then Some (c y) else bound (pairs_of ys c) x) ≡ Some t → (bound (pairs_of ys c) x ≡ Some t → IsAmong ys x × (t ≡ c x)) → IsAmong (y ∷ ys) x × (t ≡ c x)
       go true p q k = (inl (same_var_is y x p), (let z : c y ≡ t = cc in sym z) ∙ ap c (same_var_is y x p))
       go false p q k = let r = k q in (inr r.0, r.1)
+
+-- variables one after another
+not_among_before : (vars : List Var) (i : ℕ) (x : Var) → AreOnce vars → i < length vars → x ≡ get_or vars i x → IsAmong (take i vars) x → ⊥
+not_among_before [] i x once within is h = absurd (omega arith)
+not_among_before (y ∷ ys) zero x once within is h = h
+not_among_before (y ∷ ys) (suc i) x once within is (inl e) = once.0 (subst (IsAmong ys) (sym e) (stands ys i x (omega arith) is))
+  where
+    stands : (zs : List Var) (i : ℕ) (x : Var) → i < length zs → x ≡ get_or zs i x → IsAmong zs x
+    stands [] i x within is = absurd (omega arith)
+    stands (z ∷ zs) zero x within is = inl (sym is)
+    stands (z ∷ zs) (suc i) x within is = inr (stands zs i x (omega arith) is)
+not_among_before (y ∷ ys) (suc i) x once within is (inr h) = not_among_before ys i x once.1 (omega arith) is h
+
+module _ (c : Values) where
+  pub not_yet_bound : (vars : List Var) (i : ℕ) (x : Var) → AreOnce vars → i < length vars → x ≡ get_or vars i x → bound (pairs_of (take i vars) c) x ≡ None
+  not_yet_bound vars i x once within is = go (bound (pairs_of (take i vars) c) x) refl
+    where
+      go : (o : Option FlatTerm) → bound (pairs_of (take i vars) c) x ≡ o → bound (pairs_of (take i vars) c) x ≡ None
+      go None e = e
+      go (Some t) e = absurd (not_among_before vars i x once within is (among_bound c (take i vars) x t e).0)
+
+  pairs_append : (xs ys : List Var) → pairs_of (xs ++ ys) c ≡ pairs_of xs c ++ pairs_of ys c
+  pairs_append [] ys = refl
+  pairs_append (x ∷ xs) ys = ap (λ l. (x, c x) ∷ l) (pairs_append xs ys)
+
+  pub pairs_more : (vars : List Var) (i : ℕ) (x : Var) (s : Bindings) → s ≡ pairs_of (take i vars) c → i < length vars → x ≡ get_or vars i x → s ++ (x, c x) ∷ [] ≡ pairs_of (take (i + 1) vars) c
+  pairs_more vars i x s e within is =
+      ap (λ r. r ++ (x, c x) ∷ []) e
+      ∙ sym (pairs_append (take i vars) (x ∷ []))
+      ∙ ap (λ l. pairs_of l c) (sym (take_more vars i x within ∙ ap (λ y. take i vars ++ y ∷ []) (sym is)))
 
 module _ (d : Declarations) (good : IsGood d) where
   -- a well-sorted substitution gives a candidate

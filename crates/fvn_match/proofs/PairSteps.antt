@@ -79,10 +79,10 @@ module _ (d : Declarations) where
   module _ (fits : FitsKinds d) (f : OpId) (p t : FlatTerm) (pair : IsPair d p t) (head : head_of p ≡ Some f) where
     -- an instance keeps the head of a form that is no sum
     module _ (c : Values) (settled : SettledValues d c) where
-      free_head : axioms d f ≡ Free → inst d c p ≡ t → head_of t ≡ Some f
+      pub free_head : axioms d f ≡ Free → inst d c p ≡ t → head_of t ≡ Some f
       free_head e is = let n = not_joined Free (λ a. a) f e p pair.pattern head in ap head_of (sym is ∙ ap (inst d c) n.1 ∙ inst_free d c settled f e n.0)
 
-      commutative_head : axioms d f ≡ Comm → inst d c p ≡ t → head_of t ≡ Some f
+      pub commutative_head : axioms d f ≡ Comm → inst d c p ≡ t → head_of t ≡ Some f
       commutative_head e is = let n = not_joined Comm (λ a. a) f e p pair.pattern head in ap head_of (sym is ∙ ap (inst d c) n.1 ∙ inst_commutative d c settled f e n.0)
 
     -- free operators, argument by argument
@@ -200,12 +200,18 @@ module _ (d : Declarations) where
         order : InOrder (us.0 ∷ us.1 ∷ [])
         order = subst (λ a. FitsUnjoined d a (us.0 ∷ us.1 ∷ [])) e settled.0
 
+    pub two_patterns : length (args_of p) ≡ 2
+    two_patterns = ap (λ x. length (args_of x)) two_of.pattern_is
+
+    pub two_targets : length (args_of t) ≡ 2
+    two_targets = ap (λ x. length (args_of x)) two_of.target_is
+
     pub crossing : IsCrossing d (args_of p) (args_of t)
     crossing =
         let w = two_of in
         subst (λ x. IsCrossing d (args_of x) (args_of t)) (sym w.pattern_is)
         (subst (λ x. IsCrossing d (w.a ∷ w.b ∷ []) (args_of x)) (sym w.target_is)
-        record { two = (refl, refl); straight = (w.straight_first, (w.straight_second, tt)); across = (w.across_first, (w.across_second, tt)) })
+        record { straight = (w.straight_first, (w.straight_second, tt)); across = (w.across_first, (w.across_second, tt)) })
 
     module _ (c : Values) (settled : SettledValues d c) where
       in_turn : (a b u v : FlatTerm) (x : Bool) → is_gt (flat_cmp a b) ≡ x → sort (a ∷ b ∷ []) ≡ u ∷ v ∷ [] → ((a ≡ u) × (b ≡ v)) ⊎ ((a ≡ v) × (b ≡ u))

@@ -1,5 +1,5 @@
 -- What is found for a sum, by what is found for what it is taken apart into.
-use Rattle.std.proofs.Common.{◌≡◌, ℕ, ◌+◌, ◌*◌, ◌≤◌, ◌<◌, Bool, true, false, zero, suc, List, [], ◌∷◌, ◌++◌, length, map, replicate, drop, take, Option, Some, None, refl, sym, ap, ◌∙◌, subst, inl, inr, arith}
+use Rattle.std.proofs.Common.{◌≡◌, ℕ, ◌+◌, ◌*◌, ◌≤◌, ◌<◌, Bool, true, false, zero, suc, List, [], ◌∷◌, ◌++◌, length, map, replicate, drop, take, get_or, Option, Some, None, refl, sym, ap, ◌∙◌, subst, inl, inr, arith}
 use Rattle.std.specs.Prelude.{◌↔◌, ◌⊎◌, Result, Ok, Err, IfOk, is_some, sum as std_sum}
 use Rattle.std.specs.List.{AllZip, AllByRecursion}
 use denote.Ref.{Bor}
@@ -9,14 +9,15 @@ use Rattle.fvn_terms.specs.declared.plain.OpId.{OpId}
 use Rattle.fvn_terms.specs.declared.declarations.Declarations.{Declarations}
 use Rattle.fvn_terms.specs.Signature.{axioms}
 use Rattle.fvn_forms.specs.Flat.{FlatTerm}
+use Rattle.fvn_forms.specs.InOrder.{count}
 use Rattle.fvn_forms.specs.Canon.{identity, parts, inst}
 use Rattle.fvn_forms.specs.Settled.{IsPiece}
 use Rattle.fvn_flat.specs.Bindings.{Bindings}
 use Rattle.fvn_match.specs.inner.Choices.{quotients, reduced, advanced, IsWithin}
 use Rattle.fvn_match.specs.inner.Tallies.{repeated, AddsUp}
-use Rattle.fvn_match.specs.inner.Summands.{references}
+use Rattle.fvn_match.specs.inner.Summands.{references, IsRun}
 use Rattle.fvn_match.specs.inner.Candidates.{Values, IsCandidate, Agrees, IsSolution, Finds}
-use Rattle.fvn_match.specs.inner.Goals.{patterns_of, pieces_of, SumHolds, SumsHold, ChoiceAsked, SumFits}
+use Rattle.fvn_match.specs.inner.Goals.{patterns_of, pieces_of, SumHolds, SumsHold, ChoiceAsked, SumFits, weight_of}
 use Rattle.fvn_match.specs.inner.Known.{IsOpen, LeavesOpen}
 use Rattle.fvn_match.specs.inner.Searching.{IsGroup, IsRoom, IsShort}
 use Rattle.fvn_match.specs.declared.goals.SumGoal.{SumGoal}
@@ -25,13 +26,41 @@ use Rattle.fvn_match.specs.declared.known.Open.{Open}
 use Rattle.fvn_match.proofs.Advancing.{FromOn, FromNextOn, nothing_between, from_zeros}
 use Rattle.fvn_match.proofs.Tallies.{fits_quotients, numbers_in}
 use Rattle.fvn_match.proofs.Runs.{length_references}
-use Rattle.fvn_match.proofs.Finding.{found_same, if_found_same, found_first, found_none}
+use Rattle.fvn_match.proofs.SumFitting.{smaller_fits}
+use Rattle.fvn_match.proofs.Finding.{if_found_same, found_first, found_none}
 use Rattle.fvn_match.proofs.SumSteps.{as_many, length_adds_up, adds_up_none, choice_adds_up, choice_fits, choice_is, choice_leaves, choice_length, only_choice}
 
 -- a choice that a candidate takes is this one or comes after it
 abbrev pub IsTried : Declarations → Bindings → SumGoal → FlatTerm → ℕ → List ℕ → ℕ → Sums → List ℕ → Type 0
 IsTried d b goal p k limits room sums chosen =
     (c : Values) → IsCandidate d c → Agrees b c → (js : List ℕ) → IsWithin room limits js → ChoiceAsked d goal p k js sums c → FromOn chosen js
+
+-- groups and choices, as code finds them
+pub no_patterns : (goal : SumGoal) → length goal.patterns.now ≡ 0 → patterns_of goal ≡ []
+no_patterns goal e = nil_from_length (patterns_of goal) (length_references goal.patterns.now ∙ e)
+
+pub group_of : (d : Declarations) (goal : SumGoal) (p : Bor FlatTerm) (k : ℕ) → 1 ≤ length goal.patterns.now → p ≡ get_or goal.patterns.now 0 p → IsRun (references goal.patterns.now) k → IsGroup d goal p.now k
+group_of d goal p k some is run = record { others = drop 1 (patterns_of goal); first = first goal.patterns.now some is; run = run }
+  where
+    first : (xs : List (Bor FlatTerm)) → 1 ≤ length xs → p ≡ get_or xs 0 p → references xs ≡ p.now ∷ drop 1 (references xs)
+    first [] some is = absurd (omega arith)
+    first (x ∷ xs) some is = ap (λ y. y.now ∷ references xs) (sym is)
+
+pub group_within : (goal : SumGoal) (k : ℕ) → IsRun (references goal.patterns.now) k → k ≤ length goal.patterns.now
+group_within goal k run = let x = run.within in let y = length_references goal.patterns.now in omega arith
+
+pub choice_within : (k : ℕ) (ns limits js : List ℕ) → limits ≡ quotients k ns → AllZip (λ j l. j ≤ l) js limits → AllZip (λ j n. k * j ≤ n) js ns
+choice_within k ns limits js e h = fits_quotients k ns js (subst (AllZip (λ j l. j ≤ l) js) e h)
+
+pub as_long : (limits js : List ℕ) → AllZip (λ j l. j ≤ l) js limits → length js ≡ length limits
+as_long [] [] h = refl
+as_long [] (j ∷ js) h = absurd h
+as_long (l ∷ ls) [] h = absurd h
+as_long (l ∷ ls) (j ∷ js) h = ap suc (as_long ls js h.1)
+
+pub length_quotients : (k : ℕ) (ns : List ℕ) → length (quotients k ns) ≡ length ns
+length_quotients k [] = refl
+length_quotients k (n ∷ ns) = ap suc (length_quotients k ns)
 
 pub each_itself : (ls : List ℕ) → AllZip (λ j l. j ≤ l) ls ls
 each_itself [] = tt
@@ -67,6 +96,14 @@ module _ (d : Declarations) (b : Bindings) (vars : List Var) (goal : SumGoal) (f
       found_open r f =
           if_found_same vars d b (λ c. SumHolds d (record { op = goal.op; patterns = patterns; pieces = goal.pieces; left = left }) c × X c) WithSum
           (λ c k a. (λ h. ((left_open.same c k a).1 ((open_holds c).1 h.0), h.1), λ h. ((open_holds c).0 ((left_open.same c k a).0 h.0), h.1))) r f
+
+      pub open_fits : SumFits d (record { op = goal.op; patterns = patterns; pieces = goal.pieces; left = left })
+      open_fits =
+          smaller_fits d goal fit patterns (λ q some. left_open.among q (subst (λ l. 1 ≤ count q (references l)) are some)) left
+          (ap length left_is ∙ left_open.long) (let x = ap std_sum left_is in let y = left_open.fewer in omega arith)
+
+      pub open_weight : weight_of (references patterns.now) ≤ weight_of (patterns_of goal)
+      open_weight = let x = ap (λ l. weight_of (references l)) are in let y = left_open.lighter in omega arith
 
     -- no pattern
     module _ (none : patterns_of goal ≡ []) where

@@ -1,6 +1,7 @@
 //! Matching of flat terms modulo the axioms.
 #![tactic(auto)]
 
+mod answers;
 mod choices;
 mod goals;
 mod known;

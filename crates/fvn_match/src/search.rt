@@ -1,24 +1,23 @@
 //! The search for a matcher: pairs first, then sums.
-ghost use Rattle.std.specs.Prelude.{◌≡◌, ◌↔◌, ◌*◌, ◌≤◌, ◌<◌, ◌^◌, length, sum, Some, None, IsTrue, IfOk};
+ghost use Rattle.std.specs.Prelude.{◌≡◌, ◌*◌, ◌≤◌, length, IfOk};
 ghost use Rattle.std.specs.List.{AllZip};
 ghost use Rattle.fvn_terms.specs.Signature.{axioms};
 ghost use Rattle.fvn_terms.specs.Equality.{IsAssociative};
 ghost use Rattle.fvn_forms.specs.Flat.{fvar};
 ghost use Rattle.fvn_flat.specs.Forms.{head_of};
 ghost use Rattle.fvn_match.specs.inner.Choices.{quotients};
-ghost use Rattle.fvn_flat.specs.Bindings.{value};
 ghost use Rattle.fvn_match.specs.inner.Variables.{AreOnce};
-ghost use Rattle.fvn_match.specs.inner.Candidates.{pairs_of};
-ghost use Rattle.fvn_match.specs.inner.Goals.{bindings_of, IsPair, StateFits};
+ghost use Rattle.fvn_match.specs.inner.Goals.{IsPair, StateFits};
 ghost use Rattle.fvn_match.specs.inner.Searching.{
   IsCrossing, SumStateFits, IsGroup,
   SearchesGoals, SearchesPair, SearchesLists, SearchesEither, SearchesSum, SearchesChoice, SearchesChoices,
 };
 
+use crate::answers::answer;
 use crate::choices::{advanced, quotients, reduced, zeros};
 use crate::goals::{Bound, Goals, SumGoal, Sums};
 use crate::known::{has_known, without_known};
-use crate::summands::{alike, count_pieces, is_headed, reversed, summands};
+use crate::summands::{after, alike, count_pieces, is_headed, reversed, summands};
 use crate::wholes::{are_zero, is_short, room, whole};
 use fvn_flat::{Flat, Subst};
 use fvn_sorts::Signature;
@@ -34,21 +33,6 @@ pub(crate) struct Search<'s> {
 }
 
 impl Search<'_> {
-    // The values of the variables that were asked for.
-    fn answer(&self, bound: &Bound<'_>) -> Result<Subst, NoMemory>
-        requires { AreOnce self.now.vars.now }
-        ensures { IfOk result (λ s. s ≡ pairs_of self.now.vars.now (value (bindings_of bound.now))) }
-    {
-        let mut s = Subst::empty(self.alloc);
-        for x in self.vars {
-            s = match bound.get(*x) {
-                Some(t) => s.bind(self.alloc, *x, t)?,
-                None => s.bind(self.alloc, *x, &Flat::var(*x))?,
-            };
-        }
-        Ok(s)
-    }
-
     // Pairs in their order, and when there are none left, sums.
     #[cycle(search)]
     pub(crate) fn solve(
@@ -63,11 +47,11 @@ impl Search<'_> {
     {
         match goals {
             Goals::Pair(p, t, rest) => self.pair(&**p, &**t, &**rest, &*sums, &*bound),
-            Goals::Lists(ps, ts, rest) => self.lists(&**ps, &**ts, &**rest, &*sums, &*bound),
+            Goals::Lists(ps, ts, rest) => self.lists(*ps, *ts, &**rest, &*sums, &*bound),
             Goals::Done => match sums {
                 Sums::WithSum(goal, rest) => self.sum(&*goal, &**rest, &*bound),
                 Sums::NoSum => {
-                    let s = self.answer(bound)?;
+                    let s = answer(self.alloc, self.vars, bound)?;
                     Ok(Some(s))
                 }
             },
@@ -85,6 +69,7 @@ impl Search<'_> {
         bound: &Bound<'_>,
     ) -> Result<Option<Subst>, NoMemory>
         requires vars { AreOnce self.now.vars.now }
+        requires lengths { length ps.now ≡ length ts.now }
         requires pairs { AllZip (IsPair self.now.sig.now) ps.now ts.now }
         requires state { StateFits self.now.sig.now rest.now sums.now bound.now }
         ensures { IfOk result (SearchesLists self.now ps.now ts.now rest.now sums.now bound.now) }
@@ -118,6 +103,7 @@ impl Search<'_> {
             None => return Ok(None),
             Some(f) => f,
         };
+        self.sig.recall_good();
         match self.sig.axioms(f) {
             Axioms::Free => {
                 if !is_headed(t, f) {
@@ -179,17 +165,23 @@ impl Search<'_> {
         bound: &Bound<'_>,
     ) -> Result<Option<Subst>, NoMemory>
         requires vars { AreOnce self.now.vars.now }
+        requires patterns { length ps.now ≡ 2 }
+        requires targets { length ts.now ≡ 2 }
         requires pairs { IsCrossing self.now.sig.now ps.now ts.now }
         requires state { StateFits self.now.sig.now rest.now sums.now bound.now }
         ensures { IfOk result (SearchesEither self.now ps.now ts.now rest.now sums.now bound.now) }
     {
-        let later = Goals::Pair(&ps[1], &ts[1], &*rest);
-        let found = self.pair(&ps[0], &ts[0], &later, &*sums, &*bound)?;
+        let p = &ps[0];
+        let q = &ps[1];
+        let t = &ts[0];
+        let u = &ts[1];
+        let later = Goals::Pair(q, u, &*rest);
+        let found = self.pair(p, t, &later, &*sums, &*bound)?;
         if found.is_some() {
             return Ok(found);
         }
-        let across = Goals::Pair(&ps[1], &ts[0], &*rest);
-        self.pair(&ps[0], &ts[1], &across, &*sums, &*bound)
+        let across = Goals::Pair(q, t, &*rest);
+        self.pair(p, u, &across, &*sums, &*bound)
     }
 
     // Other goals, then the summands of a pair.
@@ -297,6 +289,7 @@ impl Search<'_> {
         requires vars { AreOnce self.now.vars.now }
         requires state { SumStateFits self.now.sig.now goal.now sums.now bound.now }
         requires group { IsGroup self.now.sig.now goal.now p.now k }
+        requires within { k ≤ length goal.now.patterns.now }
         requires limits { limits.now ≡ quotients k goal.now.left.now }
         ensures { IfOk result (SearchesChoices self.now goal.now p.now k limits.now room sums.now bound.now) }
     {
@@ -327,17 +320,21 @@ impl Search<'_> {
         requires vars { AreOnce self.now.vars.now }
         requires state { SumStateFits self.now.sig.now goal.now sums.now bound.now }
         requires group { IsGroup self.now.sig.now goal.now p.now k }
+        requires within { k ≤ length goal.now.patterns.now }
+        requires long { length chosen.now ≡ length goal.now.left.now }
         requires choice { AllZip (λ j n. k * j ≤ n) chosen.now goal.now.left.now }
         ensures { IfOk result (SearchesChoice self.now goal.now p.now k chosen.now sums.now bound.now) }
     {
+        self.sig.recall_good();
         let whole = match whole(self.alloc, self.sig, goal, chosen)? {
             None => return Ok(None),
             Some(t) => t,
         };
         let left = reduced(self.alloc, k, goal.left, chosen)?;
+        let others = after(goal.patterns, k);
         let smaller = SumGoal {
             op: goal.op,
-            patterns: &goal.patterns[k..],
+            patterns: others,
             pieces: goal.pieces,
             left: left.as_slice(),
         };

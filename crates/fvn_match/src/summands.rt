@@ -1,5 +1,5 @@
 //! Summands of flat terms, as different pieces with their numbers.
-ghost use Rattle.std.specs.Prelude.{◌≡◌, ◌+◌, ◌≤◌, ◌<◌, ◌^◌, ◌↔◌, [], ◌∷◌, ℕ, length, map, replicate, reverse, sum, take, Some, IsTrue, IfOk, MatchBool};
+ghost use Rattle.std.specs.Prelude.{◌≡◌, ◌+◌, ◌≤◌, ◌<◌, ◌^◌, ◌↔◌, [], ◌∷◌, ℕ, length, map, replicate, reverse, sum, take, drop, Some, IsTrue, IfOk, MatchBool};
 ghost use Rattle.fvn_terms.specs.Signature.{axioms};
 ghost use Rattle.fvn_terms.specs.Equality.{IsAssociative};
 ghost use Rattle.fvn_forms.specs.Flat.{FlatTerm};
@@ -169,4 +169,12 @@ pub(crate) fn alike(patterns: &[&Flat]) -> usize
         }
     }
     patterns.len()
+}
+
+// The patterns behind so many at the front.
+pub(crate) fn after<'a>(patterns: &'a [&'a Flat], k: usize) -> &'a [&'a Flat]
+    requires { k ≤ length patterns.now }
+    ensures { result.now ≡ drop k patterns.now }
+{
+    &patterns[k..]
 }

@@ -57,9 +57,8 @@ abbrev pub SearchesChoices : Search → SumGoal → FlatTerm → ℕ → List �
 SearchesChoices s goal p k limits room sums bound = Searches s bound (λ c. (js : List ℕ) × IsWithin room limits js × ChoiceAsked s.sig.now goal p k js sums c)
 
 module _ (d : Declarations) where
-  -- two patterns and two targets, all of one kind
+  -- each pattern is of the kind of each target
   pub record IsCrossing (ps ts : List FlatTerm) : Type 0 where
-    pub two : (length ps ≡ 2) × (length ts ≡ 2)
     pub straight : AllZip (IsPair d) ps ts
     pub across : AllZip (IsPair d) ps (crossed ts)
 

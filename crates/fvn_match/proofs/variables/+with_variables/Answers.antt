@@ -18,11 +18,11 @@ loop-u-init t c = collects_none c.args.vars.items c.requires
 
 pub loop-u-preserved : goal.loop-u-preserved
 loop-u-preserved t c =
-    collects_term c.args.vars.items c.loop-u.all.items c.in_ok-all-in-None.result.items c.args-u-items.result.now c.loop-u.u-index c.u-item.result c.loop-u-test.true c.u-item.is c.loop-u.invariant c.in_ok-all-in-None.ensures
+    collects_term c.args.vars.items c.loop-u.all.items _ c.args-u-items.result.now c.loop-u.u-index c.u-item.result c.loop-u-test.true c.u-item.is c.loop-u.invariant c.in_ok-all-in-None.ensures
 
 pub returns-in_ok-all-in-Some : goal.returns-in_ok-all-in-Some
 returns-in_ok-all-in-Some t c =
-    subst (λ u. Collects c.args.vars.items (λ y. Occurs y (plain u)) c.in_ok-all-in-Some.result.items) (sym (variable_is c.args.t.now c.in-Some.x (sym c.as_var.ensures ∙ c.in-Some.is))) c.in_ok-all-in-Some.ensures
+    subst (λ u. Collects c.args.vars.items (λ y. Occurs y (plain u)) c.in_ok-all-in-Some.all.items) (sym (variable_is c.args.t.now c.in-Some.x (sym c.as_var.ensures ∙ c.in-Some.is))) c.in_ok-all-in-Some.ensures
 
 pub returns-in-None : goal.returns-in-None
 returns-in-None t c =

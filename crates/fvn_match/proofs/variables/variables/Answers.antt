@@ -13,7 +13,7 @@ pub with_variables-requires : goal.with_variables-requires
 with_variables-requires c = c.loop-p.invariant.once
 
 pub loop-p-preserved : goal.loop-p-preserved
-loop-p-preserved c = collects_term [] c.loop-p.all.items c.in_ok-all.result.items c.args.patterns.now c.loop-p.p-index c.p-item.result c.loop-p-test.true c.p-item.is c.loop-p.invariant c.in_ok-all.ensures
+loop-p-preserved c = collects_term [] c.loop-p.all.items _ c.args.patterns.now c.loop-p.p-index c.p-item.result c.loop-p-test.true c.p-item.is c.loop-p.invariant c.in_ok-all.ensures
 
 pub returns : goal.returns
 returns c =

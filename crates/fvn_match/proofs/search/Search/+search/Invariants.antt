@@ -36,11 +36,11 @@ decreases-choose_any l = 4 * (weight_of (patterns_of l.goal.now) + sums_weight l
 abbrev pub decreases-choose : goal.decreases-choose
 decreases-choose l = 4 * (weight_of (patterns_of l.goal.now) + sums_weight l.sums.now)
 
-abbrev pub invariant-choose_any-loop : goal.invariant-choose_any-loop
-invariant-choose_any-loop l = record {
+abbrev pub invariant-choose_any-loop-chosen : goal.invariant-choose_any-loop-chosen
+invariant-choose_any-loop-chosen l = record {
   within : IsWithin l.room l.limits l.chosen.items;
   tried : IsTried l.self.sig.now (bindings_of l.bound) l.goal l.p l.k l.limits l.room l.sums l.chosen.items;
 }
 
-abbrev pub decreases-choose_any-loop : goal.decreases-choose_any-loop
-decreases-choose_any-loop l = place_value l.limits l.limits - place_value l.limits l.chosen.items
+abbrev pub decreases-choose_any-loop-chosen : goal.decreases-choose_any-loop-chosen
+decreases-choose_any-loop-chosen l = place_value l.limits l.limits - place_value l.limits l.chosen.items
