@@ -16,6 +16,7 @@ mod SumFinding
 mod ChoiceFinding
 mod SummedFinding
 mod Weights
+mod WholeSteps
 mod OnePiece
 mod Rooms
 mod Matchers

@@ -4,7 +4,7 @@ ghost use Rattle.fvn_flat.specs.Fits.{Fits};
 ghost use Rattle.fvn_match.specs.inner.Tallies.{repeated};
 ghost use Rattle.fvn_match.specs.inner.Summands.{references};
 ghost use Rattle.fvn_match.specs.inner.Goals.{SumFits};
-ghost use Rattle.fvn_match.specs.inner.Searching.{IsGroup, IsOnePiece, IsRoom, IsWhole, IsShort};
+ghost use Rattle.fvn_match.specs.inner.Searching.{IsGroup, IsOnePiece, IsRoom, IsEmptySum, IsWhole, IsShort};
 
 use crate::choices::total;
 use crate::goals::SumGoal;
@@ -53,6 +53,25 @@ fn copies(alloc: Global, pieces: &[&Flat], chosen: &[usize]) -> Result<Vec<Flat>
     Ok(all)
 }
 
+// The sum without pieces: the identity, if there is one.
+fn empty_sum(
+    alloc: Global,
+    sig: &Signature,
+    goal: &SumGoal<'_>,
+) -> Result<Option<Flat>, NoMemory>
+    requires { SumFits sig.now goal.now }
+    ensures { IfOk result (IsEmptySum sig.now goal.now.op) }
+{
+    sig.recall_good();
+    match sig.identity(goal.op) {
+        None => Ok(None),
+        Some(e) => {
+            let t = Flat::app(alloc, sig, e, Vec::new(alloc))?;
+            Ok(Some(t))
+        }
+    }
+}
+
 // The sum of the chosen pieces; without pieces the identity, if there is one.
 pub(crate) fn whole(
     alloc: Global,
@@ -66,20 +85,19 @@ pub(crate) fn whole(
 {
     sig.recall_good();
     let mut terms = copies(alloc, goal.pieces, chosen)?;
-    if terms.len() == 1 {
-        return Ok(terms.pop());
-    }
-    if !terms.is_empty() {
-        let t = Flat::app(alloc, sig, goal.op, terms)?;
-        return Ok(Some(t));
-    }
-    match sig.identity(goal.op) {
-        None => Ok(None),
-        Some(e) => {
-            let t = Flat::app(alloc, sig, e, terms)?;
-            Ok(Some(t))
+    let last = match terms.pop() {
+        None => {
+            let none = empty_sum(alloc, sig, goal)?;
+            return Ok(none);
         }
+        Some(last) => last,
+    };
+    if terms.is_empty() {
+        return Ok(Some(last));
     }
+    terms.push(last)?;
+    let t = Flat::app(alloc, sig, goal.op, terms)?;
+    Ok(Some(t))
 }
 
 // Whether there are too few pieces for the patterns.
@@ -115,6 +133,8 @@ fn is_one_piece(sig: &Signature, f: OpId, p: &Flat) -> bool
 pub(crate) fn room(sig: &Signature, goal: &SumGoal<'_>, p: &Flat, k: usize) -> usize
     requires fits { SumFits sig.now goal.now }
     requires group { IsGroup sig.now goal.now p.now k }
+    requires some { 1 ≤ k }
+    requires within { k ≤ length goal.now.patterns.now }
     ensures { IsRoom sig.now goal.now p.now result }
 {
     if is_one_piece(sig, goal.op, p) {

@@ -82,6 +82,11 @@ module _ (d : Declarations) where
   abbrev pub IsRoom : SumGoal → FlatTerm → ℕ → Type 0
   IsRoom goal p room = (c : Values) → IsCandidate d c → SumHolds d goal c → length (parts d goal.op (inst d c p)) ≤ room
 
+  -- the sum of nothing; none where there is no identity
+  abbrev pub IsEmptySum : OpId → Option FlatTerm → Type 0
+  IsEmptySum f None = identity (axioms d f) ≡ None
+  IsEmptySum f (Some t) = (t ≡ sum d f []) × (identity (axioms d f) ≡ None → ⊥)
+
   -- the sum of the chosen pieces; none where there is no such sum
   abbrev pub IsWhole : SumGoal → List ℕ → Option FlatTerm → Type 0
   IsWhole goal chosen None = (std_sum chosen ≡ 0) × (identity (axioms d goal.op) ≡ None)

@@ -402,6 +402,12 @@ pick-room-room-requires-clause-fits t c = c.requires.state.sum_fits
 pub pick-room-room-requires-clause-group : goal.pick-room-room-requires-clause-group
 pick-room-room-requires-clause-group t c = group_of c.args.self.now.sig.now c.args.goal.now c.index-goal-0.result c.alike-k.result (omega arith) c.index-goal-0.is c.alike-k.ensures
 
+pub pick-room-room-requires-clause-some : goal.pick-room-room-requires-clause-some
+pick-room-room-requires-clause-some t c = c.alike-k.ensures.some
+
+pub pick-room-room-requires-clause-within : goal.pick-room-room-requires-clause-within
+pick-room-room-requires-clause-within t c = group_within c.args.goal.now c.alike-k.result c.alike-k.ensures
+
 pub pick-choose_any-requires : goal.pick-choose_any-requires
 pick-choose_any-requires t c =
     let k = c.alike-k.result in (
