@@ -1,7 +1,8 @@
 -- A sum without the patterns whose values are known, pattern by pattern.
 use Rattle.std.proofs.Common.{◌≡◌, ℕ, ◌+◌, ◌≤◌, ◌<◌, Bool, true, false, List, [], ◌∷◌, ◌++◌, length, drop, get_or, Option, Some, None, refl, sym, ap, ◌∙◌, subst, inl, inr, arith}
 use Rattle.std.specs.Prelude.{◌↔◌, sum as std_sum}
-use Rattle.std.proofs.lemmas.List.{at_drop_more, append_assoc, append-nil, length-append, nil_from_length, length-drop}
+use denote.Ref.{Bor}
+use Rattle.std.proofs.lemmas.List.{append_assoc, append-nil, drop_more, length-append}
 use Rattle.fvn_terms.specs.declared.plain.Var.{Var}
 use Rattle.fvn_terms.specs.declared.declarations.Declarations.{Declarations}
 use Rattle.fvn_forms.specs.Flat.{FlatTerm, fvar, fapp}
@@ -12,11 +13,13 @@ use Rattle.fvn_forms.specs.Settled.{Settled}
 use Rattle.fvn_forms.proofs.InOrder.{count_append}
 use Rattle.fvn_flat.specs.Bindings.{Bindings, bound, value, form_or}
 use Rattle.fvn_match.specs.inner.Tallies.{tally, repeated, AddsUp}
-use Rattle.fvn_match.specs.inner.Summands.{IsTakenAway}
+use Rattle.fvn_match.specs.inner.Summands.{references, IsTakenAway}
 use Rattle.fvn_match.specs.inner.Candidates.{Values, IsCandidate, Agrees}
 use Rattle.fvn_match.specs.inner.Goals.{patterns_of, pieces_of, weight, weight_of, SumHolds}
-use Rattle.fvn_match.specs.inner.Known.{known_value}
+use Rattle.fvn_match.specs.inner.Known.{known_value, IsOpen, LeavesOpen}
 use Rattle.fvn_match.specs.declared.goals.SumGoal.{SumGoal}
+use Rattle.fvn_match.specs.declared.known.Open.{Open}
+use Rattle.fvn_match.proofs.Runs.{references-get, length_references, references-append}
 use Rattle.fvn_match.proofs.Tallies.{count_repeated, length_repeated, same_length}
 use Rattle.fvn_match.proofs.SumSteps.{summands_of, count_summands-append}
 
@@ -104,3 +107,32 @@ module _ (d : Declarations) (b : Bindings) (goal : SumGoal) where
         let x = (l.same c k a).0 h q in
         let y = counted q v c (known_is d b p v e c a) in
         omega (arith, lacks.1)
+
+  -- the same along a list of references
+  module _ (xs : List (Bor FlatTerm)) (i : ℕ) (p : Bor FlatTerm) (within : i < length xs) (is : p ≡ get_or xs i p) (ps : List (Bor FlatTerm)) (left : List ℕ) (l : Leaving (references ps) left (drop i (references xs))) where
+    first : drop i (references xs) ≡ p.now ∷ drop (i + 1) (references xs)
+    first =
+        drop_more (references xs) i p.now (let z = length_references xs in omega arith)
+        ∙ ap (λ u. u ∷ drop (i + 1) (references xs)) (sym (references-get xs i p within is))
+
+    at_first : Leaving (references ps) left (p.now ∷ drop (i + 1) (references xs))
+    at_first = subst (Leaving (references ps) left) first l
+
+    pub step_open : Leaving (references (ps ++ p ∷ [])) left (drop (i + 1) (references xs))
+    step_open = subst (λ open_. Leaving open_ left (drop (i + 1) (references xs))) (sym (references-append ps (p ∷ []))) (leaving_open (references ps) left p.now (drop (i + 1) (references xs)) at_first)
+
+    module _ (v : FlatTerm) (e : known_value b p.now ≡ Some v) (new : List ℕ) where
+      pub step_taken : length goal.left.now ≡ length (pieces_of goal) → IsTakenAway (pieces_of goal) left new (parts d goal.op v) true → Leaving (references ps) new (drop (i + 1) (references xs))
+      step_taken sized taken = leaving_taken (references ps) left p.now (drop (i + 1) (references xs)) at_first sized v e new taken
+
+      pub step_refused : IsTakenAway (pieces_of goal) left new (parts d goal.op v) false → LeavesOpen d b goal None
+      step_refused lacks c k a h = leaving_refused (references ps) left p.now (drop (i + 1) (references xs)) at_first v e new lacks c k a h
+
+  pub step_end : (o : Open) → Leaving (references o.patterns.items) o.left.items [] → IsOpen d b goal o
+  step_end o l = record {
+    same = λ c k a. subst (λ ps. SumHolds d goal c ↔ AddsUp d goal.op ps (pieces_of goal) o.left.items c) (append-nil (references o.patterns.items)) (l.same c k a);
+    among = λ q some. l.among q (subst (λ ps. 1 ≤ count q ps) (sym (append-nil (references o.patterns.items))) some);
+    lighter = let x = l.lighter in omega arith;
+    long = l.long;
+    fewer = l.fewer;
+  }

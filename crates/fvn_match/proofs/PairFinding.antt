@@ -95,7 +95,7 @@ module _ (d : Declarations) where
       pub refused_known : (v : FlatTerm) → bound b x ≡ Some v → (v ≡ t → ⊥) → Finds vars (IsSolution d b (λ c. (inst d c (fvar x) ≡ t) × P c)) None
       refused_known v e other = λ c s. other (sym (s.agrees x v e) ∙ s.holds.0)
 
-zip_long : {A B : Type 0} (R : A → B → Type 0) (xs : List A) (ys : List B) → AllZip R xs ys → length xs ≡ length ys
+pub zip_long : {A B : Type 0} (R : A → B → Type 0) (xs : List A) (ys : List B) → AllZip R xs ys → length xs ≡ length ys
 zip_long R [] [] h = refl
 zip_long R [] (y ∷ ys) h = absurd h
 zip_long R (x ∷ xs) [] h = absurd h

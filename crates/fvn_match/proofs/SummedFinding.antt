@@ -44,8 +44,8 @@ module _ (d : Declarations) (fits : FitsKinds d) (f : OpId) (assoc : IsAssociati
         λ e q. ap (λ o. count q (summands_of d o c (references goal.patterns.now))) op_is ∙ pattern_counts c q ∙ iff.0 e q ∙ sym (target_counts q),
       )
 
-  pub found_summed : (b : Bindings) (vars : List Var) (rest : Goals) (more sums : Sums) → ((c : Values) → SumsHold d more c ↔ (SumHolds d goal c × SumsHold d sums c)) → {E : Type 0} (found : Result (Option Bindings) E) →
-      IfOk found (Finds vars (IsSolution d b (Asked d rest more))) → IfOk found (Finds vars (IsSolution d b (λ c. (inst d c p ≡ t) × Asked d rest sums c)))
-  found_summed b vars rest more sums split found h =
+  pub found_summed : (b : Bindings) (vars : List Var) (rest : Goals) (more sums : Sums) → {E : Type 0} (found : Result (Option Bindings) E) →
+      IfOk found (Finds vars (IsSolution d b (Asked d rest more))) → ((c : Values) → SumsHold d more c ↔ (SumHolds d goal c × SumsHold d sums c)) → IfOk found (Finds vars (IsSolution d b (λ c. (inst d c p ≡ t) × Asked d rest sums c)))
+  found_summed b vars rest more sums found h split =
       if_found_same vars d b (Asked d rest more) (λ c. (inst d c p ≡ t) × Asked d rest sums c)
       (λ c k a. asked_more d rest more sums (inst d c p ≡ t) c (λ w. let x = (split c).0 w in ((sum_asks c k).0 x.0, x.1), λ w. (split c).1 ((sum_asks c k).1 w.0, w.1))) found h

@@ -6,7 +6,6 @@ use Rattle.std.proofs.lemmas.Bool.{false≢true}
 use Rattle.fvn_terms.specs.Signature.{kind, AtOrBelow}
 use Rattle.fvn_terms.specs.Equality.{IsAssociative}
 use Rattle.fvn_forms.specs.InOrder.{InOrder}
-use Rattle.fvn_flat.specs.Forms.{args_of}
 use Rattle.fvn_match.specs.inner.Choices.{IsWithin}
 use Rattle.fvn_match.specs.inner.Summands.{references, IsCounted}
 use Rattle.fvn_match.specs.inner.Candidates.{IsSolution, Finds}
@@ -18,7 +17,7 @@ use Rattle.fvn_match.proofs.Advancing.{zeros_within, rises, place_value_bounded,
 use Rattle.fvn_match.proofs.SummandLists.{parts_in_order}
 use Rattle.fvn_match.proofs.Runs.{length_references, references-drop}
 use Rattle.fvn_match.proofs.PairSteps.{zip_parted, variable_is, variable_or_head}
-use Rattle.fvn_match.proofs.PairFinding.{to_rest, two_is, one_more_candidate, if_found_bound, refused_sort, found_known, refused_known, found_straight_of, found_across_of, crossing_pairs, found_values, found_no_pairs, found_list, refused_free, refused_commutative, pairs_of_args, as_many_args, found_free, crossing_args, two_of_patterns, two_of_targets, found_commutative}
+use Rattle.fvn_match.proofs.PairFinding.{zip_long, to_rest, two_is, one_more_candidate, if_found_bound, refused_sort, found_known, refused_known, found_straight_of, found_across_of, crossing_pairs, found_values, found_no_pairs, found_list, refused_free, refused_commutative, pairs_of_args, as_many_args, found_free, crossing_args, two_of_patterns, two_of_targets, found_commutative}
 use Rattle.fvn_match.proofs.SumFitting.{started_fits}
 use Rattle.fvn_match.proofs.SumFinding.{IsTried, no_patterns, group_of, group_within, choice_within, as_long, length_quotients, each_itself, refused_short, refused_closed, found_open, open_fits, open_weight, refused_left, found_taken, found_only, found_choices, tried_none, found_choice, tried_one, tried_all}
 use Rattle.fvn_match.proofs.ChoiceFinding.{refused_whole, whole_pair, left_fits, found_whole}
@@ -38,7 +37,7 @@ solve-returns-in-Pair t c = subst (λ g. IfOk c.pair.result (SearchesGoals c.arg
 pub solve-lists-requires : goal.solve-lists-requires
 solve-lists-requires t c =
     let fits = subst (GoalsFit c.args.self.now.sig.now) c.in-Lists.is c.requires.state.pairs in
-    (omega (arith, ap goals_weight c.in-Lists.is), (c.requires.vars, (fits.0.0, (fits.0.1, record { pairs = fits.1; sums = c.requires.state.sums; values = c.requires.state.values }))))
+    (omega (arith, ap goals_weight c.in-Lists.is), (c.requires.vars, (zip_long (IsPair c.args.self.now.sig.now) c.in-Lists.ps.now c.in-Lists.ts.now fits.0, (fits.0, record { pairs = fits.1; sums = c.requires.state.sums; values = c.requires.state.values }))))
 
 pub solve-returns-in-Lists : goal.solve-returns-in-Lists
 solve-returns-in-Lists t c = subst (λ g. IfOk c.lists.result (SearchesGoals c.args.self.now g c.args.sums.now c.args.bound.now)) (sym c.in-Lists.is) c.lists.ensures
@@ -273,7 +272,7 @@ summed-solve-requires t c =
     let small = ap std_sum c.as_slice-3.ensures.value ∙ c.in_ok-counted.ensures.together in
     let w = weight_args c.args.p.now c.args.f c.requires.head in
     let v = ap weight_of patterns_are in
-    let x = weight_of-reverse (args_of c.args.p.now) in
+    let x = weight_of-reverse c.args-2.result.now in
     let y = ap weight_of c.args-2.ensures.exact in (
       omega (arith, w, v, x, y),
       (
@@ -295,7 +294,7 @@ summed-returns t c =
     found_summed c.args.self.now.sig.now c.recall_good.ensures.fits c.args.f c.requires.associative c.args.p.now c.args.t.now c.requires.pair c.requires.head
     (record { op = c.args.f; patterns = c.as_slice.result; pieces = c.as_slice-2.result; left = c.as_slice-3.result }) refl (ap references c.as_slice.ensures.value ∙ c.in_ok-patterns.ensures ∙ ap reverse c.args-2.ensures.exact)
     c.in_ok-counted.counted (subst (λ l. IsCounted l c.in_ok-counted.counted) c.summands.ensures c.in_ok-counted.ensures) c.as_slice-2.ensures.value c.as_slice-3.ensures.value
-    (bindings_of c.args.bound.now) c.args.self.now.vars.now c.args.rest.now _ c.args.sums.now (λ v. (λ h. h, λ h. h)) c.solve.result c.solve.ensures
+    (bindings_of c.args.bound.now) c.args.self.now.vars.now c.args.rest.now _ c.args.sums.now c.solve.result c.solve.ensures (λ v. (λ h. h, λ h. h))
 
 -- a sum
 pub sum-is_short-requires : goal.sum-is_short-requires
