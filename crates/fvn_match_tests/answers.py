@@ -4,9 +4,9 @@
 The values that are tried for a variable are the parts of the targets: each subterm, each
 choice of summands of a sum, and each constant. A substitution answers a row where each
 pattern under it has the flat form of its target, and no value has a higher sort than its
-variable. The rows stand in src/tests/rows.rt or on standard input; for each the answer is printed.
+variable. The rows stand in src/tests.rt; those with another answer are printed.
 """
-import itertools, sys
+import itertools, os, sys
 
 def parse_sig(text):
     sig = {'sorts': [], 'below': set(), 'ops': {}}
