@@ -177,6 +177,10 @@ pub tally-drop : (q : FlatTerm) (ts : List FlatTerm) (ns : List ℕ) (i : ℕ) (
     tally q (drop i ts) (drop i ns) ≡ times (same_flat q (get_or ts i d)) (get_or ns i 0) + tally q (drop (i + 1) ts) (drop (i + 1) ns)
 tally-drop q ts ns i d h k = at_drop_more (λ us. tally q us (drop i ns)) ts i d h ∙ at_drop_more (λ ms. tally q (get_or ts i d ∷ drop (i + 1) ts) ms) ns i 0 k
 
+pub repeated-drop : (ts : List FlatTerm) (ns : List ℕ) (i : ℕ) (d : FlatTerm) → i < length ts → i < length ns →
+    repeated (drop i ts) (drop i ns) ≡ replicate (get_or ns i 0) (get_or ts i d) ++ repeated (drop (i + 1) ts) (drop (i + 1) ns)
+repeated-drop ts ns i d h k = at_drop_more (λ us. repeated us (drop i ns)) ts i d h ∙ at_drop_more (λ ms. repeated (get_or ts i d ∷ drop (i + 1) ts) ms) ns i 0 k
+
 -- one piece less
 pub tally_less : (q : FlatTerm) (ts : List FlatTerm) (ns : List ℕ) (i n : ℕ) (u : FlatTerm) → length ns ≡ length ts → i < length ns → u ≡ get_or ts i u → n ≡ get_or ns i n → 0 < n →
     tally q ts (set ns i (n - 1)) + (one_if (same_flat q u) + 0) ≡ tally q ts ns

@@ -1,6 +1,6 @@
 -- The sum of chosen pieces, as it is built.
-use Rattle.std.proofs.Common.{◌≡◌, ℕ, ◌≤◌, List, [], ◌∷◌, ◌++◌, length, Option, Some, None, refl, sym, ap, ◌∙◌, subst, arith}
-use Rattle.std.specs.Prelude.{sum as std_sum}
+use Rattle.std.proofs.Common.{◌≡◌, ℕ, ◌≤◌, zero, suc, false, List, [], ◌∷◌, ◌++◌, length, Option, Some, None, refl, sym, ap, ◌∙◌, subst, arith}
+use Rattle.std.specs.Prelude.{nat_eq, sum as std_sum}
 use Rattle.std.specs.List.{AllByRecursion}
 use Rattle.std.proofs.lemmas.List.{nil_from_length, length-append}
 use Rattle.fvn_terms.specs.declared.plain.OpId.{OpId}
@@ -23,6 +23,10 @@ use Rattle.fvn_match.proofs.SumFitting.{flat_fit, takes_pieces, built_is_sum}
 -- an identity is the sum of nothing
 pub identity_is_sum : (d : Declarations) (f e : OpId) (t : FlatTerm) → axioms d f ≡ AssocCommId e → t ≡ fconstant e → IsEmptySum d f (Some t)
 identity_is_sum d f e t ax is = (is ∙ sym (ap (λ a. empty_sum d f (identity a)) ax), λ none. let z : Some e ≡ None = sym (ap identity ax) ∙ none in cc)
+
+pub not_zero : (n : ℕ) → nat_eq n 0 ≡ false → 1 ≤ n
+not_zero zero e = cc
+not_zero (suc n) e = omega arith
 
 -- what is popped off a list
 pub popped_off : (l rest : List FlatTerm) (t : FlatTerm) → l ≡ rest ++ t ∷ [] → length rest ≡ 0 → l ≡ t ∷ []

@@ -8,6 +8,7 @@ ghost use Rattle.fvn_match.specs.inner.Searching.{IsGroup, IsOnePiece, IsRoom, I
 
 use crate::choices::total;
 use crate::goals::SumGoal;
+use crate::summands::is_headed;
 use fvn_flat::Flat;
 use fvn_sorts::Signature;
 use fvn_terms::{Axioms, NoMemory, OpId};
@@ -124,7 +125,7 @@ fn is_one_piece(sig: &Signature, f: OpId, p: &Flat) -> bool
     match sig.axioms(g) {
         Axioms::Free => true,
         Axioms::Comm => true,
-        Axioms::AssocComm => g != f,
+        Axioms::AssocComm => !is_headed(p, f),
         Axioms::AssocCommId(_) => false,
     }
 }
