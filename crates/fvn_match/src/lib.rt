@@ -7,7 +7,6 @@ mod goals;
 mod known;
 mod matching;
 mod pairing;
-mod scratch;
 mod search;
 mod summands;
 mod variables;
