@@ -47,6 +47,10 @@ mutual
   occurs_among_known d x (more t ts) (k ∷ ks) h (inl o) = occurs_known d x t k h.0 o
   occurs_among_known d x (more t ts) (k ∷ ks) h (inr o) = occurs_among_known d x ts ks h.1 o
 
+-- some variable, for reads of lists that name one for places past their end
+abbrev pub any_variable : Var
+any_variable = record { name = 0; sort = record { 0 = 0 }; fresh = false }
+
 -- what the values of variables bind
 module _ (c : Values) where
   pub bound_among : (vars : List Var) (x : Var) → IsAmong vars x → bound (pairs_of vars c) x ≡ Some (c x)

@@ -12,7 +12,7 @@ loop-p-init c = rw (c.new-patterns.ensures.items, c.in_ok-left.ensures) (leaving
 
 pub loop-p-preserved-in-None : goal.loop-p-preserved-in-None
 loop-p-preserved-in-None c =
-    rw c.in_ok-push.ensures.items (step_open c.args.sig.now (bindings_of c.args.bound.now) c.args.goal.now c.args.goal.now.patterns.now c.loop-p.p-index c.p-item.result c.loop-p-test.true c.p-item.is c.loop-p.patterns.items c.loop-p.left.items c.loop-p.invariant)
+    rw c.in_ok-push-in-None.ensures.items (step_open c.args.sig.now (bindings_of c.args.bound.now) c.args.goal.now c.args.goal.now.patterns.now c.loop-p.p-index c.p-item.result c.loop-p-test.true c.p-item.is c.loop-p.patterns.items c.loop-p.left.items c.loop-p.invariant)
 
 pub take-requires-clause-settled : goal.take-requires-clause-settled
 take-requires-clause-settled c = known_settled c.args.sig.now (bindings_of c.args.bound.now) c.p-item.result.now c.in-Some.v.now c.in-Some.ensures c.requires.bound
@@ -26,7 +26,7 @@ take-requires-clause-long c = c.loop-p.invariant.long ∙ c.requires.fits.long
 pub returns-then-not-take : goal.returns-then-not-take
 returns-then-not-take c =
     step_refused c.args.sig.now (bindings_of c.args.bound.now) c.args.goal.now c.args.goal.now.patterns.now c.loop-p.p-index c.p-item.result c.loop-p-test.true c.p-item.is c.loop-p.patterns.items c.loop-p.left.items c.loop-p.invariant
-    c.in-Some.v.now c.in-Some.ensures _ (rw c.if-not-take.true at c.take.ensures)
+    c.in-Some.v.now c.in-Some.ensures c.take.new.left.items (rw c.if-not-take.true at c.take.ensures)
 
 pub loop-p-preserved : goal.loop-p-preserved
 loop-p-preserved c =

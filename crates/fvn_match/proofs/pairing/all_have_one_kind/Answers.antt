@@ -9,10 +9,10 @@ use Rattle.fvn_match.proofs.pairing.all_have_one_kind.Goals as goal
 
 pub have_one_kind-requires : goal.have_one_kind-requires
 have_one_kind-requires c =
-    let d = c.args.sig.now in (
-      each_at (Fits d) c.args.patterns.now c.requires.patterns c.loop-i.i c.index-patterns-i.result (omega arith) c.index-patterns-i.is,
-      each_at (Fits d) c.args.targets.now c.requires.targets c.loop-i.i c.index-targets-i.result (omega (arith, c.requires.lengths)) c.index-targets-i.is,
-    )
+    let d = c.args.sig.now in record {
+      pattern = each_at (Fits d) c.args.patterns.now c.requires.patterns c.loop-i.i c.index-patterns-i.result (omega arith) c.index-patterns-i.is;
+      target = each_at (Fits d) c.args.targets.now c.requires.targets c.loop-i.i c.index-targets-i.result (omega (arith, c.requires.lengths)) c.index-targets-i.is;
+    }
 
 pub loop-i-preserved : goal.loop-i-preserved
 loop-i-preserved c =

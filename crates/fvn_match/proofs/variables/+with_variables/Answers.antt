@@ -24,7 +24,7 @@ pub returns-in_ok-all-in-Some : goal.returns-in_ok-all-in-Some
 returns-in_ok-all-in-Some t c =
     subst (λ u. Collects c.args.vars.items (λ y. Occurs y (plain u)) c.in_ok-all-in-Some.all.items) (sym (variable_is c.args.t.now c.in-Some.x (sym c.as_var.ensures ∙ c.in-Some.is))) c.in_ok-all-in-Some.ensures
 
-pub returns-in-None : goal.returns-in-None
-returns-in-None t c =
+pub returns-after-loop-u : goal.returns-after-loop-u
+returns-after-loop-u t c =
     collects_args c.args.vars.items c.loop-u.all.items c.args.t.now c.args-u-items.result.now (sym c.as_var.ensures ∙ c.in-None.is) c.args-u-items.ensures.exact
     (subst (λ l. Collects c.args.vars.items (λ y. OccursIn y l) c.loop-u.all.items) (take_all c.loop-u.u-index c.args-u-items.result.now c.loop-u-test.false) c.loop-u.invariant)

@@ -18,6 +18,6 @@ loop-i-preserved c =
     let at = references-get xs i c.index-pieces-i.result (omega (arith, c.requires)) c.index-pieces-i.is in
     ap (λ l. l ++ rest) c.in_ok-all.ensures
     ∙ append_assoc c.loop-i.all.items (replicate (get_or ns i 0) t) rest
-    ∙ ap (λ u. c.loop-i.all.items ++ replicate (get_or ns i 0) u ++ rest) at
+    ∙ ap (λ u. c.loop-i.all.items ++ (replicate (get_or ns i 0) u ++ rest)) at
     ∙ ap (λ l. c.loop-i.all.items ++ l) (sym (repeated-drop (references xs) ns i t (omega (arith, c.requires)) (omega arith)))
     ∙ c.loop-i.invariant
