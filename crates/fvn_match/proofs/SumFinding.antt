@@ -39,8 +39,8 @@ IsTried d b goal p k limits room sums chosen =
 pub no_patterns : (goal : SumGoal) → length goal.patterns.now ≡ 0 → patterns_of goal ≡ []
 no_patterns goal e = nil_from_length (patterns_of goal) (length_references goal.patterns.now ∙ e)
 
-pub group_of : (d : Declarations) (goal : SumGoal) (p : Bor FlatTerm) (k : ℕ) → 1 ≤ length goal.patterns.now → p ≡ get_or goal.patterns.now 0 p → IsRun (references goal.patterns.now) k → IsGroup d goal p.now k
-group_of d goal p k some is run = record { others = drop 1 (patterns_of goal); first = first goal.patterns.now some is; run = run }
+pub group_of : (d : Declarations) (goal : SumGoal) (p : Bor FlatTerm) (k : ℕ) → 1 ≤ length goal.patterns.now → p ≡ get_or goal.patterns.now 0 p → IsRun (references goal.patterns.now) k → IsGroup d goal (get_or goal.patterns.now 0 p).now k
+group_of d goal p k some is run = subst (λ (q : Bor FlatTerm). IsGroup d goal q.now k) is (record { others = drop 1 (patterns_of goal); first = first goal.patterns.now some is; run = run })
   where
     first : (xs : List (Bor FlatTerm)) → 1 ≤ length xs → p ≡ get_or xs 0 p → references xs ≡ p.now ∷ drop 1 (references xs)
     first [] some is = absurd (omega arith)

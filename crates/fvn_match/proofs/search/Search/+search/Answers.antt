@@ -2,7 +2,8 @@
 use Rattle.std.proofs.Common.{◌≡◌, ◌+◌, ◌≤◌, List, [], ◌∷◌, length, drop, get_or, Some, None, refl, sym, ap, ◌∙◌, subst, arith}
 use Rattle.std.specs.Prelude.{IfOk, ◌*◌, reverse, sum as std_sum}
 use Rattle.std.specs.List.{AllZip, AllByRecursion}
-use Rattle.std.proofs.lemmas.Bool.{false≢true}
+use Rattle.std.proofs.lemmas.Bool.{false≢true, eqb-true}
+use Rattle.std.proofs.lemmas.List.{take_rest}
 use Rattle.fvn_terms.specs.Signature.{kind, AtOrBelow}
 use Rattle.fvn_terms.specs.Equality.{IsAssociative}
 use Rattle.fvn_forms.specs.InOrder.{InOrder}
@@ -22,6 +23,7 @@ use Rattle.fvn_match.proofs.SumFitting.{started_fits}
 use Rattle.fvn_match.proofs.SumFinding.{IsTried, no_patterns, group_of, group_within, choice_within, as_long, length_quotients, each_itself, refused_short, refused_closed, found_open, open_fits, open_weight, refused_left, found_taken, found_only, found_choices, tried_none, found_choice, tried_one, tried_all}
 use Rattle.fvn_match.proofs.ChoiceFinding.{refused_whole, whole_pair, left_fits, found_whole}
 use Rattle.fvn_match.proofs.SummedFinding.{found_summed}
+use Rattle.fvn_match.proofs.WholeSteps.{not_zero}
 use Rattle.fvn_match.proofs.Weights.{weight_args, weight_of-reverse, weight_of-first, weight_of-group}
 use Rattle.fvn_match.proofs.search.Search.+search.Goals as goal
 
@@ -65,16 +67,17 @@ lists-solve-requires t c = (omega arith, (c.requires.vars, c.requires.state))
 pub lists-returns-then-is_empty : goal.lists-returns-then-is_empty
 lists-returns-then-is_empty t c =
     found_no_pairs c.args.self.now.sig.now (bindings_of c.args.bound.now) c.args.self.now.vars.now (Asked c.args.self.now.sig.now c.args.rest.now c.args.sums.now)
-    c.args.ps.now c.args.ts.now (omega arith) c.requires.lengths c.solve.result c.solve.ensures
+    c.args.ps.now c.args.ts.now (eqb-true (length c.args.ps.now) 0 (sym c.is_empty.ensures ∙ c.if-is_empty.true)) c.requires.lengths c.solve.result c.solve.ensures
 
 pub lists-pair-requires : goal.lists-pair-requires
 lists-pair-requires t c =
     let ps = c.args.ps.now in
     let ts = c.args.ts.now in
-    let some : 1 ≤ length ps = omega arith in
+    let some = not_zero (length ps) (sym c.is_empty.ensures ∙ c.if-is_empty.false) in
     let z = (zip_parted (IsPair c.args.self.now.sig.now) ps ts c.index-ps-0.result c.index-ts-0.result some (sym c.requires.lengths) c.index-ps-0.is c.index-ts-0.is).0 c.requires.pairs in
-    let w = weight_of-first ps c.index-ps-0.result some c.index-ps-0.is in (
-      omega (arith, w),
+    let w = weight_of-first ps c.index-ps-0.result some c.index-ps-0.is in
+    let v = ap weight_of (take_rest ps 1) in (
+      omega (arith, w, v),
       (
         c.requires.vars,
         (
@@ -91,7 +94,7 @@ lists-pair-requires t c =
 pub lists-returns : goal.lists-returns
 lists-returns t c =
     found_list c.args.self.now.sig.now (bindings_of c.args.bound.now) c.args.self.now.vars.now (Asked c.args.self.now.sig.now c.args.rest.now c.args.sums.now)
-    c.args.ps.now c.args.ts.now c.index-ps-0.result c.index-ts-0.result (omega arith) c.requires.lengths c.index-ps-0.is c.index-ts-0.is c.pair.result c.pair.ensures
+    c.args.ps.now c.args.ts.now c.index-ps-0.result c.index-ts-0.result (not_zero (length c.args.ps.now) (sym c.is_empty.ensures ∙ c.if-is_empty.false)) c.requires.lengths c.index-ps-0.is c.index-ts-0.is c.pair.result c.pair.ensures
 
 -- a pair
 pub pair-variable-requires : goal.pair-variable-requires
@@ -349,7 +352,7 @@ sum-returns t c =
 pub pick-returns-then-not-are_zero : goal.pick-returns-then-not-are_zero
 pick-returns-then-not-are_zero t c =
     refused_left c.args.self.now.sig.now (bindings_of c.args.bound.now) c.args.self.now.vars.now c.args.goal.now c.requires.state.sum_fits (SumsHold c.args.self.now.sig.now c.args.sums.now)
-    (no_patterns c.args.goal.now (omega arith)) (λ e. false≢true (sym c.if-not-are_zero.true ∙ c.are_zero.ensures.1 e))
+    (no_patterns c.args.goal.now (eqb-true (length c.args.goal.now.patterns.now) 0 (sym c.is_empty.ensures ∙ c.if-is_empty.true))) (λ e. false≢true (sym c.if-not-are_zero.true ∙ c.are_zero.ensures.1 e))
 
 pub pick-solve-requires : goal.pick-solve-requires
 pick-solve-requires t c = (omega arith, (c.requires.vars, record { pairs = tt; sums = c.requires.state.sums_fit; values = c.requires.state.values }))
@@ -357,7 +360,7 @@ pick-solve-requires t c = (omega arith, (c.requires.vars, record { pairs = tt; s
 pub pick-returns-then-is_empty : goal.pick-returns-then-is_empty
 pick-returns-then-is_empty t c =
     found_taken c.args.self.now.sig.now (bindings_of c.args.bound.now) c.args.self.now.vars.now c.args.goal.now c.requires.state.sum_fits (SumsHold c.args.self.now.sig.now c.args.sums.now)
-    (no_patterns c.args.goal.now (omega arith)) (c.are_zero.ensures.0 c.if-not-are_zero.false) c.solve.result c.solve.ensures
+    (no_patterns c.args.goal.now (eqb-true (length c.args.goal.now.patterns.now) 0 (sym c.is_empty.ensures ∙ c.if-is_empty.true))) (c.are_zero.ensures.0 c.if-not-are_zero.false) c.solve.result c.solve.ensures
 
 pub pick-quotients-requires : goal.pick-quotients-requires
 pick-quotients-requires t c = c.alike-k.ensures.some
@@ -373,7 +376,7 @@ pick-choose-requires t c =
         (
           c.requires.state,
           (
-            group_of c.args.self.now.sig.now goal_now c.index-goal-0.result k (omega arith) c.index-goal-0.is c.alike-k.ensures,
+            group_of c.args.self.now.sig.now goal_now c.index-goal-0.result k (not_zero (length goal_now.patterns.now) (sym c.is_empty.ensures ∙ c.if-is_empty.false)) c.index-goal-0.is c.alike-k.ensures,
             (
               group_within goal_now k c.alike-k.ensures,
               (
@@ -390,16 +393,16 @@ pub pick-returns-then-k-goal : goal.pick-returns-then-k-goal
 pick-returns-then-k-goal t c =
     let d = c.args.self.now.sig.now in
     let k = c.alike-k.result in
-    let g = group_of d c.args.goal.now c.index-goal-0.result k (omega arith) c.index-goal-0.is c.alike-k.ensures in
+    let g = group_of d c.args.goal.now c.index-goal-0.result k (not_zero (length c.args.goal.now.patterns.now) (sym c.is_empty.ensures ∙ c.if-is_empty.false)) c.index-goal-0.is c.alike-k.ensures in
     let all : k ≡ length c.args.goal.now.patterns.now = omega arith in
-    found_only d (bindings_of c.args.bound.now) c.args.self.now.vars.now c.args.goal.now c.requires.state.sum_fits c.index-goal-0.result.now k g c.args.sums.now c.as_slice.result.now (c.as_slice.ensures.value ∙ c.in_ok-limits.ensures)
+    found_only d (bindings_of c.args.bound.now) c.args.self.now.vars.now c.args.goal.now c.requires.state.sum_fits (get_or c.args.goal.now.patterns.now 0 c.index-goal-0.result).now k g c.args.sums.now c.as_slice.result.now (c.as_slice.ensures.value ∙ c.in_ok-limits.ensures)
     (all ∙ sym (length_references c.args.goal.now.patterns.now)) c.choose.result c.choose.ensures
 
 pub pick-room-room-requires-clause-fits : goal.pick-room-room-requires-clause-fits
 pick-room-room-requires-clause-fits t c = c.requires.state.sum_fits
 
 pub pick-room-room-requires-clause-group : goal.pick-room-room-requires-clause-group
-pick-room-room-requires-clause-group t c = group_of c.args.self.now.sig.now c.args.goal.now c.index-goal-0.result c.alike-k.result (omega arith) c.index-goal-0.is c.alike-k.ensures
+pick-room-room-requires-clause-group t c = group_of c.args.self.now.sig.now c.args.goal.now c.index-goal-0.result c.alike-k.result (not_zero (length c.args.goal.now.patterns.now) (sym c.is_empty.ensures ∙ c.if-is_empty.false)) c.index-goal-0.is c.alike-k.ensures
 
 pub pick-room-room-requires-clause-some : goal.pick-room-room-requires-clause-some
 pick-room-room-requires-clause-some t c = c.alike-k.ensures.some
@@ -416,7 +419,7 @@ pick-choose_any-requires t c =
         (
           c.requires.state,
           (
-            group_of c.args.self.now.sig.now c.args.goal.now c.index-goal-0.result k (omega arith) c.index-goal-0.is c.alike-k.ensures,
+            group_of c.args.self.now.sig.now c.args.goal.now c.index-goal-0.result k (not_zero (length c.args.goal.now.patterns.now) (sym c.is_empty.ensures ∙ c.if-is_empty.false)) c.index-goal-0.is c.alike-k.ensures,
             (group_within c.args.goal.now k c.alike-k.ensures, c.as_slice-2.ensures.value ∙ c.in_ok-limits.ensures),
           ),
         ),
@@ -427,8 +430,8 @@ pub pick-returns : goal.pick-returns
 pick-returns t c =
     let d = c.args.self.now.sig.now in
     let k = c.alike-k.result in
-    let g = group_of d c.args.goal.now c.index-goal-0.result k (omega arith) c.index-goal-0.is c.alike-k.ensures in
-    found_choices d (bindings_of c.args.bound.now) c.args.self.now.vars.now c.args.goal.now c.requires.state.sum_fits c.index-goal-0.result.now k g c.args.sums.now c.as_slice-2.result.now (c.as_slice-2.ensures.value ∙ c.in_ok-limits.ensures)
+    let g = group_of d c.args.goal.now c.index-goal-0.result k (not_zero (length c.args.goal.now.patterns.now) (sym c.is_empty.ensures ∙ c.if-is_empty.false)) c.index-goal-0.is c.alike-k.ensures in
+    found_choices d (bindings_of c.args.bound.now) c.args.self.now.vars.now c.args.goal.now c.requires.state.sum_fits (get_or c.args.goal.now.patterns.now 0 c.index-goal-0.result).now k g c.args.sums.now c.as_slice-2.result.now (c.as_slice-2.ensures.value ∙ c.in_ok-limits.ensures)
     c.room-room.result c.room-room.ensures c.choose_any.result c.choose_any.ensures
 
 -- choices one after another
