@@ -1,7 +1,7 @@
 -- What is found for one choice of pieces for a group of patterns.
-use Rattle.std.proofs.Common.{◌≡◌, ℕ, ◌+◌, ◌*◌, ◌≤◌, ◌<◌, true, List, [], ◌∷◌, length, drop, Option, Some, None, refl, sym, ap, ◌∙◌, subst, arith}
-use Rattle.std.specs.Prelude.{◌↔◌, Result, Ok, Err, IfOk, sum as std_sum}
-use Rattle.std.specs.List.{AllZip, AllByRecursion}
+use Rattle.std.proofs.Common.{◌≡◌, ℕ, ◌≤◌, true, List, [], length, drop, Option, Some, None, refl, sym, ap, ◌∙◌, subst, arith}
+use Rattle.std.specs.Prelude.{◌↔◌, Result, IfOk, sum as std_sum}
+use Rattle.std.specs.List.{AllByRecursion}
 use denote.Ref.{Bor}
 use Rattle.std.proofs.lemmas.List.{nil_from_length}
 use Rattle.fvn_terms.specs.declared.plain.Var.{Var}
@@ -9,8 +9,8 @@ use Rattle.fvn_terms.specs.declared.plain.OpId.{OpId}
 use Rattle.fvn_terms.specs.declared.declarations.Declarations.{Declarations}
 use Rattle.fvn_terms.specs.Signature.{kind, axioms, HasKind}
 use Rattle.fvn_forms.specs.Flat.{FlatTerm, fapp, fnone, plain}
-use Rattle.fvn_forms.specs.InOrder.{sort, count}
-use Rattle.fvn_forms.specs.Canon.{identity, sum, inst, joined, empty_sum}
+use Rattle.fvn_forms.specs.InOrder.{count}
+use Rattle.fvn_forms.specs.Canon.{identity, sum, inst, empty_sum}
 use Rattle.fvn_forms.specs.Settled.{IsPiece, Settled}
 use Rattle.fvn_forms.specs.FitsKinds.{FitsKinds}
 use Rattle.fvn_forms.proofs.Build.{HasIdentity}
@@ -19,9 +19,9 @@ use Rattle.fvn_flat.specs.Bindings.{Bindings}
 use Rattle.fvn_match.specs.inner.Choices.{reduced}
 use Rattle.fvn_match.specs.inner.Tallies.{repeated, AddsUp}
 use Rattle.fvn_match.specs.inner.Summands.{references}
-use Rattle.fvn_match.specs.inner.Candidates.{Values, IsCandidate, Agrees, IsSolution, Finds}
+use Rattle.fvn_match.specs.inner.Candidates.{Values, IsSolution, Finds}
 use Rattle.fvn_match.specs.inner.Goals.{patterns_of, pieces_of, SumHolds, SumsHold, ChoiceAsked, IsPair, IsFlatOf, SumFits}
-use Rattle.fvn_match.specs.inner.Searching.{IsGroup, IsWhole}
+use Rattle.fvn_match.specs.inner.Searching.{IsWhole}
 use Rattle.fvn_match.specs.declared.goals.SumGoal.{SumGoal}
 use Rattle.fvn_match.specs.declared.goals.Sums.{Sums}
 use Rattle.fvn_match.proofs.Tallies.{each_repeated, length_repeated}

@@ -1,11 +1,10 @@
 -- What is found where the same is asked in other words.
-use Rattle.std.proofs.Common.{◌≡◌, Bool, true, false, List, [], ◌∷◌, map, Option, Some, None, refl, sym, ap, ◌∙◌, subst, inl, inr}
-use Rattle.std.specs.Prelude.{◌↔◌, ◌⊎◌, Result, Ok, Err, is_some, IfOk}
+use Rattle.std.proofs.Common.{◌≡◌, true, false, List, Option, Some, None}
+use Rattle.std.specs.Prelude.{◌↔◌, Result, Ok, Err, is_some, IfOk}
 use Rattle.fvn_terms.specs.declared.plain.Var.{Var}
 use Rattle.fvn_terms.specs.declared.declarations.Declarations.{Declarations}
-use Rattle.fvn_forms.specs.Flat.{FlatTerm}
 use Rattle.fvn_flat.specs.Bindings.{Bindings}
-use Rattle.fvn_match.specs.inner.Candidates.{Values, IsCandidate, Agrees, IsSolution, pairs_of, Finds}
+use Rattle.fvn_match.specs.inner.Candidates.{Values, IsCandidate, Agrees, IsSolution, Finds}
 
 module _ (vars : List Var) (d : Declarations) (b : Bindings) where
   -- the two ask the same of the candidates that agree

@@ -1,21 +1,19 @@
 -- A sum without the patterns whose values are known, pattern by pattern.
-use Rattle.std.proofs.Common.{◌≡◌, ℕ, ◌+◌, ◌≤◌, ◌<◌, Bool, true, false, List, [], ◌∷◌, ◌++◌, length, drop, get_or, Option, Some, None, refl, sym, ap, ◌∙◌, subst, inl, inr, arith}
+use Rattle.std.proofs.Common.{◌≡◌, ℕ, ◌+◌, ◌≤◌, ◌<◌, true, false, List, [], ◌∷◌, ◌++◌, length, drop, get_or, Some, None, refl, sym, ap, ◌∙◌, subst, arith}
 use Rattle.std.specs.Prelude.{◌↔◌, sum as std_sum}
 use denote.Ref.{Bor}
 use Rattle.std.proofs.lemmas.List.{append_assoc, append-nil, drop_more, length-append}
-use Rattle.fvn_terms.specs.declared.plain.Var.{Var}
 use Rattle.fvn_terms.specs.declared.declarations.Declarations.{Declarations}
 use Rattle.fvn_forms.specs.Flat.{FlatTerm, fvar, fapp}
-use Rattle.fvn_forms.specs.Order.{same_flat}
 use Rattle.fvn_forms.specs.InOrder.{count}
 use Rattle.fvn_forms.specs.Canon.{parts, inst}
 use Rattle.fvn_forms.specs.Settled.{Settled}
 use Rattle.fvn_forms.proofs.InOrder.{count_append}
-use Rattle.fvn_flat.specs.Bindings.{Bindings, bound, value, form_or}
+use Rattle.fvn_flat.specs.Bindings.{Bindings, value, form_or}
 use Rattle.fvn_match.specs.inner.Tallies.{tally, repeated, AddsUp}
 use Rattle.fvn_match.specs.inner.Summands.{references, IsTakenAway}
 use Rattle.fvn_match.specs.inner.Candidates.{Values, IsCandidate, Agrees}
-use Rattle.fvn_match.specs.inner.Goals.{patterns_of, pieces_of, weight, weight_of, SumHolds}
+use Rattle.fvn_match.specs.inner.Goals.{patterns_of, pieces_of, weight_of, SumHolds}
 use Rattle.fvn_match.specs.inner.Known.{known_value, IsOpen, LeavesOpen}
 use Rattle.fvn_match.specs.declared.goals.SumGoal.{SumGoal}
 use Rattle.fvn_match.specs.declared.known.Open.{Open}
@@ -40,7 +38,7 @@ weight_of-append (p ∷ ps) us = let a = weight_of-append ps us in omega arith
 pub taken_together : (ts : List FlatTerm) (old new : List ℕ) (us : List FlatTerm) → length old ≡ length ts → length new ≡ length ts → ((q : FlatTerm) → tally q ts new + count q us ≡ tally q ts old) → std_sum new + length us ≡ std_sum old
 taken_together ts old new us lo ln h =
     let e : length (repeated ts new ++ us) ≡ length (repeated ts old) =
-        same_length (repeated ts new ++ us) (repeated ts old) (λ q. count_append q (repeated ts new) us ∙ ap (λ n. n + count q us) (count_repeated q ts new) ∙ h q ∙ sym (count_repeated q ts old))
+    same_length (repeated ts new ++ us) (repeated ts old) (λ q. count_append q (repeated ts new) us ∙ ap (λ n. n + count q us) (count_repeated q ts new) ∙ h q ∙ sym (count_repeated q ts old))
     in
     let a = length-append (repeated ts new) us in
     let b = length_repeated ts new ln in

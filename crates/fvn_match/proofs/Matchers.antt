@@ -1,14 +1,14 @@
 -- Matchers, and candidates that make of each pattern its target.
 use Rattle.std.proofs.Common.{◌≡◌, ℕ, ◌+◌, ◌<◌, zero, suc, Bool, true, false, List, [], ◌∷◌, ◌++◌, length, map, take, get_or, Option, Some, None, refl, sym, ap, ◌∙◌, subst, inl, inr, arith}
 use Rattle.std.proofs.lemmas.List.{take_more}
-use Rattle.std.specs.Prelude.{◌↔◌, ◌⊎◌, if◌then◌else◌, IfSome}
-use Rattle.std.specs.List.{AllZip, AllByRecursion}
+use Rattle.std.specs.Prelude.{◌⊎◌, if◌then◌else◌, IfSome}
+use Rattle.std.specs.List.{AllZip}
 use Rattle.fvn_terms.specs.declared.plain.Var.{Var}
 use Rattle.fvn_terms.specs.declared.plain.SortId.{SortId}
 use Rattle.fvn_terms.specs.declared.declarations.Declarations.{Declarations}
 use Rattle.fvn_terms.specs.Term.{Term, Terms, var, app, none, more}
 use Rattle.fvn_terms.specs.Substitution.{Substitution, apply, same_var, Occurs, OccursAmong}
-use Rattle.fvn_terms.specs.Signature.{kind, IsSort, HasKind, HaveKinds, IsTerm, AtOrBelow, KeepsKinds}
+use Rattle.fvn_terms.specs.Signature.{kind, IsSort, HasKind, HaveKinds, IsTerm, AtOrBelow}
 use Rattle.fvn_terms.specs.Equality.{BEqual}
 use Rattle.fvn_terms.specs.Sorts.{HasSort, IsWellSorted}
 use Rattle.fvn_terms.specs.Variants.{OccursInSome}
@@ -17,19 +17,19 @@ use Rattle.fvn_terms.proofs.Equal.{HasKind-apply}
 use Rattle.fvn_terms.specs.Signature.{same}
 use Rattle.fvn_terms.specs.Places.{stop}
 use Rattle.fvn_forms.specs.Flat.{FlatTerm, fvar, plain}
-use Rattle.fvn_forms.specs.Canon.{canon, inst}
+use Rattle.fvn_forms.specs.Canon.{canon}
 use Rattle.fvn_forms.specs.Settled.{Settled}
 use Rattle.fvn_forms.specs.Good.{IsGood}
-use Rattle.fvn_forms.specs.LeastSort.{least_sort, IsFlatSubstitution}
+use Rattle.fvn_forms.specs.LeastSort.{least_sort}
 use Rattle.fvn_forms.proofs.Eval.{canon_settled, canon_respects, canon_plain, eval_apply}
 use Rattle.fvn_forms.proofs.ToCanon.{canon_of_kind, b_equal_iff_canon}
 use Rattle.fvn_forms.proofs.LeastSort.{eval_is_canon, least_sort_exact, least_sort_of_settled}
-use Rattle.fvn_flat.specs.Fits.{Fits, AllFit}
+use Rattle.fvn_flat.specs.Fits.{AllFit}
 use Rattle.fvn_flat.specs.Bindings.{Bindings, bound, value, form_or, BindingsFit}
 use Rattle.fvn_flat.specs.Solving.{substitution}
 use Rattle.fvn_flat.proofs.Binding.{same_var_is, same_var_itself}
 use Rattle.fvn_flat.proofs.Occurrences.{OccursIn}
-use Rattle.fvn_match.specs.Matching.{IsMatcher, HasNoMatcher, Matches, BindsJust}
+use Rattle.fvn_match.specs.Matching.{HasNoMatcher, Matches, BindsJust}
 use Rattle.fvn_match.specs.inner.Variables.{IsAmong, AreOnce, AreVariablesOf}
 use Rattle.fvn_match.specs.inner.Candidates.{Values, IsCandidate, IsSolution, pairs_of, Finds}
 use Rattle.fvn_match.specs.inner.Goals.{AllMake}

@@ -1,22 +1,20 @@
 -- What a pair asks, taken apart.
-use Rattle.std.proofs.Common.{◌≡◌, ℕ, ◌+◌, ◌-◌, ◌≤◌, ◌<◌, Bool, true, false, List, [], ◌∷◌, length, map, take, drop, get_or, Option, Some, None, refl, sym, ap, ◌∙◌, subst, inl, inr, arith}
-use Rattle.std.specs.Prelude.{◌↔◌, ◌⊎◌, if◌then◌else◌, Contains}
-use Rattle.std.specs.List.{AllZip, AllByRecursion}
+use Rattle.std.proofs.Common.{◌≡◌, ◌-◌, ◌≤◌, Bool, true, false, List, [], ◌∷◌, length, map, take, drop, get_or, Some, None, refl, sym, ap, ◌∙◌, subst, inl, inr, arith}
+use Rattle.std.specs.Prelude.{◌↔◌, ◌⊎◌}
+use Rattle.std.specs.List.{AllZip}
 use Rattle.std.specs.Ordering.{is_gt}
 use Rattle.std.proofs.lemmas.List.{take_rest}
 use Rattle.fvn_terms.specs.declared.plain.Var.{Var}
 use Rattle.fvn_terms.specs.declared.plain.OpId.{OpId}
 use Rattle.fvn_terms.specs.declared.plain.SortId.{SortId}
 use Rattle.fvn_terms.specs.declared.declarations.Axioms.{Axioms}
-use Rattle.fvn_terms.specs.declared.declarations.Axioms.TheVariants.{Free, Comm, AssocComm, AssocCommId}
-use Rattle.fvn_terms.specs.declared.declarations.Rank.{Rank}
+use Rattle.fvn_terms.specs.declared.declarations.Axioms.TheVariants.{Free, Comm}
 use Rattle.fvn_terms.specs.declared.declarations.Declarations.{Declarations}
-use Rattle.fvn_terms.specs.Term.{none, more}
-use Rattle.fvn_terms.specs.Signature.{kind, declared, axioms, HasKind, HaveKinds}
-use Rattle.fvn_terms.specs.Equality.{IsCommutative, IsAssociative}
+use Rattle.fvn_terms.specs.Signature.{kind, axioms, HasKind, HaveKinds}
+use Rattle.fvn_terms.specs.Equality.{IsAssociative}
 use Rattle.fvn_forms.specs.Flat.{FlatTerm, FlatTerms, fvar, fapp, fnone, fmore, fpack, funpack, plain, plain_all}
 use Rattle.fvn_forms.specs.Order.{flat_cmp}
-use Rattle.fvn_forms.specs.InOrder.{InOrder, insert, sort}
+use Rattle.fvn_forms.specs.InOrder.{InOrder, sort}
 use Rattle.fvn_forms.specs.Canon.{inst}
 use Rattle.fvn_forms.specs.Settled.{FitsUnjoined, Settled, SettledAll, SettledValues}
 use Rattle.fvn_forms.specs.FitsKinds.{FitsKinds}
@@ -24,7 +22,7 @@ use Rattle.fvn_forms.proofs.InOrder.{insert-insert, sort_in_order}
 use Rattle.fvn_forms.proofs.Sums.{funpack-fpack, fpack-funpack}
 use Rattle.fvn_forms.proofs.Instances.{inst_free, inst_commutative}
 use Rattle.fvn_flat.specs.Forms.{variable_of, head_of, args_of}
-use Rattle.fvn_match.specs.inner.Candidates.{Values, IsCandidate}
+use Rattle.fvn_match.specs.inner.Candidates.{Values}
 use Rattle.fvn_match.specs.inner.Goals.{AllMake, IsPair}
 use Rattle.fvn_match.specs.inner.Searching.{crossed, IsCrossing}
 
@@ -114,9 +112,10 @@ module _ (d : Declarations) where
       pub free_step : (c : Values) → SettledValues d c → (inst d c p ≡ t) ↔ AllMake d (args_of p) (args_of t) c
       free_step c settled =
           subst (λ u. (inst d c p ≡ t) ↔ AllMake d (args_of u) (args_of t) c) (sym left.1)
-          (subst (λ u. (inst d c p ≡ t) ↔ AllMake d (funpack left.0) (args_of u) c) (sym right.1)
-          (λ is. map_makes c (funpack left.0) (funpack right.0) (sym (funpack-fpack (map (inst d c) (funpack left.0))) ∙ ap args_of (sym value ∙ is ∙ right.1)),
-          λ h. value ∙ ap (λ l. fapp f false (fpack l)) (makes_map c (funpack left.0) (funpack right.0) h) ∙ ap (fapp f false) (fpack-funpack right.0) ∙ sym right.1))
+          (subst (λ u. (inst d c p ≡ t) ↔ AllMake d (funpack left.0) (args_of u) c) (sym right.1) (
+            λ is. map_makes c (funpack left.0) (funpack right.0) (sym (funpack-fpack (map (inst d c) (funpack left.0))) ∙ ap args_of (sym value ∙ is ∙ right.1)),
+            λ h. value ∙ ap (λ l. fapp f false (fpack l)) (makes_map c (funpack left.0) (funpack right.0) h) ∙ ap (fapp f false) (fpack-funpack right.0) ∙ sym right.1,
+          ))
         where
           value : inst d c p ≡ fapp f false (fpack (map (inst d c) (funpack left.0)))
           value = ap (inst d c) left.1 ∙ inst_free d c settled f e left.0
@@ -145,7 +144,10 @@ module _ (d : Declarations) where
     two_of : TwoOf f p t
     two_of =
         record {
-          a = ps.0; b = ps.1; u = us.0; v = us.1;
+          a = ps.0;
+          b = ps.1;
+          u = us.0;
+          v = us.1;
           pattern_is = left.1 ∙ ap (fapp f false) ps.2;
           target_is = right.1 ∙ ap (fapp f false) us.2;
           straight_first = record { pattern = sp.0; target = st.0; of_kind = one.0; pattern_kind = kp.0; target_kind = kt.0 };

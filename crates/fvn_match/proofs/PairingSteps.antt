@@ -1,9 +1,8 @@
 -- Kinds of patterns and of their targets.
-use Rattle.std.proofs.Common.{◌≡◌, ℕ, ◌+◌, ◌<◌, ◌≤◌, List, [], ◌∷◌, length, map, drop, get_or, refl, sym, ap, ◌∙◌, subst, arith}
+use Rattle.std.proofs.Common.{◌≡◌, ℕ, ◌+◌, ◌<◌, ◌≤◌, List, [], ◌∷◌, length, map, drop, get_or, refl, sym, ap, ◌∙◌, subst}
 use Rattle.std.specs.Prelude.{◌↔◌}
 use Rattle.std.specs.List.{AllZip}
 use Rattle.std.proofs.lemmas.List.{drop_more, drop_all}
-use Rattle.fvn_terms.specs.declared.plain.Var.{Var}
 use Rattle.fvn_terms.specs.declared.plain.SortId.{SortId}
 use Rattle.fvn_terms.specs.declared.declarations.Declarations.{Declarations}
 use Rattle.fvn_terms.specs.Substitution.{Substitution, apply}
@@ -17,7 +16,7 @@ use Rattle.fvn_forms.specs.LeastSort.{least_sort}
 use Rattle.fvn_forms.specs.Settled.{Settled}
 use Rattle.fvn_forms.proofs.KindsKept.{b_equal_keeps_kind}
 use Rattle.fvn_forms.proofs.LeastSort.{sort_in-kind}
-use Rattle.fvn_flat.specs.Fits.{Fits, AllFit}
+use Rattle.fvn_flat.specs.Fits.{AllFit}
 use Rattle.fvn_match.specs.inner.Pairing.{HaveOneKind}
 use Rattle.fvn_match.specs.inner.Goals.{IsPair}
 
@@ -41,9 +40,10 @@ module _ (d : Declarations) (good : IsGood d) where
   one_kind_pairs (p ∷ ps) (t ∷ ts) fp ft h =
       let kp = fp.0.kinded in
       let kt = ft.0.kinded in
-      let same : kp.0 ≡ kt.0 = sym (kind_is p fp.0.flat kp.0 kp.1) ∙ h.0 ∙ kind_is t ft.0.flat kt.0 kt.1 in
-      (record { pattern = fp.0.flat; target = ft.0.flat; of_kind = kp.0; pattern_kind = kp.1; target_kind = subst (HasKind d (plain t)) (sym same) kt.1 },
-      one_kind_pairs ps ts fp.1 ft.1 h.1)
+      let same : kp.0 ≡ kt.0 = sym (kind_is p fp.0.flat kp.0 kp.1) ∙ h.0 ∙ kind_is t ft.0.flat kt.0 kt.1 in (
+        record { pattern = fp.0.flat; target = ft.0.flat; of_kind = kp.0; pattern_kind = kp.1; target_kind = subst (HasKind d (plain t)) (sym same) kt.1 },
+        one_kind_pairs ps ts fp.1 ft.1 h.1,
+      )
 
   -- where there is a matcher, kinds are the same
   pub matched_have_one_kind : (s : Substitution) → IsWellSorted d s → (ps ts : List FlatTerm) → AllFit d ps → AllFit d ts → AllZip (λ p t. BEqual d (apply s p) t) (map plain ps) (map plain ts) → AllZip (HaveOneKind d) ps ts

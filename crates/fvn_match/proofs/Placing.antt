@@ -1,5 +1,5 @@
 -- A choice that is advanced in place: zeros up to a place, and then as it was.
-use Rattle.std.proofs.Common.{◌≡◌, ℕ, ◌+◌, ◌-◌, ◌*◌, ◌≤◌, ◌<◌, Bool, true, false, List, [], ◌∷◌, ◌++◌, length, map, replicate, drop, get_or, set, Option, Some, None, refl, sym, ap, ◌∙◌, subst, arith}
+use Rattle.std.proofs.Common.{◌≡◌, ℕ, ◌+◌, ◌-◌, ◌*◌, ◌<◌, Bool, true, false, List, [], ◌∷◌, ◌++◌, length, replicate, drop, get_or, set, Option, Some, None, refl, sym, ap, ◌∙◌, arith}
 use Rattle.std.specs.Prelude.{◌&&◌, nat_lt, if◌then◌else◌, sum}
 use Rattle.std.proofs.lemmas.List.{length-replicate, append_assoc, at_drop_more, set_at, get_or-append_right, get_or-drop, get_or_read, length-append, length-drop, replicate-append-replicate}
 use Rattle.fvn_match.specs.inner.Choices.{with_zero, advanced, reduced}

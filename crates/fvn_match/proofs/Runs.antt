@@ -1,17 +1,17 @@
 -- Runs of one form at the front of a list, and references.
-use Rattle.std.proofs.Common.{◌≡◌, ℕ, ◌+◌, ◌-◌, ◌≤◌, ◌<◌, Bool, true, false, zero, suc, List, [], ◌∷◌, ◌++◌, length, map, replicate, take, drop, get_or, refl, sym, ap, ◌∙◌, subst, arith}
-use Rattle.std.specs.Prelude.{if◌then◌else◌, sum}
+use Rattle.std.proofs.Common.{◌≡◌, ℕ, ◌+◌, ◌≤◌, ◌<◌, Bool, true, false, zero, suc, List, [], ◌∷◌, ◌++◌, length, replicate, take, drop, get_or, refl, sym, ap, ◌∙◌, subst, arith}
+use Rattle.std.specs.Prelude.{sum}
 use denote.Ref.{Bor}
 use Rattle.std.specs.declared.cmp.Ordering.{Ordering}
 use Rattle.std.specs.declared.cmp.Ordering.TheVariants.{Less, Equal, Greater}
 use Rattle.std.specs.Ordering.{ordering_reverse, is_gt}
 use Rattle.std.proofs.lemmas.Cmp.{upto}
-use Rattle.std.proofs.lemmas.List.{take_more, take-append-drop, length-map, length-append, length-replicate, length-drop, get_or-drop, replicate-append-replicate}
+use Rattle.std.proofs.lemmas.List.{take_more, take-append-drop, length-append, length-drop, get_or-drop, replicate-append-replicate}
 use Rattle.std.specs.List.{AllByRecursion}
 use Rattle.fvn_forms.specs.Flat.{FlatTerm}
 use Rattle.fvn_forms.specs.Order.{flat_cmp, same_flat}
 use Rattle.fvn_forms.specs.InOrder.{InOrder, one_if, count}
-use Rattle.fvn_forms.proofs.Order.{flat_cmp_total, flat_ties, same_flat_is, same_flat_itself}
+use Rattle.fvn_forms.proofs.Order.{flat_cmp_total, flat_ties, same_flat_is}
 use Rattle.fvn_forms.proofs.InOrder.{count_append, count_itself}
 use Rattle.fvn_match.specs.inner.Tallies.{tally, AreDistinct}
 use Rattle.fvn_match.specs.inner.Summands.{references, IsRun}

@@ -1,20 +1,17 @@
 -- What is found for a sum, by what is found for what it is taken apart into.
-use Rattle.std.proofs.Common.{◌≡◌, ℕ, ◌+◌, ◌*◌, ◌≤◌, ◌<◌, Bool, true, false, zero, suc, List, [], ◌∷◌, ◌++◌, length, map, replicate, drop, take, get_or, Option, Some, None, refl, sym, ap, ◌∙◌, subst, inl, inr, arith}
-use Rattle.std.specs.Prelude.{◌↔◌, ◌⊎◌, Result, Ok, Err, IfOk, is_some, sum as std_sum}
-use Rattle.std.specs.List.{AllZip, AllByRecursion}
+use Rattle.std.proofs.Common.{◌≡◌, ℕ, ◌*◌, ◌≤◌, true, false, suc, List, [], ◌∷◌, ◌++◌, length, replicate, drop, get_or, Option, Some, None, refl, sym, ap, ◌∙◌, subst, inl, inr, arith}
+use Rattle.std.specs.Prelude.{◌↔◌, Result, IfOk, is_some, sum as std_sum}
+use Rattle.std.specs.List.{AllZip}
 use denote.Ref.{Bor}
-use Rattle.std.proofs.lemmas.List.{take-append-drop, nil_from_length, length-drop, length-map}
+use Rattle.std.proofs.lemmas.List.{take-append-drop, nil_from_length, length-drop}
 use Rattle.fvn_terms.specs.declared.plain.Var.{Var}
-use Rattle.fvn_terms.specs.declared.plain.OpId.{OpId}
 use Rattle.fvn_terms.specs.declared.declarations.Declarations.{Declarations}
-use Rattle.fvn_terms.specs.Signature.{axioms}
 use Rattle.fvn_forms.specs.Flat.{FlatTerm}
 use Rattle.fvn_forms.specs.InOrder.{count}
-use Rattle.fvn_forms.specs.Canon.{identity, parts, inst}
-use Rattle.fvn_forms.specs.Settled.{IsPiece}
+use Rattle.fvn_forms.specs.Canon.{parts, inst}
 use Rattle.fvn_flat.specs.Bindings.{Bindings}
-use Rattle.fvn_match.specs.inner.Choices.{quotients, reduced, advanced, IsWithin}
-use Rattle.fvn_match.specs.inner.Tallies.{repeated, AddsUp}
+use Rattle.fvn_match.specs.inner.Choices.{quotients, advanced, IsWithin}
+use Rattle.fvn_match.specs.inner.Tallies.{AddsUp}
 use Rattle.fvn_match.specs.inner.Summands.{references, IsRun}
 use Rattle.fvn_match.specs.inner.Candidates.{Values, IsCandidate, Agrees, IsSolution, Finds}
 use Rattle.fvn_match.specs.inner.Goals.{patterns_of, pieces_of, SumHolds, SumsHold, ChoiceAsked, SumFits, weight_of}
@@ -130,18 +127,21 @@ module _ (d : Declarations) (b : Bindings) (vars : List Var) (goal : SumGoal) (f
       its_choice = numbers_in (pieces_of goal) (parts d goal.op (inst d c p))
 
       pub choice_makes : (js : List ℕ) → AllZip (λ j l. j ≤ l) js limits → ChoiceAsked d goal p k js sums c → Whole c
-      choice_makes js fits h =
-          (choice_adds_up d goal.op c candidate.flat.settled fit.associative (patterns_of goal) p k g.run.some group (pieces_of goal) goal.left.now fit.each_is_one js
-            (fits_quotients k goal.left.now js (subst (AllZip (λ j l. j ≤ l) js) limits_are fits)) h.0 h.1.0, h.1.1)
+      choice_makes js fits h = (
+        choice_adds_up d goal.op c candidate.flat.settled fit.associative (patterns_of goal) p k g.run.some group (pieces_of goal) goal.left.now fit.each_is_one js
+            (fits_quotients k goal.left.now js (subst (AllZip (λ j l. j ≤ l) js) limits_are fits)) h.0 h.1.0,
+        h.1.1,
+      )
 
       module _ (h : SumHolds d goal c) where
         pub its_choice_fits : AllZip (λ j l. j ≤ l) (numbers_in (pieces_of goal) (parts d goal.op (inst d c p))) limits
         its_choice_fits = subst (AllZip (λ j l. j ≤ l) (numbers_in (pieces_of goal) (parts d goal.op (inst d c p)))) (sym limits_are) (choice_fits d goal.op c candidate.flat.settled fit.associative (patterns_of goal) p k g.run.some group (pieces_of goal) goal.left.now long fit.distinct h)
 
         pub its_choice_asked : SumsHold d sums c → ChoiceAsked d goal p k (numbers_in (pieces_of goal) (parts d goal.op (inst d c p))) sums c
-        its_choice_asked rest =
-            (choice_is d goal.op c candidate.flat.settled fit.associative (patterns_of goal) p k g.run.some group (pieces_of goal) goal.left.now long fit.distinct h,
-            (choice_leaves d goal.op c candidate.flat.settled fit.associative (patterns_of goal) p k g.run.some group (pieces_of goal) goal.left.now long fit.distinct h, rest))
+        its_choice_asked rest = (
+          choice_is d goal.op c candidate.flat.settled fit.associative (patterns_of goal) p k g.run.some group (pieces_of goal) goal.left.now long fit.distinct h,
+          (choice_leaves d goal.op c candidate.flat.settled fit.associative (patterns_of goal) p k g.run.some group (pieces_of goal) goal.left.now long fit.distinct h, rest),
+        )
 
         pub its_choice_length : std_sum (numbers_in (pieces_of goal) (parts d goal.op (inst d c p))) ≡ length (parts d goal.op (inst d c p))
         its_choice_length = choice_length d goal.op c candidate.flat.settled fit.associative (patterns_of goal) p k g.run.some group (pieces_of goal) goal.left.now long fit.distinct h

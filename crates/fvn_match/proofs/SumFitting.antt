@@ -1,6 +1,6 @@
 -- Sums of a search fit.
-use Rattle.std.proofs.Common.{◌≡◌, ℕ, ◌+◌, ◌-◌, ◌≤◌, ◌<◌, ◌^◌, Bool, true, false, List, [], ◌∷◌, ◌++◌, length, map, reverse, take, drop, Option, Some, None, refl, sym, ap, ◌∙◌, subst, arith}
-use Rattle.std.specs.Prelude.{◌↔◌, Contains, sum as std_sum}
+use Rattle.std.proofs.Common.{◌≡◌, ℕ, ◌≤◌, ◌<◌, ◌^◌, true, false, List, [], ◌∷◌, length, reverse, take, drop, Some, refl, sym, ap, ◌∙◌, subst, arith}
+use Rattle.std.specs.Prelude.{Contains, sum as std_sum}
 use Rattle.std.specs.List.{AllByRecursion}
 use denote.Ref.{Bor}
 use Rattle.std.proofs.lemmas.List.{take-append-drop}
@@ -12,10 +12,10 @@ use Rattle.fvn_terms.specs.declared.declarations.Rank.{Rank}
 use Rattle.fvn_terms.specs.declared.declarations.Declarations.{Declarations}
 use Rattle.fvn_terms.specs.Term.{none}
 use Rattle.fvn_terms.specs.Signature.{kind, declared, axioms, HasKind, HaveKinds}
-use Rattle.fvn_terms.specs.Equality.{IsCommutative, IsAssociative, constant}
-use Rattle.fvn_forms.specs.Flat.{FlatTerm, FlatTerms, fvar, fapp, fnone, fmore, fpack, funpack, fconstant, plain, plain_all}
-use Rattle.fvn_forms.specs.InOrder.{InOrder, count}
-use Rattle.fvn_forms.specs.Canon.{identity, parts, all_parts, empty_sum, sum, build}
+use Rattle.fvn_terms.specs.Equality.{IsAssociative, constant}
+use Rattle.fvn_forms.specs.Flat.{FlatTerm, FlatTerms, fvar, fapp, fnone, fmore, funpack, plain}
+use Rattle.fvn_forms.specs.InOrder.{count}
+use Rattle.fvn_forms.specs.Canon.{parts, empty_sum, sum, build}
 use Rattle.fvn_forms.specs.Settled.{IsPiece, FitsUnjoined, Settled}
 use Rattle.fvn_forms.specs.FitsKinds.{FitsKinds}
 use Rattle.fvn_forms.proofs.InOrder.{each_append, count_append}
@@ -24,15 +24,12 @@ use Rattle.fvn_forms.proofs.Build.{HasIdentity, sum_settled, build_sum}
 use Rattle.fvn_forms.proofs.ToCanon.{identity_is}
 use Rattle.fvn_forms.proofs.KindsOfSums.{parts_of_kind, sum_of_forms_of_kind}
 use Rattle.fvn_flat.specs.Forms.{head_of, args_of}
-use Rattle.fvn_flat.specs.Fits.{Fits, AllFit, AllOfKind, TakesAsDeclared, Takes}
-use Rattle.fvn_match.specs.inner.Choices.{reduced}
-use Rattle.fvn_match.specs.inner.Tallies.{repeated}
+use Rattle.fvn_flat.specs.Fits.{AllFit, TakesAsDeclared, Takes}
 use Rattle.fvn_match.specs.inner.Summands.{references, IsCounted}
-use Rattle.fvn_match.specs.inner.Goals.{patterns_of, pieces_of, IsPair, IsFlatOf, SumFits}
+use Rattle.fvn_match.specs.inner.Goals.{patterns_of, IsPair, IsFlatOf, SumFits}
 use Rattle.fvn_match.specs.declared.goals.SumGoal.{SumGoal}
 use Rattle.fvn_match.specs.declared.summands.Counted.{Counted}
-use Rattle.fvn_match.proofs.Runs.{each_among, references-drop, each_drop}
-use Rattle.fvn_match.proofs.Tallies.{each_repeated}
+use Rattle.fvn_match.proofs.Runs.{each_among}
 use Rattle.fvn_match.proofs.SummandLists.{unjoined_none, parts_headed}
 use Rattle.fvn_match.proofs.SumSteps.{reverse_more}
 

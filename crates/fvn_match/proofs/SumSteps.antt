@@ -1,28 +1,25 @@
 -- What a sum asks, taken apart.
-use Rattle.std.proofs.Common.{◌≡◌, ℕ, ◌+◌, ◌-◌, ◌*◌, ◌/◌, ◌≤◌, ◌<◌, Bool, true, false, zero, suc, List, [], ◌∷◌, ◌++◌, length, map, replicate, reverse, take, drop, Option, Some, None, refl, sym, ap, ◌∙◌, subst, inl, inr, arith}
-use Rattle.std.specs.Prelude.{◌↔◌, ◌⊎◌, if◌then◌else◌, sum as std_sum, Contains}
+use Rattle.std.proofs.Common.{◌≡◌, ℕ, ◌+◌, ◌-◌, ◌*◌, ◌/◌, ◌≤◌, ◌<◌, zero, suc, List, [], ◌∷◌, ◌++◌, length, map, replicate, reverse, drop, Some, None, refl, sym, ap, ◌∙◌, subst, arith}
+use Rattle.std.specs.Prelude.{◌↔◌, sum as std_sum}
 use Rattle.std.specs.List.{AllZip, AllByRecursion}
-use Rattle.std.proofs.lemmas.List.{reverse-append, length-append, length-replicate, take-append-drop, nil_from_length}
+use Rattle.std.proofs.lemmas.List.{reverse-append, length-append}
 use Rattle.std.proofs.Math.Nat.{mul-div_cancel_left}
 use Rattle.fvn_terms.specs.declared.plain.OpId.{OpId}
 use Rattle.fvn_terms.specs.declared.declarations.Declarations.{Declarations}
 use Rattle.fvn_terms.specs.Signature.{axioms}
 use Rattle.fvn_terms.specs.Equality.{IsAssociative}
 use Rattle.fvn_forms.specs.Flat.{FlatTerm}
-use Rattle.fvn_forms.specs.Order.{same_flat}
-use Rattle.fvn_forms.specs.InOrder.{sort, one_if, count, SameCounts}
+use Rattle.fvn_forms.specs.InOrder.{count}
 use Rattle.fvn_forms.specs.Canon.{identity, parts, all_parts, sum, inst}
-use Rattle.fvn_forms.specs.Settled.{IsPiece, Settled, SettledValues}
-use Rattle.fvn_forms.proofs.Order.{same_flat_itself}
-use Rattle.fvn_forms.proofs.InOrder.{count_append, count_sort, count_itself}
+use Rattle.fvn_forms.specs.Settled.{IsPiece, SettledValues}
+use Rattle.fvn_forms.proofs.InOrder.{count_append, count_sort}
 use Rattle.fvn_forms.proofs.Sums.{parts_sum, sum_parts, sum_same_counts}
 use Rattle.fvn_forms.proofs.Build.{parts_none}
-use Rattle.fvn_forms.proofs.Instances.{inst_settled, inst_parts_iff}
+use Rattle.fvn_forms.proofs.Instances.{inst_settled}
 use Rattle.fvn_match.specs.inner.Choices.{quotients, reduced}
 use Rattle.fvn_match.specs.inner.Tallies.{tally, repeated, AreDistinct, AddsUp}
-use Rattle.fvn_match.specs.inner.Summands.{IsRun}
 use Rattle.fvn_match.specs.inner.Candidates.{Values}
-use Rattle.fvn_match.specs.inner.Goals.{SumsHold, Asked, AllMake}
+use Rattle.fvn_match.specs.inner.Goals.{SumsHold, Asked}
 use Rattle.fvn_match.specs.declared.goals.Goals.{Goals, Done, Lists', Pair'}
 use Rattle.fvn_match.specs.declared.goals.Sums.{Sums}
 use Rattle.fvn_match.proofs.Advancing.{sum-cons}

@@ -1,14 +1,13 @@
 -- What is found for a pair whose pattern is a sum, by what is found for its summands.
-use Rattle.std.proofs.Common.{◌≡◌, ℕ, ◌+◌, ◌<◌, List, [], ◌∷◌, length, map, reverse, Option, Some, None, refl, sym, ap, ◌∙◌, subst, arith}
-use Rattle.std.specs.Prelude.{◌↔◌, Result, Ok, Err, IfOk}
-use denote.Ref.{Bor}
+use Rattle.std.proofs.Common.{◌≡◌, List, map, reverse, Option, Some, sym, ap, ◌∙◌}
+use Rattle.std.specs.Prelude.{◌↔◌, Result, IfOk}
 use Rattle.fvn_terms.specs.declared.plain.Var.{Var}
 use Rattle.fvn_terms.specs.declared.plain.OpId.{OpId}
 use Rattle.fvn_terms.specs.declared.declarations.Declarations.{Declarations}
 use Rattle.fvn_terms.specs.Signature.{axioms}
 use Rattle.fvn_terms.specs.Equality.{IsAssociative}
 use Rattle.fvn_forms.specs.Flat.{FlatTerm}
-use Rattle.fvn_forms.specs.InOrder.{count, SameCounts}
+use Rattle.fvn_forms.specs.InOrder.{count}
 use Rattle.fvn_forms.specs.Canon.{parts, all_parts, inst}
 use Rattle.fvn_forms.specs.FitsKinds.{FitsKinds}
 use Rattle.fvn_forms.proofs.Instances.{inst_parts_iff}
@@ -16,7 +15,7 @@ use Rattle.fvn_flat.specs.Forms.{head_of, args_of}
 use Rattle.fvn_flat.specs.Bindings.{Bindings}
 use Rattle.fvn_match.specs.inner.Tallies.{tally}
 use Rattle.fvn_match.specs.inner.Summands.{references, IsCounted}
-use Rattle.fvn_match.specs.inner.Candidates.{Values, IsCandidate, Agrees, IsSolution, Finds}
+use Rattle.fvn_match.specs.inner.Candidates.{Values, IsCandidate, IsSolution, Finds}
 use Rattle.fvn_match.specs.inner.Goals.{SumHolds, SumsHold, Asked, IsPair}
 use Rattle.fvn_match.specs.declared.goals.Goals.{Goals}
 use Rattle.fvn_match.specs.declared.goals.SumGoal.{SumGoal}

@@ -1,13 +1,13 @@
 -- Pieces with their numbers, counted.
-use Rattle.std.proofs.Common.{◌≡◌, ℕ, ◌+◌, ◌-◌, ◌*◌, ◌/◌, ◌≤◌, ◌<◌, Bool, true, false, zero, suc, List, [], ◌∷◌, ◌++◌, length, map, replicate, take, drop, get_or, set, refl, sym, ap, ◌∙◌, subst, inl, inr, arith}
-use Rattle.std.specs.Prelude.{◌⊎◌, if◌then◌else◌, sum}
+use Rattle.std.proofs.Common.{◌≡◌, ℕ, ◌+◌, ◌-◌, ◌*◌, ◌/◌, ◌≤◌, ◌<◌, Bool, true, false, zero, suc, List, [], ◌∷◌, ◌++◌, length, map, replicate, take, drop, get_or, set, refl, sym, ap, ◌∙◌, arith}
+use Rattle.std.specs.Prelude.{if◌then◌else◌, sum}
 use Rattle.std.specs.List.{AllZip, AllByRecursion}
 use Rattle.std.proofs.lemmas.List.{length-append, length-replicate, length-drop, at_drop_more, get_or_read, nil_from_length, take_more, take-append-drop}
 use Rattle.std.proofs.Math.Nat.{mul-le-mul_left, mul-div-le}
 use Rattle.std.proofs.lemmas.Nat.{le-div}
 use Rattle.fvn_forms.specs.Flat.{FlatTerm}
 use Rattle.fvn_forms.specs.Order.{same_flat}
-use Rattle.fvn_forms.specs.InOrder.{sort, one_if, count, SameCounts}
+use Rattle.fvn_forms.specs.InOrder.{one_if, count, SameCounts}
 use Rattle.fvn_forms.proofs.Order.{same_flat_is, same_flat_itself}
 use Rattle.fvn_forms.proofs.InOrder.{count_append, length_sort, sort_same_counts, count_itself}
 use Rattle.fvn_match.specs.inner.Choices.{quotients, reduced}

@@ -11,12 +11,7 @@ use fvn_terms::{NoMemory, Var};
 use std::alloc::Global;
 
 // The pairs with the value of one variable more.
-fn with_value(
-    alloc: Global,
-    s: &Subst,
-    x: Var,
-    values: &Bound<'_>,
-) -> Result<Subst, NoMemory>
+fn with_value(alloc: Global, s: &Subst, x: Var, values: &Bound<'_>) -> Result<Subst, NoMemory>
     requires { bound s.now x ≡ None }
     ensures { IfOk result (λ more. more ≡ s.now ++ (x, value (bindings_of values.now) x) ∷ []) }
 {

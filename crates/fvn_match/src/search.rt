@@ -9,8 +9,16 @@ ghost use Rattle.fvn_match.specs.inner.Choices.{quotients};
 ghost use Rattle.fvn_match.specs.inner.Variables.{AreOnce};
 ghost use Rattle.fvn_match.specs.inner.Goals.{IsPair, StateFits};
 ghost use Rattle.fvn_match.specs.inner.Searching.{
-  IsCrossing, SumStateFits, IsGroup,
-  SearchesGoals, SearchesPair, SearchesLists, SearchesEither, SearchesSum, SearchesChoice, SearchesChoices,
+  IsCrossing,
+  SumStateFits,
+  IsGroup,
+  SearchesGoals,
+  SearchesPair,
+  SearchesLists,
+  SearchesEither,
+  SearchesSum,
+  SearchesChoice,
+  SearchesChoices,
 };
 
 use crate::answers::answer;

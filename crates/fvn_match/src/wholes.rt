@@ -27,12 +27,7 @@ pub(crate) fn are_zero(ns: &[usize]) -> bool
 }
 
 // The terms with a number of copies of one more.
-fn with_copies(
-    alloc: Global,
-    terms: Vec<Flat>,
-    t: &Flat,
-    n: usize,
-) -> Result<Vec<Flat>, NoMemory>
+fn with_copies(alloc: Global, terms: Vec<Flat>, t: &Flat, n: usize) -> Result<Vec<Flat>, NoMemory>
     ensures { IfOk result (λ all. all.items ≡ terms.items ++ replicate n t.now) }
 {
     let mut all = terms;
@@ -55,11 +50,7 @@ fn copies(alloc: Global, pieces: &[&Flat], chosen: &[usize]) -> Result<Vec<Flat>
 }
 
 // The sum without pieces: the identity, if there is one.
-fn empty_sum(
-    alloc: Global,
-    sig: &Signature,
-    goal: &SumGoal<'_>,
-) -> Result<Option<Flat>, NoMemory>
+fn empty_sum(alloc: Global, sig: &Signature, goal: &SumGoal<'_>) -> Result<Option<Flat>, NoMemory>
     requires { SumFits sig.now goal.now }
     ensures { IfOk result (IsEmptySum sig.now goal.now.op) }
 {

@@ -1,8 +1,6 @@
 -- The goals of a search, and what they ask.
-use Rattle.std.specs.Prelude.{◌≡◌, ◌≤◌, ◌<◌, ◌^◌, ℕ, ◌+◌, ◌*◌, List, [], ◌∷◌, length, map, sum as std_sum, drop, Contains}
+use Rattle.std.specs.Prelude.{◌≡◌, ◌<◌, ◌^◌, ℕ, ◌+◌, List, [], ◌∷◌, length, map, sum as std_sum, drop, Contains}
 use Rattle.std.specs.List.{AllZip, AllByRecursion}
-use Rattle.fvn_terms.specs.declared.plain.Var.{Var}
-use Rattle.fvn_terms.specs.declared.plain.OpId.{OpId}
 use Rattle.fvn_terms.specs.declared.plain.SortId.{SortId}
 use Rattle.fvn_terms.specs.declared.declarations.Rank.{Rank}
 use Rattle.fvn_terms.specs.declared.declarations.Declarations.{Declarations}
@@ -25,10 +23,11 @@ abbrev pub bindings_of : Bound → Bindings
 bindings_of Nothing = []
 bindings_of (Bind' x t p rest) = (x, t.now) ∷ bindings_of rest
 
--- the patterns, pieces and numbers of a sum
+-- the patterns of a sum
 abbrev pub patterns_of : SumGoal → List FlatTerm
 patterns_of goal = map (λ p. p.now) goal.patterns.now
 
+-- its pieces
 abbrev pub pieces_of : SumGoal → List FlatTerm
 pieces_of goal = map (λ t. t.now) goal.pieces.now
 
@@ -105,6 +104,7 @@ abbrev mutual
   weight (fvar x) = 1
   weight (fapp f joined ts) = weights ts + 1
 
+  -- that of arguments
   pub weights : FlatTerms → ℕ
   weights fnone = 0
   weights (fmore t ts) = weight t + 2 + weights ts

@@ -1,5 +1,5 @@
 -- What is counted of summands, and taken away from them.
-use Rattle.std.specs.Prelude.{◌≡◌, ◌+◌, ◌≤◌, ◌<◌, ℕ, Bool, true, false, List, [], ◌∷◌, length, map, replicate, sum, take, drop}
+use Rattle.std.specs.Prelude.{◌≡◌, ◌+◌, ◌≤◌, ◌<◌, ℕ, Bool, true, false, List, ◌∷◌, length, map, replicate, sum, take, drop}
 use denote.Ref.{Bor}
 use Rattle.fvn_forms.specs.Flat.{FlatTerm}
 use Rattle.fvn_forms.specs.InOrder.{count}

@@ -1,8 +1,7 @@
 -- one number more
-use Rattle.std.proofs.Common.{◌+◌, ◌∷◌, ◌++◌, [], drop, sym, ap, ◌∙◌, arith}
+use Rattle.std.proofs.Common.{◌++◌, sym, ap, ◌∙◌, arith}
 use Rattle.std.proofs.lemmas.List.{append_assoc}
 use Rattle.std.proofs.lemmas.Slice.Zip.{AllZip-long}
-use Rattle.fvn_match.specs.inner.Choices.{reduced}
 use Rattle.fvn_match.proofs.Placing.{reduced-drop}
 use Rattle.fvn_match.proofs.choices.reduced.Goals as goal
 

@@ -1,8 +1,8 @@
 -- one pattern more
-use Rattle.std.proofs.Common.{◌≡◌, [], drop, sym, ap, ◌∙◌, subst, true, false, arith}
+use Rattle.std.proofs.Common.{sym, ◌∙◌, subst, arith}
 use Rattle.std.proofs.lemmas.List.{drop_all}
-use Rattle.fvn_match.specs.inner.Summands.{references, IsTakenAway}
-use Rattle.fvn_match.specs.inner.Goals.{bindings_of, pieces_of}
+use Rattle.fvn_match.specs.inner.Summands.{references}
+use Rattle.fvn_match.specs.inner.Goals.{bindings_of}
 use Rattle.fvn_match.proofs.Runs.{length_references}
 use Rattle.fvn_match.proofs.KnownSteps.{Leaving, leaving_all, known_settled, step_open, step_taken, step_refused, step_end}
 use Rattle.fvn_match.proofs.known.without_known.Goals as goal

@@ -1,5 +1,5 @@
 -- What the search finds is what is promised.
-use Rattle.std.proofs.Common.{◌≡◌, [], sym, subst, ◌∙◌}
+use Rattle.std.proofs.Common.{sym, subst, ◌∙◌}
 use Rattle.std.proofs.lemmas.Bool.{false≢true}
 use Rattle.fvn_match.specs.inner.Variables.{AreOnce, AreVariablesOf}
 use Rattle.fvn_match.proofs.PairFinding.{variables_are_candidate}

@@ -1,6 +1,5 @@
 -- one pair more
-use Rattle.std.proofs.Common.{◌≡◌, refl, sym, arith}
-use Rattle.std.specs.Prelude.{◌↔◌}
+use Rattle.std.proofs.Common.{refl, arith}
 use Rattle.fvn_flat.specs.Fits.{Fits}
 use Rattle.fvn_flat.proofs.Instances.{each_at}
 use Rattle.fvn_match.specs.inner.Pairing.{HaveOneKind}

@@ -1,7 +1,7 @@
 -- one form more
 use Rattle.std.proofs.Common.{arith}
 use Rattle.fvn_match.specs.inner.Summands.{references}
-use Rattle.fvn_match.proofs.Runs.{references-get, length_references, run_more, run_ends, run_whole}
+use Rattle.fvn_match.proofs.Runs.{references-get, length_references, run_more, run_ends}
 use Rattle.fvn_match.proofs.summands.alike.Goals as goal
 
 pub loop-i-preserved : goal.loop-i-preserved

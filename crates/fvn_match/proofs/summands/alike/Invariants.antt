@@ -1,5 +1,5 @@
 -- all so far are the first
-use Rattle.std.proofs.Common.{◌≡◌, ◌≤◌, replicate, take}
+use Rattle.std.proofs.Common.{◌≡◌, replicate, take}
 use Rattle.fvn_match.specs.inner.Summands.{references}
 use Rattle.fvn_match.proofs.summands.alike.Given as goal
 

@@ -1,7 +1,6 @@
 -- one form more
 use Rattle.std.proofs.Common.{arith}
-use Rattle.std.specs.Prelude.{◌↔◌}
-use Rattle.fvn_match.proofs.Runs.{run_more, run_ends, run_whole}
+use Rattle.fvn_match.proofs.Runs.{run_more}
 use Rattle.fvn_match.proofs.summands.run.Goals as goal
 
 pub loop-i-preserved : goal.loop-i-preserved

@@ -1,9 +1,7 @@
 -- one summand more
-use Rattle.std.proofs.Common.{true, false, ◌∙◌, ◌≡◌, ◌+◌, ◌<◌, ◌∷◌, [], sym, ap, length, take, arith}
-use Rattle.fvn_forms.specs.Flat.{FlatTerm}
+use Rattle.std.proofs.Common.{true, false, ◌∙◌, ◌≡◌, ◌+◌, ◌∷◌, [], ap, arith}
 use Rattle.fvn_forms.specs.InOrder.{count}
 use Rattle.fvn_match.specs.inner.Summands.{references, IsTakenAway}
-use Rattle.fvn_match.specs.inner.Tallies.{tally}
 use Rattle.fvn_match.proofs.Tallies.{count_take_more, count_take_le}
 use Rattle.fvn_match.proofs.summands.take.Goals as goal
 

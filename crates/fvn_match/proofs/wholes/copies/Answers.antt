@@ -1,5 +1,5 @@
 -- one piece more
-use Rattle.std.proofs.Common.{◌++◌, ◌+◌, length, replicate, drop, get_or, sym, ap, ◌∙◌, arith}
+use Rattle.std.proofs.Common.{◌++◌, ◌+◌, replicate, drop, get_or, sym, ap, ◌∙◌, arith}
 use Rattle.std.proofs.lemmas.List.{append_assoc}
 use Rattle.fvn_match.specs.inner.Tallies.{repeated}
 use Rattle.fvn_match.specs.inner.Summands.{references}

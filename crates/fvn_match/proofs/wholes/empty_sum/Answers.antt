@@ -1,5 +1,5 @@
 -- the identity takes nothing, and is the sum of nothing
-use Rattle.std.proofs.Common.{[], sym, ap, ◌∙◌, subst}
+use Rattle.std.proofs.Common.{sym, ap, ◌∙◌, subst}
 use Rattle.fvn_terms.specs.Signature.{axioms}
 use Rattle.fvn_forms.specs.Canon.{build}
 use Rattle.fvn_flat.specs.Fits.{Takes}

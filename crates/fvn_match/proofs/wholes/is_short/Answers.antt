@@ -1,9 +1,7 @@
 -- too few pieces
-use Rattle.std.proofs.Common.{◌<◌, length, sym, ap, ◌∙◌, arith}
-use Rattle.std.specs.Prelude.{sum as std_sum}
+use Rattle.std.proofs.Common.{length, arith}
 use Rattle.std.proofs.lemmas.Bool.{ltb-true}
 use Rattle.fvn_terms.specs.Signature.{axioms}
-use Rattle.fvn_match.specs.inner.Goals.{patterns_of}
 use Rattle.fvn_match.proofs.Runs.{length_references}
 use Rattle.fvn_match.proofs.Rooms.{no_identity}
 use Rattle.fvn_match.proofs.wholes.is_short.Goals as goal

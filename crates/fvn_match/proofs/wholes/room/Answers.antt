@@ -3,7 +3,7 @@ use Rattle.std.proofs.Common.{sym, ap, ◌∙◌, ◌-◌, ◌/◌, length, subs
 use Rattle.std.specs.Prelude.{sum as std_sum}
 use Rattle.std.specs.List.{AllByRecursion}
 use Rattle.fvn_terms.specs.Signature.{kind, axioms}
-use Rattle.fvn_match.specs.inner.Goals.{patterns_of, IsFlatOf}
+use Rattle.fvn_match.specs.inner.Goals.{IsFlatOf}
 use Rattle.fvn_match.specs.inner.Searching.{IsRoom}
 use Rattle.fvn_match.proofs.Runs.{length_references}
 use Rattle.fvn_match.proofs.Rooms.{no_identity, room_of_all, room_beside_others}

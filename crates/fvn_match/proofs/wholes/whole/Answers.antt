@@ -1,5 +1,5 @@
 -- no piece, one, or more
-use Rattle.std.proofs.Common.{◌≡◌, sym, ap, ◌∙◌, length, arith}
+use Rattle.std.proofs.Common.{sym, ap, ◌∙◌, length}
 use Rattle.std.specs.Prelude.{nat_eq}
 use Rattle.std.proofs.lemmas.Bool.{eqb-true}
 use Rattle.fvn_match.proofs.WholeSteps.{popped_off, not_zero, two_or_more, whole_of_none, whole_of_one, chosen_fit, chosen_taken, whole_of_many}

@@ -1,5 +1,5 @@
 -- What each call of the search is given, and what it finds.
-use Rattle.std.proofs.Common.{◌≡◌, ◌+◌, ◌≤◌, List, [], ◌∷◌, length, drop, get_or, Some, None, refl, sym, ap, ◌∙◌, subst, arith}
+use Rattle.std.proofs.Common.{◌≡◌, ◌≤◌, length, get_or, Some, refl, sym, ap, ◌∙◌, subst, arith}
 use Rattle.std.specs.Prelude.{IfOk, ◌*◌, reverse, sum as std_sum}
 use Rattle.std.specs.List.{AllZip, AllByRecursion}
 use Rattle.std.proofs.lemmas.Bool.{false≢true, eqb-true}
@@ -284,7 +284,7 @@ summed-solve-requires t c =
           pairs = c.requires.state.pairs;
           sums = (
             started_fits d c.recall_good.ensures.fits c.args.f c.requires.associative c.args.p.now c.args.t.now c.requires.pair c.requires.head
-            c.as_slice.result (patterns_are ∙ ap reverse c.args-2.ensures.exact) c.in_ok-counted.counted (subst (λ l. IsCounted l c.in_ok-counted.counted) c.summands.ensures c.in_ok-counted.ensures) c.as_slice-2.result c.as_slice-2.ensures.value c.as_slice-3.result c.as_slice-3.ensures.value (omega (arith, small)),
+                c.as_slice.result (patterns_are ∙ ap reverse c.args-2.ensures.exact) c.in_ok-counted.counted (subst (λ l. IsCounted l c.in_ok-counted.counted) c.summands.ensures c.in_ok-counted.ensures) c.as_slice-2.result c.as_slice-2.ensures.value c.as_slice-3.result c.as_slice-3.ensures.value (omega (arith, small)),
             c.requires.state.sums,
           );
           values = c.requires.state.values;

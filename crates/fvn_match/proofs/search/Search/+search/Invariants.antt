@@ -1,5 +1,5 @@
 -- The measures of the search, and the choices that were tried.
-use Rattle.std.proofs.Common.{◌≡◌, ◌+◌, ◌-◌, ◌*◌}
+use Rattle.std.proofs.Common.{◌+◌, ◌-◌, ◌*◌}
 use Rattle.fvn_match.specs.inner.Choices.{IsWithin, place_value}
 use Rattle.fvn_match.specs.inner.Goals.{bindings_of, weight, weight_of, goals_weight, sums_weight, patterns_of}
 use Rattle.fvn_match.proofs.SumFinding.{IsTried}
