@@ -139,9 +139,47 @@ occurs_in_some x (t ∷ l) = let k = occurs_in_some x l in (to k.0, from k.1)
     from k (zero, u, within, e, o) = inl (subst (Occurs x) (sym e) o)
     from k (suc n, u, within, e, o) = inr (k (n, u, omega (arith, within), e, o))
 
-pub are_variables : (l : List FlatTerm) (all : List Var) → Collects [] (λ y. OccursIn y l) all → AreVariablesOf l all
-are_variables l all h = record { once = h.once; just = λ x. (λ a. to x ((h.just x).0 a), λ o. (h.just x).1 (inr ((occurs_in_some x l).1 o))) }
+pub collects_some : (vs us : List Var) (l : List FlatTerm) → Collects vs (λ y. OccursIn y l) us → Collects vs (λ y. OccursInSome y (map plain l)) us
+collects_some vs us l h = collects_iff vs (λ y. OccursIn y l) (λ y. OccursInSome y (map plain l)) (λ y. occurs_in_some y l) us h
+
+are_variables : (l : List FlatTerm) (all : List Var) → Collects [] (λ y. OccursInSome y (map plain l)) all → AreVariablesOf l all
+are_variables l all h = record { once = h.once; just = λ x. (λ a. to x ((h.just x).0 a), λ o. (h.just x).1 (inr o)) }
   where
-    to : (x : Var) → ⊥ ⊎ OccursIn x l → OccursInSome x (map plain l)
+    to : (x : Var) → ⊥ ⊎ OccursInSome x (map plain l) → OccursInSome x (map plain l)
     to x (inl n) = absurd n
-    to x (inr o) = (occurs_in_some x l).0 o
+    to x (inr o) = o
+
+-- in one of two lists
+occurs_append : (y : Var) (l m : List FlatTerm) → (OccursIn y l ⊎ OccursIn y m) ↔ OccursIn y (l ++ m)
+occurs_append y [] m = (λ h. elim h [ inl n ↦ absurd n | inr o ↦ o ], λ o. inr o)
+occurs_append y (u ∷ l) m = let k = occurs_append y l m in (to k.0, from k.1)
+  where
+    to : (OccursIn y l ⊎ OccursIn y m → OccursIn y (l ++ m)) → (Occurs y (plain u) ⊎ OccursIn y l) ⊎ OccursIn y m → Occurs y (plain u) ⊎ OccursIn y (l ++ m)
+    to k (inl (inl o)) = inl o
+    to k (inl (inr o)) = inr (k (inl o))
+    to k (inr o) = inr (k (inr o))
+
+    from : (OccursIn y (l ++ m) → OccursIn y l ⊎ OccursIn y m) → Occurs y (plain u) ⊎ OccursIn y (l ++ m) → (Occurs y (plain u) ⊎ OccursIn y l) ⊎ OccursIn y m
+    from k (inl o) = inl (inl o)
+    from k (inr o) = side (k o)
+      where
+        side : OccursIn y l ⊎ OccursIn y m → (Occurs y (plain u) ⊎ OccursIn y l) ⊎ OccursIn y m
+        side (inl a) = inl (inr a)
+        side (inr b) = inr b
+
+occurs_in_both : (y : Var) (l m : List FlatTerm) → (OccursInSome y (map plain l) ⊎ OccursInSome y (map plain m)) ↔ OccursInSome y (map plain (l ++ m))
+occurs_in_both y l m = (λ o. (occurs_in_some y (l ++ m)).0 ((occurs_append y l m).0 (to o)), λ o. from ((occurs_append y l m).1 ((occurs_in_some y (l ++ m)).1 o)))
+  where
+    to : OccursInSome y (map plain l) ⊎ OccursInSome y (map plain m) → OccursIn y l ⊎ OccursIn y m
+    to (inl o) = inl ((occurs_in_some y l).1 o)
+    to (inr o) = inr ((occurs_in_some y m).1 o)
+
+    from : OccursIn y l ⊎ OccursIn y m → OccursInSome y (map plain l) ⊎ OccursInSome y (map plain m)
+    from (inl o) = inl ((occurs_in_some y l).0 o)
+    from (inr o) = inr ((occurs_in_some y m).0 o)
+
+pub are_variables_of_both : (l m : List FlatTerm) (ws us : List Var) → Collects [] (λ y. OccursInSome y (map plain l)) ws → Collects ws (λ y. OccursInSome y (map plain m)) us → AreVariablesOf (l ++ m) us
+are_variables_of_both l m ws us g h =
+    are_variables (l ++ m) us
+    (collects_iff [] (λ y. OccursInSome y (map plain l) ⊎ OccursInSome y (map plain m)) (λ y. OccursInSome y (map plain (l ++ m))) (λ y. occurs_in_both y l m) us
+    (collects_then [] ws us (λ y. OccursInSome y (map plain l)) (λ y. OccursInSome y (map plain m)) g h))

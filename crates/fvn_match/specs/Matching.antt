@@ -1,6 +1,7 @@
 -- Matchers: substitutions under which patterns are equal to their targets, modulo the axioms.
 -- J.-M. Hullot, Associative commutative pattern matching, 1979.
-use Rattle.std.specs.Prelude.{◌≡◌, ◌↔◌, List, map, Option, Some, None, IfSome, Result, IfOk}
+use denote.Ref.{Bor}
+use Rattle.std.specs.Prelude.{◌≡◌, ◌↔◌, List, ◌++◌, map, Option, Some, None, IfSome, Result, IfOk}
 use Rattle.std.specs.List.{AllZip}
 use Rattle.fvn_terms.specs.declared.plain.Var.{Var}
 use Rattle.fvn_terms.specs.declared.declarations.Declarations.{Declarations}
@@ -31,6 +32,10 @@ module _ (d : Declarations) (patterns targets : List FlatTerm) where
 -- just the variables of the patterns are bound
 abbrev pub BindsJust : List FlatTerm → Bindings → Type 0
 BindsJust patterns s = (x : Var) → OccursInSome x (map plain patterns) ↔ ((t : FlatTerm) × (bound s x ≡ Some t))
+
+-- the forms of two slices, one after the other
+abbrev pub all : Bor (List FlatTerm) × Bor (List FlatTerm) → List FlatTerm
+all slices = slices.0.now ++ slices.1.now
 
 -- this holds of what was found, if something was
 abbrev pub IfFound : {E : Type 0} → Result (Option Bindings) E → (Bindings → Type 0) → Type 0

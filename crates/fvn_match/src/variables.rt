@@ -1,6 +1,7 @@
 //! The variables of patterns.
-ghost use Rattle.std.specs.Prelude.{◌≡◌, IfOk};
+ghost use Rattle.std.specs.Prelude.{◌≡◌, ◌++◌, map, IfOk};
 ghost use Rattle.fvn_terms.specs.Substitution.{Occurs};
+ghost use Rattle.fvn_terms.specs.Variants.{OccursInSome};
 ghost use Rattle.fvn_forms.specs.Flat.{plain};
 ghost use Rattle.fvn_flat.specs.Variables.{listed};
 ghost use Rattle.fvn_match.specs.inner.Variables.{AreOnce, Collects, AreVariablesOf};
@@ -54,13 +55,28 @@ fn with_variables(t: &Flat, vars: Vec<Var>) -> Result<Vec<Var>, NoMemory>
     }
 }
 
-// The variables of the patterns, each once.
-pub(crate) fn variables(alloc: Global, patterns: &[Flat]) -> Result<Vec<Var>, NoMemory>
-    ensures { IfOk result (λ all. AreVariablesOf patterns.now all.items) }
+// The variables with those of the patterns that are not there yet.
+fn with_all_variables(vars: Vec<Var>, patterns: &[Flat]) -> Result<Vec<Var>, NoMemory>
+    requires { AreOnce vars.items }
+    ensures { IfOk result (λ all. Collects vars.items (λ y. OccursInSome y (map plain patterns.now)) all.items) }
 {
-    let mut all = Vec::new(alloc);
+    let mut all = vars;
     for p in patterns {
         all = with_variables(p, all)?;
     }
+    Ok(all)
+}
+
+// The variables of the patterns of two lists, each once.
+pub(crate) fn variables(
+    alloc: Global,
+    patterns: &[Flat],
+    others: &[Flat],
+) -> Result<Vec<Var>, NoMemory>
+    ensures { IfOk result (λ all. AreVariablesOf (patterns.now ++ others.now) all.items) }
+{
+    let none = Vec::new(alloc);
+    let some = with_all_variables(none, patterns)?;
+    let all = with_all_variables(some, others)?;
     Ok(all)
 }
