@@ -73,23 +73,23 @@ module _ (d : Declarations) (goal : SumGoal) (fit : SumFits d goal) (chosen : Li
       }
 
       -- and what is left
-      module _ (patterns : Bor (List (Bor FlatTerm))) (are : patterns.now ≡ drop k goal.patterns.now) (left : Bor (List ℕ)) (left_is : left.now ≡ reduced k goal.left.now chosen) where
+      module _ (patterns : Bor (List (Bor FlatTerm))) (are : patterns.now ≡ drop k goal.patterns.now) (left : Bor (List ℕ)) (left_is : left.now ≡ reduced k goal.left.now chosen) (seen : ℕ) where
         named : references patterns.now ≡ drop k (patterns_of goal)
         named = ap references are ∙ references-drop k goal.patterns.now
 
-        pub left_fits : SumFits d (record { op = goal.op; patterns = patterns; pieces = goal.pieces; left = left })
+        pub left_fits : SumFits d (record { op = goal.op; patterns = patterns; pieces = goal.pieces; left = left; seen = seen })
         left_fits =
             smaller_fits d goal fit patterns (λ q some. let x = ap (count q) named in let y = count_drop_le q k (patterns_of goal) in omega arith) left
-            (ap length left_is ∙ length_reduced k goal.left.now chosen sized) (let x = ap std_sum left_is in let y = reduced_fewer k goal.left.now chosen in omega arith)
+            (ap length left_is ∙ length_reduced k goal.left.now chosen sized) (let x = ap std_sum left_is in let y = reduced_fewer k goal.left.now chosen in omega arith) seen
 
-        left_asked : (c : Values) → SumHolds d (record { op = goal.op; patterns = patterns; pieces = goal.pieces; left = left }) c ↔ AddsUp d goal.op (drop k (patterns_of goal)) (pieces_of goal) (reduced k goal.left.now chosen) c
+        left_asked : (c : Values) → SumHolds d (record { op = goal.op; patterns = patterns; pieces = goal.pieces; left = left; seen = seen }) c ↔ AddsUp d goal.op (drop k (patterns_of goal)) (pieces_of goal) (reduced k goal.left.now chosen) c
         left_asked c =
             subst (λ l. AddsUp d goal.op (references patterns.now) (pieces_of goal) left.now c ↔ AddsUp d goal.op l (pieces_of goal) (reduced k goal.left.now chosen) c) named
             (subst (λ l. AddsUp d goal.op (references patterns.now) (pieces_of goal) left.now c ↔ AddsUp d goal.op (references patterns.now) (pieces_of goal) l c) left_is (λ h. h, λ h. h))
 
         pub found_whole : {E : Type 0} (r : Result (Option Bindings) E) →
-            IfOk r (Finds vars (IsSolution d b (λ c. (inst d c p ≡ t) × (SumHolds d (record { op = goal.op; patterns = patterns; pieces = goal.pieces; left = left }) c × SumsHold d sums c)))) →
+            IfOk r (Finds vars (IsSolution d b (λ c. (inst d c p ≡ t) × (SumHolds d (record { op = goal.op; patterns = patterns; pieces = goal.pieces; left = left; seen = seen }) c × SumsHold d sums c)))) →
             IfOk r (Finds vars (IsSolution d b (ChoiceAsked d goal p k chosen sums)))
         found_whole r f =
-            if_found_same vars d b (λ c. (inst d c p ≡ t) × (SumHolds d (record { op = goal.op; patterns = patterns; pieces = goal.pieces; left = left }) c × SumsHold d sums c)) (ChoiceAsked d goal p k chosen sums)
+            if_found_same vars d b (λ c. (inst d c p ≡ t) × (SumHolds d (record { op = goal.op; patterns = patterns; pieces = goal.pieces; left = left; seen = seen }) c × SumsHold d sums c)) (ChoiceAsked d goal p k chosen sums)
             (λ c h a. (λ x. (x.0 ∙ w.0, ((left_asked c).0 x.1.0, x.1.1)), λ x. (x.0 ∙ sym w.0, ((left_asked c).1 x.1.0, x.1.1)))) r f

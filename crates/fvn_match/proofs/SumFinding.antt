@@ -83,21 +83,21 @@ module _ (d : Declarations) (b : Bindings) (vars : List Var) (goal : SumGoal) (f
     refused_closed never c s = never c s.candidate s.agrees s.holds.0
 
     -- known patterns taken away
-    module _ (open_ : Open) (left_open : IsOpen d b goal open_) (patterns : Bor (List (Bor FlatTerm))) (are : patterns.now ≡ open_.patterns.items) (left : Bor (List ℕ)) (left_is : left.now ≡ open_.left.items) where
-      open_holds : (c : Values) → AddsUp d goal.op (references open_.patterns.items) (pieces_of goal) open_.left.items c ↔ SumHolds d (record { op = goal.op; patterns = patterns; pieces = goal.pieces; left = left }) c
+    module _ (open_ : Open) (left_open : IsOpen d b goal open_) (patterns : Bor (List (Bor FlatTerm))) (are : patterns.now ≡ open_.patterns.items) (left : Bor (List ℕ)) (left_is : left.now ≡ open_.left.items) (seen : ℕ) where
+      open_holds : (c : Values) → AddsUp d goal.op (references open_.patterns.items) (pieces_of goal) open_.left.items c ↔ SumHolds d (record { op = goal.op; patterns = patterns; pieces = goal.pieces; left = left; seen = seen }) c
       open_holds c =
           subst (λ l. AddsUp d goal.op (references open_.patterns.items) (pieces_of goal) open_.left.items c ↔ AddsUp d goal.op (references l) (pieces_of goal) left.now c) (sym are)
           (subst (λ l. AddsUp d goal.op (references open_.patterns.items) (pieces_of goal) open_.left.items c ↔ AddsUp d goal.op (references open_.patterns.items) (pieces_of goal) l c) (sym left_is) (λ h. h, λ h. h))
 
-      pub found_open : {E : Type 0} (r : Result (Option Bindings) E) → IfOk r (Finds vars (IsSolution d b (λ c. SumHolds d (record { op = goal.op; patterns = patterns; pieces = goal.pieces; left = left }) c × X c))) → IfOk r (Finds vars (IsSolution d b WithSum))
+      pub found_open : {E : Type 0} (r : Result (Option Bindings) E) → IfOk r (Finds vars (IsSolution d b (λ c. SumHolds d (record { op = goal.op; patterns = patterns; pieces = goal.pieces; left = left; seen = seen }) c × X c))) → IfOk r (Finds vars (IsSolution d b WithSum))
       found_open r f =
-          if_found_same vars d b (λ c. SumHolds d (record { op = goal.op; patterns = patterns; pieces = goal.pieces; left = left }) c × X c) WithSum
+          if_found_same vars d b (λ c. SumHolds d (record { op = goal.op; patterns = patterns; pieces = goal.pieces; left = left; seen = seen }) c × X c) WithSum
           (λ c k a. (λ h. ((left_open.same c k a).1 ((open_holds c).1 h.0), h.1), λ h. ((open_holds c).0 ((left_open.same c k a).0 h.0), h.1))) r f
 
-      pub open_fits : SumFits d (record { op = goal.op; patterns = patterns; pieces = goal.pieces; left = left })
+      pub open_fits : SumFits d (record { op = goal.op; patterns = patterns; pieces = goal.pieces; left = left; seen = seen })
       open_fits =
           smaller_fits d goal fit patterns (λ q some. left_open.among q (subst (λ l. 1 ≤ count q (references l)) are some)) left
-          (ap length left_is ∙ left_open.long) (let x = ap std_sum left_is in let y = left_open.fewer in omega arith)
+          (ap length left_is ∙ left_open.long) (let x = ap std_sum left_is in let y = left_open.fewer in omega arith) seen
 
       pub open_weight : weight_of (references patterns.now) ≤ weight_of (patterns_of goal)
       open_weight = let x = ap (λ l. weight_of (references l)) are in let y = left_open.lighter in omega arith

@@ -93,8 +93,8 @@ module _ (d : Declarations) where
 
     -- the summands of a pair as a sum
     pub started_fits : (p t : FlatTerm) → IsPair d p t → head_of p ≡ Some f → (patterns : Bor (List (Bor FlatTerm))) → references patterns.now ≡ reverse (args_of p) → (r : Counted) → IsCounted (parts d f t) r →
-        (pieces : Bor (List (Bor FlatTerm))) → pieces.now ≡ r.pieces.items → (left : Bor (List ℕ)) → left.now ≡ r.left.items → std_sum left.now < 2 ^ 64 → SumFits d (record { op = f; patterns = patterns; pieces = pieces; left = left })
-    started_fits p t pair head patterns are r counted pieces pieces_are left left_is small =
+        (pieces : Bor (List (Bor FlatTerm))) → pieces.now ≡ r.pieces.items → (left : Bor (List ℕ)) → left.now ≡ r.left.items → std_sum left.now < 2 ^ 64 → (seen : ℕ) → SumFits d (record { op = f; patterns = patterns; pieces = pieces; left = left; seen = seen })
+    started_fits p t pair head patterns are r counted pieces pieces_are left left_is small seen =
         let s = pair.pattern in
         let k = rank_of p s pair.of_kind pair.pattern_kind head in
         let named = ap references pieces_are in
@@ -161,9 +161,9 @@ module _ (d : Declarations) where
         go (AssocCommId o) q = absurd (never (rw q tt))
 
   -- fewer patterns and fewer pieces of a sum fit too
-  pub smaller_fits : (goal : SumGoal) → SumFits d goal → (patterns : Bor (List (Bor FlatTerm))) → ((q : FlatTerm) → 1 ≤ count q (references patterns.now) → 1 ≤ count q (patterns_of goal)) → (left : Bor (List ℕ)) → length left.now ≡ length goal.left.now → std_sum left.now ≤ std_sum goal.left.now →
-      SumFits d (record { op = goal.op; patterns = patterns; pieces = goal.pieces; left = left })
-  smaller_fits goal h patterns among left long fewer = record {
+  pub smaller_fits : (goal : SumGoal) → SumFits d goal → (patterns : Bor (List (Bor FlatTerm))) → ((q : FlatTerm) → 1 ≤ count q (references patterns.now) → 1 ≤ count q (patterns_of goal)) → (left : Bor (List ℕ)) → length left.now ≡ length goal.left.now → std_sum left.now ≤ std_sum goal.left.now → (seen : ℕ) →
+      SumFits d (record { op = goal.op; patterns = patterns; pieces = goal.pieces; left = left; seen = seen })
+  smaller_fits goal h patterns among left long fewer seen = record {
     associative = h.associative;
     rank = h.rank;
     listed = h.listed;

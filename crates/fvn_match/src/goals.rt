@@ -18,12 +18,14 @@ pub(crate) enum Goals<'a> {
 }
 
 // Patterns whose summands under the operator are to be different pieces, each so often as its number says.
+// Where so many variables were bound as `seen` says, no pattern was one of them.
 #[derive(Clone, Copy)]
 pub(crate) struct SumGoal<'a> {
     pub(crate) op: OpId,
     pub(crate) patterns: &'a [&'a Flat],
     pub(crate) pieces: &'a [&'a Flat],
     pub(crate) left: &'a [usize],
+    pub(crate) seen: usize,
 }
 
 // Sums, which wait until no pair is left.
@@ -45,6 +47,30 @@ pub(crate) enum Bound<'a> {
 }
 
 impl Bound<'_> {
+    // How many variables are bound.
+    pub(crate) fn count(&self) -> usize {
+        match self {
+            Bound::Nothing => 0,
+            Bound::Bind(_, _, rest) => rest.count().saturating_add(1),
+        }
+    }
+
+    // Whether the variable is one of so many that were bound last.
+    pub(crate) fn is_new(&self, v: Var, newest: usize) -> bool {
+        if newest == 0 {
+            return false;
+        }
+        match self {
+            Bound::Nothing => false,
+            Bound::Bind(x, _, rest) => {
+                if *x == v {
+                    return true;
+                }
+                rest.is_new(v, newest - 1)
+            }
+        }
+    }
+
     // What the variable is bound to.
     pub(crate) fn get(&self, v: Var) -> Option<&Flat>
         ensures { MatchOption result (bound (bindings_of self.now) v ≡ None) (λ t. bound (bindings_of self.now) v ≡ Some t.now) }

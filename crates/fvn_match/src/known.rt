@@ -30,10 +30,18 @@ fn known_value<'a>(p: &Flat, bound: &'a Bound<'_>) -> Option<&'a Flat>
     }
 }
 
-// Whether some pattern is a bound variable.
-pub(crate) fn has_known(patterns: &[&Flat], bound: &Bound<'_>) -> bool {
+// Whether the pattern is one of so many variables that were bound last.
+fn is_new(p: &Flat, bound: &Bound<'_>, newest: usize) -> bool {
+    match p.as_var() {
+        Some(x) => bound.is_new(x, newest),
+        None => false,
+    }
+}
+
+// Whether some pattern is one of so many variables that were bound last.
+pub(crate) fn has_known(patterns: &[&Flat], bound: &Bound<'_>, newest: usize) -> bool {
     for p in patterns {
-        if known_value(p, bound).is_some() {
+        if is_new(p, bound, newest) {
             return true;
         }
     }

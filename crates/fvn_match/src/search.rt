@@ -218,6 +218,7 @@ impl Search<'_> {
             patterns: patterns.as_slice(),
             pieces: counted.pieces.as_slice(),
             left: counted.left.as_slice(),
+            seen: 0,
         };
         let more = Sums::WithSum(goal, &*sums);
         self.solve(&*rest, &more, &*bound)
@@ -238,8 +239,16 @@ impl Search<'_> {
         if is_short(self.sig, goal) {
             return Ok(None);
         }
-        if !has_known(goal.patterns, bound) {
-            return self.pick(&*goal, &*sums, &*bound);
+        let seen = bound.count();
+        if !has_known(goal.patterns, bound, seen.saturating_sub(goal.seen)) {
+            let same = SumGoal {
+                op: goal.op,
+                patterns: goal.patterns,
+                pieces: goal.pieces,
+                left: goal.left,
+                seen,
+            };
+            return self.pick(&same, &*sums, &*bound);
         }
         let open = match without_known(self.alloc, self.sig, goal, bound)? {
             None => return Ok(None),
@@ -250,6 +259,7 @@ impl Search<'_> {
             patterns: open.patterns.as_slice(),
             pieces: goal.pieces,
             left: open.left.as_slice(),
+            seen,
         };
         self.pick(&smaller, &*sums, &*bound)
     }
@@ -345,6 +355,7 @@ impl Search<'_> {
             patterns: others,
             pieces: goal.pieces,
             left: left.as_slice(),
+            seen: goal.seen,
         };
         let more = Sums::WithSum(smaller, &*sums);
         self.pair(&*p, &whole, &Goals::Done, &more, &*bound)

@@ -19,7 +19,7 @@ use Rattle.fvn_match.proofs.SummandLists.{parts_in_order}
 use Rattle.fvn_match.proofs.Runs.{length_references, references-drop}
 use Rattle.fvn_match.proofs.PairSteps.{zip_parted, variable_is, variable_or_head}
 use Rattle.fvn_match.proofs.PairFinding.{zip_long, to_rest, two_is, one_more_candidate, if_found_bound, refused_sort, found_known, refused_known, found_straight_of, found_across_of, crossing_pairs, found_values, found_no_pairs, found_list, refused_free, refused_commutative, pairs_of_args, as_many_args, found_free, crossing_args, two_of_patterns, two_of_targets, found_commutative}
-use Rattle.fvn_match.proofs.SumFitting.{started_fits}
+use Rattle.fvn_match.proofs.SumFitting.{started_fits, smaller_fits}
 use Rattle.fvn_match.proofs.SumFinding.{IsTried, no_patterns, group_of, group_within, choice_within, as_long, length_quotients, each_itself, refused_short, refused_closed, found_open, open_fits, open_weight, refused_left, found_taken, found_only, found_choices, tried_none, found_choice, tried_one, tried_all}
 use Rattle.fvn_match.proofs.ChoiceFinding.{refused_whole, whole_pair, left_fits, found_whole}
 use Rattle.fvn_match.proofs.SummedFinding.{found_summed}
@@ -284,7 +284,7 @@ summed-solve-requires t c =
           pairs = c.requires.state.pairs;
           sums = (
             started_fits d c.recall_good.ensures.fits c.args.f c.requires.associative c.args.p.now c.args.t.now c.requires.pair c.requires.head
-                c.as_slice.result (patterns_are ∙ ap reverse c.args-2.ensures.exact) c.in_ok-counted.counted (subst (λ l. IsCounted l c.in_ok-counted.counted) c.summands.ensures c.in_ok-counted.ensures) c.as_slice-2.result c.as_slice-2.ensures.value c.as_slice-3.result c.as_slice-3.ensures.value (omega (arith, small)),
+                c.as_slice.result (patterns_are ∙ ap reverse c.args-2.ensures.exact) c.in_ok-counted.counted (subst (λ l. IsCounted l c.in_ok-counted.counted) c.summands.ensures c.in_ok-counted.ensures) c.as_slice-2.result c.as_slice-2.ensures.value c.as_slice-3.result c.as_slice-3.ensures.value (omega (arith, small)) 0,
             c.requires.state.sums,
           );
           values = c.requires.state.values;
@@ -295,7 +295,7 @@ summed-solve-requires t c =
 pub summed-returns : goal.summed-returns
 summed-returns t c =
     found_summed c.args.self.now.sig.now c.recall_good.ensures.fits c.args.f c.requires.associative c.args.p.now c.args.t.now c.requires.pair c.requires.head
-    (record { op = c.args.f; patterns = c.as_slice.result; pieces = c.as_slice-2.result; left = c.as_slice-3.result }) refl (ap references c.as_slice.ensures.value ∙ c.in_ok-patterns.ensures ∙ ap reverse c.args-2.ensures.exact)
+    (record { op = c.args.f; patterns = c.as_slice.result; pieces = c.as_slice-2.result; left = c.as_slice-3.result; seen = 0 }) refl (ap references c.as_slice.ensures.value ∙ c.in_ok-patterns.ensures ∙ ap reverse c.args-2.ensures.exact)
     c.in_ok-counted.counted (subst (λ l. IsCounted l c.in_ok-counted.counted) c.summands.ensures c.in_ok-counted.ensures) c.as_slice-2.ensures.value c.as_slice-3.ensures.value
     (bindings_of c.args.bound.now) c.args.self.now.vars.now c.args.rest.now _ c.args.sums.now c.solve.result c.solve.ensures (λ v. (λ h. h, λ h. h))
 
@@ -308,7 +308,17 @@ sum-returns-then-is_short t c =
     refused_short c.args.self.now.sig.now (bindings_of c.args.bound.now) c.args.self.now.vars.now c.args.goal.now c.requires.state.sum_fits (SumsHold c.args.self.now.sig.now c.args.sums.now) (c.is_short.ensures c.if-is_short.true)
 
 pub sum-pick-requires : goal.sum-pick-requires
-sum-pick-requires t c = (omega arith, (c.requires.vars, c.requires.state))
+sum-pick-requires t c = (
+  omega arith,
+  (
+    c.requires.vars,
+    record {
+      sum_fits = smaller_fits c.args.self.now.sig.now c.args.goal.now c.requires.state.sum_fits c.args.goal.now.patterns (λ q some. some) c.args.goal.now.left refl (omega arith) c.count-seen.result;
+      sums_fit = c.requires.state.sums_fit;
+      values = c.requires.state.values;
+    },
+  ),
+)
 
 pub sum-returns-then-not-has_known : goal.sum-returns-then-not-has_known
 sum-returns-then-not-has_known t c = c.pick.ensures
@@ -329,12 +339,12 @@ sum-pick-requires-2 t c =
     let d = c.args.self.now.sig.now in
     let b = bindings_of c.args.bound.now in
     let is_open = subst (LeavesOpen d b c.args.goal.now) c.in-Some.is c.in_ok-without_known.ensures in
-    let w = open_weight d b c.args.self.now.vars.now c.args.goal.now c.requires.state.sum_fits (SumsHold d c.args.sums.now) c.in-Some.open is_open c.as_slice.result c.as_slice.ensures.value c.as_slice-2.result c.as_slice-2.ensures.value in (
+    let w = open_weight d b c.args.self.now.vars.now c.args.goal.now c.requires.state.sum_fits (SumsHold d c.args.sums.now) c.in-Some.open is_open c.as_slice.result c.as_slice.ensures.value c.as_slice-2.result c.as_slice-2.ensures.value c.count-seen.result in (
       omega (arith, w),
       (
         c.requires.vars,
         record {
-          sum_fits = open_fits d b c.args.self.now.vars.now c.args.goal.now c.requires.state.sum_fits (SumsHold d c.args.sums.now) c.in-Some.open is_open c.as_slice.result c.as_slice.ensures.value c.as_slice-2.result c.as_slice-2.ensures.value;
+          sum_fits = open_fits d b c.args.self.now.vars.now c.args.goal.now c.requires.state.sum_fits (SumsHold d c.args.sums.now) c.in-Some.open is_open c.as_slice.result c.as_slice.ensures.value c.as_slice-2.result c.as_slice-2.ensures.value c.count-seen.result;
           sums_fit = c.requires.state.sums_fit;
           values = c.requires.state.values;
         },
@@ -346,7 +356,7 @@ sum-returns t c =
     let d = c.args.self.now.sig.now in
     let b = bindings_of c.args.bound.now in
     let is_open = subst (LeavesOpen d b c.args.goal.now) c.in-Some.is c.in_ok-without_known.ensures in
-    found_open d b c.args.self.now.vars.now c.args.goal.now c.requires.state.sum_fits (SumsHold d c.args.sums.now) c.in-Some.open is_open c.as_slice.result c.as_slice.ensures.value c.as_slice-2.result c.as_slice-2.ensures.value c.pick-2.result c.pick-2.ensures
+    found_open d b c.args.self.now.vars.now c.args.goal.now c.requires.state.sum_fits (SumsHold d c.args.sums.now) c.in-Some.open is_open c.as_slice.result c.as_slice.ensures.value c.as_slice-2.result c.as_slice-2.ensures.value c.count-seen.result c.pick-2.result c.pick-2.ensures
 
 -- the first group of a sum
 pub pick-returns-then-not-are_zero : goal.pick-returns-then-not-are_zero
@@ -572,7 +582,7 @@ choose-pair-requires t c =
           whole_pair d goal_now fit c.args.chosen.now c.requires.long b vars c.args.p.now k c.args.sums.now c.in-Some.t w c.recall_good.ensures.fits flat_p,
           record {
             pairs = tt;
-            sums = (left_fits d goal_now fit c.args.chosen.now c.requires.long b vars c.args.p.now k c.args.sums.now c.in-Some.t w c.after-others.result c.after-others.ensures c.as_slice.result (c.as_slice.ensures.value ∙ c.in_ok-left.ensures), c.requires.state.sums_fit);
+            sums = (left_fits d goal_now fit c.args.chosen.now c.requires.long b vars c.args.p.now k c.args.sums.now c.in-Some.t w c.after-others.result c.after-others.ensures c.as_slice.result (c.as_slice.ensures.value ∙ c.in_ok-left.ensures) goal_now.seen, c.requires.state.sums_fit);
             values = c.requires.state.values;
           },
         ),
@@ -583,5 +593,5 @@ pub choose-returns : goal.choose-returns
 choose-returns t c =
     let d = c.args.self.now.sig.now in
     let w = subst (IsWhole d c.args.goal.now c.args.chosen.now) c.in-Some.is c.in_ok-whole.ensures in
-    found_whole d c.args.goal.now c.requires.state.sum_fits c.args.chosen.now c.requires.long (bindings_of c.args.bound.now) c.args.self.now.vars.now c.args.p.now c.args.k c.args.sums.now c.in-Some.t w c.after-others.result c.after-others.ensures c.as_slice.result (c.as_slice.ensures.value ∙ c.in_ok-left.ensures)
+    found_whole d c.args.goal.now c.requires.state.sum_fits c.args.chosen.now c.requires.long (bindings_of c.args.bound.now) c.args.self.now.vars.now c.args.p.now c.args.k c.args.sums.now c.in-Some.t w c.after-others.result c.after-others.ensures c.as_slice.result (c.as_slice.ensures.value ∙ c.in_ok-left.ensures) c.args.goal.now.seen
     c.pair.result c.pair.ensures
