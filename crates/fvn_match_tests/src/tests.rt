@@ -6,7 +6,7 @@ mod showing;
 mod terms;
 
 use self::counting::{flat_many, is_matched};
-use self::matching::{flat_of, shown_match};
+use self::matching::{flat_of, halves_match, shown_match};
 use self::reading::collected;
 use fvn_sorts::Signature;
 use fvn_terms::NoMemory;
@@ -208,6 +208,36 @@ fn patterns_are_matched(rt: HostRuntime) -> Result<(), NoMemory> {
     Ok(())
 }
 
+fn assert_halves(
+    rt: &impl Abort,
+    alloc: Global,
+    sig: &Signature,
+    lines: &str,
+) -> Result<(), NoMemory> {
+    for line in lines.lines() {
+        let (text, want) = line.split_once(" => ").unwrap_or((line, ""));
+        let (left, right) = text.split_once(" | ").unwrap_or((text, ""));
+        if let Some(shown) = halves_match(alloc, sig, left, right)? {
+            assert_eq!(rt; shown, want != "no", "at {text}");
+        }
+    }
+    Ok(())
+}
+
+/// Two patterns in slices of their own are matched as two in one slice.
+#[test]
+fn slices_are_one_list(rt: HostRuntime) -> Result<(), NoMemory> {
+    let alloc = rt.alloc();
+    for block in ROWS.split("\n\n") {
+        let (text, lines) = block.split_once('\n').unwrap_or((block, ""));
+        match collected(&rt, alloc, text)?.finish(alloc) {
+            Ok(sig) => assert_halves(&rt, alloc, &sig, lines)?,
+            Err(_) => assert!(rt; false, "at {text}"),
+        }
+    }
+    Ok(())
+}
+
 fn assert_counted(
     rt: &impl Abort,
     alloc: Global,
@@ -218,7 +248,10 @@ fn assert_counted(
         let (text, want) = line.split_once(" => ").unwrap_or((line, ""));
         let (word, count) = text.split_once(" | ").unwrap_or((text, ""));
         let number = if count == "200" { 200 } else { 201 };
-        match (flat_of(alloc, sig, word)?, flat_many(alloc, sig, false, number)?) {
+        match (
+            flat_of(alloc, sig, word)?,
+            flat_many(alloc, sig, false, number)?,
+        ) {
             (Some(p), Some(t)) => {
                 assert_eq!(rt; is_matched(alloc, sig, &p, &t)?, want == "yes", "at {text}");
             }

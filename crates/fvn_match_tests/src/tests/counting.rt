@@ -4,7 +4,7 @@ ghost use Rattle.fvn_flat.specs.Fits.{Fits};
 
 use super::terms::is_term;
 use fvn_flat::{Flat, flatten};
-use fvn_match::matches;
+use fvn_match::{matches, matches_both};
 use fvn_sorts::Signature;
 use fvn_terms::{Args, NoMemory, OpId, Plain, SortId, Var};
 use std::alloc::{AllocError, Global};
@@ -65,5 +65,21 @@ pub fn is_matched(alloc: Global, sig: &Signature, p: &Flat, t: &Flat) -> Result<
     requires target { Fits sig.now t.now }
 {
     let found = matches(alloc, sig, slice::from_ref(p), slice::from_ref(t))?;
+    Ok(found.is_some())
+}
+
+/// Whether two patterns are matched with two targets, each in a slice of its own.
+pub fn are_matched(
+    alloc: Global,
+    sig: &Signature,
+    patterns: (&Flat, &Flat),
+    targets: (&Flat, &Flat),
+) -> Result<bool, NoMemory>
+    requires first { Fits sig.now patterns.0.now × Fits sig.now targets.0.now }
+    requires second { Fits sig.now patterns.1.now × Fits sig.now targets.1.now }
+{
+    let ps = (slice::from_ref(patterns.0), slice::from_ref(patterns.1));
+    let ts = (slice::from_ref(targets.0), slice::from_ref(targets.1));
+    let found = matches_both(alloc, sig, ps, ts)?;
     Ok(found.is_some())
 }

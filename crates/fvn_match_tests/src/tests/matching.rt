@@ -2,6 +2,7 @@
 ghost use Rattle.std.specs.Prelude.{IfOk, IfSome};
 ghost use Rattle.fvn_flat.specs.Fits.{Fits, AllFit};
 
+use super::counting::are_matched;
 use super::showing::push_flat;
 use super::terms::{is_term, term_of, var_of};
 use fvn_flat::{Flat, Subst, flatten};
@@ -90,4 +91,35 @@ pub fn shown_match(
         }
     }
     Ok(out)
+}
+
+/// Whether two patterns are matched, each in a slice of its own; nothing where there are not two.
+pub fn halves_match(
+    alloc: Global,
+    sig: &Signature,
+    left: &str,
+    right: &str,
+) -> Result<Option<bool>, NoMemory> {
+    let (p, q) = match left.split_once(", ") {
+        Some(pair) => pair,
+        None => return Ok(None),
+    };
+    let (t, u) = match right.split_once(", ") {
+        Some(pair) => pair,
+        None => return Ok(None),
+    };
+    if q.contains(',') {
+        return Ok(None);
+    }
+    let p = flat_of(alloc, sig, p)?;
+    let q = flat_of(alloc, sig, q)?;
+    let t = flat_of(alloc, sig, t)?;
+    let u = flat_of(alloc, sig, u)?;
+    match (p, q, t, u) {
+        (Some(p), Some(q), Some(t), Some(u)) => {
+            let found = are_matched(alloc, sig, (&p, &q), (&t, &u))?;
+            Ok(Some(found))
+        }
+        _ => Ok(None),
+    }
 }
