@@ -20,3 +20,4 @@ mod WholeSteps
 mod OnePiece
 mod Rooms
 mod Matchers
+mod Joined

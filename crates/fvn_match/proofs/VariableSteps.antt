@@ -145,3 +145,38 @@ are_variables l all h = record { once = h.once; just = λ x. (λ a. to x ((h.jus
     to : (x : Var) → ⊥ ⊎ OccursIn x l → OccursInSome x (map plain l)
     to x (inl n) = absurd n
     to x (inr o) = (occurs_in_some x l).0 o
+
+-- one list after the other
+occurs_in-append : (y : Var) (a b : List FlatTerm) → (OccursIn y a ⊎ OccursIn y b) ↔ OccursIn y (a ++ b)
+occurs_in-append y [] b = (λ h. elim h [ inl n ↦ absurd n | inr o ↦ o ], λ o. inr o)
+occurs_in-append y (t ∷ a) b = let k = occurs_in-append y a b in (to k.0, from k.1)
+  where
+    to : (OccursIn y a ⊎ OccursIn y b → OccursIn y (a ++ b)) → (Occurs y (plain t) ⊎ OccursIn y a) ⊎ OccursIn y b → Occurs y (plain t) ⊎ OccursIn y (a ++ b)
+    to k (inl (inl o)) = inl o
+    to k (inl (inr o)) = inr (k (inl o))
+    to k (inr o) = inr (k (inr o))
+
+    from : (OccursIn y (a ++ b) → OccursIn y a ⊎ OccursIn y b) → Occurs y (plain t) ⊎ OccursIn y (a ++ b) → (Occurs y (plain t) ⊎ OccursIn y a) ⊎ OccursIn y b
+    from k (inl o) = inl (inl o)
+    from k (inr o) = side (k o)
+      where
+        side : OccursIn y a ⊎ OccursIn y b → (Occurs y (plain t) ⊎ OccursIn y a) ⊎ OccursIn y b
+        side (inl p) = inl (inr p)
+        side (inr q) = inr q
+
+pub are_variables_of_both : (a b : List FlatTerm) (some all : List Var) → Collects [] (λ y. OccursInSome y (map plain a)) some → Collects some (λ y. OccursInSome y (map plain b)) all → AreVariablesOf (a ++ b) all
+are_variables_of_both a b some all g h =
+    are_variables (a ++ b) all
+    (collects_iff [] (λ y. OccursInSome y (map plain a) ⊎ OccursInSome y (map plain b)) (λ y. OccursIn y (a ++ b)) (λ y. same y) all
+    (collects_then [] some all (λ y. OccursInSome y (map plain a)) (λ y. OccursInSome y (map plain b)) g h))
+  where
+    same : (y : Var) → (OccursInSome y (map plain a) ⊎ OccursInSome y (map plain b)) ↔ OccursIn y (a ++ b)
+    same y = let k = occurs_in-append y a b in (λ o. k.0 (to o), λ o. from (k.1 o))
+      where
+        to : OccursInSome y (map plain a) ⊎ OccursInSome y (map plain b) → OccursIn y a ⊎ OccursIn y b
+        to (inl o) = inl ((occurs_in_some y a).1 o)
+        to (inr o) = inr ((occurs_in_some y b).1 o)
+
+        from : OccursIn y a ⊎ OccursIn y b → OccursInSome y (map plain a) ⊎ OccursInSome y (map plain b)
+        from (inl o) = inl ((occurs_in_some y a).0 o)
+        from (inr o) = inr ((occurs_in_some y b).0 o)

@@ -12,4 +12,4 @@ mod summands;
 mod variables;
 mod wholes;
 
-pub use matching::matches;
+pub use matching::{matches, matches_both};

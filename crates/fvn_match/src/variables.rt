@@ -1,6 +1,7 @@
 //! The variables of patterns.
-ghost use Rattle.std.specs.Prelude.{◌≡◌, IfOk};
+ghost use Rattle.std.specs.Prelude.{◌≡◌, ◌++◌, map, IfOk};
 ghost use Rattle.fvn_terms.specs.Substitution.{Occurs};
+ghost use Rattle.fvn_terms.specs.Variants.{OccursInSome};
 ghost use Rattle.fvn_forms.specs.Flat.{plain};
 ghost use Rattle.fvn_flat.specs.Variables.{listed};
 ghost use Rattle.fvn_match.specs.inner.Variables.{AreOnce, Collects, AreVariablesOf};
@@ -54,13 +55,27 @@ fn with_variables(t: &Flat, vars: Vec<Var>) -> Result<Vec<Var>, NoMemory>
     }
 }
 
-// The variables of the patterns, each once.
-pub(crate) fn variables(alloc: Global, patterns: &[Flat]) -> Result<Vec<Var>, NoMemory>
-    ensures { IfOk result (λ all. AreVariablesOf patterns.now all.items) }
+// The variables with those of terms that are not there yet.
+fn with_variables_of(terms: &[Flat], vars: Vec<Var>) -> Result<Vec<Var>, NoMemory>
+    requires { AreOnce vars.items }
+    ensures { IfOk result (λ all. Collects vars.items (λ y. OccursInSome y (map plain terms.now)) all.items) }
 {
-    let mut all = Vec::new(alloc);
-    for p in patterns {
-        all = with_variables(p, all)?;
+    let mut all = vars;
+    for t in terms {
+        all = with_variables(t, all)?;
     }
+    Ok(all)
+}
+
+// The variables of two lists of patterns, each once.
+pub(crate) fn variables(
+    alloc: Global,
+    first: &[Flat],
+    second: &[Flat],
+) -> Result<Vec<Var>, NoMemory>
+    ensures { IfOk result (λ all. AreVariablesOf (first.now ++ second.now) all.items) }
+{
+    let some = with_variables_of(first, Vec::new(alloc))?;
+    let all = with_variables_of(second, some)?;
     Ok(all)
 }

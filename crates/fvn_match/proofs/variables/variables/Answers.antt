@@ -1,21 +1,12 @@
--- the variables of one more pattern
-use Rattle.std.proofs.Common.{[], subst}
-use Rattle.std.proofs.lemmas.List.{take_all}
-use Rattle.fvn_flat.proofs.Occurrences.{OccursIn}
-use Rattle.fvn_match.specs.inner.Variables.{Collects}
-use Rattle.fvn_match.proofs.VariableSteps.{collects_none, collects_term, are_variables}
+-- the variables of one list, and then of the other
+use Rattle.fvn_match.proofs.VariableSteps.{are_variables_of_both}
 use Rattle.fvn_match.proofs.variables.variables.Goals as goal
 
-pub loop-p-init : goal.loop-p-init
-loop-p-init c = rw c.new-all.ensures.items (collects_none [] tt)
+pub with_variables_of-requires : goal.with_variables_of-requires
+with_variables_of-requires c = rw c.new.ensures.items tt
 
-pub with_variables-requires : goal.with_variables-requires
-with_variables-requires c = c.loop-p.invariant.once
-
-pub loop-p-preserved : goal.loop-p-preserved
-loop-p-preserved c = collects_term [] c.loop-p.all.items _ c.args.patterns.now c.loop-p.p-index c.p-item.result c.loop-p-test.true c.p-item.is c.loop-p.invariant c.in_ok-all.ensures
+pub with_variables_of-requires-2 : goal.with_variables_of-requires-2
+with_variables_of-requires-2 c = c.in_ok-some.ensures.once
 
 pub returns : goal.returns
-returns c =
-    are_variables c.args.patterns.now c.loop-p.all.items
-    (subst (λ l. Collects [] (λ y. OccursIn y l) c.loop-p.all.items) (take_all c.loop-p.p-index c.args.patterns.now c.loop-p-test.false) c.loop-p.invariant)
+returns c = are_variables_of_both c.args.first.now c.args.second.now c.in_ok-some.some.items c.in_ok-all.all.items (rw c.new.ensures.items at c.in_ok-some.ensures) c.in_ok-all.ensures
