@@ -1,13 +1,18 @@
-// A library with one function.
+//! Variants in flat form: which covers which, lists without covered members, and the marks of candidates.
 #![tactic(auto)]
 
-ghost use Rattle.std.specs.Prelude.{◌≡◌};
-ghost use Rattle.fvn_cover.specs.Echo.{echo_of};
+mod covering;
+mod gate;
+mod keeping;
+mod laws;
+mod marking;
+mod pruning;
+mod values;
+mod variant;
 
-// The `ensures` clause is the contract: what `echo` returns is `echo_of` of its argument, a definition
-// in `specs/Echo.antt`, which a caller's clause can cite too.
-pub fn echo(x: usize) -> usize
-    ensures { result ≡ echo_of x }
-{
-    x
-}
+pub use covering::covers;
+pub use gate::{Gate, OpenGate};
+pub use laws::covering_of_variants_is_an_order;
+pub use marking::{WORKERS, marks};
+pub use pruning::prune;
+pub use variant::{Variant, all_shared};
