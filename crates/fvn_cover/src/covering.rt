@@ -45,7 +45,7 @@ impl<'a> Shown<'a> {
     }
 
     // Whether this one covers the other.
-    pub(crate) fn covers(
+    pub(crate) fn is_covering(
         &self,
         alloc: Global,
         sig: &Signature,
@@ -79,6 +79,6 @@ pub fn covers(alloc: Global, sig: &Signature, a: &Variant, b: &Variant) -> Resul
     let second = values(alloc, b)?;
     let shown = Shown::new(a, first.as_slice());
     let other = Shown::new(b, second.as_slice());
-    let r = shown.covers(alloc, sig, &other)?;
+    let r = shown.is_covering(alloc, sig, &other)?;
     Ok(r)
 }

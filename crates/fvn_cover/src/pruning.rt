@@ -5,6 +5,7 @@ ghost use Rattle.fvn_cover.specs.Pruning.{IsCoveredBySome, IsPruned};
 ghost use Rattle.fvn_cover.specs.inner.Leaving.{IsLeft, IsAdded};
 
 use crate::keeping::Kept;
+use crate::laws::covering_of_variants_is_an_order;
 use crate::variant::Variant;
 use fvn_sorts::Signature;
 use fvn_terms::NoMemory;
@@ -17,7 +18,7 @@ fn is_covered(alloc: Global, sig: &Signature, list: &[Kept], v: &Kept) -> Result
     ensures { IfOk result (λ r. IsTrue r ↔ IsCoveredBySome sig.now list.now v.now) }
 {
     for k in list {
-        if k.shown().covers(alloc, sig, &v.shown())? {
+        if k.shown().is_covering(alloc, sig, &v.shown())? {
             return Ok(true);
         }
     }
@@ -37,7 +38,7 @@ fn uncovered(
 {
     let mut left = Vec::new(alloc);
     for k in list {
-        if !v.shown().covers(alloc, sig, &k.shown())? {
+        if !v.shown().is_covering(alloc, sig, &k.shown())? {
             left.push(k)?;
         }
     }
@@ -82,6 +83,7 @@ pub fn prune(alloc: Global, sig: &Signature, list: Vec<Variant>) -> Result<Vec<V
     requires alike { All (λ a. All (AreAlike a) list.items) list.items }
     ensures pruned { IfOk result (λ kept. IsPruned sig.now list.items kept.items) }
 {
+    covering_of_variants_is_an_order();
     let mut kept = Vec::new(alloc);
     for v in list {
         let v = Kept::new(alloc, v)?;
