@@ -1,0 +1,18 @@
+//! Variants in flat form: which covers which, lists without covered members, and the marks of candidates.
+#![tactic(auto)]
+
+mod covering;
+mod gate;
+mod keeping;
+mod laws;
+mod marking;
+mod pruning;
+mod values;
+mod variant;
+
+pub use covering::covers;
+pub use gate::{Gate, OpenGate};
+pub use laws::covering_of_variants_is_an_order;
+pub use marking::{WORKERS, marks};
+pub use pruning::prune;
+pub use variant::{Variant, all_shared};
