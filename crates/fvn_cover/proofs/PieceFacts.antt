@@ -10,8 +10,8 @@ use Rattle.fvn_terms.specs.declared.declarations.Declarations.{Declarations}
 use Rattle.fvn_cover.specs.declared.variant.Variant.{Variant}
 use Rattle.fvn_cover.specs.Covering.{AreAlike, IsFlatVariant}
 use Rattle.fvn_cover.specs.Pruning.{IsCoveredBySome}
-use Rattle.fvn_cover.specs.Marks.{AreComparable, AreMarks, cut}
-use Rattle.fvn_cover.specs.inner.Pieces.{IsRange}
+use Rattle.fvn_cover.specs.Marks.{AreComparable, AreMarks}
+use Rattle.fvn_cover.specs.inner.Pieces.{IsRange, cut}
 
 -- one list after the other
 module _ {A B : Type 0} (R : A → B → Type 0) where

@@ -9,8 +9,8 @@ use Rattle.fvn_base.proofs.MappedLists.{all_mapped_at}
 use Rattle.fvn_terms.specs.declared.declarations.Declarations.{Declarations}
 use Rattle.fvn_cover.specs.declared.variant.Variant.{Variant}
 use Rattle.fvn_cover.specs.Covering.{CoversVariant, AreAlike}
-use Rattle.fvn_cover.specs.Pruning.{Choices, chosen_from, chosen, IsCoveredBySome, IsPruned}
-use Rattle.fvn_cover.specs.Laws.{CoversInOrder}
+use Rattle.fvn_cover.specs.Pruning.{Choices, all_of, chosen, IsCoveredBySome, IsPruned}
+use Rattle.fvn_cover.specs.Laws.{CoveringIsAPreorder}
 use Rattle.fvn_cover.specs.inner.Leaving.{IsLeft, IsAdded}
 use Rattle.fvn_cover.proofs.Leftovers.{all_at, any_none, any_of, any_contains, all_left, pairs_left, left_never, went_or_left}
 
@@ -47,11 +47,11 @@ narrowed P ((v, true) ∷ cs) left (inr h) =
     let r = narrowed P cs h.1.0 h.1.2 in
     ((v, true) ∷ r.0, ((refl, λ e. e), r.1), ap (λ l. v ∷ l) r.2 ∙ sym h.1.1)
 
-narrowed_from : (cs after : Choices) → AllZip Narrows cs after → chosen_from after ≡ chosen_from cs
+narrowed_from : (cs after : Choices) → AllZip Narrows cs after → all_of after ≡ all_of cs
 narrowed_from [] [] h = refl
 narrowed_from [] (b ∷ bs) h = absurd h
 narrowed_from (a ∷ cs) [] h = absurd h
-narrowed_from (a ∷ cs) (b ∷ bs) h = ap (λ v. v ∷ chosen_from bs) h.0.0 ∙ ap (λ l. a.0 ∷ l) (narrowed_from cs bs h.1)
+narrowed_from (a ∷ cs) (b ∷ bs) h = ap (λ v. v ∷ all_of bs) h.0.0 ∙ ap (λ l. a.0 ∷ l) (narrowed_from cs bs h.1)
 
 module _ (d : Declarations) where
   -- of two that cover each other the later is left out
@@ -71,7 +71,7 @@ module _ (d : Declarations) where
   added_all P kept v after (inl h) all p = subst (All P) (sym h.1) all
   added_all P kept v after (inr h) all p = subst (All P) (sym h.1.2) (All-push P h.1.0 v (all_left (CoversVariant d v) P kept h.1.0 h.1.1 all) p)
 
-  module _ (order : CoversInOrder d) (given kept : List Variant) (v : Variant) (pruned : IsPruned d given kept) where
+  module _ (order : CoveringIsAPreorder d) (given kept : List Variant) (v : Variant) (pruned : IsPruned d given kept) where
     skipped : IsCoveredBySome d kept v → IsPruned d (given ++ v ∷ []) kept
     skipped covered = record {
       choices = pruned.choices ++ (v, false) ∷ [];
@@ -102,7 +102,7 @@ module _ (d : Declarations) where
         kept_more : IsPruned d (given ++ v ∷ []) (left ++ v ∷ [])
         kept_more =
             let r = narrowed (CoversVariant d v) pruned.choices left (subst (λ l. IsLeft (CoversVariant d v) l left) (sym pruned.sublist) h) in
-            let from : chosen_from r.0 ≡ given = narrowed_from pruned.choices r.0 r.1 ∙ pruned.whole in
+            let from : all_of r.0 ≡ given = narrowed_from pruned.choices r.0 r.1 ∙ pruned.whole in
             let covered = all_of_map (λ c. c.0) (IsCoveredBySome d kept) r.0 (subst (All (IsCoveredBySome d kept)) (sym from) pruned.dropped) in
             let alike = all_of_map (λ c. c.0) (AreAlike v) r.0 (subst (All (AreAlike v)) (sym from) given_alike) in record {
               choices = r.0 ++ (v, true) ∷ [];

@@ -9,13 +9,13 @@ use Rattle.fvn_cover.specs.Covering.{CoversVariant}
 abbrev pub Choices : Type 0
 Choices = List (Variant × Bool)
 
--- all of them
-abbrev pub chosen_from : Choices → List Variant
-chosen_from choices = map (λ c. c.0) choices
+-- all of these variants
+abbrev pub all_of : Choices → List Variant
+all_of choices = map (λ c. c.0) choices
 
 -- those that are kept, in their order
 abbrev pub chosen : Choices → List Variant
-chosen choices = chosen_from (filter (λ c. c.1) choices)
+chosen choices = all_of (filter (λ c. c.1) choices)
 
 -- some member of the list covers v
 abbrev pub IsCoveredBySome : Declarations → List Variant → Variant → Type 0
@@ -25,7 +25,7 @@ IsCoveredBySome d list v = Any (λ k. CoversVariant d k v) list
 -- and of two that cover each other the later is left out
 pub record IsPruned (d : Declarations) (given kept : List Variant) : Type 0 where
   pub choices : Choices
-  pub whole : chosen_from choices ≡ given
+  pub whole : all_of choices ≡ given
   pub sublist : chosen choices ≡ kept
   pub apart : IsApart (CoversVariant d) kept
   pub dropped : All (IsCoveredBySome d kept) given

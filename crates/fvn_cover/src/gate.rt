@@ -7,6 +7,7 @@ pub trait Gate: Sync {
 }
 
 /// Lets each piece go on at once.
+#[derive(Clone, Copy)]
 pub struct OpenGate;
 
 impl Gate for OpenGate {

@@ -4,8 +4,8 @@ ghost use Rattle.std.specs.Thread.{IsSync};
 ghost use Rattle.fvn_cover.specs.declared.marking.TheConstants.{WORKERS};
 ghost use Rattle.fvn_cover.specs.Covering.{AreAlike, IsFlatVariant};
 ghost use Rattle.fvn_cover.specs.Pruning.{IsCoveredBySome};
-ghost use Rattle.fvn_cover.specs.Marks.{AreComparable, AreMarks, cut};
-ghost use Rattle.fvn_cover.specs.inner.Pieces.{IsRange};
+ghost use Rattle.fvn_cover.specs.Marks.{AreComparable, AreMarks};
+ghost use Rattle.fvn_cover.specs.inner.Pieces.{IsRange, cut};
 
 use crate::covering::Shown;
 use crate::gate::Gate;

@@ -5,7 +5,7 @@ ghost use Rattle.fvn_cover.specs.Pruning.{IsCoveredBySome, IsPruned};
 ghost use Rattle.fvn_cover.specs.inner.Leaving.{IsLeft, IsAdded};
 
 use crate::keeping::Kept;
-use crate::laws::covering_of_variants_is_an_order;
+use crate::laws::covering_of_variants_is_a_preorder;
 use crate::variant::Variant;
 use fvn_sorts::Signature;
 use fvn_terms::NoMemory;
@@ -83,7 +83,7 @@ pub fn prune(alloc: Global, sig: &Signature, list: Vec<Variant>) -> Result<Vec<V
     requires alike { All (λ a. All (AreAlike a) list.items) list.items }
     ensures pruned { IfOk result (λ kept. IsPruned sig.now list.items kept.items) }
 {
-    covering_of_variants_is_an_order();
+    covering_of_variants_is_a_preorder();
     let mut kept = Vec::new(alloc);
     for v in list {
         let v = Kept::new(alloc, v)?;

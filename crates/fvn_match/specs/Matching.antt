@@ -34,8 +34,8 @@ abbrev pub BindsJust : List FlatTerm → Bindings → Type 0
 BindsJust patterns s = (x : Var) → OccursInSome x (map plain patterns) ↔ ((t : FlatTerm) × (bound s x ≡ Some t))
 
 -- the forms of two slices, one after the other
-abbrev pub all : Bor (List FlatTerm) × Bor (List FlatTerm) → List FlatTerm
-all slices = slices.0.now ++ slices.1.now
+abbrev pub joined : Bor (List FlatTerm) × Bor (List FlatTerm) → List FlatTerm
+joined slices = slices.0.now ++ slices.1.now
 
 -- this holds of what was found, if something was
 abbrev pub IfFound : {E : Type 0} → Result (Option Bindings) E → (Bindings → Type 0) → Type 0

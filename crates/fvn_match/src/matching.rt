@@ -2,7 +2,7 @@
 ghost use Rattle.std.specs.Prelude.{◌≡◌, length};
 ghost use Rattle.fvn_flat.specs.Fits.{AllFit};
 ghost use Rattle.fvn_flat.specs.Bindings.{BindingsFit};
-ghost use Rattle.fvn_match.specs.Matching.{HasNoMatcher, Matches, BindsJust, IfFound, IfNothing, all};
+ghost use Rattle.fvn_match.specs.Matching.{HasNoMatcher, Matches, BindsJust, IfFound, IfNothing, joined};
 
 use crate::goals::{Bound, Goals, Sums};
 use crate::pairing::all_have_one_kind;
@@ -43,14 +43,14 @@ pub fn matches_both(
     pattern: (&[Flat], &[Flat]),
     target: (&[Flat], &[Flat]),
 ) -> Result<Option<Subst>, NoMemory>
-    requires patterns { AllFit sig.now (all pattern) }
-    requires targets { AllFit sig.now (all target) }
+    requires patterns { AllFit sig.now (joined pattern) }
+    requires targets { AllFit sig.now (joined target) }
     requires first_lengths { length pattern.0.now ≡ length target.0.now }
     requires second_lengths { length pattern.1.now ≡ length target.1.now }
-    ensures some { IfFound result (Matches sig.now (all pattern.entry) (all target.entry)) }
-    ensures binds { IfFound result (BindsJust (all pattern.entry)) }
+    ensures some { IfFound result (Matches sig.now (joined pattern.entry) (joined target.entry)) }
+    ensures binds { IfFound result (BindsJust (joined pattern.entry)) }
     ensures fits { IfFound result (BindingsFit sig.now) }
-    ensures none { IfNothing result (HasNoMatcher sig.now (all pattern.entry) (all target.entry)) }
+    ensures none { IfNothing result (HasNoMatcher sig.now (joined pattern.entry) (joined target.entry)) }
 {
     sig.recall_good();
     if !all_have_one_kind(sig, pattern.0, target.0) {

@@ -2,7 +2,8 @@
 use Rattle.std.proofs.Common.{◌≡◌, ◌-◌, ◌+◌, ◌/◌, length, refl, arith}
 use Rattle.std.proofs.lemmas.Result.{IfOk-at_ok}
 use Rattle.std.proofs.lemmas.Bool.Decides.{nat_tests}
-use Rattle.fvn_cover.specs.Marks.{AreMarks, cut}
+use Rattle.fvn_cover.specs.Marks.{AreMarks}
+use Rattle.fvn_cover.specs.inner.Pieces.{cut}
 use Rattle.fvn_cover.proofs.PieceFacts.{marks_joined, comparable_back, half_fits, back_range}
 use Rattle.fvn_cover.proofs.marking.+pieces.Goals as goal
 

@@ -26,6 +26,6 @@ loop-v-preserved c =
     let kept_alike : All (AreAlike v) c.loop-v.kept.items =
     All-weaker (λ k. IsFlatVariant d k × All (AreAlike k) all) (AreAlike v) (λ k h. alike_sym k v (all_at (AreAlike k) all (length c.loop-v.yielded) v h.1 turn.0 turn.1)) c.loop-v.kept.items c.loop-v.invariant.1 in
     let added : IsAdded d c.loop-v.kept.items v c.in_ok-kept.kept.items = rw c.in_ok-v.ensures at c.in_ok-kept.ensures in (
-      pruned_more d (c.covering_of_variants_is_an_order.ensures d) c.loop-v.yielded c.loop-v.kept.items v c.loop-v.invariant.0 kept_alike given_alike c.in_ok-kept.kept.items added,
+      pruned_more d (c.covering_of_variants_is_a_preorder.ensures d) c.loop-v.yielded c.loop-v.kept.items v c.loop-v.invariant.0 kept_alike given_alike c.in_ok-kept.kept.items added,
       added_all d (λ k. IsFlatVariant d k × All (AreAlike k) all) c.loop-v.kept.items v c.in_ok-kept.kept.items added c.loop-v.invariant.1 (flat, mine),
     )

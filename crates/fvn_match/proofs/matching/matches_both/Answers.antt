@@ -2,7 +2,7 @@
 use Rattle.std.proofs.Common.{sym, subst, ◌∙◌}
 use Rattle.std.proofs.lemmas.Bool.{false≢true}
 use Rattle.fvn_flat.specs.Fits.{Fits}
-use Rattle.fvn_match.specs.Matching.{all}
+use Rattle.fvn_match.specs.Matching.{joined}
 use Rattle.fvn_match.specs.inner.Pairing.{HaveOneKind}
 use Rattle.fvn_match.specs.inner.Variables.{AreOnce, AreVariablesOf}
 use Rattle.fvn_match.proofs.Runs.{each_append_back}
@@ -26,13 +26,13 @@ all_have_one_kind-requires-2-clause-targets c = (each_append_back (Fits c.args.s
 
 pub returns-then-not-all_have_one_kind-clause-none : goal.returns-then-not-all_have_one_kind-clause-none
 returns-then-not-all_have_one_kind-clause-none c = λ e s m.
-    let all_are = matched_have_one_kind c.args.sig.now c.recall_good.ensures s m.0 (all c.args.pattern) (all c.args.target) c.requires.patterns c.requires.targets m.1 in
+    let all_are = matched_have_one_kind c.args.sig.now c.recall_good.ensures s m.0 (joined c.args.pattern) (joined c.args.target) c.requires.patterns c.requires.targets m.1 in
     let both = (zip_both (HaveOneKind c.args.sig.now) c.args.pattern.0.now c.args.pattern.1.now c.args.target.0.now c.args.target.1.now c.requires.first_lengths).0 all_are in
     false≢true (sym c.if-not-all_have_one_kind.true ∙ c.all_have_one_kind.ensures.1 both.0)
 
 pub returns-then-not-all_have_one_kind-2-clause-none : goal.returns-then-not-all_have_one_kind-2-clause-none
 returns-then-not-all_have_one_kind-2-clause-none c = λ e s m.
-    let all_are = matched_have_one_kind c.args.sig.now c.recall_good.ensures s m.0 (all c.args.pattern) (all c.args.target) c.requires.patterns c.requires.targets m.1 in
+    let all_are = matched_have_one_kind c.args.sig.now c.recall_good.ensures s m.0 (joined c.args.pattern) (joined c.args.target) c.requires.patterns c.requires.targets m.1 in
     let both = (zip_both (HaveOneKind c.args.sig.now) c.args.pattern.0.now c.args.pattern.1.now c.args.target.0.now c.args.target.1.now c.requires.first_lengths).0 all_are in
     false≢true (sym c.if-not-all_have_one_kind-2.true ∙ c.all_have_one_kind-2.ensures.1 both.1)
 
@@ -54,20 +54,20 @@ solve-requires-clause-state c =
 
 pub returns-clause-some : goal.returns-clause-some
 returns-clause-some c =
-    found_matches c.args.sig.now c.recall_good.ensures (all c.args.pattern) (all c.args.target) c.requires.patterns c.requires.targets c.as_slice.result.now (subst (AreVariablesOf (all c.args.pattern)) (sym c.as_slice.ensures.value) c.in_ok-vars.ensures) c.in_ok-found.found
+    found_matches c.args.sig.now c.recall_good.ensures (joined c.args.pattern) (joined c.args.target) c.requires.patterns c.requires.targets c.as_slice.result.now (subst (AreVariablesOf (joined c.args.pattern)) (sym c.as_slice.ensures.value) c.in_ok-vars.ensures) c.in_ok-found.found
     (found_both c.args.sig.now c.args.pattern.0.now c.args.pattern.1.now c.args.target.0.now c.args.target.1.now c.requires.first_lengths c.as_slice.result.now c.in_ok-found.found c.in_ok-found.ensures)
 
 pub returns-clause-binds : goal.returns-clause-binds
 returns-clause-binds c =
-    found_binds c.args.sig.now c.recall_good.ensures (all c.args.pattern) (all c.args.target) c.requires.patterns c.requires.targets c.as_slice.result.now (subst (AreVariablesOf (all c.args.pattern)) (sym c.as_slice.ensures.value) c.in_ok-vars.ensures) c.in_ok-found.found
+    found_binds c.args.sig.now c.recall_good.ensures (joined c.args.pattern) (joined c.args.target) c.requires.patterns c.requires.targets c.as_slice.result.now (subst (AreVariablesOf (joined c.args.pattern)) (sym c.as_slice.ensures.value) c.in_ok-vars.ensures) c.in_ok-found.found
     (found_both c.args.sig.now c.args.pattern.0.now c.args.pattern.1.now c.args.target.0.now c.args.target.1.now c.requires.first_lengths c.as_slice.result.now c.in_ok-found.found c.in_ok-found.ensures)
 
 pub returns-clause-fits : goal.returns-clause-fits
 returns-clause-fits c =
-    found_fits c.args.sig.now c.recall_good.ensures (all c.args.pattern) (all c.args.target) c.requires.patterns c.requires.targets c.as_slice.result.now (subst (AreVariablesOf (all c.args.pattern)) (sym c.as_slice.ensures.value) c.in_ok-vars.ensures) c.in_ok-found.found
+    found_fits c.args.sig.now c.recall_good.ensures (joined c.args.pattern) (joined c.args.target) c.requires.patterns c.requires.targets c.as_slice.result.now (subst (AreVariablesOf (joined c.args.pattern)) (sym c.as_slice.ensures.value) c.in_ok-vars.ensures) c.in_ok-found.found
     (found_both c.args.sig.now c.args.pattern.0.now c.args.pattern.1.now c.args.target.0.now c.args.target.1.now c.requires.first_lengths c.as_slice.result.now c.in_ok-found.found c.in_ok-found.ensures)
 
 pub returns-clause-none : goal.returns-clause-none
 returns-clause-none c =
-    found_nothing c.args.sig.now c.recall_good.ensures (all c.args.pattern) (all c.args.target) c.requires.patterns c.requires.targets c.as_slice.result.now (subst (AreVariablesOf (all c.args.pattern)) (sym c.as_slice.ensures.value) c.in_ok-vars.ensures) c.in_ok-found.found
+    found_nothing c.args.sig.now c.recall_good.ensures (joined c.args.pattern) (joined c.args.target) c.requires.patterns c.requires.targets c.as_slice.result.now (subst (AreVariablesOf (joined c.args.pattern)) (sym c.as_slice.ensures.value) c.in_ok-vars.ensures) c.in_ok-found.found
     (found_both c.args.sig.now c.args.pattern.0.now c.args.pattern.1.now c.args.target.0.now c.args.target.1.now c.requires.first_lengths c.as_slice.result.now c.in_ok-found.found c.in_ok-found.ensures)

@@ -3,7 +3,7 @@ use Rattle.std.proofs.Common.{map, sym, subst}
 use Rattle.fvn_terms.specs.Variants.{Covers}
 use Rattle.fvn_forms.specs.Flat.{plain}
 use Rattle.fvn_flat.specs.Solving.{substitution}
-use Rattle.fvn_cover.proofs.laws.covering_of_variants_is_an_order.Goals as goal
+use Rattle.fvn_cover.proofs.laws.covering_of_variants_is_a_preorder.Goals as goal
 
 pub returns : goal.returns
 returns c = λ d. record {
