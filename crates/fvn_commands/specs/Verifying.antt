@@ -133,7 +133,10 @@ module _ (bytes : List ℕ) where
         IsVerifyReply problem bindings ModuleRefused text
     problem_refused : {text : List ℕ} (m : Contents) → IsModuleOfAxioms m → IsFirstProblemRefusal m problem text →
         IsVerifyReply problem bindings ProblemRefused text
-    bindings_refused : {text : List ℕ} (m : Contents) (p : Problem) → IsAskedIn problem m p → IsFirstBindingRefusal m p bindings text →
+    bindings_refused : {text : List ℕ} (m : Contents) (p : Problem) → IsAskedIn problem m p →
+        IsFirstBindingRefusal m p bindings text →
         IsVerifyReply problem bindings ProblemRefused text
-    verified : {status : Status} {text : List ℕ} (m : Contents) (p : Problem) (b : Bindings) (v : Verdict) → IsAskedOf problem bindings m p b →
-        IsVerdictOn m p b v → status ≡ status_of_verdict v → text ≡ verdict_line v → IsVerifyReply problem bindings status text
+    verified : {status : Status} {text : List ℕ} (m : Contents) (p : Problem) (b : Bindings) (v : Verdict) →
+        IsAskedOf problem bindings m p b →
+        IsVerdictOn m p b v → status ≡ status_of_verdict v → text ≡ verdict_line v →
+        IsVerifyReply problem bindings status text

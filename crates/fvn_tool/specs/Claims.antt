@@ -84,13 +84,16 @@ RefusesLongText run =
 
 -- the text is refused exactly where it is too long or no module, and then with the line of its first fault
 pub record RefusesText (bytes : List ℕ) (run : Run) : Type 0 where
-  pub only : run.status ≡ ModuleRefused → (MODULE_BYTES < length bytes) ⊎ ((length bytes ≤ MODULE_BYTES) × AreNoModule bytes)
-  pub no_module : length bytes ≤ MODULE_BYTES → AreNoModule bytes → Leaves (IsFirstRefusalOf bytes) run.status run.sink
+  pub only : run.status ≡ ModuleRefused →
+      (MODULE_BYTES < length bytes) ⊎ ((length bytes ≤ MODULE_BYTES) × AreNoModule bytes)
+  pub no_module : length bytes ≤ MODULE_BYTES → AreNoModule bytes →
+      Leaves (IsFirstRefusalOf bytes) run.status run.sink
 
 -- exactly of a module it is said how much it declares
 pub record TellsModule (bytes : List ℕ) (run : Run) : Type 0 where
   pub only : run.status ≡ Solved → (length bytes ≤ MODULE_BYTES) × ((m : Contents) × IsModule bytes m)
-  pub always : length bytes ≤ MODULE_BYTES → (m : Contents) → IsModule bytes m → Leaves (Is Solved (summary_line m)) run.status run.sink
+  pub always : length bytes ≤ MODULE_BYTES → (m : Contents) → IsModule bytes m →
+      Leaves (Is Solved (summary_line m)) run.status run.sink
 
 -- a run that is asked to check refuses what it should, and else tells how much the module declares
 pub record AnswersCheck (bytes : List ℕ) (run : Run) : Type 0 where
@@ -101,8 +104,10 @@ pub record AnswersCheck (bytes : List ℕ) (run : Run) : Type 0 where
 
 -- the module is refused exactly where its text is too long or declares no module
 pub record RefusesModule (bytes : List ℕ) (run : Run) : Type 0 where
-  pub only : run.status ≡ ModuleRefused → (MODULE_BYTES < length bytes) ⊎ ((length bytes ≤ MODULE_BYTES) × DeclareNoModule bytes)
-  pub no_module : length bytes ≤ MODULE_BYTES → DeclareNoModule bytes → Leaves (Is ModuleRefused no_module_line) run.status run.sink
+  pub only : run.status ≡ ModuleRefused →
+      (MODULE_BYTES < length bytes) ⊎ ((length bytes ≤ MODULE_BYTES) × DeclareNoModule bytes)
+  pub no_module : length bytes ≤ MODULE_BYTES → DeclareNoModule bytes →
+      Leaves (Is ModuleRefused no_module_line) run.status run.sink
 
 -- a module is declared in which the word asks nothing
 pub record HasNoProblem (bytes word : List ℕ) : Type 0 where
@@ -151,7 +156,8 @@ module _ (scope : FirstModule) (problem : FirstProblem) (status : Status) (value
     pub sound : All (Unifies scope problem) values
     pub apart : IsApart (IsInstanceOf scope problem) values
     pub shortest : (n : ℕ) → end ≡ complete n → IsShortest (Unifies scope problem) (IsInstanceOf scope problem) values
-    pub complete : (n : ℕ) → end ≡ complete n → (n ≡ length values) × IsCompleteSet (Unifies scope problem) (IsInstanceOf scope problem) values
+    pub complete : (n : ℕ) → end ≡ complete n →
+        (n ≡ length values) × IsCompleteSet (Unifies scope problem) (IsInstanceOf scope problem) values
     pub nothing : IsNothingExact
     pub bound_size : IsBoundExact
 
@@ -174,8 +180,10 @@ module _ (scope : FirstModule) (problem : FirstProblem) (run : Run) where
 pub record AnswersUnify (bytes word : List ℕ) (run : Run) : Type 0 where
   pub module_refused : RefusesModule bytes run
   pub problem_refused : RefusesProblem bytes word run
-  pub right : (scope : FirstModule) (problem : FirstProblem) → IsAsked bytes word scope problem → AnswersRight scope problem run
-  pub no_event : (scope : FirstModule) (problem : FirstProblem) → IsAsked bytes word scope problem → AnswersWithoutEvent scope problem run
+  pub right : (scope : FirstModule) (problem : FirstProblem) → IsAsked bytes word scope problem →
+      AnswersRight scope problem run
+  pub no_event : (scope : FirstModule) (problem : FirstProblem) → IsAsked bytes word scope problem →
+      AnswersWithoutEvent scope problem run
 
 -- The command verify ----------------------------------------------------------------------------
 
@@ -185,7 +193,8 @@ pub record RefusesToVerify (bytes : List ℕ) (run : Run) : Type 0 where
   pub only : run.status ≡ ModuleRefused →
       (MODULE_BYTES < length bytes)
       ⊎ ((length bytes ≤ MODULE_BYTES) × (AreNoModule bytes ⊎ ((m : Contents) × (n : ℕ) × (IsModule bytes m × HasEquations m n))))
-  pub no_module : length bytes ≤ MODULE_BYTES → AreNoModule bytes → Leaves (IsFirstRefusalOf bytes) run.status run.sink
+  pub no_module : length bytes ≤ MODULE_BYTES → AreNoModule bytes →
+      Leaves (IsFirstRefusalOf bytes) run.status run.sink
   pub later : length bytes ≤ MODULE_BYTES → (m : Contents) (n : ℕ) → IsModule bytes m → HasEquations m n →
       Leaves (Is ModuleRefused (later_line n)) run.status run.sink
 
@@ -197,7 +206,8 @@ pub record RefusesToVerifyWords (bytes problem bindings : List ℕ) (run : Run) 
       ⊎ ((m : Contents) × (p : Problem) × (IsAskedIn bytes problem m p × AreNoBindings m p bindings)))
   pub no_problem : length bytes ≤ MODULE_BYTES → (m : Contents) → IsModuleOfAxioms bytes m → AsksNoProblem m problem →
       Leaves (IsProblemRefusalOf m problem) run.status run.sink
-  pub no_bindings : length bytes ≤ MODULE_BYTES → (m : Contents) (p : Problem) → IsAskedIn bytes problem m p → AreNoBindings m p bindings →
+  pub no_bindings : length bytes ≤ MODULE_BYTES → (m : Contents) (p : Problem) → IsAskedIn bytes problem m p →
+      AreNoBindings m p bindings →
       Leaves (IsBindingRefusalOf m p bindings) run.status run.sink
 
 -- a run that is asked to verify refuses what it should, and else tells the verdict on the problem under the bindings:
@@ -209,7 +219,8 @@ pub record AnswersVerify (bytes problem bindings : List ℕ) (run : Run) : Type 
       × ((m : Contents) × (p : Problem) × (b : Bindings) × IsAskedOf bytes problem bindings m p b)
   pub yes : run.status ≡ Solved → (length bytes ≤ MODULE_BYTES)
       × ((m : Contents) × (p : Problem) × (b : Bindings) × (IsAskedOf bytes problem bindings m p b × AreSolvedBy m p b))
-  pub verdict : length bytes ≤ MODULE_BYTES → (m : Contents) (p : Problem) (b : Bindings) → IsAskedOf bytes problem bindings m p b →
+  pub verdict : length bytes ≤ MODULE_BYTES → (m : Contents) (p : Problem) (b : Bindings) →
+      IsAskedOf bytes problem bindings m p b →
       Leaves (TellsVerdict m p b) run.status run.sink
 
 -- The report ------------------------------------------------------------------------------------
@@ -231,4 +242,5 @@ pub record IsReport (run : Run) : Type 0 where
   -- what each command answers
   pub check : (bytes : List ℕ) → Asks run check bytes → AnswersCheck bytes run
   pub unify : (word bytes : List ℕ) → Asks run (unify word) bytes → AnswersUnify bytes word run
-  pub verify : (problem bindings bytes : List ℕ) → Asks run (verify problem bindings) bytes → AnswersVerify bytes problem bindings run
+  pub verify : (problem bindings bytes : List ℕ) → Asks run (verify problem bindings) bytes →
+      AnswersVerify bytes problem bindings run

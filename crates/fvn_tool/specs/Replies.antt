@@ -80,7 +80,8 @@ module _ (scope : FirstModule) (problem : FirstProblem) where
 
   -- this status with this text answers
   pub data IsAnswer : Status → List ℕ → Type 0 where
-    unified : {text : List ℕ} (s : Substitution) → IsPrintable s → text ≡ answer_text (line_of s ∷ []) (complete 1) → IsAnswer Solved text
+    unified : {text : List ℕ} (s : Substitution) → IsPrintable s → text ≡ answer_text (line_of s ∷ []) (complete 1) →
+        IsAnswer Solved text
     not_unified : {text : List ℕ} → CannotBeUnified → text ≡ answer_text [] (complete 0) → IsAnswer Nothing text
     too_large : {text : List ℕ} → ExceedsSize → text ≡ answer_text [] bound_size → IsAnswer Ended text
 
@@ -98,9 +99,13 @@ AsksNothing scope word = (problem : FirstProblem) → IsProblemText scope word p
 
 -- this status with this text replies to the bytes of a module and the word of a problem to be unified
 pub data IsUnifyReply (bytes word : List ℕ) : Status → List ℕ → Type 0 where
-  no_module : {text : List ℕ} → DeclareNoModule bytes → text ≡ no_module_line → IsUnifyReply bytes word ModuleRefused text
-  no_problem : {text : List ℕ} (scope : FirstModule) → IsModuleText bytes scope → AsksNothing scope word → text ≡ no_problem_line → IsUnifyReply bytes word ProblemRefused text
-  answered : {status : Status} {text : List ℕ} (scope : FirstModule) (problem : FirstProblem) → IsModuleText bytes scope → IsProblemText scope word problem → IsAnswer scope problem status text → IsUnifyReply bytes word status text
+  no_module : {text : List ℕ} → DeclareNoModule bytes → text ≡ no_module_line →
+      IsUnifyReply bytes word ModuleRefused text
+  no_problem : {text : List ℕ} (scope : FirstModule) → IsModuleText bytes scope → AsksNothing scope word →
+      text ≡ no_problem_line → IsUnifyReply bytes word ProblemRefused text
+  answered : {status : Status} {text : List ℕ} (scope : FirstModule) (problem : FirstProblem) →
+      IsModuleText bytes scope → IsProblemText scope word problem → IsAnswer scope problem status text →
+      IsUnifyReply bytes word status text
 
 -- this status with this text replies to a command over the bytes of a module
 abbrev pub IsReply : Command → List ℕ → Status → List ℕ → Type 0
