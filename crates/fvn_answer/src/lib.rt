@@ -1,0 +1,7 @@
+//! Lines and answer texts.
+#![tactic(auto)]
+
+mod end;
+mod numbering;
+
+pub use end::End;
