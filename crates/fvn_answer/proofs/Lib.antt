@@ -1,1 +1,5 @@
 -- Lemmas on lines and answer texts.
+mod Joining
+mod Printing
+mod TextOrder
+mod Tops

@@ -6,3 +6,4 @@ pub mod Lines
 pub mod Numberings
 pub mod Readable
 pub mod Writing
+pub mod inner

@@ -39,12 +39,13 @@ abbrev pub after_space : List Laid → List Laid
 after_space [] = []
 after_space (l ∷ laid) = record { spaced = true; piece = l.piece } ∷ laid
 
+-- the arrow, behind a space
+abbrev pub arrow : Laid
+arrow = record { spaced = true; piece = word goes_to }
+
 -- VARIABLE --> TERM
 abbrev pub laid_pair : RawPair → List Laid
-laid_pair b =
-    map close (spell b.left)
-    ++ after_space (map close (word goes_to ∷ []))
-    ++ after_space (map close (spell b.right))
+laid_pair b = map close (spell b.left) ++ (arrow ∷ after_space (map close (spell b.right)))
 
 -- bindings, with a comma before each, and then a space
 abbrev pub laid_further : List RawPair → List Laid

@@ -17,7 +17,7 @@ pub record IsNumbering (ts : List FlatTerm) (order : List Var) : Type 0 where
 
 -- the number of a variable, counted from 1
 abbrev pub number : (order : List Var) → Var → ℕ
-number order x = unwrap_or (position_from (same_var x) 1 order) 0
+number order x = unwrap_or (position_from (λ y. same_var y x) 1 order) 0
 
 -- `#` and the number
 abbrev pub new_name : (order : List Var) → Var → Text

@@ -1,6 +1,5 @@
 -- How values are written: each variable with its sort, and arguments that may be exchanged in byte order.
-use Rattle.std.specs.Prelude.{Bool, not, ◌&&◌, nat_lt, if◌then◌else◌, List, [], ◌∷◌, ◌++◌, map, find, unwrap_or, slice_index_or}
-use Rattle.std.specs.List.{list_all}
+use Rattle.std.specs.Prelude.{Bool, true, false, nat_lt, if◌then◌else◌, List, [], ◌∷◌, ◌++◌, map, slice_index_or}
 use Rattle.std.specs.Ordering.{is_gt, nat_cmp}
 use Rattle.std.specs.Cmp.Lexicographic.{slice_cmp}
 use Rattle.fvn_lex.specs.Cut.{Piece}
@@ -11,9 +10,8 @@ use Rattle.fvn_terms.specs.declared.plain.SortId.{SortId}
 use Rattle.fvn_terms.specs.declared.declarations.Axioms.{Axioms}
 use Rattle.fvn_terms.specs.declared.declarations.Axioms.TheVariants.{Free, Comm, AssocComm, AssocCommId}
 use Rattle.fvn_terms.specs.declared.declarations.Declarations.{Declarations}
-use Rattle.fvn_terms.specs.Signature.{kind, axioms}
-use Rattle.fvn_drafts.specs.Collected.{first_sorts}
-use Rattle.fvn_forms.specs.SortOrder.{same_sort}
+use Rattle.fvn_terms.specs.Signature.{axioms}
+use Rattle.fvn_sorts.specs.Queries.{direct_subsorts}
 use Rattle.fvn_forms.specs.Flat.{FlatTerm, FlatTerms, fvar, fapp, fnone, fmore}
 use Rattle.fvn_syntax.specs.declared.names.Names.{Names}
 use Rattle.fvn_syntax.specs.Pieces.{Text}
@@ -42,12 +40,16 @@ abbrev pub in_byte_order : List RawTerm → List RawTerm
 in_byte_order [] = []
 in_byte_order (t ∷ ts) = put t (in_byte_order ts)
 
+-- whether the arguments of an operator with these axioms may be exchanged
+abbrev pub may_exchange : Axioms → Bool
+may_exchange Free = false
+may_exchange Comm = true
+may_exchange AssocComm = true
+may_exchange (AssocCommId e) = true
+
 -- the arguments of an operator with these axioms: in byte order where they may be exchanged
 abbrev pub arranged : Axioms → List RawTerm → List RawTerm
-arranged Free ts = ts
-arranged Comm ts = in_byte_order ts
-arranged AssocComm ts = in_byte_order ts
-arranged (AssocCommId e) ts = in_byte_order ts
+arranged a ts = if may_exchange a then in_byte_order ts else ts
 
 -- one or more arguments
 abbrev pub arguments : RawTerm → List RawTerm → RawTerms
@@ -60,13 +62,9 @@ over w [] = name w
 over w (t ∷ ts) = call w (arguments t ts)
 
 module _ (d : Declarations) where
-  -- whether the sort is a maximal one of the kind
-  abbrev pub is_maximal_of : SortId → SortId → Bool
-  is_maximal_of k s = same_sort (kind d s) k && list_all (λ p. not (same_sort p.0 s)) d.below
-
-  -- the sort after which a kind is named: the first of its maximal sorts
+  -- the sort after which a kind is named: the first of the declared sorts right below it, which are its maximal ones
   abbrev pub top : SortId → SortId
-  top k = unwrap_or (find (is_maximal_of k) (first_sorts d.sorts)) k
+  top k = slice_index_or (direct_subsorts d k) 0 k
 
   module _ (names : Names) where
     -- the text of a declared sort

@@ -3,5 +3,7 @@
 
 mod end;
 mod numbering;
+mod texts;
 
 pub use end::End;
+pub use numbering::FEW_VARIABLES;

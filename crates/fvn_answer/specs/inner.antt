@@ -1,0 +1,2 @@
+-- What the steps of printing give, as bytes.
+pub mod Bytes
