@@ -4,6 +4,7 @@ use Rattle.std.specs.Prelude.{codes, slice_get, slice_index_or, nat_lt, if◌the
 use Rattle.std.specs.List.{All, AllByRecursion}
 use Rattle.std.proofs.lemmas.List.Elements.{All-head, All-tail}
 use Rattle.std.proofs.lemmas.List.{append-nil, map-append}
+use Rattle.std.proofs.lemmas.Bool.{lt-ltb, ltb-true}
 use Rattle.fvn_lex.proofs.JoinLemmas.{piece-form}
 use Rattle.fvn_lex.specs.Parts.{is_quoted_after}
 use Rattle.fvn_lex.specs.Join.{needs_space, Laid, space, join_after, join}
@@ -134,20 +135,29 @@ argument-printable d (fapp f joined ts) l i u p e within is =
 
 -- Variables.
 
+not-below : (a b : ℕ) → b ≤ a → nat_lt a b ≡ false
+not-below a b h = go (nat_lt a b) refl
+  where
+    go : (c : Bool) → nat_lt a b ≡ c → nat_lt a b ≡ false
+    go true e = let low = ltb-true a b e in absurd (omega arith)
+    go false e = e
+
 -- NAME:SORT
-pub declared-text : (d : Declarations) (names : Names) (text x st : Text) (s : SortId) → nat_lt s.0 d.sorts ≡ true → slice_get names.sorts s.0 ≡ Some st →
+pub declared-text : (d : Declarations) (names : Names) (text x st : Text) (s : SortId) → s.0 < d.sorts → slice_get names.sorts s.0 ≡ Some st →
     text ++ x ++ (58 ∷ []) ++ st ≡ text ++ text_of (sorted d names x s)
 unfolding join join_after
-declared-text d names text x st s e is =
+declared-text d names text x st s low is =
+    let e : nat_lt s.0 d.sorts ≡ true = lt-ltb s.0 d.sorts low in
     let it : sort_text d names s ≡ st = got names.sorts s.0 st [] is in
     append_assoc (text ++ x) (58 ∷ []) st ∙ append_assoc text x (58 ∷ st)
     ∙ rw (e, it) (ap (λ t. text ++ t) (sym (append-nil (x ++ 58 ∷ st))))
 
 -- NAME:[SORT]
-pub kind-text : (d : Declarations) (names : Names) (text x st : Text) (s : SortId) → nat_lt s.0 d.sorts ≡ false → slice_get names.sorts (top d s).0 ≡ Some st → IsFilled st →
+pub kind-text : (d : Declarations) (names : Names) (text x st : Text) (s : SortId) → d.sorts ≤ s.0 → slice_get names.sorts (top d s).0 ≡ Some st → IsFilled st →
     beside (text ++ x ++ (58 ∷ []) ++ (91 ∷ []) ++ st) 93 ≡ text ++ text_of (sorted d names x s)
 unfolding join join_after needs_space
-kind-text d names text x st s e is f =
+kind-text d names text x st s high is f =
+    let e : nat_lt s.0 d.sorts ≡ false = not-below s.0 d.sorts high in
     let it : sort_text d names (top d s) ≡ st = got names.sorts (top d s).0 st [] is in
     let q : is_quoted_after false (text ++ x ++ (58 ∷ []) ++ (91 ∷ []) ++ st) ≡ is_quoted_after false st = quoted-behind (text ++ x ++ (58 ∷ []) ++ (91 ∷ [])) st f in
     let r : is_quoted_after false (x ++ 58 ∷ []) ≡ false = quoted-append false x (58 ∷ []) in

@@ -11,8 +11,9 @@ use Rattle.std.proofs.lemmas.Cmp.{upto}
 use Rattle.std.proofs.lemmas.List.Sums.{sum_by-cons}
 use Rattle.std.proofs.lemmas.List.Sorted.{sum_by-IsPermutation}
 use Rattle.fvn_syntax.specs.Pieces.{Text}
-use Rattle.fvn_answer.specs.Writing.{is_after}
-use Rattle.fvn_answer.specs.inner.Bytes.{put_text, sorted_texts}
+use Rattle.fvn_terms.specs.declared.declarations.Axioms.{Axioms}
+use Rattle.fvn_answer.specs.Writing.{is_after, may_exchange}
+use Rattle.fvn_answer.specs.inner.Bytes.{put_text, sorted_texts, arranged_texts}
 
 abbrev text_cmp : Text → Text → Ordering
 text_cmp = slice_cmp nat_cmp
@@ -147,3 +148,7 @@ module _ {V : Type 0} (f : V → Text) where
 
   pub sorted_is : (l m : List V) → IsPermutation l m → IsSorted (λ v w. text_cmp (f v) (f w)) m → map f m ≡ sorted_texts (map f l)
   sorted_is l m p s = sym (sorted_in_order (map f m) (in_order m s)) ∙ sym (same_counts (map f l) (map f m) (permutation_counts l m p))
+
+-- arguments that may be exchanged are put in byte order
+pub arranged-sorted : (a : Axioms) → may_exchange a ≡ true → (ts : List Text) → arranged_texts a ts ≡ sorted_texts ts
+arranged-sorted a e ts = rw e refl
