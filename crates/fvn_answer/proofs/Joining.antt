@@ -13,7 +13,7 @@ use Rattle.fvn_syntax.specs.Raw.{RawTerm, RawTerms, name, call, round, kind_vari
 use Rattle.fvn_problems.specs.Spelling.{RawPair, goes_to}
 use Rattle.fvn_answer.specs.Writing.{close, text_of, arguments, over}
 use Rattle.fvn_answer.specs.Lines.{after_space, arrow, laid_pair, laid_further, laid_pairs, laid_bindings}
-use Rattle.fvn_answer.specs.inner.Bytes.{beside, with_each, over_texts, pair_text, with_further, with_pairs}
+use Rattle.fvn_answer.specs.inner.Bytes.{beside, with_each, over_texts, pair_text, between, with_pairs}
 
 -- Pieces with a last one, and then further ones.
 
@@ -227,6 +227,17 @@ over-text w (t ∷ ts) fs =
 
 -- Bindings.
 
+-- bindings, each after a comma and a space
+abbrev with_further : Text → List (Text × Text) → Text
+with_further text [] = text
+with_further text (p ∷ ps) = with_further (beside text 44 ++ (32 ∷ pair_text p)) ps
+
+with_further-pairs : (text : Text) (ps : List (Text × Text)) → with_further text ps ≡ with_pairs false text ps
+with_further-pairs text [] = refl
+with_further-pairs text (p ∷ ps) =
+    with_further-pairs (beside text 44 ++ (32 ∷ pair_text p)) ps
+    ∙ ap (λ t. with_pairs false t ps) (sym (append_assoc (beside text 44) (32 ∷ []) (pair_text p)))
+
 -- the texts of the two sides
 abbrev pub texts_of : RawPair → Text × Text
 texts_of b = (text_of b.left, text_of b.right)
@@ -370,13 +381,14 @@ unfolding join join_after needs_space
 braces = refl
 
 -- the text of bindings
-pub bindings-text : (bs : List RawPair) → AllByRecursion IsEndedPair bs → join (laid_bindings bs) ≡ beside (with_pairs (codes "{") (map texts_of bs)) 125
+pub bindings-text : (bs : List RawPair) → AllByRecursion IsEndedPair bs → join (laid_bindings bs) ≡ beside (with_pairs true (codes "{") (map texts_of bs)) 125
 bindings-text [] fs = braces
 bindings-text (b ∷ bs) fs =
     ap (λ ms. join (with_last (close left_brace ∷ (ms ++ laid_further bs)) (close right_brace))) (pair-split b)
     ∙ further-text (close left_brace ∷ pair_front false b) (pair_last b) (spaced-ended b.right fs.0) (spaced-needs b.right) bs fs.1
     ∙ ap (λ ms. beside (with_further (join (close left_brace ∷ ms)) (map texts_of bs)) 125) (sym (pair-split b))
     ∙ ap (λ text. beside (with_further text (map texts_of bs)) 125) (brace-pair b)
+    ∙ ap (λ text. beside text 125) (with_further-pairs (codes "{" ++ pair_text (texts_of b)) (map texts_of bs))
 
 -- the text of a term and bindings behind it
 pub variant-text : (t : RawTerm) (bs : List RawPair) → join (closed (spell t) ++ after_space (laid_bindings bs)) ≡ text_of t ++ (32 ∷ join (laid_bindings bs))

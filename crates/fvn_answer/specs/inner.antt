@@ -1,2 +1,3 @@
 -- What the steps of printing give, as bytes.
 pub mod Bytes
+pub mod Shown

@@ -3,6 +3,7 @@
 
 mod end;
 mod numbering;
+mod printed;
 mod texts;
 
 pub use end::End;

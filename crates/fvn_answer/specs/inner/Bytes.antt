@@ -1,5 +1,5 @@
 -- Texts byte by byte, as the code makes them.
-use Rattle.std.specs.Prelude.{ℕ, ◌<◌, if◌then◌else◌, false, List, [], ◌∷◌, ◌++◌, length, map, codes}
+use Rattle.std.specs.Prelude.{ℕ, ◌<◌, Bool, true, false, if◌then◌else◌, List, [], ◌∷◌, ◌++◌, length, map, codes}
 use Rattle.std.specs.Global.{Vec}
 use Rattle.fvn_lex.specs.Parts.{is_quoted_after}
 use Rattle.fvn_lex.specs.Join.{space}
@@ -46,15 +46,15 @@ arranged_texts a ts = if may_exchange a then sorted_texts ts else ts
 abbrev pub pair_text : Text × Text → Text
 pair_text p = p.0 ++ (codes " --> " ++ p.1)
 
--- bindings, each after a comma and a space
-abbrev pub with_further : Text → List (Text × Text) → Text
-with_further text [] = text
-with_further text (p ∷ ps) = with_further (beside text 44 ++ (32 ∷ pair_text p)) ps
+-- what stands before a binding: nothing before the first, a comma and a space before each later one
+abbrev pub between : (first : Bool) → Text → Text
+between true text = text
+between false text = beside text 44 ++ 32 ∷ []
 
--- bindings, with a comma and a space between each two
-abbrev pub with_pairs : Text → List (Text × Text) → Text
-with_pairs text [] = text
-with_pairs text (p ∷ ps) = with_further (text ++ pair_text p) ps
+-- bindings, of which the first is the first of all or not
+abbrev pub with_pairs : (first : Bool) → Text → List (Text × Text) → Text
+with_pairs first text [] = text
+with_pairs first text (p ∷ ps) = with_pairs false (between first text ++ pair_text p) ps
 
 -- each operator of the form is declared, and each of its variables has a sort of the signature
 module _ (d : Declarations) where
