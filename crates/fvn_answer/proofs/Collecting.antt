@@ -1,5 +1,5 @@
 -- The variables of forms, each once.
-use Rattle.std.proofs.Common.{◌≡◌, ◌≢◌, ℕ, zero, suc, ◌+◌, ◌<◌, Bool, true, false, ◌⊎◌, inl, inr, List, [], ◌∷◌, ◌++◌, length, take, get_or, refl, sym, ap, ◌∙◌, subst, arith}
+use Rattle.std.proofs.Common.{◌≡◌, ◌≢◌, ℕ, zero, suc, ◌+◌, ◌<◌, Bool, true, false, ◌⊎◌, inl, inr, List, [], ◌∷◌, ◌++◌, length, take, get_or, None, refl, sym, ap, ◌∙◌, subst, arith}
 use Rattle.std.specs.Prelude.{◌||◌, ◌↔◌, Contains, AllPairs, if◌then◌else◌}
 use Rattle.std.proofs.lemmas.List.{take_more, append-nil}
 use Rattle.std.proofs.lemmas.List.Elements.{Contains-append_left, Contains-append_right, Contains-append_cases}
@@ -8,6 +8,8 @@ use Rattle.fvn_base.proofs.Pigeonhole.{AllPairs-cons}
 use Rattle.fvn_terms.specs.declared.plain.Var.{Var}
 use Rattle.fvn_terms.specs.Substitution.{same_var, Occurs, OccursAmong}
 use Rattle.fvn_forms.specs.Flat.{FlatTerm, FlatTerms, fvar, fapp, fnone, fmore, fpack, plain, plain_all}
+use Rattle.fvn_forms.proofs.Sums.{fpack-funpack}
+use Rattle.fvn_flat.specs.Forms.{variable_of, args_of}
 use Rattle.fvn_flat.specs.Variables.{listed, with_variable, with_variables, with_all_variables}
 use Rattle.fvn_flat.proofs.Occurrences.{occurs_in_app}
 use Rattle.fvn_flat.proofs.Binding.{same_var_is, same_var_itself}
@@ -122,3 +124,8 @@ pub with_all-step : (l : List FlatTerm) (i : ℕ) (t : FlatTerm) (vars : List Va
 with_all-step l i t vars within is =
     ap (λ m. with_all_variables (fpack m) vars) (take_more l i t within ∙ ap (λ u. take i l ++ u ∷ []) (sym is))
     ∙ with_all-push (take i l) t vars
+
+-- those of all arguments are those of the form
+pub with-args : (t : FlatTerm) (vars : List Var) → variable_of t ≡ None → with_all_variables (fpack (args_of t)) vars ≡ with_variables t vars
+with-args (fvar x) vars e = cc
+with-args (fapp f joined ts) vars e = ap (λ us. with_all_variables us vars) (fpack-funpack ts)

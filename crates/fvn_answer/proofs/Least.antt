@@ -1,7 +1,7 @@
 -- The least text over the orders of the variables.
 use Rattle.std.proofs.Common.{◌≡◌, ◌≢◌, ℕ, zero, suc, ◌+◌, ◌<◌, ◌≤◌, Bool, true, false, ◌⊎◌, inl, inr, List, [], ◌∷◌, length, get_or, refl, sym, ap, ◌∙◌, subst, arith}
 use Rattle.std.specs.Prelude.{◌↔◌, Contains, AllPairs, if◌then◌else◌}
-use Rattle.std.specs.List.{SwappedAt}
+use Rattle.std.specs.List.{SwappedAt, swap}
 use Rattle.std.specs.declared.cmp.Ordering.{Ordering}
 use Rattle.std.specs.declared.cmp.Ordering.TheVariants.{Less, Equal, Greater}
 use Rattle.std.specs.Ordering.{is_lt, ordering_then, nat_cmp}
@@ -10,7 +10,7 @@ use Rattle.std.specs.Bool.{Decides}
 use Rattle.std.specs.Cmp.{nat_cmp_is}
 use Rattle.std.specs.List.Sorted.{IsPermutation}
 use Rattle.std.proofs.lemmas.Bool.{cases_lt, cases_eq, cases_order}
-use Rattle.std.proofs.lemmas.List.Sorted.{Contains-permutation, IsPermutation-sym}
+use Rattle.std.proofs.lemmas.List.Sorted.{Contains-permutation, IsPermutation-sym, length_permutation}
 use Rattle.std.proofs.lemmas.Map.Keys.{IsDistinct-IsPermutation}
 use Rattle.std.proofs.lemmas.Map.Made.{AllPairs-from_IsDistinct, IsDistinct-from_AllPairs}
 use Rattle.std.proofs.lemmas.List.{ext_get_or, get_or_default}
@@ -31,7 +31,7 @@ use Rattle.fvn_answer.specs.inner.Shown.{lesser, BeginsAs, IsLeastAmong, Tried}
 
 -- Order of texts.
 
-before-lt : (s t : Text) → is_lt (slice_cmp nat_cmp s t) ≡ true → IsBefore s t
+pub before-lt : (s t : Text) → is_lt (slice_cmp nat_cmp s t) ≡ true → IsBefore s t
 before-lt [] [] h = cc
 before-lt [] (b ∷ t) h = tt
 before-lt (a ∷ s) [] h = cc
@@ -261,3 +261,16 @@ swapped-back order ys zs k i e s t = same-lists zs order e at
         | inr q ↦ t.2 j x p q ∙ s.2 j x p q
       ]
     ]
+
+swap-permutation : (xs ys : List Var) (k i : ℕ) → k < length xs → i < length xs → ys ≡ swap xs k i → IsPermutation xs ys
+swap-permutation xs ys k i low high e = record { moves = (k, i) ∷ []; below = (low, high, tt); is = e }
+
+-- the order with two variables exchanged
+pub exchanged-length : (order ys : List Var) (k i : ℕ) → k < length order → i < length order → ys ≡ swap order k i → length ys ≡ length order
+exchanged-length order ys k i low high e = length_permutation order ys (swap-permutation order ys k i low high e)
+
+pub exchanged-numbering : (ts : List FlatTerm) (order ys : List Var) (k i : ℕ) → k < length order → i < length order → ys ≡ swap order k i → IsNumbering ts order → IsNumbering ts ys
+exchanged-numbering ts order ys k i low high e n = numbering-permutation ts order ys (swap-permutation order ys k i low high e) n
+
+pub exchanged-front : (order ys : List Var) (k i : ℕ) → k < i → SwappedAt order ys k i → (j : ℕ) (x : Var) → j < k → get_or ys j x ≡ get_or order j x
+exchanged-front order ys k i up s j x l = s.2 j x (λ e. omega (arith, e)) (λ e. omega (arith, e))

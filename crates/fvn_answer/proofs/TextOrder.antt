@@ -1,5 +1,5 @@
 -- Texts in byte order: what a sort gives.
-use Rattle.std.proofs.Common.{◌≡◌, suc, ◌+◌, ◌≤◌, ℕ, Bool, true, false, List, [], ◌∷◌, ◌++◌, length, refl, sym, ap, ◌∙◌, arith}
+use Rattle.std.proofs.Common.{◌≡◌, ◌≢◌, suc, ◌+◌, ◌≤◌, ℕ, Bool, true, false, List, [], ◌∷◌, ◌++◌, length, refl, sym, ap, ◌∙◌, arith}
 use native.Mathlib.Numerals.{unary_clauses}
 use Rattle.std.specs.Prelude.{if◌then◌else◌, map, sum_by}
 use Rattle.std.specs.declared.cmp.Ordering.{Ordering}
@@ -10,10 +10,12 @@ use Rattle.std.specs.List.Sorted.{IsPermutation, IsSorted}
 use Rattle.std.proofs.lemmas.Cmp.{upto}
 use Rattle.std.proofs.lemmas.List.Sums.{sum_by-cons}
 use Rattle.std.proofs.lemmas.List.Sorted.{sum_by-IsPermutation}
+use Rattle.fvn_base.specs.Order.{IsBefore}
 use Rattle.fvn_syntax.specs.Pieces.{Text}
 use Rattle.fvn_terms.specs.declared.declarations.Axioms.{Axioms}
 use Rattle.fvn_answer.specs.Writing.{is_after, may_exchange}
 use Rattle.fvn_answer.specs.inner.Bytes.{put_text, sorted_texts, arranged_texts}
+use Rattle.fvn_answer.proofs.Least.{before-lt}
 
 abbrev text_cmp : Text → Text → Ordering
 text_cmp = slice_cmp nat_cmp
@@ -115,7 +117,7 @@ same_counts (t ∷ l) m h =
     ap (put_text t) (same_counts l (remove t m) rest) ∙ put_remove t m within
 
 -- each text stands after none of those behind it
-abbrev InOrder : List Text → Type 0
+abbrev pub InOrder : List Text → Type 0
 InOrder [] = Unit {0}
 InOrder (t ∷ []) = Unit {0}
 InOrder (t ∷ u ∷ l) = (is_after t u ≡ false) × InOrder (u ∷ l)
@@ -139,7 +141,7 @@ module _ {V : Type 0} (f : V → Text) where
   reversed Equal = refl
   reversed Greater = refl
 
-  in_order : (l : List V) → IsSorted (λ v w. text_cmp (f v) (f w)) l → InOrder (map f l)
+  pub in_order : (l : List V) → IsSorted (λ v w. text_cmp (f v) (f w)) l → InOrder (map f l)
   in_order [] h = tt
   in_order (t ∷ []) h = tt
   in_order (t ∷ u ∷ l) h =
@@ -152,3 +154,12 @@ module _ {V : Type 0} (f : V → Text) where
 -- arguments that may be exchanged are put in byte order
 pub arranged-sorted : (a : Axioms) → may_exchange a ≡ true → (ts : List Text) → arranged_texts a ts ≡ sorted_texts ts
 arranged-sorted a e ts = rw e refl
+
+-- a text that does not stand after another one stands before it, where the two differ
+pub not-after-before : (s t : Text) → is_after s t ≡ false → s ≢ t → IsBefore s t
+not-after-before s t e n = go (text_cmp s t) refl
+  where
+    go : (r : Ordering) → text_cmp s t ≡ r → IsBefore s t
+    go Less h = before-lt s t (ap is_lt h)
+    go Equal h = absurd (n (same_is s t (ap is_eq h)))
+    go Greater h = let q : true ≡ false = ap is_gt (sym h) ∙ e in cc

@@ -1,7 +1,9 @@
 -- Answer texts: lines in byte order, each once, and an end line.
-use Rattle.std.specs.Prelude.{ℕ, ◌≡◌, ◌↔◌, List, [], ◌∷◌, ◌++◌, AllPairs, Contains, codes, decimal}
+use Rattle.std.specs.Prelude.{ℕ, ◌≡◌, ◌<◌, ◌↔◌, List, [], ◌∷◌, ◌++◌, length, AllPairs, Contains, codes, decimal}
 use Rattle.fvn_base.specs.Order.{IsBefore}
 use Rattle.fvn_terms.specs.declared.declarations.Declarations.{Declarations}
+use Rattle.fvn_forms.specs.Flat.{FlatTerm}
+use Rattle.fvn_flat.specs.Fits.{Fits}
 use Rattle.fvn_syntax.specs.declared.names.Names.{Names}
 use Rattle.fvn_syntax.specs.Pieces.{Text}
 use Rattle.fvn_answer.specs.declared.end.End.{End}
@@ -13,14 +15,30 @@ use Rattle.fvn_answer.specs.Lines.{alone, IsTextOf}
 abbrev pub numbered : Text → ℕ → Text
 numbered words n = words ++ decimal n
 
+-- the operator of `bound basis` is declared, and the term of `bound steps` is flat and well-kinded
+abbrev pub FitsEnd : Declarations → End → Type 0
+FitsEnd d (Complete n) = Unit {0}
+FitsEnd d (Levels n) = Unit {0}
+FitsEnd d (Variants n) = Unit {0}
+FitsEnd d (Steps n t) = Fits d t
+FitsEnd d (Size n) = Unit {0}
+FitsEnd d (Basis f) = f.0 < length d.ops
+FitsEnd d (Unifiers n) = Unit {0}
+FitsEnd d (Sorts n) = Unit {0}
+
 module _ (d : Declarations) (names : Names) where
-  -- the line of an end; the term of `bound steps` is printed as in a line of its own
+  -- a number of steps and a term, which is printed as in a line of its own
+  pub record IsStepsLine (n : ℕ) (t : FlatTerm) (line : Text) : Type 0 where
+    pub term : Text
+    pub term_is : IsTextOf d names [] (alone t) term
+    pub line_is : line ≡ numbered (codes "bound steps ") n ++ 32 ∷ term
+
+  -- the line of an end
   abbrev pub IsEndLine : End → Text → Type 0
   IsEndLine (Complete n) line = line ≡ numbered (codes "complete ") n
   IsEndLine (Levels n) line = line ≡ numbered (codes "bound levels ") n
   IsEndLine (Variants n) line = line ≡ numbered (codes "bound variants ") n
-  IsEndLine (Steps n t) line =
-      (w : Text) × IsTextOf d names [] (alone t) w × (line ≡ numbered (codes "bound steps ") n ++ 32 ∷ w)
+  IsEndLine (Steps n t) line = IsStepsLine n t line
   IsEndLine (Size n) line = line ≡ numbered (codes "bound size ") n
   IsEndLine (Basis f) line = line ≡ codes "bound basis " ++ op_text d names f
   IsEndLine (Unifiers n) line = line ≡ numbered (codes "bound unifiers ") n

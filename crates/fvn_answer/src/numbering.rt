@@ -79,21 +79,27 @@ fn variables(alloc: Global, printed: &Printed<'_>) -> Result<Vec<Var>, NoMemory>
 {
     let mut vars = Vec::new(alloc);
     match printed {
-        Printed::Alone(t) => add_variables(&mut vars, t)?,
-        Printed::Values(subst, list) => add_values(&mut vars, subst, list)?,
+        Printed::Alone(t) => {
+            add_variables(&mut vars, t)?;
+            Ok(vars)
+        }
+        Printed::Values(subst, list) => {
+            add_values(&mut vars, subst, list)?;
+            Ok(vars)
+        }
         Printed::Variant(t, subst, list) => {
             add_variables(&mut vars, t)?;
             add_values(&mut vars, subst, list)?;
+            Ok(vars)
         }
     }
-    Ok(vars)
 }
 
 // The text that stands first in byte order.
 fn lesser(one: Vec<u8>, other: Vec<u8>) -> Vec<u8>
     ensures { result.items ≡ lesser one.items other.items }
 {
-    if other < one { other } else { one }
+    if other.cmp(&one).is_lt() { other } else { one }
 }
 
 // The least text under a numbering that begins as the order does, up to k.
@@ -115,7 +121,8 @@ fn least_text(
         (BeginsAs signature.now var_names.now.texts names.now (shown printed.now) order.old.items k) line.items) }
 {
     if k == order.len() {
-        return text(alloc, signature, names, var_names, order.as_slice(), printed);
+        let line = text(alloc, signature, names, var_names, order.as_slice(), printed)?;
+        return Ok(line);
     }
     let mut best =
         least_text(alloc, signature, names, var_names, printed, &mut *order, k + 1)?;
@@ -143,7 +150,9 @@ pub(crate) fn numbered_text(
 {
     let mut order = variables(alloc, printed)?;
     if FEW_VARIABLES < order.len() {
-        return text(alloc, signature, names, var_names, order.as_slice(), printed);
+        let line = text(alloc, signature, names, var_names, order.as_slice(), printed)?;
+        return Ok(line);
     }
-    least_text(alloc, signature, names, var_names, printed, &mut order, 0)
+    let line = least_text(alloc, signature, names, var_names, printed, &mut order, 0)?;
+    Ok(line)
 }

@@ -16,6 +16,7 @@ use fvn_terms::{NoMemory, Var};
 use std::alloc::Global;
 
 /// A term alone, the values of variables, or a term and the values of variables.
+#[derive(Drop)]
 pub(crate) enum Printed<'a> {
     Alone(&'a Flat),
     Values(&'a Subst, &'a [Var]),
@@ -78,7 +79,8 @@ fn push_pair(
 {
     push_sorted(signature, names, text, var_names.text(x.name), x.sort)?;
     text.extend_from_slice(b" --> ")?;
-    push_value(alloc, signature, names, order, text, subst, x)
+    push_value(alloc, signature, names, order, text, subst, x)?;
+    Ok(())
 }
 
 // The text of the values of variables.

@@ -1,0 +1,15 @@
+-- All lines, and then the line of the end.
+use Rattle.std.proofs.Common.{[], ◌∷◌, ◌++◌, sym, ap, ◌∙◌}
+use Rattle.fvn_answer.specs.inner.Bytes.{bytes_of}
+use Rattle.fvn_answer.proofs.Answering.{ended-append}
+use Rattle.fvn_answer.proofs.answer.answer_text.Goals as goal
+
+pub returns : goal.returns
+returns c = record {
+  lines = bytes_of c.in_ok-sorted.sorted.items;
+  in_order = c.in_ok-sorted.ensures;
+  last = c.in_ok-last.last.items;
+  end_line = c.in_ok-last.ensures;
+  text_is = rw (c.in_ok-push_line.ensures, c.as_slice-2.ensures.value, c.in_ok-push_lines.ensures, c.as_slice.ensures.value, c.new-text.ensures.items)
+      (sym (ended-append (bytes_of c.in_ok-sorted.sorted.items) (c.in_ok-last.last.items ∷ [])));
+}

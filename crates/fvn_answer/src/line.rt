@@ -1,0 +1,56 @@
+//! Lines: the values of a problem's variables, for a variant with a term before them.
+ghost use Rattle.std.specs.Prelude.{IfOk};
+ghost use Rattle.fvn_flat.specs.Fits.{Fits};
+ghost use Rattle.fvn_flat.specs.Bindings.{BindingsFit};
+ghost use Rattle.fvn_answer.specs.Readable.{AreReadable, AreAsked};
+ghost use Rattle.fvn_answer.specs.Lines.{values, variant, values_of, IsTextOf};
+
+use crate::numbering::numbered_text;
+use crate::printed::Printed;
+use fvn_flat::{Flat, Subst};
+use fvn_sorts::Signature;
+use fvn_syntax::{Names, VarNames};
+use fvn_terms::{NoMemory, Var};
+use std::alloc::Global;
+
+/// The line of a substitution: what it gives each of the variables, in their order.
+///
+/// A variable that is not bound stands for itself. All variables of the values are new ones, numbered from 1.
+pub fn line_of(
+    alloc: Global,
+    signature: &Signature,
+    names: &Names,
+    var_names: &VarNames,
+    subst: &Subst,
+    vars: &[Var],
+) -> Result<Vec<u8>, NoMemory>
+    requires names { AreReadable signature.now names.now }
+    requires vars { AreAsked signature.now var_names.now.texts vars.now }
+    requires fit { BindingsFit signature.now subst.now }
+    ensures { IfOk result (λ line. IsTextOf signature.now names.now var_names.now.texts
+        (values (values_of subst.now vars.now)) line.items) }
+{
+    let printed = Printed::Values(subst, vars);
+    numbered_text(alloc, signature, names, var_names, &printed)
+}
+
+/// The line of a variant: its term, a space, and the line of its substitution under the same numbering.
+pub fn variant_line(
+    alloc: Global,
+    signature: &Signature,
+    names: &Names,
+    var_names: &VarNames,
+    term: &Flat,
+    subst: &Subst,
+    vars: &[Var],
+) -> Result<Vec<u8>, NoMemory>
+    requires names { AreReadable signature.now names.now }
+    requires vars { AreAsked signature.now var_names.now.texts vars.now }
+    requires fit { BindingsFit signature.now subst.now }
+    requires term { Fits signature.now term.now }
+    ensures { IfOk result (λ line. IsTextOf signature.now names.now var_names.now.texts
+        (variant term.now (values_of subst.now vars.now)) line.items) }
+{
+    let printed = Printed::Variant(term, subst, vars);
+    numbered_text(alloc, signature, names, var_names, &printed)
+}
