@@ -29,7 +29,7 @@ least_text-requires-in-loop-i t c =
     let swapped : c.swap.new.self.items ≡ swap order c.args.k c.loop-i.i = subst (λ o. c.swap.new.self.items ≡ swap o c.args.k c.loop-i.i) kept c.swap.ensures.items in
     let same = exchanged-length order c.swap.new.self.items c.args.k c.loop-i.i low high swapped in
     (omega (arith, same),
-    (c.requires.names, c.requires.printed, exchanged-numbering (forms_in (shown c.args.printed.now)) order c.swap.new.self.items c.args.k c.loop-i.i low high swapped c.requires.numbering, omega (arith, same)))
+    (c.requires.names, (c.requires.printed, (exchanged-numbering (forms_in (shown c.args.printed.now)) order c.swap.new.self.items c.args.k c.loop-i.i low high swapped c.requires.numbering, omega (arith, same)))))
 
 pub loop-i-preserved : goal.loop-i-preserved
 loop-i-preserved t c =
