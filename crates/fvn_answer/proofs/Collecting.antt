@@ -1,7 +1,7 @@
 -- The variables of forms, each once.
-use Rattle.std.proofs.Common.{◌≡◌, ◌≢◌, ℕ, zero, suc, ◌+◌, ◌<◌, Bool, true, false, ◌⊎◌, inl, inr, List, [], ◌∷◌, ◌++◌, length, take, get_or, None, refl, sym, ap, ◌∙◌, subst, arith}
+use Rattle.std.proofs.Common.{◌≡◌, ◌≢◌, ℕ, ◌+◌, ◌<◌, Bool, true, false, ◌⊎◌, inl, inr, List, [], ◌∷◌, ◌++◌, length, take, get_or, None, refl, sym, ap, ◌∙◌, subst, arith}
 use Rattle.std.specs.Prelude.{◌||◌, ◌↔◌, Contains, AllPairs, if◌then◌else◌}
-use Rattle.std.proofs.lemmas.List.{take_more, append-nil}
+use Rattle.std.proofs.lemmas.List.{take_more}
 use Rattle.std.proofs.lemmas.List.Elements.{Contains-append_left, Contains-append_right, Contains-append_cases}
 use Rattle.fvn_base.proofs.Membership.{contains_here, contains_later, contains_cases, contains_none}
 use Rattle.fvn_base.proofs.Pigeonhole.{AllPairs-cons}
@@ -13,7 +13,7 @@ use Rattle.fvn_flat.specs.Forms.{variable_of, args_of}
 use Rattle.fvn_flat.specs.Variables.{listed, with_variable, with_variables, with_all_variables}
 use Rattle.fvn_flat.proofs.Occurrences.{occurs_in_app}
 use Rattle.fvn_flat.proofs.Binding.{same_var_is, same_var_itself}
-use Rattle.fvn_answer.specs.Numberings.{OccursInForms, IsNumbering}
+use Rattle.fvn_answer.specs.Numberings.{IsNumbering}
 
 listed-only : (vars : List Var) (x : Var) → listed vars x ≡ true → Contains vars x
 listed-only [] x e = cc
@@ -31,23 +31,25 @@ contains-variable vars x y = go (listed vars x) refl
     go : (b : Bool) → listed vars x ≡ b → Contains (if listed vars x then vars else vars ++ x ∷ []) y ↔ (Contains vars y ⊎ (y ≡ x))
     go true e = subst (λ b. Contains (if b then vars else vars ++ x ∷ []) y ↔ (Contains vars y ⊎ (y ≡ x))) (sym e)
         (λ h. inl h, λ h. elim h [ inl a ↦ a | inr q ↦ subst (Contains vars) (sym q) (listed-only vars x e) ])
-    go false e = subst (λ b. Contains (if b then vars else vars ++ x ∷ []) y ↔ (Contains vars y ⊎ (y ≡ x))) (sym e)
-        (λ h. elim (Contains-append_cases vars (x ∷ []) y h) [
-          | inl a ↦ inl a
-          | inr b ↦ elim (contains_cases x [] y b) [ inl q ↦ inr (sym q) | inr n ↦ absurd (contains_none y n) ]
-        ],
-        λ h. elim h [
-          | inl a ↦ Contains-append_left vars (x ∷ []) y a
-          | inr q ↦ Contains-append_right vars (x ∷ []) y (subst (λ z. Contains (x ∷ []) z) (sym q) (contains_here x []))
-        ])
+    go false e = subst (λ b. Contains (if b then vars else vars ++ x ∷ []) y ↔ (Contains vars y ⊎ (y ≡ x))) (sym e) (
+      λ h. elim (Contains-append_cases vars (x ∷ []) y h) [
+        | inl a ↦ inl a
+        | inr b ↦ elim (contains_cases x [] y b) [ inl q ↦ inr (sym q) | inr n ↦ absurd (contains_none y n) ]
+      ],
+      λ h. elim h [
+        | inl a ↦ Contains-append_left vars (x ∷ []) y a
+        | inr q ↦ Contains-append_right vars (x ∷ []) y (subst (λ z. Contains (x ∷ []) z) (sym q) (contains_here x []))
+      ],
+    )
 
 with-occurs : {A B C D : Type 0} → A ↔ (B ⊎ C) → D ↔ C → A ↔ (B ⊎ D)
 with-occurs h k = (λ a. elim (h.0 a) [ inl b ↦ inl b | inr c ↦ inr (k.1 c) ], λ x. elim x [ inl b ↦ h.1 (inl b) | inr d ↦ h.1 (inr (k.0 d)) ])
 
 both : {A B C D E : Type 0} → A ↔ (B ⊎ C) → B ↔ (D ⊎ E) → A ↔ (D ⊎ (E ⊎ C))
-both h k =
-    (λ a. elim (h.0 a) [ inl b ↦ elim (k.0 b) [ inl d ↦ inl d | inr e ↦ inr (inl e) ] | inr c ↦ inr (inr c) ],
-    λ x. elim x [ inl d ↦ h.1 (inl (k.1 (inl d))) | inr y ↦ elim y [ inl e ↦ h.1 (inl (k.1 (inr e))) | inr c ↦ h.1 (inr c) ] ])
+both h k = (
+  λ a. elim (h.0 a) [ inl b ↦ elim (k.0 b) [ inl d ↦ inl d | inr e ↦ inr (inl e) ] | inr c ↦ inr (inr c) ],
+  λ x. elim x [ inl d ↦ h.1 (inl (k.1 (inl d))) | inr y ↦ elim y [ inl e ↦ h.1 (inl (k.1 (inr e))) | inr c ↦ h.1 (inr c) ] ],
+)
 
 mutual
   contains-variables : (t : FlatTerm) (vars : List Var) (y : Var) → Contains (with_variables t vars) y ↔ (Contains vars y ⊎ Occurs y (plain t))
@@ -66,12 +68,13 @@ Distinct (x ∷ vars) = (Contains vars x → ⊥) × Distinct vars
 
 Distinct-push : (vars : List Var) (x : Var) → Distinct vars → (Contains vars x → ⊥) → Distinct (vars ++ x ∷ [])
 Distinct-push [] x h n = (λ k. contains_none x k, tt)
-Distinct-push (y ∷ vars) x h n =
-    (λ k. elim (Contains-append_cases vars (x ∷ []) y k) [
-      | inl a ↦ h.0 a
-      | inr b ↦ elim (contains_cases x [] y b) [ inl q ↦ n (subst (Contains (y ∷ vars)) (sym q) (contains_here y vars)) | inr m ↦ contains_none y m ]
-    ],
-    Distinct-push vars x h.1 (λ k. n (contains_later y vars x k)))
+Distinct-push (y ∷ vars) x h n = (
+  λ k. elim (Contains-append_cases vars (x ∷ []) y k) [
+    | inl a ↦ h.0 a
+    | inr b ↦ elim (contains_cases x [] y b) [ inl q ↦ n (subst (Contains (y ∷ vars)) (sym q) (contains_here y vars)) | inr m ↦ contains_none y m ]
+  ],
+  Distinct-push vars x h.1 (λ k. n (contains_later y vars x k)),
+)
 
 not-listed : (vars : List Var) (x : Var) → listed vars x ≡ false → Contains vars x → ⊥
 not-listed [] x e k = contains_none x k
@@ -109,7 +112,7 @@ pub numbering : (ts : List FlatTerm) → IsNumbering ts (with_all_variables (fpa
 numbering ts = record {
   exact = λ x. (
     λ h. elim ((contains-all (fpack ts) [] x).0 h) [ inl n ↦ absurd (contains_none x n) | inr o ↦ o ],
-    λ o. (contains-all (fpack ts) [] x).1 (inr o)
+    λ o. (contains-all (fpack ts) [] x).1 (inr o),
   );
   distinct = in-pairs (with_all_variables (fpack ts) []) (with_all-distinct (fpack ts) [] tt);
 }

@@ -9,11 +9,11 @@ use Rattle.fvn_lex.specs.Bytes.{is_backquote}
 use Rattle.fvn_lex.specs.Parts.{is_quoted_after}
 use Rattle.fvn_lex.specs.Join.{needs_space, Laid, space, join_after, join}
 use Rattle.fvn_syntax.specs.Pieces.{Text, word, special, left_paren, right_paren, left_bracket, right_bracket, left_brace, right_brace, comma}
-use Rattle.fvn_syntax.specs.Raw.{RawTerm, RawTerms, name, call, round, kind_variable, last, and, spell, spell_all, spell_others}
+use Rattle.fvn_syntax.specs.Raw.{RawTerm, name, call, round, kind_variable, spell, spell_all, spell_others}
 use Rattle.fvn_problems.specs.Spelling.{RawPair, goes_to}
 use Rattle.fvn_answer.specs.Writing.{close, text_of, arguments, over}
 use Rattle.fvn_answer.specs.Lines.{after_space, arrow, laid_pair, laid_further, laid_pairs, laid_bindings}
-use Rattle.fvn_answer.specs.inner.Bytes.{beside, with_each, over_texts, pair_text, between, with_pairs}
+use Rattle.fvn_answer.specs.inner.Bytes.{beside, with_each, over_texts, pair_text, with_pairs}
 
 -- Pieces with a last one, and then further ones.
 
@@ -357,9 +357,9 @@ further-text ls l f needs (b ∷ bs) fs =
     ∙ ap (λ ms. join (with_last ms (close right_brace))) (regrouped (with_last ls l) (close comma) (pair_front true b) (pair_last b) (laid_further bs))
     ∙ further-text front (pair_last b) (spaced-ended b.right fs.0) (spaced-needs b.right) bs fs.1
     ∙ ap (λ text. beside (with_further text (map texts_of bs)) 125)
-      (ap join (regrouped-two (with_last ls l) (close comma) (pair_front true b) (pair_last b))
-      ∙ ap (λ ms. join (with_last (with_last ls l) (close comma) ++ ms)) (sym (spaced-pair-split b))
-      ∙ comma-pair ls l f (needs 44) b)
+    (ap join (regrouped-two (with_last ls l) (close comma) (pair_front true b) (pair_last b))
+    ∙ ap (λ ms. join (with_last (with_last ls l) (close comma) ++ ms)) (sym (spaced-pair-split b))
+    ∙ comma-pair ls l f (needs 44) b)
 
 special-list-behind : (ls : List Laid) (l m : Laid) (ms : List Laid) → l.piece.class ≡ Special → m.spaced ≡ false →
     join (with_last ls l ++ m ∷ ms) ≡ join (with_last ls l) ++ join (m ∷ ms)

@@ -1,8 +1,6 @@
 -- The least text over the orders of the variables.
-use Rattle.std.proofs.Common.{◌≡◌, ◌≢◌, ℕ, zero, suc, ◌+◌, ◌<◌, ◌≤◌, Bool, true, false, ◌⊎◌, inl, inr, List, [], ◌∷◌, length, get_or, refl, sym, ap, ◌∙◌, subst, arith}
-use Rattle.std.specs.Prelude.{◌↔◌, Contains, AllPairs, if◌then◌else◌}
+use Rattle.std.proofs.Common.{◌≡◌, ℕ, ◌+◌, ◌<◌, ◌≤◌, Bool, true, false, ◌⊎◌, inl, inr, List, [], ◌∷◌, length, get_or, refl, sym, ap, ◌∙◌, subst, arith}
 use Rattle.std.specs.List.{SwappedAt, swap}
-use Rattle.std.specs.declared.cmp.Ordering.{Ordering}
 use Rattle.std.specs.declared.cmp.Ordering.TheVariants.{Less, Equal, Greater}
 use Rattle.std.specs.Ordering.{is_lt, ordering_then, nat_cmp}
 use Rattle.std.specs.Cmp.Lexicographic.{slice_cmp}
@@ -162,9 +160,9 @@ module _ (d : Declarations) (texts : List Text) (names : Names) (it : Shown) whe
         alike = λ i x l. elim (cases_lt i k) [
           | inl below ↦ t.begins.alike i x below
           | inr high ↦
-            let at : i ≡ k = omega arith in
-            let place : t.place ≡ k = let p = t.from in let q = t.upto in omega arith in
-            subst (λ j. get_or o j x ≡ get_or order j x) (sym at) (subst (λ j. get_or o k x ≡ get_or order j x) place (t.next x))
+              let at : i ≡ k = omega arith in
+              let place : t.place ≡ k = let p = t.from in let q = t.upto in omega arith in
+              subst (λ j. get_or o j x ≡ get_or order j x) (sym at) (subst (λ j. get_or o k x ≡ get_or order j x) place (t.next x))
         ];
       }
 
@@ -187,16 +185,16 @@ module _ (d : Declarations) (texts : List Text) (names : Names) (it : Shown) whe
     apart o t = elim (cases_lt t.place i) [
       | inl below ↦ inl (record { begins = t.begins; place = t.place; from = t.from; upto = below; next = t.next })
       | inr high ↦
-        let place : t.place ≡ i = let q = t.upto in omega arith in
-        inr (record {
-          numbering = t.begins.numbering;
-          alike = λ j x l. elim (cases_lt j k) [
-            | inl below ↦ t.begins.alike j x below ∙ sym (same j x below)
-            | inr high ↦
-              let at : j ≡ k = omega arith in
-              subst (λ m. get_or o m x ≡ get_or ys m x) (sym at) (subst (λ m. get_or o k x ≡ get_or order m x) place (t.next x) ∙ sym (here x))
-          ];
-        })
+          let place : t.place ≡ i = let q = t.upto in omega arith in
+          inr (record {
+            numbering = t.begins.numbering;
+            alike = λ j x l. elim (cases_lt j k) [
+              | inl below ↦ t.begins.alike j x below ∙ sym (same j x below)
+              | inr high ↦
+                  let at : j ≡ k = omega arith in
+                  subst (λ m. get_or o m x ≡ get_or ys m x) (sym at) (subst (λ m. get_or o k x ≡ get_or order m x) place (t.next x) ∙ sym (here x))
+            ];
+          })
     ]
 
     pub more-tried : (best other : Text) → Least (Tries order k i) best → Least (Begins ys (k + 1)) other → Least (Tries order k (i + 1)) (lesser best other)

@@ -1,6 +1,6 @@
 -- Forms that are flat and well-kinded in a signature can be printed.
-use Rattle.std.proofs.Common.{◌≡◌, ℕ, ◌<◌, ◌≤◌, ◌⊎◌, inl, inr, true, false, List, [], ◌∷◌, length, get_or, refl, sym, ap, ◌∙◌, subst, arith}
-use Rattle.std.specs.Prelude.{Contains, All}
+use Rattle.std.proofs.Common.{◌≡◌, ◌<◌, inl, inr, true, false, List, [], ◌∷◌, length, get_or, subst}
+use Rattle.std.specs.Prelude.{Contains}
 use Rattle.std.proofs.lemmas.Bool.{cases_lt}
 use Rattle.std.proofs.lemmas.List.{get_or_past}
 use Rattle.std.proofs.lemmas.List.Elements.{Contains-get_or}
@@ -11,15 +11,14 @@ use Rattle.fvn_terms.specs.declared.plain.SortId.{SortId}
 use Rattle.fvn_terms.specs.declared.declarations.Rank.{Rank}
 use Rattle.fvn_terms.specs.declared.declarations.OpDecl.{OpDecl}
 use Rattle.fvn_terms.specs.declared.declarations.Declarations.{Declarations}
-use Rattle.fvn_terms.specs.Signature.{declared, unknown, axioms, HasKind, HaveKinds, IsTerm, IsSort}
-use Rattle.fvn_terms.specs.Equality.{IsAssociative, two}
-use Rattle.fvn_terms.specs.Term.{Term, Terms, var, app, none, more}
+use Rattle.fvn_terms.specs.Signature.{declared, unknown, axioms, HaveKinds, IsTerm}
+use Rattle.fvn_terms.specs.Equality.{IsAssociative}
+use Rattle.fvn_terms.specs.Term.{Term, none, more}
 use Rattle.fvn_forms.specs.Flat.{FlatTerm, FlatTerms, fvar, fapp, fnone, fmore, nest, plain, plain_all}
 use Rattle.fvn_forms.specs.Settled.{Settled, SettledAll}
 use Rattle.fvn_flat.specs.Fits.{Fits}
 use Rattle.fvn_flat.specs.Bindings.{Bindings, value, BindingsFit}
 use Rattle.fvn_syntax.specs.Pieces.{Text}
-use Rattle.fvn_problems.specs.Variables.{IsNamed}
 use Rattle.fvn_answer.specs.Readable.{AreAsked}
 use Rattle.fvn_answer.specs.inner.Bytes.{IsPrintable, ArePrintable}
 use Rattle.fvn_answer.specs.inner.Shown.{HavePrintable}

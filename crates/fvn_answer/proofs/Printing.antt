@@ -1,13 +1,13 @@
 -- The texts of written terms, byte by byte.
-use Rattle.std.proofs.Common.{◌≡◌, ◌≢◌, inl, inr, ℕ, zero, suc, ◌<◌, ◌≤◌, Bool, true, false, List, [], ◌∷◌, ◌++◌, length, get_or, refl, sym, ap, ◌∙◌, subst, append_assoc, map, arith, Some, None}
-use Rattle.std.specs.Prelude.{codes, slice_get, slice_index_or, nat_lt, if◌then◌else◌, find, unwrap_or, not}
+use Rattle.std.proofs.Common.{◌≡◌, ◌≢◌, inl, inr, ℕ, zero, suc, ◌<◌, ◌≤◌, Bool, true, false, List, [], ◌∷◌, ◌++◌, length, get_or, refl, sym, ap, ◌∙◌, subst, append_assoc, map, arith, Some}
+use Rattle.std.specs.Prelude.{slice_get, slice_index_or, nat_lt}
 use Rattle.std.specs.List.{All, AllByRecursion}
 use Rattle.std.proofs.lemmas.List.Elements.{All-head, All-tail}
-use Rattle.std.proofs.lemmas.List.{append-nil, map-append}
+use Rattle.std.proofs.lemmas.List.{append-nil}
 use Rattle.std.proofs.lemmas.Bool.{lt-ltb, ltb-true}
 use Rattle.fvn_lex.proofs.JoinLemmas.{piece-form}
 use Rattle.fvn_lex.specs.Parts.{is_quoted_after}
-use Rattle.fvn_lex.specs.Join.{needs_space, Laid, space, join_after, join}
+use Rattle.fvn_lex.specs.Join.{needs_space, space, join_after, join}
 use Rattle.fvn_terms.specs.declared.plain.Var.{Var}
 use Rattle.fvn_terms.specs.declared.plain.OpId.{OpId}
 use Rattle.fvn_terms.specs.declared.plain.SortId.{SortId}
@@ -19,7 +19,7 @@ use Rattle.fvn_forms.proofs.Sums.{fpack-funpack}
 use Rattle.fvn_flat.specs.Forms.{head_of, args_of}
 use Rattle.fvn_syntax.specs.declared.names.Names.{Names}
 use Rattle.fvn_syntax.specs.Pieces.{Text, word}
-use Rattle.fvn_syntax.specs.Raw.{RawTerm, name, call, kind_variable}
+use Rattle.fvn_syntax.specs.Raw.{RawTerm}
 use Rattle.fvn_answer.specs.Numberings.{new_name}
 use Rattle.fvn_answer.specs.Readable.{AreReadable, IsWord}
 use Rattle.fvn_answer.specs.Writing.{text_of, is_after, put, in_byte_order, may_exchange, arranged, over, top, sort_text, op_text, sorted, written, written_all}

@@ -1,11 +1,11 @@
 -- Texts in byte order: what a sort gives.
-use Rattle.std.proofs.Common.{◌≡◌, ◌≢◌, suc, ◌+◌, ◌≤◌, ℕ, Bool, true, false, List, [], ◌∷◌, ◌++◌, length, refl, sym, ap, ◌∙◌, arith}
+use Rattle.std.proofs.Common.{◌≡◌, ◌≢◌, suc, ◌+◌, ◌≤◌, ℕ, Bool, true, false, List, [], ◌∷◌, refl, sym, ap, ◌∙◌, arith}
 use native.Mathlib.Numerals.{unary_clauses}
 use Rattle.std.specs.Prelude.{if◌then◌else◌, map, sum_by}
 use Rattle.std.specs.declared.cmp.Ordering.{Ordering}
 use Rattle.std.specs.declared.cmp.Ordering.TheVariants.{Less, Equal, Greater}
 use Rattle.std.specs.Ordering.{ordering_reverse, is_gt, is_lt, is_eq, nat_cmp}
-use Rattle.std.specs.Cmp.Lexicographic.{slice_cmp, pointwise, bytes_decides, texts_ties, nat_list_cmp_total}
+use Rattle.std.specs.Cmp.Lexicographic.{slice_cmp, bytes_decides, texts_ties, nat_list_cmp_total}
 use Rattle.std.specs.List.Sorted.{IsPermutation, IsSorted}
 use Rattle.std.proofs.lemmas.Cmp.{upto}
 use Rattle.std.proofs.lemmas.List.Sums.{sum_by-cons}
@@ -144,9 +144,10 @@ module _ {V : Type 0} (f : V → Text) where
   pub in_order : (l : List V) → IsSorted (λ v w. text_cmp (f v) (f w)) l → InOrder (map f l)
   in_order [] h = tt
   in_order (t ∷ []) h = tt
-  in_order (t ∷ u ∷ l) h =
-      (sym (reversed (text_cmp (f t) (f u))) ∙ ap is_lt (sym (nat_list_cmp_total.antisymm (f u) (f t))) ∙ h 0 t (omega arith) (omega arith),
-      in_order (u ∷ l) (λ k d low high. simp unary_clauses (simp unary_clauses at (h (suc k) d (omega arith) (omega arith)))))
+  in_order (t ∷ u ∷ l) h = (
+    sym (reversed (text_cmp (f t) (f u))) ∙ ap is_lt (sym (nat_list_cmp_total.antisymm (f u) (f t))) ∙ h 0 t (omega arith) (omega arith),
+    in_order (u ∷ l) (λ k d low high. simp unary_clauses (simp unary_clauses at (h (suc k) d (omega arith) (omega arith)))),
+  )
 
   pub sorted_is : (l m : List V) → IsPermutation l m → IsSorted (λ v w. text_cmp (f v) (f w)) m → map f m ≡ sorted_texts (map f l)
   sorted_is l m p s = sym (sorted_in_order (map f m) (in_order m s)) ∙ sym (same_counts (map f l) (map f m) (permutation_counts l m p))

@@ -1,6 +1,6 @@
 -- A kind has a first maximal sort.
-use Rattle.std.proofs.Common.{◌≡◌, ℕ, ◌<◌, ◌≤◌, List, [], ◌∷◌, length, refl, sym, ap, subst, arith, lit<, Some}
-use Rattle.std.specs.Prelude.{◌↔◌, Contains, slice_get, slice_index_or}
+use Rattle.std.proofs.Common.{◌≡◌, ◌<◌, length, sym, ap, subst, arith, Some}
+use Rattle.std.specs.Prelude.{slice_get}
 use Rattle.fvn_terms.specs.declared.plain.SortId.{SortId}
 use Rattle.fvn_terms.specs.declared.declarations.Declarations.{Declarations}
 use Rattle.fvn_terms.specs.Signature.{kind, AtOrBelow, to_kind, same}
@@ -18,7 +18,7 @@ module _ (d : Declarations) (good : IsGood d) (done : IsCompleted d) (cover : Di
       let of_kind : kind d s ≡ k = (done.sort_of_kind k is).1.1 in
       let high = is.after_sorts in
       let below : IsBelow d s k =
-          (to_kind (subst (λ q. AtOrBelow d q k) (sym of_kind) same), λ e. let n = ap (λ (q : SortId). q.0) e in absurd (omega arith)) in
+      (to_kind (subst (λ q. AtOrBelow d q k) (sym of_kind) same), λ e. let n = ap (λ (q : SortId). q.0) e in absurd (omega arith)) in
       let found = (cover d good k s low).0 below in
       let place = found.1.0 in
       let within : place.0 < length (direct_subsorts d k) = place.1 in

@@ -1,11 +1,10 @@
 -- The texts of values of variables.
-use Rattle.std.proofs.Common.{◌≡◌, true, ◌<◌, ◌≤◌, ℕ, drop, Some, List, [], ◌∷◌, ◌++◌, length, refl, sym, ap, ◌∙◌, append_assoc, map}
-use Rattle.std.specs.Prelude.{codes, All, slice_get}
+use Rattle.std.proofs.Common.{◌≡◌, true, ◌≤◌, ℕ, drop, Some, List, [], ◌∷◌, ◌++◌, length, refl, sym, ap, ◌∙◌, append_assoc, map}
+use Rattle.std.specs.Prelude.{codes, slice_get}
 use Rattle.std.specs.List.{AllByRecursion}
 use Rattle.std.proofs.lemmas.List.{drop_all}
 use Rattle.std.proofs.lemmas.List.Elements.{All-head, All-tail}
 use Rattle.fvn_terms.specs.declared.plain.Var.{Var}
-use Rattle.fvn_terms.specs.declared.plain.OpId.{OpId}
 use Rattle.fvn_terms.specs.declared.declarations.Declarations.{Declarations}
 use Rattle.fvn_forms.specs.Flat.{FlatTerm}
 use Rattle.fvn_flat.specs.Bindings.{Bindings, value}
@@ -23,9 +22,10 @@ use Rattle.fvn_answer.proofs.Printing.{got, written-ended, operator-filled}
 module _ (d : Declarations) (names : Names) (readable : AreReadable d names) (texts : List Text) (order : List Var) (s : Bindings) where
   each-ended : (vars : List Var) → HavePrintable d texts s vars → AllByRecursion IsEndedPair (map (written_pair d names texts order) (values_of s vars))
   each-ended [] h = tt
-  each-ended (x ∷ vars) h =
-      (written-ended d names (operator-filled d names readable) order (value s x) (All-head (λ y. IsNamed d texts y × IsPrintable d (value s y)) x vars h).1,
-      each-ended vars (All-tail (λ y. IsNamed d texts y × IsPrintable d (value s y)) x vars h))
+  each-ended (x ∷ vars) h = (
+    written-ended d names (operator-filled d names readable) order (value s x) (All-head (λ y. IsNamed d texts y × IsPrintable d (value s y)) x vars h).1,
+    each-ended vars (All-tail (λ y. IsNamed d texts y × IsPrintable d (value s y)) x vars h),
+  )
 
   each-text : (vars : List Var) → map texts_of (map (written_pair d names texts order) (values_of s vars)) ≡ map (value_texts d texts names order s) vars
   each-text [] = refl

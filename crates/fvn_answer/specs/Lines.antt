@@ -1,5 +1,5 @@
 -- Lines: the values of a problem's variables, for a variant with a term before them.
-use Rattle.std.specs.Prelude.{ℕ, ◌≡◌, ◌≤◌, false, true, List, [], ◌∷◌, ◌++◌, map, length, slice_index_or}
+use Rattle.std.specs.Prelude.{◌≡◌, ◌≤◌, true, List, [], ◌∷◌, ◌++◌, map, length, slice_index_or}
 use Rattle.fvn_base.specs.Order.{IsBefore}
 use Rattle.fvn_lex.specs.Join.{Laid, join}
 use Rattle.fvn_terms.specs.declared.plain.Var.{Var}

@@ -121,15 +121,36 @@ fn least_text(
         (BeginsAs signature.now var_names.now.texts names.now (shown printed.now) order.old.items k) line.items) }
 {
     if k == order.len() {
-        let line = text(alloc, signature, names, var_names, order.as_slice(), printed)?;
+        let line = text(
+            alloc,
+            signature,
+            names,
+            var_names,
+            order.as_slice(),
+            printed,
+        )?;
         return Ok(line);
     }
-    let mut best =
-        least_text(alloc, signature, names, var_names, printed, &mut *order, k + 1)?;
+    let mut best = least_text(
+        alloc,
+        signature,
+        names,
+        var_names,
+        printed,
+        &mut *order,
+        k + 1,
+    )?;
     for i in k + 1..order.len() {
         order.swap(k, i);
-        let other =
-            least_text(alloc, signature, names, var_names, printed, &mut *order, k + 1)?;
+        let other = least_text(
+            alloc,
+            signature,
+            names,
+            var_names,
+            printed,
+            &mut *order,
+            k + 1,
+        )?;
         order.swap(k, i);
         best = lesser(best, other);
     }
@@ -150,7 +171,14 @@ pub(crate) fn numbered_text(
 {
     let mut order = variables(alloc, printed)?;
     if FEW_VARIABLES < order.len() {
-        let line = text(alloc, signature, names, var_names, order.as_slice(), printed)?;
+        let line = text(
+            alloc,
+            signature,
+            names,
+            var_names,
+            order.as_slice(),
+            printed,
+        )?;
         return Ok(line);
     }
     let line = least_text(alloc, signature, names, var_names, printed, &mut order, 0)?;

@@ -51,7 +51,7 @@ fn push_value(
         text.old.items ++ text_of (written signature.now names.now order.now (value subst.now x))) }
 {
     match subst.get(x) {
-        None => push_new(signature, names, order, text, alloc, x),
+        None => push_new(alloc, signature, names, order, text, x),
         Some(t) => {
             let whole = term_text(alloc, signature, names, order, t)?;
             text.extend_from_slice(whole.as_slice())?;
@@ -103,7 +103,9 @@ fn values_text(
     let mut first = true;
     for x in vars {
         push_between(&mut line, first)?;
-        push_pair(alloc, signature, names, var_names, order, &mut line, subst, *x)?;
+        push_pair(
+            alloc, signature, names, var_names, order, &mut line, subst, *x,
+        )?;
         first = false;
     }
     push_special(&mut line, b'}')?;

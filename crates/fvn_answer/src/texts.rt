@@ -92,11 +92,11 @@ fn number(order: &[Var], x: Var) -> usize
 
 /// The text goes on with a new variable.
 pub(crate) fn push_new(
+    alloc: Global,
     signature: &Signature,
     names: &Names,
     order: &[Var],
     text: &mut Vec<u8>,
-    alloc: Global,
     x: Var,
 ) -> Result<(), NoMemory>
     requires names { AreReadable signature.now names.now }
@@ -177,7 +177,7 @@ pub(crate) fn term_text(
     match t.as_var() {
         Some(x) => {
             let mut text = Vec::new(alloc);
-            push_new(signature, names, order, &mut text, alloc, x)?;
+            push_new(alloc, signature, names, order, &mut text, x)?;
             Ok(text)
         }
         None => {

@@ -56,9 +56,9 @@ abbrev pub with_pairs : (first : Bool) → Text → List (Text × Text) → Text
 with_pairs first text [] = text
 with_pairs first text (p ∷ ps) = with_pairs false (between first text ++ pair_text p) ps
 
--- each operator of the form is declared, and each of its variables has a sort of the signature
 module _ (d : Declarations) where
   abbrev mutual
+    -- each operator of the form is declared, and each of its variables has a sort of the signature
     pub IsPrintable : FlatTerm → Type 0
     IsPrintable (fvar x) = IsSort d x.sort
     IsPrintable (fapp f joined ts) = (f.0 < length d.ops) × ArePrintable ts

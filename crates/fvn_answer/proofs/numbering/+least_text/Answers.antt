@@ -1,5 +1,5 @@
 -- The least text of all orders that begin alike.
-use Rattle.std.proofs.Common.{◌≡◌, ◌<◌, ◌≤◌, ◌+◌, length, refl, sym, ap, ◌∙◌, subst, arith}
+use Rattle.std.proofs.Common.{◌≡◌, ◌<◌, ◌≤◌, length, refl, ap, ◌∙◌, subst, arith}
 use Rattle.std.specs.List.{SwappedAt, swap}
 use Rattle.fvn_answer.specs.Lines.{forms_in}
 use Rattle.fvn_answer.specs.inner.Shown.{shown}
@@ -14,9 +14,12 @@ returns-then-k-len-clause-least t c =
 
 pub loop-i-init : goal.loop-i-init
 loop-i-init t c =
-    let below : c.args.k < length c.args.order.now.items = omega (arith, c.if-k-len.false, c.len.ensures, c.args.order.now.ok.0, c.requires.within) in
-    (c.in_ok-best.ensures.kept, omega arith, omega arith,
-    first-tried c.args.signature.now c.args.var_names.now.texts c.args.names.now (shown c.args.printed.now) c.args.order.now.items c.args.k c.in_ok-best.best.items c.in_ok-best.ensures.least)
+    let below : c.args.k < length c.args.order.now.items = omega (arith, c.if-k-len.false, c.len.ensures, c.args.order.now.ok.0, c.requires.within) in (
+      c.in_ok-best.ensures.kept,
+      omega arith,
+      omega arith,
+      first-tried c.args.signature.now c.args.var_names.now.texts c.args.names.now (shown c.args.printed.now) c.args.order.now.items c.args.k c.in_ok-best.best.items c.in_ok-best.ensures.least,
+    )
 
 pub least_text-requires-in-loop-i : goal.least_text-requires-in-loop-i
 least_text-requires-in-loop-i t c =
@@ -27,9 +30,10 @@ least_text-requires-in-loop-i t c =
     let high : c.loop-i.i < length order = omega (arith, c.loop-i-test.true, c.len-i-end.ensures, c.least_text.new.order.ok.0, long) in
     let low : c.args.k < length order = omega arith in
     let swapped : c.swap.new.self.items ≡ swap order c.args.k c.loop-i.i = subst (λ o. c.swap.new.self.items ≡ swap o c.args.k c.loop-i.i) kept c.swap.ensures.items in
-    let same = exchanged-length order c.swap.new.self.items c.args.k c.loop-i.i low high swapped in
-    (omega (arith, same),
-    (c.requires.names, (c.requires.printed, (exchanged-numbering (forms_in (shown c.args.printed.now)) order c.swap.new.self.items c.args.k c.loop-i.i low high swapped c.requires.numbering, omega (arith, same)))))
+    let same = exchanged-length order c.swap.new.self.items c.args.k c.loop-i.i low high swapped in (
+      omega (arith, same),
+      (c.requires.names, (c.requires.printed, (exchanged-numbering (forms_in (shown c.args.printed.now)) order c.swap.new.self.items c.args.k c.loop-i.i low high swapped c.requires.numbering, omega (arith, same)))),
+    )
 
 pub loop-i-preserved : goal.loop-i-preserved
 loop-i-preserved t c =
@@ -46,11 +50,14 @@ loop-i-preserved t c =
     let there : SwappedAt order ys c.args.k c.loop-i.i = subst (λ o. SwappedAt o ys c.args.k c.loop-i.i) kept c.swap.ensures.by_index in
     let back : SwappedAt ys zs c.args.k c.loop-i.i = subst (λ o. SwappedAt o zs c.args.k c.loop-i.i) c.in_ok-other.ensures.kept c.swap-in-loop-i.ensures.by_index in
     let again : zs ≡ swap ys c.args.k c.loop-i.i = subst (λ o. zs ≡ swap o c.args.k c.loop-i.i) c.in_ok-other.ensures.kept c.swap-in-loop-i.ensures.items in
-    let still = exchanged-length ys zs c.args.k c.loop-i.i (omega (arith, same)) (omega (arith, same)) again in
-    (swapped-back order ys zs c.args.k c.loop-i.i (still ∙ same) there back, omega arith, omega arith,
-    rw c.lesser-best.ensures
-    (more-tried c.args.signature.now c.args.var_names.now.texts c.args.names.now (shown c.args.printed.now) order ys c.args.k c.loop-i.i (omega arith)
-      (exchanged-front order ys c.args.k c.loop-i.i up there) (λ x. there.0 x) c.loop-i.best.items c.in_ok-other.other.items c.loop-i.invariant.3 c.in_ok-other.ensures.least))
+    let still = exchanged-length ys zs c.args.k c.loop-i.i (omega (arith, same)) (omega (arith, same)) again in (
+      swapped-back order ys zs c.args.k c.loop-i.i (still ∙ same) there back,
+      omega arith,
+      omega arith,
+      rw c.lesser-best.ensures
+          (more-tried c.args.signature.now c.args.var_names.now.texts c.args.names.now (shown c.args.printed.now) order ys c.args.k c.loop-i.i (omega arith)
+          (exchanged-front order ys c.args.k c.loop-i.i up there) (λ x. there.0 x) c.loop-i.best.items c.in_ok-other.other.items c.loop-i.invariant.3 c.in_ok-other.ensures.least),
+    )
 
 pub returns-clause-least : goal.returns-clause-least
 returns-clause-least t c =

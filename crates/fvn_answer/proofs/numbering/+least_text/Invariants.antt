@@ -12,4 +12,4 @@ invariant-loop-i l =
     × (l.k < l.i)
     × (l.i ≤ length l.fn.order.items)
     × IsLeastAmong l.signature l.var_names.texts l.names (shown l.printed)
-        (Tried l.signature l.var_names.texts l.names (shown l.printed) l.fn.order.items l.k l.i) l.best.items
+    (Tried l.signature l.var_names.texts l.names (shown l.printed) l.fn.order.items l.k l.i) l.best.items
