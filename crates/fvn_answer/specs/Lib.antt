@@ -1,5 +1,7 @@
 -- The words of lines and answer texts.
 pub mod Answers
+pub mod Denoting
+pub mod Laws
 pub mod Lines
 pub mod Numberings
 pub mod Readable
