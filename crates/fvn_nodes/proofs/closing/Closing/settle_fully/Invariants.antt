@@ -1,0 +1,14 @@
+-- What is joined is so in every partition; each round lowers some names.
+use Rattle.std.proofs.Common.{sum}
+use Rattle.fvn_nodes.specs.Classes.{IsNodePartition}
+use Rattle.fvn_nodes.specs.inner.Closing.{state_of, HasSameNodes, IsForced}
+use Rattle.fvn_nodes.proofs.closing.Closing.settle_fully.Given as goal
+
+abbrev pub invariant-rounds : goal.invariant-rounds
+invariant-rounds l = record {
+  nodes : HasSameNodes (state_of l.fn.self) (state_of l.self);
+  forced : IsForced (IsNodePartition l.sig l.table) (state_of l.fn.self) (state_of l.self);
+}
+
+abbrev pub decreases-rounds : goal.decreases-rounds
+decreases-rounds l = sum l.self.names.items

@@ -1,0 +1,9 @@
+-- The words of tables of nodes, of their classes, and of what is decided of them.
+pub mod Table
+pub mod Classes
+pub mod States
+pub mod Questions
+pub mod Trees
+pub mod Unifiers
+pub mod Laws
+pub mod inner

@@ -1,0 +1,27 @@
+-- What is settled in a round of looks at all pairs of nodes.
+use Rattle.std.specs.Prelude.{ℕ, ◌<◌, Bool, true, false, List, length}
+use Rattle.fvn_terms.specs.declared.plain.OpId.{OpId}
+use Rattle.fvn_terms.specs.declared.declarations.Declarations.{Declarations}
+use Rattle.fvn_nodes.specs.Table.{NodeTable, IsOver}
+use Rattle.fvn_nodes.specs.Classes.{FitTogether, IsNodePartition}
+use Rattle.fvn_nodes.specs.States.{class_of, IsOpen, IsImpossible}
+use Rattle.fvn_nodes.specs.inner.Closing.{HasSameNodes, IsForced}
+use Rattle.fvn_nodes.specs.declared.state.State.{State}
+
+module _ (d : Declarations) (t : NodeTable) where
+  -- nodes i and j are as they are asked to be
+  abbrev pub AreSettled : (i j : ℕ) → State → Type 0
+  AreSettled i j s = (f g : OpId) (ks ls : List ℕ) → IsOver t.nodes i f ks → IsOver t.nodes j g ls → FitTogether d (IsOpen s) (class_of s) i j f g ks ls
+
+  -- node i and each of the first m nodes are
+  abbrev pub IsRowSettled : (i m : ℕ) → State → Type 0
+  IsRowSettled i m s = (j : ℕ) → j < m → AreSettled i j s
+
+  -- all are
+  abbrev pub IsAllSettled : State → Type 0
+  IsAllSettled s = (i : ℕ) → i < length t.nodes → IsRowSettled i i s
+
+  -- all is settled, and nothing is joined but what every partition has in one class; or there is no partition
+  abbrev pub IsSettledFrom : (before after : State) → Bool → Type 0
+  IsSettledFrom before after true = HasSameNodes before after × IsForced (IsNodePartition d t) before after × IsAllSettled after
+  IsSettledFrom before after false = IsImpossible d t before

@@ -1,0 +1,19 @@
+//! The nodes of a problem in a table, their classes, and what is decided of them, question by question.
+#![tactic(auto)]
+
+mod asking;
+mod building;
+mod closing;
+mod laws;
+mod state;
+mod swaps;
+mod table;
+mod tree;
+
+pub use asking::{Answers, ask, start};
+pub use building::table_of;
+pub use laws::{node_partitions_are_partitions, unifiers_partition};
+pub use state::State;
+pub use swaps::undecided;
+pub use table::{Node, Table};
+pub use tree::Tree;
