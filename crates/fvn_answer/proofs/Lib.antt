@@ -1,10 +1,19 @@
 -- Lemmas on lines and answer texts.
 mod Answering
+mod Arranged
 mod Collecting
 mod Joining
 mod Least
+mod Naming
+mod NewNames
+mod Pieces
 mod Printable
 mod Printing
+mod ReadBack
+mod Sums
 mod TextOrder
+mod TextPlaces
+mod Tokens
 mod Tops
 mod ValueTexts
+mod Variables

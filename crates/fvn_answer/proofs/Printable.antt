@@ -19,7 +19,7 @@ use Rattle.fvn_forms.specs.Settled.{Settled, SettledAll}
 use Rattle.fvn_flat.specs.Fits.{Fits}
 use Rattle.fvn_flat.specs.Bindings.{Bindings, value, BindingsFit}
 use Rattle.fvn_syntax.specs.Pieces.{Text}
-use Rattle.fvn_answer.specs.Readable.{AreAsked}
+use Rattle.fvn_answer.specs.Asked.{AreAsked}
 use Rattle.fvn_answer.specs.inner.Bytes.{IsPrintable, ArePrintable}
 use Rattle.fvn_answer.specs.inner.Shown.{HavePrintable}
 

@@ -21,7 +21,8 @@ use Rattle.fvn_syntax.specs.declared.names.Names.{Names}
 use Rattle.fvn_syntax.specs.Pieces.{Text, word}
 use Rattle.fvn_syntax.specs.Raw.{RawTerm}
 use Rattle.fvn_answer.specs.Numberings.{new_name}
-use Rattle.fvn_answer.specs.Readable.{AreReadable, IsWord}
+use Rattle.fvn_module.specs.Readable.{IsWord}
+use Rattle.fvn_answer.specs.inner.Readable.{AreReadable}
 use Rattle.fvn_answer.specs.Writing.{text_of, is_after, put, in_byte_order, may_exchange, arranged, over, top, sort_text, op_text, sorted, written, written_all}
 use Rattle.fvn_answer.specs.inner.Bytes.{beside, over_texts, put_text, sorted_texts, arranged_texts, IsPrintable, ArePrintable}
 use Rattle.fvn_answer.proofs.Joining.{over-text, quoted-append, quoted-behind, IsFilled, filled, IsEnded}

@@ -11,7 +11,7 @@ use Rattle.fvn_flat.specs.Bindings.{Bindings, value}
 use Rattle.fvn_syntax.specs.declared.names.Names.{Names}
 use Rattle.fvn_syntax.specs.Pieces.{Text}
 use Rattle.fvn_problems.specs.Variables.{IsNamed}
-use Rattle.fvn_answer.specs.Readable.{AreReadable}
+use Rattle.fvn_answer.specs.inner.Readable.{AreReadable}
 use Rattle.fvn_answer.specs.Lines.{values, variant, values_of, asked_name, written_pair, text}
 use Rattle.fvn_answer.specs.Writing.{text_of, sorted, written}
 use Rattle.fvn_answer.specs.inner.Bytes.{beside, pair_text, with_pairs, IsPrintable}

@@ -29,6 +29,11 @@ without_variables names = record names { variables = record { texts = []; sorts 
 abbrev pub as_new : List Text → Renaming
 as_new texts x = record { name = x.name; sort = x.sort; fresh = is_reserved (slice_index_or texts x.name []) }
 
+-- one to one, each variable to a new one of its sort
+pub record IsFreshRenaming (Among : Var → Type 0) (r : Renaming) : Type 0 where
+  pub renames : IsRenaming Among r
+  pub new : (x : Var) → Among x → (r x).fresh ≡ true
+
 module _ (d : Declarations) (names : Names) (texts : List Text) (vars : List Var) where
   -- what lines are read in
   abbrev pub reading : Scope
@@ -71,11 +76,6 @@ module _ (d : Declarations) (names : Names) (texts : List Text) (vars : List Var
   -- x occurs in the value of one of the variables, or in the term
   abbrev pub OccursInVariant : Term → Substitution → Var → Type 0
   OccursInVariant t s x = Occurs x t ⊎ OccursInValues vars s x
-
-  -- one to one, each variable to a new one of its sort
-  pub record IsFreshRenaming (Among : Var → Type 0) (r : Renaming) : Type 0 where
-    pub renames : IsRenaming Among r
-    pub new : (x : Var) → Among x → (r x).fresh ≡ true
 
   -- What the line denotes is the substitution, modulo the axioms and up to new names.
   pub record Reads (line : Text) (s : Substitution) : Type 0 where

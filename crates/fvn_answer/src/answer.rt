@@ -1,7 +1,7 @@
 //! Answer texts.
 ghost use Rattle.std.specs.Prelude.{◌≡◌, ◌<◌, ◌++◌, ◌∷◌, [], length, codes, IfOk, OnOk};
 ghost use Rattle.fvn_flat.specs.Fits.{Fits};
-ghost use Rattle.fvn_answer.specs.Readable.{AreReadable};
+ghost use Rattle.fvn_answer.specs.inner.Readable.{AreReadable};
 ghost use Rattle.fvn_answer.specs.Writing.{op_text};
 ghost use Rattle.fvn_answer.specs.Answers.{numbered, ended, FitsEnd, IsStepsLine, IsEndLine, AreInByteOrder, IsAnswerText};
 ghost use Rattle.fvn_answer.specs.inner.Bytes.{bytes_of};
@@ -10,6 +10,7 @@ use crate::end::End;
 use crate::numbering::numbered_text;
 use crate::printed::Printed;
 use fvn_flat::Flat;
+use fvn_module::Module;
 use fvn_sorts::Signature;
 use fvn_syntax::{Names, Texts, VarNames};
 use fvn_terms::{NoMemory, OpId};
@@ -123,17 +124,16 @@ fn push_lines(text: &mut Vec<u8>, lines: &[Line]) -> Result<(), NoMemory>
 /// The text of an answer: its lines in byte order, each once, and then the line of its end.
 pub fn answer_text(
     alloc: Global,
-    signature: &Signature,
-    names: &Names,
+    declared: &Module,
     lines: Vec<Line>,
     end: &End,
 ) -> Result<Vec<u8>, NoMemory>
-    requires names { AreReadable signature.now names.now }
-    requires end { FitsEnd signature.now end.now }
-    ensures { IfOk result (λ text. IsAnswerText signature.now names.now (bytes_of lines.items) end.now text.items) }
+    requires end { FitsEnd declared.now.signature end.now }
+    ensures { IfOk result (λ text. IsAnswerText declared.now.signature declared.now.names (bytes_of lines.items) end.now text.items) }
 {
+    declared.recall_readable();
     let sorted = in_order(lines)?;
-    let last = end_line(alloc, signature, names, end)?;
+    let last = end_line(alloc, declared.signature(), declared.names(), end)?;
     let mut text = Vec::new(alloc);
     push_lines(&mut text, sorted.as_slice())?;
     push_line(&mut text, last.as_slice())?;

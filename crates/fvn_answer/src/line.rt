@@ -2,14 +2,14 @@
 ghost use Rattle.std.specs.Prelude.{IfOk};
 ghost use Rattle.fvn_flat.specs.Fits.{Fits};
 ghost use Rattle.fvn_flat.specs.Bindings.{BindingsFit};
-ghost use Rattle.fvn_answer.specs.Readable.{AreReadable, AreAsked};
+ghost use Rattle.fvn_answer.specs.Asked.{AreAsked, HaveSorts};
 ghost use Rattle.fvn_answer.specs.Lines.{values, variant, values_of, IsTextOf};
 
 use crate::numbering::numbered_text;
 use crate::printed::Printed;
 use fvn_flat::{Flat, Subst};
-use fvn_sorts::Signature;
-use fvn_syntax::{Names, VarNames};
+use fvn_module::Module;
+use fvn_syntax::VarNames;
 use fvn_terms::{NoMemory, Var};
 use std::alloc::Global;
 
@@ -18,39 +18,51 @@ use std::alloc::Global;
 /// A variable that is not bound stands for itself. All variables of the values are new ones, numbered from 1.
 pub fn line_of(
     alloc: Global,
-    signature: &Signature,
-    names: &Names,
+    declared: &Module,
     var_names: &VarNames,
     subst: &Subst,
     vars: &[Var],
 ) -> Result<Vec<u8>, NoMemory>
-    requires names { AreReadable signature.now names.now }
-    requires vars { AreAsked signature.now var_names.now.texts vars.now }
-    requires fit { BindingsFit signature.now subst.now }
-    ensures { IfOk result (λ line. IsTextOf signature.now names.now var_names.now.texts
+    requires vars { AreAsked declared.now.signature var_names.now.texts vars.now }
+    requires fit { BindingsFit declared.now.signature subst.now }
+    requires sorts { HaveSorts declared.now.signature vars.now subst.now }
+    ensures least { IfOk result (λ line. IsTextOf declared.now.signature declared.now.names var_names.now.texts
         (values (values_of subst.now vars.now)) line.items) }
 {
+    declared.recall_readable();
     let printed = Printed::Values(subst, vars);
-    numbered_text(alloc, signature, names, var_names, &printed)
+    numbered_text(
+        alloc,
+        declared.signature(),
+        declared.names(),
+        var_names,
+        &printed,
+    )
 }
 
 /// The line of a variant: its term, a space, and the line of its substitution under the same numbering.
 pub fn variant_line(
     alloc: Global,
-    signature: &Signature,
-    names: &Names,
+    declared: &Module,
     var_names: &VarNames,
     term: &Flat,
     subst: &Subst,
     vars: &[Var],
 ) -> Result<Vec<u8>, NoMemory>
-    requires names { AreReadable signature.now names.now }
-    requires vars { AreAsked signature.now var_names.now.texts vars.now }
-    requires fit { BindingsFit signature.now subst.now }
-    requires term { Fits signature.now term.now }
-    ensures { IfOk result (λ line. IsTextOf signature.now names.now var_names.now.texts
+    requires vars { AreAsked declared.now.signature var_names.now.texts vars.now }
+    requires fit { BindingsFit declared.now.signature subst.now }
+    requires sorts { HaveSorts declared.now.signature vars.now subst.now }
+    requires term { Fits declared.now.signature term.now }
+    ensures least { IfOk result (λ line. IsTextOf declared.now.signature declared.now.names var_names.now.texts
         (variant term.now (values_of subst.now vars.now)) line.items) }
 {
+    declared.recall_readable();
     let printed = Printed::Variant(term, subst, vars);
-    numbered_text(alloc, signature, names, var_names, &printed)
+    numbered_text(
+        alloc,
+        declared.signature(),
+        declared.names(),
+        var_names,
+        &printed,
+    )
 }

@@ -2,7 +2,7 @@
 ghost use Rattle.std.specs.Prelude.{◌≡◌, ◌≤◌, [], ◌∷◌, IfOk, OnOk, length};
 ghost use Rattle.fvn_flat.specs.Variables.{listed, with_variable, with_variables};
 ghost use Rattle.fvn_answer.specs.Numberings.{IsNumbering};
-ghost use Rattle.fvn_answer.specs.Readable.{AreReadable};
+ghost use Rattle.fvn_answer.specs.inner.Readable.{AreReadable};
 ghost use Rattle.fvn_answer.specs.Lines.{forms_in, IsTextOf};
 ghost use Rattle.fvn_answer.specs.inner.Shown.{shown, lesser, with_values, CanPrint, BeginsAs, IsLeastAmong};
 

@@ -2,7 +2,7 @@
 ghost use Rattle.std.specs.Prelude.{◌≡◌, ◌++◌, IfOk, OnOk};
 ghost use Rattle.fvn_flat.specs.Bindings.{value};
 ghost use Rattle.fvn_problems.specs.Variables.{IsNamed};
-ghost use Rattle.fvn_answer.specs.Readable.{AreReadable};
+ghost use Rattle.fvn_answer.specs.inner.Readable.{AreReadable};
 ghost use Rattle.fvn_answer.specs.Writing.{text_of, written};
 ghost use Rattle.fvn_answer.specs.Lines.{values, values_of, text};
 ghost use Rattle.fvn_answer.specs.inner.Bytes.{between, pair_text, IsPrintable};
