@@ -1,5 +1,5 @@
 -- Forms in the order in which they are printed.
-use Rattle.std.proofs.Common.{◌≡◌, ◌⊎◌, inl, inr, Bool, true, false, List, [], ◌∷◌, length, refl, sym, ap, ◌∙◌, map}
+use Rattle.std.proofs.Common.{◌≡◌, ◌⊎◌, inl, inr, Bool, true, false, List, [], ◌∷◌, ◌+◌, length, refl, sym, ap, ◌∙◌, map, arith}
 use Rattle.std.specs.Prelude.{if◌then◌else◌}
 use Rattle.std.specs.List.{AllByRecursion}
 use Rattle.fvn_terms.specs.declared.plain.Var.{Var}
@@ -23,14 +23,14 @@ module _ (d : Declarations) (names : Names) (order : List Var) where
   abbrev pub shown_as : FlatTerm → RawTerm
   shown_as = written d names order
 
-  abbrev key : FlatTerm → Text
+  abbrev pub key : FlatTerm → Text
   key t = text_of (shown_as t)
 
-  abbrev put_form : FlatTerm → List FlatTerm → List FlatTerm
+  abbrev pub put_form : FlatTerm → List FlatTerm → List FlatTerm
   put_form t [] = t ∷ []
   put_form t (u ∷ us) = if is_after (key t) (key u) then u ∷ put_form t us else t ∷ u ∷ us
 
-  abbrev sorted_forms : List FlatTerm → List FlatTerm
+  abbrev pub sorted_forms : List FlatTerm → List FlatTerm
   sorted_forms [] = []
   sorted_forms (t ∷ ts) = put_form t (sorted_forms ts)
 
@@ -52,15 +52,26 @@ module _ (d : Declarations) (names : Names) (order : List Var) where
   written-sorted [] = refl
   written-sorted (t ∷ ts) = written-put t (sorted_forms ts) ∙ ap (put (shown_as t)) (written-sorted ts)
 
-  all-written : (ts : FlatTerms) → written_all d names order ts ≡ map shown_as (funpack ts)
-  all-written fnone = refl
-  all-written (fmore t ts) = ap (λ us. shown_as t ∷ us) (all-written ts)
+  all-written : (ts : List FlatTerm) → written_all d names order (fpack ts) ≡ map shown_as ts
+  all-written [] = refl
+  all-written (t ∷ ts) = ap (λ us. shown_as t ∷ us) (all-written ts)
 
-  pub written-arranged : (a : Axioms) (ts : FlatTerms) → arranged a (written_all d names order ts) ≡ map shown_as (arranged_forms a (funpack ts))
+  pub written-arranged : (a : Axioms) (ts : List FlatTerm) → arranged a (written_all d names order (fpack ts)) ≡ map shown_as (arranged_forms a ts)
   written-arranged a ts = ap (arranged a) (all-written ts) ∙ go (may_exchange a) where
-    go : (b : Bool) → (if b then in_byte_order (map shown_as (funpack ts)) else map shown_as (funpack ts)) ≡ map shown_as (if b then sorted_forms (funpack ts) else funpack ts)
-    go true = sym (written-sorted (funpack ts))
+    go : (b : Bool) → (if b then in_byte_order (map shown_as ts) else map shown_as ts) ≡ map shown_as (if b then sorted_forms ts else ts)
+    go true = sym (written-sorted ts)
     go false = refl
+
+  length-put : (t : FlatTerm) (us : List FlatTerm) → length (put_form t us) ≡ length us + 1
+  length-put t [] = refl
+  length-put t (u ∷ us) = go (is_after (key t) (key u)) (length-put t us) where
+    go : (b : Bool) → length (put_form t us) ≡ length us + 1 → length (if b then u ∷ put_form t us else t ∷ u ∷ us) ≡ length (u ∷ us) + 1
+    go true ih = omega (arith, ih)
+    go false ih = omega arith
+
+  pub length-sorted : (ts : List FlatTerm) → length (sorted_forms ts) ≡ length ts
+  length-sorted [] = refl
+  length-sorted (t ∷ ts) = length-put t (sorted_forms ts) ∙ (let ih = length-sorted ts in omega (arith, ih))
 
   -- What holds of each holds of each.
 
@@ -97,7 +108,7 @@ module _ (d : Declarations) (names : Names) (order : List Var) where
     abbrev pub values : List FlatTerm → Terms
     values ts = apply_all s (plain_all (fpack ts))
 
-    abbrev value_of : FlatTerm → Term
+    abbrev pub value_of : FlatTerm → Term
     value_of t = apply s (plain t)
 
     module _ (f : OpId) (c : IsCommutative (axioms d f)) where

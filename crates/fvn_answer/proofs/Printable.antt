@@ -28,7 +28,7 @@ module _ (d : Declarations) where
   known : (f : OpId) → (declared d f ≡ unknown → ⊥) → f.0 < length d.ops
   known f n = elim (cases_lt f.0 (length d.ops)) [ inl low ↦ low | inr high ↦ absurd (n (get_or_past d.ops f.0 unknown high)) ]
 
-  ranked : (f : OpId) (r : Rank) → Contains (declared d f).ranks r → f.0 < length d.ops
+  pub ranked : (f : OpId) (r : Rank) → Contains (declared d f).ranks r → f.0 < length d.ops
   ranked f r c = known f (λ e. contains_none r (subst (λ (o : OpDecl). Contains o.ranks r) e c))
 
   associative : (f : OpId) → IsAssociative (axioms d f) → f.0 < length d.ops

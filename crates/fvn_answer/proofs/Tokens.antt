@@ -20,6 +20,7 @@ use Rattle.fvn_forms.specs.Flat.{FlatTerm, FlatTerms, fvar, fapp, fnone, fmore}
 use Rattle.fvn_syntax.specs.declared.names.Names.{Names}
 use Rattle.fvn_syntax.specs.Pieces.{Text, word, left_paren, right_paren, left_bracket, right_bracket, comma, is_colon_name, without_last}
 use Rattle.fvn_syntax.specs.Raw.{RawTerm, RawTerms, spell, spell_all, IsWritten, AreWritten}
+use Rattle.fvn_problems.specs.Spelling.{IsAlone}
 use Rattle.fvn_module.specs.Readable.{IsWord}
 use Rattle.fvn_answer.specs.Numberings.{new_name}
 use Rattle.fvn_answer.specs.Writing.{arguments, arranged, over, top, sort_text, op_text, sorted, written, written_all}
@@ -128,6 +129,14 @@ module _ (d : Declarations) (names : Names) (readable : AreReadable d names) (to
       go : (b : Bool) → nat_lt s.0 d.sorts ≡ b → IsWritten (sorted d names x s)
       go true e = rw e tt
       go false e = rw e (colon_name-ends x some)
+
+  -- it is a name alone, or a variable of a kind
+  pub alone-sorted : (x : Text) (s : SortId) → IsAlone (sorted d names x s)
+  alone-sorted x s = go (nat_lt s.0 d.sorts) refl
+    where
+      go : (b : Bool) → nat_lt s.0 d.sorts ≡ b → IsAlone (sorted d names x s)
+      go true e = rw e tt
+      go false e = rw e tt
 
   module _ (order : List Var) (few : length order < 2 ^ 64) where
     mutual

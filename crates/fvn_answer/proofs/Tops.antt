@@ -8,6 +8,7 @@ use Rattle.fvn_forms.specs.Good.{IsGood}
 use Rattle.fvn_sorts.specs.Queries.{IsKind, IsCompleted, IsMaximalOf, IsBelow, direct_subsorts}
 use Rattle.fvn_sorts.specs.Laws.{DirectSubsortsCover, DirectSubsortsOfKinds}
 use Rattle.fvn_answer.specs.Writing.{top}
+use Rattle.fvn_answer.proofs.Lists.{got-some}
 use Rattle.fvn_answer.proofs.Printing.{got}
 
 module _ (d : Declarations) (good : IsGood d) (done : IsCompleted d) (cover : DirectSubsortsCover) (maximal : DirectSubsortsOfKinds) (k : SortId) (is : IsKind d k) where
@@ -30,3 +31,8 @@ module _ (d : Declarations) (good : IsGood d) (done : IsCompleted d) (cover : Di
 
     pub top-maximal : IsMaximalOf d k r
     top-maximal = (maximal d good done k r is).0 (0, some, got (direct_subsorts d k) 0 r r e)
+
+-- each kind is named after its first maximal sort
+pub tops : (d : Declarations) → IsGood d → IsCompleted d → DirectSubsortsCover → DirectSubsortsOfKinds → (k : SortId) → IsKind d k → IsMaximalOf d k (top d k)
+tops d good done cover maximal k is =
+    top-maximal d good done cover maximal k is (top d k) (got-some (direct_subsorts d k) 0 k (some d good done cover maximal k is))

@@ -24,6 +24,7 @@ use Rattle.fvn_problems.specs.Bindings.{variable_of, written_variable}
 use Rattle.fvn_answer.specs.Denoting.{without_variables}
 use Rattle.fvn_answer.specs.Writing.{top, sort_text, sorted}
 use Rattle.fvn_answer.specs.inner.Readable.{AreReadable}
+use Rattle.fvn_answer.proofs.Lists.{got-some}
 use Rattle.fvn_answer.proofs.TextPlaces.{Finds, position-finds, place-distinct}
 use Rattle.fvn_answer.proofs.Tokens.{is-kind, without_last-colon}
 
@@ -55,12 +56,6 @@ split-between sorts x st s some none named =
 zero-is : (n : ℕ) → (n == 0) ≡ true → n ≡ 0
 zero-is zero e = refl
 zero-is (suc n) e = cc
-
--- what a place holds
-pub got-some : {A : Type 0} (xs : List A) (i : ℕ) (x : A) → i < length xs → slice_get xs i ≡ Some (get_or xs i x)
-got-some [] i x l = absurd (omega (arith, l))
-got-some (y ∷ xs) zero x l = refl
-got-some (y ∷ xs) (suc i) x l = got-some xs i x (omega (arith, l))
 
 module _ (d : Declarations) (names : Names) (readable : AreReadable d names) (tops : (k : SortId) → IsKind d k → IsMaximalOf d k (top d k)) where
   abbrev pub read_in_names : Scope

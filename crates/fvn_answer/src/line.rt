@@ -1,5 +1,12 @@
 //! Lines: the values of a problem's variables, for a variant with a term before them.
 ghost use Rattle.std.specs.Prelude.{IfOk};
+ghost use Rattle.fvn_terms.specs.declared.plain.SortId.{SortId};
+ghost use Rattle.fvn_forms.specs.Flat.{plain};
+ghost use Rattle.fvn_forms.specs.Good.{IsGood};
+ghost use Rattle.fvn_sorts.specs.Queries.{IsKind, IsMaximalOf};
+ghost use Rattle.fvn_flat.specs.Solving.{substitution};
+ghost use Rattle.fvn_answer.specs.Denoting.{Reads, ReadsVariant};
+ghost use Rattle.fvn_answer.specs.Writing.{top};
 ghost use Rattle.fvn_flat.specs.Fits.{Fits};
 ghost use Rattle.fvn_flat.specs.Bindings.{BindingsFit};
 ghost use Rattle.fvn_answer.specs.Asked.{AreAsked, HaveSorts};
@@ -9,9 +16,21 @@ use crate::numbering::numbered_text;
 use crate::printed::Printed;
 use fvn_flat::{Flat, Subst};
 use fvn_module::Module;
+use fvn_sorts::{Signature, direct_subsorts_cover, direct_subsorts_of_kinds};
 use fvn_syntax::VarNames;
 use fvn_terms::{NoMemory, Var};
 use std::alloc::Global;
+
+// What holds of every signature: it is good, and each kind is named after a sort of it.
+fn recall(signature: &Signature)
+    ensures good { IsGood signature.now }
+    ensures tops { (k : SortId) → IsKind signature.now k → IsMaximalOf signature.now k (top signature.now k) }
+{
+    signature.recall_good();
+    signature.recall_completed();
+    direct_subsorts_cover();
+    direct_subsorts_of_kinds();
+}
 
 /// The line of a substitution: what it gives each of the variables, in their order.
 ///

@@ -3,8 +3,8 @@ ghost use Rattle.std.specs.Prelude.{◌≡◌, ◌≤◌, [], ◌∷◌, IfOk, O
 ghost use Rattle.fvn_flat.specs.Variables.{listed, with_variable, with_variables};
 ghost use Rattle.fvn_answer.specs.Numberings.{IsNumbering};
 ghost use Rattle.fvn_answer.specs.inner.Readable.{AreReadable};
-ghost use Rattle.fvn_answer.specs.Lines.{forms_in, IsTextOf};
-ghost use Rattle.fvn_answer.specs.inner.Shown.{shown, lesser, with_values, CanPrint, BeginsAs, IsLeastAmong};
+ghost use Rattle.fvn_answer.specs.Lines.{forms_in};
+ghost use Rattle.fvn_answer.specs.inner.Shown.{shown, lesser, with_values, CanPrint, BeginsAs, IsLeastAmong, IsNumberedText};
 
 use crate::printed::{Printed, text};
 use fvn_flat::{Flat, Subst};
@@ -167,7 +167,7 @@ pub(crate) fn numbered_text(
 ) -> Result<Vec<u8>, NoMemory>
     requires names { AreReadable signature.now names.now }
     requires printed { CanPrint signature.now var_names.now.texts printed.now }
-    ensures { IfOk result (λ line. IsTextOf signature.now names.now var_names.now.texts (shown printed.now) line.items) }
+    ensures { IfOk result (λ line. IsNumberedText signature.now var_names.now.texts names.now (shown printed.now) line.items) }
 {
     let mut order = variables(alloc, printed)?;
     if FEW_VARIABLES < order.len() {

@@ -1,5 +1,5 @@
 -- What the program prints, and the order of its variables.
-use Rattle.std.specs.Prelude.{ℕ, ◌≡◌, ◌<◌, ◌≤◌, if◌then◌else◌, List, All, slice_index_or}
+use Rattle.std.specs.Prelude.{ℕ, ◌≡◌, ◌<◌, ◌≤◌, ◌^◌, if◌then◌else◌, List, length, All, slice_index_or}
 use Rattle.std.specs.Ordering.{is_lt, nat_cmp}
 use Rattle.std.specs.Cmp.Lexicographic.{slice_cmp}
 use Rattle.fvn_base.specs.Order.{IsBefore}
@@ -15,7 +15,7 @@ use Rattle.fvn_answer.specs.declared.printed.Printed.{Printed}
 use Rattle.fvn_answer.specs.declared.printed.Printed.TheVariants.{Alone, Values, Variant}
 use Rattle.fvn_answer.specs.Numberings.{IsNumbering}
 use Rattle.fvn_answer.specs.Writing.{text_of, sorted, written}
-use Rattle.fvn_answer.specs.Lines.{Shown, alone, values, variant, forms_of, forms_in, values_of, asked_name, text}
+use Rattle.fvn_answer.specs.Lines.{Shown, alone, values, variant, forms_of, forms_in, values_of, asked_name, text, IsTextOf}
 use Rattle.fvn_answer.specs.inner.Bytes.{IsPrintable}
 
 -- what is printed
@@ -68,3 +68,8 @@ module _ (d : Declarations) (texts : List Text) where
       pub from : k ≤ place
       pub upto : place < i
       pub next : (x : Var) → slice_index_or other k x ≡ slice_index_or order place x
+
+    -- w is the text of what is printed, and there are not more variables than numbers
+    pub record IsNumberedText (it : Shown) (w : Text) : Type 0 where
+      pub text_of_it : IsTextOf d names texts it w
+      pub few : length text_of_it.order < 2 ^ 64
