@@ -1,6 +1,7 @@
 -- An operator takes arguments of its kinds.
 use Rattle.std.proofs.Common.{◌≡◌, ℕ, zero, suc, ◌+◌, ◌<◌, ◌≤◌, Bool, true, false, List, [], ◌∷◌, ◌++◌, length, get_or, Option, Some, None, refl, sym, ap, ◌∙◌, subst, append_assoc, map, arith}
 use Rattle.std.specs.Prelude.{◌&&◌, ◌==◌, nat_le, Contains}
+use Rattle.std.proofs.lemmas.Bool.{eq-eqb, le-leb}
 use Rattle.std.proofs.Math.Seq.{get_or-append_seam}
 use Rattle.std.proofs.lemmas.List.{length-append, length-map}
 use Rattle.fvn_base.proofs.Membership.{contains_here, contains_none}
@@ -17,8 +18,7 @@ use Rattle.fvn_syntax.specs.Names.{first_args, first_result, is_sum, args_of, ar
 use Rattle.fvn_syntax.specs.Resolve.{fits_number, wanted, fit_from, application_fault}
 
 same-number : (n : ℕ) → (n == n) ≡ true
-same-number zero = refl
-same-number (suc n) = same-number n
+same-number n = eq-eqb n n refl
 
 both : (a b : Bool) → a ≡ true → b ≡ true → (a && b) ≡ true
 both a b e f = rw (e, f) refl
@@ -32,9 +32,9 @@ sum-is (AssocCommId e) h = refl
 
 module _ (d : Declarations) (fits : FitsKinds d) (f : OpId) where
   -- the first rank has the kinds of each
-  record First (r : Rank) : Type 0 where
-    args : map (kind d) (args_of d f) ≡ map (kind d) r.args
-    result : result_of d f ≡ kind d r.result
+  pub record First (r : Rank) : Type 0 where
+    pub args : map (kind d) (args_of d f) ≡ map (kind d) r.args
+    pub result : result_of d f ≡ kind d r.result
 
   pub first : (r : Rank) → Contains (declared d f).ranks r → First r
   first r h = go (declared d f).ranks refl
@@ -55,7 +55,7 @@ module _ (d : Declarations) (fits : FitsKinds d) (f : OpId) where
   result-of r h = (first r h).result
 
   pub arity-of : (r : Rank) → Contains (declared d f).ranks r → arity_of d f ≡ length (map (kind d) r.args)
-  arity-of r h = sym (length-map (kind d) (args_of d f)) ∙ ap length (args-of r h)
+  arity-of r h = sym (length-map (args_of d f) (kind d)) ∙ ap length (args-of r h)
 
   none-of : (sum : Bool) (ks : List SortId) → fits_number sum (arity_of d f) (length ks) ≡ true → fit_from d sum f 0 ks ≡ true → application_fault d sum f ks ≡ None
   none-of sum ks n k = rw (n, k) refl
@@ -72,12 +72,12 @@ module _ (d : Declarations) (fits : FitsKinds d) (f : OpId) where
       (subst (λ i. fit_from d false f i (map (kind d) rest) ≡ true) (length-append before (s ∷ [])) later)
 
   pub takes-its-own : (r : Rank) → Contains (declared d f).ranks r → is_sum (axioms d f) ≡ false → application_fault d (is_sum (axioms d f)) f (map (kind d) r.args) ≡ None
-  takes-its-own r h no = rw no (
-    subst (λ ks. application_fault d false f ks ≡ None) (args-of r h)
-    (none-of false (map (kind d) (args_of d f))
-    (ap (λ n. arity_of d f == n) (length-map (kind d) (args_of d f)) ∙ same-number (arity_of d f))
-    (fit-behind [] (args_of d f) refl))
-  )
+  takes-its-own r h free = rw free (
+      subst (λ ks. application_fault d false f ks ≡ None) (args-of r h)
+      (none-of false (map (kind d) (args_of d f))
+      (ap (λ n. arity_of d f == n) (length-map (args_of d f) (kind d)) ∙ same-number (arity_of d f))
+      (fit-behind [] (args_of d f) refl))
+      )
 
   -- Sums.
 
@@ -99,9 +99,7 @@ module _ (d : Declarations) (fits : FitsKinds d) (f : OpId) where
 
   -- two or more are not too few
   two-or-more : (n : ℕ) → 2 ≤ n → nat_le 2 n ≡ true
-  two-or-more zero h = absurd (omega arith)
-  two-or-more (suc zero) h = absurd (omega arith)
-  two-or-more (suc (suc n)) h = refl
+  two-or-more n h = le-leb 2 n h
 
   pub takes-sum : (r : Rank) → Contains (declared d f).ranks r → IsAssociative (axioms d f) → (ks : List SortId) → 2 ≤ length ks → AllAre (kind d r.result) ks →
       application_fault d (is_sum (axioms d f)) f ks ≡ None

@@ -126,13 +126,13 @@ module _ (d : Declarations) (names : Names) (order : List Var) where
         put-behind x t (u ∷ us) = go (is_after (key t) (key u)) (put-behind (value_of u) t us) where
           go : (b : Bool) → BEqual d (nest f (value_of u) (values (put_form t us))) (nest f (value_of u) (values (t ∷ us))) →
               BEqual d (nest f x (values (if b then u ∷ put_form t us else t ∷ u ∷ us))) (nest f x (values (t ∷ u ∷ us)))
-          go true ih = behind d f c a x (BEqual-trans d ih (first-exchanged d f c a (value_of u) (value_of t) (values us)))
+          go true ih = behind d f c a x (value_of u) (values (put_form t us)) (value_of t) (values (u ∷ us)) (BEqual-trans d ih (first-exchanged d f c a (value_of u) (value_of t) (values us)))
           go false ih = stop
 
         sorted-behind : (x : Term) (ts : List FlatTerm) → BEqual d (nest f x (values (sorted_forms ts))) (nest f x (values ts))
         sorted-behind x [] = stop
         sorted-behind x (t ∷ ts) =
-            BEqual-trans d (put-behind x t (sorted_forms ts)) (behind d f c a x (sorted-behind (value_of t) ts))
+            BEqual-trans d (put-behind x t (sorted_forms ts)) (behind d f c a x (value_of t) (values (sorted_forms ts)) (value_of t) (values ts) (sorted-behind (value_of t) ts))
 
         put-sum : (t : FlatTerm) (us : List FlatTerm) → BEqual d (nest_all f (values (put_form t us))) (nest_all f (values (t ∷ us)))
         put-sum t [] = stop

@@ -29,7 +29,7 @@ use Rattle.fvn_syntax.specs.declared.names.Names.{Names}
 use Rattle.fvn_syntax.specs.Pieces.{Text}
 use Rattle.fvn_syntax.specs.Texts.{place}
 use Rattle.fvn_problems.specs.Spelling.{RawPair}
-use Rattle.fvn_problems.specs.Bindings.{AreOneVariable, BindsOnce, IsVariableOf, IsBindingOf, AreBindingsOf}
+use Rattle.fvn_problems.specs.Bindings.{written_variable, AreOneVariable, BindsOnce, IsVariableOf, IsBindingOf, AreBindingsOf}
 use Rattle.fvn_answer.specs.Asked.{AreAsked, HaveSorts}
 use Rattle.fvn_answer.specs.Denoting.{reading, asked}
 use Rattle.fvn_answer.specs.Numberings.{new_name}
@@ -65,10 +65,13 @@ module _ (d : Declarations) (names : Names) (readable : AreReadable d names) (fi
   low : (x : Var) → Contains vars x → x.name < length texts
   low x h = (ask.named x h).number
 
+  text-read : (x : Var) → Contains vars x → written_variable (reading d names texts vars) (pair_of x).left ≡ Some (asked_text x, x.sort)
+  text-read x h = variable-read d names readable tops (asked_text x) x.sort (ask.words x.name [] (low x h)).some (ask.named x h).sort
+
   left-read : (x : Var) → Contains vars x → IsVariableOf (reading d names texts vars) (asked d names texts vars) (pair_of x).left x
   left-read x h = record {
     text = asked_text x;
-    stands = variable-read d names readable tops (asked_text x) x.sort (ask.words x.name [] (low x h)).some (ask.named x h).sort;
+    stands = text-read x h;
     named = got-some texts x.name [] (low x h);
     not_fresh = (ask.named x h).not_fresh;
     listed = h;
@@ -78,12 +81,12 @@ module _ (d : Declarations) (names : Names) (readable : AreReadable d names) (fi
 
   one-variable : (x y : Var) → Contains vars x → Contains vars y → AreOneVariable (reading d names texts vars) (pair_of x).left (pair_of y).left → x ≡ y
   one-variable x y h k one =
-      let both : Some (asked_text x, x.sort) ≡ Some (asked_text y, y.sort) = sym (left-read x h).stands ∙ one.first ∙ sym one.second ∙ (left-read y k).stands in
+      let both : Some (asked_text x, x.sort) ≡ Some (asked_text y, y.sort) = sym (text-read x h) ∙ one.first ∙ sym one.second ∙ text-read y k in
       let pair : (asked_text x, x.sort) ≡ (asked_text y, y.sort) = cc in
       let places : Some x.name ≡ Some y.name =
-          sym (place-distinct texts x.name ask.distinct_texts (low x h))
-          ∙ ap (λ (p : Text × SortId). place texts p.0) pair
-          ∙ place-distinct texts y.name ask.distinct_texts (low y k) in
+      sym (place-distinct texts x.name ask.distinct_texts (low x h))
+      ∙ ap (λ (p : Text × SortId). place texts p.0) pair
+      ∙ place-distinct texts y.name ask.distinct_texts (low y k) in
       var-is x y (let e : x.name ≡ y.name = cc in e) (ap (λ (p : Text × SortId). p.1) pair) ((ask.named x h).not_fresh ∙ sym (ask.named y k).not_fresh)
 
   pairs-twice : (xs : List Var) → pairs_of xs ≡ map pair_of xs
@@ -104,7 +107,7 @@ module _ (d : Declarations) (names : Names) (readable : AreReadable d names) (fi
   binding-read x h before =
       let r = value-read x h before in
       let has = HasSort-apply d (λ y. var (read_as d names readable fits tops order (r.resolved.texts ++ []) y)) (renaming-sorted d (read_as d names readable fits tops order (r.resolved.texts ++ [])) (λ y. refl))
-          (plain (value s x)) x.sort (sorts x h) in
+      (plain (value s x)) x.sort (sorts x h) in
       record {
         variable = left-read x h;
         resolved = r.resolved;

@@ -97,7 +97,7 @@ numbering-permutation ts xs ys p n = record {
   distinct = AllPairs-from_IsDistinct decides ys (IsDistinct-IsPermutation same_var flips xs ys p (IsDistinct-from_AllPairs decides xs n.distinct));
 }
 
-same-length : (ts : List FlatTerm) (xs ys : List Var) → IsNumbering ts xs → IsNumbering ts ys → length xs ≡ length ys
+pub same-length : (ts : List FlatTerm) (xs ys : List Var) → IsNumbering ts xs → IsNumbering ts ys → length xs ≡ length ys
 same-length ts xs ys n m =
     let a = length-le_within xs ys n.distinct (λ x c. (m.exact x).1 ((n.exact x).0 c)) in
     let b = length-le_within ys xs m.distinct (λ x c. (n.exact x).1 ((m.exact x).0 c)) in

@@ -22,10 +22,10 @@ module _ {A : Type 0} (R : A → A → Type 0) where
 -- what holds of the images of different elements holds of each two images
 pub pairs-map : {A B : Type 0} (R : B → B → Type 0) (f : A → B) (xs : List A) → ((x y : A) → Contains xs x → Contains xs y → x ≢ y → R (f x) (f y)) →
     AllPairs (λ x y. x ≢ y) xs → AllPairs R (map f xs)
-pairs-map R f [] h d i j e l m = absurd (omega (arith, m))
+pairs-map R f [] h d = λ i j e l m. absurd (omega (arith, m))
 pairs-map R f (x ∷ xs) h d =
     pairs-cons R (f x) (map f xs)
     (λ y c.
-        let m = map_contains f xs y c in
-        subst (R (f x)) m.1.1 (h x m.0 (contains_here x xs) (contains_later x xs m.0 m.1.0) (AllPairs-first ◌≢◌ x xs m.0 d m.1.0)))
+    let m = map_contains f xs y c in
+    subst (R (f x)) m.1.1 (h x m.0 (contains_here x xs) (contains_later x xs m.0 m.1.0) (AllPairs-first ◌≢◌ x xs m.0 d m.1.0)))
     (pairs-map R f xs (λ y z a b. h y z (contains_later x xs y a) (contains_later x xs z b)) (AllPairs-tail ◌≢◌ x xs d))

@@ -3,6 +3,7 @@ use Rattle.std.proofs.Common.{◌≡◌, ◌≢◌, ℕ, zero, suc, ◌+◌, ◌
 use Rattle.std.specs.Prelude.{◌&&◌, IsTrue, IsFalse, Contains, decimal, unwrap_or, codes}
 use Rattle.std.specs.List.{position_from}
 use Rattle.std.specs.Str.Parse.{AllDigits}
+use Rattle.std.proofs.lemmas.Bool.{lt-ltb}
 use Rattle.std.proofs.lemmas.Bool.Decides.{nat_tests}
 use Rattle.std.proofs.lemmas.Fmt.{decimal_injective, decimal_is_IsNumeral}
 use Rattle.std.proofs.lemmas.Str.Parse.{digit_from_value}
@@ -65,7 +66,7 @@ new_name-injective order few x y h k e =
     (decimal_injective (number order x) (number order y) (number-small order x few) (number-small order y few) (ap (drop 1) e))
 
 pub new_name-reserved : (order : List Var) (x : Var) → is_reserved (new_name order x) ≡ true
-new_name-reserved order x = refl
+new_name-reserved order x = rw (lt-ltb 0 (length (new_name order x)) (omega arith)) refl
 
 pub new_name-some : (order : List Var) (x : Var) → new_name order x ≢ []
 new_name-some order x e = let f : 35 ∷ decimal (number order x) ≡ [] = e in cc

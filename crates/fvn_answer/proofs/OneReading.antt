@@ -1,5 +1,5 @@
 -- A line is read in one way.
-use Rattle.std.proofs.Common.{◌≡◌, inl, inr, ◌⊎◌, Bool, true, false, List, [], ◌∷◌, ◌++◌, Option, Some, None, Ok, refl, sym, ap, ◌∙◌, subst, map}
+use Rattle.std.proofs.Common.{◌≡◌, inl, inr, ◌⊎◌, Bool, true, false, List, [], ◌∷◌, ◌++◌, Option, Some, None, Result, Ok, refl, sym, ap, ◌∙◌, subst, map}
 use Rattle.std.specs.Prelude.{Contains, codes, if◌then◌else◌, ◌&&◌, ◌==◌, nat_eq}
 use Rattle.std.specs.List.{AllByRecursion}
 use Rattle.fvn_lex.specs.Cut.{Piece}
@@ -13,11 +13,11 @@ use Rattle.fvn_terms.specs.Substitution.{value as plain_value}
 use Rattle.fvn_flat.specs.Drawn.{renamed}
 use Rattle.fvn_syntax.specs.declared.names.Names.{Names}
 use Rattle.fvn_syntax.specs.declared.fault.TermFault.{TermFault}
-use Rattle.fvn_syntax.specs.Pieces.{Text, is_special}
+use Rattle.fvn_syntax.specs.Pieces.{Text, comma, left_brace, right_brace}
 use Rattle.fvn_syntax.specs.Raw.{RawTerm, spell, IsWritten, EndsBefore, name, call, round, kind_variable}
 use Rattle.fvn_syntax.specs.Resolve.{Resolved, resolve}
 use Rattle.fvn_syntax.proofs.SpelledOnce.{once, ends-before}
-use Rattle.fvn_problems.specs.Spelling.{RawPair, spell_bindings, IsWrittenBinding}
+use Rattle.fvn_problems.specs.Spelling.{RawPair, goes_to, spell_pairs, spell_bindings, IsWrittenBinding}
 use Rattle.fvn_problems.specs.Bindings.{IsBindingOf, AreBindingsOf}
 use Rattle.fvn_problems.specs.Laws.{BindingsAreSpelledOnce}
 use Rattle.fvn_answer.specs.Denoting.{as_new, reading, asked, Bind, Denotes, DenotesVariant}
@@ -27,10 +27,16 @@ use Rattle.fvn_answer.specs.Laws.{LinesDenoteOneSubstitution, LinesDenoteOneVari
 pub some-once : {A : Type 0} {x y : A} → Some x ≡ Some y → x ≡ y
 some-once e = cc
 
-ok-once : {r q : Resolved} → Ok {A = Resolved} {E = TermFault} r ≡ Ok q → r ≡ q
+abbrev given : Resolved → Result Resolved TermFault
+given r = Ok r
+
+ok-once : {r q : Resolved} → given r ≡ given q → r ≡ q
 ok-once e = cc
 
-pair-is : {x y : Var} {t u : Plain} → x ≡ y → t ≡ u → (x, t) ≡ (y, u)
+abbrev bound_to : Var → Plain → Var × Plain
+bound_to x t = (x, t)
+
+pair-is : {x y : Var} {t u : Plain} → x ≡ y → t ≡ u → bound_to x t ≡ bound_to y u
 pair-is p q = λ i. (p i, q i)
 
 module _ (d : Declarations) (names : Names) (texts : List Text) (vars : List Var) where
@@ -53,20 +59,20 @@ module _ (d : Declarations) (names : Names) (texts : List Text) (vars : List Var
       let second : p.1 ≡ q.1 = one.term_is ∙ ap (λ (v : Resolved). v.term) same ∙ sym other.term_is in
       let tails : map (λ (b : Var × Plain). b.0) ps ≡ map (λ b. b.0) qs = cc in
       let rest = bindings-once rs h.0 ps qs after later h.1.1
-          (subst (λ ts. AreBindingsOf (reading d names texts vars) (asked d names texts vars) ts rs qs later) (sym next) k.1.1) tails in
+      (subst (λ ts. AreBindingsOf (reading d names texts vars) (asked d names texts vars) ts rs qs later) (sym next) k.1.1) tails in
       (ap (λ b. b ∷ ps) (pair-is first second) ∙ ap (λ bs. q ∷ bs) rest.0, rest.1)
 
   record Same (before : List Text) (raw : List RawPair) (s r : Substitution) (after later : List Text) : Type 0 where
-    names : after ≡ later
-    values : (x : Var) → Contains vars x → s x ≡ r x
+    behind : after ≡ later
+    alike : (x : Var) → Contains vars x → s x ≡ r x
 
   binds-once : (before : List Text) (raw : List RawPair) (s r : Substitution) (after later : List Text) →
       Bind d names texts vars before raw s after → Bind d names texts vars before raw r later → Same before raw s r after later
   binds-once before raw s r after later b c =
       let both = bindings-once raw before b.pairs c.pairs after later b.bound c.bound (b.each ∙ sym c.each) in
       record {
-        names = both.1;
-        values = λ x h.
+        behind = both.1;
+        alike = λ x h.
             b.values x h
             ∙ ap (λ ps. renamed (as_new after) (plain_value ps x)) both.0
             ∙ ap (λ ts. renamed (as_new ts) (plain_value c.pairs x)) both.1
@@ -77,13 +83,13 @@ pub one-substitution : BindingsAreSpelledOnce → LinesDenoteOneSubstitution
 one-substitution law d names texts vars line s r a b =
     let raws : a.raw ≡ b.raw = law a.raw b.raw a.written b.written (some-once (sym a.spelled ∙ b.spelled)) in
     (binds-once d names texts vars texts a.raw s r a.after b.after a.bind
-    (subst (λ raw. Bind d names texts vars texts raw r b.after) (sym raws) b.bind)).values
+    (subst (λ raw. Bind d names texts vars texts raw r b.after) (sym raws) b.bind)).alike
 
 -- Variants.
 
 -- a term ends before a brace
 ends : (bs : List RawPair) (t : RawTerm) → EndsBefore (spell_bindings bs) t
-ends bs t = ends-before _ _ refl refl t
+ends bs t = ends-before left_brace (spell_pairs goes_to comma bs ++ (right_brace ∷ [])) refl refl t
 
 pub one-variant : BindingsAreSpelledOnce → LinesDenoteOneVariant
 one-variant law d names texts vars line t u s r a b =
@@ -92,10 +98,9 @@ one-variant law d names texts vars line t u s r a b =
     let raws : a.raw ≡ b.raw = law a.raw b.raw a.written b.written parts.1 in
     let same : a.resolved ≡ b.resolved = ok-once (sym a.stands ∙ ap (resolve (reading d names texts vars) texts) parts.0 ∙ b.stands) in
     let bind : Bind d names texts vars a.resolved.texts a.raw r b.after =
-        subst (λ raw. Bind d names texts vars a.resolved.texts raw r b.after) (sym raws)
-        (subst (λ (v : Resolved). Bind d names texts vars v.texts b.raw r b.after) (sym same) b.bind) in
-    let both = binds-once d names texts vars a.resolved.texts a.raw s r a.after b.after a.bind bind in
-    (
-      a.term_is ∙ ap (λ (v : Resolved). renamed (as_new a.after) (term v.term)) same ∙ ap (λ ts. renamed (as_new ts) (term b.resolved.term)) both.names ∙ sym b.term_is,
-      both.values,
+    subst (λ raw. Bind d names texts vars a.resolved.texts raw r b.after) (sym raws)
+    (subst (λ (v : Resolved). Bind d names texts vars v.texts b.raw r b.after) (sym same) b.bind) in
+    let both = binds-once d names texts vars a.resolved.texts a.raw s r a.after b.after a.bind bind in (
+      a.term_is ∙ ap (λ (v : Resolved). renamed (as_new a.after) (term v.term)) same ∙ ap (λ ts. renamed (as_new ts) (term b.resolved.term)) both.behind ∙ sym b.term_is,
+      both.alike,
     )

@@ -5,8 +5,9 @@ use Rattle.std.specs.List.{All, AllByRecursion}
 use Rattle.std.proofs.lemmas.List.{map-append}
 use Rattle.fvn_lex.specs.Cut.{Piece, pieces_of}
 use Rattle.fvn_lex.specs.Join.{IsPiece, Laid, pieces, join}
-use Rattle.fvn_lex.proofs.JoinLemmas.{join-read, pieces-append}
-use Rattle.fvn_syntax.specs.Pieces.{Text, word, comma, left_brace, right_brace}
+use Rattle.fvn_lex.specs.Bytes.{is_special, is_printed, goes_on, begins_comment}
+use Rattle.fvn_lex.proofs.JoinLemmas.{form-piece, join-read, pieces-append}
+use Rattle.fvn_syntax.specs.Pieces.{Text, word, special, comma, left_brace, right_brace}
 use Rattle.fvn_syntax.specs.Raw.{RawTerm, spell}
 use Rattle.fvn_problems.specs.Spelling.{RawPair, goes_to, spell_pair, spell_further, spell_pairs, spell_bindings}
 use Rattle.fvn_answer.specs.Writing.{close}
@@ -81,25 +82,25 @@ joined-read laid ps e h = join-read laid (subst (All IsPiece) (sym e) (all-token
 abbrev pub PairTokens : RawPair → Type 0
 PairTokens b = Tokens (spell b.left) × Tokens (spell b.right)
 
-special-piece : (p : Piece) → pieces_of p.text ≡ Some (p ∷ []) → IsPiece p
-unfolding IsPiece
-special-piece p e = e
+-- one of the special bytes
+pub special-token : (b : ℕ) → IsTrue (is_special b) → IsPiece (special (b ∷ []))
+special-token b h = form-piece (special (b ∷ [])) (inr (record { byte = b; text = refl; special = h; class = refl }))
 
 comma-token : IsPiece comma
-unfolding IsPiece pieces_of
-comma-token = refl
+unfolding is_special
+comma-token = special-token 44 refl
 
 left_brace-token : IsPiece left_brace
-unfolding IsPiece pieces_of
-left_brace-token = refl
+unfolding is_special
+left_brace-token = special-token 123 refl
 
 right_brace-token : IsPiece right_brace
-unfolding IsPiece pieces_of
-right_brace-token = refl
+unfolding is_special
+right_brace-token = special-token 125 refl
 
 arrow-token : IsPiece (word goes_to)
-unfolding IsPiece pieces_of
-arrow-token = refl
+unfolding goes_on is_printed is_special begins_comment
+arrow-token = form-piece (word goes_to) (inl (record { some = λ e. (let f : 45 ∷ 45 ∷ 62 ∷ [] ≡ [] = e in cc); printed = refl; no_comment = refl; class = refl }))
 
 pair-tokens : (b : RawPair) → PairTokens b → Tokens (spell_pair goes_to b)
 pair-tokens b h = tokens-append (spell b.left) (word goes_to ∷ spell b.right) h.0 (arrow-token, h.1)

@@ -180,9 +180,9 @@ module _ (d : Declarations) (names : Names) (readable : AreReadable d names) (fi
 
   -- a constant
   constant-read : (f : OpId) → f.0 < length d.ops → arity_of d f ≡ 0 → (before : List Text) → IsRead before (name (op_text d names f)) (app f none) (result_of d f)
-  constant-read f low zero before = record {
+  constant-read f low nullary before = record {
     resolved = record { term = App f none; kind = result_of d f; texts = before };
-    stands = rw (op-named f low, zero) refl;
+    stands = rw (op-named f low, nullary) refl;
     of_kind = refl;
     news = [];
     goes_on = sym (append-nil before);
@@ -194,7 +194,7 @@ module _ (d : Declarations) (names : Names) (readable : AreReadable d names) (fi
   module _ (f : OpId) (low : f.0 < length d.ops) (t : FlatTerm) (ts : List FlatTerm) (k : SortId) (ks : List SortId) (h : CanRead t k) (hs : AllCanRead ts ks)
       (none : application_fault d (is_sum (axioms d f)) f (k ∷ ks) ≡ None) (whole : Term) (among : (x : Var) → Occurs x whole → Among d names order x (t ∷ ts))
       (same : (texts : List Text) (rs : List Plain) → EachLeads (IsAxiomEitherWay d) (terms rs) (values d names order (as_read texts) (t ∷ ts)) →
-          BEqual d (term (applied (is_sum (axioms d f)) f rs)) (renamed (read_as texts) whole)) where
+      BEqual d (term (applied (is_sum (axioms d f)) f rs)) (renamed (read_as texts) whole)) where
     call-read : (before : List Text) → IsRead before (over (op_text d names f) (map w_of (t ∷ ts))) whole (result_of d f)
     call-read before =
         let r = all-read t ts k ks h hs before in
@@ -223,7 +223,7 @@ module _ (d : Declarations) (names : Names) (readable : AreReadable d names) (fi
 
   applied-free : (f : OpId) → is_sum (axioms d f) ≡ false → (texts : List Text) (rs : List Plain) (us : List FlatTerm) → EachLeads (IsAxiomEitherWay d) (terms rs) (values d names order (as_read texts) us) →
       BEqual d (term (applied (is_sum (axioms d f)) f rs)) (app f (values d names order (as_read texts) us))
-  applied-free f no texts rs us e = rw no (BEqual-inside d f e)
+  applied-free f free texts rs us e = rw free (BEqual-inside d f e)
 
   free-can : (f : OpId) (l : List FlatTerm) (r : Rank) → Contains (declared d f).ranks r → f.0 < length d.ops → axioms d f ≡ Free → AllCanRead l (map (kind d) r.args) → CanRead (fapp f false (fpack l)) (kind d r.result)
   free-can f [] r listed low free hs = go (map (kind d) r.args) refl hs
@@ -236,16 +236,16 @@ module _ (d : Declarations) (names : Names) (readable : AreReadable d names) (fi
           (constant-read f low (arity-of d fits f r listed ∙ ap length e) before)))
   free-can f (t ∷ ts) r listed low free hs = go (map (kind d) r.args) refl hs
     where
-      no : is_sum (axioms d f) ≡ false
-      no = ap is_sum free
+      not_sum : is_sum (axioms d f) ≡ false
+      not_sum = ap is_sum free
 
       go : (ks : List SortId) → map (kind d) r.args ≡ ks → AllCanRead (t ∷ ts) ks → CanRead (fapp f false (fpack (t ∷ ts))) (kind d r.result)
       go [] e hs = absurd hs
       go (k ∷ ks) e hs = from-arranged f false (t ∷ ts) (kind d r.result) (λ before.
           subst (λ a. IsRead before (over (op_text d names f) (map w_of (arranged_forms d names order a (t ∷ ts)))) (plain (fapp f false (fpack (t ∷ ts)))) (kind d r.result)) (sym free)
           (subst (IsRead before (over (op_text d names f) (map w_of (t ∷ ts))) (plain (fapp f false (fpack (t ∷ ts))))) (result-of d fits f r listed)
-          (call-read f low t ts k ks hs.0 hs.1 (subst (λ qs. application_fault d (is_sum (axioms d f)) f qs ≡ None) e (takes-its-own d fits f r listed no))
-          (plain (fapp f false (fpack (t ∷ ts)))) (λ x o. o) (λ texts rs l. applied-free f no texts rs (t ∷ ts) l) before)))
+          (call-read f low t ts k ks hs.0 hs.1 (subst (λ qs. application_fault d (is_sum (axioms d f)) f qs ≡ None) e (takes-its-own d fits f r listed not_sum))
+          (plain (fapp f false (fpack (t ∷ ts)))) (λ x o. o) (λ texts rs l. applied-free f not_sum texts rs (t ∷ ts) l) before)))
 
   comm-can : (f : OpId) (t u : FlatTerm) (k : SortId) (r : Rank) → Contains (declared d f).ranks r → f.0 < length d.ops → axioms d f ≡ Comm → map (kind d) r.args ≡ k ∷ k ∷ [] →
       CanRead t k → CanRead u k → CanRead (fapp f false (fpack (t ∷ u ∷ []))) (kind d r.result)
@@ -253,14 +253,14 @@ module _ (d : Declarations) (names : Names) (readable : AreReadable d names) (fi
       subst (λ a. IsRead before (over (op_text d names f) (map w_of (arranged_forms d names order a (t ∷ u ∷ [])))) whole (kind d r.result)) (sym comm)
       (go (is_after (key d names order t) (key d names order u)) before))
     where
-      no : is_sum (axioms d f) ≡ false
-      no = ap is_sum comm
+      not_sum : is_sum (axioms d f) ≡ false
+      not_sum = ap is_sum comm
 
       whole : Term
       whole = plain (fapp f false (fpack (t ∷ u ∷ [])))
 
       none : application_fault d (is_sum (axioms d f)) f (k ∷ k ∷ []) ≡ None
-      none = subst (λ qs. application_fault d (is_sum (axioms d f)) f qs ≡ None) e (takes-its-own d fits f r listed no)
+      none = subst (λ qs. application_fault d (is_sum (axioms d f)) f qs ≡ None) e (takes-its-own d fits f r listed not_sum)
 
       may : IsCommutative (axioms d f)
       may = subst IsCommutative (sym comm) tt
@@ -270,11 +270,11 @@ module _ (d : Declarations) (names : Names) (readable : AreReadable d names) (fi
           subst (IsRead before (over (op_text d names f) (map w_of (u ∷ t ∷ []))) whole) (result-of d fits f r listed)
           (call-read f low u (t ∷ []) k (k ∷ []) i (h, tt) none whole
           (λ x o. elim o [ inl a ↦ inr (inl a) | inr q ↦ elim q [ inl b ↦ inl b | inr n ↦ absurd n ] ])
-          (λ texts rs l. BEqual-trans d (applied-free f no texts rs (u ∷ t ∷ []) l) (exchanged d f may (value_of d names order (as_read texts) u) (value_of d names order (as_read texts) t)))
+          (λ texts rs l. BEqual-trans d (applied-free f not_sum texts rs (u ∷ t ∷ []) l) (exchanged d f may (value_of d names order (as_read texts) u) (value_of d names order (as_read texts) t)))
           before)
       go false before =
           subst (IsRead before (over (op_text d names f) (map w_of (t ∷ u ∷ []))) whole) (result-of d fits f r listed)
-          (call-read f low t (u ∷ []) k (k ∷ []) h (i, tt) none whole (λ x o. o) (λ texts rs l. applied-free f no texts rs (t ∷ u ∷ []) l) before)
+          (call-read f low t (u ∷ []) k (k ∷ []) h (i, tt) none whole (λ x o. o) (λ texts rs l. applied-free f not_sum texts rs (t ∷ u ∷ []) l) before)
 
   -- Sums.
 
@@ -304,17 +304,17 @@ module _ (d : Declarations) (names : Names) (readable : AreReadable d names) (fi
           let each = subst (AllByRecursion (λ t. CanRead t (kind d r.result))) (sym e) (each-sorted d names order (λ t. CanRead t (kind d r.result)) l hs) in
           let count : length (u ∷ us) ≡ length l = ap length e ∙ length-sorted d names order l in
           let ks = map (λ (t : FlatTerm). kind d r.result) us in
-          let number : length ks ≡ length us = length-map (λ (t : FlatTerm). kind d r.result) us in
+          let number : length ks ≡ length us = length-map us (λ (t : FlatTerm). kind d r.result) in
           subst (IsRead before (over (op_text d names f) (map w_of (u ∷ us))) whole) (result-of d fits f r listed)
           (call-read f low u us (kind d r.result) ks each.0 (in-order (kind d r.result) us each.1)
           (takes-sum d fits f r listed assoc (kind d r.result ∷ ks) (omega (arith, number, count, long)) (refl, all-are f (kind d r.result) us))
           whole
           (λ x o. subst (Among d names order x) (sym e) (among-sorted d names order x l (occurs-sum x f l o)))
           (λ texts rs lead. rw (sum-is (axioms d f) assoc) (
-            BEqual-trans d (nest-read f rs (value_of d names order (as_read texts) u) (values d names order (as_read texts) us) lead)
-            (subst (λ ts. BEqual d (nest_all f (values d names order (as_read texts) ts)) (renamed (read_as texts) whole)) (sym e)
-            (subst (BEqual d (nest_all f (values d names order (as_read texts) (sorted_forms d names order l)))) (sym (apply-nest_all (as_read texts) f (plain_all (fpack l))))
-            (sum-sorted d names order (as_read texts) f (commutes (axioms d f) assoc) assoc l)))
+          BEqual-trans d (nest-read f rs (value_of d names order (as_read texts) u) (values d names order (as_read texts) us) lead)
+          (subst (λ ts. BEqual d (nest_all f (values d names order (as_read texts) ts)) (renamed (read_as texts) whole)) (sym e)
+          (subst (BEqual d (nest_all f (values d names order (as_read texts) (sorted_forms d names order l)))) (sym (apply-nest_all (as_read texts) f (plain_all (fpack l))))
+          (sum-sorted d names order (as_read texts) f (commutes (axioms d f) assoc) assoc l)))
           ))
           before)
 

@@ -96,18 +96,24 @@ module _ (d : Declarations) (names : Names) (readable : AreReadable d names) (fi
     all-written : (xs : List Var) → ((x : Var) → Contains xs x → Contains vars x) → AllByRecursion IsWrittenBinding (map (written_pair d names texts order) (values_of s xs))
     all-written [] within = tt
     all-written (x ∷ xs) within =
-        let h = within x (contains_here x xs) in
-        ((alone-sorted d names readable tops (asked_name d names texts x) x.sort,
-        (sorted-written d names readable tops (asked_name d names texts x) (some-text x h).some x.sort, written-written d names readable tops order few (value s x))),
-        all-written xs (λ y k. within y (contains_later x xs y k)))
+        let h = within x (contains_here x xs) in (
+          (
+            alone-sorted d names readable tops (asked_name d names texts x) x.sort,
+            (sorted-written d names readable tops (asked_name d names texts x) (some-text x h).some x.sort, written-written d names readable tops order few (value s x)),
+          ),
+          all-written xs (λ y k. within y (contains_later x xs y k)),
+        )
 
     all-tokens : (xs : List Var) → ((x : Var) → Contains xs x → Contains vars x) → AllByRecursion PairTokens (map (written_pair d names texts order) (values_of s xs))
     all-tokens [] within = tt
     all-tokens (x ∷ xs) within =
-        let h = within x (contains_here x xs) in
-        ((sorted-tokens d names readable tops (asked_name d names texts x) (some-text x h).with_colon x.sort (ask.named x h).sort,
-        written-tokens d names readable tops order few (value s x) (value-printable x h)),
-        all-tokens xs (λ y k. within y (contains_later x xs y k)))
+        let h = within x (contains_here x xs) in (
+          (
+            sorted-tokens d names readable tops (asked_name d names texts x) (some-text x h).with_colon x.sort (ask.named x h).sort,
+            written-tokens d names readable tops order few (value s x) (value-printable x h),
+          ),
+          all-tokens xs (λ y k. within y (contains_later x xs y k)),
+        )
 
     -- What the bindings are read as, behind these names.
 
@@ -147,8 +153,8 @@ module _ (d : Declarations) (names : Names) (readable : AreReadable d names) (fi
           };
           by = by_names b.after;
           renames = fresh-renaming b.after (OccursInValues vars (substitution s))
-              (λ y o. (numbering.exact y).1 (among-values s vars o.0 y o.1.0 o.1.1))
-              (λ y o. b.named o.0 y o.1.0 o.1.1);
+              (λ y o. (numbering.exact y).1 (among-values s vars o.0 y o.1 o.2))
+              (λ y o. b.named o.0 y o.1 o.2);
           equal = λ x h. values-equal texts x h;
         }
 
@@ -180,10 +186,10 @@ module _ (d : Declarations) (names : Names) (readable : AreReadable d names) (fi
             };
             by = by_names b.after;
             renames = fresh-renaming b.after (OccursInVariant d names texts vars (plain t) (substitution s))
-                (λ y o. elim o [ inl a ↦ (numbering.exact y).1 (inl a) | inr v ↦ (numbering.exact y).1 (inr (among-values s vars v.0 y v.1.0 v.1.1)) ])
+                (λ y o. elim o [ inl a ↦ (numbering.exact y).1 (inl a) | inr v ↦ (numbering.exact y).1 (inr (among-values s vars v.0 y v.1 v.2)) ])
                 (λ y o. elim o [
                   | inl a ↦ subst (λ ts. Contains ts (new_name order y)) (sym b.goes_on) (Contains-append_left r.resolved.texts b.news (new_name order y) (r.named y a))
-                  | inr v ↦ b.named v.0 y v.1.0 v.1.1
+                  | inr v ↦ b.named v.0 y v.1 v.2
                 ]);
             term_equal = newly b.after (term r.resolved.term) (plain t)
                 (subst (λ ts. BEqual d (term r.resolved.term) (renamed (read_as d names readable fits tops order ts) (plain t)))

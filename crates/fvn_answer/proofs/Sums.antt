@@ -46,5 +46,5 @@ module _ (d : Declarations) (f : OpId) where
           BEqual-trans d (step (here (inr (shift a))) stop)
           (BEqual-trans d (in-two (exchanged t u) stop) (step (here (inl (shift a))) stop))
 
-      pub behind : (t : Term) {u v : Term} {us vs : Terms} → BEqual d (nest f u us) (nest f v vs) → BEqual d (nest f t (more u us)) (nest f t (more v vs))
-      behind t p = in-two stop p
+      pub behind : (t u : Term) (us : Terms) (v : Term) (vs : Terms) → BEqual d (nest f u us) (nest f v vs) → BEqual d (nest f t (more u us)) (nest f t (more v vs))
+      behind t u us v vs p = in-two stop p

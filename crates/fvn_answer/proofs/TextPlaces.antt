@@ -67,6 +67,7 @@ placed before w later = go (place before w) refl where
   go None e =
       ap (λ ts. place_or_end ts w) (append_assoc before (w ∷ []) later)
       ∙ ap (or_end (before ++ w ∷ later)) (position-new (λ t. bytes_eq w t) 0 before w later e (bytes_eq-refl w))
+      ∙ (let same : 0 + length before ≡ length before = omega arith in same)
 
 pub with_text-more : (before : List Text) (w : Text) → (more : List Text) × (with_text before w ≡ before ++ more)
 with_text-more before w = go (place before w) where

@@ -6,7 +6,7 @@ use Rattle.std.proofs.lemmas.Bool.{lt-ltb, ltb-true, cases_lt}
 use Rattle.std.proofs.Math.Seq.{get_or-append_seam, take-append_seam}
 use Rattle.std.proofs.lemmas.List.{length-append}
 use Rattle.fvn_lex.specs.declared.token.Class.TheVariants.{Word, Special}
-use Rattle.fvn_lex.specs.Cut.{pieces_of}
+use Rattle.fvn_lex.specs.Bytes.{is_special}
 use Rattle.fvn_lex.specs.Join.{IsPiece}
 use Rattle.fvn_lex.specs.Parts.{goes_through}
 use Rattle.fvn_lex.proofs.JoinLemmas.{piece-form}
@@ -27,28 +27,28 @@ use Rattle.fvn_answer.specs.Writing.{arguments, arranged, over, top, sort_text, 
 use Rattle.fvn_answer.specs.inner.Bytes.{IsPrintable, ArePrintable}
 use Rattle.fvn_answer.specs.inner.Readable.{AreReadable}
 use Rattle.fvn_answer.proofs.NewNames.{IsNaming, new_name-naming, new_name-some}
-use Rattle.fvn_answer.proofs.Pieces.{Tokens, tokens-append}
+use Rattle.fvn_answer.proofs.Pieces.{Tokens, tokens-append, special-token}
 use Rattle.fvn_answer.proofs.Printing.{each-arranged}
 
 left_paren-token : IsPiece left_paren
-unfolding IsPiece pieces_of
-left_paren-token = refl
+unfolding is_special
+left_paren-token = special-token 40 refl
 
 right_paren-token : IsPiece right_paren
-unfolding IsPiece pieces_of
-right_paren-token = refl
+unfolding is_special
+right_paren-token = special-token 41 refl
 
 left_bracket-token : IsPiece left_bracket
-unfolding IsPiece pieces_of
-left_bracket-token = refl
+unfolding is_special
+left_bracket-token = special-token 91 refl
 
 right_bracket-token : IsPiece right_bracket
-unfolding IsPiece pieces_of
-right_bracket-token = refl
+unfolding is_special
+right_bracket-token = special-token 93 refl
 
 comma-token : IsPiece comma
-unfolding IsPiece pieces_of
-comma-token = refl
+unfolding is_special
+comma-token = special-token 44 refl
 
 -- a word goes on through words
 word-goes : (w : Text) → IsWord w → IsTrue (goes_through false w)
@@ -77,9 +77,6 @@ over-written w [] hs = tt
 over-written w (t ∷ ts) hs = arguments-written t ts hs.0 hs.1
 
 -- A name with a colon behind it.
-
-nothing : {n : ℕ} → n ≡ 0 → n < 1
-nothing e = omega (arith, e)
 
 some-length : (x : Text) → x ≢ [] → 1 ≤ length x
 some-length [] h = absurd (h refl)

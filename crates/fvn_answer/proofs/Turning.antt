@@ -42,13 +42,17 @@ back-sort by (z ∷ zs) w = go (same_var (by z) w && same_sort z.sort w.sort) re
 
 back-exact : (by : Renaming) (zs : List Var) (z : Var) → Contains zs z → (by z).sort ≡ z.sort → ((y : Var) → Contains zs y → by y ≡ by z → y ≡ z) → back by zs (by z) ≡ z
 back-exact by [] z h s one = absurd (contains_none z h)
-back-exact by (y ∷ zs) z h s one = go (same_var (by y) (by z) && same_sort y.sort (by z).sort) refl
+back-exact by (y ∷ zs) z h s one = go (same_var (by y) (by z) && same_sort y.sort (by z).sort) refl (λ k. back-exact by zs z k s (λ x i. one x (contains_later y zs x i)))
   where
-    go : (b : Bool) → (same_var (by y) (by z) && same_sort y.sort (by z).sort) ≡ b → (if b then y else back by zs (by z)) ≡ z
-    go true e = one y (contains_here y zs) (same_var_is (by y) (by z) (and_parts (same_var (by y) (by z)) (same_sort y.sort (by z).sort) e).0)
-    go false e = elim (contains_cases y zs z h) [
-      | inl q ↦ q
-      | inr k ↦ back-exact by zs z k s (λ x i. one x (contains_later y zs x i))
+    go : (b : Bool) → (same_var (by y) (by z) && same_sort y.sort (by z).sort) ≡ b → (Contains zs z → back by zs (by z) ≡ z) → (if b then y else back by zs (by z)) ≡ z
+    go true e ih = one y (contains_here y zs) (same_var_is (by y) (by z) (and_parts (same_var (by y) (by z)) (same_sort y.sort (by z).sort) e).0)
+    go false e ih = elim (contains_cases y zs z h) [
+      | inl q ↦
+          let same : (same_var (by z) (by z) && same_sort z.sort (by z).sort) ≡ true =
+              and_from (same_var (by z) (by z)) (same_sort z.sort (by z).sort) (same_var_itself (by z)) (subst (λ (p : SortId). same_sort z.sort p ≡ true) (sym s) (same_sort-self z.sort)) in
+          let n : true ≡ false = sym (subst (λ v. (same_var (by v) (by z) && same_sort v.sort (by z).sort) ≡ true) (sym q) same) ∙ e in
+          cc
+      | inr k ↦ ih k
     ]
 
 module _ (d : Declarations) (AmongS AmongR : Var → Type 0) (by_s by_r : Renaming) (s_renames : IsRenaming AmongS by_s) (r_renames : IsRenaming AmongR by_r)
@@ -80,7 +84,7 @@ module _ (d : Declarations) (AmongS AmongR : Var → Type 0) (by_s by_r : Renami
   itself t h =
       apply-apply (λ z. var (by_s z)) to_s t
       ∙ apply-agree (followed_by (λ z. var (by_s z)) to_s) var t
-          (λ z o. ap var (back-exact by_s list z (listed z (h z o)) (s_renames.sorts z (h z o)) (λ y i e. s_renames.one_to_one y z (only y i) (h z o) e)))
+      (λ z o. ap var (back-exact by_s list z (listed z (h z o)) (s_renames.sorts z (h z o)) (λ y i e. s_renames.one_to_one y z (only y i) (h z o) e)))
       ∙ apply-var t
 
   other : (u : Term) → ((y : Var) → Occurs y u → AmongR y) → renamed (back by_s list) (renamed by_r u) ≡ apply turning u
@@ -101,36 +105,36 @@ variables_of_values s [] = []
 variables_of_values s (x ∷ xs) = variables (s x) ++ variables_of_values s xs
 
 values-listed : (s : Substitution) (xs : List Var) (z : Var) → OccursInValues xs s z → Contains (variables_of_values s xs) z
-values-listed s [] z o = absurd (contains_none o.0 o.1.0)
-values-listed s (x ∷ xs) z o = elim (contains_cases x xs o.0 o.1.0) [
-  | inl e ↦ Contains-append_left (variables (s x)) (variables_of_values s xs) z (variables_list z (s x) (subst (λ v. Occurs z (s v)) (sym e) o.1.1))
-  | inr k ↦ Contains-append_right (variables (s x)) (variables_of_values s xs) z (values-listed s xs z (o.0, (k, o.1.1)))
+values-listed s [] z o = absurd (contains_none o.0 o.1)
+values-listed s (x ∷ xs) z o = elim (contains_cases x xs o.0 o.1) [
+  | inl e ↦ Contains-append_left (variables (s x)) (variables_of_values s xs) z (variables_list z (s x) (subst (λ v. Occurs z (s v)) (sym e) o.2))
+  | inr k ↦ Contains-append_right (variables (s x)) (variables_of_values s xs) z (values-listed s xs z (o.0, k, o.2))
 ]
 
 values-only : (s : Substitution) (xs : List Var) (z : Var) → Contains (variables_of_values s xs) z → OccursInValues xs s z
 values-only s [] z h = absurd (contains_none z h)
 values-only s (x ∷ xs) z h = elim (Contains-append_cases (variables (s x)) (variables_of_values s xs) z h) [
-  | inl a ↦ (x, (contains_here x xs, variables_occur z (s x) a))
-  | inr b ↦ let o = values-only s xs z b in (o.0, (contains_later x xs o.0 o.1.0, o.1.1))
+  | inl a ↦ (x, contains_here x xs, variables_occur z (s x) a)
+  | inr b ↦ let o = values-only s xs z b in (o.0, contains_later x xs o.0 o.1, o.2)
 ]
 
 pub equal-instances : BindingsAreSpelledOnce → EqualLinesAreInstances
 equal-instances law d names texts vars line s r a b =
-    let S = OccursInValues vars s in
-    let R = OccursInValues vars r in
+    let S : Var → Type 0 = OccursInValues vars s in
+    let R : Var → Type 0 = OccursInValues vars r in
     let list = variables_of_values s vars in
     record {
       after = turning d S R a.by b.by a.renames.renames b.renames.renames list (values-listed s vars) (values-only s vars);
       well_sorted = turning-sorted d S R a.by b.by a.renames.renames b.renames.renames list (values-listed s vars) (values-only s vars);
       equal = λ x h. turned-equal d S R a.by b.by a.renames.renames b.renames.renames list (values-listed s vars) (values-only s vars) (s x) (r x)
-          (λ z o. (x, (h, o))) (λ z o. (x, (h, o)))
+          (λ z o. (x, h, o)) (λ z o. (x, h, o))
           (BEqual-trans d (BEqual-sym d (a.equal x h)) (subst (λ v. BEqual d v (renamed b.by (r x))) (sym (one-substitution law d names texts vars line a.denoted b.denoted a.denotes b.denotes x h)) (b.equal x h)));
     }
 
 pub equal-cover : BindingsAreSpelledOnce → EqualLinesCover
 equal-cover law d names texts vars line t u s r a b =
-    let S = λ z. Occurs z u ⊎ OccursInValues vars r z in
-    let R = λ z. Occurs z t ⊎ OccursInValues vars s z in
+    let S : Var → Type 0 = λ z. Occurs z u ⊎ OccursInValues vars r z in
+    let R : Var → Type 0 = λ z. Occurs z t ⊎ OccursInValues vars s z in
     let list = variables u ++ variables_of_values r vars in
     let listed : (z : Var) → Occurs z u ⊎ OccursInValues vars r z → Contains list z = λ z o. elim o [
       | inl e ↦ Contains-append_left (variables u) (variables_of_values r vars) z (variables_list z u e)
@@ -144,9 +148,12 @@ equal-cover law d names texts vars line t u s r a b =
     record {
       by = turning d S R b.by a.by b.renames.renames a.renames.renames list listed only;
       well_sorted = turning-sorted d S R b.by a.by b.renames.renames a.renames.renames list listed only;
-      same_terms = (turned-equal d S R b.by a.by b.renames.renames a.renames.renames list listed only u t (λ z o. inl o) (λ z o. inl o)
-          (BEqual-trans d (BEqual-sym d b.term_equal) (subst (λ v. BEqual d v (renamed a.by t)) same.0 a.term_equal)), tt);
+      same_terms = (
+        turned-equal d S R b.by a.by b.renames.renames a.renames.renames list listed only u t (λ z o. inl o) (λ z o. inl o)
+            (BEqual-trans d (BEqual-sym d b.term_equal) (subst (λ v. BEqual d v (renamed a.by t)) same.0 a.term_equal)),
+        tt,
+      );
       same_values = λ x h. turned-equal d S R b.by a.by b.renames.renames a.renames.renames list listed only (r x) (s x)
-          (λ z o. inr (x, (h, o))) (λ z o. inr (x, (h, o)))
+          (λ z o. inr (x, h, o)) (λ z o. inr (x, h, o))
           (BEqual-trans d (BEqual-sym d (b.equal x h)) (subst (λ v. BEqual d v (renamed a.by (s x))) (same.1 x h) (a.equal x h)));
     }

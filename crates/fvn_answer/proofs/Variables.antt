@@ -1,9 +1,9 @@
 -- Written variables are read as these variables.
 use Rattle.std.proofs.Common.{◌≡◌, ◌≢◌, ℕ, zero, suc, ◌+◌, ◌<◌, ◌≤◌, Bool, true, false, List, [], ◌∷◌, ◌++◌, length, take, drop, get_or, Option, Some, None, Ok, refl, sym, ap, ◌∙◌, subst, append_assoc, arith}
 use Rattle.std.specs.Prelude.{nat_lt, ◌==◌, if◌then◌else◌, slice_get}
-use Rattle.std.proofs.lemmas.Bool.{ltb-true}
+use Rattle.std.proofs.lemmas.Bool.{eqb-true, ne_eqb, ltb-true}
 use Rattle.std.proofs.Math.Seq.{take-append_seam}
-use Rattle.std.proofs.lemmas.List.{drop-append, length-append}
+use Rattle.std.proofs.lemmas.List.{length-append}
 use Rattle.std.specs.List.{AllByRecursion}
 use Rattle.fvn_terms.specs.declared.plain.OpId.{OpId}
 use Rattle.fvn_terms.specs.declared.plain.SortId.{SortId}
@@ -32,19 +32,21 @@ use Rattle.fvn_answer.proofs.Tokens.{is-kind, without_last-colon}
 
 pub colon-between : (x st : Text) → last_colon st ≡ None → last_colon (x ++ 58 ∷ st) ≡ Some (length x)
 colon-between [] st none = rw none refl
-colon-between (b ∷ x) st none = rw (colon-between x st none) refl
+colon-between (b ∷ x) st none = rw (colon-between x st none) (let same : length x + 1 ≡ length (b ∷ x) = omega arith in ap Some same)
 
 not-zero : (n : ℕ) → 1 ≤ n → (n == 0) ≡ false
-not-zero zero h = absurd (omega arith)
-not-zero (suc n) h = refl
+not-zero n h = ne_eqb n 0 (λ e. omega (arith, e, h))
 
 some-length : (x : Text) → x ≢ [] → 1 ≤ length x
 some-length [] h = absurd (h refl)
 some-length (b ∷ x) h = omega arith
 
+drop-more : (x : Text) (b : ℕ) (st : Text) → drop (suc (length x)) (x ++ b ∷ st) ≡ st
+drop-more [] b st = refl
+drop-more (a ∷ x) b st = drop-more x b st
+
 drop-behind : (x : Text) (b : ℕ) (st : Text) → drop (length x + 1) (x ++ b ∷ st) ≡ st
-drop-behind [] b st = refl
-drop-behind (a ∷ x) b st = drop-behind x b st
+drop-behind x b st = ap (λ n. drop n (x ++ b ∷ st)) (let same : length x + 1 ≡ suc (length x) = omega arith in same) ∙ drop-more x b st
 
 -- NAME:SORT is split at this colon
 pub split-between : (sorts : List Text) (x st : Text) (s : SortId) → x ≢ [] → last_colon st ≡ None → sort_named sorts st ≡ Some s →
@@ -54,8 +56,7 @@ split-between sorts x st s some none named =
     ∙ rw (not-zero (length x) (some-length x some), take-append_seam x (58 ∷ st), drop-behind x 58 st, named) refl
 
 zero-is : (n : ℕ) → (n == 0) ≡ true → n ≡ 0
-zero-is zero e = refl
-zero-is (suc n) e = cc
+zero-is n e = eqb-true n 0 e
 
 module _ (d : Declarations) (names : Names) (readable : AreReadable d names) (tops : (k : SortId) → IsKind d k → IsMaximalOf d k (top d k)) where
   abbrev pub read_in_names : Scope
@@ -83,8 +84,8 @@ module _ (d : Declarations) (names : Names) (readable : AreReadable d names) (to
       go None p = refl
       go (Some i) p = next (arity_of d (record { 0 = i }) == 0) refl
         where
-          next : (b : Bool) → (arity_of d (record { 0 = i }) == 0) ≡ b → (if b then Some (record { 0 = i }) else None) ≡ None
-          next false q = refl
+          next : (b : Bool) → (arity_of d (record { 0 = i }) == 0) ≡ b → if_constant d (op_at (Some i)) ≡ None
+          next false q = rw q refl
           next true q =
               let n = readable.constants (record { 0 = i }) w (op-at w i p) (zero-is (arity_of d (record { 0 = i })) q) in
               let f : Some (x, s) ≡ None = sym e ∙ n in
