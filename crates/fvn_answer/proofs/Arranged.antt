@@ -1,5 +1,5 @@
 -- Forms in the order in which they are printed.
-use Rattle.std.proofs.Common.{◌≡◌, ◌⊎◌, inl, inr, Bool, true, false, List, [], ◌∷◌, ◌+◌, length, refl, sym, ap, ◌∙◌, map, arith}
+use Rattle.std.proofs.Common.{◌≡◌, inl, inr, Bool, true, false, List, [], ◌∷◌, ◌+◌, length, refl, sym, ap, ◌∙◌, map, arith}
 use Rattle.std.specs.Prelude.{if◌then◌else◌}
 use Rattle.std.specs.List.{AllByRecursion}
 use Rattle.fvn_terms.specs.declared.plain.Var.{Var}
@@ -7,12 +7,12 @@ use Rattle.fvn_terms.specs.declared.plain.OpId.{OpId}
 use Rattle.fvn_terms.specs.declared.declarations.Axioms.{Axioms}
 use Rattle.fvn_terms.specs.declared.declarations.Declarations.{Declarations}
 use Rattle.fvn_terms.specs.Signature.{axioms}
-use Rattle.fvn_terms.specs.Term.{Term, Terms, app, none, more}
+use Rattle.fvn_terms.specs.Term.{Term, Terms, app}
 use Rattle.fvn_terms.specs.Substitution.{Substitution, apply, apply_all, OccursAmong}
 use Rattle.fvn_terms.specs.Places.{stop}
 use Rattle.fvn_terms.specs.Equality.{IsCommutative, IsAssociative, BEqual}
 use Rattle.fvn_terms.proofs.Equal.{BEqual-trans}
-use Rattle.fvn_forms.specs.Flat.{FlatTerm, FlatTerms, fnone, fmore, fpack, funpack, nest, nest_all, plain, plain_all}
+use Rattle.fvn_forms.specs.Flat.{FlatTerm, fpack, nest, nest_all, plain, plain_all}
 use Rattle.fvn_syntax.specs.declared.names.Names.{Names}
 use Rattle.fvn_syntax.specs.Pieces.{Text}
 use Rattle.fvn_syntax.specs.Raw.{RawTerm}

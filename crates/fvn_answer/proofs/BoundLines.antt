@@ -1,7 +1,6 @@
 -- The bindings of a line are read as bindings of the variables that are asked for.
-use Rattle.std.proofs.Common.{◌≡◌, ◌≢◌, ℕ, ◌+◌, ◌<◌, ◌^◌, inl, inr, ◌⊎◌, Bool, true, false, List, [], ◌∷◌, ◌++◌, length, get_or, Option, Some, None, Ok, refl, sym, ap, ◌∙◌, subst, append_assoc, map, arith}
-use Rattle.std.specs.Prelude.{if◌then◌else◌, slice_get, AllPairs, Contains}
-use Rattle.std.specs.List.{AllByRecursion}
+use Rattle.std.proofs.Common.{◌≡◌, ◌<◌, inl, inr, Bool, true, false, List, [], ◌∷◌, ◌++◌, length, Some, refl, sym, ap, ◌∙◌, subst, append_assoc, map}
+use Rattle.std.specs.Prelude.{if◌then◌else◌, Contains}
 use Rattle.std.proofs.lemmas.List.{append-nil}
 use Rattle.std.proofs.lemmas.List.Elements.{Contains-append_left}
 use Rattle.fvn_base.proofs.Membership.{contains_here, contains_later, contains_cases, contains_none}
@@ -9,17 +8,17 @@ use Rattle.fvn_terms.specs.declared.plain.Var.{Var}
 use Rattle.fvn_terms.specs.declared.plain.SortId.{SortId}
 use Rattle.fvn_terms.specs.declared.plain.Plain.{Plain}
 use Rattle.fvn_terms.specs.declared.declarations.Declarations.{Declarations}
-use Rattle.fvn_terms.specs.Signature.{kind, same, KeepsKinds, IsSort, HasKind}
-use Rattle.fvn_terms.specs.Sorts.{HasSort, IsWellSorted}
-use Rattle.fvn_terms.specs.Term.{Term, var}
+use Rattle.fvn_terms.specs.Signature.{kind, same, IsSort}
+use Rattle.fvn_terms.specs.Sorts.{IsWellSorted}
+use Rattle.fvn_terms.specs.Term.{var}
 use Rattle.fvn_terms.specs.Plain.{term}
 use Rattle.fvn_terms.specs.Places.{stop}
-use Rattle.fvn_terms.specs.Substitution.{Substitution, apply, Occurs, same_var, term_or}
+use Rattle.fvn_terms.specs.Substitution.{Occurs, same_var, term_or}
 use Rattle.fvn_terms.specs.Substitution.{bound as plain_bound, value as plain_value}
 use Rattle.fvn_terms.specs.Equality.{BEqual}
 use Rattle.fvn_terms.proofs.Equal.{BEqual-trans}
 use Rattle.fvn_terms.proofs.WellSorted.{HasSort-apply}
-use Rattle.fvn_forms.specs.Flat.{FlatTerm, plain}
+use Rattle.fvn_forms.specs.Flat.{plain}
 use Rattle.fvn_forms.specs.FitsKinds.{FitsKinds}
 use Rattle.fvn_flat.specs.Bindings.{Bindings, BindingsFit, value}
 use Rattle.fvn_flat.specs.Drawn.{Renaming, renamed}
@@ -36,7 +35,7 @@ use Rattle.fvn_answer.specs.Numberings.{new_name}
 use Rattle.fvn_answer.specs.Writing.{top}
 use Rattle.fvn_answer.specs.Lines.{values_of, asked_name, written_pair}
 use Rattle.fvn_answer.specs.inner.Readable.{AreReadable}
-use Rattle.fvn_answer.proofs.Lists.{got-some, pairs-map}
+use Rattle.fvn_answer.proofs.Lists.{some-once, got-some, pairs-map}
 use Rattle.fvn_answer.proofs.ReadBack.{read_as, IsRead, can-read}
 use Rattle.fvn_answer.proofs.TextPlaces.{place-distinct}
 use Rattle.fvn_answer.proofs.Variables.{variable-read}
@@ -82,12 +81,12 @@ module _ (d : Declarations) (names : Names) (readable : AreReadable d names) (fi
   one-variable : (x y : Var) → Contains vars x → Contains vars y → AreOneVariable (reading d names texts vars) (pair_of x).left (pair_of y).left → x ≡ y
   one-variable x y h k one =
       let both : Some (asked_text x, x.sort) ≡ Some (asked_text y, y.sort) = sym (text-read x h) ∙ one.first ∙ sym one.second ∙ text-read y k in
-      let pair : (asked_text x, x.sort) ≡ (asked_text y, y.sort) = cc in
+      let pair = some-once both in
       let places : Some x.name ≡ Some y.name =
       sym (place-distinct texts x.name ask.distinct_texts (low x h))
       ∙ ap (λ (p : Text × SortId). place texts p.0) pair
       ∙ place-distinct texts y.name ask.distinct_texts (low y k) in
-      var-is x y (let e : x.name ≡ y.name = cc in e) (ap (λ (p : Text × SortId). p.1) pair) ((ask.named x h).not_fresh ∙ sym (ask.named y k).not_fresh)
+      var-is x y (some-once places) (ap (λ (p : Text × SortId). p.1) pair) ((ask.named x h).not_fresh ∙ sym (ask.named y k).not_fresh)
 
   pairs-twice : (xs : List Var) → pairs_of xs ≡ map pair_of xs
   pairs-twice [] = refl

@@ -1,8 +1,8 @@
 -- The names of a module that was read are readable.
-use Rattle.std.proofs.Common.{◌≡◌, ℕ, ◌<◌, Bool, true, false, List, [], ◌∷◌, length, get_or, None, refl, ap, ◌∙◌}
+use Rattle.std.proofs.Common.{◌≡◌, Bool, true, false, [], ◌∷◌, get_or, None, refl}
 use Rattle.std.specs.Prelude.{◌||◌, ◌==◌}
 use Rattle.fvn_syntax.specs.Pieces.{Text}
-use Rattle.fvn_syntax.specs.Names.{behind_byte, last_colon}
+use Rattle.fvn_syntax.specs.Names.{last_colon}
 use Rattle.fvn_statements.specs.Words.{has_colon}
 use Rattle.fvn_module.specs.Contents.{Contents}
 use Rattle.fvn_module.specs.Readable.{IsReadable}

@@ -1,6 +1,6 @@
 -- The names of new variables.
-use Rattle.std.proofs.Common.{◌≡◌, ◌≢◌, ℕ, zero, suc, ◌+◌, ◌<◌, ◌≤◌, ◌^◌, inl, inr, Bool, true, false, List, [], ◌∷◌, ◌++◌, length, get_or, drop, Option, Some, None, refl, sym, ap, ◌∙◌, subst, arith}
-use Rattle.std.specs.Prelude.{◌&&◌, IsTrue, IsFalse, Contains, decimal, unwrap_or, codes}
+use Rattle.std.proofs.Common.{◌≡◌, ◌≢◌, ℕ, ◌+◌, ◌<◌, ◌≤◌, ◌^◌, inl, Bool, true, false, List, [], ◌∷◌, ◌++◌, length, get_or, drop, Option, Some, None, refl, sym, ap, ◌∙◌, subst, arith}
+use Rattle.std.specs.Prelude.{◌&&◌, IsTrue, Contains, decimal, unwrap_or, codes}
 use Rattle.std.specs.List.{position_from}
 use Rattle.std.specs.Str.Parse.{AllDigits}
 use Rattle.std.proofs.lemmas.Bool.{lt-ltb}
@@ -10,14 +10,14 @@ use Rattle.std.proofs.lemmas.Str.Parse.{digit_from_value}
 use Rattle.fvn_lex.specs.declared.token.Class.TheVariants.{Word}
 use Rattle.fvn_lex.specs.Bytes.{is_printed, is_special, is_backquote, goes_on, begins_comment}
 use Rattle.fvn_lex.specs.Join.{IsPiece}
-use Rattle.fvn_lex.specs.Parts.{goes_through, class_of, IsWordPiece}
+use Rattle.fvn_lex.specs.Parts.{goes_through, class_of}
 use Rattle.fvn_lex.proofs.JoinLemmas.{form-piece}
 use Rattle.fvn_terms.specs.declared.plain.Var.{Var}
 use Rattle.fvn_terms.specs.Substitution.{same_var}
 use Rattle.fvn_flat.proofs.Binding.{same_var_is, same_var_itself}
 use Rattle.fvn_syntax.specs.Pieces.{Text, word, is_reserved}
 use Rattle.fvn_answer.specs.Numberings.{number, new_name}
-use Rattle.fvn_answer.proofs.TextPlaces.{Finds, position-finds, position-some}
+use Rattle.fvn_answer.proofs.TextPlaces.{position-finds, position-some}
 
 -- Numbers.
 

@@ -1,12 +1,9 @@
 -- A line is read in one way.
-use Rattle.std.proofs.Common.{◌≡◌, inl, inr, ◌⊎◌, Bool, true, false, List, [], ◌∷◌, ◌++◌, Option, Some, None, Result, Ok, refl, sym, ap, ◌∙◌, subst, map}
-use Rattle.std.specs.Prelude.{Contains, codes, if◌then◌else◌, ◌&&◌, ◌==◌, nat_eq}
-use Rattle.std.specs.List.{AllByRecursion}
-use Rattle.fvn_lex.specs.Cut.{Piece}
+use Rattle.std.proofs.Common.{◌≡◌, List, [], ◌∷◌, ◌++◌, Result, Ok, refl, sym, ap, ◌∙◌, subst, map}
+use Rattle.std.specs.Prelude.{Contains}
 use Rattle.fvn_terms.specs.declared.plain.Var.{Var}
 use Rattle.fvn_terms.specs.declared.plain.Plain.{Plain}
 use Rattle.fvn_terms.specs.declared.declarations.Declarations.{Declarations}
-use Rattle.fvn_terms.specs.Term.{Term, var}
 use Rattle.fvn_terms.specs.Plain.{term}
 use Rattle.fvn_terms.specs.Substitution.{Substitution}
 use Rattle.fvn_terms.specs.Substitution.{value as plain_value}
@@ -14,18 +11,15 @@ use Rattle.fvn_flat.specs.Drawn.{renamed}
 use Rattle.fvn_syntax.specs.declared.names.Names.{Names}
 use Rattle.fvn_syntax.specs.declared.fault.TermFault.{TermFault}
 use Rattle.fvn_syntax.specs.Pieces.{Text, comma, left_brace, right_brace}
-use Rattle.fvn_syntax.specs.Raw.{RawTerm, spell, IsWritten, EndsBefore, name, call, round, kind_variable}
+use Rattle.fvn_syntax.specs.Raw.{RawTerm, EndsBefore}
 use Rattle.fvn_syntax.specs.Resolve.{Resolved, resolve}
 use Rattle.fvn_syntax.proofs.SpelledOnce.{once, ends-before}
-use Rattle.fvn_problems.specs.Spelling.{RawPair, goes_to, spell_pairs, spell_bindings, IsWrittenBinding}
-use Rattle.fvn_problems.specs.Bindings.{IsBindingOf, AreBindingsOf}
+use Rattle.fvn_problems.specs.Spelling.{RawPair, goes_to, spell_pairs, spell_bindings}
+use Rattle.fvn_problems.specs.Bindings.{AreBindingsOf}
 use Rattle.fvn_problems.specs.Laws.{BindingsAreSpelledOnce}
-use Rattle.fvn_answer.specs.Denoting.{as_new, reading, asked, Bind, Denotes, DenotesVariant}
+use Rattle.fvn_answer.specs.Denoting.{as_new, reading, asked, Bind}
+use Rattle.fvn_answer.proofs.Lists.{some-once}
 use Rattle.fvn_answer.specs.Laws.{LinesDenoteOneSubstitution, LinesDenoteOneVariant}
-
--- what is given once
-pub some-once : {A : Type 0} {x y : A} → Some x ≡ Some y → x ≡ y
-some-once e = cc
 
 abbrev given : Resolved → Result Resolved TermFault
 given r = Ok r

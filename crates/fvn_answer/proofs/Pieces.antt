@@ -1,13 +1,12 @@
 -- The pieces of printed lines: what they spell, and that each is a token.
-use Rattle.std.proofs.Common.{◌≡◌, ◌≢◌, ℕ, zero, suc, ◌+◌, ◌<◌, inl, inr, Bool, true, false, List, [], ◌∷◌, ◌++◌, length, get_or, Some, refl, sym, ap, ◌∙◌, subst, append_assoc, map, arith}
-use Rattle.std.specs.Prelude.{IsTrue, decimal, codes}
+use Rattle.std.proofs.Common.{◌≡◌, ℕ, zero, suc, inl, inr, List, [], ◌∷◌, ◌++◌, Some, refl, sym, ap, ◌∙◌, subst, map, arith}
+use Rattle.std.specs.Prelude.{IsTrue}
 use Rattle.std.specs.List.{All, AllByRecursion}
-use Rattle.std.proofs.lemmas.List.{map-append}
 use Rattle.fvn_lex.specs.Cut.{Piece, pieces_of}
 use Rattle.fvn_lex.specs.Join.{IsPiece, Laid, pieces, join}
 use Rattle.fvn_lex.specs.Bytes.{is_special, is_printed, goes_on, begins_comment}
 use Rattle.fvn_lex.proofs.JoinLemmas.{form-piece, join-read, pieces-append}
-use Rattle.fvn_syntax.specs.Pieces.{Text, word, special, comma, left_brace, right_brace}
+use Rattle.fvn_syntax.specs.Pieces.{word, special, comma, left_brace, right_brace}
 use Rattle.fvn_syntax.specs.Raw.{RawTerm, spell}
 use Rattle.fvn_problems.specs.Spelling.{RawPair, goes_to, spell_pair, spell_further, spell_pairs, spell_bindings}
 use Rattle.fvn_answer.specs.Writing.{close}

@@ -1,6 +1,6 @@
 -- Written values are read as they are, modulo the axioms, with their variables numbered by their names.
-use Rattle.std.proofs.Common.{◌≡◌, ◌≢◌, ℕ, zero, suc, ◌+◌, ◌<◌, ◌≤◌, ◌^◌, ◌⊎◌, inl, inr, Bool, true, false, List, [], ◌∷◌, ◌++◌, length, get_or, Option, Some, None, Ok, refl, sym, ap, ◌∙◌, subst, append_assoc, map, arith}
-use Rattle.std.specs.Prelude.{◌&&◌, ◌==◌, not, nat_le, if◌then◌else◌, Contains}
+use Rattle.std.proofs.Common.{◌≡◌, ◌<◌, ◌≤◌, ◌⊎◌, inl, inr, Bool, true, false, List, [], ◌∷◌, ◌++◌, length, Some, None, Ok, refl, sym, ap, ◌∙◌, subst, append_assoc, map, arith}
+use Rattle.std.specs.Prelude.{if◌then◌else◌, Contains}
 use Rattle.std.specs.List.{AllByRecursion}
 use Rattle.std.proofs.lemmas.List.Elements.{Contains-append_left}
 use Rattle.std.proofs.lemmas.List.{append-nil, length-map}
@@ -37,10 +37,10 @@ use Rattle.fvn_syntax.specs.declared.fault.TermFault.TheVariants.{UnknownName}
 use Rattle.fvn_syntax.specs.Resolve.{Resolved, AllResolved, bind, or_fault, unless, resolve, resolve_all, the_variable, applied, nested_all, application_fault}
 use Rattle.fvn_syntax.specs.Resolve.{apply as apply_op}
 use Rattle.fvn_answer.specs.Numberings.{new_name}
-use Rattle.fvn_answer.specs.Writing.{is_after, may_exchange, arguments, over, top, op_text, written}
+use Rattle.fvn_answer.specs.Writing.{is_after, may_exchange, arguments, over, top, op_text}
 use Rattle.fvn_answer.specs.inner.Readable.{AreReadable}
-use Rattle.fvn_answer.proofs.Applying.{sum-is, args-of, result-of, arity-of, takes-its-own, AllAre, takes-sum}
-use Rattle.fvn_answer.proofs.Arranged.{shown_as, key, put_form, sorted_forms, arranged_forms, written-arranged, length-sorted, each-sorted, Among, among-sorted, values, value_of, two-sorted, sum-sorted}
+use Rattle.fvn_answer.proofs.Applying.{sum-is, result-of, arity-of, takes-its-own, AllAre, takes-sum}
+use Rattle.fvn_answer.proofs.Arranged.{shown_as, key, sorted_forms, arranged_forms, written-arranged, length-sorted, each-sorted, Among, among-sorted, values, value_of, sum-sorted}
 use Rattle.fvn_answer.proofs.Printable.{ranked}
 use Rattle.fvn_answer.proofs.Sums.{apply-nest, term-nested, nest-each, exchanged}
 use Rattle.fvn_answer.proofs.NewNames.{new_name-some}

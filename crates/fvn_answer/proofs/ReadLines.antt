@@ -1,5 +1,5 @@
 -- Lines are read back as what they print.
-use Rattle.std.proofs.Common.{◌≡◌, ◌≢◌, ℕ, ◌<◌, ◌^◌, inl, inr, ◌⊎◌, Bool, true, List, [], ◌∷◌, ◌++◌, length, get_or, Some, refl, sym, ap, ◌∙◌, subst, append_assoc, map}
+use Rattle.std.proofs.Common.{◌≡◌, ◌<◌, ◌^◌, inl, inr, List, [], ◌∷◌, ◌++◌, length, get_or, refl, sym, ap, ◌∙◌, subst, map}
 use Rattle.std.specs.Prelude.{Contains}
 use Rattle.std.specs.List.{AllByRecursion}
 use Rattle.std.proofs.lemmas.List.{append-nil}
@@ -9,7 +9,6 @@ use Rattle.fvn_lex.specs.Cut.{pieces_of}
 use Rattle.fvn_terms.specs.declared.plain.Var.{Var}
 use Rattle.fvn_terms.specs.declared.plain.SortId.{SortId}
 use Rattle.fvn_terms.specs.declared.declarations.Declarations.{Declarations}
-use Rattle.fvn_terms.specs.Signature.{IsSort}
 use Rattle.fvn_terms.specs.Term.{Term, var}
 use Rattle.fvn_terms.specs.Plain.{term}
 use Rattle.fvn_terms.specs.Substitution.{Occurs}
@@ -17,7 +16,7 @@ use Rattle.fvn_terms.specs.Substitution.{value as plain_value}
 use Rattle.fvn_terms.specs.Equality.{BEqual}
 use Rattle.fvn_terms.proofs.Equal.{BEqual-apply}
 use Rattle.fvn_terms.proofs.Substitutions.{apply-apply}
-use Rattle.fvn_forms.specs.Flat.{FlatTerm, fpack, plain, plain_all}
+use Rattle.fvn_forms.specs.Flat.{FlatTerm, plain}
 use Rattle.fvn_forms.specs.FitsKinds.{FitsKinds}
 use Rattle.fvn_flat.specs.Bindings.{Bindings, BindingsFit, value}
 use Rattle.fvn_flat.specs.Drawn.{Renaming, renamed, OccursInValues}
@@ -31,16 +30,15 @@ use Rattle.fvn_syntax.specs.Texts.{place_or_end}
 use Rattle.fvn_problems.specs.Spelling.{RawPair, IsWrittenBinding, spell_bindings}
 use Rattle.fvn_problems.specs.VariableTexts.{IsVariableText}
 use Rattle.fvn_answer.specs.Asked.{AreAsked, HaveSorts}
-use Rattle.fvn_answer.specs.Denoting.{as_new, IsFreshRenaming, Bind, Denotes, DenotesVariant, OccursInVariant, Reads, ReadsVariant}
+use Rattle.fvn_answer.specs.Denoting.{as_new, IsFreshRenaming, Bind, OccursInVariant, Reads, ReadsVariant}
 use Rattle.fvn_answer.specs.Numberings.{OccursInForms, IsNumbering, new_name}
-use Rattle.fvn_answer.specs.Writing.{top, sorted, written}
+use Rattle.fvn_answer.specs.Writing.{top, written}
 use Rattle.fvn_answer.specs.Lines.{values, variant, forms_of, forms_in, values_of, asked_name, written_pair, laid, text}
 use Rattle.fvn_answer.specs.inner.Bytes.{IsPrintable}
 use Rattle.fvn_answer.specs.inner.Readable.{AreReadable}
-use Rattle.fvn_answer.specs.inner.Shown.{HavePrintable}
 use Rattle.fvn_answer.proofs.BoundLines.{renaming-sorted, pairs_of, binds-once, AreBound, all-bound}
-use Rattle.fvn_answer.proofs.NewNames.{IsNaming, new_name-injective, new_name-reserved}
-use Rattle.fvn_answer.proofs.Pieces.{Tokens, PairTokens, tokens-append, pieces-bindings, pieces-variant, bindings-tokens, joined-read}
+use Rattle.fvn_answer.proofs.NewNames.{new_name-injective, new_name-reserved}
+use Rattle.fvn_answer.proofs.Pieces.{PairTokens, tokens-append, pieces-bindings, pieces-variant, bindings-tokens, joined-read}
 use Rattle.fvn_answer.proofs.Printable.{fits-printable, printable}
 use Rattle.fvn_answer.proofs.ReadBack.{read_as, IsRead, can-read}
 use Rattle.fvn_answer.proofs.TextPlaces.{at-place}

@@ -1,16 +1,15 @@
 -- Sums and exchanges modulo the axioms.
-use Rattle.std.proofs.Common.{◌≡◌, inl, inr, List, [], ◌∷◌, refl, sym, ap, ◌∙◌}
+use Rattle.std.proofs.Common.{◌≡◌, inl, inr, List, [], ◌∷◌, refl, ap}
 use Rattle.fvn_terms.specs.declared.plain.OpId.{OpId}
 use Rattle.fvn_terms.specs.declared.plain.Plain.{Plain}
-use Rattle.fvn_terms.specs.declared.plain.Plain.TheVariants.{App}
 use Rattle.fvn_terms.specs.declared.declarations.Declarations.{Declarations}
 use Rattle.fvn_terms.specs.Signature.{axioms}
-use Rattle.fvn_terms.specs.Term.{Term, Terms, app, none, more}
+use Rattle.fvn_terms.specs.Term.{Term, Terms, none, more}
 use Rattle.fvn_terms.specs.Plain.{term, terms}
 use Rattle.fvn_terms.specs.Substitution.{Substitution, apply, apply_all}
 use Rattle.fvn_terms.specs.Places.{here, stop, step}
 use Rattle.fvn_terms.specs.Equality.{two, IsCommutative, IsAssociative, IsAxiomEitherWay, BEqual, swap, shift}
-use Rattle.fvn_terms.proofs.Equal.{BEqual-refl, BEqual-trans, BEqual-inside}
+use Rattle.fvn_terms.proofs.Equal.{BEqual-trans, BEqual-inside}
 use Rattle.fvn_terms.proofs.Steps.{EachLeads, each_none, each_more}
 use Rattle.fvn_forms.specs.Flat.{nest}
 use Rattle.fvn_syntax.specs.Resolve.{nested}

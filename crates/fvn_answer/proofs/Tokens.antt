@@ -1,7 +1,7 @@
 -- The pieces of written values are tokens, and written values are written terms.
-use Rattle.std.proofs.Common.{◌≡◌, ◌≢◌, ℕ, ◌+◌, ◌-◌, ◌<◌, ◌≤◌, ◌^◌, inl, inr, Bool, true, false, List, [], ◌∷◌, ◌++◌, length, take, get_or, refl, sym, ap, ◌∙◌, subst, arith}
-use Rattle.std.specs.Prelude.{nat_lt, IsTrue, ◌&&◌, ◌==◌}
-use Rattle.std.specs.List.{All, AllByRecursion}
+use Rattle.std.proofs.Common.{◌≡◌, ◌≢◌, ◌+◌, ◌-◌, ◌<◌, ◌≤◌, ◌^◌, inl, inr, Bool, true, false, List, [], ◌∷◌, ◌++◌, length, take, get_or, refl, sym, ap, ◌∙◌, arith}
+use Rattle.std.specs.Prelude.{nat_lt, IsTrue}
+use Rattle.std.specs.List.{AllByRecursion}
 use Rattle.std.proofs.lemmas.Bool.{lt-ltb, ltb-true, cases_lt}
 use Rattle.std.proofs.Math.Seq.{get_or-append_seam, take-append_seam}
 use Rattle.std.proofs.lemmas.List.{length-append}
@@ -19,7 +19,7 @@ use Rattle.fvn_sorts.specs.Queries.{IsKind, IsMaximalOf}
 use Rattle.fvn_forms.specs.Flat.{FlatTerm, FlatTerms, fvar, fapp, fnone, fmore}
 use Rattle.fvn_syntax.specs.declared.names.Names.{Names}
 use Rattle.fvn_syntax.specs.Pieces.{Text, word, left_paren, right_paren, left_bracket, right_bracket, comma, is_colon_name, without_last}
-use Rattle.fvn_syntax.specs.Raw.{RawTerm, RawTerms, spell, spell_all, IsWritten, AreWritten}
+use Rattle.fvn_syntax.specs.Raw.{RawTerm, spell, spell_all, IsWritten, AreWritten}
 use Rattle.fvn_problems.specs.Spelling.{IsAlone}
 use Rattle.fvn_module.specs.Readable.{IsWord}
 use Rattle.fvn_answer.specs.Numberings.{new_name}

@@ -11,8 +11,6 @@ use Rattle.fvn_terms.specs.Term.{Term, var}
 use Rattle.fvn_terms.specs.Substitution.{Substitution, apply, followed_by, Occurs, same_var}
 use Rattle.fvn_terms.specs.Sorts.{IsWellSorted}
 use Rattle.fvn_terms.specs.Equality.{BEqual}
-use Rattle.fvn_terms.specs.Unifiers.{IsInstance}
-use Rattle.fvn_terms.specs.Variants.{Covers}
 use Rattle.fvn_terms.proofs.Equal.{BEqual-sym, BEqual-trans, BEqual-apply}
 use Rattle.fvn_terms.proofs.Substitutions.{apply-apply, apply-var, apply-agree}
 use Rattle.fvn_forms.specs.SortOrder.{same_sort}
@@ -49,7 +47,7 @@ back-exact by (y ∷ zs) z h s one = go (same_var (by y) (by z) && same_sort y.s
     go false e ih = elim (contains_cases y zs z h) [
       | inl q ↦
           let same : (same_var (by z) (by z) && same_sort z.sort (by z).sort) ≡ true =
-              and_from (same_var (by z) (by z)) (same_sort z.sort (by z).sort) (same_var_itself (by z)) (subst (λ (p : SortId). same_sort z.sort p ≡ true) (sym s) (same_sort-self z.sort)) in
+          and_from (same_var (by z) (by z)) (same_sort z.sort (by z).sort) (same_var_itself (by z)) (subst (λ (p : SortId). same_sort z.sort p ≡ true) (sym s) (same_sort-self z.sort)) in
           let n : true ≡ false = sym (subst (λ v. (same_var (by v) (by z) && same_sort v.sort (by z).sort) ≡ true) (sym q) same) ∙ e in
           cc
       | inr k ↦ ih k

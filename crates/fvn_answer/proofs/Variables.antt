@@ -1,11 +1,8 @@
 -- Written variables are read as these variables.
-use Rattle.std.proofs.Common.{◌≡◌, ◌≢◌, ℕ, zero, suc, ◌+◌, ◌<◌, ◌≤◌, Bool, true, false, List, [], ◌∷◌, ◌++◌, length, take, drop, get_or, Option, Some, None, Ok, refl, sym, ap, ◌∙◌, subst, append_assoc, arith}
-use Rattle.std.specs.Prelude.{nat_lt, ◌==◌, if◌then◌else◌, slice_get}
+use Rattle.std.proofs.Common.{◌≡◌, ◌≢◌, ℕ, suc, ◌+◌, ◌<◌, ◌≤◌, Bool, true, false, List, [], ◌∷◌, ◌++◌, length, drop, get_or, Option, Some, None, Ok, refl, sym, ap, ◌∙◌, subst, arith}
+use Rattle.std.specs.Prelude.{nat_lt, ◌==◌, slice_get}
 use Rattle.std.proofs.lemmas.Bool.{eqb-true, ne_eqb, ltb-true}
 use Rattle.std.proofs.Math.Seq.{take-append_seam}
-use Rattle.std.proofs.lemmas.List.{length-append}
-use Rattle.std.specs.List.{AllByRecursion}
-use Rattle.fvn_terms.specs.declared.plain.OpId.{OpId}
 use Rattle.fvn_terms.specs.declared.plain.SortId.{SortId}
 use Rattle.fvn_terms.specs.declared.declarations.Declarations.{Declarations}
 use Rattle.fvn_terms.specs.Signature.{kind, IsSort}
@@ -14,8 +11,8 @@ use Rattle.fvn_syntax.specs.declared.names.Names.{Names}
 use Rattle.std.specs.Str.{bytes_eq}
 use Rattle.fvn_syntax.proofs.PieceLemmas.{bytes_eq-is}
 use Rattle.fvn_syntax.specs.declared.naming.Meaning.TheVariants.{Variable}
-use Rattle.fvn_syntax.specs.Names.{behind_byte, last_colon, op_at, of_sort, sort_named, split_at, sorted_name, arity_of, if_constant, op_named, constant_named, resolve_name, kind_of, kind_in, kind_of_all, bracket}
-use Rattle.fvn_syntax.specs.Pieces.{Text, without_last}
+use Rattle.fvn_syntax.specs.Names.{last_colon, op_at, sort_named, split_at, sorted_name, arity_of, if_constant, constant_named, resolve_name, bracket}
+use Rattle.fvn_syntax.specs.Pieces.{Text}
 use Rattle.fvn_syntax.specs.Scope.{Scope}
 use Rattle.fvn_syntax.specs.Texts.{place}
 use Rattle.fvn_syntax.specs.Resolve.{the_variable, resolve_meaning, resolve}
@@ -25,8 +22,11 @@ use Rattle.fvn_answer.specs.Denoting.{without_variables}
 use Rattle.fvn_answer.specs.Writing.{top, sort_text, sorted}
 use Rattle.fvn_answer.specs.inner.Readable.{AreReadable}
 use Rattle.fvn_answer.proofs.Lists.{got-some}
-use Rattle.fvn_answer.proofs.TextPlaces.{Finds, position-finds, place-distinct}
+use Rattle.fvn_answer.proofs.TextPlaces.{position-finds, place-distinct}
 use Rattle.fvn_answer.proofs.Tokens.{is-kind, without_last-colon}
+
+some-none : {A : Type 0} {x : A} → Some x ≡ None → ⊥
+some-none e = cc
 
 -- The colon between a name and a sort is the last one.
 
@@ -88,8 +88,7 @@ module _ (d : Declarations) (names : Names) (readable : AreReadable d names) (to
           next false q = rw q refl
           next true q =
               let n = readable.constants (record { 0 = i }) w (op-at w i p) (zero-is (arity_of d (record { 0 = i })) q) in
-              let f : Some (x, s) ≡ None = sym e ∙ n in
-              cc
+              absurd (some-none (sym e ∙ n))
 
   -- what a variable of a declared sort is read as
   declared-meaning : (x : Text) (s : SortId) → x ≢ [] → s.0 < d.sorts → resolve_name d (without_variables names) (x ++ 58 ∷ sort_text d names s) ≡ Some (Variable x s)

@@ -47,16 +47,15 @@ pub fn line_of(
     requires sorts { HaveSorts declared.now.signature vars.now subst.now }
     ensures least { IfOk result (λ line. IsTextOf declared.now.signature declared.now.names var_names.now.texts
         (values (values_of subst.now vars.now)) line.items) }
+    ensures reads { IfOk result (λ line. Reads declared.now.signature declared.now.names var_names.now.texts
+        vars.now line.items (substitution subst.now)) }
 {
     declared.recall_readable();
+    let signature = declared.signature();
+    recall(signature);
     let printed = Printed::Values(subst, vars);
-    numbered_text(
-        alloc,
-        declared.signature(),
-        declared.names(),
-        var_names,
-        &printed,
-    )
+    let line = numbered_text(alloc, signature, declared.names(), var_names, &printed)?;
+    Ok(line)
 }
 
 /// The line of a variant: its term, a space, and the line of its substitution under the same numbering.
@@ -74,14 +73,13 @@ pub fn variant_line(
     requires term { Fits declared.now.signature term.now }
     ensures least { IfOk result (λ line. IsTextOf declared.now.signature declared.now.names var_names.now.texts
         (variant term.now (values_of subst.now vars.now)) line.items) }
+    ensures reads { IfOk result (λ line. ReadsVariant declared.now.signature declared.now.names var_names.now.texts
+        vars.now line.items (plain term.now) (substitution subst.now)) }
 {
     declared.recall_readable();
+    let signature = declared.signature();
+    recall(signature);
     let printed = Printed::Variant(term, subst, vars);
-    numbered_text(
-        alloc,
-        declared.signature(),
-        declared.names(),
-        var_names,
-        &printed,
-    )
+    let line = numbered_text(alloc, signature, declared.names(), var_names, &printed)?;
+    Ok(line)
 }

@@ -1,5 +1,5 @@
 -- Names that are read as what they name.
-use Rattle.std.specs.Prelude.{◌≡◌, ◌≢◌, List, length, slice_get, All, AllPairs, Some, None}
+use Rattle.std.specs.Prelude.{◌≡◌, length, slice_get, All, Some, None}
 use Rattle.fvn_terms.specs.declared.plain.OpId.{OpId}
 use Rattle.fvn_terms.specs.declared.declarations.Declarations.{Declarations}
 use Rattle.fvn_syntax.specs.declared.names.Names.{Names}

@@ -1,5 +1,5 @@
 -- The text under the order of first occurrence, or the least one.
-use Rattle.std.proofs.Common.{◌≡◌, ◌<◌, ◌≤◌, ◌^◌, length, refl, arith}
+use Rattle.std.proofs.Common.{arith}
 use Rattle.fvn_answer.specs.Lines.{forms_in}
 use Rattle.fvn_answer.specs.inner.Shown.{shown}
 use Rattle.fvn_answer.proofs.Least.{same-length}
