@@ -12,7 +12,8 @@ use std::process::Abort;
 
 // Each block has the statements of a module, and rows: a problem, bindings of its variables, and their line. In a row
 // with a `v` what the first variable is bound to is the term of a variant, and the others have its substitution. A
-// program beside (numberings.py) tries all numberings for each row.
+// program beside (numberings.py) tries all numberings for each row. In a row with an `m` there are more than six
+// variables, whose numbers are open.
 const LINES: &str =
     "sort S . ops a b : -> S . op g : S -> S . op c : S S -> S [comm] . op _+_ : S S -> S [assoc comm] .
 u _+_(X:S,Y:S) =? _+_(U:S,V:S) # {X:S --> Q2:S, Y:S --> Q6:S, U:S --> Q2:S, V:S --> Q6:S} => {X:S --> #1:S, Y:S --> #2:S, U:S --> #1:S, V:S --> #2:S}
@@ -127,8 +128,14 @@ u f(X:S,Y:S) =? Z:S # {X:S --> c(Q5:S,_+_(g(Q0:S),g(a),g(Q3:S))), Y:S --> _+_(_+
 u X:S =? Y:S # {X:S --> g(Q0:S), Y:S --> g(Q0:S)} => {X:S --> g(#1:S), Y:S --> g(#1:S)}
 u X:S =? Y:S # {X:S --> g(_+_(f(b,a),a)), Y:S --> _+_(Q0:S,Q1:S)} => {X:S --> g(_+_(a,f(b,a))), Y:S --> _+_(#1:S,#2:S)}
 u X:S =? Y:S # {X:S --> _+_(_+_(Q2:S,Q0:S,g(Q1:S)),Q1:S), Y:S --> Q1:S} => {X:S --> _+_(#1:S,#2:S,#3:S,g(#1:S)), Y:S --> #1:S}
-u f(X:S,Y:S) =? Z:S # {X:S --> c(_+_(g(Q2:S),_+_(Q0:S,Q3:S),Q3:S),_+_(Q1:S,_+_(Q1:S,Q0:S))), Y:S --> c(c(f(Q0:S,b),f(Q2:S,b)),Q0:S), Z:S --> g(Q0:S)} => {X:S --> c(_+_(#1:S,#1:S,#2:S),_+_(#2:S,#3:S,#3:S,g(#4:S))), Y:S --> c(#2:S,c(f(#2:S,b),f(#4:S,b))), Z:S --> g(#2:S)}";
+u f(X:S,Y:S) =? Z:S # {X:S --> c(_+_(g(Q2:S),_+_(Q0:S,Q3:S),Q3:S),_+_(Q1:S,_+_(Q1:S,Q0:S))), Y:S --> c(c(f(Q0:S,b),f(Q2:S,b)),Q0:S), Z:S --> g(Q0:S)} => {X:S --> c(_+_(#1:S,#1:S,#2:S),_+_(#2:S,#3:S,#3:S,g(#4:S))), Y:S --> c(#2:S,c(f(#2:S,b),f(#4:S,b))), Z:S --> g(#2:S)}
 
+sort S . ops a b : -> S . op c : S S -> S [comm] . op f : S S -> S . op _+_ : S S -> S [assoc comm] .
+m X:S =? Y:S # {X:S --> f(f(Q1:S,Q2:S),f(Q3:S,Q4:S)), Y:S --> f(f(Q5:S,Q6:S),f(Q7:S,Q1:S))} => read back
+m X:S =? Y:S # {X:S --> _+_(Q7:S,Q6:S,Q5:S,Q4:S,Q3:S,Q2:S,Q1:S), Y:S --> f(Q3:S,_+_(Q1:S,Q8:S))} => read back
+m X:S =? Y:S # {X:S --> _+_(Q1:S,Q2:S,Q3:S,Q4:S,Q5:S,Q6:S,Q7:S,Q8:S,Q9:S,Q10:S,Q11:S)} => read back
+m f(X:S,Y:S) =? Z:S # {X:S --> c(f(Q1:S,Q2:S),f(Q3:S,a)), Y:S --> _+_(Q4:S,Q5:S,Q6:S), Z:S --> f(Q7:S,b)} => read back
+m f(f(A:S,B:S),f(C:S,D:S)) =? f(f(E:S,F:S),G:S) # {} => read back";
 
 // Each row has what an end is, lines with strokes between, and the text of the answer, where a stroke stands for a line
 // feed.
@@ -165,19 +172,22 @@ fn module_of(rt: &impl Abort, alloc: Global, statements: &str) -> Result<Module,
 fn told(alloc: Global, module: &Module, row: &str) -> Result<Vec<u8>, NoMemory> {
     let (letter, texts) = row.split_once(' ').unwrap_or((row, ""));
     let (problem, bindings) = texts.split_once(" # ").unwrap_or((texts, ""));
+    let (problem, bindings) = (problem.as_bytes(), bindings.as_bytes());
     if letter == "v" {
-        variant_of_texts(alloc, module, problem.as_bytes(), bindings.as_bytes())
-    } else {
-        line_of_texts(alloc, module, problem.as_bytes(), bindings.as_bytes())
+        return variant_of_texts(alloc, module, problem, bindings);
     }
+    let (line, again) = line_of_texts(alloc, module, problem, bindings)?;
+    if again.as_slice() != line.as_slice() {
+        return Ok(again);
+    }
+    if letter == "m" && line.as_slice().starts_with(b"{") {
+        let read = Vec::from_slice(alloc, b"read back")?;
+        return Ok(read);
+    }
+    Ok(line)
 }
 
-fn row_is_told(
-    rt: &impl Abort,
-    alloc: Global,
-    module: &Module,
-    row: &str,
-) -> Result<(), NoMemory> {
+fn row_is_told(rt: &impl Abort, alloc: Global, module: &Module, row: &str) -> Result<(), NoMemory> {
     let (text, want) = row.split_once(" => ").unwrap_or((row, ""));
     let line = told(alloc, module, text)?;
     assert!(rt; line.as_slice() == want.as_bytes(), "at {text}");

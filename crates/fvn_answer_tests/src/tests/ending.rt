@@ -21,7 +21,12 @@ fn steps_of(alloc: Global, declared: &Module, text: &str) -> Result<Option<End>,
     ensures { IfOk result (λ o. IfSome o (FitsEnd declared.now.signature)) }
 {
     let (n, term) = text.split_once(' ').unwrap_or((text, ""));
-    match read_query(alloc, declared.signature(), declared.names(), term.as_bytes()) {
+    match read_query(
+        alloc,
+        declared.signature(),
+        declared.names(),
+        term.as_bytes(),
+    ) {
         Err(_) => Ok(None),
         Ok(query) => {
             let form = flatten(alloc, declared.signature(), &query.term)?;

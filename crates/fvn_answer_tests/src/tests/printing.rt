@@ -22,7 +22,13 @@ fn line_of_bindings(
     requires sorted { IsWellSorted declared.now.signature (value bindings.now.subst.pairs) }
 {
     let subst = filled(alloc, declared.signature(), problem, bindings)?;
-    line_of(alloc, declared, &problem.names, &subst, problem.vars.as_slice())
+    line_of(
+        alloc,
+        declared,
+        &problem.names,
+        &subst,
+        problem.vars.as_slice(),
+    )
 }
 
 // The line of what a binding text gives, or that it is none.
@@ -44,31 +50,28 @@ fn line_in(
     }
 }
 
-// The same, and the line of what that line gives, where it is another.
+// The same, and the line of what that line gives.
 fn line_twice(
     alloc: Global,
     declared: &Module,
     problem: &Problem,
     text: &[u8],
-) -> Result<Vec<u8>, NoMemory>
+) -> Result<(Vec<u8>, Vec<u8>), NoMemory>
     requires names { AreNamesOf declared.now.signature declared.now.names }
     requires vars { AreAsked declared.now.signature problem.now.names.texts problem.now.vars }
 {
-    let mut line = line_in(alloc, declared, problem, text)?;
+    let line = line_in(alloc, declared, problem, text)?;
     let again = line_in(alloc, declared, problem, line.as_slice())?;
-    if again.as_slice() != line.as_slice() {
-        line.extend_from_slice(again.as_slice())?;
-    }
-    Ok(line)
+    Ok((line, again))
 }
 
-/// The line of what a binding text gives in a problem, which is read back.
+/// The line of what a binding text gives in a problem, and the line of what that line gives.
 pub fn line_of_texts(
     alloc: Global,
     declared: &Module,
     problem: &[u8],
     bindings: &[u8],
-) -> Result<Vec<u8>, NoMemory> {
+) -> Result<(Vec<u8>, Vec<u8>), NoMemory> {
     declared.recall_readable();
     problem_names_are_words();
     match read_problem(alloc, declared.signature(), declared.names(), problem) {
@@ -78,7 +81,7 @@ pub fn line_of_texts(
         }
         Err(_) => {
             let none = Vec::from_slice(alloc, b"no problem")?;
-            Ok(none)
+            Ok((none, Vec::new(alloc)))
         }
     }
 }
