@@ -11,7 +11,7 @@ use self::comparing::{shown_both, shown_marked, shown_pruned};
 use self::meeting::Meeting;
 use self::reading::collected;
 use self::variants::{are_all_alike, variants_of};
-use fvn_cover::{all_shared, covering_of_variants_is_an_order, marks};
+use fvn_cover::{all_shared, covering_of_variants_is_a_preorder, marks};
 use fvn_sorts::Signature;
 use fvn_terms::NoMemory;
 use std::alloc::{AllocError, Global};
@@ -179,7 +179,15 @@ fn met<R: Threads + Sync>(rt: &R, alloc: Global, sig: &Signature) -> Result<u32,
                 all_shared(v);
             }
             if are_all_alike(kept.as_slice(), candidates.as_slice()) {
-                marks(rt, alloc, sig, kept.as_slice(), candidates.as_slice(), 2, &gate)?;
+                marks(
+                    rt,
+                    alloc,
+                    sig,
+                    kept.as_slice(),
+                    candidates.as_slice(),
+                    2,
+                    &gate,
+                )?;
             }
         }
     }
@@ -189,7 +197,7 @@ fn met<R: Threads + Sync>(rt: &R, alloc: Global, sig: &Signature) -> Result<u32,
 /// Two pieces run at once: each sees the flag of the other.
 #[test]
 fn pieces_meet(rt: HostRuntime) -> Result<(), NoMemory> {
-    covering_of_variants_is_an_order();
+    covering_of_variants_is_a_preorder();
     let alloc = rt.alloc();
     let text = "A; f : -> A; g : -> A";
     match collected(&rt, alloc, text)?.finish(alloc) {

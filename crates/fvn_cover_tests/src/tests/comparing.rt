@@ -17,7 +17,11 @@ fn shown_covers(
     if let Some(a) = variant_of(alloc, sig, one)? {
         if let Some(b) = variant_of(alloc, sig, other)? {
             if is_alike(&a, &b) {
-                return Ok(if covers(alloc, sig, &a, &b)? { "yes" } else { "no" });
+                return Ok(if covers(alloc, sig, &a, &b)? {
+                    "yes"
+                } else {
+                    "no"
+                });
             }
         }
     }
