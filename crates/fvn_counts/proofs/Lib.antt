@@ -1,0 +1,4 @@
+-- The lemmas of the crate.
+mod Steps
+mod Instances
+mod Sums

@@ -1,0 +1,2 @@
+-- What contracts of counts speak of.
+pub mod Weights

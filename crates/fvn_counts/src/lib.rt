@@ -1,0 +1,2 @@
+//! What is counted of flat terms, by which most coverings are refused before any matching.
+#![tactic(auto)]
