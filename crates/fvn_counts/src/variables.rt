@@ -1,8 +1,8 @@
 //! The variables of flat terms.
 ghost use Rattle.std.specs.Prelude.{◌≡◌, ◌↔◌, ◌++◌, map, IsTrue, IfOk, Contains};
 ghost use Rattle.fvn_terms.specs.Substitution.{Occurs};
-ghost use Rattle.fvn_terms.specs.Variants.{OccursInSome};
 ghost use Rattle.fvn_forms.specs.Flat.{plain};
+ghost use Rattle.fvn_flat.proofs.Occurrences.{OccursIn};
 ghost use Rattle.fvn_counts.specs.inner.Gathering.{Gathers};
 
 use fvn_flat::Flat;
@@ -52,7 +52,7 @@ fn with_variables(vars: Vec<Var>, t: &Flat) -> Result<Vec<Var>, NoMemory>
 
 // The variables with those of the terms that are not there yet.
 pub(crate) fn with_all_variables(vars: Vec<Var>, terms: &[Flat]) -> Result<Vec<Var>, NoMemory>
-    ensures { IfOk result (λ all. Gathers vars.items (λ y. OccursInSome y (map plain terms.now)) all.items) }
+    ensures { IfOk result (λ all. Gathers vars.items (λ y. OccursIn y terms.now) all.items) }
 {
     let mut all = vars;
     for t in terms {
