@@ -1,13 +1,15 @@
 -- What a flat form weighs, from its arguments.
-use Rattle.std.proofs.Common.{◌≡◌, ℕ, ◌+◌, ◌<◌, Bool, true, false, List, [], ◌∷◌, ◌++◌, length, take, get_or, None, refl, sym, ap, ◌∙◌, subst, arith}
-use Rattle.std.proofs.lemmas.List.{take_more}
+use Rattle.std.proofs.Common.{◌≡◌, ℕ, ◌+◌, ◌<◌, Bool, true, false, List, [], ◌∷◌, ◌++◌, length, take, get_or, map, Some, None, refl, sym, ap, ◌∙◌, subst, arith}
+use Rattle.std.proofs.lemmas.List.{take_more, map_more, append_assoc}
 use Rattle.fvn_terms.specs.declared.plain.Var.{Var}
 use Rattle.fvn_terms.specs.declared.plain.OpId.{OpId}
 use Rattle.fvn_terms.specs.Term.{Term, Terms, app, none, more}
+use Rattle.fvn_terms.specs.Substitution.{same_var}
 use Rattle.fvn_forms.specs.Flat.{FlatTerm, FlatTerms, fvar, fapp, fnone, fmore, fpack, funpack, nest, plain, plain_all}
 use Rattle.fvn_forms.proofs.Sums.{fpack-funpack}
 use Rattle.fvn_flat.specs.Forms.{variable_of, args_of}
-use Rattle.fvn_counts.specs.Weights.{Weights, weight, weight_all, of_variable, occurrences}
+use Rattle.fvn_counts.specs.Weights.{Weights, weight, weight_all, one_if, of_variable, occurrences}
+use Rattle.fvn_counts.specs.Profiles.{capped}
 
 module _ (w : Weights) where
   nested_weight : (f : OpId) → w.operator f ≡ 0 → (t : FlatTerm) (ts : FlatTerms) → weight w (nest f (plain t) (plain_all ts)) ≡ weight_all w (plain_all (fmore t ts))
@@ -36,3 +38,16 @@ occurrences_in_args x (fvar y) e = cc
 occurrences_in_args x (fapp f true fnone) e = refl
 occurrences_in_args x (fapp f false fnone) e = refl
 occurrences_in_args x (fapp f joined (fmore t ts)) e = weightless_over (of_variable x) f joined refl t ts ∙ ap (λ us. weight_all (of_variable x) (plain_all us)) (sym (fpack-funpack (fmore t ts)))
+
+-- a variable alone
+one_capped : (b : Bool) → one_if b ≡ capped (one_if b)
+one_capped true = omega arith
+one_capped false = omega arith
+
+pub occurrences_in_variable : (x y : Var) (t : FlatTerm) → variable_of t ≡ Some y → one_if (same_var x y) ≡ capped (occurrences x (plain t))
+occurrences_in_variable x y (fvar z) e = let k : z ≡ y = cc in subst (λ v. one_if (same_var x v) ≡ capped (occurrences x (plain (fvar z)))) k (one_capped (same_var x z))
+occurrences_in_variable x y (fapp f joined ts) e = cc
+
+-- one more count
+pub counted_more : {X : Type 0} (f : X → ℕ) (ns : List ℕ) (l : List X) (i : ℕ) (t : X) → i < length l → t ≡ get_or l i t → (ns ++ map f (take i l)) ++ f t ∷ [] ≡ ns ++ map f (take (i + 1) l)
+counted_more f ns l i t within is = append_assoc ns (map f (take i l)) (f t ∷ []) ∙ ap (λ m. ns ++ m) (ap (λ u. map f (take i l) ++ f u ∷ []) is ∙ sym (map_more f l i t within))

@@ -1,16 +1,32 @@
 -- Variables gathered one after another.
-use Rattle.std.proofs.Common.{◌≡◌, ℕ, ◌+◌, ◌<◌, zero, suc, List, [], ◌∷◌, ◌++◌, length, map, take, get_or, None, refl, sym, ap, ◌∙◌, subst, inl, inr, arith}
-use Rattle.std.specs.Prelude.{◌↔◌, ◌⊎◌, Contains}
+use Rattle.std.proofs.Common.{◌≡◌, ℕ, ◌+◌, ◌<◌, zero, suc, List, [], ◌∷◌, ◌++◌, length, map, take, get_or, Some, None, Bool, true, false, refl, sym, ap, ◌∙◌, subst, inl, inr, arith}
+use Rattle.std.specs.Prelude.{◌↔◌, ◌⊎◌, ◌||◌, Contains}
 use Rattle.std.proofs.lemmas.List.{take_more}
 use Rattle.std.proofs.lemmas.List.Elements.{Contains-append_left, Contains-append_right, Contains-append_cases}
-use Rattle.fvn_base.proofs.Membership.{contains_here, contains_cases, contains_none}
+use Rattle.fvn_base.proofs.Membership.{contains_here, contains_later, contains_cases, contains_none}
 use Rattle.fvn_terms.specs.declared.plain.Var.{Var}
-use Rattle.fvn_terms.specs.Substitution.{Occurs}
+use Rattle.fvn_terms.specs.Substitution.{same_var, Occurs}
 use Rattle.fvn_terms.specs.Variants.{OccursInSome}
-use Rattle.fvn_forms.specs.Flat.{FlatTerm, plain}
+use Rattle.fvn_forms.specs.Flat.{FlatTerm, fvar, fapp, plain}
 use Rattle.fvn_flat.specs.Forms.{variable_of, args_of}
+use Rattle.fvn_flat.specs.Variables.{listed}
+use Rattle.fvn_flat.proofs.Binding.{same_var_is}
 use Rattle.fvn_flat.proofs.Occurrences.{OccursIn, occurs_in_args}
 use Rattle.fvn_counts.specs.inner.Gathering.{Gathers}
+
+-- what the form is
+pub variable_is : (t : FlatTerm) (x : Var) → variable_of t ≡ Some x → t ≡ fvar x
+variable_is (fvar y) x e = cc
+variable_is (fapp f joined ts) x e = cc
+
+-- the test is exact
+pub listed_contains : (vars : List Var) (x : Var) → listed vars x ≡ true → Contains vars x
+listed_contains [] x e = cc
+listed_contains (y ∷ vars) x e = go (same_var y x) refl e (listed_contains vars x)
+  where
+    go : (b : Bool) → same_var y x ≡ b → (b || listed vars x) ≡ true → (listed vars x ≡ true → Contains vars x) → Contains (y ∷ vars) x
+    go true p q k = subst (Contains (y ∷ vars)) (same_var_is y x p) (contains_here y vars)
+    go false p q k = contains_later y vars x (k q)
 
 -- a variable that is there already, and one more
 pub gathers_same : (vars : List Var) (x : Var) → Contains vars x → Gathers vars (λ y. y ≡ x) vars

@@ -1,8 +1,9 @@
 -- Where forms are matched, the profile of the targets is above that of the patterns.
-use Rattle.std.proofs.Common.{◌≡◌, ◌≤◌, ℕ, ◌+◌, ◌-◌, ◌^◌, zero, suc, ◌<◌, min, Bool, true, false, List, [], ◌∷◌, ◌++◌, length, map, get_or, refl, sym, ap, ◌∙◌, subst, arith}
+use Rattle.std.proofs.Common.{◌≡◌, ◌≤◌, ℕ, ◌+◌, ◌-◌, ◌^◌, zero, suc, ◌<◌, min, Bool, true, false, List, [], ◌∷◌, ◌++◌, length, map, take, get_or, refl, sym, ap, ◌∙◌, subst, arith}
 use Rattle.std.specs.Prelude.{◌↔◌, All, Any, Contains, IsTrue}
 use Rattle.std.specs.List.{AllZip, AllByRecursion}
-use Rattle.std.proofs.lemmas.List.Elements.{All-contains_itself}
+use Rattle.std.proofs.lemmas.List.Elements.{All-contains_itself, All-push}
+use Rattle.std.proofs.lemmas.List.{take_more}
 use Rattle.fvn_base.proofs.Membership.{contains_map, map_contains}
 use Rattle.fvn_terms.specs.declared.plain.Var.{Var}
 use Rattle.fvn_terms.specs.declared.plain.OpId.{OpId}
@@ -92,3 +93,20 @@ columns_are ts vars just = record {
   each = λ c h. let r = map_contains (λ x. column x ts) vars c h in (r.0, ((just r.0).0 r.1.0, r.1.1));
   every = λ x o. contains_map (λ x. column x ts) vars x ((just x).1 o);
 }
+
+-- what holds of each so far
+pub more_hold : {X : Type 0} (P : X → Type 0) (xs : List X) (i : ℕ) (x : X) → i < length xs → x ≡ get_or xs i x → All P (take i xs) → P x → All P (take (i + 1) xs)
+more_hold P xs i x within is h p = subst (All P) (sym (take_more xs i x within ∙ ap (λ z. take i xs ++ z ∷ []) (sym is))) (All-push P (take i xs) x h p)
+
+pub one_holds : {X : Type 0} (P : X → Type 0) (xs : List X) (i : ℕ) (x : X) → i < length xs → x ≡ get_or xs i x → All P xs → P x
+one_holds P xs i x within is h = subst P (sym is) (h i x within)
+
+-- a list that has ended
+pub ended_left : (ms ns : List ℕ) → length ms ≡ 0 → AreAtMost ms ns
+ended_left [] ns e = tt
+ended_left (m ∷ ms) ns e = absurd (omega (arith, e))
+
+pub ended_right : (ms ns : List ℕ) → length ns ≡ 0 → AreAtMost ms ns
+ended_right [] ns e = tt
+ended_right (m ∷ ms) [] e = tt
+ended_right (m ∷ ms) (n ∷ ns) e = absurd (omega (arith, e))

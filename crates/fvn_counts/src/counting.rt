@@ -2,9 +2,10 @@
 ghost use Rattle.std.specs.Prelude.{◌≡◌, ◌++◌, map, IfOk};
 ghost use Rattle.std.specs.List.{AllByRecursion};
 ghost use Rattle.fvn_terms.specs.Signature.{axioms};
+ghost use Rattle.fvn_terms.specs.Substitution.{same_var};
 ghost use Rattle.fvn_forms.specs.Flat.{plain};
 ghost use Rattle.fvn_forms.specs.Settled.{Settled};
-ghost use Rattle.fvn_counts.specs.Weights.{keeps_brackets, occurrences};
+ghost use Rattle.fvn_counts.specs.Weights.{one_if, keeps_brackets, occurrences};
 ghost use Rattle.fvn_counts.specs.Profiles.{capped, bracket_counts, column};
 ghost use Rattle.fvn_counts.specs.inner.Brackets.{own_brackets, flat_brackets};
 
@@ -24,17 +25,32 @@ fn keeps_brackets(sig: &Signature, f: OpId) -> bool
     }
 }
 
+// One where the test passes.
+fn one_if(test: bool) -> u64
+    ensures { result ≡ one_if test }
+{
+    if test { 1 } else { 0 }
+}
+
+// Whether the two are one variable, as a number.
+fn one_if_same(x: Var, y: Var) -> u64
+    ensures { result ≡ one_if (same_var x y) }
+{
+    if x == y { 1 } else { 0 }
+}
+
 // One for an operator that is not associative and has arguments.
 fn own_brackets(sig: &Signature, t: &Flat) -> u64
     requires { Settled sig.now t.now }
     ensures { result ≡ own_brackets t.now }
 {
-    if t.args().is_empty() {
+    let us = t.args();
+    if us.is_empty() {
         return 0;
     }
     match t.head() {
         None => 0,
-        Some(f) => u64::from(keeps_brackets(sig, f)),
+        Some(f) => one_if(keeps_brackets(sig, f)),
     }
 }
 
@@ -61,7 +77,8 @@ pub(crate) fn with_brackets(
 {
     let mut all = counts;
     for t in terms {
-        all.push(brackets(sig, t))?;
+        let n = brackets(sig, t);
+        all.push(n)?;
     }
     Ok(all)
 }
@@ -71,7 +88,7 @@ fn occurrences(x: Var, t: &Flat) -> u64
     ensures { result ≡ capped (occurrences x (plain t.now)) }
 {
     match t.as_var() {
-        Some(y) => u64::from(x == y),
+        Some(y) => one_if_same(x, y),
         None => {
             let mut count: u64 = 0;
             for u in t.args() {
@@ -92,7 +109,8 @@ pub(crate) fn with_occurrences(
 {
     let mut all = counts;
     for t in terms {
-        all.push(occurrences(x, t))?;
+        let n = occurrences(x, t);
+        all.push(n)?;
     }
     Ok(all)
 }

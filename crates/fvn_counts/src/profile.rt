@@ -40,8 +40,8 @@ fn columns(
 {
     let mut all = Vec::new(alloc);
     for x in vars {
-        let c = column(alloc, *x, terms, values)?;
-        all.push(c)?;
+        let counts = column(alloc, *x, terms, values)?;
+        all.push(counts)?;
     }
     Ok(all)
 }

@@ -1,7 +1,8 @@
 //! The variables of flat terms.
-ghost use Rattle.std.specs.Prelude.{◌≡◌, ◌↔◌, ◌++◌, map, IsTrue, IfOk, Contains};
+ghost use Rattle.std.specs.Prelude.{◌≡◌, IfOk};
 ghost use Rattle.fvn_terms.specs.Substitution.{Occurs};
 ghost use Rattle.fvn_forms.specs.Flat.{plain};
+ghost use Rattle.fvn_flat.specs.Variables.{listed};
 ghost use Rattle.fvn_flat.proofs.Occurrences.{OccursIn};
 ghost use Rattle.fvn_counts.specs.inner.Gathering.{Gathers};
 
@@ -10,7 +11,7 @@ use fvn_terms::{NoMemory, Var};
 
 // Whether the variable stands in the list.
 fn is_listed(vars: &[Var], x: Var) -> bool
-    ensures { IsTrue result ↔ Contains vars.now x }
+    ensures { result ≡ listed vars.now x }
 {
     for y in vars {
         if *y == x {
@@ -25,9 +26,10 @@ fn with_variable(vars: Vec<Var>, x: Var) -> Result<Vec<Var>, NoMemory>
     ensures { IfOk result (λ all. Gathers vars.items (λ y. y ≡ x) all.items) }
 {
     let mut all = vars;
-    if !is_listed(all.as_slice(), x) {
-        all.push(x)?;
+    if is_listed(all.as_slice(), x) {
+        return Ok(all);
     }
+    all.push(x)?;
     Ok(all)
 }
 
