@@ -1,6 +1,7 @@
 -- Brackets of flat forms are those of their plain terms.
 use Rattle.std.proofs.Common.{◌≡◌, ℕ, ◌+◌, ◌<◌, Bool, true, false, nat_eq, List, [], ◌∷◌, ◌++◌, length, take, get_or, Some, None, refl, sym, ap, ◌∙◌, subst, arith}
 use Rattle.std.specs.List.{AllByRecursion}
+use Rattle.std.proofs.lemmas.Bool.{eqb-true}
 use Rattle.std.proofs.lemmas.List.{take_more}
 use Rattle.fvn_terms.specs.declared.plain.OpId.{OpId}
 use Rattle.fvn_terms.specs.declared.declarations.Axioms.{Axioms}
@@ -22,18 +23,18 @@ sum_keeps_none Comm h = absurd h
 sum_keeps_none AssocComm h = refl
 sum_keeps_none (AssocCommId e) h = refl
 
-other_keeps_one : (a : Axioms) (t : FlatTerm) (l : List FlatTerm) → FitsUnjoined a (t ∷ l) → one_if (keeps_brackets a) ≡ 1
-other_keeps_one Free t l h = refl
-other_keeps_one Comm t l h = refl
-other_keeps_one AssocComm t l h = cc
-other_keeps_one (AssocCommId e) t l h = cc
+other_keeps_one : (d : Declarations) (a : Axioms) (t : FlatTerm) (l : List FlatTerm) → FitsUnjoined d a (t ∷ l) → one_if (keeps_brackets a) ≡ 1
+other_keeps_one d Free t l h = refl
+other_keeps_one d Comm t l h = refl
+other_keeps_one d AssocComm t l h = cc
+other_keeps_one d (AssocCommId e) t l h = cc
 
 -- what a form counts without its arguments
 pub own_of_none : (t : FlatTerm) → nat_eq (length (args_of t)) 0 ≡ true → 0 ≡ own_brackets t
 own_of_none (fvar x) e = refl
 own_of_none (fapp f true ts) e = refl
 own_of_none (fapp f false fnone) e = refl
-own_of_none (fapp f false (fmore t ts)) e = cc
+own_of_none (fapp f false (fmore t ts)) e = let n = eqb-true (length (t ∷ funpack ts)) 0 e in absurd (omega (arith, n))
 
 pub own_of_variable : (t : FlatTerm) → head_of t ≡ None → 0 ≡ own_brackets t
 own_of_variable (fvar x) e = refl
@@ -44,7 +45,7 @@ module _ (d : Declarations) where
   own_of_some (fvar x) f h n e = cc
   own_of_some (fapp g joined fnone) f h n e = cc
   own_of_some (fapp g true (fmore t ts)) f h n e = let same : g ≡ f = cc in subst (λ k. one_if (keeps_brackets (axioms d k)) ≡ 0) same (sum_keeps_none (axioms d g) h.0.associative)
-  own_of_some (fapp g false (fmore t ts)) f h n e = let same : g ≡ f = cc in subst (λ k. one_if (keeps_brackets (axioms d k)) ≡ 1) same (other_keeps_one (axioms d g) t (funpack ts) h.0)
+  own_of_some (fapp g false (fmore t ts)) f h n e = let same : g ≡ f = cc in subst (λ k. one_if (keeps_brackets (axioms d k)) ≡ 1) same (other_keeps_one d (axioms d g) t (funpack ts) h.0)
 
   -- the arguments of a settled form are settled
   pub args_settled : (t : FlatTerm) → Settled d t → AllByRecursion (Settled d) (args_of t)
@@ -59,7 +60,7 @@ module _ (d : Declarations) where
     brackets_are (fapp f false fnone) h = refl
     brackets_are (fapp f true (fmore t ts)) h = all_brackets_are (fmore t ts) h.1 ∙ sym (weightless_over (of_brackets d) f true (sum_keeps_none (axioms d f) h.0.associative) t ts)
     brackets_are (fapp f false (fmore t ts)) h =
-        let k = other_keeps_one (axioms d f) t (funpack ts) h.0 in
+        let k = other_keeps_one d (axioms d f) t (funpack ts) h.0 in
         let a = all_brackets_are (fmore t ts) h.1 in
         omega arith
 

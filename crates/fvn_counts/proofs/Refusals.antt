@@ -76,9 +76,9 @@ module _ (d : Declarations) where
     one_above : (p q : List (List ℕ)) (ts us : List FlatTerm) → AreColumns ts p → AreColumns us q → AllZip Makes (map plain ts) (map plain us) → (o : List ℕ) → Contains q o → Any (λ c. AreAtMost c o) p
     one_above p q ts us a b m o c =
         let y = b.each o c in
-        let x = source y.0 ts us m y.1.0 in
+        let x = source y.0 ts us m y.1 in
         let k = a.every x.0 x.1.0 in
-        (k.0, column x.0 ts, k.1, k.2, subst (AreAtMost (column x.0 ts)) y.1.1 (column_at_most x.0 y.0 x.1.1 ts us m))
+        (k.0, column x.0 ts, k.1, k.2, subst (AreAtMost (column x.0 ts)) y.2 (column_at_most x.0 y.0 x.1.1 ts us m))
 
 -- the two tests
 pub never_by_brackets : (p q : Profile) → (AreAtMost p.brackets.items q.brackets.items → ⊥) → NeverMatch p q
@@ -90,7 +90,7 @@ never_by_columns p q n d ts us a b h k s m = n (λ i o within. one_above d s p.c
 -- the columns of the variables that are listed
 pub columns_are : (ts : List FlatTerm) (vars : List Var) → ((x : Var) → Contains vars x ↔ OccursInSome x (map plain ts)) → AreColumns ts (map (λ x. column x ts) vars)
 columns_are ts vars just = record {
-  each = λ c h. let r = map_contains (λ x. column x ts) vars c h in (r.0, ((just r.0).0 r.1.0, r.1.1));
+  each = λ c h. let r = map_contains (λ x. column x ts) vars c h in (r.0, (just r.0).0 r.1.0, r.1.1);
   every = λ x o. contains_map (λ x. column x ts) vars x ((just x).1 o);
 }
 
