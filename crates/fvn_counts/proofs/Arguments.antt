@@ -3,9 +3,8 @@ use Rattle.std.proofs.Common.{◌≡◌, ℕ, ◌+◌, ◌<◌, Bool, true, fals
 use Rattle.std.proofs.lemmas.List.{take_more, map_more, append_assoc}
 use Rattle.fvn_terms.specs.declared.plain.Var.{Var}
 use Rattle.fvn_terms.specs.declared.plain.OpId.{OpId}
-use Rattle.fvn_terms.specs.Term.{Term, Terms, app, none, more}
 use Rattle.fvn_terms.specs.Substitution.{same_var}
-use Rattle.fvn_forms.specs.Flat.{FlatTerm, FlatTerms, fvar, fapp, fnone, fmore, fpack, funpack, nest, plain, plain_all}
+use Rattle.fvn_forms.specs.Flat.{FlatTerm, FlatTerms, fvar, fapp, fnone, fmore, fpack, nest, plain, plain_all}
 use Rattle.fvn_forms.proofs.Sums.{fpack-funpack}
 use Rattle.fvn_flat.specs.Forms.{variable_of, args_of}
 use Rattle.fvn_counts.specs.Weights.{Weights, weight, weight_all, one_if, of_variable, occurrences}

@@ -1,5 +1,5 @@
 -- Brackets of flat forms are those of their plain terms.
-use Rattle.std.proofs.Common.{◌≡◌, ℕ, ◌+◌, ◌<◌, Bool, true, false, nat_eq, List, [], ◌∷◌, ◌++◌, length, take, get_or, Some, None, refl, sym, ap, ◌∙◌, subst, arith}
+use Rattle.std.proofs.Common.{◌≡◌, ℕ, ◌+◌, ◌<◌, true, false, nat_eq, List, [], ◌∷◌, ◌++◌, length, take, get_or, Some, None, refl, sym, ap, ◌∙◌, subst, arith}
 use Rattle.std.specs.List.{AllByRecursion}
 use Rattle.std.proofs.lemmas.Bool.{eqb-true}
 use Rattle.std.proofs.lemmas.List.{take_more}
@@ -13,7 +13,7 @@ use Rattle.fvn_forms.specs.Flat.{FlatTerm, FlatTerms, fvar, fapp, fnone, fmore, 
 use Rattle.fvn_forms.specs.Settled.{Settled, SettledAll, FitsUnjoined}
 use Rattle.fvn_forms.proofs.Sums.{fpack-funpack, SettledAll-funpack}
 use Rattle.fvn_flat.specs.Forms.{head_of, args_of}
-use Rattle.fvn_counts.specs.Weights.{weight, weight_all, one_if, keeps_brackets, of_brackets, brackets}
+use Rattle.fvn_counts.specs.Weights.{weight_all, one_if, keeps_brackets, of_brackets, brackets}
 use Rattle.fvn_counts.specs.inner.Brackets.{marked, own_brackets, flat_brackets, all_flat_brackets}
 use Rattle.fvn_counts.proofs.Arguments.{weightless_over}
 
@@ -58,7 +58,10 @@ module _ (d : Declarations) where
     brackets_are (fvar x) h = refl
     brackets_are (fapp f true fnone) h = refl
     brackets_are (fapp f false fnone) h = refl
-    brackets_are (fapp f true (fmore t ts)) h = all_brackets_are (fmore t ts) h.1 ∙ sym (weightless_over (of_brackets d) f true (sum_keeps_none (axioms d f) h.0.associative) t ts)
+    brackets_are (fapp f true (fmore t ts)) h =
+        let a = all_brackets_are (fmore t ts) h.1 in
+        let b = weightless_over (of_brackets d) f true (sum_keeps_none (axioms d f) h.0.associative) t ts in
+        omega arith
     brackets_are (fapp f false (fmore t ts)) h =
         let k = other_keeps_one d (axioms d f) t (funpack ts) h.0 in
         let a = all_brackets_are (fmore t ts) h.1 in

@@ -1,13 +1,12 @@
 -- Instances weigh as much as what they are instances of, or more.
-use Rattle.std.proofs.Common.{◌≡◌, ◌≤◌, ℕ, ◌+◌, Bool, true, false, refl, sym, ap, ◌∙◌, subst, inl, inr, arith}
+use Rattle.std.proofs.Common.{◌≡◌, ◌≤◌, Bool, true, false, refl, sym, ap, ◌∙◌, subst, inl, inr, arith}
 use Rattle.fvn_terms.specs.declared.plain.Var.{Var}
 use Rattle.fvn_terms.specs.declared.plain.OpId.{OpId}
 use Rattle.fvn_terms.specs.declared.declarations.Declarations.{Declarations}
 use Rattle.fvn_terms.specs.Term.{Term, Terms, var, app, none, more}
-use Rattle.fvn_terms.specs.Signature.{axioms}
 use Rattle.fvn_terms.specs.Substitution.{Substitution, apply, apply_all, same_var, Occurs, OccursAmong}
 use Rattle.fvn_flat.proofs.Binding.{same_var_is, same_var_itself}
-use Rattle.fvn_counts.specs.Weights.{Weights, weight, weight_all, one_if, of_variable, occurrences, of_brackets, brackets, keeps_brackets}
+use Rattle.fvn_counts.specs.Weights.{Weights, weight, weight_all, one_if, of_variable, occurrences, of_brackets, brackets}
 
 -- where no variable weighs more than its value, no term weighs more than its instance
 module _ (w v : Weights) (s : Substitution) (variables : (x : Var) → w.variable x ≤ weight v (s x)) (constants : (f : OpId) → w.constant f ≤ v.constant f) (operators : (f : OpId) → w.operator f ≤ v.operator f) where

@@ -1,12 +1,11 @@
 -- Where forms are matched, the profile of the targets is above that of the patterns.
-use Rattle.std.proofs.Common.{◌≡◌, ◌≤◌, ℕ, ◌+◌, ◌-◌, ◌^◌, zero, suc, ◌<◌, min, Bool, true, false, List, [], ◌∷◌, ◌++◌, length, map, take, get_or, refl, sym, ap, ◌∙◌, subst, arith}
-use Rattle.std.specs.Prelude.{◌↔◌, All, Any, Contains, IsTrue}
-use Rattle.std.specs.List.{AllZip, AllByRecursion}
+use Rattle.std.proofs.Common.{◌≡◌, ◌≤◌, ℕ, ◌+◌, zero, suc, ◌<◌, List, [], ◌∷◌, ◌++◌, length, map, take, get_or, refl, sym, ap, ◌∙◌, subst, arith}
+use Rattle.std.specs.Prelude.{◌↔◌, All, Any, Contains}
+use Rattle.std.specs.List.{AllZip}
 use Rattle.std.proofs.lemmas.List.Elements.{All-contains_itself, All-push}
 use Rattle.std.proofs.lemmas.List.{take_more}
 use Rattle.fvn_base.proofs.Membership.{contains_map, map_contains}
 use Rattle.fvn_terms.specs.declared.plain.Var.{Var}
-use Rattle.fvn_terms.specs.declared.plain.OpId.{OpId}
 use Rattle.fvn_terms.specs.declared.declarations.Declarations.{Declarations}
 use Rattle.fvn_terms.specs.Term.{Term}
 use Rattle.fvn_terms.specs.Substitution.{Substitution, apply, Occurs}
@@ -15,11 +14,10 @@ use Rattle.fvn_terms.specs.Variants.{OccursInSome}
 use Rattle.fvn_terms.proofs.Occurrences.{BEqual-occurs, occurs_value}
 use Rattle.fvn_forms.specs.Flat.{FlatTerm, plain}
 use Rattle.fvn_forms.specs.Settled.{Settled}
-use Rattle.fvn_flat.specs.Fits.{Fits, AllFit}
-use Rattle.fvn_match.specs.Matching.{IsMatcher, HasNoMatcher}
+use Rattle.fvn_flat.specs.Fits.{AllFit}
 use Rattle.fvn_counts.specs.declared.profile.Profile.{Profile}
-use Rattle.fvn_counts.specs.Weights.{of_variable, occurrences, of_brackets, brackets, AreKept}
-use Rattle.fvn_counts.specs.Profiles.{capped, bracket_counts, column, AreColumns, IsProfile, AreAtMost, NeverMatch}
+use Rattle.fvn_counts.specs.Weights.{of_variable, occurrences, of_brackets, AreKept}
+use Rattle.fvn_counts.specs.Profiles.{capped, bracket_counts, column, AreColumns, AreAtMost, NeverMatch}
 use Rattle.fvn_counts.specs.inner.Brackets.{flat_brackets}
 use Rattle.fvn_counts.proofs.Steps.{equal_weights}
 use Rattle.fvn_counts.proofs.Instances.{fewer_occurrences, fewer_brackets}

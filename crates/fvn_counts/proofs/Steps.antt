@@ -1,11 +1,11 @@
 -- Equality modulo the axioms keeps weights that identities do not have.
-use Rattle.std.proofs.Common.{◌≡◌, ℕ, ◌+◌, refl, sym, ap, ◌∙◌, subst, inl, inr, arith}
+use Rattle.std.proofs.Common.{◌≡◌, ◌+◌, refl, sym, ap, ◌∙◌, inl, inr, arith}
 use Rattle.fvn_terms.specs.declared.plain.OpId.{OpId}
 use Rattle.fvn_terms.specs.declared.declarations.Axioms.TheVariants.{AssocCommId}
 use Rattle.fvn_terms.specs.declared.declarations.Declarations.{Declarations}
-use Rattle.fvn_terms.specs.Term.{Term, Terms, app, none, more}
+use Rattle.fvn_terms.specs.Term.{Term, Terms, app, none}
 use Rattle.fvn_terms.specs.Signature.{axioms}
-use Rattle.fvn_terms.specs.Places.{AtOnePlace, AmongOnePlace, here, inside, first, later, Leads, stop, step}
+use Rattle.fvn_terms.specs.Places.{AtOnePlace, AmongOnePlace, here, inside, first, later, stop, step}
 use Rattle.fvn_terms.specs.Equality.{two, IsAxiom, swap, shift, right_identity, left_identity, IsAxiomEitherWay, BEqual}
 use Rattle.fvn_counts.specs.Weights.{Weights, weight, weight_all, AreKept}
 

@@ -1,5 +1,5 @@
 -- What is counted of a list of flat forms, by which most coverings are refused before any matching.
-use Rattle.std.specs.Prelude.{◌≡◌, ◌≤◌, ◌-◌, ◌^◌, ℕ, min, List, [], ◌∷◌, map, All, Any, Contains}
+use Rattle.std.specs.Prelude.{◌≡◌, ◌≤◌, ◌-◌, ◌^◌, ℕ, min, List, [], ◌∷◌, map, Contains}
 use Rattle.fvn_terms.specs.declared.plain.Var.{Var}
 use Rattle.fvn_terms.specs.declared.declarations.Declarations.{Declarations}
 use Rattle.fvn_terms.specs.Variants.{OccursInSome}

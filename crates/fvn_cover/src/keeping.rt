@@ -14,7 +14,12 @@ use std::alloc::Global;
 use std::marker::Model;
 
 // What is counted of a variant with these values.
-fn profile(alloc: Global, sig: &Signature, v: &Variant, values: &[Flat]) -> Result<Profile, NoMemory>
+fn profile(
+    alloc: Global,
+    sig: &Signature,
+    v: &Variant,
+    values: &[Flat],
+) -> Result<Profile, NoMemory>
     requires flat { IsFlatVariant sig.now v.now }
     requires values { values.now ≡ values_of v.now }
     ensures { IfOk result (IsProfiled v.now) }

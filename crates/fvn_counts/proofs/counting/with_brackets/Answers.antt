@@ -1,5 +1,5 @@
 -- one more count
-use Rattle.std.proofs.Common.{◌++◌, [], ◌∷◌, map, take, ap, ◌∙◌}
+use Rattle.std.proofs.Common.{◌++◌, [], ◌∷◌, take, ap, ◌∙◌}
 use Rattle.std.proofs.lemmas.List.{take_all}
 use Rattle.fvn_forms.specs.Settled.{Settled}
 use Rattle.fvn_flat.proofs.Instances.{each_at}

@@ -1,5 +1,5 @@
 -- one more count
-use Rattle.std.proofs.Common.{◌++◌, [], ◌∷◌, map, take, ap, ◌∙◌}
+use Rattle.std.proofs.Common.{◌++◌, [], ◌∷◌, take, ap, ◌∙◌}
 use Rattle.std.proofs.lemmas.List.{take_all}
 use Rattle.fvn_forms.specs.Flat.{plain}
 use Rattle.fvn_counts.specs.Weights.{occurrences}

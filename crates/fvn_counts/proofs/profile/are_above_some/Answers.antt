@@ -10,8 +10,8 @@ pub returns-then-not-is_above_some : goal.returns-then-not-is_above_some
 returns-then-not-is_above_some c = (
   λ f. cc,
   λ h.
-    let one = one_holds (λ o. Any (λ m. AreAtMost m o) c.args.columns.now) c.args.others.now c.loop-o.o-index c.o-item.result c.loop-o-test.true c.o-item.is h in
-    let e = (rw c.as_slice.ensures at c.is_above_some.ensures).1 one in cc,
+      let one = one_holds (λ o. Any (λ m. AreAtMost m o) c.args.columns.now) c.args.others.now c.loop-o.o-index c.o-item.result c.loop-o-test.true c.o-item.is h in
+      let e = (rw c.as_slice.ensures at c.is_above_some.ensures).1 one in cc,
 )
 
 pub loop-o-preserved : goal.loop-o-preserved
