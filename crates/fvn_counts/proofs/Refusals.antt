@@ -1,8 +1,9 @@
 -- Where forms are matched, the profile of the targets is above that of the patterns.
-use Rattle.std.proofs.Common.{◌≡◌, ◌≤◌, ℕ, ◌+◌, zero, suc, ◌<◌, List, [], ◌∷◌, ◌++◌, length, map, take, get_or, refl, sym, ap, ◌∙◌, subst, arith}
-use Rattle.std.specs.Prelude.{◌↔◌, All, Any, Contains}
+use Rattle.std.proofs.Common.{◌≡◌, ◌≤◌, ℕ, ◌+◌, zero, suc, ◌<◌, Bool, false, List, [], ◌∷◌, ◌++◌, length, map, take, get_or, refl, sym, ap, ◌∙◌, subst, arith}
+use Rattle.std.specs.Prelude.{◌↔◌, All, Any, Contains, IsTrue}
 use Rattle.std.specs.List.{AllZip}
-use Rattle.std.proofs.lemmas.List.Elements.{All-contains_itself, All-push}
+use Rattle.std.proofs.lemmas.List.Elements.{All-contains, All-contains_itself, All-push}
+use Rattle.std.proofs.lemmas.Bool.{false≢true}
 use Rattle.std.proofs.lemmas.List.{take_more}
 use Rattle.fvn_base.proofs.Membership.{contains_map, map_contains}
 use Rattle.fvn_terms.specs.declared.plain.Var.{Var}
@@ -17,7 +18,7 @@ use Rattle.fvn_forms.specs.Settled.{Settled}
 use Rattle.fvn_flat.specs.Fits.{AllFit}
 use Rattle.fvn_counts.specs.declared.profile.Profile.{Profile}
 use Rattle.fvn_counts.specs.Weights.{of_variable, occurrences, of_brackets, AreKept}
-use Rattle.fvn_counts.specs.Profiles.{capped, bracket_counts, column, AreColumns, AreAtMost, NeverMatch}
+use Rattle.fvn_counts.specs.Profiles.{capped, bracket_counts, column, AreColumns, AreAtMost, CountsAllow, AllowsMatching, NeverMatch}
 use Rattle.fvn_counts.specs.inner.Brackets.{flat_brackets}
 use Rattle.fvn_counts.proofs.Steps.{equal_weights}
 use Rattle.fvn_counts.proofs.Instances.{fewer_occurrences, fewer_brackets}
@@ -71,19 +72,44 @@ module _ (d : Declarations) where
         let h = r.1.0 in
         (r.0, ((suc h.0, h.1, omega (arith, h.2), h.3, h.4), r.1.1))
 
-    one_above : (p q : List (List ℕ)) (ts us : List FlatTerm) → AreColumns ts p → AreColumns us q → AllZip Makes (map plain ts) (map plain us) → (o : List ℕ) → Contains q o → Any (λ c. AreAtMost c o) p
-    one_above p q ts us a b m o c =
-        let y = b.each o c in
-        let x = source y.0 ts us m y.1 in
-        let k = a.every x.0 x.1.0 in
-        (k.0, column x.0 ts, k.1, k.2, subst (AreAtMost (column x.0 ts)) y.2 (column_at_most x.0 y.0 x.1.1 ts us m))
+    -- the counts allow what is so
+    matched_allow : (ts us : List FlatTerm) → AllFit d ts → AllFit d us → AllZip Makes (map plain ts) (map plain us) → CountsAllow ts us
+    matched_allow ts us h k m = record {
+      brackets = brackets_at_most ts us h k m;
+      columns = λ y o. let x = source y ts us m o in (x.0, x.1.0, column_at_most x.0 y x.1.1 ts us m);
+    }
+
+-- each of the second columns is at or above some first one
+abbrev pub AreAboveSome : List (List ℕ) → List (List ℕ) → Type 0
+AreAboveSome p q = All (λ o. Any (λ c. AreAtMost c o) p) q
+
+module _ (p q : List (List ℕ)) (ts us : List FlatTerm) (a : AreColumns ts p) (b : AreColumns us q) where
+  above_allow : AreAboveSome p q → (y : Var) → OccursInSome y (map plain us) → (x : Var) × OccursInSome x (map plain ts) × AreAtMost (column x ts) (column y us)
+  above_allow h y o =
+      let m = All-contains (λ o. Any (λ c. AreAtMost c o) p) q (column y us) h (b.every y o) in
+      let x = a.each m.1 (m.0, m.2, m.3) in
+      (x.0, x.1, subst (λ c. AreAtMost c (column y us)) (sym x.2) m.4)
+
+  allow_above : ((y : Var) → OccursInSome y (map plain us) → (x : Var) × OccursInSome x (map plain ts) × AreAtMost (column x ts) (column y us)) → AreAboveSome p q
+  allow_above h i o within =
+      let y = b.each _ (All-contains_itself q i o within) in
+      let x = h y.0 y.1 in
+      let k = a.every x.0 x.1 in
+      (k.0, column x.0 ts, k.1, k.2, subst (AreAtMost (column x.0 ts)) y.2 x.2)
 
 -- the two tests
-pub never_by_brackets : (p q : Profile) → (AreAtMost p.brackets.items q.brackets.items → ⊥) → NeverMatch p q
-never_by_brackets p q n d ts us a b h k s m = n (rw (a.brackets, b.brackets) (brackets_at_most d s ts us h k m.1))
+pub refused_by_brackets : (p q : Profile) → (AreAtMost p.brackets.items q.brackets.items → ⊥) → AllowsMatching p q (IsTrue false)
+refused_by_brackets p q n ts us a b = (λ f. absurd (false≢true f), λ h. absurd (n (rw (a.brackets, b.brackets) h.brackets)))
 
-pub never_by_columns : (p q : Profile) → (All (λ o. Any (λ c. AreAtMost c o) p.columns.items) q.columns.items → ⊥) → NeverMatch p q
-never_by_columns p q n d ts us a b h k s m = n (λ i o within. one_above d s p.columns.items q.columns.items ts us a.columns b.columns m.1 _ (All-contains_itself q.columns.items i o within))
+pub decided_by_columns : (p q : Profile) (r : Bool) → AreAtMost p.brackets.items q.brackets.items → IsTrue r ↔ AreAboveSome p.columns.items q.columns.items → AllowsMatching p q (IsTrue r)
+decided_by_columns p q r small decides ts us a b = (
+  λ t. record { brackets = rw (a.brackets, b.brackets) at small; columns = above_allow p.columns.items q.columns.items ts us a.columns b.columns (decides.0 t) },
+  λ h. decides.1 (allow_above p.columns.items q.columns.items ts us a.columns b.columns h.columns),
+)
+
+-- what the counts do not allow is not so
+pub never_matched : (p q : Profile) (r : Bool) → AllowsMatching p q (IsTrue r) → r ≡ false → NeverMatch p q
+never_matched p q r exact e d ts us a b h k s m = false≢true (sym e ∙ (exact ts us a b).1 (matched_allow d s ts us h k m.1))
 
 -- the columns of the variables that are listed
 pub columns_are : (ts : List FlatTerm) (vars : List Var) → ((x : Var) → Contains vars x ↔ OccursInSome x (map plain ts)) → AreColumns ts (map (λ x. column x ts) vars)

@@ -1,5 +1,5 @@
 -- What is counted of a list of flat forms, by which most coverings are refused before any matching.
-use Rattle.std.specs.Prelude.{◌≡◌, ◌≤◌, ◌-◌, ◌^◌, ℕ, min, List, [], ◌∷◌, map, Contains}
+use Rattle.std.specs.Prelude.{◌≡◌, ◌≤◌, ◌↔◌, ◌-◌, ◌^◌, ℕ, min, List, [], ◌∷◌, map, Contains}
 use Rattle.fvn_terms.specs.declared.plain.Var.{Var}
 use Rattle.fvn_terms.specs.declared.declarations.Declarations.{Declarations}
 use Rattle.fvn_terms.specs.Variants.{OccursInSome}
@@ -37,6 +37,16 @@ abbrev pub AreAtMost : List ℕ → List ℕ → Type 0
 AreAtMost [] ns = Unit {0}
 AreAtMost (m ∷ ms) [] = Unit {0}
 AreAtMost (m ∷ ms) (n ∷ ns) = (m ≤ n) × AreAtMost ms ns
+
+-- What the counts ask where the first forms are to match the second: in each no more brackets than in the one in its place,
+-- and for each variable of the second some variable of the first that stands in each form at most as often.
+pub record CountsAllow (ts us : List FlatTerm) : Type 0 where
+  pub brackets : AreAtMost (bracket_counts ts) (bracket_counts us)
+  pub columns : (y : Var) → OccursInSome y (map plain us) → (x : Var) × OccursInSome x (map plain ts) × AreAtMost (column x ts) (column y us)
+
+-- whether the counts allow that forms with the first profile match forms with the second
+abbrev pub AllowsMatching : Profile → Profile → Type 0 → Type 0
+AllowsMatching p q P = (ts us : List FlatTerm) → IsProfile ts p → IsProfile us q → P ↔ CountsAllow ts us
 
 -- in no signature are forms with the second profile matched by forms with the first
 abbrev pub NeverMatch : Profile → Profile → Type 0

@@ -1,7 +1,7 @@
 //! Profiles of lists of flat terms: what is counted once, and compared before any matching.
 ghost use Rattle.std.specs.Prelude.{◌≡◌, ◌↔◌, ◌++◌, false, map, IsTrue, IfOk, All, Any};
 ghost use Rattle.fvn_flat.specs.Fits.{AllFit};
-ghost use Rattle.fvn_counts.specs.Profiles.{column, bracket_counts, AreColumns, IsProfile, AreAtMost, NeverMatch};
+ghost use Rattle.fvn_counts.specs.Profiles.{column, bracket_counts, AreColumns, IsProfile, AreAtMost, AllowsMatching, NeverMatch};
 
 use crate::counting::{with_brackets, with_occurrences};
 use crate::variables::with_all_variables;
@@ -131,6 +131,7 @@ impl Profile {
     ///
     /// The answer no is sure; the answer yes is not.
     pub fn may_cover(&self, other: &Profile) -> bool
+        ensures exact { AllowsMatching self.now other.now (IsTrue result) }
         ensures none { result ≡ false → NeverMatch self.now other.now }
     {
         if !are_at_most(self.brackets.as_slice(), other.brackets.as_slice()) {
