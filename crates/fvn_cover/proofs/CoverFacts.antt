@@ -1,5 +1,5 @@
 -- A matcher of terms and values is a covering of variants.
-use Rattle.std.proofs.Common.{◌≡◌, List, [], ◌∷◌, ◌++◌, length, map, Option, Some, None, refl, sym, ap, ◌∙◌, subst, inl, inr, arith}
+use Rattle.std.proofs.Common.{◌≡◌, false, List, [], ◌∷◌, ◌++◌, length, map, Option, Some, None, refl, sym, ap, ◌∙◌, subst, inl, inr, arith}
 use Rattle.std.specs.Prelude.{◌↔◌, All, Contains, IfSome, is_some, IsTrue}
 use Rattle.std.specs.List.{AllZip}
 use Rattle.std.proofs.lemmas.List.{length-map, map-append}
@@ -116,3 +116,7 @@ module _ (d : Declarations) where
     pub found_covers : (o : Option Bindings) → IfSome o (Matches d (a.terms ++ values_of a) (b.terms ++ values_of b)) → (o ≡ None → HasNoMatcher d (a.terms ++ values_of a) (b.terms ++ values_of b)) → IsTrue (is_some o) ↔ CoversVariant d a b
     found_covers (Some s) m n = (λ t. matcher_covers (substitution s) m, λ h. refl)
     found_covers None m n = (λ t. cc, λ h. absurd (n refl h.by (covering_matches h)))
+
+    -- where nothing matches, there is no covering
+    pub refused : HasNoMatcher d (a.terms ++ values_of a) (b.terms ++ values_of b) → IsTrue false ↔ CoversVariant d a b
+    refused n = (λ t. cc, λ h. absurd (n h.by (covering_matches h)))

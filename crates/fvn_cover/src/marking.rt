@@ -10,7 +10,6 @@ ghost use Rattle.fvn_cover.specs.inner.Pieces.{IsRange, cut};
 use crate::covering::Shown;
 use crate::gate::Gate;
 use crate::keeping::Prepared;
-use crate::values::values;
 use crate::variant::Variant;
 use fvn_sorts::Signature;
 use fvn_terms::NoMemory;
@@ -30,13 +29,18 @@ struct Work<'a> {
     pieces: u32,
 }
 
-// The kept variants, each with its values.
-fn prepared<'a>(alloc: Global, list: &'a [Variant]) -> Result<Vec<Prepared<'a>>, NoMemory>
+// The kept variants, each with its values and its profile.
+fn prepared<'a>(
+    alloc: Global,
+    sig: &Signature,
+    list: &'a [Variant],
+) -> Result<Vec<Prepared<'a>>, NoMemory>
+    requires { All (IsFlatVariant sig.now) list.now }
     ensures { IfOk result (λ all. all.items ≡ list.now) }
 {
     let mut all = Vec::new(alloc);
     for v in list {
-        let p = Prepared::new(alloc, v)?;
+        let p = Prepared::new(alloc, sig, v)?;
         all.push(p)?;
     }
     Ok(all)
@@ -73,8 +77,8 @@ fn marked(
 {
     let mut marks = Vec::new(alloc);
     for c in candidates {
-        let own = values(alloc, c)?;
-        let mark = is_covered(alloc, sig, kept, &Shown::new(c, own.as_slice()))?;
+        let own = Prepared::new(alloc, sig, c)?;
+        let mark = is_covered(alloc, sig, kept, &own.shown())?;
         marks.push(mark)?;
     }
     Ok(marks)
@@ -178,7 +182,7 @@ pub fn marks<R: Threads + Sync, G: Gate>(
     if candidates.is_empty() {
         return Ok(Vec::new(alloc));
     }
-    let list = prepared(alloc, kept)?;
+    let list = prepared(alloc, sig, kept)?;
     let count = candidates.len();
     let pieces = piece_count(workers, count);
     let work = Work {

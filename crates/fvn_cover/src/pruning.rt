@@ -86,7 +86,7 @@ pub fn prune(alloc: Global, sig: &Signature, list: Vec<Variant>) -> Result<Vec<V
     covering_of_variants_is_a_preorder();
     let mut kept = Vec::new(alloc);
     for v in list {
-        let v = Kept::new(alloc, v)?;
+        let v = Kept::new(alloc, sig, v)?;
         kept = with_member(alloc, sig, kept, v)?;
     }
     let vs = variants(alloc, kept)?;
