@@ -64,6 +64,17 @@ const WORKED: [(&str, &str); 13] = [
     ),
 ];
 
+// More than any of these modules declares.
+const MOST_SORTS: u16 = 64;
+
+const MOST_SORTS_AND_KINDS: u16 = 128;
+
+const MOST_OPERATORS: u16 = 256;
+
+fn is_declared(signature: &Signature, s: u16) -> bool {
+    usize::from(s) < signature.sort_count()
+}
+
 fn push_text(out: &mut String, text: &[u8]) -> Result<(), NoMemory> {
     for b in text {
         out.push(char::from(*b))?;
@@ -106,8 +117,8 @@ fn push_between(out: &mut String, text: &str) -> Result<(), NoMemory> {
 
 // The declared sorts above a sort.
 fn push_above(out: &mut String, module: &Module, s: SortId) -> Result<(), NoMemory> {
-    for q in 0..module.signature().sort_count() as u16 {
-        if q != s.0 && module.signature().leq(s, SortId(q)) {
+    for q in 0..MOST_SORTS {
+        if is_declared(module.signature(), q) && q != s.0 && module.signature().leq(s, SortId(q)) {
             out.push('<')?;
             push_sort(out, module, SortId(q))?;
         }
@@ -116,12 +127,14 @@ fn push_above(out: &mut String, module: &Module, s: SortId) -> Result<(), NoMemo
 }
 
 fn push_sorts(out: &mut String, module: &Module) -> Result<(), NoMemory> {
-    for s in 0..module.signature().sort_count() as u16 {
-        push_between(out, "; ")?;
-        push_sort(out, module, SortId(s))?;
-        push_above(out, module, SortId(s))?;
-        out.push_str(" in ")?;
-        push_sort(out, module, module.signature().kind(SortId(s)))?;
+    for s in 0..MOST_SORTS {
+        if is_declared(module.signature(), s) {
+            push_between(out, "; ")?;
+            push_sort(out, module, SortId(s))?;
+            push_above(out, module, SortId(s))?;
+            out.push_str(" in ")?;
+            push_sort(out, module, module.signature().kind(SortId(s)))?;
+        }
     }
     Ok(())
 }
@@ -168,8 +181,13 @@ fn push_result(
     push_sort(out, module, module.signature().result(op, args))
 }
 
-fn sorts_and_kinds(signature: &Signature) -> u16 {
-    (signature.sort_count() + signature.kind_count()) as u16
+// Whether the number is that of a sort or a kind, and the kind is this one.
+fn is_of_kind(signature: &Signature, s: u16, kind: SortId) -> bool {
+    usize::from(s)
+        < signature
+            .sort_count()
+            .saturating_add(signature.kind_count())
+        && signature.kind(SortId(s)).0 == kind.0
 }
 
 // The results for a second argument of each sort of its kind.
@@ -183,8 +201,8 @@ fn push_seconds(
     let Some(kind) = argument_kind(signature, op, 1) else {
         return push_result(out, module, op, &[first]);
     };
-    for s in 0..sorts_and_kinds(signature) {
-        if signature.kind(SortId(s)).0 == kind.0 {
+    for s in 0..MOST_SORTS_AND_KINDS {
+        if is_of_kind(signature, s, kind) {
             push_result(out, module, op, &[first, SortId(s)])?;
         }
     }
@@ -197,8 +215,8 @@ fn push_results(out: &mut String, module: &Module, op: OpId) -> Result<(), NoMem
     let Some(kind) = argument_kind(signature, op, 0) else {
         return push_result(out, module, op, &[]);
     };
-    for s in 0..sorts_and_kinds(signature) {
-        if signature.kind(SortId(s)).0 == kind.0 {
+    for s in 0..MOST_SORTS_AND_KINDS {
+        if is_of_kind(signature, s, kind) {
             push_seconds(out, module, op, SortId(s))?;
         }
     }
@@ -206,11 +224,13 @@ fn push_results(out: &mut String, module: &Module, op: OpId) -> Result<(), NoMem
 }
 
 fn push_operators(out: &mut String, module: &Module) -> Result<(), NoMemory> {
-    for op in 0..module.signature().op_count() as u16 {
-        push_between(out, "; ")?;
-        push_operator(out, module.names(), OpId(op))?;
-        push_axioms(out, module, OpId(op))?;
-        push_results(out, module, OpId(op))?;
+    for op in 0..MOST_OPERATORS {
+        if usize::from(op) < module.signature().op_count() {
+            push_between(out, "; ")?;
+            push_operator(out, module.names(), OpId(op))?;
+            push_axioms(out, module, OpId(op))?;
+            push_results(out, module, OpId(op))?;
+        }
     }
     Ok(())
 }
