@@ -25,8 +25,8 @@ use Rattle.fvn_tool.specs.Replies.{complete, bound_size, line_of, IsReply, IsUni
 use Rattle.fvn_tool.specs.Runs.{Outside, Run, Leaves, HasFailed}
 use Rattle.fvn_tool.specs.Outcomes.{usage_line, too_long_line, IsOutcome, no_command, too_long, replied}
 use Rattle.fvn_tool.specs.Claims.{IsUnifyText, IsCommandText, IsOneText, RefusesText, TellsModule, AnswersCheck, RefusesWords, Asks, RefusesLongText, RefusesModule, RefusesProblem, HasNoProblem, IsAsked, IsRight, Shows, EndsComplete, AnswersRight, AnswersWithoutEvent, AnswersUnify, RefusesToVerify, RefusesToVerifyWords, AnswersVerify, IsReport}
-use Rattle.fvn_commands.proofs.Checks.{check_one_text, check_not_usage, check_refuses, check_no_module, check_tells, check_module}
-use Rattle.fvn_commands.proofs.Verified.{verify_one_text, verify_not_usage, verify_no_module, verify_answers, verify_yes, verify_refuses, verify_later, verify_refuses_words, verify_no_problem, verify_no_bindings, verify_verdict}
+use Rattle.fvn_promises.proofs.Checks.{check_one_text, check_not_usage, check_refuses, check_no_module, check_tells, check_module}
+use Rattle.fvn_promises.proofs.Verified.{verify_one_text, verify_not_usage, verify_no_module, verify_answers, verify_yes, verify_refuses, verify_later, verify_refuses_words, verify_no_problem, verify_no_bindings, verify_verdict}
 use Rattle.fvn_tool.proofs.Outcomes.{Leaves-weaker, Leaves-goes, Leaves-without_fault}
 use Rattle.fvn_tool.proofs.Shows.{shows_right, shows_end}
 use Rattle.fvn_free.proofs.Sizes.{same_sizes}

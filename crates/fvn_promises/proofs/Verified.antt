@@ -23,7 +23,7 @@ use Rattle.fvn_commands.specs.Texts.{line, Is}
 use Rattle.fvn_commands.specs.Laws.{ReadersAreLawful}
 use Rattle.fvn_commands.specs.Checks.{AreNoModule, IsFirstRefusal, IsFirstRefusalOf}
 use Rattle.fvn_commands.specs.Verifying.{HasEquations, HasNoEquation, later_line, status_of_verdict, verdict_line, IsProblemRefusalLine, IsVerdictOn, AreSolvedBy, IsFirstProblemRefusal, IsFirstBindingRefusal, IsModuleOfAxioms, IsAskedIn, IsAskedOf, IsVerifyText, AsksNoProblem, AreNoBindings, IsProblemRefusalOf, IsBindingRefusalOf, TellsVerdict, IsVerifyReply, module_refused, later, problem_refused, bindings_refused, verified}
-use Rattle.fvn_commands.proofs.Checks.{refused_declares_nothing, refusals_alike}
+use Rattle.fvn_promises.proofs.Checks.{refused_declares_nothing, refusals_alike}
 
 -- Verdicts.
 
