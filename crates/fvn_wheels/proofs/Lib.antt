@@ -1,0 +1,4 @@
+-- Lemmas on the steps of odometers and on ranks.
+mod Ranks
+mod Stepping
+mod Left

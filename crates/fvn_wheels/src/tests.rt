@@ -1,0 +1,1 @@
+//! Odometers against lists written by hand.
