@@ -1,5 +1,6 @@
 -- The next list of an odometer is the greatest before the one that stood there.
-use Rattle.std.proofs.Common.{◌≡◌, ℕ, suc, zero, ◌+◌, ◌<◌, ◌≤◌, ◌⊎◌, List, [], ◌∷◌, length, get_or, inl, inr, refl, sym, arith}
+use Rattle.std.proofs.Common.{◌≡◌, ℕ, suc, zero, ◌+◌, ◌<◌, ◌≤◌, ◌≢◌, ◌⊎◌, List, [], ◌∷◌, length, get_or, set, inl, inr, refl, sym, ◌∙◌, subst, arith}
+use Rattle.std.proofs.lemmas.List.{get_or-set_same, get_or-set_other}
 use Rattle.std.specs.List.{AllZip}
 use Rattle.std.proofs.lemmas.Bool.{cases_order}
 use Rattle.std.proofs.lemmas.Slice.Zip.{AllZip-long}
@@ -118,3 +119,25 @@ module _ {A : Type 0} (May : A → ℕ → Type 0) where
   pub bare_has_none : (ps : List A) (k : ℕ) → k < length ps → IsBare May ps k → (x : List ℕ) → AllZip May ps x → ⊥
   bare_has_none [] k l bare x h = absurd (omega (arith, l))
   bare_has_none (p ∷ ps) k l bare x h = bare p (get_or x k 0) (AllZip-at (p ∷ ps) x h k l p)
+
+  -- one more place has its greatest number
+  pub tops_more : (ps : List A) (x : List ℕ) (from p n : ℕ) → p < length x → ((k : ℕ) → from ≤ k → k < p → IsTop May ps x k) → ((d : A) → May (get_or ps p d) n × ((a : ℕ) → May (get_or ps p d) a → a ≤ n)) → (k : ℕ) → from ≤ k → k < p + 1 → IsTop May ps (set x p n) k
+  tops_more ps x from p n l tops top k f h d = go (cases_order k p)
+    where
+      go : (k ≡ p) ⊎ ((k < p) ⊎ (p < k)) → May (get_or ps k d) (get_or (set x p n) k 0) × ((a : ℕ) → May (get_or ps k d) a → a ≤ get_or (set x p n) k 0)
+      go (inl e) =
+          subst (λ j. May (get_or ps j d) (get_or (set x p n) j 0) × ((a : ℕ) → May (get_or ps j d) a → a ≤ get_or (set x p n) j 0)) (sym e)
+          (subst (λ m. May (get_or ps p d) m × ((a : ℕ) → May (get_or ps p d) a → a ≤ m)) (sym (get_or-set_same x p n 0 l)) (top d))
+      go (inr (inl b)) =
+          let other : k ≢ p = omega arith in
+          subst (λ m. May (get_or ps k d) m × ((a : ℕ) → May (get_or ps k d) a → a ≤ m)) (sym (get_or-set_other x p k n 0 other)) (tops k f b d)
+      go (inr (inr a)) = absurd (omega arith)
+
+  -- one more place has its last number
+  pub lasts_more : (ps : List A) (x : List ℕ) (i p : ℕ) → p ≡ i + 1 → IsLast May ps x i → ((k : ℕ) → p ≤ k → k < length ps → IsLast May ps x k) → (k : ℕ) → i ≤ k → k < length ps → IsLast May ps x k
+  lasts_more ps x i p e here lasts k l w = go (cases_order k i)
+    where
+      go : (k ≡ i) ⊎ ((k < i) ⊎ (i < k)) → IsLast May ps x k
+      go (inl f) = subst (λ j. IsLast May ps x j) (sym f) here
+      go (inr (inl b)) = absurd (omega arith)
+      go (inr (inr a)) = lasts k (omega (arith, e)) w

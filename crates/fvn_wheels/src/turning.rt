@@ -79,11 +79,22 @@ fn restart(wheels: &mut [Choices], numbers: &mut [u32], from: usize) -> bool
         × IsBare IsChoice (map wheel_of wheels.old) k }
 {
     for place in from..wheels.len() {
-        wheels[place].again();
-        match wheels[place].next() {
+        match greatest_choice(&mut wheels[place]) {
             None => return false,
             Some(number) => numbers[place] = number,
         }
     }
     true
+}
+
+/// The greatest choice on a wheel, wherever its cursor stands.
+fn greatest_choice(wheel: &mut Choices) -> Option<u32>
+    ensures same { wheel_of wheel.new ≡ wheel_of wheel.old }
+    ensures standing { IfSome result (λ b. wheel.new.below ≡ b) }
+    ensures valid { IfSome result (IsChoice (wheel_of wheel.old)) }
+    ensures greatest { IfSome result (λ b. (a : ℕ) → IsChoice (wheel_of wheel.old) a → a ≤ b) }
+    ensures none { result ≡ None → (a : ℕ) → IsChoice (wheel_of wheel.old) a → ⊥ }
+{
+    wheel.again();
+    wheel.next()
 }
