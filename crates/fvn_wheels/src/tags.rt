@@ -44,7 +44,7 @@ impl Tags {
         ensures bounded { IfOk result (λ t. tags_left t ≤ product t.counts) }
     {
         let mut numbers = vec![in alloc; 0u32; counts.len()]?;
-        let is_over = !restart(counts.as_slice(), numbers.as_mut_slice(), 0);
+        let is_over = !first(counts.as_slice(), numbers.as_mut_slice());
         Ok(Tags {
             counts,
             numbers,
@@ -88,8 +88,18 @@ impl Tags {
             AllZip IsOption self.new.counts numbers → PendingTags self.new numbers }
         ensures bounded { tags_left self.new ≤ product self.new.counts }
     {
-        self.is_over = !restart(self.counts.as_slice(), self.numbers.as_mut_slice(), 0);
+        self.is_over = !first(self.counts.as_slice(), self.numbers.as_mut_slice());
     }
+}
+
+/// Puts the greatest list of options, or answers that some place has no option.
+fn first(counts: &[u32], numbers: &mut [u32]) -> bool
+    requires { length numbers.old ≡ length counts.now }
+
+    ensures greatest { IsTrue result → IsGreatest (AllZip IsOption counts.now) numbers.new }
+    ensures none { result ≡ false → (x : List ℕ) → AllZip IsOption counts.now x → ⊥ }
+{
+    restart(counts, numbers, 0)
 }
 
 /// Puts the greatest list of options before the one that stands there, or answers that there is none.
