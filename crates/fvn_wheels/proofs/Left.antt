@@ -29,6 +29,7 @@ module _ {A : Type 0} (May : A → ℕ → Type 0) where
       onto : IsToCome May ps (Some old) x → (Some old ≡ Some x) ⊎ IsToCome May ps (Some new) x
       onto (may, inl e) = inl (ap Some (sym e))
       onto (may, inr b) = inr (may, n.1 x (may, b))
+
       back : (Some old ≡ Some x) ⊎ IsToCome May ps (Some new) x → IsToCome May ps (Some old) x
       back (inl e) = (subst (λ y. AllZip May ps y) (some_is_one old x e) h, inl (sym (some_is_one old x e)))
       back (inr (may, inl e)) = (may, inr (subst (λ y. IsBefore y old) (sym e) n.0.1))
@@ -40,6 +41,7 @@ module _ {A : Type 0} (May : A → ℕ → Type 0) where
       onto : IsToCome May ps (Some old) x → (Some old ≡ Some x) ⊎ IsToCome May ps None x
       onto (may, inl e) = inl (ap Some (sym e))
       onto (may, inr b) = absurd (n x may b)
+
       back : (Some old ≡ Some x) ⊎ IsToCome May ps None x → IsToCome May ps (Some old) x
       back (inl e) = (subst (λ y. AllZip May ps y) (some_is_one old x e) h, inl (sym (some_is_one old x e)))
       back (inr none) = absurd none.1

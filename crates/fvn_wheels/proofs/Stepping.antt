@@ -105,8 +105,7 @@ module _ {A : Type 0} (May : A → ℕ → Type 0) where
       let front : (k : ℕ) → k < p → get_or new k 0 ≡ get_or old k 0 = λ k l. r.front k (omega arith) ∙ m.front k l in
       let lower : get_or new p 0 < get_or old p 0 = omega (arith, here, m.falls) in
       let before : IsBefore new old = lower_is_before p old new (s ∙ sym long) (omega (arith, long, m.within)) front lower in
-      let next : (d : A) (a : ℕ) → May (get_or ps p d) a → a < get_or old p 0 → a ≤ get_or new p 0 = λ d a may l. (let most : a ≤ get_or moved p 0 = m.next d a may l in omega (arith, here, most)) in
-      (
+      let next : (d : A) (a : ℕ) → May (get_or ps p d) a → a < get_or old p 0 → a ≤ get_or new p 0 = λ d a may l. (let most : a ≤ get_or moved p 0 = m.next d a may l in omega (arith, here, most)) in (
         (AllZip-from_each ps new s (next_may ps p old moved new h m r), before),
         λ x g. next_is_greatest ps p old new x long s m.within front next m.last (λ k l w. r.tops k (omega (arith, l)) w) g.0 g.1,
       )

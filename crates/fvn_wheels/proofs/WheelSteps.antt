@@ -28,8 +28,10 @@ last_here ws numbers i x e l is stand none d a may = go (cases_order a x.below)
   where
     at : x.below ≡ get_or numbers i 0
     at = ap (λ w. w.below) is ∙ stand i e (omega arith) l
+
     valid : IsChoice (wheel_of x) a
     valid = subst (λ w. IsChoice w a) (wheel_at ws i x e l is d) may
+
     go : (a ≡ x.below) ⊎ ((a < x.below) ⊎ (x.below < a)) → get_or numbers i 0 ≤ a
     go (inl f) = omega (arith, at, f)
     go (inr (inl b)) = absurd (none a (b, valid))

@@ -74,7 +74,8 @@ impl Tags {
             ↔ ((self.old.current ≡ Some numbers) ⊎ PendingTags self.new numbers) }
         ensures once { (numbers : List ℕ) →
             PendingTags self.new numbers → self.old.current ≢ Some numbers }
-        ensures falls { self.old.current ≢ None → tags_left self.new < tags_left self.old }
+        ensures falls { (numbers : List ℕ) →
+            self.old.current ≡ Some numbers → tags_left self.new < tags_left self.old }
     {
         if !self.is_over {
             self.is_over = !step(self.counts.as_slice(), self.numbers.as_mut_slice());

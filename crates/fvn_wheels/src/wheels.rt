@@ -36,7 +36,7 @@ impl Model for Wheels {
 
     ghost invariant = { λ w. (length w.numbers.items ≡ length w.wheels.items)
         × (w.is_over ≡ false → AllZip IsChoice (map wheel_of w.wheels.items) w.numbers.items
-            × Stand w.wheels.items w.numbers.items 0 (length w.wheels.items)) };
+        × Stand w.wheels.items w.numbers.items 0 (length w.wheels.items)) };
 }
 
 impl Wheels {
@@ -55,13 +55,6 @@ impl Wheels {
             numbers,
             is_over,
         })
-    }
-
-    /// The number of wheels.
-    pub fn len(&self) -> usize
-        ensures { result ≡ length self.now.wheels }
-    {
-        self.wheels.len()
     }
 
     /// The solutions that the choices on a wheel are of.
@@ -94,7 +87,8 @@ impl Wheels {
             ↔ ((self.old.current ≡ Some numbers) ⊎ PendingChoices self.new numbers) }
         ensures once { (numbers : List ℕ) →
             PendingChoices self.new numbers → self.old.current ≢ Some numbers }
-        ensures falls { self.old.current ≢ None → choices_left self.new < choices_left self.old }
+        ensures falls { (numbers : List ℕ) →
+            self.old.current ≡ Some numbers → choices_left self.new < choices_left self.old }
     {
         if !self.is_over {
             self.is_over = !step(self.wheels.as_mut_slice(), self.numbers.as_mut_slice());

@@ -28,8 +28,8 @@ returns-then-numbers-place-gt0-clause-moved c =
     let i : ℕ = c.loop-place.place - 1 in
     subst (λ ns. IsMoved IsOption c.args.counts.now i c.args.numbers.now (set ns i (get_or ns i 0 - 1))) (sym inv.numbers)
     (one_less c.args.counts.now c.args.numbers.now i c.requires (omega (arith, inv.within, c.loop-place-test.true))
-        (subst (λ ns. 0 < get_or ns i 0) inv.numbers c.if-numbers-place-gt0.true)
-        (λ k h w. inv.last k (omega (arith, h)) w))
+    (subst (λ ns. 0 < get_or ns i 0) inv.numbers c.if-numbers-place-gt0.true)
+    (λ k h w. inv.last k (omega (arith, h)) w))
 
 pub loop-place-preserved : goal.loop-place-preserved
 loop-place-preserved c =

@@ -18,8 +18,8 @@ returns-in-Some-clause-moved c =
     let i : ℕ = c.loop-place.place - 1 in
     let within : i < length c.args.wheels.now = omega (arith, inv.within, c.loop-place-test.true) in
     let moved = moved_here c.args.wheels.now c.args.numbers.now i _ c.index-wheels-place.result c.in-Some.number within c.requires.sized
-        (inv.front i c.index-wheels-place.result (omega (arith, c.loop-place-test.true))) c.requires.stands c.in-Some.ensures.greatest
-        (λ k h w. inv.last k (omega (arith, h)) w) in
+    (inv.front i c.index-wheels-place.result (omega (arith, c.loop-place-test.true))) c.requires.stands c.in-Some.ensures.greatest
+    (λ k h w. inv.last k (omega (arith, h)) w) in
     subst (λ ns. IsMoved IsChoice (map wheel_of c.args.wheels.now) i c.args.numbers.now (slice_set ns i c.in-Some.number)) (sym inv.numbers) moved
 
 pub loop-place-preserved : goal.loop-place-preserved
@@ -28,7 +28,7 @@ loop-place-preserved c =
     let i : ℕ = c.loop-place.place - 1 in
     let within : i < length c.args.wheels.now = omega (arith, inv.within, c.loop-place-test.true) in
     let here = last_here c.args.wheels.now c.args.numbers.now i _ c.index-wheels-place.result within
-        (inv.front i c.index-wheels-place.result (omega (arith, c.loop-place-test.true))) c.requires.stands (c.in_default.ensures.exhausted.0 refl) in
+    (inv.front i c.index-wheels-place.result (omega (arith, c.loop-place-test.true))) c.requires.stands (c.in_default.ensures.exhausted.0 refl) in
     record {
       within = omega (arith, within);
       sized = length-set c.loop-place.wheels i c.next.new.self ∙ inv.sized;

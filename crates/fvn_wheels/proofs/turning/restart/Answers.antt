@@ -15,11 +15,15 @@ pub returns-in-None-clause-bare : goal.returns-in-None-clause-bare
 returns-in-None-clause-bare c = λ _.
     let inv = c.loop-place.invariant in
     let p = c.loop-place.place in
-    let within : p < length c.loop-place.wheels = omega (arith, inv.sized, c.loop-place-test.true) in
-    (p, inv.from, c.loop-place-test.true, λ d a may.
-        c.in-None.ensures.none refl a
-        (subst (λ w. IsChoice w a) (wheel_at c.loop-place.wheels p _ c.index-wheels-place.result within refl d)
-        (subst (λ ws. IsChoice (get_or ws p d) a) (sym inv.same) may)))
+    let within : p < length c.loop-place.wheels = omega (arith, inv.sized, c.loop-place-test.true) in (
+      p,
+      inv.from,
+      c.loop-place-test.true,
+      λ d a may.
+          c.in-None.ensures.none refl a
+          (subst (λ w. IsChoice w a) (wheel_at c.loop-place.wheels p _ c.index-wheels-place.result within refl d)
+          (subst (λ ws. IsChoice (get_or ws p d) a) (sym inv.same) may)),
+    )
 
 pub loop-place-preserved : goal.loop-place-preserved
 loop-place-preserved c =
@@ -30,10 +34,10 @@ loop-place-preserved c =
     let within : p < length c.loop-place.wheels = omega (arith, inv.sized, c.loop-place-test.true) in
     let numbered : p < length c.loop-place.numbers = omega (arith, inv.numbered, c.requires.sized, c.loop-place-test.true) in
     let top : (d : Wheel) → IsChoice (get_or (map wheel_of c.args.wheels.now) p d) n × ((a : ℕ) → IsChoice (get_or (map wheel_of c.args.wheels.now) p d) a → a ≤ n)
-        = λ d. (
-            subst (λ ws. IsChoice (get_or ws p d) n × ((a : ℕ) → IsChoice (get_or ws p d) a → a ≤ n)) inv.same
-            (subst (λ v. IsChoice v n × ((a : ℕ) → IsChoice v a → a ≤ n)) (sym (wheel_at c.loop-place.wheels p _ c.index-wheels-place.result within refl d))
-            (c.in-Some.ensures.valid, c.in-Some.ensures.greatest))) in
+    = λ d. (
+    subst (λ ws. IsChoice (get_or ws p d) n × ((a : ℕ) → IsChoice (get_or ws p d) a → a ≤ n)) inv.same
+    (subst (λ v. IsChoice v n × ((a : ℕ) → IsChoice v a → a ≤ n)) (sym (wheel_at c.loop-place.wheels p _ c.index-wheels-place.result within refl d))
+    (c.in-Some.ensures.valid, c.in-Some.ensures.greatest))) in
     record {
       from = omega (arith, inv.from);
       sized = length-set c.loop-place.wheels p w ∙ inv.sized;

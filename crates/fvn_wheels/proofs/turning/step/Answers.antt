@@ -30,5 +30,5 @@ pub returns-in-Some-clause-last : goal.returns-in-Some-clause-last
 returns-in-Some-clause-last c = λ e x h b.
     let bare = c.restart.ensures.bare e in
     absurd (bare_has_none IsChoice (map wheel_of c.args.wheels.now) bare.0
-        (omega (arith, bare.2, c.move_last.auto.wheels, length-map c.args.wheels.now wheel_of))
-        (subst (λ ps. IsBare IsChoice ps bare.0) c.in-Some.ensures.same bare.3) x h)
+    (omega (arith, bare.2, c.move_last.auto.wheels, length-map c.args.wheels.now wheel_of))
+    (subst (λ ps. IsBare IsChoice ps bare.0) c.in-Some.ensures.same bare.3) x h)

@@ -26,7 +26,7 @@ returns-then-not-self-clause-once c =
     c.step.ensures.next
 
 pub returns-then-not-self-clause-falls : goal.returns-then-not-self-clause-falls
-returns-then-not-self-clause-falls c = λ _.
+returns-then-not-self-clause-falls c = λ _ _.
     falls_by_step c.self.inside.counts.items c.args.self.now.counts c.args.self.now.current
     c.self.inside.numbers.items c.step.new.numbers _ c.step.result
     (sym (ap (λ t. t.counts) c.self.view_is))
@@ -34,4 +34,4 @@ returns-then-not-self-clause-falls c = λ _.
     (with_items_is c.self.inside.numbers c.step.new.numbers (c.step.auto.numbers ∙ c.as_mut_slice.ensures.len))
     (c.self.invariant.1 c.if-not-self.true)
     (found_by_step IsOption c.self.inside.counts.items c.as_slice.result.now c.self.inside.numbers.items c.as_mut_slice.result.now c.step.new.numbers c.step.result
-        (sym c.as_slice.ensures.value) (sym c.as_mut_slice.ensures.value) c.step.ensures.next)
+    (sym c.as_slice.ensures.value) (sym c.as_mut_slice.ensures.value) c.step.ensures.next)

@@ -31,11 +31,11 @@ returns-then-not-self-clause-once c =
     c.step.ensures.next
 
 pub returns-then-not-self-clause-falls : goal.returns-then-not-self-clause-falls
-returns-then-not-self-clause-falls c = λ _.
+returns-then-not-self-clause-falls c = λ _ _.
     let seen = ap (map wheel_of) (sym c.as_mut_slice.ensures.value) in
     let kept = ap (map wheel_of) (with_items_is c.self.inside.wheels c.step.new.wheels (c.step.auto.wheels ∙ c.as_mut_slice.ensures.len)) ∙ c.step.ensures.same in
     let found = found_by_step IsChoice _ (map wheel_of c.as_mut_slice.result.now) c.self.inside.numbers.items c.as_mut_slice-then-not-self.result.now c.step.new.numbers c.step.result
-        kept (sym c.as_mut_slice-then-not-self.ensures.value) c.step.ensures.next in
+    kept (sym c.as_mut_slice-then-not-self.ensures.value) c.step.ensures.next in
     falls_by_step _ (counts_of c.args.self.now.wheels) c.args.self.now.current
     c.self.inside.numbers.items c.step.new.numbers _ c.step.result
     (ap counts_of (sym (ap (λ o. o.wheels) c.self.view_is) ∙ seen ∙ sym kept))
