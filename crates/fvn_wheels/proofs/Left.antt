@@ -1,11 +1,11 @@
 -- What is to come after a step, and how much is left then and at the start.
-use Rattle.std.proofs.Common.{◌≡◌, ◌≢◌, ℕ, ◌+◌, ◌^◌, ◌<◌, ◌≤◌, ◌⊎◌, Bool, true, false, not, if◌then◌else◌, List, [], ◌∷◌, length, map, Option, Some, None, IsTrue, inl, inr, refl, sym, ◌∙◌, subst, ap, arith}
+use Rattle.std.proofs.Common.{◌≡◌, ℕ, ◌^◌, ◌<◌, ◌≤◌, ◌⊎◌, Bool, true, false, not, if◌then◌else◌, List, [], ◌∷◌, Option, Some, None, IsTrue, inl, inr, refl, sym, ◌∙◌, subst, ap, arith}
 use Rattle.std.specs.Prelude.{◌↔◌}
 use Rattle.std.specs.List.{AllZip}
 use Rattle.std.proofs.lemmas.List.{length-map}
 use Rattle.fvn_base.specs.Order.{IsBefore}
 use Rattle.fvn_base.proofs.Order.{before_trans, before_irrefl}
-use Rattle.fvn_wheels.specs.ToCome.{IsAtOrBefore, IsToCome}
+use Rattle.fvn_wheels.specs.ToCome.{IsToCome}
 use Rattle.fvn_wheels.specs.Weight.{product, rank, weight}
 use Rattle.fvn_wheels.specs.Wheels.{Wheel, IsChoice, counts_of}
 use Rattle.fvn_wheels.specs.inner.Steps.{IsNext, IsEnd}

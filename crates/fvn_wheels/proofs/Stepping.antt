@@ -6,7 +6,7 @@ use Rattle.std.proofs.lemmas.Bool.{cases_order}
 use Rattle.std.proofs.lemmas.Slice.Zip.{AllZip-long}
 use Rattle.fvn_base.specs.Order.{IsBefore}
 use Rattle.fvn_wheels.specs.ToCome.{IsGreatest}
-use Rattle.fvn_wheels.specs.inner.Steps.{IsBare, IsTop, IsLast, IsRestarted, IsMoved, IsNext, IsEnd}
+use Rattle.fvn_wheels.specs.inner.Steps.{IsBare, IsTop, IsLast, IsRestarted, IsMoved, IsNext}
 
 module _ {A : Type 0} (May : A → ℕ → Type 0) where
   -- what stands at a place may stand there

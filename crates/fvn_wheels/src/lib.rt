@@ -1,4 +1,4 @@
-//! Odometers: choices of several operators, or tags of several places, one list of numbers after another.
+//! Odometers: choices of several operators, or tags of several places, one list after another.
 #![tactic(auto)]
 
 mod laws;

@@ -58,7 +58,8 @@ impl Tags {
             (λ numbers. self.now.current ≡ Some numbers.now) }
         ensures greatest { IfSome result (λ numbers.
             IsGreatest (PendingTags self.now) numbers.now) }
-        ensures exhausted { (result ≡ None) ↔ ((numbers : List ℕ) → ¬ PendingTags self.now numbers) }
+        ensures exhausted { (result ≡ None)
+            ↔ ((numbers : List ℕ) → ¬ PendingTags self.now numbers) }
     {
         if self.is_over {
             None
@@ -103,7 +104,7 @@ fn first(counts: &[u32], numbers: &mut [u32]) -> bool
     restart(counts, numbers, 0)
 }
 
-/// Puts the greatest list of options before the one that stands there, or answers that there is none.
+/// Puts the greatest list of options before the one that stands there, or answers that none is.
 fn step(counts: &[u32], numbers: &mut [u32]) -> bool
     requires { AllZip IsOption counts.now numbers.old }
 
@@ -141,7 +142,8 @@ fn restart(counts: &[u32], numbers: &mut [u32], from: usize) -> bool
     requires sized { length numbers.old ≡ length counts.now }
     requires within { from ≤ length counts.now }
 
-    ensures restarted { IsTrue result → IsRestarted IsOption counts.now from numbers.old numbers.new }
+    ensures restarted { IsTrue result →
+        IsRestarted IsOption counts.now from numbers.old numbers.new }
     ensures bare { result ≡ false → (k : ℕ) × (from ≤ k) × (k < length counts.now)
         × IsBare IsOption counts.now k }
 {

@@ -23,7 +23,7 @@ pub fn first(wheels: &mut [Choices], numbers: &mut [u32]) -> bool
     restart(wheels, numbers, 0)
 }
 
-/// Puts the greatest list of choices before the one that stands there, or answers that there is none.
+/// Puts the greatest list of choices before the one that stands there, or answers that none is.
 pub fn step(wheels: &mut [Choices], numbers: &mut [u32]) -> bool
     requires choices { AllZip IsChoice (map wheel_of wheels.old) numbers.old }
     requires stands { Stand wheels.old numbers.old 0 (length wheels.old) }

@@ -41,13 +41,12 @@ impl Model for Wheels {
 
 impl Wheels {
     /// All lists of valid choices, one a wheel, wherever the cursors stand.
-    pub fn new(alloc: Global, wheels: Vec<Choices>) -> Result<Wheels, NoMemory>
+    pub fn new(alloc: Global, mut wheels: Vec<Choices>) -> Result<Wheels, NoMemory>
         ensures wheels { IfOk result (λ o. o.wheels ≡ map wheel_of wheels.items) }
         ensures all_pending { IfOk result (λ o. (numbers : List ℕ) →
             AllZip IsChoice o.wheels numbers → PendingChoices o numbers) }
         ensures bounded { IfOk result (λ o. choices_left o ≤ product (counts_of o.wheels)) }
     {
-        let mut wheels = wheels;
         let mut numbers = vec![in alloc; 0u32; wheels.len()]?;
         let is_over = !first(wheels.as_mut_slice(), numbers.as_mut_slice());
         Ok(Wheels {
@@ -71,7 +70,8 @@ impl Wheels {
             (λ numbers. self.now.current ≡ Some numbers.now) }
         ensures greatest { IfSome result (λ numbers.
             IsGreatest (PendingChoices self.now) numbers.now) }
-        ensures exhausted { (result ≡ None) ↔ ((numbers : List ℕ) → ¬ PendingChoices self.now numbers) }
+        ensures exhausted { (result ≡ None)
+            ↔ ((numbers : List ℕ) → ¬ PendingChoices self.now numbers) }
     {
         if self.is_over {
             None

@@ -1,5 +1,5 @@
 -- A start of all places gives the greatest list.
-use Rattle.std.proofs.Common.{◌≡◌, ◌∙◌}
+use Rattle.std.proofs.Common.{◌∙◌}
 use Rattle.fvn_wheels.specs.Tags.{IsOption}
 use Rattle.fvn_wheels.proofs.Stepping.{restarted_is_greatest, bare_has_none}
 use Rattle.fvn_wheels.proofs.tags.first.Goals as goal

@@ -1,5 +1,5 @@
 -- A move of the last place that can, and a start of those after it, give the next list.
-use Rattle.std.proofs.Common.{◌≡◌, ℕ, ◌+◌, ◌<◌, ◌≤◌, length, refl, sym, ◌∙◌, arith}
+use Rattle.std.proofs.Common.{refl, ◌∙◌}
 use Rattle.std.proofs.lemmas.Slice.Zip.{AllZip-long}
 use Rattle.fvn_wheels.specs.Tags.{IsOption}
 use Rattle.fvn_wheels.proofs.Stepping.{lasts_are_an_end, moved_is_next, bare_has_none}

@@ -1,5 +1,5 @@
 -- A start of all wheels gives the greatest list.
-use Rattle.std.proofs.Common.{◌≡◌, ℕ, ◌<◌, length, map, sym, ◌∙◌, arith}
+use Rattle.std.proofs.Common.{map, sym, ◌∙◌, arith}
 use Rattle.std.proofs.lemmas.List.{length-map}
 use Rattle.fvn_wheels.specs.Wheels.{IsChoice, wheel_of}
 use Rattle.fvn_wheels.proofs.Stepping.{restarted_is_greatest, bare_has_none}

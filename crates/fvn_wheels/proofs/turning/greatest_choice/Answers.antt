@@ -1,5 +1,5 @@
 -- A cursor that has gone back has every choice of its wheel to come.
-use Rattle.std.proofs.Common.{◌≡◌, ℕ, ap, sym, subst}
+use Rattle.std.proofs.Common.{ap, sym, subst}
 use Rattle.fvn_wheels.specs.Wheels.{IsChoice, wheel_of}
 use Rattle.fvn_wheels.proofs.WheelSteps.{greatest_of}
 use Rattle.fvn_wheels.proofs.turning.greatest_choice.Goals as goal

@@ -1,5 +1,5 @@
 -- The last wheel with a next choice is found from behind.
-use Rattle.std.proofs.Common.{◌≡◌, ℕ, ◌+◌, ◌-◌, ◌<◌, ◌≤◌, ◌≢◌, length, map, ap, sym, ◌∙◌, subst, refl, slice_set, arith}
+use Rattle.std.proofs.Common.{ℕ, ◌-◌, ◌<◌, ◌≢◌, length, map, ap, sym, ◌∙◌, subst, refl, slice_set, arith}
 use Rattle.std.proofs.lemmas.List.{get_or-set_other, length-set, length-map}
 use Rattle.std.proofs.Math.Seq.{map-set_same}
 use Rattle.fvn_wheels.specs.Wheels.{IsChoice, wheel_of}

@@ -1,5 +1,5 @@
 -- Each wheel passed shows its greatest choice.
-use Rattle.std.proofs.Common.{◌≡◌, ℕ, ◌+◌, ◌<◌, ◌≤◌, ◌≢◌, length, map, get_or, ap, sym, refl, ◌∙◌, subst, arith}
+use Rattle.std.proofs.Common.{ℕ, ◌<◌, ◌≤◌, ◌≢◌, length, map, get_or, sym, refl, ◌∙◌, subst, arith}
 use Rattle.std.proofs.lemmas.List.{get_or-set_other, length-set, length-map}
 use Rattle.std.proofs.Math.Seq.{map-set_same}
 use Rattle.fvn_wheels.specs.Wheels.{IsChoice, Wheel, wheel_of}

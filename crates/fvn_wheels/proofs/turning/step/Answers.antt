@@ -1,10 +1,10 @@
 -- A move of the last wheel that can, and a start of those after it, give the next list.
-use Rattle.std.proofs.Common.{◌≡◌, ℕ, ◌+◌, ◌<◌, ◌≤◌, length, map, refl, sym, ◌∙◌, subst, arith}
+use Rattle.std.proofs.Common.{◌+◌, map, refl, sym, ◌∙◌, subst, arith}
 use Rattle.std.proofs.lemmas.List.{length-map}
 use Rattle.std.proofs.lemmas.Slice.Zip.{AllZip-long}
 use Rattle.fvn_wheels.specs.Wheels.{IsChoice, wheel_of}
 use Rattle.fvn_wheels.specs.inner.Steps.{IsBare, IsRestarted}
-use Rattle.fvn_wheels.proofs.Stepping.{AllZip-at, lasts_are_an_end, moved_is_next, bare_has_none}
+use Rattle.fvn_wheels.proofs.Stepping.{lasts_are_an_end, moved_is_next, bare_has_none}
 use Rattle.fvn_wheels.proofs.turning.step.Goals as goal
 
 pub move_last-requires-clause-sized : goal.move_last-requires-clause-sized

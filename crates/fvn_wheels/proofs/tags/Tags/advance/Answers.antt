@@ -1,5 +1,5 @@
 -- A step takes the current list away, and nothing else.
-use Rattle.std.proofs.Common.{◌≡◌, ◌<◌, ◌∙◌, ap, sym}
+use Rattle.std.proofs.Common.{◌∙◌, ap, sym}
 use Rattle.std.proofs.lemmas.List.{with_items_is}
 use Rattle.fvn_wheels.specs.Tags.{IsOption}
 use Rattle.fvn_wheels.proofs.Left.{shown_is, taken_by_step, given_by_step, found_by_step, falls_by_step}

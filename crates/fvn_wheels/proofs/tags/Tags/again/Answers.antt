@@ -1,5 +1,5 @@
 -- No more lists are left at the start than there are.
-use Rattle.std.proofs.Common.{◌≡◌, ◌<◌, ◌∙◌, subst}
+use Rattle.std.proofs.Common.{◌<◌, ◌∙◌, subst}
 use Rattle.std.specs.List.{AllZip}
 use Rattle.std.proofs.lemmas.List.{with_items_is}
 use Rattle.fvn_wheels.proofs.Left.{bounded_at_start}

@@ -1,8 +1,8 @@
 -- No more lists are left at the start than there are.
-use Rattle.std.proofs.Common.{◌≡◌, ◌∙◌, ap, subst, sym, map}
+use Rattle.std.proofs.Common.{◌∙◌, ap, subst, sym, map}
 use Rattle.std.specs.List.{AllZip}
 use Rattle.std.proofs.lemmas.List.{with_items_is}
-use Rattle.fvn_wheels.specs.Wheels.{IsChoice, counts_of, wheel_of}
+use Rattle.fvn_wheels.specs.Wheels.{IsChoice, wheel_of}
 use Rattle.fvn_wheels.proofs.Left.{bounded_at_start, choices_are_below}
 use Rattle.fvn_wheels.proofs.wheels.Wheels.again.Goals as goal
 
