@@ -176,7 +176,7 @@ module _ (d : Declarations) (p q : Profile) (ts us : List FlatTerm) (a : IsProfi
         let t : IsTrue (is_part (places (Operator f) ts) (places (Operator f) us)) = (part_columns 0 (column (Operator f) ts) (column (Operator f) us)).1 (allow.operators f kept) in
         let o = b.every (Operator f) (λ z. w.1 (u ∙ part_of_none (places (Operator f) ts) (rw z at t))) in
         let v : o.0.places ≡ places (Operator f) us = (b.each o.0 o.1).0 ∙ ap (λ s. places s us) o.2 in
-        let same : same_symbol r.symbol o.0.symbol ≡ true = rw (e, o.2) (same_symbol_itself (Operator f)) in
+        let same : same_symbol r.symbol o.0.symbol ≡ true = ap (λ z. same_symbol z o.0.symbol) e ∙ ap (λ z. same_symbol (Operator f) z) o.2 ∙ same_symbol_itself (Operator f) in
         (o.1.0, o.0, o.1.1, o.1.2, (same, part_same (places (Operator f) ts) (places (Operator f) us) r.places o.0.places (sym u) (sym v) t))
 
     variable_row : (o : Row) → Contains q.rows.items o → (s : Symbol) → o.symbol ≡ s → IsTrue (allows_symbol p.rows.items o s)
