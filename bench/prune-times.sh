@@ -29,21 +29,22 @@ use fvn_sorts::Signature;
 use fvn_terms::NoMemory;
 use std::alloc::Global;
 use std::process::Abort;
+use std::thread::Threads;
 use std::time::Instant;
 
 ghost use Rattle.std.specs.Prelude.{IfOk, All};
 ghost use Rattle.fvn_cover.specs.Covering.{IsFlatVariant};
 
 /// A sum without an identity.
-const SUM: &str = "A; h : A A -> A [assoc comm]";
+const SUM: &str = "A B C; B < A; C < A; h : A A -> A [assoc comm]";
 
 /// The sum with one more variable.
-fn with_summand(alloc: Global, sum: String, variable: u32) -> Result<String, NoMemory> {
+fn with_summand(alloc: Global, sum: String, sort: &str, variable: u32) -> Result<String, NoMemory> {
     let mut all = sum;
     let word = if all.is_empty() {
-        format!(in alloc; "A{variable}")?
+        format!(in alloc; "{sort}{variable}")?
     } else {
-        format!(in alloc; " A{variable} h")?
+        format!(in alloc; " {sort}{variable} h")?
     };
     all.push_str(word.as_str())?;
     Ok(all)
@@ -60,14 +61,14 @@ fn unifier(alloc: Global, number: u32) -> Result<String, NoMemory> {
         digits = digits / 3;
         let mut other = String::new(alloc);
         if digit != 1 {
-            first = with_summand(alloc, first, 10 + j)?;
-            other = with_summand(alloc, other, 10 + j)?;
+            first = with_summand(alloc, first, "B", j)?;
+            other = with_summand(alloc, other, "B", j)?;
         }
         if digit != 0 {
-            second = with_summand(alloc, second, 20 + j)?;
-            other = with_summand(alloc, other, 20 + j)?;
+            second = with_summand(alloc, second, "C", j)?;
+            other = with_summand(alloc, other, "C", j)?;
         }
-        let pair = format!(in alloc; "; A{} {other}", 30 + j)?;
+        let pair = format!(in alloc; "; A{} {other}", 2 + j)?;
         others.push_str(pair.as_str())?;
     }
     let all = format!(in alloc; "A0 {first}; A1 {second}{others}")?;
@@ -125,8 +126,7 @@ fn timed(rt: &HostRuntime, sig: &Signature, most: usize) -> Result<(), NoMemory>
     Ok(())
 }
 
-fn used(rt: &HostRuntime, sig: &Signature) -> Result<bool, NoMemory> {
-    let alloc = rt.alloc();
+fn used<R: Threads + Sync>(rt: &R, alloc: Global, sig: &Signature) -> Result<bool, NoMemory> {
     let both = shown_both(alloc, sig, "A9 A0 / A9 A1")?;
     let pruned = shown_pruned(alloc, sig, "A9 A0")?;
     let marked = shown_marked(rt, alloc, sig, "A9 A0 / A9 A1", 2)?;
@@ -142,7 +142,7 @@ fn times(rt: HostRuntime) -> Result<(), NoMemory> {
             for most in [500, 1000, 2000] {
                 timed(&rt, &sig, most)?;
             }
-            assert!(rt; used(&rt, &sig)?);
+            assert!(rt; used(&rt, alloc, &sig)?);
         }
         Err(_) => assert!(rt; false, "no signature"),
     }
@@ -152,4 +152,5 @@ PROGRAM
 case "$1" in
 try) rt try --test ;;
 *) rt test ;;
-esac 2>&1 | grep -aE '^ *prune: |not proved|no proof|error\[|error:|test result' | sed 's/^ *//'
+esac > "$there/log" 2>&1 || true
+grep -aE "^ *prune: |not proved|no proof|error\[|error:|panicked|fault|at src|test result" "$there/log" | sed "s/^ *//"

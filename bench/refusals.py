@@ -16,13 +16,12 @@ ELEMENTS = ["op a : -> S .", "op b : -> S .", "op c : -> S ."]
 UNARY = "op g : S -> S ."
 FREE = "op p : S S -> S ."
 XOR = ["eq x(X, X) = 0 [variant] .", "eq x(X, X, Y) = Y [variant] .", "eq x(X, 0) = X [variant] ."]
-GROUP = ["eq x(X, 0) = X [variant] .", "eq x(X, i(X)) = 0 [variant] .", "eq x(X, i(X), Y) = Y [variant] .",
-         "eq i(i(X)) = X [variant] .", "eq i(0) = 0 [variant] .", "eq x(i(X), i(Y)) = i(x(X, Y)) [variant] .",
-         "eq i(x(i(X), Y)) = x(X, i(Y)) [variant] .", "eq x(i(X), i(Y), Z) = x(i(x(X, Y)), Z) [variant] .",
-         "eq i(x(X, Y)) = 0 [variant] ."][:8]
 DECRYPT = ["eq d(e(X, Y), Y) = X [variant] ."]
 BOTH_WAYS = ["eq d(e(X, Y), Y) = X [variant] .", "eq e(d(X, Y), Y) = X [variant] ."]
 PAIRS = ["eq l(p(X, Y)) = X [variant] .", "eq r(p(X, Y)) = Y [variant] ."]
+
+# the most members that are looked at of one list, so that no list counts for all
+MOST = 40
 
 # name: declarations, equations, operators with an identity and identities, the operators of problems with their arities
 THEORIES = {
@@ -88,7 +87,7 @@ def counted(term, sums, counts):
 def answers(module, command):
     try:
         out = subprocess.run(["maude", "-no-banner", "-no-advise", "-no-wrap"], input=module + command + "\nquit\n", text=True,
-                             capture_output=True, timeout=4).stdout
+                             capture_output=True, timeout=3).stdout
     except subprocess.TimeoutExpired:
         return []
     lists, member = [], []
@@ -159,10 +158,11 @@ def main():
             if equations and turn % 2:
                 command = "filtered variant unify [40] in M : %s =? %s ." % (s, t)
             elif equations:
-                command = "get irredundant variants [40] in M : %s ." % random_term(rng, ops, 3)
+                command = "get irredundant variants [40] in M : %s ." % random_term(rng, ops, 2)
             else:
                 command = "irredundant unify [60] in M : %s =? %s ." % (s, t)
             members = answers(module, command)
+            members = rng.sample(members, MOST) if len(members) > MOST else members
             problems += len(members) > 1
             profiles = [asked(theory, m) for m in members]
             for i, first in enumerate(profiles):

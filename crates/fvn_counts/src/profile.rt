@@ -11,9 +11,8 @@ use fvn_sorts::Signature;
 use fvn_terms::NoMemory;
 use std::alloc::Global;
 
-/// What is counted of a list of flat terms: for each operator and each variable how often it stands in each of the terms.
-///
-/// The rows with fewer places come first.
+/// What is counted of a list of flat terms: for each operator and each variable how often it
+/// stands in each of the terms. The rows with fewer places come first.
 #[derive(Drop)]
 pub struct Profile {
     pub(crate) rows: Vec<Row>,
@@ -39,7 +38,7 @@ impl Profile {
         Ok(Profile { rows })
     }
 
-    /// Whether the counts allow that some substitution makes the terms of the other from those of this one.
+    /// Whether the counts allow that some substitution makes the terms of the other from these.
     ///
     /// The answer no is sure; the answer yes is not.
     pub fn may_cover(&self, sig: &Signature, other: &Profile) -> bool

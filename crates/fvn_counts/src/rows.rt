@@ -7,7 +7,7 @@ use fvn_terms::NoMemory;
 use std::alloc::Global;
 use std::marker::Model;
 
-/// Numbers of terms, each as often as something stands in that term; contracts see the list of them.
+/// Numbers of terms, each as often as something stands in that term; contracts see their list.
 #[derive(Drop)]
 pub(crate) struct Places {
     items: Vec<u64>,

@@ -29,19 +29,21 @@ is_part xs ys = has_nothing (after_all xs ys)
 abbrev pub IsOwn : Row → Row → Type 0
 IsOwn r o = (same_symbol r.symbol o.symbol ≡ true) × IsTrue (is_part r.places o.places)
 
--- a row of an operator that the axioms keep has such a row among the others
+-- where the symbol is an operator that the axioms keep, the row has such a row among the others
 abbrev pub AllowsSymbol : Declarations → List Row → Row → Symbol → Type 0
 AllowsSymbol d others r (Variable x) = Unit {0}
 AllowsSymbol d others r (Operator f) = IsKept d f → Any (IsOwn r) others
 
+-- a row of an operator that the axioms keep has such a row among the others
 abbrev pub AllowsOperator : Declarations → List Row → Row → Type 0
 AllowsOperator d others r = AllowsSymbol d others r r.symbol
 
--- a row of a variable has only places of o
+-- the symbol is a variable, and the row has only places of o
 abbrev pub is_symbol_below : Row → Row → Symbol → Bool
 is_symbol_below o r (Variable x) = is_part r.places o.places
 is_symbol_below o r (Operator f) = false
 
+-- the row is of a variable, and has only places of o
 abbrev pub is_below : Row → Row → Bool
 is_below o r = is_symbol_below o r r.symbol
 
@@ -50,10 +52,11 @@ abbrev pub is_above_some : Row → List Row → Bool
 is_above_some o [] = false
 is_above_some o (r ∷ rs) = if nat_lt (length o.places) (length r.places) then false else (is_below o r || is_above_some o rs)
 
--- a row of a variable is above one of the rows
+-- where the symbol is a variable, o is above one of the rows
 abbrev pub allows_symbol : List Row → Row → Symbol → Bool
 allows_symbol rows o (Variable y) = is_above_some o rows
 allows_symbol rows o (Operator g) = true
 
+-- o is above one of the rows, if it is of a variable
 abbrev pub allows_variable : List Row → Row → Bool
 allows_variable rows o = allows_symbol rows o o.symbol
