@@ -7,7 +7,6 @@ use Rattle.fvn_terms.specs.Substitution.{same_var, Occurs, OccursAmong}
 use Rattle.fvn_terms.specs.Variants.{OccursInSome}
 use Rattle.fvn_forms.specs.Flat.{FlatTerm, plain}
 use Rattle.fvn_flat.proofs.Binding.{same_var_is, same_var_itself}
-use Rattle.fvn_counts.specs.declared.symbols.Symbol.{Symbol}
 use Rattle.fvn_counts.specs.declared.symbols.Symbol.TheVariants.{Variable}
 use Rattle.fvn_counts.specs.Weights.{weight_all, one_if, of_symbol, times}
 use Rattle.fvn_counts.specs.Places.{column, places_from}

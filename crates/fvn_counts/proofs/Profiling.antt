@@ -1,7 +1,7 @@
 -- What was noted of forms is their profile.
-use Rattle.std.proofs.Common.{◌≡◌, ◌≢◌, ℕ, zero, suc, ◌+◌, ◌<◌, ◌≤◌, Bool, true, false, if◌then◌else◌, List, [], ◌∷◌, ◌++◌, length, map, take, get_or, replicate, refl, sym, ap, ◌∙◌, subst, inl, inr, arith}
-use Rattle.std.specs.Prelude.{◌⊎◌, Contains, IsTrue, ◌||◌, nat_lt}
-use Rattle.std.specs.List.Sorted.{IsPermutation, IsNonDecreasingBy}
+use Rattle.std.proofs.Common.{◌≡◌, ◌≢◌, ℕ, ◌+◌, ◌<◌, Bool, true, false, if◌then◌else◌, List, [], ◌∷◌, ◌++◌, length, take, get_or, replicate, sym, ap, ◌∙◌, arith}
+use Rattle.std.specs.Prelude.{Contains}
+use Rattle.std.specs.List.Sorted.{IsPermutation}
 use Rattle.std.proofs.lemmas.List.{append-nil, append_assoc, map-append, replicate-append-replicate, length-map, length-take-le, take_more}
 use Rattle.std.proofs.lemmas.List.Sorted.{Contains-permutation, IsPermutation-sym}
 use Rattle.fvn_terms.specs.declared.declarations.Declarations.{Declarations}
@@ -13,8 +13,8 @@ use Rattle.fvn_counts.specs.declared.rows.Row.{Row}
 use Rattle.fvn_counts.specs.Weights.{of_symbol, times, same_symbol}
 use Rattle.fvn_counts.specs.Places.{column, places_from, places}
 use Rattle.fvn_counts.specs.inner.Heads.{symbol_of, further}
-use Rattle.fvn_counts.specs.inner.Rows.{places_at, AreDistinct, Notes}
-use Rattle.fvn_counts.proofs.Arguments.{weight_in, weight_in-take_more, own_times, times_are}
+use Rattle.fvn_counts.specs.inner.Rows.{places_at, Notes}
+use Rattle.fvn_counts.proofs.Arguments.{weight_in, weight_in-take_more, times_are}
 use Rattle.fvn_counts.proofs.Noting.{for_one, notes_then, notes_same, distinct_each, at_every}
 
 -- copies for one symbol, and copies for its arguments

@@ -1,9 +1,9 @@
 -- Where forms are matched, the counts of the targets are those of the patterns or greater.
 use Rattle.std.proofs.Common.{◌≡◌, ◌≢◌, ◌≤◌, ℕ, ◌+◌, zero, suc, ◌<◌, Bool, true, false, List, [], ◌∷◌, ◌++◌, length, map, take, get_or, refl, sym, ap, ◌∙◌, subst, inl, inr, arith}
-use Rattle.std.specs.Prelude.{◌↔◌, ◌⊎◌, ◌||◌, nat_lt, All, Any, Contains, IsTrue}
+use Rattle.std.specs.Prelude.{◌↔◌, ◌⊎◌, nat_lt, All, Any, Contains, IsTrue}
 use Rattle.std.specs.List.{AllZip}
 use Rattle.std.specs.List.Sorted.{IsNonDecreasingBy}
-use Rattle.std.proofs.lemmas.Bool.{false≢true, ltb-true, ltb-false}
+use Rattle.std.proofs.lemmas.Bool.{false≢true, ltb-true}
 use Rattle.std.proofs.lemmas.List.Elements.{All-contains, All-contains_itself, All-push}
 use Rattle.std.proofs.lemmas.List.{take_more}
 use Rattle.fvn_base.proofs.Membership.{contains_cases, contains_none, contains_here, contains_later}
@@ -25,7 +25,7 @@ use Rattle.fvn_counts.specs.declared.symbols.Symbol.TheVariants.{Variable, Opera
 use Rattle.fvn_counts.specs.declared.rows.Row.{Row}
 use Rattle.fvn_counts.specs.declared.profile.Profile.{Profile}
 use Rattle.fvn_counts.specs.Weights.{one_if, of_symbol, times, same_symbol, IsKept, AreKept}
-use Rattle.fvn_counts.specs.Places.{column, places_from, places}
+use Rattle.fvn_counts.specs.Places.{column, places}
 use Rattle.fvn_counts.specs.Profiles.{IsProfile, AreAtMost, CountsAllow, AllowsMatching, NeverMatch}
 use Rattle.fvn_counts.specs.inner.Comparing.{has_nothing, is_part, IsOwn, AllowsSymbol, AllowsOperator, is_symbol_below, is_below, is_above_some, allows_symbol, allows_variable}
 use Rattle.fvn_counts.proofs.SameSymbols.{same_symbol_is, same_symbol_itself}

@@ -1,7 +1,5 @@
 -- When two symbols are one.
-use Rattle.std.proofs.Common.{◌≡◌, Bool, true, false, refl, sym, ap, ◌∙◌, subst}
-use Rattle.fvn_terms.specs.declared.plain.Var.{Var}
-use Rattle.fvn_terms.specs.declared.plain.OpId.{OpId}
+use Rattle.std.proofs.Common.{◌≡◌, Bool, true, false, refl, sym, ap, ◌∙◌}
 use Rattle.fvn_forms.proofs.Sums.{same_op_itself, same_op_is}
 use Rattle.fvn_flat.proofs.Binding.{same_var_is, same_var_itself}
 use Rattle.fvn_counts.specs.declared.symbols.Symbol.{Symbol}

@@ -1,5 +1,5 @@
 -- the top of the term, and one more argument
-use Rattle.std.proofs.Common.{◌≡◌, ◌+◌, replicate, sym, ap, ◌∙◌, subst, arith}
+use Rattle.std.proofs.Common.{◌≡◌, ◌+◌, replicate, sym, ◌∙◌, subst, arith}
 use Rattle.std.specs.List.{AllByRecursion}
 use Rattle.std.proofs.lemmas.List.{take_all}
 use Rattle.fvn_forms.specs.Settled.{Settled}
