@@ -2,6 +2,9 @@
 use Rattle.std.proofs.Common.{◌≡◌, ℕ, ◌<◌, ◌⊎◌, inl, inr, Bool, true, false, Some, None, Option, List, [], ◌∷◌, ◌++◌, refl, sym, ap, ◌∙◌, subst, append_assoc, arith}
 use Rattle.std.specs.Prelude.{if◌then◌else◌, ◌&&◌}
 use Rattle.std.specs.List.{AllByRecursion}
+use Rattle.std.specs.Global.{Vec}
+use Rattle.std.specs.Option.{is_some}
+use Rattle.fvn_answer.specs.declared.front.Front.{Front}
 use Rattle.std.specs.declared.cmp.Ordering.{Ordering}
 use Rattle.std.specs.declared.cmp.Ordering.TheVariants.{Less, Equal, Greater}
 use Rattle.std.specs.Ordering.{ordering_reverse, is_gt, is_lt, nat_cmp}
@@ -14,8 +17,8 @@ use Rattle.fvn_lex.specs.Join.{space}
 use Rattle.fvn_terms.specs.declared.plain.Var.{Var}
 use Rattle.fvn_syntax.specs.Pieces.{Text}
 use Rattle.fvn_answer.specs.Writing.{is_after}
-use Rattle.fvn_answer.specs.inner.Bytes.{beside, with_each, over_texts, put_text, sorted_texts}
-use Rattle.fvn_answer.specs.inner.Fronts.{AtLeast, IsFrontOf, arranged_if, HaveMore, AreGathered, upto}
+use Rattle.fvn_answer.specs.inner.Bytes.{bytes_of, beside, with_each, over_texts, put_text, sorted_texts}
+use Rattle.fvn_answer.specs.inner.Fronts.{AtLeast, IsFrontOf, IsLesserOf, arranged_if, HaveMore, AreGathered, upto}
 use Rattle.fvn_answer.proofs.Least.{before-lt, before-not, not-before, before-split}
 use Rattle.fvn_answer.proofs.TextOrder.{not_after, after_trans, put-put}
 
@@ -264,3 +267,46 @@ gather-behind whole all l w h = record {
   first_after = h.first_after;
   more_after = λ e. cc;
 }
+
+-- A front with a tip, and one without.
+
+pub whole-front : (tip : Option Var) (v w : Text) → is_some tip ≡ false → IsFrontOf tip v w → v ≡ w
+whole-front None v w e h = h
+whole-front (Some x) v w e h = cc
+
+pub front-after : (tip : Option Var) (v w : Text) → IsFrontOf tip v w → AtLeast v w
+front-after None v w h = subst (AtLeast v) h (at_least-itself v)
+front-after (Some x) v w h = h
+
+gathered-more : (exchange : Bool) (whole all : List Text) (tip : Option Var) (v : Text) → is_some tip ≡ true → HaveMore exchange whole v all → AreGathered exchange whole tip v all
+gathered-more exchange whole all None v e h = cc
+gathered-more exchange whole all (Some x) v e h = h
+
+pub gather-lesser : (exchange : Bool) (whole all : List Text) (least front lesser : Front) (w : Text) (tip : Option Var) → least.tip ≡ tip → (exchange ≡ true) ⊎ (tip ≡ None) →
+    is_some front.tip ≡ true → IsLesserOf tip least front lesser → AreGathered exchange whole tip least.text.items all → AtLeast front.text.items w →
+    AreGathered exchange whole lesser.tip lesser.text.items (all ++ w ∷ [])
+gather-lesser exchange whole all least front lesser w None t or some is g h =
+    subst (λ (f : Front). AreGathered exchange whole f.tip f.text.items (all ++ w ∷ [])) (sym is)
+    (gathered-more exchange whole (all ++ w ∷ []) front.tip front.text.items some (gather-first exchange whole all front.text.items w h g))
+gather-lesser false whole all least front lesser w (Some x) t (inl e) some is g h = cc
+gather-lesser false whole all least front lesser w (Some x) t (inr e) some is g h = cc
+gather-lesser true whole all least front lesser w (Some x) t or some is g h = go (is_lt (slice_cmp nat_cmp front.text.items least.text.items)) refl is
+  where
+    u : Text
+    u = front.text.items
+
+    l : Text
+    l = least.text.items
+
+    go : (b : Bool) → is_lt (slice_cmp nat_cmp front.text.items least.text.items) ≡ b → lesser ≡ (if b then front else least) →
+        AreGathered true whole lesser.tip lesser.text.items (all ++ w ∷ [])
+    go true e s =
+        subst (λ (f : Front). AreGathered true whole f.tip f.text.items (all ++ w ∷ [])) (sym s)
+        (gathered-more true whole (all ++ w ∷ []) front.tip u some (gather-more whole all l u u w (lt-at_least u l e) (at_least-itself u) h g))
+    go false e s =
+        subst (λ (f : Front). AreGathered true whole f.tip f.text.items (all ++ w ∷ [])) (sym s)
+        (gathered-more true whole (all ++ w ∷ []) least.tip l (ap is_some t) (gather-more whole all l u l w (at_least-itself l) (no-lt-at_least u l e) h g))
+
+pub bytes-snoc : (l : List (Vec ℕ)) (v : Vec ℕ) → bytes_of (l ++ v ∷ []) ≡ bytes_of l ++ v.items ∷ []
+bytes-snoc [] v = refl
+bytes-snoc (u ∷ l) v = ap (λ m. u.items ∷ m) (bytes-snoc l v)

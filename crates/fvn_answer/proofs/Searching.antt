@@ -1,6 +1,7 @@
 -- The search for the least text.
 use Rattle.std.proofs.Common.{◌≡◌, ◌≢◌, ℕ, ◌+◌, ◌<◌, ◌≤◌, ◌⊎◌, inl, inr, List, [], ◌∷◌, length, get_or, Option, Some, None, refl, sym, ap, ◌∙◌, subst, arith}
 use Rattle.std.specs.Global.{Vec}
+use Rattle.std.specs.List.{SwappedAt, swap}
 use Rattle.std.proofs.lemmas.Bool.{cases_lt}
 use Rattle.fvn_answer.specs.inner.Fronts.{AtLeast, IsFrontOf, AgreesUpTo, IsAtMost, IsKept}
 use Rattle.fvn_terms.specs.declared.plain.Var.{Var}
@@ -9,17 +10,14 @@ use Rattle.fvn_syntax.specs.declared.names.Names.{Names}
 use Rattle.fvn_syntax.specs.Pieces.{Text}
 use Rattle.fvn_answer.specs.Numberings.{IsNumbering}
 use Rattle.fvn_answer.specs.Lines.{Shown, forms_in, text}
-use Rattle.fvn_answer.specs.inner.Shown.{BeginsAs, Tried, IsBestText, IsSearched}
-use Rattle.fvn_answer.proofs.Fronts.{at_least-itself, at_least-trans}
-use Rattle.fvn_answer.proofs.Numbers.{Next, next-place, nothing-else, agrees}
+use Rattle.fvn_answer.specs.inner.Shown.{BeginsAs, Tried, IsBestText, IsLeastText, IsSearched}
+use Rattle.fvn_answer.proofs.Fronts.{at_least-itself, at_least-trans, front-after}
+use Rattle.fvn_answer.proofs.Numbers.{Next, next-place, nothing-else, agrees, turned-begins, tried-apart}
+use Rattle.fvn_answer.proofs.Least.{exchanged-length, exchanged-numbering}
 
 pub most-after : (best : Option (Vec ℕ)) (v w : Text) → IsAtMost best v → AtLeast v w → IsAtMost best w
 most-after None v w h k = h
 most-after (Some line) v w h k = at_least-trans line.items v w h k
-
-front-after : (tip : Option Var) (v w : Text) → IsFrontOf tip v w → AtLeast v w
-front-after None v w h = subst (AtLeast v) h (at_least-itself v)
-front-after (Some x) v w h = h
 
 pub kept-old : (old : Option (Vec ℕ)) (w : Text) → IsAtMost old w → IsKept old w old
 kept-old old w h = record { which = inl refl; most = h; keeps = λ u k. k }
@@ -84,3 +82,47 @@ module _ (d : Declarations) (texts : List Text) (names : Names) (it : Shown) whe
         let l = n.upto in
         s.tried other (record { begins = c; place = n.place; from = n.from; upto = omega arith; next = n.next });
   }
+
+  -- the orders of the next turn
+  pub record Turned (rest turned next : List Var) : Type 0 where
+    pub numbering : IsNumbering (forms_in it) turned
+    pub long : length turned ≡ length rest
+    pub next_numbering : IsNumbering (forms_in it) next
+    pub next_long : length next ≡ length rest
+
+  pub turned-orders : (rest turned next : List Var) (k j i : ℕ) → k < length rest → j < length rest → i < length rest → turned ≡ swap rest j i → next ≡ swap turned k j →
+      IsNumbering (forms_in it) rest → Turned rest turned next
+  turned-orders rest turned next k j i kin jin iin turn move n =
+      let long = exchanged-length rest turned j i jin iin turn in
+      let now = exchanged-numbering (forms_in it) rest turned j i jin iin turn n in
+      let next_long = exchanged-length turned next k j (omega (arith, long)) (omega (arith, long)) move in record {
+        numbering = now;
+        long = long;
+        next_numbering = exchanged-numbering (forms_in it) turned next k j (omega (arith, long)) (omega (arith, long)) move now;
+        next_long = next_long ∙ long;
+      }
+
+  -- one more of them has been tried
+  pub searched-step : (order rest turned next : List Var) (k j i : ℕ) (old best new : Option (Vec ℕ)) → k ≤ j → j ≤ i → j < length rest → Turned rest turned next →
+      SwappedAt rest turned j i → SwappedAt turned next k j → SearchedUpTo order rest k j old best → IsSearched d texts names it next (k + 1) best new → SearchedUpTo order turned k (j + 1) old new
+  searched-step order rest turned next k j i old best new up higher inside t turn move s r = record {
+    numbering = t.numbering;
+    alike = turned-begins d texts names it order rest turned next k j i up higher s.alike turn move;
+    up = omega arith;
+    upto = (let long = t.long in omega arith);
+    one = r.one;
+    keeps = λ u h. r.keeps u (s.keeps u h);
+    tried = tried-apart d texts names it order rest turned next k j i up higher s.alike turn move (λ other. IsAtMost new (text d names texts other it))
+        (λ other h. r.keeps (text d names texts other it) (s.tried other h)) (λ other b. r.most other b);
+  }
+
+  -- the best text of all
+  pub least-found : (order : List Var) (old new : Option (Vec ℕ)) (line : Vec ℕ) → new ≡ Some line → IsSearched d texts names it order 0 old new → IsLeastText d texts names it line.items
+  least-found order old new line e s = record {
+    one = subst (IsBestText d texts names it) e s.one;
+    least = λ other n. subst (λ best. IsAtMost best (text d names texts other it)) e (s.most other (record { numbering = n; alike = λ i x l. absurd (omega (arith, l)) }));
+  }
+
+  -- there is one
+  pub least-none : {Claim : Type 0} (order : List Var) (old new : Option (Vec ℕ)) → IsNumbering (forms_in it) order → new ≡ None → IsSearched d texts names it order 0 old new → Claim
+  least-none order old new n e s = absurd (subst (λ best. IsAtMost best (text d names texts order it)) e (s.most order (record { numbering = n; alike = λ i x l. refl })))

@@ -1,5 +1,5 @@
 //! Fronts: what is known of a text under all numberings that begin alike.
-ghost use Rattle.std.specs.Prelude.{◌≡◌, ◌≤◌, ◌++◌, ◌∷◌, ◌⊎◌, ◌&&◌, Bool, List, [], Some, None, true, decimal, IfOk, OnOk};
+ghost use Rattle.std.specs.Prelude.{◌≡◌, ◌≤◌, ◌++◌, ◌∷◌, ◌⊎◌, ◌&&◌, Bool, List, [], Some, None, true, false, is_some, decimal, IfOk, OnOk};
 ghost use Rattle.fvn_terms.specs.declared.plain.Var.{Var};
 ghost use Rattle.fvn_terms.specs.Signature.{IsSort};
 ghost use Rattle.fvn_syntax.specs.Pieces.{Text};
@@ -194,6 +194,18 @@ fn over_front(
     }
 }
 
+// Whether the next argument is looked at: where arguments may not be exchanged, none is behind
+// the first tip.
+fn goes_on(exchange: bool, least: &Front) -> bool
+    ensures more { result ≡ true → (exchange ≡ true) ⊎ (least.now.tip ≡ None) }
+    ensures end { result ≡ false → (exchange ≡ false) × (is_some least.now.tip ≡ true) }
+{
+    if exchange {
+        return true;
+    }
+    least.tip.is_none()
+}
+
 /// The front of a term's text.
 pub(crate) fn term_front(
     alloc: Global,
@@ -218,7 +230,7 @@ pub(crate) fn term_front(
                 tip: None,
             };
             for u in t.args() {
-                if exchange || least.tip.is_none() {
+                if goes_on(exchange, &least) {
                     let front = term_front(alloc, signature, names, fixed, u)?;
                     least = gather(&mut texts, least, front)?;
                 }

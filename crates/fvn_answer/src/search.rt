@@ -6,7 +6,7 @@ ghost use Rattle.fvn_answer.specs.Numberings.{IsNumbering};
 ghost use Rattle.fvn_answer.specs.Lines.{forms_in};
 ghost use Rattle.fvn_answer.specs.inner.Readable.{AreReadable};
 ghost use Rattle.fvn_answer.specs.inner.Fronts.{AtLeast, IsAtMost, IsKept};
-ghost use Rattle.fvn_answer.specs.inner.Shown.{shown, CanPrint, IsNumberedText, IsBestText, IsSearched};
+ghost use Rattle.fvn_answer.specs.inner.Shown.{shown, CanPrint, IsNumberedText, IsBestText, IsLeastText, IsSearched};
 
 use crate::front::Fixed;
 use crate::line_front::front;
@@ -129,6 +129,32 @@ fn search(
     Ok(())
 }
 
+// The least text under a numbering.
+fn least_text(
+    alloc: Global,
+    signature: &Signature,
+    names: &Names,
+    var_names: &VarNames,
+    printed: &Printed<'_>,
+    order: &[Var],
+) -> Result<Vec<u8>, NoMemory>
+    requires names { AreReadable signature.now names.now }
+    requires printed { CanPrint signature.now var_names.now.texts printed.now }
+    requires numbering { IsNumbering (forms_in (shown printed.now)) order.now }
+    requires few { length order.now ≤ FEW_VARIABLES }
+    ensures { IfOk result (λ line. IsLeastText signature.now var_names.now.texts names.now
+        (shown printed.now) line.items) }
+{
+    let mut best = None;
+    search(
+        alloc, signature, names, var_names, printed, order, 0, &mut best,
+    )?;
+    match best {
+        Some(line) => Ok(line),
+        None => text(alloc, signature, names, var_names, order, printed),
+    }
+}
+
 /// The text of what is printed, where it has few variables the least one.
 pub(crate) fn numbered_text(
     alloc: Global,
@@ -143,29 +169,25 @@ pub(crate) fn numbered_text(
         (shown printed.now) line.items) }
 {
     let order = variables(alloc, printed)?;
-    let mut best = None;
     let few = order.len() <= FEW_VARIABLES;
     if few {
-        search(
+        let line = least_text(
             alloc,
             signature,
             names,
             var_names,
             printed,
             order.as_slice(),
-            0,
-            &mut best,
         )?;
+        return Ok(line);
     }
-    match best {
-        Some(line) => Ok(line),
-        None => text(
-            alloc,
-            signature,
-            names,
-            var_names,
-            order.as_slice(),
-            printed,
-        ),
-    }
+    let line = text(
+        alloc,
+        signature,
+        names,
+        var_names,
+        order.as_slice(),
+        printed,
+    )?;
+    Ok(line)
 }

@@ -1,6 +1,7 @@
 -- What the program prints, and the order of its variables.
 use Rattle.std.specs.Prelude.{ℕ, ◌≡◌, ◌<◌, ◌≤◌, ◌^◌, List, Option, Some, None, length, All, slice_index_or}
 use Rattle.std.specs.Global.{Vec}
+use Rattle.fvn_base.specs.Order.{IsBefore}
 use Rattle.fvn_terms.specs.declared.plain.Var.{Var}
 use Rattle.fvn_terms.specs.declared.declarations.Declarations.{Declarations}
 use Rattle.fvn_forms.specs.Flat.{fpack}
@@ -62,6 +63,11 @@ module _ (d : Declarations) (texts : List Text) where
       pub order : List Var
       pub numbering : IsNumbering (forms_in it) order
       pub text_is : w ≡ text d names texts order it
+
+    -- w is the text under some numbering, and no text under a numbering stands before it
+    pub record IsLeastText (it : Shown) (w : Text) : Type 0 where
+      pub one : IsTextOfSome it w
+      pub least : (other : List Var) → IsNumbering (forms_in it) other → IsBefore (text d names texts other it) w → ⊥
 
     -- the best text, if there is one, is that under some numbering
     abbrev pub IsBestText : Shown → Option (Vec ℕ) → Type 0
