@@ -7,6 +7,7 @@ mod Collecting
 mod Fronts
 mod Joining
 mod Least
+mod LineFeeds
 mod LineFronts
 mod Lists
 mod Naming

@@ -10,7 +10,7 @@ ghost use Rattle.fvn_answer.specs.Writing.{top};
 ghost use Rattle.fvn_flat.specs.Fits.{Fits};
 ghost use Rattle.fvn_flat.specs.Bindings.{BindingsFit};
 ghost use Rattle.fvn_answer.specs.Asked.{AreAsked, HaveSorts};
-ghost use Rattle.fvn_answer.specs.Lines.{values, variant, values_of, IsTextOf};
+ghost use Rattle.fvn_answer.specs.Lines.{values, variant, values_of, HasNoLineFeed, IsTextOf};
 
 use crate::printed::Printed;
 use crate::search::numbered_text;
@@ -53,6 +53,7 @@ pub fn line_of(
     ensures reads { IfOk result (λ line.
         Reads declared.now.signature declared.now.names var_names.now.texts
         vars.now line.items (substitution subst.now)) }
+    ensures plain { IfOk result (λ line. HasNoLineFeed line.items) }
 {
     declared.recall_readable();
     let signature = declared.signature();
@@ -82,6 +83,7 @@ pub fn variant_line(
     ensures reads { IfOk result (λ line.
         ReadsVariant declared.now.signature declared.now.names var_names.now.texts
         vars.now line.items (plain term.now) (substitution subst.now)) }
+    ensures plain { IfOk result (λ line. HasNoLineFeed line.items) }
 {
     declared.recall_readable();
     let signature = declared.signature();
