@@ -1,6 +1,6 @@
 -- The order of texts, and numberings in another order.
 use Rattle.std.proofs.Common.{◌≡◌, ℕ, ◌+◌, ◌<◌, ◌≤◌, Bool, true, false, ◌⊎◌, inl, inr, List, [], ◌∷◌, length, get_or, refl, sym, ap, ◌∙◌, subst, arith}
-use Rattle.std.specs.List.{SwappedAt, swap}
+use Rattle.std.specs.List.{swap}
 use Rattle.std.specs.declared.cmp.Ordering.TheVariants.{Less, Equal, Greater}
 use Rattle.std.specs.Ordering.{is_lt, ordering_then, nat_cmp}
 use Rattle.std.specs.Cmp.Lexicographic.{slice_cmp}
@@ -24,8 +24,6 @@ use Rattle.fvn_forms.specs.Flat.{FlatTerm}
 use Rattle.fvn_syntax.specs.declared.names.Names.{Names}
 use Rattle.fvn_syntax.specs.Pieces.{Text}
 use Rattle.fvn_answer.specs.Numberings.{IsNumbering}
-use Rattle.fvn_answer.specs.Lines.{Shown, forms_in, text}
-use Rattle.fvn_answer.specs.inner.Shown.{lesser, BeginsAs, IsLeastAmong, Tried}
 
 -- Order of texts.
 

@@ -3,6 +3,8 @@ use Rattle.std.proofs.Common.{◌≡◌, ℕ, ◌+◌, ◌<◌, ◌≤◌, Bool,
 use Rattle.std.specs.Prelude.{codes, slice_get}
 use Rattle.std.specs.Option.{is_some}
 use Rattle.std.proofs.lemmas.List.{append-nil, drop_more, take_more, take_all}
+use Rattle.fvn_lex.specs.Parts.{is_quoted_after}
+use Rattle.fvn_lex.specs.Join.{space}
 use Rattle.fvn_terms.specs.declared.plain.Var.{Var}
 use Rattle.fvn_terms.specs.declared.plain.OpId.{OpId}
 use Rattle.fvn_terms.specs.declared.declarations.Declarations.{Declarations}
@@ -41,14 +43,17 @@ binding-front d names texts other s x old called tip v e h =
 
 pairs-front : (first : Bool) (acc : Text) (ps : List (Text × Text)) → (z : Text) × (with_pairs first acc ps ≡ acc ++ z)
 pairs-front first acc [] = ([], sym (append-nil acc))
-pairs-front first acc (p ∷ ps) = go first
+pairs-front first acc (p ∷ ps) = go first (λ longer. pairs-front false longer ps)
   where
-    go : (b : Bool) → (z : Text) × (with_pairs false (between b acc ++ pair_text p) ps ≡ acc ++ z)
-    go true = let more = pairs-front false (acc ++ pair_text p) ps in (pair_text p ++ more.0, more.1 ∙ append_assoc acc (pair_text p) more.0)
-    go false =
+    go : (b : Bool) → ((longer : Text) → (z : Text) × (with_pairs false longer ps ≡ longer ++ z)) → (z : Text) × (with_pairs false (between b acc ++ pair_text p) ps ≡ acc ++ z)
+    go true rest = let more = rest (acc ++ pair_text p) in (pair_text p ++ more.0, more.1 ∙ append_assoc acc (pair_text p) more.0)
+    go false rest =
         let base = beside acc 44 ++ 32 ∷ [] in
-        let more = pairs-front false (base ++ pair_text p) ps in
-        (_, more.1 ∙ append_assoc base (pair_text p) more.0 ∙ append_assoc (beside acc 44) (32 ∷ []) (pair_text p ++ more.0) ∙ append_assoc acc _ (32 ∷ (pair_text p ++ more.0)))
+        let gap = space (is_quoted_after false acc) ++ 44 ∷ [] in
+        let more = rest (base ++ pair_text p) in (
+          gap ++ (32 ∷ (pair_text p ++ more.0)),
+          more.1 ∙ append_assoc base (pair_text p) more.0 ∙ append_assoc (beside acc 44) (32 ∷ []) (pair_text p ++ more.0) ∙ append_assoc acc gap (32 ∷ (pair_text p ++ more.0)),
+        )
 
 module _ (each : Var → Text × Text) (vars : List Var) (i : ℕ) (x : Var) (within : i < length vars) (is : x ≡ get_or vars i x) where
   left : (first : Bool) (acc : Text) → with_pairs first acc (map each (drop i vars)) ≡ with_pairs false (between first acc ++ pair_text (each x)) (map each (drop (i + 1) vars))
@@ -110,3 +115,8 @@ module _ (d : Declarations) (names : Names) (other : List Var) where
 
 pub variant-front : (tip : Option Var) (v w z : Text) → is_some tip ≡ true → IsFrontOf tip v w → IsFrontOf tip v (w ++ z)
 variant-front tip v w z e h = cut-front tip v (w ++ z) e (at_least-append v w z (front-after tip v w h))
+
+pub variant-rest : (tip more : Option Var) (v w r z : Text) → is_some tip ≡ false → IsFrontOf tip v w → IsFrontOf more r z → IsFrontOf more ((v ++ 32 ∷ []) ++ r) (w ++ 32 ∷ z)
+variant-rest tip more v w r z e h k =
+    subst (λ l. IsFrontOf more l (w ++ 32 ∷ z)) (sym (append_assoc v (32 ∷ []) r ∙ ap (λ t. t ++ 32 ∷ r) (whole-front tip v w e h)))
+    (front-behind more w (32 ∷ r) (32 ∷ z) (front-behind more (32 ∷ []) r z k))

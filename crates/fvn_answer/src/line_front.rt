@@ -155,7 +155,10 @@ pub(crate) fn front(
         }
         Printed::Variant(t, subst, vars) => {
             let term = term_front(alloc, signature, names, fixed, t)?;
-            variant_front(alloc, signature, names, var_names, fixed, term, subst, vars)
+            let front = variant_front(
+                alloc, signature, names, var_names, fixed, term, subst, vars,
+            )?;
+            Ok(front)
         }
     }
 }
