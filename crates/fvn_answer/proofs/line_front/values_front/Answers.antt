@@ -20,7 +20,7 @@ returns-then-is_some c other a =
     let line = c.push_binding.new.text.items in
     binding-cut (value_texts d texts names other s) vars c.loop-x.x-index x c.loop-x-test.true c.x-item.is
     (with_pairs true (codes "{") (map (value_texts d texts names other s) vars)) (text d names texts other (values (values_of s vars)))
-    c.loop-x.first c.loop-x.line.items line c.in_ok-tip.tip c.if-is_some.ensures
+    c.loop-x.first c.loop-x.line.items line c.in_ok-tip.tip (sym c.if-is_some.ensures)
     (values-text d names c.requires.names texts other s vars c.requires.values) (c.loop-x.invariant other a)
     (subst (λ t. IsFrontOf c.in_ok-tip.tip line (t ++ pair_text (value_texts d texts names other s x))) c.in_ok-push_between.ensures (c.in_ok-tip.ensures other a))
 
@@ -35,7 +35,7 @@ loop-x-preserved c other a =
     let line = c.push_binding.new.text.items in
     binding-whole (value_texts d texts names other s) vars c.loop-x.x-index x c.loop-x-test.true c.x-item.is
     (with_pairs true (codes "{") (map (value_texts d texts names other s) vars))
-    c.loop-x.first c.loop-x.line.items line c.in_ok-tip.tip c.if-is_some.ensures (c.loop-x.invariant other a)
+    c.loop-x.first c.loop-x.line.items line c.in_ok-tip.tip (sym c.if-is_some.ensures) (c.loop-x.invariant other a)
     (subst (λ t. IsFrontOf c.in_ok-tip.tip line (t ++ pair_text (value_texts d texts names other s x))) c.in_ok-push_between.ensures (c.in_ok-tip.ensures other a))
 
 pub returns : goal.returns

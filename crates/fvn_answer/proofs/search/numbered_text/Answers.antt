@@ -25,7 +25,7 @@ returns c = record {
     order = c.in_ok-order.order.items;
     numbering = c.in_ok-order.ensures;
     text_is = rw c.as_slice-2.ensures.value at c.in_ok-line-2.ensures;
-    least = λ few other n b. absurd (omega (arith, few, c.if-few.false, c.len.ensures, c.in_ok-order.order.ok.0));
+    least = λ few other n b. absurd (omega (arith, few, c.if-few.false, c.len-few.ensures, c.in_ok-order.order.ok.0));
   };
   few = omega (arith, c.in_ok-order.order.ok.0, c.in_ok-order.order.small);
 }
