@@ -1,4 +1,4 @@
--- Lemmas on lines and answer texts.
+-- Lemmas on lines and answer texts; those on line feeds are for callers.
 mod Answering
 mod Applying
 mod Arranged
@@ -7,7 +7,7 @@ mod Collecting
 mod Fronts
 mod Joining
 mod Least
-mod LineFeeds
+pub mod LineFeeds
 mod LineFronts
 mod Lists
 mod Naming

@@ -11,14 +11,14 @@ use Rattle.fvn_lex.proofs.JoinLemmas.{piece-form}
 use Rattle.fvn_answer.specs.Lines.{HasNoLineFeed}
 
 -- each byte is another one
-abbrev Free : List ℕ → Type 0
+abbrev pub Free : List ℕ → Type 0
 Free text = AllByRecursion (λ b. b ≢ 10) text
 
-free-plain : (text : List ℕ) → Free text → HasNoLineFeed text
+pub free-plain : (text : List ℕ) → Free text → HasNoLineFeed text
 free-plain [] h c = absurd (contains_none 10 c)
 free-plain (b ∷ text) h c = elim (contains_cases b text 10 c) [ inl e ↦ h.0 e | inr k ↦ free-plain text h.1 k ]
 
-free-append : (v w : List ℕ) → Free v → Free w → Free (v ++ w)
+pub free-append : (v w : List ℕ) → Free v → Free w → Free (v ++ w)
 free-append [] w h k = k
 free-append (b ∷ v) w h k = (h.0, free-append v w h.1 k)
 
@@ -42,7 +42,7 @@ word-free quoted (b ∷ text) h =
     let p = both (goes_on quoted b) (goes_through (is_backquote b) text) h in
     (goes-free quoted b p.0, word-free (is_backquote b) text p.1)
 
-piece-free : (p : Piece) → IsPiece p → Free p.text
+pub piece-free : (p : Piece) → IsPiece p → Free p.text
 piece-free p is = elim (piece-form p is) [
   | inl form ↦ word-free false p.text form.printed
   | inr form ↦ subst Free (sym form.text) (special-free form.byte form.special, tt)
