@@ -2,7 +2,7 @@
 use Rattle.std.proofs.Common.{◌≡◌, ℕ, ◌+◌, ◌<◌, ◌≤◌, Bool, true, false, Option, Some, None, List, [], ◌∷◌, ◌++◌, length, get_or, take, drop, refl, sym, ap, ◌∙◌, subst, append_assoc, map, arith}
 use Rattle.std.specs.Prelude.{codes, slice_get}
 use Rattle.std.specs.Option.{is_some}
-use Rattle.std.proofs.lemmas.List.{append-nil, drop_more, take_more, take_all}
+use Rattle.std.proofs.lemmas.List.{append-nil, drop_more, take_more, take_all, get_or_default}
 use Rattle.fvn_lex.specs.Parts.{is_quoted_after}
 use Rattle.fvn_lex.specs.Join.{space}
 use Rattle.fvn_terms.specs.declared.plain.Var.{Var}
@@ -74,6 +74,18 @@ module _ (each : Var → Text × Text) (vars : List Var) (i : ℕ) (x : Var) (wi
       let low : AtLeast line base = front-after tip line base f in
       let one : AtLeast line all = subst (AtLeast line) (sym (h ∙ left first acc ∙ more.1)) (at_least-append line base more.0 low) in
       cut-front tip line whole e (subst (AtLeast line) end (at_least-append line all _ one))
+
+-- the binding that a loop is at
+module _ (each : Var → Text × Text) (vars : List Var) (i : ℕ) (within : i < length vars) (e : Var) (all : Text) (first : Bool) (acc mid line : Text) (tip : Option Var) (is : mid ≡ between first acc)
+    (h : all ≡ with_pairs first acc (map each (drop i vars))) (f : IsFrontOf tip line (mid ++ pair_text (each (get_or vars i e)))) where
+  front-here : IsFrontOf tip line (between first acc ++ pair_text (each (get_or vars i e)))
+  front-here = subst (λ t. IsFrontOf tip line (t ++ pair_text (each (get_or vars i e)))) is f
+
+  pub whole-here : is_some tip ≡ false → all ≡ with_pairs false line (map each (drop (i + 1) vars))
+  whole-here none = binding-whole each vars i (get_or vars i e) within (get_or_default vars i e (get_or vars i e) within) all first acc line tip none h front-here
+
+  pub cut-here : (whole : Text) → beside all 125 ≡ whole → is_some tip ≡ true → IsFrontOf tip line whole
+  cut-here whole end some = binding-cut each vars i (get_or vars i e) within (get_or_default vars i e (get_or vars i e) within) all whole first acc line tip some end h front-here
 
 -- Arguments.
 
