@@ -1,5 +1,5 @@
 -- The fronts of lines.
-use Rattle.std.proofs.Common.{◌≡◌, ℕ, ◌+◌, ◌<◌, ◌≤◌, Bool, true, false, Option, Some, None, List, [], ◌∷◌, ◌++◌, length, get_or, take, drop, refl, sym, ap, ◌∙◌, subst, append_assoc, map, arith}
+use Rattle.std.proofs.Common.{◌≡◌, ℕ, ◌+◌, ◌<◌, ◌≤◌, Bool, true, false, Option, Some, None, List, [], ◌∷◌, ◌++◌, length, get_or, take, drop, refl, sym, ap, ◌∙◌, subst, append_assoc, map}
 use Rattle.std.specs.Prelude.{codes, slice_get}
 use Rattle.std.specs.Option.{is_some}
 use Rattle.std.proofs.lemmas.List.{append-nil, drop_more, take_more, take_all, get_or_default}
@@ -15,14 +15,13 @@ use Rattle.fvn_flat.specs.Forms.{head_of, args_of}
 use Rattle.fvn_syntax.specs.declared.names.Names.{Names}
 use Rattle.fvn_syntax.specs.Pieces.{Text}
 use Rattle.fvn_answer.specs.inner.Readable.{AreReadable}
-use Rattle.fvn_answer.specs.Lines.{values, variant, values_of, text}
 use Rattle.fvn_answer.specs.Writing.{text_of, sorted, written, may_exchange}
 use Rattle.fvn_answer.specs.inner.Bytes.{beside, between, pair_text, with_pairs, over_texts, IsPrintable}
 use Rattle.fvn_answer.specs.inner.Fronts.{AtLeast, IsFrontOf, HaveMore, AreGathered, arranged_if}
-use Rattle.fvn_answer.specs.inner.Shown.{HavePrintable, value_texts}
+use Rattle.fvn_answer.specs.inner.Shown.{value_texts}
 use Rattle.fvn_answer.proofs.Fronts.{at_least-append, at_least-behind, whole-front, front-after, gather-behind}
 use Rattle.fvn_answer.proofs.Printing.{application-text, operator-filled}
-use Rattle.fvn_answer.proofs.ValueTexts.{values-text, pair-push}
+use Rattle.fvn_answer.proofs.ValueTexts.{pair-push}
 
 pub front-behind : (tip : Option Var) (p v w : Text) → IsFrontOf tip v w → IsFrontOf tip (p ++ v) (p ++ w)
 front-behind None p v w h = ap (λ t. p ++ t) h
