@@ -1,5 +1,5 @@
 -- The order of texts, and numberings in another order.
-use Rattle.std.proofs.Common.{◌≡◌, ℕ, ◌+◌, ◌<◌, ◌≤◌, Bool, true, false, ◌⊎◌, inl, inr, List, [], ◌∷◌, length, get_or, refl, sym, ap, ◌∙◌, subst, arith}
+use Rattle.std.proofs.Common.{◌≡◌, ℕ, ◌<◌, Bool, true, false, ◌⊎◌, inl, inr, List, [], ◌∷◌, length, get_or, refl, sym, ◌∙◌, subst, arith}
 use Rattle.std.specs.List.{swap}
 use Rattle.std.specs.declared.cmp.Ordering.TheVariants.{Less, Equal, Greater}
 use Rattle.std.specs.Ordering.{is_lt, ordering_then, nat_cmp}
@@ -7,21 +7,17 @@ use Rattle.std.specs.Cmp.Lexicographic.{slice_cmp}
 use Rattle.std.specs.Bool.{Decides}
 use Rattle.std.specs.Cmp.{nat_cmp_is}
 use Rattle.std.specs.List.Sorted.{IsPermutation}
-use Rattle.std.proofs.lemmas.Bool.{cases_lt, cases_eq, cases_order}
+use Rattle.std.proofs.lemmas.Bool.{cases_order}
 use Rattle.std.proofs.lemmas.List.Sorted.{Contains-permutation, IsPermutation-sym, length_permutation}
 use Rattle.std.proofs.lemmas.Map.Keys.{IsDistinct-IsPermutation}
 use Rattle.std.proofs.lemmas.Map.Made.{AllPairs-from_IsDistinct, IsDistinct-from_AllPairs}
-use Rattle.std.proofs.lemmas.List.{ext_get_or, get_or_default}
-use Rattle.std.proofs.lemmas.List.Elements.{Contains-get_or}
+use Rattle.std.proofs.lemmas.List.{ext_get_or}
 use Rattle.fvn_base.specs.Order.{IsBefore}
-use Rattle.fvn_base.proofs.Order.{before_trans, before_irrefl}
 use Rattle.fvn_base.proofs.Pigeonhole.{length-le_within}
 use Rattle.fvn_terms.specs.declared.plain.Var.{Var}
 use Rattle.fvn_terms.specs.Substitution.{same_var}
 use Rattle.fvn_flat.proofs.Binding.{same_var_is, same_var_itself}
-use Rattle.fvn_terms.specs.declared.declarations.Declarations.{Declarations}
 use Rattle.fvn_forms.specs.Flat.{FlatTerm}
-use Rattle.fvn_syntax.specs.declared.names.Names.{Names}
 use Rattle.fvn_syntax.specs.Pieces.{Text}
 use Rattle.fvn_answer.specs.Numberings.{IsNumbering}
 

@@ -1,6 +1,6 @@
 -- Joined pieces have no line feed.
 use Rattle.std.proofs.Common.{◌≡◌, ◌≢◌, ℕ, Bool, true, false, inl, inr, List, [], ◌∷◌, ◌++◌, refl, sym, subst}
-use Rattle.std.specs.Prelude.{◌&&◌, ◌||◌, Contains}
+use Rattle.std.specs.Prelude.{◌&&◌, ◌||◌}
 use Rattle.std.specs.List.{AllByRecursion}
 use Rattle.fvn_base.proofs.Membership.{contains_cases, contains_none}
 use Rattle.fvn_lex.specs.Cut.{Piece}

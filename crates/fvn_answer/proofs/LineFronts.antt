@@ -1,8 +1,8 @@
 -- The fronts of lines.
-use Rattle.std.proofs.Common.{◌≡◌, ℕ, ◌+◌, ◌<◌, ◌≤◌, Bool, true, false, Option, Some, None, List, [], ◌∷◌, ◌++◌, length, get_or, take, drop, refl, sym, ap, ◌∙◌, subst, append_assoc, map, arith}
+use Rattle.std.proofs.Common.{◌≡◌, ℕ, ◌+◌, ◌<◌, ◌≤◌, Bool, true, false, Option, Some, None, List, [], ◌∷◌, ◌++◌, length, get_or, take, drop, refl, sym, ap, ◌∙◌, subst, append_assoc, map}
 use Rattle.std.specs.Prelude.{codes, slice_get}
 use Rattle.std.specs.Option.{is_some}
-use Rattle.std.proofs.lemmas.List.{append-nil, drop_more, take_more, take_all}
+use Rattle.std.proofs.lemmas.List.{append-nil, drop_more, take_more, take_all, get_or_default}
 use Rattle.fvn_lex.specs.Parts.{is_quoted_after}
 use Rattle.fvn_lex.specs.Join.{space}
 use Rattle.fvn_terms.specs.declared.plain.Var.{Var}
@@ -15,14 +15,13 @@ use Rattle.fvn_flat.specs.Forms.{head_of, args_of}
 use Rattle.fvn_syntax.specs.declared.names.Names.{Names}
 use Rattle.fvn_syntax.specs.Pieces.{Text}
 use Rattle.fvn_answer.specs.inner.Readable.{AreReadable}
-use Rattle.fvn_answer.specs.Lines.{values, variant, values_of, text}
 use Rattle.fvn_answer.specs.Writing.{text_of, sorted, written, may_exchange}
 use Rattle.fvn_answer.specs.inner.Bytes.{beside, between, pair_text, with_pairs, over_texts, IsPrintable}
 use Rattle.fvn_answer.specs.inner.Fronts.{AtLeast, IsFrontOf, HaveMore, AreGathered, arranged_if}
-use Rattle.fvn_answer.specs.inner.Shown.{HavePrintable, value_texts}
+use Rattle.fvn_answer.specs.inner.Shown.{value_texts}
 use Rattle.fvn_answer.proofs.Fronts.{at_least-append, at_least-behind, whole-front, front-after, gather-behind}
 use Rattle.fvn_answer.proofs.Printing.{application-text, operator-filled}
-use Rattle.fvn_answer.proofs.ValueTexts.{values-text, pair-push}
+use Rattle.fvn_answer.proofs.ValueTexts.{pair-push}
 
 pub front-behind : (tip : Option Var) (p v w : Text) → IsFrontOf tip v w → IsFrontOf tip (p ++ v) (p ++ w)
 front-behind None p v w h = ap (λ t. p ++ t) h
@@ -74,6 +73,18 @@ module _ (each : Var → Text × Text) (vars : List Var) (i : ℕ) (x : Var) (wi
       let low : AtLeast line base = front-after tip line base f in
       let one : AtLeast line all = subst (AtLeast line) (sym (h ∙ left first acc ∙ more.1)) (at_least-append line base more.0 low) in
       cut-front tip line whole e (subst (AtLeast line) end (at_least-append line all _ one))
+
+-- the binding that a loop is at
+module _ (each : Var → Text × Text) (vars : List Var) (i : ℕ) (within : i < length vars) (e : Var) (all : Text) (first : Bool) (acc mid line : Text) (tip : Option Var) (is : mid ≡ between first acc)
+    (h : all ≡ with_pairs first acc (map each (drop i vars))) (f : IsFrontOf tip line (mid ++ pair_text (each (get_or vars i e)))) where
+  front-here : IsFrontOf tip line (between first acc ++ pair_text (each (get_or vars i e)))
+  front-here = subst (λ t. IsFrontOf tip line (t ++ pair_text (each (get_or vars i e)))) is f
+
+  pub whole-here : is_some tip ≡ false → all ≡ with_pairs false line (map each (drop (i + 1) vars))
+  whole-here none = binding-whole each vars i (get_or vars i e) within (get_or_default vars i e (get_or vars i e) within) all first acc line tip none h front-here
+
+  pub cut-here : (whole : Text) → beside all 125 ≡ whole → is_some tip ≡ true → IsFrontOf tip line whole
+  cut-here whole end some = binding-cut each vars i (get_or vars i e) within (get_or_default vars i e (get_or vars i e) within) all whole first acc line tip some end h front-here
 
 -- Arguments.
 

@@ -1,5 +1,5 @@
 -- The fronts of the texts of new variables.
-use Rattle.std.proofs.Common.{◌≡◌, ℕ, ◌+◌, ◌<◌, ◌≤◌, inl, inr, Bool, true, false, Option, Some, None, List, [], ◌∷◌, ◌++◌, refl, sym, ap, ◌∙◌, subst, append_assoc, arith}
+use Rattle.std.proofs.Common.{◌≡◌, ℕ, ◌+◌, ◌<◌, ◌≤◌, inl, inr, Bool, true, false, Option, Some, List, [], ◌∷◌, ◌++◌, refl, sym, ap, ◌∙◌, subst, append_assoc, arith}
 use Rattle.std.specs.Prelude.{decimal, nat_lt}
 use Rattle.std.proofs.lemmas.Fmt.{decimal_digit}
 use Rattle.std.proofs.lemmas.List.{append-nil}
@@ -12,7 +12,7 @@ use Rattle.fvn_syntax.specs.declared.names.Names.{Names}
 use Rattle.fvn_syntax.specs.Pieces.{Text}
 use Rattle.fvn_answer.specs.Numberings.{number, new_name}
 use Rattle.fvn_answer.specs.Writing.{text_of, top, sort_text, sorted}
-use Rattle.fvn_answer.specs.inner.Fronts.{AtLeast, AgreesUpTo, IsFrontOf}
+use Rattle.fvn_answer.specs.inner.Fronts.{AtLeast, IsFrontOf}
 use Rattle.fvn_answer.proofs.Fronts.{at_least-append, at_least-behind}
 use Rattle.fvn_answer.proofs.Joining.{quoted-append}
 

@@ -1,5 +1,5 @@
 -- The search for the least text.
-use Rattle.std.proofs.Common.{◌≡◌, ◌≢◌, ℕ, ◌+◌, ◌<◌, ◌≤◌, ◌⊎◌, inl, inr, List, [], ◌∷◌, length, get_or, Option, Some, None, refl, sym, ap, ◌∙◌, subst, arith}
+use Rattle.std.proofs.Common.{◌≡◌, ℕ, ◌+◌, ◌<◌, ◌≤◌, inl, inr, List, length, get_or, Option, Some, None, refl, sym, ap, ◌∙◌, subst, arith}
 use Rattle.std.specs.Global.{Vec}
 use Rattle.std.specs.List.{SwappedAt, swap}
 use Rattle.std.proofs.lemmas.Bool.{cases_lt}
@@ -12,7 +12,7 @@ use Rattle.fvn_answer.specs.Numberings.{IsNumbering}
 use Rattle.fvn_answer.specs.Lines.{Shown, forms_in, text}
 use Rattle.fvn_answer.specs.inner.Shown.{BeginsAs, Tried, IsBestText, IsLeastText, IsSearched}
 use Rattle.fvn_answer.proofs.Fronts.{at_least-itself, at_least-trans, front-after}
-use Rattle.fvn_answer.proofs.Numbers.{Next, next-place, nothing-else, agrees, turned-begins, tried-apart}
+use Rattle.fvn_answer.proofs.Numbers.{next-place, nothing-else, agrees, turned-begins, tried-apart}
 use Rattle.fvn_answer.proofs.Least.{exchanged-length, exchanged-numbering}
 
 pub most-after : (best : Option (Vec ℕ)) (v w : Text) → IsAtMost best v → AtLeast v w → IsAtMost best w

@@ -50,18 +50,18 @@ fn push_binding(
     fixed: &Fixed<'_>,
     text: &mut Vec<u8>,
     subst: &Subst,
-    x: &Var,
+    x: Var,
 ) -> Result<Option<Var>, NoMemory>
     requires names { AreReadable signature.now names.now }
-    requires named { IsNamed signature.now var_names.now.texts x.now }
-    requires value { IsPrintable signature.now (value subst.now x.now) }
+    requires named { IsNamed signature.now var_names.now.texts x }
+    requires value { IsPrintable signature.now (value subst.now x) }
     ensures { IfOk result (λ tip. (other : List Var) → Agrees fixed.now other →
         IsFrontOf tip text.new.items (text.old.items ++ pair_text
-        (value_texts signature.now var_names.now.texts names.now other subst.now x.now))) }
+        (value_texts signature.now var_names.now.texts names.now other subst.now x))) }
 {
     push_sorted(signature, names, text, var_names.text(x.name), x.sort)?;
     text.extend_from_slice(b" --> ")?;
-    let front = value_front(alloc, signature, names, fixed, subst, *x)?;
+    let front = value_front(alloc, signature, names, fixed, subst, x)?;
     text.extend_from_slice(front.text.as_slice())?;
     Ok(front.tip)
 }
@@ -88,7 +88,7 @@ fn values_front(
     for x in vars {
         push_between(&mut line, first)?;
         let tip = push_binding(
-            alloc, signature, names, var_names, fixed, &mut line, subst, x,
+            alloc, signature, names, var_names, fixed, &mut line, subst, *x,
         )?;
         if tip.is_some() {
             return Ok(Front { text: line, tip });

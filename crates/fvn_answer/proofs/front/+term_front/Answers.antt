@@ -1,7 +1,6 @@
 -- The front of an operator over the fronts of its arguments.
-use Rattle.std.proofs.Common.{◌∷◌, ◌++◌, [], take, map, sym, ap, ◌∙◌, subst, arith}
+use Rattle.std.proofs.Common.{take, map, sym, ap, ◌∙◌, arith}
 use Rattle.fvn_flat.proofs.Smaller.{argument_is_smaller}
-use Rattle.fvn_terms.specs.Signature.{axioms}
 use Rattle.fvn_answer.specs.Writing.{text_of, written, may_exchange}
 use Rattle.fvn_answer.specs.inner.Bytes.{bytes_of}
 use Rattle.fvn_answer.proofs.Printing.{argument-printable}

@@ -1,9 +1,8 @@
 -- A term's front, a space and bindings.
-use Rattle.std.proofs.Common.{◌≡◌, [], ◌∷◌, ◌++◌, sym, ◌∙◌, subst, append_assoc}
+use Rattle.std.proofs.Common.{[], ◌∷◌, sym, ◌∙◌, subst, append_assoc}
 use Rattle.fvn_answer.specs.Lines.{values, values_of, text}
 use Rattle.fvn_answer.specs.Writing.{text_of, written}
 use Rattle.fvn_answer.specs.inner.Fronts.{IsFrontOf}
-use Rattle.fvn_answer.specs.inner.Shown.{shown}
 use Rattle.fvn_answer.proofs.ValueTexts.{whole-text}
 use Rattle.fvn_answer.proofs.line_front.front.Goals as goal
 

@@ -1,11 +1,10 @@
 -- The bindings between braces, up to a tip if there is one.
-use Rattle.std.proofs.Common.{true, ◌++◌, map, sym, ap, ◌∙◌, subst}
+use Rattle.std.proofs.Common.{true, map, sym, ap, ◌∙◌}
 use Rattle.std.specs.Prelude.{codes}
 use Rattle.fvn_answer.specs.Lines.{values, values_of, text}
-use Rattle.fvn_answer.specs.inner.Bytes.{beside, pair_text, with_pairs}
-use Rattle.fvn_answer.specs.inner.Fronts.{IsFrontOf}
+use Rattle.fvn_answer.specs.inner.Bytes.{beside, with_pairs}
 use Rattle.fvn_answer.specs.inner.Shown.{value_texts}
-use Rattle.fvn_answer.proofs.LineFronts.{binding-whole, binding-cut}
+use Rattle.fvn_answer.proofs.LineFronts.{whole-here, cut-here}
 use Rattle.fvn_answer.proofs.ValueTexts.{values-text, nothing-left}
 use Rattle.fvn_answer.proofs.line_front.values_front.Goals as goal
 
@@ -16,13 +15,9 @@ returns-then-is_some c other a =
     let texts = c.args.var_names.now.texts in
     let s = c.args.subst.now in
     let vars = c.args.vars.now in
-    let x = c.x-item.result in
-    let line = c.push_binding.new.text.items in
-    binding-cut (value_texts d texts names other s) vars c.loop-x.x-index x c.loop-x-test.true c.x-item.is
-    (with_pairs true (codes "{") (map (value_texts d texts names other s) vars)) (text d names texts other (values (values_of s vars)))
-    c.loop-x.first c.loop-x.line.items line c.in_ok-tip.tip (sym c.if-is_some.ensures)
-    (values-text d names c.requires.names texts other s vars c.requires.values) (c.loop-x.invariant other a)
-    (subst (λ t. IsFrontOf c.in_ok-tip.tip line (t ++ pair_text (value_texts d texts names other s x))) c.in_ok-push_between.ensures (c.in_ok-tip.ensures other a))
+    cut-here (value_texts d texts names other s) vars c.loop-x.x-index c.loop-x-test.true _ (with_pairs true (codes "{") (map (value_texts d texts names other s) vars))
+    c.loop-x.first c.loop-x.line.items c.push_between.new.text.items c.push_binding.new.text.items c.in_ok-tip.tip c.in_ok-push_between.ensures (c.loop-x.invariant other a) (c.in_ok-tip.ensures other a)
+    (text d names texts other (values (values_of s vars))) (values-text d names c.requires.names texts other s vars c.requires.values) (sym c.if-is_some.ensures)
 
 pub loop-x-preserved : goal.loop-x-preserved
 loop-x-preserved c other a =
@@ -31,12 +26,9 @@ loop-x-preserved c other a =
     let texts = c.args.var_names.now.texts in
     let s = c.args.subst.now in
     let vars = c.args.vars.now in
-    let x = c.x-item.result in
-    let line = c.push_binding.new.text.items in
-    binding-whole (value_texts d texts names other s) vars c.loop-x.x-index x c.loop-x-test.true c.x-item.is
-    (with_pairs true (codes "{") (map (value_texts d texts names other s) vars))
-    c.loop-x.first c.loop-x.line.items line c.in_ok-tip.tip (sym c.if-is_some.ensures) (c.loop-x.invariant other a)
-    (subst (λ t. IsFrontOf c.in_ok-tip.tip line (t ++ pair_text (value_texts d texts names other s x))) c.in_ok-push_between.ensures (c.in_ok-tip.ensures other a))
+    whole-here (value_texts d texts names other s) vars c.loop-x.x-index c.loop-x-test.true _ (with_pairs true (codes "{") (map (value_texts d texts names other s) vars))
+    c.loop-x.first c.loop-x.line.items c.push_between.new.text.items c.push_binding.new.text.items c.in_ok-tip.tip c.in_ok-push_between.ensures (c.loop-x.invariant other a) (c.in_ok-tip.ensures other a)
+    (sym c.if-is_some.ensures)
 
 pub returns : goal.returns
 returns c other a =

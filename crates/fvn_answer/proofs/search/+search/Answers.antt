@@ -1,11 +1,11 @@
 -- The search of the numberings that begin alike.
-use Rattle.std.proofs.Common.{◌≡◌, ◌<◌, ◌≤◌, ◌+◌, [], length, sym, ap, ◌∙◌, subst, arith}
+use Rattle.std.proofs.Common.{◌≡◌, ◌<◌, ◌≤◌, ◌+◌, length, sym, ap, ◌∙◌, subst, arith}
 use Rattle.std.specs.List.{SwappedAt, swap}
 use Rattle.fvn_answer.specs.Numberings.{IsNumbering}
 use Rattle.fvn_answer.specs.Lines.{forms_in}
 use Rattle.fvn_answer.specs.inner.Fronts.{AgreesUpTo, IsAtMost}
 use Rattle.fvn_answer.specs.inner.Shown.{shown, IsSearched}
-use Rattle.fvn_answer.proofs.Searching.{searched-one, searched-rest, searched-all, searched-step, Turned, turned-orders}
+use Rattle.fvn_answer.proofs.Searching.{searched-one, searched-rest, searched-all, searched-step, turned-orders}
 use Rattle.fvn_answer.proofs.search.+search.Goals as goal
 
 pub returns-then-order-k : goal.returns-then-order-k

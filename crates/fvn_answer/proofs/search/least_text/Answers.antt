@@ -1,7 +1,5 @@
 -- The best text after the search.
-use Rattle.std.proofs.Common.{◌≡◌, ℕ, None, ◌<◌, ◌≤◌, subst, arith}
-use Rattle.fvn_answer.specs.inner.Fronts.{IsAtMost}
-use Rattle.fvn_answer.specs.inner.Shown.{shown, IsSearched}
+use Rattle.fvn_answer.specs.inner.Shown.{shown}
 use Rattle.fvn_answer.proofs.Searching.{least-found, least-none}
 use Rattle.fvn_answer.proofs.search.least_text.Goals as goal
 
