@@ -1,6 +1,6 @@
 -- Lines of answers have no line feed, since their names are words of the module's text and of the problem's.
-use Rattle.std.proofs.Common.{◌≡◌, ◌≢◌, ◌⊎◌, ℕ, zero, suc, ◌+◌, ◌<◌, ◌/◌, ◌%◌, ◌==◌, Bool, true, false, if◌then◌else◌, inl, inr, List, [], ◌∷◌, ◌++◌, map, Option, Some, None, refl, sym, ap, subst, arith}
-use Rattle.std.specs.Prelude.{Ok, Err, Contains, All, codes, decimal, nat_eq, nat_lt, fold, take, drop, length, slice_index_or, is_none, ◌-◌, ◌&&◌}
+use Rattle.std.proofs.Common.{◌≡◌, ◌≢◌, ℕ, zero, suc, ◌+◌, ◌/◌, ◌%◌, ◌==◌, Bool, true, false, if◌then◌else◌, List, [], ◌∷◌, ◌++◌, map, Option, Some, None, refl, sym, subst, arith}
+use Rattle.std.specs.Prelude.{Ok, Err, All, codes, decimal, nat_eq, nat_lt, fold, take, drop, length, slice_index_or, is_none, ◌-◌}
 use Rattle.std.specs.List.{AllByRecursion, ends_with, list_any}
 use Rattle.std.specs.Fmt.{digits, digits_onto, digit_glyph}
 use Rattle.std.specs.Str.{bytes_eq}
@@ -8,7 +8,7 @@ use Rattle.std.proofs.lemmas.List.Elements.{All-head, All-tail}
 use Rattle.fvn_base.proofs.Options.{Some-injective}
 use Rattle.fvn_lex.specs.declared.token.Token.{Token}
 use Rattle.fvn_lex.specs.Spans.{Lexed}
-use Rattle.fvn_lex.specs.Cut.{lex, pieces_of as cut_pieces, piece_at as cut_at, Piece as CutPiece}
+use Rattle.fvn_lex.specs.Cut.{lex, pieces_of as cut_pieces, piece_at as cut_at}
 use Rattle.fvn_lex.specs.Join.{IsPiece}
 use Rattle.fvn_lex.proofs.JoinLemmas.{pieces-all}
 use Rattle.fvn_terms.specs.declared.plain.Var.{Var}
@@ -19,13 +19,12 @@ use Rattle.fvn_terms.specs.Substitution.{Substitution}
 use Rattle.fvn_first.specs.declared.first.pieces.Piece.{Piece}
 use Rattle.fvn_first.specs.declared.first.declared.Operator.{Operator}
 use Rattle.fvn_first.specs.declared.first.names.Names.{Names}
-use Rattle.fvn_first.specs.declared.first.names.VarNames.{VarNames}
 use Rattle.fvn_first.specs.declared.first.module_text.FirstModule.{FirstModule}
 use Rattle.fvn_first.specs.declared.first.problem_text.FirstProblem.{FirstProblem}
 use Rattle.fvn_first.specs.Pieces.{Text, piece_at, pieces_in, pieces_of, word, dot}
 use Rattle.fvn_first.specs.Spelling.{Statement, operator, operators, variables, spell_rank, spell_statement, spell_statements, spell_module, Raw, Raws, bare, call, round, last, and, spell, spell_all, spell_problem}
-use Rattle.fvn_first.specs.Meaning.{with_text, each_once, meaning, variable_in, means, op_of, if_constant, variable_text, texts_in, texts_in_all}
-use Rattle.fvn_first.specs.ModuleText.{colon, before, not_empty, sorted_name, declared, with_operator, first_of_each, module_of, arity_in, IsModuleText}
+use Rattle.fvn_first.specs.Meaning.{with_text, meaning, variable_in, op_of, if_constant, variable_text, texts_in, texts_in_all}
+use Rattle.fvn_first.specs.ModuleText.{colon, before, not_empty, sorted_name, declared, with_operator, first_of_each, arity_in, IsModuleText}
 use Rattle.fvn_first.specs.ProblemText.{IsProblemText}
 use Rattle.fvn_answer.specs.Lines.{HasNoLineFeed}
 use Rattle.fvn_answer.proofs.LineFeeds.{Free, free-plain, free-append, piece-free}
