@@ -6,7 +6,7 @@ times, in the order of the rows, and writes for each size how often longer a lin
 import random
 import sys
 
-SIZES = [10, 15, 30, 100, 300, 1000]
+SIZES = [10, 15, 30, 100, 300]
 LINES = 20
 
 
