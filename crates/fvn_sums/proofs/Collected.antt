@@ -1,8 +1,8 @@
 -- The columns that are collected, and what a solver asks of the rows over them.
-use Rattle.std.proofs.Common.{◌≡◌, ◌≢◌, ℕ, zero, suc, ◌+◌, ◌-◌, ◌<◌, ◌≤◌, Bool, true, false, List, [], ◌∷◌, ◌++◌, length, map, get_or, refl, sym, ap, ◌∙◌, subst, inl, inr, arith, All, AllPairs, Contains, Option, Some, None, slice_get}
-use Rattle.std.specs.Prelude.{ℤ, pos, negsuc, ◌-ℤ◌, unsigned_abs, ◌↔◌, nat_eq, nat_lt, cond}
-use Rattle.std.specs.List.{flat_map}
-use Rattle.std.proofs.lemmas.Bool.{ltb-true, ltb-false}
+use Rattle.std.proofs.Common.{◌≡◌, ◌≢◌, ℕ, zero, suc, ◌+◌, ◌-◌, ◌<◌, ◌≤◌, Bool, true, false, List, [], ◌∷◌, ◌++◌, length, map, get_or, refl, sym, ap, ◌∙◌, subst, inl, inr, arith, All, Contains, Option, Some, None, slice_get}
+use Rattle.std.specs.Prelude.{pos, negsuc, ◌-ℤ◌, unsigned_abs, nat_eq, nat_lt, cond}
+use Rattle.std.specs.List.{flat_map, list_any}
+use Rattle.std.proofs.lemmas.Bool.{ltb-true, eqb-true, eq-eqb, or_cases, or_left, or_right}
 use Rattle.std.proofs.lemmas.List.{length-map, get_or_default}
 use Rattle.std.proofs.lemmas.List.Elements.{All-contains, All-contains_itself, All-weaker, All-map, Contains-append_left, Contains-append_right, Contains-append_cases, Contains-push, Contains-push_cases}
 use Rattle.std.proofs.lemmas.List.Quantifiers.{all_pairs_push}
@@ -13,13 +13,29 @@ use Rattle.fvn_terms.specs.declared.plain.OpId.{OpId}
 use Rattle.fvn_forms.specs.InOrder.{one_if}
 use Rattle.fvn_lindio.specs.declared.system.System.{System}
 use Rattle.fvn_lindio.specs.Systems.{rows_of, IsSystem}
-use Rattle.fvn_nodes.specs.Table.{NodeTable, IsOver}
+use Rattle.fvn_nodes.specs.Table.{NodeTable}
 use Rattle.fvn_sums.specs.NodeSystems.{HoldsArguments, addends, sums, stands_in, coefficient, row_at, IsIdentityClass, IsNodeColumn, IsNodeSystem}
 use Rattle.fvn_sums.specs.inner.Collecting.{classes_with, classes_at, classes_among, AreOnce}
 use Rattle.fvn_sums.proofs.Members.{addends_over, over_addends}
 
 all_from : {X : Type 0} (P : X → Type 0) (xs : List X) → ((x : X) → Contains xs x → P x) → All P xs
 all_from P xs h = All-weaker (Contains xs) P h xs (All-contains_itself xs)
+
+-- whether y stands in the list
+abbrev pub has : ℕ → List ℕ → Bool
+has y xs = list_any (λ x. nat_eq x y) xs
+
+pub has-contains : (y : ℕ) (xs : List ℕ) → has y xs ≡ true → Contains xs y
+has-contains y [] e = cc
+has-contains y (x ∷ xs) e = elim (or_cases (nat_eq x y) (has y xs) e) [
+  | inl p ↦ (0, omega arith, eqb-true x y p)
+  | inr q ↦ let r = has-contains y xs q in let l = r.1 in (suc r.0, omega (arith, l), r.2)
+]
+
+pub contains-has : (y : ℕ) (xs : List ℕ) → Contains xs y → has y xs ≡ true
+contains-has y [] c = absurd (let l = c.1 in omega (arith, l))
+contains-has y (x ∷ xs) (zero, l, e) = or_left (nat_eq x y) (has y xs) (eq-eqb x y e)
+contains-has y (x ∷ xs) (suc k, l, e) = or_right (nat_eq x y) (has y xs) (contains-has y xs (k, omega (arith, l), e))
 
 module _ (Left : ℕ → Type 0) where
   pub once_none : AreOnce Left [] []
@@ -96,13 +112,13 @@ one_if_le true = omega arith
 one_if_le false = omega arith
 
 module _ (t : NodeTable) (class : ℕ → ℕ) (f : OpId) where
-  coefficient_le : (i : ℕ) (p : Option (ℕ × ℕ)) (k : ℕ) → unsigned_abs (coefficient t class f i p k) ≤ 3
+  coefficient_le : (i : ℕ) (p : Option (ℕ × ℕ)) (k : ℕ) → unsigned_abs (coefficient class i p k) ≤ 3
   coefficient_le i None k = omega arith
   coefficient_le i (Some p) k =
       let a = one_if_le (nat_eq (class p.0) k) in
       let b = one_if_le (nat_eq (class p.1) k) in
       let c = one_if_le (nat_eq (class i) k) in
-      let e = difference_le (stands_in t class f k p.0 + stands_in t class f k p.1) (stands_in t class f k i) in
+      let e = difference_le (stands_in class k p.0 + stands_in class k p.1) (stands_in class k i) in
       omega (arith, a, b, c, e)
 
   module _ (columns : List ℕ) (once : AreOnce (IsIdentityClass t class f) (classes_among class t f t.subterms) columns) where
@@ -113,8 +129,8 @@ module _ (t : NodeTable) (class : ℕ → ℕ) (f : OpId) where
         go q.0 q.1 (addends f (slice_get t.nodes q.0)) refl q.2 r.1
       where
         go : (i : ℕ) → Contains t.subterms i → (o : Option (ℕ × ℕ)) → addends f (slice_get t.nodes i) ≡ o → Contains (classes_with class i o) k → (IsIdentityClass t class f k → ⊥) → IsNodeColumn t class f k
-        go i listed None e h no = absurd (contains_none k h)
-        go i listed (Some p) e h no = record { sum = i; left = p.0; right = p.1; listed = listed; over = addends_over f (slice_get t.nodes i) p e; among = h; no_identity = no }
+        go i listed None e h free = absurd (contains_none k h)
+        go i listed (Some p) e h free = record { sum = i; left = p.0; right = p.1; listed = listed; over = addends_over f (slice_get t.nodes i) p e; among = h; no_identity = free }
 
     column_in : (k : ℕ) → IsNodeColumn t class f k → Contains columns k
     column_in k h =
@@ -141,16 +157,16 @@ module _ (t : NodeTable) (class : ℕ → ℕ) (f : OpId) where
               ]
             ]
 
-    module _ (system : System) (wide : system.columns ≡ length columns) (rows : rows_of system ≡ map (row_at t class f columns) (sums t class f)) where
+    module _ (system : System) (wide : system.columns ≡ length columns) (rows : rows_of system ≡ map (row_at t class f columns) (sums t f)) where
       pub system_is : IsNodeSystem t class f columns system
       system_is = record { distinct = once.distinct; exact = λ k. (column_from k, column_in k); wide = wide; rows = rows }
 
       pub system_fits : HoldsArguments t → length t.subterms ≤ COLUMNS → IsSystem system
       system_fits holds few = record {
         columns = let l = columns_few holds in omega (arith, l, few, wide);
-        sized = subst (All (λ row. length row ≡ system.columns)) (sym rows) (All-map (λ row. length row ≡ system.columns) (row_at t class f columns) (sums t class f) (λ k d l. length-map columns (coefficient t class f _ _) ∙ sym wide));
-        bounded = subst (All (All (λ c. unsigned_abs c ≤ COMPONENT))) (sym rows) (All-map (All (λ c. unsigned_abs c ≤ COMPONENT)) (row_at t class f columns) (sums t class f) (λ k d l. row_bounded _));
+        sized = subst (All (λ row. length row ≡ system.columns)) (sym rows) (All-map (λ row. length row ≡ system.columns) (row_at t class f columns) (sums t f) (λ k d l. length-map columns (coefficient class _ _) ∙ sym wide));
+        bounded = subst (All (All (λ c. unsigned_abs c ≤ COMPONENT))) (sym rows) (All-map (All (λ c. unsigned_abs c ≤ COMPONENT)) (row_at t class f columns) (sums t f) (λ k d l. row_bounded _));
       }
         where
           row_bounded : (i : ℕ) → All (λ c. unsigned_abs c ≤ COMPONENT) (row_at t class f columns i)
-          row_bounded i = All-map (λ c. unsigned_abs c ≤ COMPONENT) (coefficient t class f i (addends f (slice_get t.nodes i))) columns (λ k d l. let e = coefficient_le i (addends f (slice_get t.nodes i)) (get_or columns k d) in omega (arith, e))
+          row_bounded i = All-map (λ c. unsigned_abs c ≤ COMPONENT) (coefficient class i (addends f (slice_get t.nodes i))) columns (λ k d l. let e = coefficient_le i (addends f (slice_get t.nodes i)) (get_or columns k d) in omega (arith, e))

@@ -1,10 +1,9 @@
 -- Sums of values add up exactly where the counts of their summands solve the sum system.
-use Rattle.std.proofs.Common.{◌≡◌, ◌≢◌, ◌⊎◌, ℕ, zero, suc, ◌+◌, ◌<◌, List, [], ◌∷◌, ◌++◌, length, map, get_or, refl, sym, ap, ◌∙◌, subst, inl, inr, arith, All, Contains, Option, Some, None, slice_get}
+use Rattle.std.proofs.Common.{◌≡◌, ℕ, ◌+◌, ◌<◌, List, [], ◌∷◌, ◌++◌, length, map, get_or, refl, sym, ap, ◌∙◌, subst, inl, inr, arith, All, Contains, Option, Some, None, slice_get}
 use Rattle.std.specs.Prelude.{ℤ, pos, ◌↔◌}
 use Rattle.std.proofs.lemmas.Bool.{cases_eq}
 use Rattle.std.proofs.lemmas.List.{length-map, get_or-map}
 use Rattle.std.proofs.lemmas.List.Elements.{All-contains, All-contains_itself, All-weaker}
-use Rattle.fvn_base.specs.Decided.{Decided}
 use Rattle.fvn_base.proofs.Decided.{some_or_none}
 use Rattle.fvn_base.proofs.Membership.{contains_map, map_contains}
 use Rattle.fvn_terms.specs.declared.plain.OpId.{OpId}
@@ -13,7 +12,7 @@ use Rattle.fvn_terms.specs.Signature.{axioms}
 use Rattle.fvn_terms.specs.Equality.{IsAssociative}
 use Rattle.fvn_forms.specs.Flat.{FlatTerm}
 use Rattle.fvn_forms.specs.InOrder.{count}
-use Rattle.fvn_forms.specs.Canon.{parts, all_parts, sum, build}
+use Rattle.fvn_forms.specs.Canon.{parts, all_parts}
 use Rattle.fvn_forms.specs.Settled.{Settled}
 use Rattle.fvn_forms.proofs.InOrder.{count_append}
 use Rattle.fvn_forms.proofs.Sums.{sum_parts, sum_same_counts}
@@ -63,11 +62,11 @@ module _ (d : Declarations) (t : NodeTable) (class : ℕ → ℕ) (f : OpId) (as
   ]
 
   module _ (i a b : ℕ) (listed : Contains t.subterms i) (over : IsOver t.nodes i f (a ∷ b ∷ [])) where
-    row_is : row_at t class f columns i ≡ map (coefficient t class f i (Some (a, b))) columns
-    row_is = ap (λ n. map (coefficient t class f i (addends f n)) columns) over ∙ ap (λ p. map (coefficient t class f i p) columns) (over_addends f a b)
+    row_is : row_at t class f columns i ≡ map (coefficient class i (Some (a, b))) columns
+    row_is = ap (λ n. map (coefficient class i (addends f n)) columns) over ∙ ap (λ p. map (coefficient class i p) columns) (over_addends f a b)
 
     a_column : (k : ℕ) → Contains (class i ∷ class a ∷ class b ∷ []) k → (IsIdentityClass t class f k → ⊥) → IsNodeColumn t class f k
-    a_column k among no = record { sum = i; left = a; right = b; listed = listed; over = over; among = among; no_identity = no }
+    a_column k among free = record { sum = i; left = a; right = b; listed = listed; over = over; among = among; no_identity = free }
 
     -- the row of the sum is zero at the counts exactly where they add up
     sum_zero : (q : FlatTerm) → IsZeroAt (in_all q) (row_at t class f columns i) ↔ (times_in q (class a) + times_in q (class b) ≡ times_in q (class i))
@@ -75,19 +74,18 @@ module _ (d : Declarations) (t : NodeTable) (class : ℕ → ℕ) (f : OpId) (as
         let left = class_component q (class a) (a_column (class a) (1, omega arith, refl)) in
         let right = class_component q (class b) (a_column (class b) (2, omega arith, refl)) in
         let whole = class_component q (class i) (a_column (class i) (0, omega arith, refl)) in
-        let at = zero_row columns (in_all q) is.distinct (class a) (class b) (class i) in
-        (
+        let at = zero_row columns (in_all q) is.distinct (class a) (class b) (class i) in (
           λ z. let e = at.0 (subst (IsZeroAt (in_all q)) row_is z) in omega (arith, e, left, right, whole),
           λ e. subst (IsZeroAt (in_all q)) (sym row_is) (at.1 (omega (arith, e, left, right, whole))),
         )
 
   -- the rows are those of the sums
-  row_listed : (i : ℕ) → Contains (sums t class f) i → Contains rows (row_at t class f columns i)
+  row_listed : (i : ℕ) → Contains (sums t f) i → Contains rows (row_at t class f columns i)
   unfolding rows
-  row_listed i c = subst (λ rs. Contains rs (row_at t class f columns i)) (sym is.rows) (contains_map (row_at t class f columns) (sums t class f) i c)
+  row_listed i c = subst (λ rs. Contains rs (row_at t class f columns i)) (sym is.rows) (contains_map (row_at t class f columns) (sums t f) i c)
 
   -- counts agree with those in all columns, where a row has a coefficient
-  counts_agree : (q : FlatTerm) (x : List ℕ) → Counts d f value columns rows q x → (i : ℕ) → Contains (sums t class f) i → AgreeWhereUsed (row_at t class f columns i) x (in_all q)
+  counts_agree : (q : FlatTerm) (x : List ℕ) → Counts d f value columns rows q x → (i : ℕ) → Contains (sums t f) i → AgreeWhereUsed (row_at t class f columns i) x (in_all q)
   counts_agree q x counts i c j l =
       let within : j < length columns = let n = counts.sized in omega (arith, n, l) in
       elim (unused_told rows j) [
@@ -100,8 +98,7 @@ module _ (d : Declarations) (t : NodeTable) (class : ℕ → ℕ) (f : OpId) (as
 
   counts_of : (q : FlatTerm) → (x : List ℕ) × Counts d f value columns rows q x
   counts_of q =
-      let z = zeroed (IsUnused rows) (unused_told rows) (in_all q) in
-      (
+      let z = zeroed (IsUnused rows) (unused_told rows) (in_all q) in (
         z.vector,
         record {
           sized = z.sized ∙ length-map columns (times_in q);
@@ -116,14 +113,14 @@ module _ (d : Declarations) (t : NodeTable) (class : ℕ → ℕ) (f : OpId) (as
     where
       zero_at : (x : List ℕ) → Counts d f value columns rows q x → (row : List ℤ) → Contains rows row → IsZeroAt x row
       zero_at x counts row c =
-          let m = map_contains (row_at t class f columns) (sums t class f) row (subst (λ rs. Contains rs row) is.rows c) in
+          let m = map_contains (row_at t class f columns) (sums t f) row (subst (λ rs. Contains rs row) is.rows c) in
           subst (IsZeroAt x) m.1.1 (at_sum m.0 m.1.0 (addends f (slice_get t.nodes m.0)) refl)
         where
-          at_sum : (i : ℕ) → Contains (sums t class f) i → (o : Option (ℕ × ℕ)) → addends f (slice_get t.nodes i) ≡ o → IsZeroAt x (row_at t class f columns i)
-          at_sum i l None e = subst (IsZeroAt x) (sym (ap (λ p. map (coefficient t class f i p) columns) e)) (nothing_row columns x)
+          at_sum : (i : ℕ) → Contains (sums t f) i → (o : Option (ℕ × ℕ)) → addends f (slice_get t.nodes i) ≡ o → IsZeroAt x (row_at t class f columns i)
+          at_sum i l None e = subst (IsZeroAt x) (sym (ap (λ p. map (coefficient class i p) columns) e)) (nothing_row columns x)
           at_sum i l (Some p) e =
               let over = addends_over f (slice_get t.nodes i) p e in
-              let listed = (sum_listed t class f i l).0 in
+              let listed = (sum_listed t f i l).0 in
               let same = add i p.0 p.1 listed over in
               let zero = (sum_zero i p.0 p.1 listed over q).1 (sym (ap (λ v. count q (parts d f v)) same ∙ count_parts_build d f assoc q (value (class p.0)) (value (class p.1)) (settled (class p.0)) (settled (class p.1)))) in
               agree_zero (row_at t class f columns i) (in_all q) x (sym (counts_length q x counts)) (agree_swap (row_at t class f columns i) x (in_all q) (counts_length q x counts) (counts_agree q x counts i l)) zero
@@ -138,7 +135,7 @@ module _ (d : Declarations) (t : NodeTable) (class : ℕ → ℕ) (f : OpId) (as
       same : (q : FlatTerm) → count q (parts d f (value (class i))) ≡ count q (all_parts d f (value (class a) ∷ value (class b) ∷ []))
       same q =
           let x = h q in
-          let l = listed_sum t class f i (a ∷ b ∷ []) listed over in
+          let l = listed_sum t f i (a ∷ b ∷ []) listed over in
           let row = All-contains (IsZeroAt x.0) rows (row_at t class f columns i) x.2.zero_rows (row_listed i l) in
           let zero = agree_zero (row_at t class f columns i) x.0 (in_all q) (counts_length q x.0 x.1) (counts_agree q x.0 x.1 i l) row in
           let e = (sum_zero i a b listed over q).0 zero in

@@ -1,6 +1,6 @@
 -- The sums by an operator among the nodes.
-use Rattle.std.proofs.Common.{◌≡◌, ℕ, Bool, true, false, List, [], ◌∷◌, refl, sym, ap, ◌∙◌, subst, Option, Some, None, Contains, slice_get}
-use Rattle.std.specs.Prelude.{if◌then◌else◌}
+use Rattle.std.proofs.Common.{◌≡◌, ℕ, ◌<◌, Bool, true, false, List, [], ◌∷◌, refl, sym, ap, ◌∙◌, Option, Some, None, All, Contains, slice_get, arith}
+use Rattle.std.specs.Prelude.{if◌then◌else◌, IfSome}
 use Rattle.fvn_base.proofs.Membership.{contains_filter, filter_contains}
 use Rattle.fvn_terms.specs.declared.plain.OpId.{OpId}
 use Rattle.fvn_forms.specs.Canon.{same_op}
@@ -41,8 +41,15 @@ headed_over f (Some (Var x)) e = cc
 headed_over f (Some (App g ks)) e = let o = same_op_is f g e in (ks, ap (λ h. Some (App h ks)) (sym o))
 
 -- a sum by f is listed among these
-pub listed_sum : (t : NodeTable) (class : ℕ → ℕ) (f : OpId) (i : ℕ) (ks : List ℕ) → Contains t.subterms i → IsOver t.nodes i f ks → Contains (sums t class f) i
-listed_sum t class f i ks c over = contains_filter (λ i. is_headed f (slice_get t.nodes i)) t.subterms i c (ap (is_headed f) over ∙ over_headed f ks)
+pub listed_sum : (t : NodeTable) (f : OpId) (i : ℕ) (ks : List ℕ) → Contains t.subterms i → IsOver t.nodes i f ks → Contains (sums t f) i
+listed_sum t f i ks c over = contains_filter (λ i. is_headed f (slice_get t.nodes i)) t.subterms i c (ap (is_headed f) over ∙ over_headed f ks)
 
-pub sum_listed : (t : NodeTable) (class : ℕ → ℕ) (f : OpId) (i : ℕ) → Contains (sums t class f) i → Contains t.subterms i × (is_headed f (slice_get t.nodes i) ≡ true)
-sum_listed t class f i c = filter_contains (λ i. is_headed f (slice_get t.nodes i)) t.subterms i c
+pub sum_listed : (t : NodeTable) (f : OpId) (i : ℕ) → Contains (sums t f) i → Contains t.subterms i × (is_headed f (slice_get t.nodes i) ≡ true)
+sum_listed t f i c = filter_contains (λ i. is_headed f (slice_get t.nodes i)) t.subterms i c
+
+-- two of a list of numbers below n are below n
+pub pair_within : (n : ℕ) (ks : List ℕ) → All (λ k. k < n) ks → IfSome (pair ks) (λ p. (p.0 < n) × (p.1 < n))
+pair_within n [] h = tt
+pair_within n (a ∷ []) h = tt
+pair_within n (a ∷ b ∷ []) h = (h 0 0 (omega arith), h 1 0 (omega arith))
+pair_within n (a ∷ b ∷ c ∷ ks) h = tt

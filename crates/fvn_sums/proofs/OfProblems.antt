@@ -1,12 +1,11 @@
 -- Sum systems over the nodes of a problem's table are those of the problem.
-use Rattle.std.proofs.Common.{◌≡◌, ◌≢◌, ℕ, zero, suc, ◌<◌, Bool, true, false, List, [], ◌∷◌, ◌++◌, length, map, get_or, refl, sym, ap, ◌∙◌, subst, inl, inr, arith, All, AllPairs, Contains, Option, Some, None, slice_get}
-use Rattle.std.specs.Prelude.{ℤ, pos, ◌↔◌, cond}
+use Rattle.std.proofs.Common.{◌≡◌, ℕ, ◌<◌, Bool, true, false, List, [], ◌∷◌, ◌++◌, length, map, refl, sym, ap, ◌∙◌, subst, inl, inr, arith, All, Contains, Some, None, slice_get}
+use Rattle.std.specs.Prelude.{ℤ, pos, ◌-ℤ◌, ◌+◌, nat_eq, cond, if◌then◌else◌}
 use Rattle.std.specs.List.{filter}
 use Rattle.std.proofs.lemmas.List.Elements.{All-head, All-tail, All-contains, All-contains_itself, All-weaker, Contains-append_left, Contains-append_right, Contains-append_cases}
 use Rattle.std.proofs.lemmas.Option.{slice_get_within}
 use Rattle.fvn_base.proofs.Membership.{contains_here, contains_later, contains_cases, contains_none, contains_map, map_contains, contains_filter, filter_contains}
 use Rattle.fvn_terms.specs.declared.plain.OpId.{OpId}
-use Rattle.fvn_terms.specs.declared.plain.Var.{Var as Variable}
 use Rattle.fvn_terms.specs.declared.declarations.Axioms.{Axioms}
 use Rattle.fvn_terms.specs.declared.declarations.Axioms.TheVariants.{Free, Comm, AssocComm, AssocCommId}
 use Rattle.fvn_terms.specs.declared.declarations.Declarations.{Declarations}
@@ -14,22 +13,26 @@ use Rattle.fvn_terms.specs.Term.{Term, Terms, var, app, none, more, pack}
 use Rattle.fvn_terms.specs.Signature.{axioms}
 use Rattle.fvn_terms.specs.Equality.{two, constant, IsAssociative}
 use Rattle.fvn_terms.specs.Unifiers.{Problem}
-use Rattle.fvn_forms.specs.Canon.{same_op, identity}
+use Rattle.fvn_forms.specs.Canon.{identity}
+use Rattle.fvn_forms.specs.InOrder.{one_if}
 use Rattle.fvn_forms.proofs.Sums.{same_op_is, same_op_itself}
 use Rattle.fvn_forms.proofs.ToCanon.{identity_is}
 use Rattle.fvn_lindio.specs.declared.system.System.{System}
-use Rattle.fvn_lindio.specs.Systems.{rows_of}
 use Rattle.fvn_flat.specs.Problems.{subterms, subterms_among, subterms_of, once}
 use Rattle.fvn_flat.specs.Partitions.{Heads}
-use Rattle.fvn_flat.specs.SumSystems.{is_headed_by, sums_of, classes_of, coefficient as coefficient_of, row_of, IsClassOfIdentity, IsColumn, IsSumSystem}
+use Rattle.fvn_flat.specs.SumSystems.{is_headed_by, classes_of, coefficient as coefficient_of, row_of, IsClassOfIdentity, IsColumn, IsSumSystem}
 use Rattle.fvn_nodes.specs.Table.{nothing, NodeTable, IsWellMade, IsTableOf, IsUnitOf, IsOver, terms_of, term_at}
 use Rattle.fvn_nodes.specs.Laws.{class_at}
 use Rattle.fvn_nodes.specs.declared.table.Node.{Node}
 use Rattle.fvn_nodes.specs.declared.table.Node.TheVariants.{Var, App}
 use Rattle.fvn_nodes.proofs.Nodes.{length-terms_of, term_at-over, term_at-variable, term_at-injective, application_at, arguments_within, node_at}
-use Rattle.fvn_sums.specs.NodeSystems.{is_headed, addends, HoldsArguments, sums, coefficient, row_at, IsIdentityClass, IsNodeColumn, IsNodeSystem}
-use Rattle.fvn_sums.proofs.Members.{over_addends, over_headed, headed_over}
+use Rattle.fvn_sums.specs.NodeSystems.{is_headed, pair, addends, HoldsArguments, coefficient, row_at, IsIdentityClass, IsNodeColumn, IsNodeSystem}
+use Rattle.fvn_sums.proofs.Members.{headed_over}
 use Rattle.fvn_sums.proofs.Terms.{once_contains, own_place}
+
+map_same : {A B : Type 0} (f g : A → B) → ((x : A) → f x ≡ g x) → (xs : List A) → map f xs ≡ map g xs
+map_same f g h [] = refl
+map_same f g h (x ∷ xs) = ap (λ y. y ∷ map f xs) (h x) ∙ ap (λ ys. g x ∷ ys) (map_same f g h xs)
 
 -- the arguments of a subterm are subterms
 self_listed : (t : Term) → Contains (subterms t) t
@@ -205,15 +208,42 @@ module _ (d : Declarations) (problem : Problem) (t : NodeTable) (made : IsWellMa
         go (Var x) is = ap (is_headed_by f) (term_at-variable t.nodes i x is) ∙ sym (ap (is_headed f) is)
         go (App g ks) is = ap (is_headed_by f) (term_at-over t.nodes made.ordered i g ks is) ∙ sym (ap (is_headed f) is)
 
-    entry_same : (i : ℕ) (ks : List ℕ) → IsOver t.nodes i f ks → (k : ℕ) → coefficient t class f i (addends f (Some (App f ks))) k ≡ coefficient_of of_term (app f (pack (map (term_at t.nodes) ks))) k
-    entry_same i ks over k = ?
+    abbrev difference : ℕ → ℕ → ℕ → ℕ → ℤ
+    difference k x y z = pos (one_if (nat_eq x k) + one_if (nat_eq y k)) -ℤ pos (one_if (nat_eq z k))
+
+    entry_same : (i : ℕ) (ks : List ℕ) → IsOver t.nodes i f ks → (k : ℕ) → coefficient class i (addends f (Some (App f ks))) k ≡ coefficient_of of_term (app f (pack (map (term_at t.nodes) ks))) k
+    entry_same i ks over k = ap (λ b. coefficient class i (if b then pair ks else None) k) (same_op_itself f) ∙ go ks over
+      where
+        go : (ks : List ℕ) → IsOver t.nodes i f ks → coefficient class i (pair ks) k ≡ coefficient_of of_term (app f (pack (map (term_at t.nodes) ks))) k
+        go [] over = refl
+        go (a ∷ []) over = refl
+        go (a ∷ b ∷ []) over =
+            let w = both_within i a b over in
+            let u = term_at t.nodes a in
+            let v = term_at t.nodes b in
+            ap (λ x. difference k x (class b) (class i)) (sym (own_class a w.1))
+            ∙ ap (λ y. difference k (of_term u) y (class i)) (sym (own_class b w.2))
+            ∙ ap (λ z. difference k (of_term u) (of_term v) z) (sym (own_class i w.0) ∙ ap of_term (two_term i a b over))
+        go (a ∷ b ∷ x ∷ ks) over = refl
 
     row_same : (columns : List ℕ) (i : ℕ) → is_headed f (slice_get t.nodes i) ≡ true → row_at t class f columns i ≡ row_of of_term columns (term_at t.nodes i)
-    row_same columns i e = ?
+    row_same columns i e =
+        let r = headed_over f (slice_get t.nodes i) e in
+        map_same (coefficient class i (addends f (slice_get t.nodes i))) (coefficient_of of_term (term_at t.nodes i))
+        (λ k. ap (λ n. coefficient class i (addends f n) k) r.1 ∙ entry_same i r.0 r.1 k ∙ sym (ap (λ u. coefficient_of of_term u k) (term_at-over t.nodes made.ordered i f r.0 r.1))) columns
 
     rows_same : (columns xs : List ℕ) → All (λ i. i < length t.nodes) xs → map (row_at t class f columns) (filter (λ i. is_headed f (slice_get t.nodes i)) xs) ≡ map (row_of of_term columns) (filter (is_headed_by f) (map (term_at t.nodes) xs))
     rows_same columns [] h = refl
-    rows_same columns (i ∷ xs) h = ?
+    rows_same columns (i ∷ xs) h =
+        let P = λ (n : ℕ). n < length t.nodes in
+        kept (filter (λ j. is_headed f (slice_get t.nodes j)) xs) (filter (is_headed_by f) (map (term_at t.nodes) xs)) (is_headed f (slice_get t.nodes i)) (is_headed_by f (term_at t.nodes i)) (sym (test_same i (All-head P i xs h))) (row_same columns i) (rows_same columns xs (All-tail P i xs h))
+      where
+        kept : (L : List ℕ) (M : List Term) (a b : Bool) → a ≡ b → (a ≡ true → row_at t class f columns i ≡ row_of of_term columns (term_at t.nodes i)) → map (row_at t class f columns) L ≡ map (row_of of_term columns) M →
+            map (row_at t class f columns) (cond a (i ∷ L) L) ≡ map (row_of of_term columns) (cond b (term_at t.nodes i ∷ M) M)
+        kept L M true true e first rest = ap (λ r. r ∷ map (row_at t class f columns) L) (first refl) ∙ ap (λ rs. row_of of_term columns (term_at t.nodes i) ∷ rs) rest
+        kept L M true false e first rest = cc
+        kept L M false true e first rest = cc
+        kept L M false false e first rest = rest
 
     pub system_of_problem : IsAssociative (axioms d f) → (columns : List ℕ) (system : System) → IsNodeSystem t class f columns system → IsSumSystem d problem of_term f columns system
     system_of_problem assoc columns system is = record {

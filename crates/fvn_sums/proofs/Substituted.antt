@@ -1,9 +1,8 @@
 -- The values that a substitution gives to nodes.
-use Rattle.std.proofs.Common.{◌≡◌, ℕ, zero, suc, ◌+◌, ◌<◌, List, [], ◌∷◌, length, map, get_or, refl, sym, ap, ◌∙◌, subst, arith, All, Some, slice_get}
+use Rattle.std.proofs.Common.{◌≡◌, ℕ, zero, suc, ◌<◌, List, [], ◌∷◌, length, map, get_or, refl, sym, ap, ◌∙◌, subst, arith, All, Some, slice_get}
 use Rattle.std.proofs.lemmas.List.{length-map, get_or-map}
 use Rattle.std.proofs.lemmas.List.Elements.{All-head, All-tail, All-map}
 use Rattle.std.proofs.lemmas.Option.{slice_get_within}
-use Rattle.fvn_terms.specs.declared.plain.Var.{Var as Variable}
 use Rattle.fvn_terms.specs.declared.plain.OpId.{OpId}
 use Rattle.fvn_terms.specs.declared.plain.SortId.{SortId}
 use Rattle.fvn_terms.specs.declared.declarations.Declarations.{Declarations}
@@ -77,18 +76,18 @@ module _ (d : Declarations) (t : NodeTable) (made : IsWellMade t) (class : ℕ �
   pub values_given : (i : ℕ) → i < length t.nodes → value_at d s t.nodes i ≡ value (class i)
   values_given i l = given_below (suc i) i (omega arith) l
 
+  abbrev terms : ℕ × ℕ → Term × Term
+  terms p = (term_at t.nodes p.0, term_at t.nodes p.1)
+
+  abbrev equal : Term × Term → Type 0
+  equal p = BEqual d (apply s p.0) (apply s p.1)
+
+  abbrev alike : Term × Term → Type 0
+  alike p = (k : SortId) × HasKind d p.0 k × HasKind d p.1 k
+
   pub values_unify : FitsKinds d → (problem : Problem) → IsProblem d problem → IsTableOf d problem t → All (λ p. class p.0 ≡ class p.1) t.sides → KeepsKinds d s → IsKindUnifier d problem s
   values_unify fits problem is_problem table sides keeps = (keeps, subst (All equal) table.sides (All-map equal terms t.sides at_side))
     where
-      abbrev terms : ℕ × ℕ → Term × Term
-      terms p = (term_at t.nodes p.0, term_at t.nodes p.1)
-
-      abbrev equal : Term × Term → Type 0
-      equal p = BEqual d (apply s p.0) (apply s p.1)
-
-      abbrev alike : Term × Term → Type 0
-      alike p = (k : SortId) × HasKind d p.0 k × HasKind d p.1 k
-
       at_side : All (λ p. equal (terms p)) t.sides
       at_side k e l =
           let p = get_or t.sides k e in

@@ -1,8 +1,8 @@
 -- The row of a sum at a vector: it is zero where the components of the arguments together are that of the sum.
-use Rattle.std.proofs.Common.{◌≡◌, ◌≢◌, ℕ, zero, suc, ◌+◌, ◌*◌, ◌-◌, ◌<◌, Bool, true, false, List, [], ◌∷◌, length, map, get_or, refl, sym, ap, ◌∙◌, subst, inl, inr, arith, AllPairs, Contains}
-use Rattle.std.specs.Prelude.{ℤ, pos, negsuc, ◌-ℤ◌, nat_eq, nat_lt, if◌then◌else◌, cond, ◌↔◌}
+use Rattle.std.proofs.Common.{◌≡◌, ◌≢◌, ℕ, zero, suc, ◌+◌, ◌*◌, ◌-◌, Bool, true, false, List, [], ◌∷◌, map, refl, sym, ap, ◌∙◌, subst, inl, inr, arith, AllPairs, Contains}
+use Rattle.std.specs.Prelude.{pos, negsuc, ◌-ℤ◌, nat_eq, nat_lt, if◌then◌else◌, cond, ◌↔◌}
 use Rattle.std.proofs.lemmas.Bool.{cases_eq, eq-eqb, ne_eqb, ltb-true, ltb-false}
-use Rattle.fvn_base.proofs.Membership.{contains_cases, contains_later, contains_here, contains_none}
+use Rattle.fvn_base.proofs.Membership.{contains_cases, contains_later, contains_none}
 use Rattle.fvn_forms.specs.InOrder.{one_if}
 use Rattle.fvn_lindio.specs.Systems.{above, below, up, down, IsZeroAt}
 use Rattle.fvn_flat.specs.SolvedLists.{component}

@@ -32,11 +32,21 @@ addends f (Some (App g ks)) = if same_op f g then pair ks else None
 abbrev pub HoldsArguments : NodeTable → Type 0
 HoldsArguments t = (i : ℕ) (f : OpId) (ks : List ℕ) → Contains t.subterms i → IsOver t.nodes i f ks → All (Contains t.subterms) ks
 
-module _ (t : NodeTable) (class : ℕ → ℕ) (f : OpId) where
-  -- the subterms that f heads, in the order in which they begin
-  abbrev pub sums : List ℕ
-  sums = filter (λ i. is_headed f (slice_get t.nodes i)) t.subterms
+-- the subterms that f heads, in the order in which they begin
+abbrev pub sums : NodeTable → OpId → List ℕ
+sums t f = filter (λ i. is_headed f (slice_get t.nodes i)) t.subterms
 
+module _ (class : ℕ → ℕ) where
+  -- 1 where k is the class of node i, else 0
+  abbrev pub stands_in : ℕ → ℕ → ℕ
+  stands_in k i = one_if (nat_eq (class i) k)
+
+  -- in the column of k: the arguments of a sum, less the sum itself
+  abbrev pub coefficient : ℕ → Option (ℕ × ℕ) → ℕ → ℤ
+  coefficient i None k = pos 0
+  coefficient i (Some p) k = pos (stands_in k p.0 + stands_in k p.1) -ℤ pos (stands_in k i)
+
+module _ (t : NodeTable) (class : ℕ → ℕ) (f : OpId) where
   -- k is the class of f's identity
   abbrev pub IsIdentityClass : ℕ → Type 0
   IsIdentityClass k = Any (λ p. (p.0 ≡ f) × (class p.1 ≡ k)) t.units
@@ -51,22 +61,13 @@ module _ (t : NodeTable) (class : ℕ → ℕ) (f : OpId) where
     pub among : Contains (class sum ∷ class left ∷ class right ∷ []) k
     pub no_identity : IsIdentityClass k → ⊥
 
-  -- 1 where k is the class of node i, else 0
-  abbrev pub stands_in : ℕ → ℕ → ℕ
-  stands_in k i = one_if (nat_eq (class i) k)
-
-  -- in the column of k: the arguments of a sum, less the sum itself
-  abbrev pub coefficient : ℕ → Option (ℕ × ℕ) → ℕ → ℤ
-  coefficient i None k = pos 0
-  coefficient i (Some p) k = pos (stands_in k p.0 + stands_in k p.1) -ℤ pos (stands_in k i)
-
   -- the row of a sum, over columns that stand for these classes
   abbrev pub row_at : List ℕ → ℕ → List ℤ
-  row_at columns i = map (coefficient i (addends f (slice_get t.nodes i))) columns
+  row_at columns i = map (coefficient class i (addends f (slice_get t.nodes i))) columns
 
   -- one column for each such class, in some order; one row for each sum by f: first argument plus second, less the sum
   pub record IsNodeSystem (columns : List ℕ) (system : System) : Type 0 where
     pub distinct : AllPairs ◌≢◌ columns
     pub exact : (k : ℕ) → Contains columns k ↔ IsNodeColumn k
     pub wide : system.columns ≡ length columns
-    pub rows : rows_of system ≡ map (row_at columns) sums
+    pub rows : rows_of system ≡ map (row_at columns) (sums t f)

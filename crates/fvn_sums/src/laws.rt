@@ -8,6 +8,8 @@ ghost use Rattle.fvn_sums.specs.Laws.{
   ValuesUnify,
 };
 
+use fvn_nodes::unifiers_partition;
+
 /// In the table of a problem, the arguments of subterms are subterms.
 pub fn tables_hold_arguments()
     ensures { TablesHoldArguments }
@@ -26,7 +28,9 @@ pub fn counts_solve()
 /// A unifier gives values to the classes of a state that admits its partition.
 pub fn unifiers_have_values()
     ensures { UnifiersHaveValues }
-{}
+{
+    unifiers_partition();
+}
 
 /// What gives the variables the values of their classes gives each node the value of its class.
 pub fn values_are_given()

@@ -1,5 +1,5 @@
 //! The rows of a sum system.
-ghost use Rattle.std.specs.Prelude.{◌≡◌, ◌<◌, pos, map, length, slice_get, IfOk, ForSome};
+ghost use Rattle.std.specs.Prelude.{◌≡◌, ◌<◌, pos, map, length, slice_get, IfOk, IfSome};
 ghost use Rattle.fvn_forms.specs.InOrder.{one_if};
 ghost use Rattle.fvn_lindio.specs.Systems.{coefficients_of};
 ghost use Rattle.fvn_nodes.specs.States.{class_of};
@@ -17,17 +17,13 @@ fn stands_in(state: &State, k: usize, i: usize) -> i32
     requires { i < length state.now.names }
     ensures { result ≡ pos (stands_in (class_of state.now) k i) }
 {
-    if state.class_of(i) == k {
-        1
-    } else {
-        0
-    }
+    if state.class_of(i) == k { 1 } else { 0 }
 }
 
 // In the column of k: the arguments of a sum, less the sum itself.
 fn coefficient(state: &State, i: usize, pair: Option<(usize, usize)>, k: usize) -> i32
     requires sum { i < length state.now.names }
-    requires pair { ForSome pair (λ p. (p.0 < length state.now.names) × (p.1 < length state.now.names)) }
+    requires pair { IfSome pair (λ p. (p.0 < length state.now.names) × (p.1 < length state.now.names)) }
     ensures { result ≡ coefficient (class_of state.now) i pair k }
 {
     match pair {
@@ -69,7 +65,7 @@ pub(crate) fn rows_of(
 ) -> Result<Vec<Row>, NoMemory>
     requires whole { length state.now.names ≡ length table.now.nodes }
     ensures { IfOk result (λ rows. coefficients_of rows.items
-        ≡ map (row_at table.now (class_of state.now) f columns.now) (sums table.now (class_of state.now) f)) }
+        ≡ map (row_at table.now (class_of state.now) f columns.now) (sums table.now f)) }
 {
     table.recall_well_made();
     let mut rows = Vec::new(alloc);

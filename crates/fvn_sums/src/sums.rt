@@ -36,12 +36,6 @@ pub(crate) fn addends(table: &Table, f: OpId, i: usize) -> Option<(usize, usize)
     table.recall_well_made();
     match table.node(i) {
         Node::Var(_) => None,
-        Node::App(g, ks) => {
-            if f == *g {
-                pair(ks.as_slice())
-            } else {
-                None
-            }
-        }
+        Node::App(g, ks) => { if f == *g { pair(ks.as_slice()) } else { None } }
     }
 }

@@ -1,5 +1,5 @@
 -- The columns of a sum system in the making.
-use Rattle.std.specs.Prelude.{◌≡◌, ◌≢◌, ℕ, List, [], ◌∷◌, Option, Some, None, slice_get, AllPairs, Contains}
+use Rattle.std.specs.Prelude.{◌≢◌, ℕ, List, [], ◌∷◌, Option, Some, None, slice_get, AllPairs, Contains}
 use Rattle.std.specs.List.{flat_map}
 use Rattle.fvn_terms.specs.declared.plain.OpId.{OpId}
 use Rattle.fvn_nodes.specs.Table.{NodeTable}
