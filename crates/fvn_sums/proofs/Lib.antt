@@ -6,4 +6,5 @@ mod Members
 mod Counting
 mod Collected
 mod OfProblems
+mod Sizes
 mod Substituted

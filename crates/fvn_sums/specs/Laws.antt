@@ -1,5 +1,5 @@
 -- Laws of sum systems and of values of classes.
-use Rattle.std.specs.Prelude.{◌≡◌, ◌↔◌, ℕ, ◌<◌, List, length, All}
+use Rattle.std.specs.Prelude.{◌≡◌, ◌↔◌, ℕ, ◌<◌, ◌≤◌, List, length, All}
 use Rattle.fvn_terms.specs.declared.plain.OpId.{OpId}
 use Rattle.fvn_terms.specs.declared.declarations.Declarations.{Declarations}
 use Rattle.fvn_terms.specs.Signature.{axioms, KeepsKinds}
@@ -11,7 +11,8 @@ use Rattle.fvn_forms.specs.FitsKinds.{FitsKinds}
 use Rattle.fvn_forms.specs.Settled.{Settled}
 use Rattle.fvn_lindio.specs.declared.system.System.{System}
 use Rattle.fvn_lindio.specs.Systems.{Solves, rows_of}
-use Rattle.fvn_flat.specs.Problems.{IsProblem}
+use Rattle.fvn_flat.specs.Problems.{IsProblem, plain_pairs}
+use Rattle.fvn_flat.specs.Solving.{FlatPairs, symbols_of_pairs}
 use Rattle.fvn_flat.specs.SumSystems.{IsSumSystem}
 use Rattle.fvn_flat.specs.SolvedLists.{IsKindUnifier}
 use Rattle.fvn_nodes.specs.Table.{NodeTable, IsWellMade, IsTableOf}
@@ -25,6 +26,10 @@ use Rattle.fvn_sums.specs.Values.{AreValues, Gives, AddUp, AddsNothing, Counts}
 -- in the table of a problem, the arguments of subterms are subterms
 abbrev pub TablesHoldArguments : Type 0
 TablesHoldArguments = (d : Declarations) (problem : Problem) (t : NodeTable) → IsWellMade t → IsTableOf d problem t → HoldsArguments t
+
+-- the table of flat pairs has no more subterms than these have symbols
+abbrev pub TablesAreSmall : Type 0
+TablesAreSmall = (d : Declarations) (pairs : FlatPairs) (t : NodeTable) → IsTableOf d (plain_pairs pairs) t → length t.subterms ≤ symbols_of_pairs pairs
 
 -- sum systems over the nodes of a problem's table are those of the problem
 abbrev pub NodeSystemsAreSumSystems : Type 0

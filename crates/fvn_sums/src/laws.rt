@@ -1,6 +1,7 @@
 //! Laws of sum systems and of values of classes, each the contract of a function that does nothing.
 ghost use Rattle.fvn_sums.specs.Laws.{
   TablesHoldArguments,
+  TablesAreSmall,
   NodeSystemsAreSumSystems,
   CountsSolve,
   UnifiersHaveValues,
@@ -13,6 +14,11 @@ use fvn_nodes::unifiers_partition;
 /// In the table of a problem, the arguments of subterms are subterms.
 pub fn tables_hold_arguments()
     ensures { TablesHoldArguments }
+{}
+
+/// The table of a problem has no more subterms than the problem has symbols.
+pub fn tables_are_small()
+    ensures { TablesAreSmall }
 {}
 
 /// Sum systems over the nodes of a problem's table are those of the problem.

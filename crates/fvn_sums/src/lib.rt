@@ -8,7 +8,7 @@ mod sums;
 mod system;
 
 pub use laws::{
-    counts_solve, node_systems_are_sum_systems, tables_hold_arguments, unifiers_have_values,
-    values_are_given, values_unify,
+    counts_solve, node_systems_are_sum_systems, tables_are_small, tables_hold_arguments,
+    unifiers_have_values, values_are_given, values_unify,
 };
 pub use system::{SumSystem, sum_system};
