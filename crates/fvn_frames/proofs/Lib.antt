@@ -1,0 +1,1 @@
+-- Lemmas on readings of states.
