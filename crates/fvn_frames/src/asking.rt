@@ -24,6 +24,7 @@ pub fn question(
     requires reading { IsReading sig.now table.now (class_of state.now) reading.now }
     ensures { IsQuestion sig.now table.now state.now result }
 {
+    table.recall_well_made();
     match undecided(sig, table, state) {
         Some(pair) => Some(pair),
         None => match identity_question(table, state, reading) {

@@ -53,7 +53,8 @@ fn sums_of(
     ensures operator { IfOk result (λ s. s.operator ≡ f) }
 {
     let _sig = sig;
-    let SumSystem { columns, system } = sum_system(alloc, table, state, f)?;
+    let sums = sum_system(alloc, table, state, f)?;
+    let SumSystem { columns, system } = sums;
     let used = used_of(alloc, &system)?;
     Ok(Sums {
         operator: f,

@@ -7,13 +7,21 @@ use fvn_lindio::{Row, System};
 use fvn_terms::NoMemory;
 use std::alloc::Global;
 
+// Whether the row has a coefficient other than zero in column j.
+fn is_other(row: &Row, j: usize) -> bool
+    requires { j < length row.now.coefficients }
+    ensures { IsTrue result ↔ (slice_index_or row.now.coefficients j (pos 0) ≢ pos 0) }
+{
+    row.coefficients.as_slice()[j] != 0
+}
+
 // Whether some row has a coefficient other than zero in column j.
 fn is_used(rows: &[Row], j: usize) -> bool
     requires { All (λ row. j < length row) (coefficients_of rows.now) }
     ensures { IsTrue result ↔ Any (λ row. slice_index_or row j (pos 0) ≢ pos 0) (coefficients_of rows.now) }
 {
     for row in rows {
-        if row.coefficients.as_slice()[j] != 0 {
+        if is_other(row, j) {
             return true;
         }
     }
