@@ -163,3 +163,8 @@ module _ (d : Declarations) (t : NodeTable) (made : IsWellMade t) (s : State) (c
             let a = entry_of f k mk.used in
             apart_at a.entry a.listed k l (subst (λ o. MayBeConstant d t (class_of s) o k) (sym a.operator) mk) (subst (λ o. MayBeConstant d t (class_of s) o l) (sym a.operator) ml);
       }
+
+    -- the answer where neither commutative nodes nor identities are open
+    pub asked : IsNodePartition d t (class_of s) → ((k : ℕ) → k < length s.names → IsSharedIn r k → ArePastIdentities t s r.sums k) → (o : Option (ℕ × ℕ)) → IsOpenPairOr s (All (λ e. ArePastPairs s r e e.columns) r.sums) o → IsQuestion d t s o
+    asked partition past None pairs = frame_is pairs partition past
+    asked partition past (Some p) h = pair_question (All (λ e. ArePastPairs s r e e.columns) r.sums) p h

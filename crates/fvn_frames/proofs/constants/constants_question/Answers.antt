@@ -2,12 +2,13 @@
 use Rattle.std.proofs.Common.{◌≡◌, ◌≢◌, ◌⊎◌, ℕ, ◌+◌, ◌<◌, ◌≤◌, true, false, [], ◌∷◌, ◌++◌, length, map, take, get_or, refl, sym, ap, ◌∙◌, subst, inl, inr, arith, Option, Some, None, All, Contains}
 use Rattle.std.proofs.lemmas.Bool.{false≢true, cases_lt}
 use Rattle.fvn_frames.proofs.Walked.{more_of, all_of}
+use Rattle.fvn_frames.specs.declared.reading.Sums.{Sums}
 use Rattle.fvn_frames.specs.inner.Users.{IsMarked, HaveHeads, CanBeConstant, IsPastIdentity, ArePastClasses, ArePastPairs}
 use Rattle.fvn_frames.proofs.constants.constants_question.Goals as goal
 
 pub loop-s-preserved : goal.loop-s-preserved
 loop-s-preserved c =
-    let past = λ e. ArePastPairs c.args.state.now c.args.reading.now e e.columns in
+    let past = λ (e : Sums). ArePastPairs c.args.state.now c.args.reading.now e e.columns in
     more_of past c.as_slice-s-items.result.now c.args.reading.now.sums c.as_slice-s-items.ensures c.loop-s.s-index c.s-item.result c.loop-s-test.true c.loop-s.invariant
     (subst past c.s-item.is c.in-None.ensures)
 
