@@ -1,0 +1,4 @@
+-- Lemmas on the values of classes at a frame.
+mod Heads
+mod Values
+mod Meeting
