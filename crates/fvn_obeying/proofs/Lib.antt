@@ -2,3 +2,7 @@
 mod Heads
 mod Values
 mod Meeting
+mod Supporting
+mod Telling
+mod Kinded
+mod Tagging

@@ -28,7 +28,7 @@ use Rattle.fvn_nodes.specs.States.{IsNaming, IsOpen, class_of, is_apart}
 use Rattle.fvn_nodes.specs.declared.state.State.{State}
 use Rattle.fvn_nodes.specs.declared.table.Node.TheVariants.{App}
 use Rattle.fvn_nodes.proofs.Nodes.{arguments_within}
-use Rattle.fvn_nodes.proofs.Admitting.{decided}
+use Rattle.fvn_nodes.proofs.Admitting.{decided, named_within}
 use Rattle.fvn_sums.specs.NodeSystems.{is_headed, pair, addends, sums, stands_in, coefficient, IsIdentityClass, IsNodeColumn}
 use Rattle.fvn_frames.specs.Frames.{IsSolid, Uses, IsShared, MayBeConstant, HaveTwoHeads, IsFrame}
 use Rattle.fvn_obeying.specs.Binding.{IsBound, solid, alone, tagged, IsConstant, IsRequired}
@@ -74,13 +74,14 @@ module _ (d : Declarations) (t : NodeTable) (made : IsWellMade t) (has : HasSums
       ∙ build_head d f h.no_identity (map (λ k. values (class k)) h.arguments) (settled_values h.arguments)
       (λ assoc. length-map h.arguments (λ k. values (class k)) ∙ (has.pairs h.member f h.arguments h.over assoc).0)
 
-  -- the name of a class is in it
-  own_name : (f : OpId) (k : ℕ) → IsNodeColumn t class f k → class k ≡ k
+  -- the name of a class is a node in it
+  record IsName (k : ℕ) : Type 0 where
+    own : class k ≡ k
+    within : k < length t.nodes
+
+  own_name : (f : OpId) (k : ℕ) → IsNodeColumn t class f k → IsName k
   own_name f k h =
       let args = arguments_within t.nodes made.ordered h.sum f (h.left ∷ h.right ∷ []) h.over in
-      let at : (i : ℕ) → i < length t.nodes → class i ≡ k → class k ≡ k =
-      λ i l e. ap class (sym e) ∙ (frame.closed.naming.named i (let w = frame.closed.whole in omega (arith, l, w))).1 ∙ e
-      in
       elim (contains_cases (class h.sum) (class h.left ∷ class h.right ∷ []) k h.among) [
         | inl e ↦ at h.sum (slice_get_within t.nodes h.sum (App f (h.left ∷ h.right ∷ [])) h.over) e
         | inr r ↦ elim (contains_cases (class h.left) (class h.right ∷ []) k r) [
@@ -91,6 +92,13 @@ module _ (d : Declarations) (t : NodeTable) (made : IsWellMade t) (has : HasSums
           ]
         ]
       ]
+    where
+      at : (i : ℕ) → i < length t.nodes → class i ≡ k → IsName k
+      at i l e =
+          let w = frame.closed.whole in
+          let m : i < length s.names = omega (arith, l, w) in
+          let n = named_within s frame.closed.naming i m in
+          record { own = ap class (sym e) ∙ (frame.closed.naming.named i m).1 ∙ e; within = omega (arith, n, w, e) }
 
   -- why a constant is none that is bound
   pub constant_why : (f : OpId) (k : ℕ) → IsConstant d t class tag f k → ((g : OpId) × (g ≢ f) × IsSolid d t class g k) ⊎ IsShared d t class k
@@ -112,12 +120,12 @@ module _ (d : Declarations) (t : NodeTable) (made : IsWellMade t) (has : HasSums
   ]
 
   -- the class of a node is that of the value
-  same_class : (k n : ℕ) → class k ≡ k → IsOpen s k n ⊎ ((k ≡ class n) ⊎ (values k ≢ values (class n)))
-  same_class k n own = elim (decided s k n) [
+  same_class : (k n : ℕ) → IsName k → n < length t.nodes → IsOpen s k n ⊎ ((k ≡ class n) ⊎ (values k ≢ values (class n)))
+  same_class k n name within = elim (decided s k n) [
     | inl o ↦ inl o
     | inr r ↦ elim r [
-      | inl e ↦ inr (inl (sym own ∙ e))
-      | inr a ↦ inr (inr (λ e. go_with.differ k n a (ap values own ∙ e)))
+      | inl e ↦ inr (inl (sym name.own ∙ e))
+      | inr a ↦ inr (inr (λ e. go_with.differ k n name.within within a (ap values name.own ∙ e)))
     ]
   ]
 
@@ -144,7 +152,7 @@ module _ (d : Declarations) (t : NodeTable) (made : IsWellMade t) (has : HasSums
                 (frame.partition.nodes m.member p.1 e e [] [] (subst (IsOver t.nodes m.member e) none m.over) over).congruent refl refl
                 in
                 not_identity (sym m.of ∙ same_node)
-            | inr shared ↦ elim (same_class k p.1 (own_name f k h.used.column)) [
+            | inr shared ↦ elim (same_class k p.1 (own_name f k h.used.column) (slice_get_within t.nodes p.1 (App e []) over)) [
               | inl o ↦ frame.identities f k shared h.used p (j, l, at) same o
               | inr r ↦ elim r [
                 | inl q ↦ not_identity q
@@ -164,11 +172,11 @@ module _ (d : Declarations) (t : NodeTable) (made : IsWellMade t) (has : HasSums
   -- two constants that are touched together differ
   pub constants_differ : (f : OpId) (k l : ℕ) → IsConstant d t class tag f k → IsConstant d t class tag f l → k ≢ l → HaveTwoHeads d t class k l ⊎ (IsOpen s k l → ⊥) → values k ≢ values l
   constants_differ f k l hk hl n (inl two) e = two.different (let p : Some two.first ≡ Some two.second = sym (head_of_solid two.first k two.heads_first) ∙ ap head e ∙ head_of_solid two.second l two.heads_second in cc)
-  constants_differ f k l hk hl n (inr closed_pair) e = elim (same_class k l (own_name f k hk.used.column)) [
+  constants_differ f k l hk hl n (inr closed_pair) e = elim (same_class k l (own_name f k hk.used.column) (own_name f l hl.used.column).within) [
     | inl o ↦ closed_pair o
     | inr r ↦ elim r [
-      | inl q ↦ n (q ∙ own_name f l hl.used.column)
-      | inr m ↦ m (e ∙ sym (ap values (own_name f l hl.used.column)))
+      | inl q ↦ n (q ∙ (own_name f l hl.used.column).own)
+      | inr m ↦ m (e ∙ sym (ap values (own_name f l hl.used.column).own))
     ]
   ]
 

@@ -1,5 +1,5 @@
 -- Values that go with a frame, and tags that they obey.
-use Rattle.std.specs.Prelude.{◌≡◌, ◌≢◌, ◌⊎◌, ◌↔◌, ℕ, true, List, [], length, Option, Some, Any, Contains}
+use Rattle.std.specs.Prelude.{◌≡◌, ◌≢◌, ◌⊎◌, ◌↔◌, ℕ, ◌<◌, true, List, [], length, Option, Some, Any, Contains}
 use Rattle.fvn_terms.specs.declared.plain.OpId.{OpId}
 use Rattle.fvn_terms.specs.declared.declarations.Declarations.{Declarations}
 use Rattle.fvn_terms.specs.Signature.{axioms}
@@ -26,7 +26,7 @@ pub record IsTold (d : Declarations) (t : NodeTable) (class : ℕ → ℕ) : Typ
 -- values of the classes of a state that go with the nodes, and differ where it keeps apart
 pub record GoWith (d : Declarations) (t : NodeTable) (s : State) (values : ℕ → FlatTerm) : Type 0 where
   pub are : AreValues d t (class_of s) values
-  pub differ : (i j : ℕ) → is_apart s i j ≡ true → values (class_of s i) ≢ values (class_of s j)
+  pub differ : (i j : ℕ) → i < length t.nodes → j < length t.nodes → is_apart s i j ≡ true → values (class_of s i) ≢ values (class_of s j)
 
 -- the form is a sum of f
 abbrev pub IsSumOf : OpId → FlatTerm → Type 0
