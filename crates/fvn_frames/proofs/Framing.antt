@@ -1,23 +1,22 @@
 -- What a reading tells of a state, and frames.
-use Rattle.std.proofs.Common.{◌≡◌, ◌≢◌, ◌⊎◌, ℕ, ◌+◌, ◌<◌, ◌≤◌, true, false, List, [], ◌∷◌, length, map, get_or, refl, sym, ap, ◌∙◌, subst, inl, inr, arith, All, AllPairs, Contains, Option, Some, None, slice_get}
-use Rattle.std.specs.Prelude.{◌↔◌}
+use Rattle.std.proofs.Common.{◌≡◌, ◌≢◌, ◌⊎◌, ℕ, ◌<◌, List, [], ◌∷◌, length, get_or, refl, sym, ap, ◌∙◌, subst, inl, inr, arith, All, Contains, Option, Some, None}
 use Rattle.std.proofs.lemmas.Bool.{cases_order}
-use Rattle.std.proofs.lemmas.List.{get_or_default, get_or-map, length-map}
+use Rattle.std.proofs.lemmas.List.{get_or_default}
 use Rattle.std.proofs.lemmas.List.Elements.{All-contains, All-contains_itself, All-weaker}
-use Rattle.std.proofs.lemmas.Option.{slice_get_within, slice_get-get_or, get_or_from_slice_get}
+use Rattle.std.proofs.lemmas.Option.{slice_get_within, slice_get-get_or}
 use Rattle.fvn_base.proofs.Membership.{contains_cases, contains_none, map_contains}
 use Rattle.fvn_terms.specs.declared.plain.OpId.{OpId}
 use Rattle.fvn_terms.specs.declared.declarations.Declarations.{Declarations}
-use Rattle.fvn_nodes.specs.Table.{NodeTable, IsWellMade, IsOver}
+use Rattle.fvn_nodes.specs.Table.{NodeTable, IsWellMade}
 use Rattle.fvn_nodes.specs.Classes.{IsNodePartition}
-use Rattle.fvn_nodes.specs.States.{IsClosed, IsNaming, IsOpen, class_of}
+use Rattle.fvn_nodes.specs.States.{IsClosed, IsOpen, class_of}
 use Rattle.fvn_nodes.specs.Questions.{IsSwap}
 use Rattle.fvn_nodes.specs.declared.state.State.{State}
 use Rattle.fvn_nodes.specs.declared.table.Node.TheVariants.{App}
 use Rattle.fvn_nodes.proofs.Nodes.{arguments_within}
 use Rattle.fvn_nodes.proofs.Admitting.{named_within}
 use Rattle.fvn_sums.specs.NodeSystems.{IsNodeColumn}
-use Rattle.fvn_frames.specs.Frames.{IsSumOperator, IsSolid, Uses, IsShared, MayBeConstant, HaveTwoHeads, IsFrame, IsQuestion}
+use Rattle.fvn_frames.specs.Frames.{IsSolid, Uses, IsShared, MayBeConstant, HaveTwoHeads, IsFrame, IsQuestion}
 use Rattle.fvn_frames.specs.Readings.{AreSums, IsReading}
 use Rattle.fvn_frames.specs.inner.Users.{IsWholeSums, IsWhole, IsMarked, IsUserAt, HasTwoUsers, head_of, IsSharedIn, CanStand, CanBeConstant, HaveHeads, IsOpenPairOr, IsPastIdentity, ArePastIdentities, ArePastClasses, ArePastPairs}
 use Rattle.fvn_frames.specs.declared.reading.Sums.{Sums}

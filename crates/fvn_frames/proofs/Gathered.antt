@@ -1,8 +1,7 @@
 -- The sum operators that are gathered, and which columns they use.
-use Rattle.std.proofs.Common.{◌≡◌, ◌≢◌, ◌⊎◌, ℕ, ◌+◌, ◌<◌, true, false, List, [], ◌∷◌, ◌++◌, length, map, get_or, refl, sym, ap, ◌∙◌, subst, inl, inr, arith, All, AllPairs, Contains, Option, Some, None, slice_get}
-use Rattle.std.specs.Prelude.{ℤ, pos, ◌↔◌, MatchOption, Any, Bool}
-use Rattle.std.proofs.lemmas.Bool.{cases_eq}
-use Rattle.std.proofs.lemmas.List.{get_or-map, length-map, get_or_default}
+use Rattle.std.proofs.Common.{◌≡◌, ◌≢◌, ℕ, ◌<◌, true, List, [], ◌∷◌, ◌++◌, length, map, get_or, sym, ap, ◌∙◌, subst, inl, inr, arith, All, Contains, Option, Some, None, slice_get}
+use Rattle.std.specs.Prelude.{pos, MatchOption, Any, Bool}
+use Rattle.std.proofs.lemmas.List.{get_or-map}
 use Rattle.std.proofs.lemmas.List.Elements.{Contains-append_left, Contains-push, Contains-push_cases, Contains-get_or, All-weaker, All-contains_itself}
 use Rattle.std.proofs.lemmas.List.Quantifiers.{all_pairs_push}
 use Rattle.fvn_base.proofs.Membership.{contains_none, contains_map, map_contains, contains_filter, filter_contains}
@@ -10,7 +9,6 @@ use Rattle.fvn_terms.specs.declared.plain.OpId.{OpId}
 use Rattle.fvn_terms.specs.declared.declarations.Declarations.{Declarations}
 use Rattle.fvn_terms.specs.Signature.{axioms}
 use Rattle.fvn_terms.specs.Equality.{IsAssociative}
-use Rattle.fvn_forms.specs.Canon.{same_op}
 use Rattle.fvn_forms.proofs.Sums.{same_op_is, same_op_itself}
 use Rattle.fvn_lindio.specs.declared.system.System.{System}
 use Rattle.fvn_lindio.specs.Systems.{IsSystem, rows_of}
@@ -18,10 +16,9 @@ use Rattle.fvn_nodes.specs.Table.{NodeTable, IsOver}
 use Rattle.fvn_nodes.specs.declared.table.Node.{Node}
 use Rattle.fvn_nodes.specs.declared.table.Node.TheVariants.{Var, App}
 use Rattle.fvn_sums.specs.NodeSystems.{is_headed, addends, sums, coefficient, row_at, IsNodeSystem}
-use Rattle.fvn_frames.specs.Frames.{IsSumOperator, Uses}
+use Rattle.fvn_frames.specs.Frames.{Uses}
 use Rattle.fvn_frames.specs.Readings.{AreSumOperators, AreSums}
 use Rattle.fvn_frames.specs.inner.Reading.{IsAdded, AreUsed, AreOperatorsAmong}
-use Rattle.fvn_frames.specs.declared.reading.Sums.{Sums}
 
 module _ (d : Declarations) (t : NodeTable) where
   -- what is told of node i: its operator, where that is associative

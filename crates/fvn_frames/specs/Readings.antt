@@ -1,5 +1,5 @@
 -- What is read of a state: its sum operators with their systems, and what heads its classes.
-use Rattle.std.specs.Prelude.{◌≡◌, ◌≢◌, ◌↔◌, ℕ, ◌<◌, Bool, true, false, List, length, map, slice_index, slice_index_or, Option, Some, None, All, AllPairs, Contains}
+use Rattle.std.specs.Prelude.{◌≡◌, ◌≢◌, ◌↔◌, ℕ, ◌<◌, true, false, List, length, map, slice_index, slice_index_or, Option, Some, None, All, AllPairs, Contains}
 use Rattle.fvn_terms.specs.declared.plain.OpId.{OpId}
 use Rattle.fvn_terms.specs.declared.declarations.Declarations.{Declarations}
 use Rattle.fvn_lindio.specs.Systems.{IsSystem}

@@ -1,9 +1,8 @@
 -- One more operator.
-use Rattle.std.proofs.Common.{◌≡◌, ◌≢◌, ◌⊎◌, ℕ, ◌+◌, ◌<◌, ◌≤◌, true, false, [], ◌∷◌, ◌++◌, length, map, take, get_or, refl, sym, ap, ◌∙◌, subst, inl, inr, arith, Option, Some, None, All, Contains}
-use Rattle.std.proofs.lemmas.Bool.{false≢true, cases_lt}
+use Rattle.std.proofs.Common.{subst}
 use Rattle.fvn_frames.proofs.Walked.{more_of, all_of}
 use Rattle.fvn_frames.specs.declared.reading.Sums.{Sums}
-use Rattle.fvn_frames.specs.inner.Users.{IsMarked, HaveHeads, CanBeConstant, IsPastIdentity, ArePastClasses, ArePastPairs}
+use Rattle.fvn_frames.specs.inner.Users.{ArePastPairs}
 use Rattle.fvn_frames.proofs.constants.constants_question.Goals as goal
 
 pub loop-s-preserved : goal.loop-s-preserved

@@ -1,8 +1,8 @@
 -- One more class.
-use Rattle.std.proofs.Common.{◌≡◌, ◌≢◌, ◌⊎◌, ℕ, ◌+◌, ◌<◌, ◌≤◌, true, false, [], ◌∷◌, ◌++◌, length, map, take, get_or, refl, sym, ap, ◌∙◌, subst, inl, inr, arith, Option, Some, None, All, Contains}
-use Rattle.std.proofs.lemmas.Bool.{false≢true, cases_lt}
+use Rattle.std.proofs.Common.{ℕ, sym, ◌∙◌}
+use Rattle.std.proofs.lemmas.Bool.{false≢true}
 use Rattle.fvn_frames.proofs.Walked.{more_of, all_of}
-use Rattle.fvn_frames.specs.inner.Users.{IsMarked, HaveHeads, CanBeConstant, IsPastIdentity, ArePastClasses, ArePastPairs}
+use Rattle.fvn_frames.specs.inner.Users.{CanBeConstant, ArePastClasses}
 use Rattle.fvn_frames.proofs.constants.open_of.Goals as goal
 
 pub loop-k-preserved-then-not-may_be_constant : goal.loop-k-preserved-then-not-may_be_constant

@@ -1,5 +1,5 @@
 -- Nothing is open of the classes so far.
-use Rattle.std.proofs.Common.{◌≡◌, ◌≢◌, ◌⊎◌, ℕ, ◌<◌, ◌≤◌, true, false, length, map, take, slice_get, slice_index, slice_index_or, Option, Some, None, All, Contains}
+use Rattle.std.proofs.Common.{take}
 use Rattle.fvn_frames.specs.inner.Users.{ArePastPairs}
 use Rattle.fvn_frames.proofs.constants.open_of.Given as goal
 

@@ -1,9 +1,9 @@
 -- One more class.
-use Rattle.std.proofs.Common.{◌≡◌, ◌≢◌, ◌⊎◌, ℕ, ◌+◌, ◌<◌, ◌≤◌, true, false, [], ◌∷◌, ◌++◌, length, map, take, get_or, refl, sym, ap, ◌∙◌, subst, inl, inr, arith, Option, Some, None, All, Contains}
-use Rattle.std.proofs.lemmas.Bool.{false≢true, cases_lt}
+use Rattle.std.proofs.Common.{◌⊎◌, ℕ, sym, ◌∙◌, inl, inr}
+use Rattle.std.proofs.lemmas.Bool.{false≢true}
 use Rattle.fvn_frames.proofs.Walked.{more_of, all_of}
-use Rattle.fvn_nodes.specs.States.{IsOpen, class_of}
-use Rattle.fvn_frames.specs.inner.Users.{IsMarked, HaveHeads, CanBeConstant, IsPastIdentity, ArePastClasses, ArePastPairs}
+use Rattle.fvn_nodes.specs.States.{IsOpen}
+use Rattle.fvn_frames.specs.inner.Users.{HaveHeads, CanBeConstant}
 use Rattle.fvn_frames.proofs.constants.open_with.Goals as goal
 
 pub loop-l-preserved-then-not-may_be_constant : goal.loop-l-preserved-then-not-may_be_constant

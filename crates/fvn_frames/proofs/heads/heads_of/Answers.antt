@@ -1,6 +1,5 @@
 -- One more node.
-use Rattle.std.proofs.Common.{◌≡◌, ◌≢◌, ◌⊎◌, ℕ, suc, ◌+◌, ◌<◌, ◌≤◌, true, false, List, [], ◌∷◌, ◌++◌, length, map, take, get_or, refl, sym, ap, ◌∙◌, subst, inl, inr, arith, Option, Some, None, All, Contains}
-use Rattle.std.proofs.lemmas.Bool.{false≢true, cases_lt}
+use Rattle.std.proofs.Common.{◌+◌, ◌<◌, ◌≤◌, length, sym, ap, ◌∙◌, subst, arith}
 use Rattle.fvn_nodes.specs.States.{IsOpen, class_of}
 use Rattle.std.proofs.lemmas.Option.{slice_get_within}
 use Rattle.fvn_nodes.specs.declared.table.Node.TheVariants.{App}

@@ -1,8 +1,8 @@
 -- One more identity.
-use Rattle.std.proofs.Common.{◌≡◌, ◌≢◌, ◌⊎◌, ℕ, ◌+◌, ◌<◌, ◌≤◌, true, false, [], ◌∷◌, ◌++◌, length, map, take, get_or, refl, sym, ap, ◌∙◌, subst, inl, inr, arith, Option, Some, None, All, Contains}
-use Rattle.std.proofs.lemmas.Bool.{false≢true, cases_lt}
+use Rattle.std.proofs.Common.{◌≡◌, sym, ◌∙◌}
+use Rattle.std.proofs.lemmas.Bool.{false≢true}
 use Rattle.fvn_frames.proofs.Walked.{more_of, all_of}
-use Rattle.fvn_nodes.specs.States.{IsOpen, class_of}
+use Rattle.fvn_nodes.specs.States.{IsOpen}
 use Rattle.fvn_frames.proofs.identities.open_identity.Goals as goal
 
 pub loop-g-preserved : goal.loop-g-preserved

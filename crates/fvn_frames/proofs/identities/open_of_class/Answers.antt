@@ -1,9 +1,9 @@
 -- One more operator.
-use Rattle.std.proofs.Common.{◌≡◌, ◌≢◌, ◌⊎◌, ℕ, ◌+◌, ◌<◌, ◌≤◌, true, false, [], ◌∷◌, ◌++◌, length, map, take, get_or, refl, sym, ap, ◌∙◌, subst, inl, inr, arith, Option, Some, None, All, Contains}
-use Rattle.std.proofs.lemmas.Bool.{false≢true, cases_lt}
+use Rattle.std.proofs.Common.{refl, sym, ◌∙◌, subst}
+use Rattle.std.proofs.lemmas.Bool.{false≢true}
 use Rattle.fvn_frames.proofs.Walked.{more_of, all_of}
 use Rattle.fvn_frames.specs.declared.reading.Sums.{Sums}
-use Rattle.fvn_frames.specs.inner.Users.{IsMarked, HaveHeads, CanBeConstant, IsPastIdentity, ArePastClasses, ArePastPairs}
+use Rattle.fvn_frames.specs.inner.Users.{IsMarked, IsPastIdentity}
 use Rattle.fvn_frames.proofs.identities.open_of_class.Goals as goal
 
 pub loop-s-preserved-then-not-is_user : goal.loop-s-preserved-then-not-is_user

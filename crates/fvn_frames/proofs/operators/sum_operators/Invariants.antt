@@ -1,5 +1,5 @@
 -- The operators of the subterms so far.
-use Rattle.std.proofs.Common.{◌≡◌, ◌≢◌, ◌⊎◌, ℕ, ◌<◌, ◌≤◌, true, false, length, map, take, slice_get, slice_index, slice_index_or, Option, Some, None, All, Contains}
+use Rattle.std.proofs.Common.{take}
 use Rattle.fvn_frames.specs.inner.Reading.{AreOperatorsAmong}
 use Rattle.fvn_frames.proofs.operators.sum_operators.Given as goal
 

@@ -1,7 +1,6 @@
 -- One more operator.
-use Rattle.std.proofs.Common.{◌≡◌, ◌≢◌, ◌⊎◌, ℕ, suc, ◌+◌, ◌<◌, ◌≤◌, true, false, List, [], ◌∷◌, ◌++◌, length, map, take, get_or, refl, sym, ap, ◌∙◌, subst, inl, inr, arith, Option, Some, None, All, Contains}
-use Rattle.std.proofs.lemmas.Bool.{false≢true, cases_lt}
-use Rattle.fvn_nodes.specs.States.{IsOpen, class_of}
+use Rattle.std.proofs.Common.{◌≡◌, [], ◌∷◌, ◌++◌, map, take, sym, ap, ◌∙◌, subst, All}
+use Rattle.fvn_nodes.specs.States.{class_of}
 use Rattle.std.proofs.lemmas.List.{map_push, take_more}
 use Rattle.std.proofs.lemmas.List.Elements.{All-push}
 use Rattle.fvn_frames.specs.Readings.{AreSums}

@@ -1,5 +1,5 @@
 -- The operators so far.
-use Rattle.std.proofs.Common.{◌≡◌, ◌≢◌, ◌⊎◌, ℕ, ◌<◌, ◌≤◌, true, false, length, map, take, slice_get, slice_index, slice_index_or, Option, Some, None, All, Contains}
+use Rattle.std.proofs.Common.{◌≡◌, map, take, All}
 use Rattle.fvn_nodes.specs.States.{class_of}
 use Rattle.fvn_frames.specs.Readings.{AreSums}
 use Rattle.fvn_frames.proofs.reading.all_sums.Given as goal

@@ -1,7 +1,6 @@
 -- The operator with its system.
-use Rattle.std.proofs.Common.{◌≡◌, ◌≢◌, ◌⊎◌, ℕ, suc, ◌+◌, ◌<◌, ◌≤◌, true, false, List, [], ◌∷◌, ◌++◌, length, map, take, get_or, refl, sym, ap, ◌∙◌, subst, inl, inr, arith, Option, Some, None, All, Contains}
-use Rattle.std.proofs.lemmas.Bool.{false≢true, cases_lt}
-use Rattle.fvn_nodes.specs.States.{IsOpen, class_of}
+use Rattle.std.proofs.Common.{sym, subst}
+use Rattle.fvn_nodes.specs.States.{class_of}
 use Rattle.fvn_frames.specs.Readings.{AreSums}
 use Rattle.fvn_frames.proofs.Gathered.{sums_are}
 use Rattle.fvn_frames.proofs.reading.sums_of.Goals as goal

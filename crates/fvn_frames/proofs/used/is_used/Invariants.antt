@@ -1,5 +1,5 @@
 -- No row so far uses the column.
-use Rattle.std.proofs.Common.{◌≡◌, ◌≢◌, ◌⊎◌, ℕ, ◌<◌, ◌≤◌, true, false, length, map, take, slice_get, slice_index, slice_index_or, Option, Some, None, All, Contains}
+use Rattle.std.proofs.Common.{◌≡◌, ◌≢◌, ℕ, ◌<◌, slice_index_or}
 use Rattle.std.specs.Prelude.{ℤ, pos, List}
 use Rattle.fvn_lindio.specs.Systems.{coefficients_of}
 use Rattle.fvn_frames.proofs.used.is_used.Given as goal

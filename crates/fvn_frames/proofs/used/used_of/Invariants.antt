@@ -1,5 +1,5 @@
 -- The columns so far.
-use Rattle.std.proofs.Common.{◌≡◌, ◌≢◌, ◌⊎◌, ℕ, ◌<◌, ◌≤◌, true, false, length, map, take, slice_get, slice_index, slice_index_or, Option, Some, None, All, Contains}
+use Rattle.std.proofs.Common.{◌≡◌, ◌≢◌, ℕ, ◌<◌, true, false, length, slice_index_or}
 use Rattle.std.specs.Prelude.{pos, ◌↔◌, Any}
 use Rattle.fvn_lindio.specs.Systems.{rows_of}
 use Rattle.fvn_frames.proofs.used.used_of.Given as goal

@@ -1,5 +1,5 @@
 -- No operator so far uses the class.
-use Rattle.std.proofs.Common.{◌≡◌, ◌≢◌, ◌⊎◌, ℕ, ◌<◌, ◌≤◌, true, false, length, map, take, slice_get, slice_index, slice_index_or, Option, Some, None, All, Contains}
+use Rattle.std.proofs.Common.{ℕ, ◌<◌, ◌≤◌}
 use Rattle.fvn_frames.specs.inner.Users.{IsUserAt}
 use Rattle.fvn_frames.proofs.users.first_user.Given as goal
 

@@ -1,6 +1,5 @@
 -- One after the first.
-use Rattle.std.proofs.Common.{◌≡◌, ◌≢◌, ◌⊎◌, ℕ, ◌+◌, ◌<◌, ◌≤◌, true, false, [], ◌∷◌, ◌++◌, length, map, take, get_or, refl, sym, ap, ◌∙◌, subst, inl, inr, arith, Option, Some, None, All, Contains}
-use Rattle.std.proofs.lemmas.Bool.{false≢true, cases_lt}
+use Rattle.std.proofs.Common.{sym, ◌∙◌}
 use Rattle.fvn_frames.proofs.Using.{two_users}
 use Rattle.fvn_frames.proofs.users.has_two_users.Goals as goal
 

@@ -1,5 +1,5 @@
 -- No column so far is of the class and used.
-use Rattle.std.proofs.Common.{◌≡◌, ◌≢◌, ◌⊎◌, ℕ, ◌<◌, ◌≤◌, true, false, length, map, take, slice_get, slice_index, slice_index_or, Option, Some, None, All, Contains}
+use Rattle.std.proofs.Common.{◌≡◌, ℕ, ◌<◌, true, false, slice_index, slice_index_or}
 use Rattle.fvn_frames.proofs.users.is_user.Given as goal
 
 abbrev pub invariant-loop-j : goal.invariant-loop-j
