@@ -86,7 +86,7 @@ module _ (d : Declarations) (f : OpId) where
 
   -- one that is not associative builds its constant over nothing alone
   pub build_constant : (IsAssociative (axioms d f) → ⊥) → (vs : List FlatTerm) → build d f vs ≡ fconstant f → vs ≡ []
-  build_constant not vs e = go (axioms d f) refl
+  build_constant plain vs e = go (axioms d f) refl
     where
       nothing : (l : List FlatTerm) → fpack l ≡ fnone → l ≡ []
       nothing l p = sym (funpack-fpack l) ∙ ap funpack p
@@ -94,8 +94,8 @@ module _ (d : Declarations) (f : OpId) where
       go : (a : Axioms) → axioms d f ≡ a → vs ≡ []
       go Free i = nothing vs (ap under (sym (build_free i vs) ∙ e))
       go Comm i = sort_is_nil vs (nothing (sort vs) (ap under (sym (build_commutative i vs) ∙ e)))
-      go AssocComm i = absurd (not (subst IsAssociative (sym i) tt))
-      go (AssocCommId o) i = absurd (not (subst IsAssociative (sym i) tt))
+      go AssocComm i = absurd (plain (subst IsAssociative (sym i) tt))
+      go (AssocCommId o) i = absurd (plain (subst IsAssociative (sym i) tt))
 
   -- what is neither a sum of f nor its identity is a single summand
   pub single_part : (v : FlatTerm) → (IsSumOf f v → ⊥) → ((e : OpId) → identity (axioms d f) ≡ Some e → v ≡ fconstant e → ⊥) → parts d f v ≡ v ∷ []

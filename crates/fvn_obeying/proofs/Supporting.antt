@@ -27,6 +27,12 @@ count_none q (t ∷ l) n =
     let rest = count_none q l (λ c. n (contains_later t l q c)) in
     omega (arith, first, rest)
 
+zeroes_long : (n : ℕ) → length {A = ℕ} (replicate n 0) ≡ n
+zeroes_long n = length-replicate n 0
+
+zeroes_at : (n j e : ℕ) → j < n → get_or {A = ℕ} (replicate n 0) j e ≡ 0
+zeroes_at n j e l = get_or-replicate n j 0 e l
+
 contains_flat_map : {X A : Type 0} (f : X → List A) (xs : List X) (x : X) (a : A) → Contains xs x → Contains (f x) a → Contains (flat_map f xs) a
 contains_flat_map f [] x a c h = absurd (contains_none x c)
 contains_flat_map f (y ∷ xs) x a c h = elim (contains_cases y xs x c) [
@@ -43,11 +49,11 @@ module _ (d : Declarations) (class : ℕ → ℕ) (f : OpId) (values : ℕ → F
   unfolding listed
   nothing q out =
       let c = meet.counts q in
-      same_lists (meet.counted q) (replicate system.columns 0) (c.sized ∙ sym wide ∙ sym (length-replicate system.columns 0))
+      same_lists (meet.counted q) (replicate system.columns 0) (c.sized ∙ sym wide ∙ sym (zeroes_long system.columns))
       (λ j e l.
       let within : j < length columns = let s = c.sized in omega (arith, l, s) in
       let zero : get_or (meet.counted q) j 0 ≡ 0 = none_at j within in
-      get_or_default (meet.counted q) j e 0 l ∙ zero ∙ sym (get_or-replicate system.columns j 0 e (omega (arith, within, wide))))
+      get_or_default (meet.counted q) j e 0 l ∙ zero ∙ sym (zeroes_at system.columns j e (omega (arith, within, wide))))
     where
       none_at : (j : ℕ) → j < length columns → get_or (meet.counted q) j 0 ≡ 0
       none_at j l = elim (cases_eq (get_or (meet.counted q) j 0) 0) [

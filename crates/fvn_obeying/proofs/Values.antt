@@ -1,6 +1,6 @@
 -- The values of classes: constants are single summands, and bound classes have summands.
 use Rattle.std.proofs.Common.{◌≡◌, ◌≢◌, ◌⊎◌, ℕ, zero, suc, ◌+◌, ◌-◌, ◌*◌, ◌<◌, ◌≤◌, true, false, List, [], ◌∷◌, length, map, get_or, refl, sym, ap, ◌∙◌, subst, inl, inr, arith, All, AllPairs, Contains, Option, Some, None, slice_get}
-use Rattle.std.specs.Prelude.{Bool, nat_eq, nat_lt, cond, ℤ, pos, negsuc, ◌-ℤ◌, ◌↔◌}
+use Rattle.std.specs.Prelude.{Bool, if◌then◌else◌, nat_eq, nat_lt, cond, ℤ, pos, negsuc, ◌-ℤ◌, ◌↔◌}
 use Rattle.std.specs.List.{AllByRecursion}
 use Rattle.std.proofs.lemmas.Bool.{cases_eq, cases_lt, eq-eqb, ne_eqb, ltb-true, ltb-false}
 use Rattle.std.proofs.lemmas.List.{length-map}
@@ -51,6 +51,9 @@ zero_told (negsuc n) = inr (λ e. let f : below (negsuc n) ≡ 0 = ap below e in
 
 equal_parts : (m n : ℕ) → pos m -ℤ pos n ≡ pos 0 → m ≡ n
 equal_parts m n e = let b = balance m n in let a : above (pos m -ℤ pos n) ≡ 0 = ap above e in let c : below (pos m -ℤ pos n) ≡ 0 = ap below e in omega (arith, a, b, c)
+
+over_addends : (f : OpId) (a b : ℕ) → addends f (Some (App f (a ∷ b ∷ []))) ≡ Some (a, b)
+over_addends f a b = ap (λ t. if t then Some (a, b) else None) (same_op_itself f)
 
 identity_of : (a : Axioms) (e : OpId) → HasNoIdentity a → identity a ≡ Some e → ⊥
 identity_of Free e b i = cc
@@ -204,7 +207,7 @@ module _ (d : Declarations) (t : NodeTable) (made : IsWellMade t) (has : HasSums
         }
       where
         addends_are : addends f (slice_get t.nodes h.member) ≡ Some (a, b)
-        addends_are = ap (addends f) over ∙ ap (λ b2. cond b2 (Some (a, b)) None) (same_op_itself f)
+        addends_are = ap (addends f) over ∙ over_addends f a b
 
         no_unit : (u : (j : ℕ) × (p : OpId × ℕ) × (j < length t.units) × (get_or t.units j p ≡ p) × ((p.0 ≡ f) × (class p.1 ≡ k))) → ⊥
         no_unit (j, p, l, at, same) = let u = has.units p (j, l, at) in identity_of (axioms d f) u.0 h.no_identity (ap (λ o. identity (axioms d o)) (sym same.0) ∙ u.1)

@@ -28,8 +28,7 @@ loop-j-preserved c =
             let last : get_or now j false ≡ b = ap (λ xs. get_or xs j false) pushed ∙ get_or_push u b false j m in
             let at : get_or now k false ≡ b = ap (λ n. get_or now n false) (sym is) ∙ last in
             let rows = ap coefficients_of c.as_slice.ensures in
-            let told = c.is_used.ensures in
-            (
+            let told = c.is_used.ensures in (
               λ e. subst IsUsedAt is (subst (λ rs. Any (λ row. get_or row j (pos 0) ≢ pos 0) rs) rows (told.0 (sym at ∙ e))),
               λ a. at ∙ told.1 (subst (λ rs. Any (λ row. get_or row j (pos 0) ≢ pos 0) rs) (sym rows) (subst IsUsedAt (sym is) a)),
             )
