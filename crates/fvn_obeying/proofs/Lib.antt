@@ -6,3 +6,6 @@ mod Supporting
 mod Telling
 mod Kinded
 mod Tagging
+mod Combined
+mod Laying
+mod Aliases

@@ -81,14 +81,14 @@ module _ (law : CountsSolve) (d : Declarations) (t : NodeTable) (made : IsWellMa
           meets = record {
             distinct = asked.distinct;
             once = λ c m q.
-                let r = (asked.constants c).0 m in
+                let r = (asked.are_constant c).0 m in
                 let k = get_or columns c 0 in
                 let n = (solve q).1.used c r.0 (not_unused c r.0 r.1.used) in
                 let a = ap (count q) (constant_alone d t made has s frame told values go_with tag obey f k r.1) in
                 omega (arith, n, a);
             different = λ c e m n ne v b p q.
-                let rc = (asked.constants c).0 m in
-                let re = (asked.constants e).0 n in
+                let rc = (asked.are_constant c).0 m in
+                let re = (asked.are_constant e).0 n in
                 let k = get_or columns c 0 in
                 let l = get_or columns e 0 in
                 let left : 0 < component columns v k = let a = component_at columns v is.distinct c rc.0 in omega (arith, a, p) in

@@ -32,5 +32,5 @@ module _ (d : Declarations) (t : NodeTable) (class : ℕ → ℕ) (tag : ℕ →
   -- the constant columns for f, and for each column whether it may be zero
   pub record AreAsked (f : OpId) (columns constants : List ℕ) (may_be_zero : List Bool) : Type 0 where
     pub distinct : AllPairs ◌≢◌ constants
-    pub constants : (j : ℕ) → Contains constants j ↔ ((j < length columns) × IsConstant f (slice_index columns j))
+    pub are_constant : (j : ℕ) → Contains constants j ↔ ((j < length columns) × IsConstant f (slice_index columns j))
     pub required : (j : ℕ) → (slice_index_or may_be_zero j true ≡ false) ↔ ((j < length columns) × IsRequired f (slice_index columns j))

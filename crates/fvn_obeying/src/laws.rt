@@ -2,6 +2,8 @@
 ghost use Rattle.fvn_obeying.specs.Laws.{
   ValuesMeetWhatIsAsked,
   ValuesChoose,
+  ValuesAreLaidOut,
+  NoAliases,
   ReadingsTell,
   TablesHaveSums,
   TagsExist,
@@ -10,7 +12,7 @@ ghost use Rattle.fvn_obeying.specs.Laws.{
 
 use fvn_nodes::unifiers_partition;
 use fvn_sums::{counts_solve, unifiers_have_values};
-use fvn_supports::{counts_are_made_up, pieces_choose};
+use fvn_supports::{counts_are_made_up, made_up_by_taken, pieces_choose};
 
 /// The counts of values that go with a frame meet what is asked of the choice for an operator.
 pub fn values_meet_what_is_asked()
@@ -26,6 +28,18 @@ pub fn values_choose()
     values_meet_what_is_asked();
     counts_are_made_up();
     pieces_choose();
+}
+
+/// The summands of values are the pieces, laid out.
+pub fn values_are_laid_out()
+    ensures { ValuesAreLaidOut }
+{}
+
+/// A value with two summands or more is no sum of a single constant.
+pub fn no_aliases()
+    ensures { NoAliases }
+{
+    made_up_by_taken();
 }
 
 /// A reading tells what heads and uses all classes.

@@ -4,6 +4,6 @@
 mod laws;
 
 pub use laws::{
-    readings_tell, tables_have_sums, tags_exist, unifiers_go_with, values_choose,
-    values_meet_what_is_asked,
+    no_aliases, readings_tell, tables_have_sums, tags_exist, unifiers_go_with, values_are_laid_out,
+    values_choose, values_meet_what_is_asked,
 };
