@@ -1,18 +1,18 @@
 -- The summands of values as pieces that are laid out, and no shared class that is a sum of a single class.
-use Rattle.std.proofs.Common.{◌≡◌, ◌≢◌, ◌⊎◌, ℕ, ◌+◌, ◌<◌, ◌≤◌, true, List, [], ◌∷◌, length, get_or, refl, sym, ap, ◌∙◌, subst, inl, inr, arith, All, Contains, Option, Some}
+use Rattle.std.proofs.Common.{◌≡◌, ℕ, ◌<◌, ◌≤◌, true, List, [], length, get_or, sym, ap, ◌∙◌, inl, inr, arith, All, Contains}
 use Rattle.std.specs.Prelude.{Bool, ◌↔◌}
 use Rattle.std.proofs.lemmas.Bool.{cases_lt}
 use Rattle.std.proofs.lemmas.List.Elements.{All-contains_itself, All-weaker}
 use Rattle.fvn_terms.specs.declared.plain.OpId.{OpId}
 use Rattle.fvn_terms.specs.declared.declarations.Declarations.{Declarations}
 use Rattle.fvn_forms.specs.Flat.{FlatTerm}
-use Rattle.fvn_forms.specs.InOrder.{sort, count, SameCounts}
+use Rattle.fvn_forms.specs.InOrder.{SameCounts}
 use Rattle.fvn_forms.specs.Canon.{parts}
 use Rattle.fvn_forms.proofs.InOrder.{sort_same_counts, length_sort}
 use Rattle.fvn_lindio.specs.declared.system.System.{System}
 use Rattle.fvn_lindio.specs.Systems.{IsMinimal, IsUnused, rows_of}
 use Rattle.fvn_acunify.specs.ValidChoice.{chosen, column_sum}
-use Rattle.fvn_supports.specs.Pieces.{has_some, number_of, taken}
+use Rattle.fvn_supports.specs.Pieces.{has_some, number_of}
 use Rattle.fvn_supports.specs.Laws.{MadeUpByTaken}
 use Rattle.fvn_obeying.specs.LaidOut.{laid_out}
 use Rattle.fvn_obeying.specs.Laws.{IsChosen}

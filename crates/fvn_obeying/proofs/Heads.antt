@@ -1,5 +1,5 @@
 -- What heads the values that operators build.
-use Rattle.std.proofs.Common.{◌≡◌, ℕ, ◌+◌, ◌<◌, ◌≤◌, true, false, List, [], ◌∷◌, ◌++◌, length, refl, sym, ap, ◌∙◌, subst, arith, Option, Some, None}
+use Rattle.std.proofs.Common.{◌≡◌, ◌≤◌, true, false, List, [], ◌∷◌, ◌++◌, length, refl, sym, ap, ◌∙◌, subst, arith, Option, Some, None}
 use Rattle.std.specs.Prelude.{Bool, if◌then◌else◌}
 use Rattle.std.specs.List.{AllByRecursion}
 use Rattle.std.proofs.lemmas.List.{length-append}
@@ -14,7 +14,7 @@ use Rattle.fvn_forms.specs.InOrder.{sort}
 use Rattle.fvn_forms.specs.Canon.{same_op, identity, is_identity, parts, all_parts, joined, built, build}
 use Rattle.fvn_forms.specs.Settled.{Settled}
 use Rattle.fvn_forms.proofs.InOrder.{length_sort}
-use Rattle.fvn_forms.proofs.Sums.{funpack-fpack, same_op_is, same_op_itself}
+use Rattle.fvn_forms.proofs.Sums.{funpack-fpack, same_op_is}
 use Rattle.fvn_forms.proofs.Build.{build_sum, parts_none, sort_is_nil}
 use Rattle.fvn_flat.specs.Partitions.{HasNoIdentity}
 use Rattle.fvn_obeying.specs.Obeying.{IsSumOf}

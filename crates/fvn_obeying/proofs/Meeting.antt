@@ -1,6 +1,6 @@
 -- What is counted of values that go with a frame meets what is asked of a choice.
-use Rattle.std.proofs.Common.{◌≡◌, ◌≢◌, ◌⊎◌, ℕ, zero, suc, ◌+◌, ◌<◌, true, false, List, [], ◌∷◌, length, map, get_or, refl, sym, ap, ◌∙◌, subst, inl, inr, arith, All, AllPairs, Contains, Option, Some, slice_get}
-use Rattle.std.specs.Prelude.{Bool, ℤ, pos, ◌↔◌, if◌then◌else◌}
+use Rattle.std.proofs.Common.{◌≡◌, ◌≢◌, ℕ, zero, suc, ◌<◌, List, [], ◌∷◌, length, get_or, refl, sym, ap, ◌∙◌, subst, inl, inr, arith, All, AllPairs, Contains, Option, slice_get}
+use Rattle.std.specs.Prelude.{Bool, pos, ◌↔◌, if◌then◌else◌}
 use Rattle.std.proofs.lemmas.Bool.{cases_order, eq-eqb, ne_eqb}
 use Rattle.std.proofs.lemmas.List.{get_or-map}
 use Rattle.std.proofs.lemmas.List.Elements.{All-contains, All-contains_itself, All-weaker, Contains-get_or}
@@ -9,21 +9,19 @@ use Rattle.fvn_base.proofs.Pigeonhole.{AllPairs-tail, AllPairs-first}
 use Rattle.fvn_terms.specs.declared.plain.OpId.{OpId}
 use Rattle.fvn_terms.specs.declared.declarations.Declarations.{Declarations}
 use Rattle.fvn_terms.specs.Signature.{axioms}
-use Rattle.fvn_forms.specs.Flat.{FlatTerm, fconstant}
-use Rattle.fvn_forms.specs.Order.{same_flat}
-use Rattle.fvn_forms.specs.InOrder.{one_if, count}
+use Rattle.fvn_forms.specs.Flat.{FlatTerm}
+use Rattle.fvn_forms.specs.InOrder.{count}
 use Rattle.fvn_forms.specs.Canon.{identity, parts}
 use Rattle.fvn_forms.proofs.Build.{parts_identity}
 use Rattle.fvn_lindio.specs.declared.system.System.{System}
-use Rattle.fvn_lindio.specs.Systems.{IsMinimal, IsUnused, Solves, rows_of}
+use Rattle.fvn_lindio.specs.Systems.{IsMinimal, IsUnused, rows_of}
 use Rattle.fvn_flat.specs.SolvedLists.{component}
-use Rattle.fvn_nodes.specs.Table.{NodeTable, IsWellMade, IsOver}
+use Rattle.fvn_nodes.specs.Table.{NodeTable, IsWellMade}
 use Rattle.fvn_nodes.specs.States.{class_of}
 use Rattle.fvn_nodes.specs.declared.state.State.{State}
 use Rattle.fvn_sums.specs.NodeSystems.{addends, sums, coefficient, row_at, IsNodeSystem}
-use Rattle.fvn_sums.specs.Values.{AddUp, AddsNothing, Counts}
+use Rattle.fvn_sums.specs.Values.{AddUp, AddsNothing}
 use Rattle.fvn_sums.specs.Laws.{CountsSolve}
-use Rattle.fvn_supports.specs.Pieces.{Meets}
 use Rattle.fvn_frames.specs.Frames.{IsFrame, IsSumOperator, Uses}
 use Rattle.fvn_obeying.specs.Binding.{AreAsked}
 use Rattle.fvn_obeying.specs.Obeying.{HasSums, IsTold, GoWith, ObeyTags}

@@ -1,5 +1,5 @@
 -- Values that go with a frame choose minimal solutions, with pieces.
-use Rattle.std.proofs.Common.{◌≡◌, ◌⊎◌, ℕ, zero, suc, ◌+◌, ◌<◌, List, [], ◌∷◌, ◌++◌, length, replicate, get_or, refl, sym, ap, ◌∙◌, subst, inl, inr, arith, All, Contains, Option}
+use Rattle.std.proofs.Common.{◌≡◌, ℕ, ◌<◌, List, [], ◌∷◌, length, replicate, get_or, refl, sym, ap, ◌∙◌, subst, inl, inr, arith, All, Contains}
 use Rattle.std.specs.Prelude.{Bool, ◌↔◌}
 use Rattle.std.specs.List.{flat_map}
 use Rattle.std.proofs.lemmas.Bool.{cases_eq, false_from_ne_true}
@@ -15,7 +15,6 @@ use Rattle.fvn_forms.specs.Canon.{parts}
 use Rattle.fvn_forms.proofs.Order.{same_flat_is}
 use Rattle.fvn_lindio.specs.declared.system.System.{System}
 use Rattle.fvn_lindio.specs.Systems.{IsMinimal, rows_of}
-use Rattle.fvn_sums.specs.Values.{Counts}
 use Rattle.fvn_supports.specs.Laws.{CountsAreMadeUp, PiecesChoose}
 use Rattle.fvn_obeying.specs.Laws.{CountsMeet, IsChosen}
 

@@ -1,19 +1,18 @@
 -- Tags that values obey, and the values of unifiers.
-use Rattle.std.proofs.Common.{◌≡◌, ◌≢◌, ℕ, ◌<◌, true, false, List, length, refl, sym, ap, ◌∙◌, subst, arith, All, Contains, Option, Some, None}
-use Rattle.std.specs.Prelude.{Bool, ◌↔◌}
-use Rattle.std.specs.List.{list_any}
+use Rattle.std.proofs.Common.{◌≡◌, ℕ, ◌<◌, true, false, length, sym, ap, ◌∙◌, arith, Option, Some, None}
+use Rattle.std.specs.Prelude.{◌↔◌}
 use Rattle.fvn_terms.specs.declared.plain.OpId.{OpId}
 use Rattle.fvn_terms.specs.declared.declarations.Declarations.{Declarations}
 use Rattle.fvn_terms.specs.Substitution.{Substitution, apply}
 use Rattle.fvn_terms.specs.Unifiers.{Problem}
-use Rattle.fvn_forms.specs.Flat.{FlatTerm, FlatTerms, fvar, fapp}
+use Rattle.fvn_forms.specs.Flat.{FlatTerm, fvar, fapp}
 use Rattle.fvn_forms.specs.FitsKinds.{FitsKinds}
 use Rattle.fvn_forms.proofs.ToCanon.{b_equal_iff_canon}
 use Rattle.fvn_flat.specs.Problems.{IsProblem}
 use Rattle.fvn_flat.specs.SolvedLists.{IsKindUnifier}
 use Rattle.fvn_nodes.specs.Table.{NodeTable, IsWellMade, IsTableOf, term_at}
-use Rattle.fvn_nodes.specs.States.{Admits, IsClosed, class_of, is_apart}
-use Rattle.fvn_nodes.specs.Unifiers.{value_at, kernel, first_at}
+use Rattle.fvn_nodes.specs.States.{Admits, IsClosed, class_of}
+use Rattle.fvn_nodes.specs.Unifiers.{value_at, kernel}
 use Rattle.fvn_nodes.specs.declared.state.State.{State}
 use Rattle.fvn_terms.proofs.Equal.{HasKind-apply}
 use Rattle.fvn_nodes.specs.Laws.{UnifiersPartition}

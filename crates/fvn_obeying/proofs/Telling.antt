@@ -1,6 +1,6 @@
 -- What a reading tells of all classes.
-use Rattle.std.proofs.Common.{◌≡◌, ◌≢◌, ◌⊎◌, ℕ, zero, suc, ◌+◌, ◌<◌, ◌≤◌, true, false, List, [], ◌∷◌, length, map, get_or, refl, sym, ap, ◌∙◌, subst, inl, inr, arith, All, Contains, Option, Some, None}
-use Rattle.std.specs.Prelude.{Bool, nat_eq, ◌&&◌, ◌||◌, ◌↔◌}
+use Rattle.std.proofs.Common.{◌≡◌, ◌≢◌, ◌⊎◌, ℕ, zero, suc, ◌<◌, true, false, List, [], ◌∷◌, length, get_or, refl, sym, ap, ◌∙◌, subst, inl, inr, arith, Option, Some, None}
+use Rattle.std.specs.Prelude.{Bool, nat_eq, ◌&&◌, ◌||◌}
 use Rattle.std.proofs.lemmas.Bool.{cases_lt, cases_Bool, eqb-true, eq-eqb, and_parts, and_from, or_cases, or_left, or_right, true≢false}
 use Rattle.std.proofs.lemmas.List.{get_or_default}
 use Rattle.std.proofs.lemmas.List.Elements.{All-contains}
@@ -11,13 +11,13 @@ use Rattle.fvn_terms.specs.declared.plain.OpId.{OpId}
 use Rattle.fvn_terms.specs.declared.declarations.Declarations.{Declarations}
 use Rattle.fvn_forms.specs.Canon.{same_op}
 use Rattle.fvn_forms.proofs.Sums.{same_op_is, same_op_itself}
-use Rattle.fvn_nodes.specs.Table.{NodeTable, IsWellMade}
+use Rattle.fvn_nodes.specs.Table.{NodeTable}
 use Rattle.fvn_nodes.specs.States.{IsClosed, class_of}
 use Rattle.fvn_nodes.specs.declared.state.State.{State}
 use Rattle.fvn_nodes.specs.declared.table.Node.TheVariants.{App}
 use Rattle.fvn_nodes.proofs.Admitting.{named_within}
 use Rattle.std.proofs.lemmas.Option.{slice_get_within}
-use Rattle.fvn_frames.specs.Frames.{IsSumOperator, IsSolid, Uses}
+use Rattle.fvn_frames.specs.Frames.{IsSolid, Uses}
 use Rattle.fvn_frames.specs.Readings.{AreSums, IsReading}
 use Rattle.fvn_frames.specs.declared.reading.Sums.{Sums}
 use Rattle.fvn_frames.specs.declared.reading.Reading.{Reading}

@@ -1,10 +1,9 @@
 -- The values of classes: constants are single summands, and bound classes have summands.
-use Rattle.std.proofs.Common.{◌≡◌, ◌≢◌, ◌⊎◌, ℕ, zero, suc, ◌+◌, ◌-◌, ◌*◌, ◌<◌, ◌≤◌, true, false, List, [], ◌∷◌, length, map, get_or, refl, sym, ap, ◌∙◌, subst, inl, inr, arith, All, AllPairs, Contains, Option, Some, None, slice_get}
-use Rattle.std.specs.Prelude.{Bool, if◌then◌else◌, nat_eq, nat_lt, cond, ℤ, pos, negsuc, ◌-ℤ◌, ◌↔◌}
+use Rattle.std.proofs.Common.{◌≡◌, ◌≢◌, ◌⊎◌, ℕ, zero, suc, ◌+◌, ◌-◌, ◌<◌, ◌≤◌, true, false, List, [], ◌∷◌, length, map, get_or, refl, sym, ap, ◌∙◌, subst, inl, inr, arith, Contains, Option, Some, None, slice_get}
+use Rattle.std.specs.Prelude.{Bool, if◌then◌else◌, nat_lt, cond, ℤ, pos, negsuc, ◌-ℤ◌}
 use Rattle.std.specs.List.{AllByRecursion}
-use Rattle.std.proofs.lemmas.Bool.{cases_eq, cases_lt, eq-eqb, ne_eqb, ltb-true, ltb-false}
+use Rattle.std.proofs.lemmas.Bool.{cases_eq, eq-eqb, ne_eqb, ltb-true, ltb-false}
 use Rattle.std.proofs.lemmas.List.{length-map}
-use Rattle.std.proofs.lemmas.List.Elements.{Contains-get_or}
 use Rattle.std.proofs.lemmas.Option.{slice_get_within}
 use Rattle.fvn_base.proofs.Membership.{contains_cases, contains_none, contains_filter}
 use Rattle.fvn_terms.specs.declared.plain.OpId.{OpId}
@@ -13,10 +12,9 @@ use Rattle.fvn_terms.specs.declared.declarations.Axioms.TheVariants.{Free, Comm,
 use Rattle.fvn_terms.specs.declared.declarations.Declarations.{Declarations}
 use Rattle.fvn_terms.specs.Signature.{axioms}
 use Rattle.fvn_terms.specs.Equality.{IsAssociative}
-use Rattle.fvn_forms.specs.Flat.{FlatTerm, FlatTerms, fvar, fapp, funpack, fconstant}
-use Rattle.fvn_forms.specs.Order.{same_flat}
+use Rattle.fvn_forms.specs.Flat.{FlatTerm, FlatTerms, fapp, funpack, fconstant}
 use Rattle.fvn_forms.specs.InOrder.{one_if, count}
-use Rattle.fvn_forms.specs.Canon.{same_op, identity, parts, build}
+use Rattle.fvn_forms.specs.Canon.{identity, parts, build}
 use Rattle.fvn_forms.specs.Settled.{Settled}
 use Rattle.fvn_forms.proofs.InOrder.{count_itself}
 use Rattle.fvn_forms.proofs.Sums.{same_op_itself}
@@ -24,12 +22,12 @@ use Rattle.fvn_forms.proofs.Build.{count_parts_build}
 use Rattle.fvn_lindio.specs.Systems.{above, below}
 use Rattle.fvn_flat.specs.Partitions.{HasNoIdentity}
 use Rattle.fvn_nodes.specs.Table.{NodeTable, IsWellMade, IsOver}
-use Rattle.fvn_nodes.specs.States.{IsNaming, IsOpen, class_of, is_apart}
+use Rattle.fvn_nodes.specs.States.{IsOpen, class_of}
 use Rattle.fvn_nodes.specs.declared.state.State.{State}
 use Rattle.fvn_nodes.specs.declared.table.Node.TheVariants.{App}
 use Rattle.fvn_nodes.proofs.Nodes.{arguments_within}
 use Rattle.fvn_nodes.proofs.Admitting.{decided, named_within}
-use Rattle.fvn_sums.specs.NodeSystems.{is_headed, pair, addends, sums, stands_in, coefficient, IsIdentityClass, IsNodeColumn}
+use Rattle.fvn_sums.specs.NodeSystems.{is_headed, addends, stands_in, coefficient, IsNodeColumn}
 use Rattle.fvn_frames.specs.Frames.{IsSolid, Uses, IsShared, MayBeConstant, HaveTwoHeads, IsFrame}
 use Rattle.fvn_obeying.specs.Binding.{IsBound, solid, alone, tagged, IsConstant, IsRequired}
 use Rattle.fvn_obeying.specs.Obeying.{HasSums, IsTold, GoWith, IsSumOf, ObeyTags}
