@@ -84,17 +84,16 @@ readings_tell d t s closed r reading = record { heads = heads; users = users }
       | inr none ↦ inr (λ g u. elim (cases_Bool (same_op g f)) [
         | inl same ↦ same_op_is g f same
         | inr n ↦ absurd (
-          let c = map_contains (λ e. e.operator) r.sums g ((reading.operators.exact g).1 (record { associative = u.associative; sum = u.row; listed = u.listed })) in
-          let e = c.0 in
-          let are = All-contains (AreSums d t (class_of s)) r.sums e reading.sums c.1.0 in
-          let v : Uses d t (class_of s) e.operator k = subst (λ o. Uses d t (class_of s) o k) (sym c.1.1) u in
-          let m = (are.is_system.exact k).1 v.column in
-          let at : get_or e.columns m.0 0 ≡ k = get_or_default e.columns m.0 0 k m.1 ∙ m.2 in
-          let mark = (are.exact m.0 m.1).1 (subst (Uses d t (class_of s) e.operator) (sym at) v) in
-          none e c.1.0
-          (
-            λ is. true≢false (sym (ap (λ o. same_op o f) (sym c.1.1 ∙ is) ∙ same_op_itself f) ∙ n),
-            marked_from e.columns e.used k m.0 m.1 at mark,
-          ))
+            let c = map_contains (λ e. e.operator) r.sums g ((reading.operators.exact g).1 (record { associative = u.associative; sum = u.row; listed = u.listed })) in
+            let e = c.0 in
+            let are = All-contains (AreSums d t (class_of s)) r.sums e reading.sums c.1.0 in
+            let v : Uses d t (class_of s) e.operator k = subst (λ o. Uses d t (class_of s) o k) (sym c.1.1) u in
+            let m = (are.is_system.exact k).1 v.column in
+            let at : get_or e.columns m.0 0 ≡ k = get_or_default e.columns m.0 0 k m.1 ∙ m.2 in
+            let mark = (are.exact m.0 m.1).1 (subst (Uses d t (class_of s) e.operator) (sym at) v) in
+            none e c.1.0 (
+              λ is. true≢false (sym (ap (λ o. same_op o f) (sym c.1.1 ∙ is) ∙ same_op_itself f) ∙ n),
+              marked_from e.columns e.used k m.0 m.1 at mark,
+            ))
       ])
     ]
