@@ -23,7 +23,7 @@ use Rattle.fvn_supports.specs.Pieces.{has_some, number_of, AreMadeUp, Meets, Sta
 use Rattle.fvn_frames.specs.Frames.{IsFrame, IsSumOperator}
 use Rattle.fvn_frames.specs.Readings.{IsReading}
 use Rattle.fvn_frames.specs.declared.reading.Reading.{Reading}
-use Rattle.fvn_obeying.specs.Binding.{AreAsked}
+use Rattle.fvn_plans.specs.Binding.{AreAsked}
 use Rattle.fvn_obeying.specs.LaidOut.{laid_out}
 use Rattle.fvn_obeying.specs.Obeying.{HasSums, IsTold, GoWith, ObeyTags}
 

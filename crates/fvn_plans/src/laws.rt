@@ -1,0 +1,27 @@
+//! Laws of choices and their plans, each the contract of a function that does nothing.
+ghost use Rattle.fvn_plans.specs.Laws.{
+  ValidChoicesAreAcceptable,
+  PlannedBindingsAreSolved,
+  PlannedBindingsUnfoldToNew,
+  SizesAddUp,
+};
+
+/// A choice is acceptable where it is valid for what is asked.
+pub fn valid_choices_are_acceptable()
+    ensures { ValidChoicesAreAcceptable }
+{}
+
+/// The bindings of a plan are a solved list.
+pub fn planned_bindings_are_solved()
+    ensures { PlannedBindingsAreSolved }
+{}
+
+/// What they unfold to has new variables alone.
+pub fn planned_bindings_unfold_to_new()
+    ensures { PlannedBindingsUnfoldToNew }
+{}
+
+/// The sizes of what they unfold to add up.
+pub fn sizes_add_up()
+    ensures { SizesAddUp }
+{}
