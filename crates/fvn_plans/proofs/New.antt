@@ -24,7 +24,7 @@ use Rattle.fvn_nodes.specs.declared.table.Node.TheVariants.{App}
 use Rattle.fvn_nodes.proofs.Nodes.{arguments_within}
 use Rattle.fvn_frames.specs.Frames.{IsSumOperator}
 use Rattle.fvn_plans.specs.Choosing.{Systems, Choice}
-use Rattle.fvn_plans.specs.Plans.{IsForSolution, IsFormBy, unfolding}
+use Rattle.fvn_plans.specs.Plans.{IsForSolution, IsFormBy, unfolds_to}
 use Rattle.fvn_plans.specs.Laws.{IsPlanned, PlannedBindingsUnfoldToNew}
 use Rattle.fvn_plans.proofs.Triangular.{unfolded_bound, unfolded_occurs}
 use Rattle.fvn_plans.proofs.Places.{own_class, variable_node}
@@ -112,7 +112,7 @@ module _ {d : Declarations} {given : Pairs} {first : ℕ} {t : NodeTable} {s : S
       let e : z ≡ plan.name (class_of s n.0) = subst (λ u. Occurs z (plain u)) (r.2 ∙ ap (λ m. fvar (plan.name m)) own) o in
       subst IsNewOne (sym e) (name_new (class_of s n.0) (class_within h n.0 n.1))
 
-  pub unfolding_new : (x : Var) → Contains (variables_of (problem_of given)) x → (z : Var) → Occurs z (plain (unfolding d bindings x)) → IsNewOne z
+  pub unfolding_new : (x : Var) → Contains (variables_of (problem_of given)) x → (z : Var) → Occurs z (plain (unfolds_to d bindings x)) → IsNewOne z
   unfolding_new x m z o =
       let n = variable_node h.well_made h.table x m in
       let own = ap (class_at t (class_of s)) (sym n.2) ∙ own_class h.well_made h.table (class_of s) n.0 n.1 in

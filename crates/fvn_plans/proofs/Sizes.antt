@@ -25,7 +25,7 @@ use Rattle.fvn_nodes.specs.declared.state.State.{State}
 use Rattle.fvn_supports.specs.Laws.{CombinationsSolve}
 use Rattle.fvn_sums.specs.Laws.{CountsSolve}
 use Rattle.fvn_plans.specs.Choosing.{Systems, Choice}
-use Rattle.fvn_plans.specs.Plans.{IsFormBy, unfolding, size_in}
+use Rattle.fvn_plans.specs.Plans.{IsFormBy, unfolds_to, size_in}
 use Rattle.fvn_plans.specs.Laws.{IsPlanned, SizesAddUp}
 use Rattle.fvn_plans.proofs.Triangular.{unfolding_bound, unfolding_settled}
 use Rattle.fvn_plans.proofs.Columns.{all_from}
@@ -57,7 +57,7 @@ module _ {d : Declarations} {given : Pairs} {first : ℕ} {t : NodeTable} {s : S
 
   module _ (solve : CountsSolve) (combine : CombinationsSolve) where
     abbrev AddsUp : FlatTerm → Type 0
-    AddsUp u = symbols (inst d (unfolding d bindings) u) ≡ size_in (λ x. symbols (unfolding d bindings x)) u
+    AddsUp u = symbols (inst d (unfolds_to d bindings) u) ≡ size_in (λ x. symbols (unfolds_to d bindings x)) u
 
     class_adds : (k : ℕ) → IsClass d (problem_of given) (class_at t (class_of s)) k → (u : FlatTerm) → bound_as d (problem_of given) (class_at t (class_of s)) plan (plan.form k) k ≡ Some u → AddsUp u
     class_adds k is u e = go (plan.form k) (h.plan_by.forms k (class_below h k is)) e
@@ -71,21 +71,21 @@ module _ {d : Declarations} {given : Pairs} {first : ℕ} {t : NodeTable} {s : S
             let m = by.1 in
             let ts = pack (map (term_at t.nodes) m.arguments) in
             let same = sym (over_classes_is h by.0 m.operator m.arguments m.over) ∙ ap (over_classes d (problem_of given) (class_at t (class_of s)) plan) by.2 ∙ some_same _ u e in
-            subst AddsUp same (size_built d (unfolding d bindings) (unfolding_settled d bindings) m.operator m.simple (eval_all d fvar (names_of d (problem_of given) (class_at t (class_of s)) plan ts)) (names_variables ts))
+            subst AddsUp same (size_built d (unfolds_to d bindings) (unfolding_settled d bindings) m.operator m.simple (eval_all d fvar (names_of d (problem_of given) (class_at t (class_of s)) plan ts)) (names_variables ts))
         go (as_sum f) by e =
             let sum_of = bound_operator h f k by in
             let l = members_of d (problem_of given) (class_at t (class_of s)) plan f k in
             subst AddsUp (some_same _ u e)
-            (size_sum d (unfolding d bindings) (unfolding_settled d bindings) f sum_of.associative l (members_or_identity h f k by)
+            (size_sum d (unfolds_to d bindings) (unfolding_settled d bindings) f sum_of.associative l (members_or_identity h f k by)
             (each_member IsVariable (plan.columns f) (plan.parts f) k (λ p m some. (p.variable, refl)))
-            (each_instance h (IsPiece d f) l (each_member (λ w. IsPiece d f (inst d (unfolding d bindings) w)) (plan.columns f) (plan.parts f) k (λ p m some. part_piece h solve combine f sum_of p m))))
+            (each_instance h (IsPiece d f) l (each_member (λ w. IsPiece d f (inst d (unfolds_to d bindings) w)) (plan.columns f) (plan.parts f) k (λ p m some. part_piece h solve combine f sum_of p m))))
 
     binding_adds : (b : Var × FlatTerm) → IsBinding d (problem_of given) (class_at t (class_of s)) plan b → AddsUp b.1
     binding_adds b (inl r) = class_adds r.0 r.1 b.1 r.3
     binding_adds b (inr r) = subst AddsUp (sym r.2) refl
 
-    pub sizes_are_sums : All (λ b. symbols (unfolding d bindings b.0) ≡ size_in (λ x. symbols (unfolding d bindings x)) b.1) bindings
-    sizes_are_sums = all_from (λ b. symbols (unfolding d bindings b.0) ≡ size_in (λ x. symbols (unfolding d bindings x)) b.1) bindings (λ b m.
+    pub sizes_are_sums : All (λ b. symbols (unfolds_to d bindings b.0) ≡ size_in (λ x. symbols (unfolds_to d bindings x)) b.1) bindings
+    sizes_are_sums = all_from (λ b. symbols (unfolds_to d bindings b.0) ≡ size_in (λ x. symbols (unfolds_to d bindings x)) b.1) bindings (λ b m.
         ap symbols (unfolding_bound d bindings h.bindings_by.triangular b m) ∙ binding_adds b (All-contains (IsBinding d (problem_of given) (class_at t (class_of s)) plan) bindings b h.bindings_by.no_other m))
 
 pub sizes_add_up : CountsSolve → CombinationsSolve → SizesAddUp

@@ -42,7 +42,7 @@ use Rattle.fvn_sums.specs.Laws.{CountsSolve}
 use Rattle.fvn_frames.specs.Frames.{IsSumOperator, Uses}
 use Rattle.fvn_plans.specs.Binding.{IsBound, IsConstant}
 use Rattle.fvn_plans.specs.Choosing.{Systems, Choice, taken}
-use Rattle.fvn_plans.specs.Plans.{IsSimpleAt, unfolding}
+use Rattle.fvn_plans.specs.Plans.{IsSimpleAt, unfolds_to}
 use Rattle.fvn_plans.specs.Laws.{IsPlanned}
 use Rattle.fvn_plans.proofs.Triangular.{unfolding_bound, unfolding_settled}
 use Rattle.fvn_plans.proofs.Columns.{all_from, component_at, sum_by_map}
@@ -77,26 +77,26 @@ map_class value class (k ∷ ks) = ap (λ l. value (class k) ∷ l) (map_class v
 module _ {d : Declarations} {given : Pairs} {first : ℕ} {t : NodeTable} {s : State} {y : Systems} {c : Choice} {next : ℕ} {plan : Plan} {bindings : Bindings} (h : IsPlanned d given first t s y c next plan bindings) where
   -- what each class unfolds to
   abbrev pub value : ℕ → FlatTerm
-  value k = unfolding d bindings (plan.name k)
+  value k = unfolds_to d bindings (plan.name k)
 
   -- the instance of what it is bound to
-  pub value_bound : (k : ℕ) → IsClass d (problem_of given) (class_at t (class_of s)) k → (u : FlatTerm) → bound_to d (problem_of given) (class_at t (class_of s)) plan k ≡ Some u → value k ≡ inst d (unfolding d bindings) u
+  pub value_bound : (k : ℕ) → IsClass d (problem_of given) (class_at t (class_of s)) k → (u : FlatTerm) → bound_to d (problem_of given) (class_at t (class_of s)) plan k ≡ Some u → value k ≡ inst d (unfolds_to d bindings) u
   value_bound k is u e = unfolding_bound d bindings h.bindings_by.triangular (plan.name k, u) (h.bindings_by.classes k u is e)
 
   -- the values of the classes of arguments
-  eval_names : (ks : List ℕ) → All (λ k. k < length t.nodes) ks → eval_all d (unfolding d bindings) (names_of d (problem_of given) (class_at t (class_of s)) plan (pack (map (term_at t.nodes) ks))) ≡ map (λ k. value (class_of s k)) ks
+  eval_names : (ks : List ℕ) → All (λ k. k < length t.nodes) ks → eval_all d (unfolds_to d bindings) (names_of d (problem_of given) (class_at t (class_of s)) plan (pack (map (term_at t.nodes) ks))) ≡ map (λ k. value (class_of s k)) ks
   eval_names [] l = refl
   eval_names (k ∷ ks) l =
       let P = λ (k : ℕ). k < length t.nodes in
-      ap (λ n. value n ∷ eval_all d (unfolding d bindings) (names_of d (problem_of given) (class_at t (class_of s)) plan (pack (map (term_at t.nodes) ks)))) (own_class h.well_made h.table (class_of s) k (All-head P k ks l))
+      ap (λ n. value n ∷ eval_all d (unfolds_to d bindings) (names_of d (problem_of given) (class_at t (class_of s)) plan (pack (map (term_at t.nodes) ks)))) (own_class h.well_made h.table (class_of s) k (All-head P k ks l))
       ∙ ap (λ l. value (class_of s k) ∷ l) (eval_names ks (All-tail P k ks l))
 
   -- what a free or commutative operator makes of the names of classes
-  pub over_value : (i : ℕ) (f : OpId) (ks : List ℕ) → IsOver t.nodes i f ks → inst d (unfolding d bindings) (over_classes d (problem_of given) (class_at t (class_of s)) plan (term_at t.nodes i)) ≡ build d f (map (λ k. value (class_of s k)) ks)
+  pub over_value : (i : ℕ) (f : OpId) (ks : List ℕ) → IsOver t.nodes i f ks → inst d (unfolds_to d bindings) (over_classes d (problem_of given) (class_at t (class_of s)) plan (term_at t.nodes i)) ≡ build d f (map (λ k. value (class_of s k)) ks)
   over_value i f ks over =
       let named = app f (names_of d (problem_of given) (class_at t (class_of s)) plan (pack (map (term_at t.nodes) ks))) in
-      ap (inst d (unfolding d bindings)) (over_classes_is h i f ks over)
-      ∙ sym (eval_canon d (unfolding d bindings) (unfolding_settled d bindings) named)
+      ap (inst d (unfolds_to d bindings)) (over_classes_is h i f ks over)
+      ∙ sym (eval_canon d (unfolds_to d bindings) (unfolding_settled d bindings) named)
       ∙ ap (build d f) (eval_names ks (arguments_within t.nodes h.well_made.ordered i f ks over))
 
   class_at_node : (i : ℕ) (n : Node) → slice_get t.nodes i ≡ Some n → IsClass d (problem_of given) (class_at t (class_of s)) (class_of s i)
@@ -156,7 +156,7 @@ module _ {d : Declarations} {given : Pairs} {first : ℕ} {t : NodeTable} {s : S
           go (AssocCommId o) e = absurd (subst IsSimple e simple)
 
   -- the value of a class that is bound to a sum
-  pub value_sum : (f : OpId) (k : ℕ) → IsClass d (problem_of given) (class_at t (class_of s)) k → IsBound d t (class_of s) c.tag f k → value k ≡ inst d (unfolding d bindings) (sum d f (members_of d (problem_of given) (class_at t (class_of s)) plan f k))
+  pub value_sum : (f : OpId) (k : ℕ) → IsClass d (problem_of given) (class_at t (class_of s)) k → IsBound d t (class_of s) c.tag f k → value k ≡ inst d (unfolds_to d bindings) (sum d f (members_of d (problem_of given) (class_at t (class_of s)) plan f k))
   value_sum f k is bound =
       let form = form_of_sum h.partition k (plan.form k) (h.plan_by.forms k (class_below h k is)) f bound in
       value_bound k is (sum d f (members_of d (problem_of given) (class_at t (class_of s)) plan f k)) (ap (λ g. bound_as d (problem_of given) (class_at t (class_of s)) plan g k) form)
@@ -173,16 +173,16 @@ module _ {d : Declarations} {given : Pairs} {first : ℕ} {t : NodeTable} {s : S
 
   module _ (f : OpId) (sum_of : IsSumOperator d t f) (q : FlatTerm) where
     abbrev of : Part → ℕ
-    of = of_part d f (unfolding d bindings) q
+    of = of_part d f (unfolds_to d bindings) q
 
     -- how often q is a summand of the value of a class that is bound to a sum of f
     count_bound : (k : ℕ) → IsClass d (problem_of given) (class_at t (class_of s)) k → IsBound d t (class_of s) c.tag f k → count q (parts d f (value k)) ≡ weighed of (times_in (plan.columns f) k) (plan.parts f)
     count_bound k is bound =
         let l = members_of d (problem_of given) (class_at t (class_of s)) plan f k in
         ap (λ v. count q (parts d f v)) (value_sum f k is bound)
-        ∙ ap (count q) (parts_inst_sum d (unfolding d bindings) (unfolding_settled d bindings) f sum_of.associative l (members_or_identity f k bound))
-        ∙ count_sort q (all_parts d f (map (inst d (unfolding d bindings)) l))
-        ∙ count_members d f (unfolding d bindings) q (plan.columns f) (plan.parts f) k
+        ∙ ap (count q) (parts_inst_sum d (unfolds_to d bindings) (unfolding_settled d bindings) f sum_of.associative l (members_or_identity f k bound))
+        ∙ count_sort q (all_parts d f (map (inst d (unfolds_to d bindings)) l))
+        ∙ count_members d f (unfolds_to d bindings) q (plan.columns f) (plan.parts f) k
 
     -- and of a constant
     count_constant : (k : ℕ) → IsConstant d t (class_of s) c.tag f k → count q (parts d f (value k)) ≡ weighed of (times_in (plan.columns f) k) (plan.parts f)
@@ -194,7 +194,7 @@ module _ {d : Declarations} {given : Pairs} {first : ℕ} {t : NodeTable} {s : S
         ∙ ap (λ l. sum_by (λ v. component l v k) (taken y c f)) (h.plan_by.columns f sum_of)
         ∙ (h.possible.acceptable f sum_of).once k is
         in
-        let w = weighed_alike of (times_in (plan.columns f) k) m (plan.parts f) (λ p c some. ap (λ x. count q (parts d f (unfolding d bindings x))) (part_named h f sum_of p c k is (let e = component_is h f sum_of p k in omega (arith, e, some)))) in
+        let w = weighed_alike of (times_in (plan.columns f) k) m (plan.parts f) (λ p c some. ap (λ x. count q (parts d f (unfolds_to d bindings x))) (part_named h f sum_of p c k is (let e = component_is h f sum_of p k in omega (arith, e, some)))) in
         let o = ap (λ j. m * j) n in
         omega (arith, w, o)
 
