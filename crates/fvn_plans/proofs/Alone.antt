@@ -130,7 +130,7 @@ module _ {d : Declarations} {given : Pairs} {first : ℕ} {t : NodeTable} {s : S
       solid_piece : IsAssociative (axioms d g) → IsSolid d t (class_of s) g k → IsPiece d f (value h k)
       solid_piece assoc r =
           let two = (has_sums h).pairs r.member g r.arguments r.over assoc in
-          let p = pair_of (has_sums h) (class_of s) g k r.arguments two.0 in
+          let p = pair_of r.arguments two.0 in
           let at = ap (value h) (sym r.of) ∙ (are_values h solve combine).built r.member g r.arguments r.over ∙ ap (λ l. build d g (map (λ k. value h (class_of s k)) l)) p.are in
           long_piece d f g other (value h k)
           (subst (λ v. 2 ≤ length (parts d g v)) (sym at) (long_sum d g r.no_identity assoc (value h (class_of s p.left)) (value h (class_of s p.right)) (unfolding_settled d bindings (plan.name (class_of s p.left))) (unfolding_settled d bindings (plan.name (class_of s p.right)))))

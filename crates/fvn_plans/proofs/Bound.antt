@@ -69,7 +69,7 @@ module _ {d : Declarations} {t : NodeTable} {class : ℕ → ℕ} (partition : I
     simple_unbound f k i h (alone u soft only) = soft h.operator (simple_solid k i h)
     simple_unbound f k i h (tagged u shared e) = shared.soft h.operator (simple_solid k i h)
 
-  module _ {y : Systems} {c : Choice} (k : ℕ) (form : Form) (by : IsFormBy d t class y c k form) where
+  module _ (y : Systems) (c : Choice) (k : ℕ) (form : Form) (by : IsFormBy d t class y c k form) where
     -- a class that is bound to a sum has its form
     pub form_of_sum : (f : OpId) → IsBound d t class c.tag f k → form ≡ as_sum f
     form_of_sum f h = go form by

@@ -47,6 +47,12 @@ use Rattle.fvn_plans.proofs.Parts.{HasConstant, HasNone, part_stands}
 use Rattle.fvn_plans.proofs.Members.{each_member}
 use Rattle.fvn_plans.proofs.Standing.{some_members}
 
+bare : (a : Axioms) → identity a ≡ None → HasNoIdentity a
+bare Free e = tt
+bare Comm e = tt
+bare AssocComm e = tt
+bare (AssocCommId o) e = cc
+
 module _ {d : Declarations} (good : IsGood d) where
   -- a kind that a term has is a sort, and its own kind
   pub kind_itself : (u : Term) (k : SortId) → HasKind d u k → IsSort d k × (kind d k ≡ k)
@@ -103,10 +109,10 @@ module _ {d : Declarations} {given : Pairs} {first : ℕ} {t : NodeTable} {s : S
       (r.0, (named, record { rank = over.rank; listed = over.listed; gives = over.result }))
 
   -- what stands for a solution has the kind of f
-  pub part_kind : (f : OpId) (sum : IsSumOperator d t f) (k : SortId) → IsKindOf h.good f k → (p : Part) → Contains (plan.parts f) p → HasKind d (var p.variable) k
-  part_kind f sum k of p m = elim (part_stands h f sum p m) [
+  pub part_kind : (f : OpId) (sum_of : IsSumOperator d t f) (k : SortId) → IsKindOf h.good f k → (p : Part) → Contains (plan.parts f) p → HasKind d (var p.variable) k
+  part_kind f sum_of k of p m = elim (part_stands h f sum_of p m) [
     | inl r ↦
-        let q = column_kind f sum.associative r.number r.constant.used.column in
+        let q = column_kind f sum_of.associative r.number r.constant.used.column in
         subst (λ x. HasKind d (var x) k) (sym r.named) (subst (HasKind d (var (plan.name r.number))) (kind_of_unique h.good f q.0 k q.1.1 of) q.1.0)
     | inr r ↦
         let new = r.new in
@@ -123,12 +129,6 @@ module _ {d : Declarations} {given : Pairs} {first : ℕ} {t : NodeTable} {s : S
     where
       empty : (i : Option OpId) → identity (axioms d f) ≡ i → (HasNoIdentity (axioms d f) → ⊥) → HasKind d (plain (empty_sum d f i)) q
       empty None e n = absurd (n (bare (axioms d f) e))
-        where
-          bare : (a : Axioms) → identity a ≡ None → HasNoIdentity a
-          bare Free e = tt
-          bare Comm e = tt
-          bare AssocComm e = tt
-          bare (AssocCommId o) e = cc
       empty (Some o) e n = subst (HasKind d (constant o)) of.gives (h.good.fits.identity f o of.rank (identity_is (axioms d f) o e) of.listed)
 
       go : (l : List FlatTerm) → members_of d (problem_of given) (class_at t (class_of s)) plan f k ≡ l → AllByRecursion (λ u. HasKind d (plain u) q) l → HasKind d (plain (sum d f l)) q
@@ -171,13 +171,13 @@ module _ {d : Declarations} {given : Pairs} {first : ℕ} {t : NodeTable} {s : S
           let within = slice_get_within t.nodes i (App m.operator m.arguments) m.over in
           let r = term_kinded i within in
           let named = class_kind i k within m.of r.0 r.1 in
-          let whole = canon_of_kind d h.good.fits _ r.0 (over_names_kind i m.operator m.arguments m.over r.0 r.1) in
+          let whole = canon_of_kind d h.good.fits (app m.operator (names_of d (problem_of given) (class_at t (class_of s)) plan (pack (map (term_at t.nodes) m.arguments)))) r.0 (over_names_kind i m.operator m.arguments m.over r.0 r.1) in
           let same = sym (over_classes_is i m.operator m.arguments m.over) ∙ ap (over_classes d (problem_of given) (class_at t (class_of s)) plan) by.2 ∙ some_same _ u e in
           subst (HasKind d (plain u)) (sym named.1) (subst (λ w. HasKind d (plain w) r.0) same whole)
       go (as_sum f) by e =
-          let sum = bound_operator h f k by in
-          let column = ((h.systems.is_system f sum).exact k).0 (bound_column (has_sums h) (class_of s) y h.systems c f sum k by) in
-          let q = column_kind f sum.associative k column in
+          let sum_of = bound_operator h f k by in
+          let column = ((h.systems.is_system f sum_of).exact k).0 (bound_column (has_sums h) (class_of s) y h.systems c f sum_of k by) in
+          let q = column_kind f sum_of.associative k column in
           subst (HasKind d (plain u)) (sym q.1.0.1) (subst (λ w. HasKind d (plain w) q.0) (some_same _ u e) (sum_kind f k by q.0 q.1.1))
 
   binding_kind : (b : Var × FlatTerm) → IsBinding d (problem_of given) (class_at t (class_of s)) plan b → HasKind d (plain b.1) (kind d b.0.sort)

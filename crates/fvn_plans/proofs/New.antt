@@ -1,5 +1,5 @@
 -- What the bindings of a plan unfold to has new variables alone.
-use Rattle.std.proofs.Common.{◌≡◌, ℕ, ◌+◌, ◌<◌, ◌≤◌, true, List, [], ◌∷◌, length, map, sym, ap, ◌∙◌, subst, inl, inr, arith, All, Contains, Some, slice_get}
+use Rattle.std.proofs.Common.{◌≡◌, ◌≢◌, ℕ, ◌+◌, ◌<◌, ◌≤◌, true, List, [], ◌∷◌, length, map, sym, ap, ◌∙◌, subst, inl, inr, arith, All, Contains, Some, slice_get}
 use Rattle.std.specs.List.{AllByRecursion}
 use Rattle.std.proofs.lemmas.List.Elements.{All-head, All-tail, All-contains}
 use Rattle.std.proofs.lemmas.Option.{slice_get_within}
@@ -96,7 +96,7 @@ module _ {d : Declarations} {given : Pairs} {first : ℕ} {t : NodeTable} {s : S
           let within = slice_get_within t.nodes by.0 (App m.operator m.arguments) m.over in
           let r = term_kinded h by.0 within in
           let same = sym (some_same _ u e) ∙ ap (over_classes d (problem_of given) (class_at t (class_of s)) plan) (sym by.2) ∙ over_classes_is h by.0 m.operator m.arguments m.over in
-          let there = canon_occurs d h.good.fits z _ r.0 (over_names_kind h by.0 m.operator m.arguments m.over r.0 r.1) (subst (λ w. Occurs z (plain w)) same o) in
+          let there = canon_occurs d h.good.fits z (app m.operator (names_of d (problem_of given) (class_at t (class_of s)) plan (pack (map (term_at t.nodes) m.arguments)))) r.0 (over_names_kind h by.0 m.operator m.arguments m.over r.0 r.1) (subst (λ w. Occurs z (plain w)) same o) in
           names_new z m.arguments (arguments_within t.nodes h.well_made.ordered by.0 m.operator m.arguments m.over) there
       go (as_sum f) by e =
           let sum = bound_operator h f k by in
@@ -121,7 +121,7 @@ module _ {d : Declarations} {given : Pairs} {first : ℕ} {t : NodeTable} {s : S
       let inside = canon_occurs d h.good.fits z (unfolded bindings x) (kind d x.sort) (bindings_keep h x there.0) o in
       let within = class_within h n.0 n.1 in
       let named = plan.name (class_at t (class_of s) (var x)) in
-      let other = λ same. name_not_given h (class_of s n.0) within (subst (Contains (variables_of (problem_of given))) (sym same ∙ ap plan.name own) m) in
+      let other : named ≢ x = λ same. name_not_given h (class_of s n.0) within (subst (Contains (variables_of (problem_of given))) (sym same ∙ ap plan.name own) m) in
       let at = unfolded_bound bindings h.bindings_by.triangular (x, fvar named) (h.bindings_by.variables x m other) in
       elim (unfolded_occurs bindings named z (subst (Occurs z) at inside)) [
         | inl e ↦ subst IsNewOne (sym (ap plan.name own) ∙ e) (name_new (class_of s n.0) within)
@@ -129,4 +129,4 @@ module _ {d : Declarations} {given : Pairs} {first : ℕ} {t : NodeTable} {s : S
       ]
 
 pub unfold_to_new : PlannedBindingsUnfoldToNew
-unfold_to_new d given first t s y c next plan bindings h x z m o = let n = unfolding_new h x m z o in (n.fresh, n.above, n.below, n.sort, n.kind_is)
+unfold_to_new = λ d given first t s y c next plan bindings h x z m o. let n = unfolding_new h x m z o in (n.fresh, n.above, n.below, n.sort, n.kind_is)

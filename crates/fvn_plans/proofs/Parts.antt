@@ -55,7 +55,7 @@ module _ {d : Declarations} {given : Pairs} {first : ℕ} {t : NodeTable} {s : S
 
   constant_decided : (k : ℕ) → Contains (y.columns f) k → Decided (IsConstant d t (class_of s) c.tag f k)
   constant_decided k m = elim (uses_decided d t (class_of s) f (y.columns f) (y.system f) is_system sum.associative k) [
-    | inl u ↦ elim (bound_decided h.partition k (plan.form k) (h.plan_by.forms k (column_below h f k ((is_system.exact k).0 m))) f) [
+    | inl u ↦ elim (bound_decided h.partition y c k (plan.form k) (h.plan_by.forms k (column_below h f k ((is_system.exact k).0 m))) f) [
       | inl b ↦ inr (λ is. is.not_bound b)
       | inr n ↦ inl record { used = u; not_bound = n }
     ]

@@ -89,4 +89,4 @@ module _ {d : Declarations} {given : Pairs} {first : ℕ} {t : NodeTable} {s : S
         ap symbols (unfolding_bound d bindings h.bindings_by.triangular b m) ∙ binding_adds b (All-contains (IsBinding d (problem_of given) (class_at t (class_of s)) plan) bindings b h.bindings_by.no_other m))
 
 pub sizes_add_up : CountsSolve → CombinationsSolve → SizesAddUp
-sizes_add_up solve combine d given first t s y c next plan bindings h = sizes_are_sums h solve combine
+sizes_add_up solve combine = λ d given first t s y c next plan bindings h. sizes_are_sums h solve combine

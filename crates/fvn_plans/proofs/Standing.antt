@@ -79,11 +79,11 @@ module _ {d : Declarations} {given : Pairs} {first : ℕ} {t : NodeTable} {s : S
     constant_of : (p : Part) → Contains (plan.parts f) p → (k : ℕ) → IsClass d (problem_of given) (class_at t (class_of s)) k → plan.form k ≢ as_sum f → 0 < component (plan.columns f) p.solution k → IsConstant d t (class_of s) c.tag f k
     constant_of p m k is no_sum some = record {
       used = part_uses h f sum p m k (let e = component_is h f sum p k in omega (arith, e, some));
-      not_bound = λ b. no_sum (form_of_sum h.partition k (plan.form k) (h.plan_by.forms k (class_below h k is)) f b);
+      not_bound = λ b. no_sum (form_of_sum h.partition y c k (plan.form k) (h.plan_by.forms k (class_below h k is)) f b);
     }
 
     no_form : (k : ℕ) → IsConstant d t (class_of s) c.tag f k → plan.form k ≢ as_sum f
-    no_form k is e = is.not_bound (bound_of_form h.partition k (plan.form k) (h.plan_by.forms k (class_below h k (column_class h f k is.used.column))) f e)
+    no_form k is e = is.not_bound (bound_of_form h.partition y c k (plan.form k) (h.plan_by.forms k (class_below h k (column_class h f k is.used.column))) f e)
 
     stands : (p : Part) → Contains (plan.parts f) p → StandsForClass d (problem_of given) (class_at t (class_of s)) plan f p ⊎ StandsForNone d (problem_of given) (class_at t (class_of s)) plan f p
     stands p m = elim (part_stands h f sum p m) [
@@ -134,11 +134,11 @@ module _ {d : Declarations} {given : Pairs} {first : ℕ} {t : NodeTable} {s : S
       minimal = all_from (λ p. IsMinimal (y.system f).columns (rows_of (y.system f)) p.solution) (plan.parts f) (part_minimal h f sum);
       distinct = solutions_apart;
       standing = all_from (λ p. StandsForClass d (problem_of given) (class_at t (class_of s)) plan f p ⊎ StandsForNone d (problem_of given) (class_at t (class_of s)) plan f p) (plan.parts f) stands;
-      covered = λ k is used no_sum no_identity. covered k is used.0 used.1 used.2 used.3 no_sum;
+      covered = λ k is used no_sum no_identity. covers_used k is used.0 used.1 used.2 used.3 no_sum;
     }
       where
-        covered : (k : ℕ) → IsClass d (problem_of given) (class_at t (class_of s)) k → (i : ℕ) → i < length (plan.columns f) → slice_index (plan.columns f) i ≡ k → (IsUnused (rows_of (y.system f)) i → ⊥) → plan.form k ≢ as_sum f → Any (λ p. p.variable ≡ plan.name k) (plan.parts f)
-        covered k is i l e used no_sum =
+        covers_used : (k : ℕ) → IsClass d (problem_of given) (class_at t (class_of s)) k → (i : ℕ) → i < length (plan.columns f) → slice_index (plan.columns f) i ≡ k → (IsUnused (rows_of (y.system f)) i → ⊥) → plan.form k ≢ as_sum f → Any (λ p. p.variable ≡ plan.name k) (plan.parts f)
+        covers_used k is i l e used no_sum =
             let same = h.plan_by.columns f sum in
             let within : i < length (y.columns f) = subst (λ l. i < length l) same l in
             let at : get_or (y.columns f) i 0 ≡ k = ap (λ l. get_or l i 0) (sym same) ∙ e in
@@ -146,7 +146,7 @@ module _ {d : Declarations} {given : Pairs} {first : ℕ} {t : NodeTable} {s : S
               | inl u ↦
                   let constant : IsConstant d t (class_of s) c.tag f k = record {
                     used = subst (Uses d t (class_of s) f) at u;
-                    not_bound = λ b. no_sum (form_of_sum h.partition k (plan.form k) (h.plan_by.forms k (class_below h k is)) f b);
+                    not_bound = λ b. no_sum (form_of_sum h.partition y c k (plan.form k) (h.plan_by.forms k (class_below h k is)) f b);
                   }
                   in
                   let p = constant_part h f sum k constant in

@@ -117,7 +117,7 @@ module _ {d : Declarations} {given : Pairs} {first : ℕ} {t : NodeTable} {s : S
       let is = class_at_node i (App f ks) over in
       let below = class_below h k is in
       let own : IsSimpleAt d t (class_of s) y c k i = record { operator = f; arguments = ks; over = over; simple = simple; of = refl } in
-      let form = form_of_member h.partition k (plan.form k) (h.plan_by.forms k below) i own in
+      let form = form_of_member h.partition y c k (plan.form k) (h.plan_by.forms k below) i own in
       let m = form.simple in
       let e = ap (λ g. bound_as d (problem_of given) (class_at t (class_of s)) plan g k) form.is in
       let at = value_bound k is (over_classes d (problem_of given) (class_at t (class_of s)) plan (term_at t.nodes form.node)) e ∙ over_value form.node m.operator m.arguments m.over in
@@ -133,32 +133,32 @@ module _ {d : Declarations} {given : Pairs} {first : ℕ} {t : NodeTable} {s : S
           in_order : AreTogether (class_of s) ks ls → build d f (map (λ k. value (class_of s k)) ks) ≡ build d g (map (λ k. value (class_of s k)) ls)
           in_order e = ap (build d f) (map_class value (class_of s) ks ∙ ap (map value) e ∙ sym (map_class value (class_of s) ls)) ∙ ap (λ o. build d o (map (λ k. value (class_of s k)) ls)) one
 
+          crossing : (a b v w : ℕ) → ks ≡ a ∷ b ∷ [] → ls ≡ v ∷ w ∷ [] → IsCommutative (axioms d f) → MeetEitherWay (class_of s) a b v w ⊎ ⊥ → build d f (map (λ k. value (class_of s k)) ks) ≡ build d g (map (λ k. value (class_of s k)) ls)
+          crossing a b v w left right comm (inr n) = absurd n
+          crossing a b v w left right comm (inl (inl r)) = in_order (ap (map (class_of s)) left ∙ ap (λ k. k ∷ class_of s b ∷ []) r.0 ∙ ap (λ k. class_of s v ∷ k ∷ []) r.1 ∙ sym (ap (map (class_of s)) right))
+          crossing a b v w left right comm (inl (inr r)) =
+              let V = λ (k : ℕ). value (class_of s k) in
+              ap (λ l. build d f (map V l)) left
+              ∙ ap (λ k. build d f (value k ∷ V b ∷ [])) r.0
+              ∙ ap (λ k. build d f (V w ∷ value k ∷ [])) r.1
+              ∙ build_swap d f comm (V w) (V v)
+              ∙ sym (ap (λ l. build d f (map V l)) right)
+              ∙ ap (λ o. build d o (map V ls)) one
+
           go : (a : Axioms) → axioms d f ≡ a → build d f (map (λ k. value (class_of s k)) ks) ≡ build d g (map (λ k. value (class_of s k)) ls)
           go Free e = in_order (are.free e one)
           go Comm e =
               let comm : IsCommutative (axioms d f) = subst IsCommutative (sym e) tt in
-              let p = pair_of (has_sums h) (class_of s) f 0 ks (commutative_pair i f ks over comm) in
-              let q = pair_of (has_sums h) (class_of s) f 0 ls (commutative_pair j g ls there (subst (λ o. IsCommutative (axioms d o)) one comm)) in
+              let p = pair_of ks (commutative_pair i f ks over comm) in
+              let q = pair_of ls (commutative_pair j g ls there (subst (λ o. IsCommutative (axioms d o)) one comm)) in
               crossing p.left p.right q.left q.right p.are q.are comm (are.commutative e one p.left p.right q.left q.right p.are q.are)
-            where
-              crossing : (a b v w : ℕ) → ks ≡ a ∷ b ∷ [] → ls ≡ v ∷ w ∷ [] → IsCommutative (axioms d f) → MeetEitherWay (class_of s) a b v w ⊎ ⊥ → build d f (map (λ k. value (class_of s k)) ks) ≡ build d g (map (λ k. value (class_of s k)) ls)
-              crossing a b v w left right comm (inr n) = absurd n
-              crossing a b v w left right comm (inl (inl r)) = in_order (ap (map (class_of s)) left ∙ ap (λ k. k ∷ class_of s b ∷ []) r.0 ∙ ap (λ k. class_of s v ∷ k ∷ []) r.1 ∙ sym (ap (map (class_of s)) right))
-              crossing a b v w left right comm (inl (inr r)) =
-                  let V = λ (k : ℕ). value (class_of s k) in
-                  ap (λ l. build d f (map V l)) left
-                  ∙ ap (λ k. build d f (value k ∷ V b ∷ [])) r.0
-                  ∙ ap (λ k. build d f (V w ∷ value k ∷ [])) r.1
-                  ∙ build_swap d f comm (V w) (V v)
-                  ∙ sym (ap (λ l. build d f (map V l)) right)
-                  ∙ ap (λ o. build d o (map V ls)) one
           go AssocComm e = absurd (subst IsSimple e simple)
           go (AssocCommId o) e = absurd (subst IsSimple e simple)
 
   -- the value of a class that is bound to a sum
   pub value_sum : (f : OpId) (k : ℕ) → IsClass d (problem_of given) (class_at t (class_of s)) k → IsBound d t (class_of s) c.tag f k → value k ≡ inst d (unfolds_to d bindings) (sum d f (members_of d (problem_of given) (class_at t (class_of s)) plan f k))
   value_sum f k is bound =
-      let form = form_of_sum h.partition k (plan.form k) (h.plan_by.forms k (class_below h k is)) f bound in
+      let form = form_of_sum h.partition y c k (plan.form k) (h.plan_by.forms k (class_below h k is)) f bound in
       value_bound k is (sum d f (members_of d (problem_of given) (class_at t (class_of s)) plan f k)) (ap (λ g. bound_as d (problem_of given) (class_at t (class_of s)) plan g k) form)
 
   -- a sum has members, or its operator has an identity
@@ -194,9 +194,9 @@ module _ {d : Declarations} {given : Pairs} {first : ℕ} {t : NodeTable} {s : S
         ∙ ap (λ l. sum_by (λ v. component l v k) (taken y c f)) (h.plan_by.columns f sum_of)
         ∙ (h.possible.acceptable f sum_of).once k is
         in
-        let w = weighed_alike of (times_in (plan.columns f) k) m (plan.parts f) (λ p c some. ap (λ x. count q (parts d f (unfolds_to d bindings x))) (part_named h f sum_of p c k is (let e = component_is h f sum_of p k in omega (arith, e, some)))) in
-        let o = ap (λ j. m * j) n in
-        omega (arith, w, o)
+        let w = weighed_alike of (times_in (plan.columns f) k) m (plan.parts f) (λ p there some. ap (λ x. count q (parts d f (unfolds_to d bindings x))) (part_named h f sum_of p there k is (let e = component_is h f sum_of p k in omega (arith, e, some)))) in
+        let one : m * 1 ≡ m = omega arith in
+        sym (w ∙ ap (λ j. m * j) n ∙ one)
 
     abbrev rows : List (List ℤ)
     rows = rows_of (y.system f)
@@ -209,11 +209,9 @@ module _ {d : Declarations} {given : Pairs} {first : ℕ} {t : NodeTable} {s : S
     is_system = h.systems.is_system f sum_of
 
     solve_all : All (Solves (y.system f).columns rows) (map (λ p. p.solution) (plan.parts f))
-    unfolding rows
     solve_all = All-map (Solves (y.system f).columns (rows_of (y.system f))) (λ p. p.solution) (plan.parts f) (all_from (λ p. Solves (y.system f).columns (rows_of (y.system f)) p.solution) (plan.parts f) (λ p m. (part_minimal h f sum_of p m).solves))
 
     counted_at : (j : ℕ) → j < length (y.columns f) → get_or counted j 0 ≡ weighed of (times_in (plan.columns f) (get_or (y.columns f) j 0)) (plan.parts f)
-    unfolding rows counted
     counted_at j l =
         let sized = All-weaker (Solves (y.system f).columns (rows_of (y.system f))) (λ v. length v ≡ (y.system f).columns) (λ v r. r.sized) (map (λ p. p.solution) (plan.parts f)) solve_all in
         get_or-combination (y.system f).columns (map of (plan.parts f)) (map (λ p. p.solution) (plan.parts f)) sized j
@@ -221,7 +219,6 @@ module _ {d : Declarations} {given : Pairs} {first : ℕ} {t : NodeTable} {s : S
         ∙ weighed_same of (λ p. get_or p.solution j 0) (times_in (plan.columns f) (get_or (y.columns f) j 0)) (λ p. sym (component_at (y.columns f) p.solution is_system.distinct j l) ∙ sym (component_is h f sum_of p (get_or (y.columns f) j 0))) (plan.parts f)
 
     pub counts : CombinationsSolve → (x : List ℕ) × Counts d f value (y.columns f) rows q x × Solves (y.system f).columns rows x
-    unfolding rows counted
     counts law =
         let solves = law (y.system f).columns (rows_of (y.system f)) (map of (plan.parts f)) (map (λ p. p.solution) (plan.parts f)) solve_all in
         (counted, record { sized = solves.sized ∙ is_system.wide; used = used_at; unused = solves.unused }, solves)
@@ -232,7 +229,7 @@ module _ {d : Declarations} {given : Pairs} {first : ℕ} {t : NodeTable} {s : S
             elim (uses_or_unused d t (class_of s) f (y.columns f) (y.system f) is_system sum_of.associative j l) [
               | inl u ↦
                   let is = column_class h f k u.column in
-                  elim (bound_decided h.partition k (plan.form k) (h.plan_by.forms k (class_below h k is)) f) [
+                  elim (bound_decided h.partition y c k (plan.form k) (h.plan_by.forms k (class_below h k is)) f) [
                     | inl b ↦ counted_at j l ∙ sym (count_bound k is b)
                     | inr o ↦ counted_at j l ∙ sym (count_constant k (record { used = u; not_bound = o }))
                   ]
@@ -244,7 +241,7 @@ module _ {d : Declarations} {given : Pairs} {first : ℕ} {t : NodeTable} {s : S
     sum_built i f ks over assoc =
         let has = has_sums h in
         let two = has.pairs i f ks over assoc in
-        let p = pair_of has (class_of s) f 0 ks two.0 in
+        let p = pair_of ks two.0 in
         let sum_of = sum_operator h.well_made h.table f assoc i ks two.1 over in
         let add = (solve d t (class_of s) f assoc (y.columns f) (y.system f) (h.systems.is_system f sum_of) value (λ k. unfolding_settled d bindings (plan.name k)) (adds_nothing f)).1 (λ q. counts f sum_of q combine) in
         add i p.left p.right two.1 (subst (IsOver t.nodes i f) p.are over) ∙ ap (λ l. build d f (map (λ k. value (class_of s k)) l)) (sym p.are)
