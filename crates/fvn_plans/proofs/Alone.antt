@@ -1,5 +1,5 @@
 -- A constant unfolds to a single summand.
-use Rattle.std.proofs.Common.{◌≡◌, ◌≢◌, ℕ, ◌<◌, ◌≤◌, List, [], ◌∷◌, length, map, zero, suc, replicate, refl, sym, ap, ◌∙◌, subst, inl, inr, arith, All, Contains, Some, slice_get}
+use Rattle.std.proofs.Common.{◌≡◌, ◌≢◌, ℕ, ◌<◌, ◌≤◌, List, [], ◌∷◌, length, map, zero, suc, replicate, refl, sym, ap, ◌∙◌, subst, inl, inr, arith, All, Contains, Some}
 use Rattle.std.specs.List.{AllByRecursion}
 use Rattle.std.proofs.lemmas.Bool.{cases_lt}
 use Rattle.std.proofs.lemmas.List.{length-map}
@@ -17,17 +17,16 @@ use Rattle.fvn_forms.specs.Settled.{IsPiece}
 use Rattle.fvn_forms.proofs.InOrder.{length_sort}
 use Rattle.fvn_forms.proofs.Nests.{plain_list}
 use Rattle.fvn_forms.proofs.Sums.{all_parts-pieces}
-use Rattle.fvn_forms.proofs.Instances.{inst_sum, parts_inst_sum}
+use Rattle.fvn_forms.proofs.Instances.{parts_inst_sum}
 use Rattle.fvn_flat.specs.Bindings.{Bindings}
 use Rattle.fvn_flat.specs.Problems.{variables_of}
 use Rattle.fvn_flat.specs.Solving.{problem_of}
 use Rattle.fvn_flat.specs.SolvedLists.{Form, unbound, as_member, as_sum, Part, Plan, IsClass, IsBinding, members, members_of, bound_as}
 use Rattle.fvn_flat.specs.declared.solver.Pairs.{Pairs}
-use Rattle.fvn_nodes.specs.Table.{NodeTable, IsOver, term_at}
+use Rattle.fvn_nodes.specs.Table.{NodeTable, IsOver}
 use Rattle.fvn_nodes.specs.Laws.{class_at}
 use Rattle.fvn_nodes.specs.States.{class_of}
 use Rattle.fvn_nodes.specs.declared.state.State.{State}
-use Rattle.fvn_nodes.specs.declared.table.Node.TheVariants.{App}
 use Rattle.fvn_supports.specs.Laws.{CombinationsSolve}
 use Rattle.fvn_sums.specs.Laws.{CountsSolve}
 use Rattle.fvn_frames.specs.Frames.{IsSumOperator, IsSolid, IsShared}
@@ -37,8 +36,8 @@ use Rattle.fvn_plans.specs.Plans.{IsForSolution, IsFormBy, unfolds_to}
 use Rattle.fvn_plans.specs.Laws.{IsPlanned}
 use Rattle.fvn_plans.proofs.Triangular.{IsUnbound, triangular_induction, unfolding_unbound, unfolding_settled}
 use Rattle.fvn_plans.proofs.Solids.{pair_of}
-use Rattle.fvn_plans.proofs.Planned.{has_sums, class_below, class_node, column_class, name_not_given, solution_no_name, solution_not_given, bound_operator}
-use Rattle.fvn_plans.proofs.Parts.{HasConstant, HasNone, component_is, part_taken, part_stands}
+use Rattle.fvn_plans.proofs.Planned.{has_sums, class_below, column_class, name_not_given, solution_no_name, solution_not_given, bound_operator}
+use Rattle.fvn_plans.proofs.Parts.{component_is, part_taken, part_stands}
 use Rattle.fvn_plans.proofs.Members.{times_in, each_member}
 use Rattle.fvn_plans.proofs.Standing.{length_sum, names_are}
 use Rattle.fvn_plans.proofs.Values.{value, value_sum, simple_built, members_or_identity, are_values}

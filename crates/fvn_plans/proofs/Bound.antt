@@ -1,6 +1,5 @@
 -- A class is bound to a sum of one operator at most, and then no free or commutative operator heads a member.
-use Rattle.std.proofs.Common.{◌≡◌, ◌≢◌, ℕ, ◌<◌, true, List, length, refl, sym, ap, ◌∙◌, subst, inl, inr, Option, Some, slice_get}
-use Rattle.std.proofs.lemmas.Bool.{cases_Bool, true≢false}
+use Rattle.std.proofs.Common.{◌≡◌, ℕ, true, List, refl, sym, ap, ◌∙◌, subst, inl, inr, Option, Some}
 use Rattle.fvn_base.specs.Decided.{Decided}
 use Rattle.fvn_base.proofs.Decided.{decided_by}
 use Rattle.fvn_terms.specs.declared.plain.OpId.{OpId}

@@ -1,5 +1,5 @@
 -- Bindings by a plan keep kinds.
-use Rattle.std.proofs.Common.{◌≡◌, ◌≢◌, ℕ, ◌<◌, List, [], ◌∷◌, length, map, refl, sym, ap, ◌∙◌, subst, inl, inr, arith, All, Contains, Option, Some, None, slice_get}
+use Rattle.std.proofs.Common.{◌≡◌, ℕ, ◌<◌, List, [], ◌∷◌, length, map, refl, sym, ap, ◌∙◌, subst, inl, inr, arith, All, Contains, Option, Some, None}
 use Rattle.std.specs.List.{AllByRecursion}
 use Rattle.std.proofs.lemmas.List.Elements.{All-head, All-tail, All-contains}
 use Rattle.std.proofs.lemmas.Option.{slice_get_within}
@@ -11,10 +11,10 @@ use Rattle.fvn_terms.specs.declared.declarations.Axioms.{Axioms}
 use Rattle.fvn_terms.specs.declared.declarations.Axioms.TheVariants.{Free, Comm, AssocComm, AssocCommId}
 use Rattle.fvn_terms.specs.declared.declarations.Rank.{Rank}
 use Rattle.fvn_terms.specs.declared.declarations.Declarations.{Declarations}
-use Rattle.fvn_terms.specs.Term.{Term, Terms, var, app, none, more, pack}
+use Rattle.fvn_terms.specs.Term.{Term, var, app, pack}
 use Rattle.fvn_terms.specs.Signature.{kind, declared, axioms, IsSort, HasKind, HaveKinds, IsTerm, KeepsKinds}
 use Rattle.fvn_terms.specs.Equality.{constant, IsAssociative}
-use Rattle.fvn_forms.specs.Flat.{FlatTerm, fvar, fconstant, plain}
+use Rattle.fvn_forms.specs.Flat.{FlatTerm, fvar, plain}
 use Rattle.fvn_forms.specs.Good.{IsGood}
 use Rattle.fvn_forms.specs.Canon.{identity, empty_sum, sum, canon}
 use Rattle.fvn_forms.proofs.KindsKept.{kind_unique, both_of_kind}
@@ -22,7 +22,6 @@ use Rattle.fvn_forms.proofs.KindsOfSums.{sum_of_forms_of_kind}
 use Rattle.fvn_forms.proofs.ToCanon.{identity_is, canon_of_kind}
 use Rattle.fvn_flat.specs.Bindings.{Bindings}
 use Rattle.fvn_flat.specs.Partitions.{HasNoIdentity}
-use Rattle.fvn_flat.specs.Problems.{variables_of}
 use Rattle.fvn_flat.specs.Solving.{problem_of}
 use Rattle.fvn_flat.specs.SolvedLists.{Form, unbound, as_member, as_sum, Part, Plan, IsClass, IsBinding, names_of, over_classes, members_of, bound_as, unfolded}
 use Rattle.fvn_flat.specs.declared.solver.Pairs.{Pairs}
@@ -36,14 +35,14 @@ use Rattle.fvn_sums.specs.NodeSystems.{IsNodeColumn}
 use Rattle.fvn_frames.specs.Frames.{IsSumOperator}
 use Rattle.fvn_plans.specs.Binding.{IsBound}
 use Rattle.fvn_plans.specs.Choosing.{Systems, Choice}
-use Rattle.fvn_plans.specs.Plans.{IsSimpleAt, IsFormBy}
+use Rattle.fvn_plans.specs.Plans.{IsFormBy}
 use Rattle.fvn_plans.specs.Laws.{IsPlanned}
 use Rattle.fvn_plans.proofs.Triangular.{unfolded_keeps}
 use Rattle.fvn_plans.proofs.Kinded.{node_kinded}
 use Rattle.fvn_plans.proofs.Places.{own_class, variable_node}
 use Rattle.fvn_plans.proofs.Valid.{bound_column}
-use Rattle.fvn_plans.proofs.Planned.{has_sums, class_within, class_itself, class_node, class_below, bound_operator}
-use Rattle.fvn_plans.proofs.Parts.{HasConstant, HasNone, part_stands}
+use Rattle.fvn_plans.proofs.Planned.{has_sums, class_within, class_itself, class_below, bound_operator}
+use Rattle.fvn_plans.proofs.Parts.{part_stands}
 use Rattle.fvn_plans.proofs.Members.{each_member}
 use Rattle.fvn_plans.proofs.Standing.{some_members}
 

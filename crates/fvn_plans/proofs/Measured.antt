@@ -1,5 +1,5 @@
 -- The symbols of instances of forms over variables.
-use Rattle.std.proofs.Common.{◌≡◌, ℕ, zero, suc, ◌+◌, false, true, List, [], ◌∷◌, length, map, refl, sym, ap, ◌∙◌, subst, arith, Option, Some, None}
+use Rattle.std.proofs.Common.{◌≡◌, ℕ, ◌+◌, false, List, [], ◌∷◌, length, map, refl, sym, ap, ◌∙◌, subst, arith}
 use Rattle.std.specs.List.{AllByRecursion}
 use Rattle.std.proofs.lemmas.List.{length-map}
 use Rattle.fvn_terms.specs.declared.plain.Var.{Var}
@@ -9,9 +9,9 @@ use Rattle.fvn_terms.specs.declared.declarations.Axioms.TheVariants.{Free, Comm,
 use Rattle.fvn_terms.specs.declared.declarations.Declarations.{Declarations}
 use Rattle.fvn_terms.specs.Signature.{axioms}
 use Rattle.fvn_terms.specs.Equality.{IsAssociative}
-use Rattle.fvn_forms.specs.Flat.{FlatTerm, FlatTerms, fvar, fapp, fnone, fmore, fpack, funpack, fconstant, symbols}
+use Rattle.fvn_forms.specs.Flat.{FlatTerm, fvar, fapp, fpack, funpack, symbols}
 use Rattle.fvn_forms.specs.InOrder.{sort}
-use Rattle.fvn_forms.specs.Canon.{identity, empty_sum, joined, all_parts, sum, inst}
+use Rattle.fvn_forms.specs.Canon.{empty_sum, joined, all_parts, sum, inst}
 use Rattle.fvn_forms.specs.Settled.{SettledValues, IsPiece}
 use Rattle.fvn_forms.proofs.InOrder.{sort_same_counts, each_sort, length_sort}
 use Rattle.fvn_forms.proofs.Sums.{funpack-fpack, all_parts-pieces}

@@ -1,14 +1,14 @@
 -- What the bindings of a plan unfold to has new variables alone.
-use Rattle.std.proofs.Common.{◌≡◌, ◌≢◌, ℕ, ◌+◌, ◌<◌, ◌≤◌, true, List, [], ◌∷◌, length, map, sym, ap, ◌∙◌, subst, inl, inr, arith, All, Contains, Some, slice_get}
+use Rattle.std.proofs.Common.{◌≡◌, ◌≢◌, ℕ, ◌<◌, ◌≤◌, true, List, [], ◌∷◌, length, map, sym, ap, ◌∙◌, subst, inl, inr, arith, All, Contains, Some}
 use Rattle.std.specs.List.{AllByRecursion}
 use Rattle.std.proofs.lemmas.List.Elements.{All-head, All-tail, All-contains}
 use Rattle.std.proofs.lemmas.Option.{slice_get_within}
 use Rattle.fvn_terms.specs.declared.plain.Var.{Var}
 use Rattle.fvn_terms.specs.declared.plain.OpId.{OpId}
 use Rattle.fvn_terms.specs.declared.declarations.Declarations.{Declarations}
-use Rattle.fvn_terms.specs.Term.{Term, Terms, var, app, none, more, pack}
+use Rattle.fvn_terms.specs.Term.{var, app, pack}
 use Rattle.fvn_terms.specs.Substitution.{Occurs, OccursAmong}
-use Rattle.fvn_terms.specs.Signature.{kind, axioms, IsSort, HasKind}
+use Rattle.fvn_terms.specs.Signature.{kind, IsSort, HasKind}
 use Rattle.fvn_forms.specs.Flat.{FlatTerm, fvar, plain}
 use Rattle.fvn_forms.proofs.Nests.{plain_list}
 use Rattle.fvn_flat.specs.Bindings.{Bindings}
@@ -16,7 +16,7 @@ use Rattle.fvn_flat.specs.Problems.{variables_of}
 use Rattle.fvn_flat.specs.Solving.{problem_of}
 use Rattle.fvn_flat.specs.SolvedLists.{Form, unbound, as_member, as_sum, Part, Plan, IsClass, IsBinding, names_of, over_classes, members_of, bound_as, unfolded}
 use Rattle.fvn_flat.specs.declared.solver.Pairs.{Pairs}
-use Rattle.fvn_nodes.specs.Table.{NodeTable, IsOver, term_at}
+use Rattle.fvn_nodes.specs.Table.{NodeTable, term_at}
 use Rattle.fvn_nodes.specs.Laws.{class_at}
 use Rattle.fvn_nodes.specs.States.{class_of}
 use Rattle.fvn_nodes.specs.declared.state.State.{State}
@@ -29,7 +29,7 @@ use Rattle.fvn_plans.specs.Laws.{IsPlanned, PlannedBindingsUnfoldToNew}
 use Rattle.fvn_plans.proofs.Triangular.{unfolded_bound, unfolded_occurs}
 use Rattle.fvn_plans.proofs.Places.{own_class, variable_node}
 use Rattle.fvn_plans.proofs.Planned.{class_within, class_below, column_class, name_not_given, bound_operator}
-use Rattle.fvn_plans.proofs.Parts.{HasConstant, HasNone, part_stands}
+use Rattle.fvn_plans.proofs.Parts.{part_stands}
 use Rattle.fvn_plans.proofs.Members.{each_member}
 use Rattle.fvn_plans.proofs.Kinds.{kind_itself, term_kinded, over_names_kind, over_classes_is, bindings_keep}
 use Rattle.fvn_plans.proofs.Occurring.{canon_occurs, sum_occurs}

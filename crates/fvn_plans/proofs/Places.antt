@@ -1,9 +1,8 @@
 -- The nodes of the terms of a problem, and their classes.
-use Rattle.std.proofs.Common.{◌≡◌, ℕ, ◌<◌, List, [], ◌∷◌, ◌++◌, true, length, map, get_or, refl, sym, ap, ◌∙◌, subst, inl, inr, arith, Contains, Option, Some, None, slice_get}
-use Rattle.std.proofs.lemmas.List.{length-map, get_or-map}
+use Rattle.std.proofs.Common.{◌≡◌, ℕ, ◌<◌, List, [], ◌∷◌, ◌++◌, true, length, map, sym, ap, ◌∙◌, subst, inl, inr, arith, Contains, Option, Some, None, slice_get}
 use Rattle.std.proofs.lemmas.List.Elements.{All-contains, Contains-append_left, Contains-append_right, Contains-append_cases}
 use Rattle.std.proofs.lemmas.Option.{slice_get_within}
-use Rattle.fvn_base.proofs.Membership.{contains_here, contains_later, contains_cases, contains_none, contains_map, contains_filter, filter_contains, map_contains}
+use Rattle.fvn_base.proofs.Membership.{contains_later, contains_cases, contains_none, contains_map, contains_filter, filter_contains, map_contains}
 use Rattle.fvn_terms.specs.declared.plain.Var.{Var as Variable}
 use Rattle.fvn_terms.specs.declared.plain.OpId.{OpId}
 use Rattle.fvn_terms.specs.declared.declarations.Declarations.{Declarations}
@@ -15,13 +14,13 @@ use Rattle.fvn_forms.specs.Canon.{identity}
 use Rattle.fvn_forms.proofs.Sums.{same_op_is, same_op_itself}
 use Rattle.fvn_forms.proofs.ToCanon.{identity_is}
 use Rattle.fvn_flat.specs.Problems.{subterms, subterms_among, subterms_of, variables, variables_among, variables_of}
-use Rattle.fvn_flat.specs.Partitions.{Heads, IsUnit, IsNode}
+use Rattle.fvn_flat.specs.Partitions.{Heads, IsNode}
 use Rattle.fvn_nodes.specs.Table.{NodeTable, IsWellMade, IsTableOf, IsUnitOf, IsOver, nothing, terms_of, term_at}
 use Rattle.fvn_nodes.specs.Laws.{class_at}
 use Rattle.fvn_nodes.specs.declared.table.Node.{Node}
 use Rattle.fvn_nodes.specs.declared.table.Node.TheVariants.{Var, App}
 use Rattle.fvn_nodes.proofs.Nodes.{length-terms_of, term_at-over, term_at-variable, application_at, variable_at}
-use Rattle.fvn_sums.specs.NodeSystems.{is_headed, sums}
+use Rattle.fvn_sums.specs.NodeSystems.{is_headed}
 use Rattle.fvn_frames.specs.Frames.{IsSumOperator}
 use Rattle.fvn_plans.proofs.Terms.{once_contains, own_place}
 use Rattle.fvn_plans.proofs.Kinded.{contains_once}

@@ -1,5 +1,5 @@
 -- The sizes of what bindings unfold to add up.
-use Rattle.std.proofs.Common.{◌≡◌, ℕ, ◌<◌, List, [], ◌∷◌, length, map, refl, sym, ap, ◌∙◌, subst, inl, inr, All, Contains, Some}
+use Rattle.std.proofs.Common.{◌≡◌, ℕ, false, List, [], ◌∷◌, map, refl, sym, ap, ◌∙◌, subst, inl, inr, All, Some}
 use Rattle.std.specs.List.{AllByRecursion}
 use Rattle.std.proofs.lemmas.List.Elements.{All-contains}
 use Rattle.fvn_terms.specs.declared.plain.Var.{Var}
@@ -11,12 +11,12 @@ use Rattle.fvn_terms.specs.Term.{Terms, none, more, pack}
 use Rattle.fvn_terms.specs.Signature.{axioms}
 use Rattle.fvn_forms.specs.Flat.{FlatTerm, fvar, fapp, fpack, symbols}
 use Rattle.fvn_forms.specs.InOrder.{sort}
-use Rattle.fvn_forms.specs.Canon.{sum, build, built, eval_all, inst}
+use Rattle.fvn_forms.specs.Canon.{build, built, eval_all, inst}
 use Rattle.fvn_forms.specs.Settled.{Settled, IsPiece}
 use Rattle.fvn_forms.proofs.InOrder.{each_sort}
 use Rattle.fvn_flat.specs.Bindings.{Bindings}
 use Rattle.fvn_flat.specs.Solving.{problem_of}
-use Rattle.fvn_flat.specs.SolvedLists.{Form, unbound, as_member, as_sum, Part, Plan, IsSimple, IsClass, IsBinding, names_of, over_classes, members_of, bound_as}
+use Rattle.fvn_flat.specs.SolvedLists.{Form, unbound, as_member, as_sum, Plan, IsSimple, IsClass, IsBinding, names_of, over_classes, members_of, bound_as}
 use Rattle.fvn_flat.specs.declared.solver.Pairs.{Pairs}
 use Rattle.fvn_nodes.specs.Table.{NodeTable, term_at}
 use Rattle.fvn_nodes.specs.Laws.{class_at}

@@ -1,11 +1,9 @@
 -- The bindings of a plan are a solved list.
-use Rattle.std.proofs.Common.{◌≡◌, ◌≢◌, ℕ, sym, ap, ◌∙◌, subst, Some, Contains, slice_get}
+use Rattle.std.proofs.Common.{◌≢◌, ℕ, sym, ap, ◌∙◌, subst, Contains}
 use Rattle.std.proofs.lemmas.Option.{slice_get_within}
-use Rattle.fvn_terms.specs.declared.plain.Var.{Var}
 use Rattle.fvn_terms.specs.declared.declarations.Declarations.{Declarations}
 use Rattle.fvn_terms.specs.Term.{var}
 use Rattle.fvn_forms.specs.Flat.{fvar}
-use Rattle.fvn_forms.specs.Canon.{canon}
 use Rattle.fvn_flat.specs.Bindings.{Bindings}
 use Rattle.fvn_flat.specs.Problems.{variables_of}
 use Rattle.fvn_flat.specs.Solving.{problem_of}
@@ -24,7 +22,7 @@ use Rattle.fvn_plans.specs.Choosing.{Systems, Choice}
 use Rattle.fvn_plans.specs.Laws.{IsPlanned, PlannedBindingsAreSolved}
 use Rattle.fvn_plans.proofs.Triangular.{unfolding_bound}
 use Rattle.fvn_plans.proofs.Places.{own_class, node_variable, heads_sum}
-use Rattle.fvn_plans.proofs.Planned.{is_class, class_within, class_below, name_not_given}
+use Rattle.fvn_plans.proofs.Planned.{class_within, class_below, name_not_given}
 use Rattle.fvn_plans.proofs.Standing.{rests_on, parts_apart, forms_are, names_are}
 use Rattle.fvn_plans.proofs.Kinds.{bindings_keep}
 use Rattle.fvn_plans.proofs.Values.{value, are_values}

@@ -1,21 +1,18 @@
 -- What is asked of a solved list but for its unifier: names, forms, and what sums rest on.
-use Rattle.std.proofs.Common.{◌≡◌, ◌≢◌, ℕ, ◌+◌, ◌<◌, ◌≤◌, List, [], ◌∷◌, length, map, get_or, sum_by, refl, sym, ap, ◌∙◌, subst, ◌⊎◌, inl, inr, arith, All, AllPairs, Any, Contains, slice_index}
+use Rattle.std.proofs.Common.{◌≡◌, ◌≢◌, ℕ, ◌<◌, [], length, map, get_or, sum_by, refl, sym, ap, ◌∙◌, subst, ◌⊎◌, inl, inr, arith, AllPairs, Any, Contains, slice_index}
 use Rattle.std.proofs.lemmas.Bool.{cases_eq}
 use Rattle.std.proofs.lemmas.List.{length-map, get_or-map}
 use Rattle.std.proofs.lemmas.Option.{slice_get_within}
-use Rattle.fvn_terms.specs.declared.plain.Var.{Var}
 use Rattle.fvn_terms.specs.declared.plain.OpId.{OpId}
 use Rattle.fvn_terms.specs.declared.declarations.Declarations.{Declarations}
-use Rattle.fvn_terms.specs.Term.{Term, Terms, var, app, pack}
+use Rattle.fvn_terms.specs.Term.{pack}
 use Rattle.fvn_terms.specs.Signature.{axioms}
-use Rattle.fvn_terms.specs.Equality.{IsAssociative}
-use Rattle.fvn_lindio.specs.declared.system.System.{System}
 use Rattle.fvn_lindio.specs.Systems.{IsMinimal, IsUnused, rows_of}
 use Rattle.fvn_flat.specs.Bindings.{Bindings}
-use Rattle.fvn_flat.specs.Partitions.{HasNoIdentity, Heads, IsNode}
+use Rattle.fvn_flat.specs.Partitions.{HasNoIdentity, IsNode}
 use Rattle.fvn_flat.specs.SumSystems.{IsSumSystem}
 use Rattle.fvn_flat.specs.Solving.{problem_of}
-use Rattle.fvn_flat.specs.SolvedLists.{Form, unbound, as_member, as_sum, Part, Plan, component, members, IsClass, IsSimpleMember, IsSum, IsFormOf, IsNew, StandsForClass, StandsForNone, RestsOn, members_of}
+use Rattle.fvn_flat.specs.SolvedLists.{Form, unbound, as_member, as_sum, Part, Plan, component, members, IsClass, IsFormOf, IsNew, StandsForClass, StandsForNone, RestsOn, members_of}
 use Rattle.fvn_flat.specs.declared.solver.Pairs.{Pairs}
 use Rattle.fvn_nodes.specs.Table.{NodeTable, term_at}
 use Rattle.fvn_nodes.specs.Laws.{class_at}
@@ -25,16 +22,16 @@ use Rattle.fvn_nodes.specs.declared.table.Node.TheVariants.{App}
 use Rattle.fvn_nodes.proofs.Nodes.{term_at-over}
 use Rattle.fvn_sums.specs.Laws.{NodeSystemsAreSumSystems}
 use Rattle.fvn_frames.specs.Frames.{IsSumOperator, Uses}
-use Rattle.fvn_plans.specs.Binding.{IsBound, IsConstant, IsRequired}
-use Rattle.fvn_plans.specs.Choosing.{Systems, Choice, taken, member_count}
+use Rattle.fvn_plans.specs.Binding.{IsBound, IsConstant}
+use Rattle.fvn_plans.specs.Choosing.{Systems, Choice, member_count}
 use Rattle.fvn_plans.specs.Plans.{IsFormBy}
 use Rattle.fvn_plans.specs.Laws.{IsPlanned}
 use Rattle.fvn_plans.proofs.Columns.{all_from, sum_by_map, sum_by_same, chosen_distinct}
 use Rattle.fvn_plans.proofs.Members.{times_in, length_members}
-use Rattle.fvn_plans.proofs.Places.{is_node, own_class, heads_sum, sum_heads}
+use Rattle.fvn_plans.proofs.Places.{is_node, own_class, sum_heads}
 use Rattle.fvn_plans.proofs.Using.{uses_or_unused}
-use Rattle.fvn_plans.proofs.Bound.{bound_decided, form_of_sum, bound_of_form}
-use Rattle.fvn_plans.proofs.Planned.{class_below, column_class, name_not_given, names_apart, solution_no_name, solution_not_given, bound_operator}
+use Rattle.fvn_plans.proofs.Bound.{form_of_sum, bound_of_form}
+use Rattle.fvn_plans.proofs.Planned.{class_below, column_class, names_apart, solution_no_name, solution_not_given, bound_operator}
 use Rattle.fvn_plans.proofs.Parts.{HasConstant, HasNone, component_is, part_minimal, part_stands, part_uses, constant_once, constants_apart, constant_part, part_named}
 
 module _ {d : Declarations} {given : Pairs} {first : ℕ} {t : NodeTable} {s : State} {y : Systems} {c : Choice} {next : ℕ} {plan : Plan} {bindings : Bindings} (h : IsPlanned d given first t s y c next plan bindings) where

@@ -1,21 +1,14 @@
 -- A choice is acceptable exactly where it is valid for what is asked, and no shared class is a sum of a constant alone.
-use Rattle.std.proofs.Common.{◌≡◌, ◌≢◌, ℕ, ◌<◌, ◌≤◌, true, List, [], ◌∷◌, length, get_or, count_by, refl, sym, ap, ◌∙◌, subst, inl, inr, arith, All, AllPairs, Contains, slice_get}
-use Rattle.std.specs.Prelude.{Bool, ◌↔◌, nat_lt}
+use Rattle.std.proofs.Common.{◌≢◌, ◌≡◌, ℕ, ◌<◌, ◌≤◌, true, List, length, get_or, sym, ap, ◌∙◌, subst, inl, inr, arith, All, AllPairs, Contains}
+use Rattle.std.specs.Prelude.{Bool, nat_lt}
 use Rattle.std.proofs.lemmas.Bool.{cases_order, ltb-true, lt-ltb}
 use Rattle.std.proofs.lemmas.List.Elements.{All-contains}
-use Rattle.fvn_base.proofs.Membership.{contains_filter}
 use Rattle.fvn_terms.specs.declared.plain.OpId.{OpId}
 use Rattle.fvn_terms.specs.declared.declarations.Declarations.{Declarations}
-use Rattle.fvn_terms.specs.Signature.{axioms}
-use Rattle.fvn_terms.specs.Equality.{IsAssociative}
-use Rattle.fvn_terms.specs.Unifiers.{Problem}
-use Rattle.fvn_forms.specs.FitsKinds.{FitsKinds}
-use Rattle.fvn_acunify.specs.ValidChoice.{chosen, touched, column_sum, IsValid}
-use Rattle.fvn_flat.specs.Problems.{IsProblem}
+use Rattle.fvn_acunify.specs.ValidChoice.{touched, column_sum, IsValid}
 use Rattle.fvn_flat.specs.SolvedLists.{component}
-use Rattle.fvn_nodes.specs.Table.{NodeTable, IsWellMade, IsTableOf, IsOver}
-use Rattle.fvn_sums.specs.NodeSystems.{IsIdentityClass, IsNodeColumn}
-use Rattle.fvn_frames.specs.Frames.{IsSumOperator, IsSolid, IsShared}
+use Rattle.fvn_nodes.specs.Table.{NodeTable}
+use Rattle.fvn_frames.specs.Frames.{IsSumOperator, IsShared}
 use Rattle.fvn_plans.specs.Binding.{IsBound, solid, alone, tagged, IsConstant, IsRequired, AreAsked}
 use Rattle.fvn_plans.specs.Choosing.{Systems, Choice, taken, AreSystems, AreTakenTogether, IsAcceptable, member_count}
 use Rattle.fvn_plans.specs.Laws.{ValidChoicesAreAcceptable}

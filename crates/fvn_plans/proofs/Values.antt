@@ -1,22 +1,20 @@
 -- What the names of classes unfold to are values that go with the nodes.
-use Rattle.std.proofs.Common.{◌≡◌, ◌≢◌, ℕ, ◌*◌, ◌<◌, List, [], ◌∷◌, length, map, get_or, sum_by, refl, sym, ap, ◌∙◌, subst, ◌⊎◌, inl, inr, arith, All, Contains, Option, Some, None, slice_get}
+use Rattle.std.proofs.Common.{◌≡◌, ℕ, ◌*◌, ◌<◌, List, [], ◌∷◌, length, map, get_or, sum_by, refl, sym, ap, ◌∙◌, subst, ◌⊎◌, inl, inr, arith, All, Some, slice_get}
 use Rattle.std.specs.Prelude.{ℤ}
-use Rattle.std.specs.List.{AllByRecursion}
 use Rattle.std.proofs.lemmas.List.{length-map}
 use Rattle.std.proofs.lemmas.List.Elements.{All-head, All-tail, All-map, All-weaker}
 use Rattle.std.proofs.lemmas.Option.{slice_get_within}
-use Rattle.fvn_terms.specs.declared.plain.Var.{Var}
 use Rattle.fvn_terms.specs.declared.plain.OpId.{OpId}
 use Rattle.fvn_terms.specs.declared.plain.SortId.{SortId}
 use Rattle.fvn_terms.specs.declared.declarations.Axioms.{Axioms}
 use Rattle.fvn_terms.specs.declared.declarations.Axioms.TheVariants.{Free, Comm, AssocComm, AssocCommId}
 use Rattle.fvn_terms.specs.declared.declarations.Declarations.{Declarations}
-use Rattle.fvn_terms.specs.Term.{Term, Terms, var, app, none, more, pack}
-use Rattle.fvn_terms.specs.Signature.{kind, axioms, HasKind, HaveKinds}
+use Rattle.fvn_terms.specs.Term.{Term, app, pack}
+use Rattle.fvn_terms.specs.Signature.{axioms, HasKind, HaveKinds}
 use Rattle.fvn_terms.specs.Equality.{IsAssociative, IsCommutative}
-use Rattle.fvn_forms.specs.Flat.{FlatTerm, fvar}
+use Rattle.fvn_forms.specs.Flat.{FlatTerm}
 use Rattle.fvn_forms.specs.InOrder.{count}
-use Rattle.fvn_forms.specs.Canon.{identity, parts, all_parts, sum, build, eval, eval_all, canon, inst}
+use Rattle.fvn_forms.specs.Canon.{identity, parts, all_parts, sum, build, eval_all, inst}
 use Rattle.fvn_forms.proofs.InOrder.{count_sort}
 use Rattle.fvn_forms.proofs.Build.{HasIdentity, build_swap, parts_identity}
 use Rattle.fvn_forms.proofs.Instances.{parts_inst_sum, eval_canon}
@@ -25,7 +23,7 @@ use Rattle.fvn_lindio.specs.Laws.{combination}
 use Rattle.fvn_flat.specs.Bindings.{Bindings}
 use Rattle.fvn_flat.specs.Partitions.{HasNoIdentity}
 use Rattle.fvn_flat.specs.Solving.{problem_of}
-use Rattle.fvn_flat.specs.SolvedLists.{Form, as_member, as_sum, Part, Plan, component, IsClass, IsSimple, names_of, over_classes, members_of, bound_as, bound_to}
+use Rattle.fvn_flat.specs.SolvedLists.{Part, Plan, component, IsClass, IsSimple, names_of, over_classes, members_of, bound_as, bound_to}
 use Rattle.fvn_flat.specs.declared.solver.Pairs.{Pairs}
 use Rattle.fvn_nodes.specs.Table.{NodeTable, IsOver, term_at}
 use Rattle.fvn_nodes.specs.Classes.{AreTogether, MeetEitherWay, AreAlike}
@@ -34,12 +32,12 @@ use Rattle.fvn_nodes.specs.States.{class_of}
 use Rattle.fvn_nodes.specs.declared.state.State.{State}
 use Rattle.fvn_nodes.specs.declared.table.Node.{Node}
 use Rattle.fvn_nodes.specs.declared.table.Node.TheVariants.{App}
-use Rattle.fvn_nodes.proofs.Nodes.{term_at-over, term_at-variable, arguments_within}
+use Rattle.fvn_nodes.proofs.Nodes.{term_at-over, arguments_within}
 use Rattle.fvn_supports.specs.Laws.{CombinationsSolve}
 use Rattle.fvn_sums.specs.NodeSystems.{IsNodeSystem}
-use Rattle.fvn_sums.specs.Values.{AreValues, Gives, AddUp, AddsNothing, Counts}
+use Rattle.fvn_sums.specs.Values.{AreValues, AddsNothing, Counts}
 use Rattle.fvn_sums.specs.Laws.{CountsSolve}
-use Rattle.fvn_frames.specs.Frames.{IsSumOperator, Uses}
+use Rattle.fvn_frames.specs.Frames.{IsSumOperator}
 use Rattle.fvn_plans.specs.Binding.{IsBound, IsConstant}
 use Rattle.fvn_plans.specs.Choosing.{Systems, Choice, taken}
 use Rattle.fvn_plans.specs.Plans.{IsSimpleAt, unfolds_to}
@@ -49,11 +47,11 @@ use Rattle.fvn_plans.proofs.Columns.{all_from, component_at, sum_by_map}
 use Rattle.fvn_plans.proofs.Combined.{get_or-combination}
 use Rattle.fvn_plans.proofs.Counts.{of_part, weighed, weighed_alike, weight_of_parts, weighed_same, count_members}
 use Rattle.fvn_plans.proofs.Members.{times_in}
-use Rattle.fvn_plans.proofs.Places.{own_class, sum_operator, variable_node}
+use Rattle.fvn_plans.proofs.Places.{own_class, sum_operator}
 use Rattle.fvn_plans.proofs.Solids.{pair_of}
 use Rattle.fvn_plans.proofs.Bound.{one_head, simple_bare, form_of_member, form_of_sum, bound_decided}
 use Rattle.fvn_plans.proofs.Using.{uses_or_unused}
-use Rattle.fvn_plans.proofs.Planned.{has_sums, is_class, class_within, class_below, column_class, name_not_given, bound_operator}
+use Rattle.fvn_plans.proofs.Planned.{has_sums, is_class, class_below, column_class}
 use Rattle.fvn_plans.proofs.Parts.{component_is, part_minimal, part_named}
 use Rattle.fvn_plans.proofs.Standing.{some_members}
 use Rattle.fvn_plans.proofs.Kinds.{term_kinded, over_classes_is}
