@@ -12,7 +12,7 @@ mod Bound
 mod Parts
 mod Members
 mod Standing
-mod Kinds
+mod Kinding
 mod Combined
 mod Counts
 mod Values
