@@ -23,3 +23,4 @@ mod Pieces
 mod Alone
 mod Measured
 mod Sizes
+mod OneKind
