@@ -1,0 +1,4 @@
+-- The words of plans: what classes are bound to, what is asked of choices, and values that obey.
+pub mod Obeying
+pub mod LaidOut
+pub mod Laws

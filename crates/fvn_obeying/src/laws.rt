@@ -1,0 +1,66 @@
+//! Laws of values at a frame, each the contract of a function that does nothing.
+ghost use Rattle.fvn_obeying.specs.Laws.{
+  ValuesMeetWhatIsAsked,
+  ValuesChoose,
+  ValuesAreLaidOut,
+  NoAliases,
+  ReadingsTell,
+  TablesHaveSums,
+  TagsExist,
+  UnifiersGoWith,
+};
+
+use fvn_nodes::unifiers_partition;
+use fvn_sums::{counts_solve, unifiers_have_values};
+use fvn_supports::{counts_are_made_up, made_up_by_taken, pieces_choose};
+
+/// The counts of values that go with a frame meet what is asked of the choice for an operator.
+pub fn values_meet_what_is_asked()
+    ensures { ValuesMeetWhatIsAsked }
+{
+    counts_solve();
+}
+
+/// Values that go with a frame choose minimal solutions, with pieces.
+pub fn values_choose()
+    ensures { ValuesChoose }
+{
+    values_meet_what_is_asked();
+    counts_are_made_up();
+    pieces_choose();
+}
+
+/// The summands of values are the pieces, laid out.
+pub fn values_are_laid_out()
+    ensures { ValuesAreLaidOut }
+{}
+
+/// A value with two summands or more is no sum of a single constant.
+pub fn no_aliases()
+    ensures { NoAliases }
+{
+    made_up_by_taken();
+}
+
+/// A reading tells what heads and uses all classes.
+pub fn readings_tell()
+    ensures { ReadingsTell }
+{}
+
+/// The table of a well-kinded problem has sums over two subterms, and identities.
+pub fn tables_have_sums()
+    ensures { TablesHaveSums }
+{}
+
+/// All values obey some tags.
+pub fn tags_exist()
+    ensures { TagsExist }
+{}
+
+/// A unifier's values go with each state that admits its partition.
+pub fn unifiers_go_with()
+    ensures { UnifiersGoWith }
+{
+    unifiers_have_values();
+    unifiers_partition();
+}
