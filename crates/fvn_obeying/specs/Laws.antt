@@ -6,14 +6,17 @@ use Rattle.fvn_terms.specs.Substitution.{Substitution}
 use Rattle.fvn_terms.specs.Unifiers.{Problem}
 use Rattle.fvn_forms.specs.Flat.{FlatTerm}
 use Rattle.fvn_forms.specs.FitsKinds.{FitsKinds}
+use Rattle.fvn_forms.specs.Good.{IsGood}
 use Rattle.fvn_forms.specs.InOrder.{SameCounts}
 use Rattle.fvn_forms.specs.Canon.{parts}
 use Rattle.fvn_lindio.specs.declared.system.System.{System}
 use Rattle.fvn_lindio.specs.Systems.{IsMinimal, IsUnused, Solves, rows_of}
 use Rattle.fvn_acunify.specs.ValidChoice.{chosen, column_sum, IsValid}
-use Rattle.fvn_flat.specs.Problems.{IsProblem}
-use Rattle.fvn_flat.specs.SolvedLists.{IsKindUnifier}
+use Rattle.fvn_flat.specs.Bindings.{Bindings}
+use Rattle.fvn_flat.specs.Problems.{IsProblem, variables_of}
+use Rattle.fvn_flat.specs.SolvedLists.{IsKindUnifier, Plan}
 use Rattle.fvn_nodes.specs.Table.{NodeTable, IsWellMade, IsTableOf}
+use Rattle.fvn_nodes.specs.Laws.{class_at}
 use Rattle.fvn_nodes.specs.States.{Admits, IsClosed, class_of}
 use Rattle.fvn_nodes.specs.Unifiers.{value_at, kernel}
 use Rattle.fvn_nodes.specs.declared.state.State.{State}
@@ -24,7 +27,12 @@ use Rattle.fvn_frames.specs.Frames.{IsFrame, IsSumOperator}
 use Rattle.fvn_frames.specs.Readings.{IsReading}
 use Rattle.fvn_frames.specs.declared.reading.Reading.{Reading}
 use Rattle.fvn_plans.specs.Binding.{AreAsked}
+use Rattle.fvn_plans.specs.Choosing.{Systems, Choice, AreSystems, IsPossible, Falls}
+use Rattle.fvn_plans.specs.Covering.{CoversOnKinds}
+use Rattle.fvn_plans.specs.Plans.{IsPlanBy, AreBindingsBy, unfolding}
+use Rattle.fvn_obeying.specs.CoveringChoices.{IsAfterNumbersOf, IsCovering}
 use Rattle.fvn_obeying.specs.LaidOut.{laid_out}
+use Rattle.fvn_obeying.specs.Obeyed.{AreObeying}
 use Rattle.fvn_obeying.specs.Obeying.{HasSums, IsTold, GoWith, ObeyTags}
 
 -- what is counted of each flat form in the columns of f solves f's system, and meets what is asked of the choice
@@ -100,3 +108,35 @@ abbrev pub UnifiersGoWith : Type 0
 UnifiersGoWith =
     (d : Declarations) → FitsKinds d → (problem : Problem) → IsProblem d problem → (t : NodeTable) → IsWellMade t → IsTableOf d problem t
     → (u : Substitution) → IsKindUnifier d problem u → (s : State) → IsClosed d t s → Admits s (kernel d u t.nodes) → GoWith d t s (value_at d u t.nodes)
+
+-- values that go with a frame obey a possible choice
+abbrev pub ValuesObeyChoices : Type 0
+ValuesObeyChoices =
+    (d : Declarations) (t : NodeTable) → IsWellMade t → HasSums d t → (s : State) → IsFrame d t s → IsTold d t (class_of s)
+    → (y : Systems) → AreSystems d t (class_of s) y → (values : ℕ → FlatTerm) → GoWith d t s values
+    → (c : Choice) × IsPossible d t (class_of s) y c × AreObeying d t (class_of s) y c values
+
+-- where values obey a choice, a class needs only classes of a lower rank
+abbrev pub ObeyedChoicesFall : Type 0
+ObeyedChoicesFall =
+    (d : Declarations) (t : NodeTable) → IsWellMade t → HasSums d t → (s : State) → IsFrame d t s → IsTold d t (class_of s)
+    → (y : Systems) → AreSystems d t (class_of s) y → (values : ℕ → FlatTerm) → GoWith d t s values
+    → (c : Choice) → AreObeying d t (class_of s) y c values → (rank : ℕ → ℕ) × Falls d t (class_of s) y c rank
+
+-- where a unifier's values obey a choice, what the bindings of its plan unfold to covers the unifier
+abbrev pub ObeyedChoicesCover : Type 0
+ObeyedChoicesCover =
+    (d : Declarations) → IsGood d → (problem : Problem) → IsProblem d problem → (t : NodeTable) → IsWellMade t → IsTableOf d problem t
+    → (s : State) → IsFrame d t s → IsTold d t (class_of s) → (y : Systems) → AreSystems d t (class_of s) y
+    → (u : Substitution) → IsKindUnifier d problem u → Admits s (kernel d u t.nodes)
+    → (c : Choice) → AreObeying d t (class_of s) y c (value_at d u t.nodes)
+    → (first next : ℕ) (plan : Plan) → IsAfterNumbersOf problem first → IsPlanBy d t (class_of s) y c first next plan
+    → (bindings : Bindings) → AreBindingsBy d problem (class_at t (class_of s)) plan bindings
+    → CoversOnKinds d (variables_of problem) (unfolding d bindings) u
+
+-- at a frame that admits its partition, each unifier on kinds is covered by some choice
+abbrev pub FramesCover : Type 0
+FramesCover =
+    (d : Declarations) → IsGood d → (problem : Problem) → IsProblem d problem → (t : NodeTable) → IsWellMade t → IsTableOf d problem t
+    → (s : State) → IsFrame d t s → IsTold d t (class_of s) → (y : Systems) → AreSystems d t (class_of s) y
+    → (u : Substitution) → IsKindUnifier d problem u → Admits s (kernel d u t.nodes) → (c : Choice) × IsCovering d problem t s y u c
