@@ -29,7 +29,7 @@ use Rattle.fvn_obeying.specs.Laws.{CountsMeet}
 use Rattle.fvn_obeying.proofs.Values.{constant_alone, constants_differ, may_be, bound_used, required_some}
 
 -- the component in a column of a list without repetition
-component_at : (columns v : List ℕ) → AllPairs ◌≢◌ columns → (j : ℕ) → j < length columns → component columns v (get_or columns j 0) ≡ get_or v j 0
+pub component_at : (columns v : List ℕ) → AllPairs ◌≢◌ columns → (j : ℕ) → j < length columns → component columns v (get_or columns j 0) ≡ get_or v j 0
 component_at [] v h j l = absurd (omega (arith, l))
 component_at (c ∷ columns) [] h j l = refl
 component_at (c ∷ columns) (n ∷ v) h zero l = ap (λ b. if b then n else component columns v c) (eq-eqb c c refl)
@@ -52,7 +52,7 @@ module _ (law : CountsSolve) (d : Declarations) (t : NodeTable) (made : IsWellMa
       ap (parts d f) (go_with.are.built p.1 u.0 [] u.2) ∙ parts_identity d f u.0 (ap (λ o. identity (axioms d o)) (sym same) ∙ u.1))
 
   -- a column that f uses is used by some row
-  not_unused : (j : ℕ) → j < length columns → Uses d t (class_of s) f (get_or columns j 0) → IsUnused (rows_of system) j → ⊥
+  pub not_unused : (j : ℕ) → j < length columns → Uses d t (class_of s) f (get_or columns j 0) → IsUnused (rows_of system) j → ⊥
   not_unused j l u z =
       let row = row_at t (class_of s) f columns u.row in
       let listed : Contains (rows_of system) row = subst (λ rs. Contains rs row) (sym is.rows) (contains_map (row_at t (class_of s) f columns) (sums t f) u.row u.listed) in

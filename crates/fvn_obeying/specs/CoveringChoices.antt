@@ -12,7 +12,7 @@ use Rattle.fvn_nodes.specs.States.{class_of}
 use Rattle.fvn_nodes.specs.Laws.{class_at}
 use Rattle.fvn_nodes.specs.declared.state.State.{State}
 use Rattle.fvn_plans.specs.Choosing.{Systems, Choice, IsPossible, Falls}
-use Rattle.fvn_plans.specs.Plans.{IsPlanBy, AreBindingsBy, unfolding}
+use Rattle.fvn_plans.specs.Plans.{IsPlanBy, AreBindingsBy, unfolds_to}
 use Rattle.fvn_plans.specs.Covering.{CoversOnKinds}
 
 -- no fresh variable of the problem has this number or a greater one
@@ -26,4 +26,4 @@ pub record IsCovering (d : Declarations) (problem : Problem) (t : NodeTable) (s 
   pub rank : ℕ → ℕ
   pub falls : Falls d t (class_of s) y c rank
   pub covers : (first next : ℕ) (plan : Plan) → IsAfterNumbersOf problem first → IsPlanBy d t (class_of s) y c first next plan → (bindings : Bindings)
-      → AreBindingsBy d problem (class_at t (class_of s)) plan bindings → CoversOnKinds d (variables_of problem) (unfolding d bindings) u
+      → AreBindingsBy d problem (class_at t (class_of s)) plan bindings → CoversOnKinds d (variables_of problem) (unfolds_to d bindings) u

@@ -29,7 +29,7 @@ use Rattle.fvn_frames.specs.declared.reading.Reading.{Reading}
 use Rattle.fvn_plans.specs.Binding.{AreAsked}
 use Rattle.fvn_plans.specs.Choosing.{Systems, Choice, AreSystems, IsPossible, Falls}
 use Rattle.fvn_plans.specs.Covering.{CoversOnKinds}
-use Rattle.fvn_plans.specs.Plans.{IsPlanBy, AreBindingsBy, unfolding}
+use Rattle.fvn_plans.specs.Plans.{IsPlanBy, AreBindingsBy, unfolds_to}
 use Rattle.fvn_obeying.specs.CoveringChoices.{IsAfterNumbersOf, IsCovering}
 use Rattle.fvn_obeying.specs.LaidOut.{laid_out}
 use Rattle.fvn_obeying.specs.Obeyed.{AreObeying}
@@ -132,7 +132,7 @@ ObeyedChoicesCover =
     → (c : Choice) → AreObeying d t (class_of s) y c (value_at d u t.nodes)
     → (first next : ℕ) (plan : Plan) → IsAfterNumbersOf problem first → IsPlanBy d t (class_of s) y c first next plan
     → (bindings : Bindings) → AreBindingsBy d problem (class_at t (class_of s)) plan bindings
-    → CoversOnKinds d (variables_of problem) (unfolding d bindings) u
+    → CoversOnKinds d (variables_of problem) (unfolds_to d bindings) u
 
 -- at a frame that admits its partition, each unifier on kinds is covered by some choice
 abbrev pub FramesCover : Type 0

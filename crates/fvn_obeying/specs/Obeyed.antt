@@ -1,5 +1,5 @@
 -- Choices that values obey: for each solution that is taken the summands that it stands for.
-use Rattle.std.specs.Prelude.{◌≡◌, ℕ, ◌<◌, List, [], ◌∷◌, ◌++◌, length, slice_index_or, Contains}
+use Rattle.std.specs.Prelude.{◌≡◌, ℕ, ◌<◌, List, [], ◌∷◌, length, slice_index_or, Contains}
 use Rattle.fvn_terms.specs.declared.plain.OpId.{OpId}
 use Rattle.fvn_terms.specs.declared.declarations.Declarations.{Declarations}
 use Rattle.fvn_forms.specs.Flat.{FlatTerm}
@@ -10,14 +10,8 @@ use Rattle.fvn_nodes.specs.Table.{NodeTable}
 use Rattle.fvn_frames.specs.Frames.{IsSumOperator, Uses}
 use Rattle.fvn_plans.specs.Binding.{IsConstant}
 use Rattle.fvn_plans.specs.Choosing.{Systems, Choice, taken}
-use Rattle.fvn_obeying.specs.LaidOut.{copies}
+use Rattle.fvn_obeying.specs.LaidOut.{laid_for}
 use Rattle.fvn_obeying.specs.Obeying.{ObeyTags}
-
--- for each solution its pieces, as often as the solution has class k
-abbrev pub laid_for : List ℕ → ℕ → List (List ℕ) → List (List FlatTerm) → List FlatTerm
-laid_for columns k [] pieces = []
-laid_for columns k (v ∷ solutions) [] = []
-laid_for columns k (v ∷ solutions) (z ∷ pieces) = copies (component columns v k) z ++ laid_for columns k solutions pieces
 
 module _ (d : Declarations) (t : NodeTable) (class : ℕ → ℕ) (y : Systems) (c : Choice) (values : ℕ → FlatTerm) where
   -- q is a summand, under f, of the value of a class that f uses
