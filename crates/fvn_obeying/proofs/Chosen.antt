@@ -79,7 +79,7 @@ module _ (d : Declarations) (t : NodeTable) (made : IsWellMade t) (has : HasSums
   used_column : (k : ℕ) (u : Uses d t class f k) → IsUnused (rows_of (y.system f)) (at k u).column → ⊥
   used_column k u =
       let a = at k u in
-      not_unused d t made has s frame told values go_with c.tag obey f sum (y.columns f) (y.system f) is_node_system a.column a.within (subst (Uses d t class f) (sym a.of) u)
+      not_unused d t class f (y.columns f) (y.system f) is_node_system a.column a.within (subst (Uses d t class f) (sym a.of) u)
 
   -- the summands of a used class's value
   made_for : (k : ℕ) → Uses d t class f k → SameCounts (parts d f (values k)) (laid_for (y.columns f) k (taken y c f) (some_of ch.pieces))
