@@ -19,6 +19,10 @@ use Rattle.fvn_frames.specs.Frames.{IsSumOperator}
 use Rattle.fvn_plans.specs.Binding.{IsBound, IsConstant}
 use Rattle.fvn_plans.specs.Choosing.{Systems, Choice, taken}
 
+-- nodes of one class have one kind
+abbrev pub AreOfOneKind : Declarations → NodeTable → (ℕ → ℕ) → Type 0
+AreOfOneKind d t class = (i j : ℕ) (k : SortId) → i < length t.nodes → j < length t.nodes → class i ≡ class j → HasKind d (term_at t.nodes i) k → HasKind d (term_at t.nodes j) k
+
 module _ (d : Declarations) (t : NodeTable) where
   -- a new variable with this number
   pub record IsNumber (number : ℕ) (x : Var) : Type 0 where
@@ -67,6 +71,8 @@ module _ (d : Declarations) (t : NodeTable) where
       pub columns : (f : OpId) → IsSumOperator d t f → plan.columns f ≡ y.columns f
       pub solutions : (f : OpId) → IsSumOperator d t f → map (λ q. q.solution) (plan.parts f) ≡ taken y c f
       pub standing : (f : OpId) → IsSumOperator d t f → All (StandsFor first next plan f) (plan.parts f)
+      -- only sum operators have parts
+      pub only : (f : OpId) (q : Part) → Contains (plan.parts f) q → IsSumOperator d t f
       -- no new variable stands for two solutions
       pub distinct : (f : OpId) → IsSumOperator d t f → AllPairs (λ q r. q.variable ≢ r.variable) (plan.parts f)
       pub apart : (f g : OpId) (q r : Part) → f ≢ g → Contains (plan.parts f) q → Contains (plan.parts g) r → first + length t.nodes ≤ q.variable.name → q.variable ≢ r.variable
@@ -80,13 +86,13 @@ pub record AreBindingsBy (d : Declarations) (problem : Problem) (class : Term �
   pub triangular : IsTriangular bindings
 
 -- what x unfolds to
-abbrev pub unfolding : Declarations → Bindings → Var → FlatTerm
-unfolding d bindings x = canon d (unfolded bindings x)
+abbrev pub unfolds_to : Declarations → Bindings → Var → FlatTerm
+unfolds_to d bindings x = canon d (unfolded bindings x)
 
 -- every variable in what a variable of the problem unfolds to is new, with a number from first up to below next, and has a kind as its sort
 abbrev pub UnfoldsToNew : Declarations → Problem → (first next : ℕ) → Bindings → Type 0
 UnfoldsToNew d problem first next bindings =
-    (x z : Var) → Contains (variables_of problem) x → Occurs z (plain (unfolding d bindings x))
+    (x z : Var) → Contains (variables_of problem) x → Occurs z (plain (unfolds_to d bindings x))
     → (z.fresh ≡ true) × (first ≤ z.name) × (z.name < next) × IsSort d z.sort × (kind d z.sort ≡ z.sort)
 
 -- the symbols of a flat form whose variables count as so many
