@@ -1,19 +1,15 @@
 -- Minimal solutions that values choose are acceptable, and the values are made of their pieces.
-use Rattle.std.proofs.Common.{◌≡◌, ◌≢◌, ◌⊎◌, ℕ, zero, suc, ◌+◌, ◌<◌, ◌≤◌, ◌^◌, true, false, List, [], ◌∷◌, length, map, get_or, refl, sym, ap, ◌∙◌, subst, inl, inr, arith, All, AllPairs, Contains, Option, Some, pos, slice_get, sum_by}
-use Rattle.std.specs.Prelude.{Bool, ◌↔◌, cond}
-use Rattle.std.proofs.lemmas.Bool.{cases_eq, cases_lt}
+use Rattle.std.proofs.Common.{◌≡◌, ℕ, zero, suc, ◌<◌, ◌≤◌, ◌^◌, List, [], ◌∷◌, length, get_or, sym, ap, ◌∙◌, subst, inl, inr, arith, All, Contains, pos, slice_get, sum_by}
+use Rattle.std.specs.Prelude.{Bool, ◌↔◌}
+use Rattle.std.proofs.lemmas.Bool.{cases_eq}
 use Rattle.std.proofs.lemmas.List.{get_or-map, get_or_default}
 use Rattle.std.proofs.lemmas.List.Sums.{sum_by-cons}
 use Rattle.std.proofs.lemmas.List.Elements.{All-map, All-contains, Contains-get_or}
-use Rattle.fvn_base.proofs.Membership.{contains_none, map_contains}
 use Rattle.fvn_terms.specs.declared.plain.OpId.{OpId}
 use Rattle.fvn_terms.specs.declared.declarations.Declarations.{Declarations}
-use Rattle.fvn_forms.specs.Flat.{FlatTerm, FlatTerms, fapp, funpack}
+use Rattle.fvn_forms.specs.Flat.{FlatTerm}
 use Rattle.fvn_forms.specs.InOrder.{count, SameCounts}
 use Rattle.fvn_forms.specs.Canon.{parts}
-use Rattle.fvn_forms.specs.Settled.{Settled}
-use Rattle.fvn_forms.proofs.Sums.{same_op_itself}
-use Rattle.fvn_lindio.specs.declared.system.System.{System}
 use Rattle.fvn_lindio.specs.Systems.{IsMinimal, IsUnused, rows_of}
 use Rattle.fvn_acunify.specs.ValidChoice.{chosen, column_sum}
 use Rattle.fvn_flat.specs.SolvedLists.{component}
@@ -44,7 +40,7 @@ some_component (zero ∷ v) h = let r = some_component v (let e = sum_by-cons (�
 some_component (suc n ∷ v) h = (0, omega arith, omega arith)
 
 module _ (d : Declarations) (t : NodeTable) (made : IsWellMade t) (has : HasSums d t) (s : State) (frame : IsFrame d t s) (told : IsTold d t (class_of s)) (values : ℕ → FlatTerm) (go_with : GoWith d t s values) (y : Systems) (systems : AreSystems d t (class_of s) y) (c : Choice) (obey : ObeyTags d t (class_of s) c.tag values)
-    (f : OpId) (sum : IsSumOperator d t f) (constants : List ℕ) (may_be_zero : List Bool) (are_asked : AreAsked d t (class_of s) c.tag f (y.columns f) constants may_be_zero) (ch : IsChosen d (class_of s) f values (y.columns f) (y.system f) (y.basis f) constants may_be_zero) (number : c.number f ≡ number_of ch.pieces) (law : MadeUpByTaken) where
+    (f : OpId) (sum : IsSumOperator d t f) (constants : List ℕ) (may_be_zero : List Bool) (are_asked : AreAsked d t (class_of s) c.tag f (y.columns f) constants may_be_zero) (ch : IsChosen d f values (y.columns f) (y.system f) (y.basis f) constants may_be_zero) (number : c.number f ≡ number_of ch.pieces) (law : MadeUpByTaken) where
   abbrev class : ℕ → ℕ
   class = class_of s
 
@@ -86,7 +82,7 @@ module _ (d : Declarations) (t : NodeTable) (made : IsWellMade t) (has : HasSums
   made_for k u q =
       let a = at k u in
       ap (λ n. count q (parts d f (values n))) (sym a.of)
-      ∙ laid_out_are d class f values (y.columns f) (y.system f) (y.basis f) exact constants may_be_zero ch a.column a.within (used_column k u) q
+      ∙ laid_out_are d f values (y.columns f) (y.system f) (y.basis f) exact constants may_be_zero ch a.column a.within (used_column k u) q
       ∙ ap (count q) (laid_for_is (y.columns f) a.column k a.component_is ch.pieces (y.basis f))
       ∙ ap (λ vs. count q (laid_for (y.columns f) k vs (some_of ch.pieces))) (sym taken_is)
 
@@ -175,7 +171,7 @@ module _ (d : Declarations) (t : NodeTable) (made : IsWellMade t) (has : HasSums
       let q = together.right in
       let two = shared_two d t made has s frame told values go_with c.tag obey f k shared b in
       let same_length = ap (λ n. length (parts d f (values n))) a.of in
-      let count = law d class f values (y.columns f) (y.system f) (y.basis f) exact constants may_be_zero ch r.place a.column e.column r.within r.has a.within (used_column k u)
+      let count = law d f values (y.columns f) (y.system f) (y.basis f) exact constants may_be_zero ch r.place a.column e.column r.within r.has a.within (used_column k u)
       ((are_asked.are_constant e.column).1 (e.within, subst (IsConstant d t class c.tag f) (sym e.of) h)) (omega (arith, two, same_length)) (omega (arith, left, p)) (omega (arith, right, q)) in
       let sums = counted k u in
       omega (arith, count, sums)

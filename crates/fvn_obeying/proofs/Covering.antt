@@ -1,13 +1,11 @@
 -- What the bindings of a plan unfold to covers the unifier.
-use Rattle.std.proofs.Common.{◌≡◌, ℕ, sym, ap, ◌∙◌, subst, All, Contains}
+use Rattle.std.proofs.Common.{ℕ, sym, subst, Contains}
 use Rattle.std.proofs.lemmas.List.Elements.{All-weaker}
 use Rattle.fvn_terms.specs.declared.plain.Var.{Var}
 use Rattle.fvn_terms.specs.declared.declarations.Declarations.{Declarations}
-use Rattle.fvn_terms.specs.Term.{var}
 use Rattle.fvn_terms.specs.Substitution.{Substitution}
 use Rattle.fvn_terms.specs.Signature.{IsSort, IsTerm}
 use Rattle.fvn_terms.specs.Unifiers.{Problem}
-use Rattle.fvn_forms.specs.Canon.{canon}
 use Rattle.fvn_flat.specs.Bindings.{Bindings}
 use Rattle.fvn_flat.specs.Problems.{variables_of}
 use Rattle.fvn_flat.specs.SolvedLists.{Plan, IsBinding}

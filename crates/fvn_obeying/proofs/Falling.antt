@@ -1,8 +1,7 @@
 -- Where values obey a choice, a class needs only classes of a lower rank.
-use Rattle.std.proofs.Common.{◌≡◌, ◌≢◌, ◌⊎◌, ℕ, zero, suc, ◌+◌, ◌*◌, ◌<◌, ◌≤◌, true, false, List, [], ◌∷◌, length, map, get_or, refl, sym, ap, ◌∙◌, subst, inl, inr, arith, Contains}
+use Rattle.std.proofs.Common.{◌≡◌, ◌≢◌, ◌⊎◌, ℕ, ◌+◌, ◌*◌, ◌<◌, ◌≤◌, false, List, [], ◌∷◌, length, map, get_or, refl, sym, ap, ◌∙◌, subst, inl, inr, arith, Contains}
 use Rattle.std.specs.List.{AllByRecursion}
 use Rattle.std.proofs.lemmas.Bool.{cases_lt}
-use Rattle.std.proofs.lemmas.List.Elements.{Contains-get_or}
 use Rattle.std.proofs.lemmas.List.{get_or_default}
 use Rattle.fvn_base.proofs.Membership.{contains_here, contains_cases, contains_none, contains_map}
 use Rattle.fvn_terms.specs.declared.plain.OpId.{OpId}
@@ -10,8 +9,8 @@ use Rattle.fvn_terms.specs.declared.declarations.Axioms.{Axioms}
 use Rattle.fvn_terms.specs.declared.declarations.Axioms.TheVariants.{Free, Comm, AssocComm, AssocCommId}
 use Rattle.fvn_terms.specs.declared.declarations.Declarations.{Declarations}
 use Rattle.fvn_terms.specs.Signature.{axioms}
-use Rattle.fvn_forms.specs.Flat.{FlatTerm, fapp, fpack, funpack, symbols}
-use Rattle.fvn_forms.specs.InOrder.{sort, count}
+use Rattle.fvn_forms.specs.Flat.{FlatTerm, fapp, fpack, symbols}
+use Rattle.fvn_forms.specs.InOrder.{sort}
 use Rattle.fvn_forms.specs.Canon.{parts, sum, build}
 use Rattle.fvn_forms.proofs.Sizes.{all_symbols, all_symbols-sort, symbols_unjoined, piece_smaller}
 use Rattle.fvn_forms.proofs.Sums.{funpack-fpack, sum_parts}
@@ -21,7 +20,7 @@ use Rattle.fvn_nodes.specs.States.{class_of}
 use Rattle.fvn_nodes.specs.declared.state.State.{State}
 use Rattle.fvn_frames.specs.Frames.{IsFrame, IsSumOperator, IsSolid, Uses}
 use Rattle.fvn_plans.specs.Binding.{IsBound, solid, alone, tagged, IsConstant}
-use Rattle.fvn_plans.specs.Choosing.{Systems, Choice, AreSystems, AreTakenTogether, Needs, argument, summand, Falls, taken}
+use Rattle.fvn_plans.specs.Choosing.{Systems, Choice, AreSystems, AreTakenTogether, argument, summand, Falls, taken}
 use Rattle.fvn_obeying.specs.Obeying.{HasSums, IsTold, GoWith}
 use Rattle.fvn_obeying.specs.Obeyed.{AreObeying}
 use Rattle.fvn_obeying.proofs.Heads.{build_free, build_commutative}

@@ -1,11 +1,10 @@
 -- Values of all variables: of names of classes, of variables that stand for solutions, and of all others.
-use Rattle.std.proofs.Common.{◌≡◌, ◌≢◌, ◌⊎◌, ℕ, zero, suc, ◌+◌, ◌-◌, ◌<◌, ◌≤◌, true, false, List, [], ◌∷◌, length, refl, sym, ap, ◌∙◌, subst, inl, inr, arith, Contains, Option, Some, None, slice_get}
-use Rattle.std.specs.Prelude.{Bool}
+use Rattle.std.proofs.Common.{◌≡◌, ◌≢◌, ℕ, zero, suc, ◌+◌, ◌-◌, ◌<◌, ◌≤◌, true, List, [], ◌∷◌, length, refl, sym, ap, ◌∙◌, subst, inl, inr, arith, Contains, slice_get}
 use Rattle.std.specs.List.{AllByRecursion}
 use Rattle.std.proofs.lemmas.Bool.{cases_Bool, cases_lt, true≢false}
 use Rattle.fvn_base.specs.Decided.{Decided}
 use Rattle.fvn_base.proofs.Decided.{some_or_none, decided_by}
-use Rattle.fvn_base.proofs.Membership.{contains_here, contains_later, contains_none, filter_contains}
+use Rattle.fvn_base.proofs.Membership.{contains_here, contains_later, filter_contains}
 use Rattle.fvn_terms.specs.declared.plain.Var.{Var as Variable}
 use Rattle.fvn_terms.specs.declared.plain.OpId.{OpId}
 use Rattle.fvn_terms.specs.declared.declarations.Declarations.{Declarations}
@@ -24,19 +23,19 @@ use Rattle.fvn_forms.proofs.ToCanon.{canon_of_kind}
 use Rattle.fvn_flat.specs.Problems.{variables_of}
 use Rattle.fvn_flat.specs.SolvedLists.{Plan, Part}
 use Rattle.fvn_flat.proofs.Binding.{same_var_is, same_var_itself}
-use Rattle.fvn_nodes.specs.Table.{NodeTable, term_at}
+use Rattle.fvn_nodes.specs.Table.{NodeTable}
 use Rattle.fvn_nodes.specs.States.{class_of}
 use Rattle.fvn_nodes.specs.Unifiers.{value_at}
 use Rattle.fvn_nodes.specs.declared.state.State.{State}
 use Rattle.fvn_nodes.specs.declared.table.Node.{Node}
 use Rattle.fvn_nodes.specs.declared.table.Node.TheVariants.{Var, App}
-use Rattle.fvn_sums.specs.NodeSystems.{is_headed, sums}
+use Rattle.fvn_sums.specs.NodeSystems.{is_headed}
 use Rattle.fvn_frames.specs.Frames.{IsSumOperator}
 use Rattle.fvn_plans.specs.Choosing.{Systems, Choice}
 use Rattle.fvn_plans.specs.Plans.{IsForSolution}
 use Rattle.fvn_obeying.proofs.Asked.{sum_told}
 use Rattle.fvn_obeying.proofs.Entries.{paired}
-use Rattle.fvn_obeying.proofs.Setting.{Setting, value_kinded, name_kinded, name_of_kind, names_apart, column_within}
+use Rattle.fvn_obeying.proofs.Setting.{Setting, name_kinded, name_of_kind, names_apart, column_within}
 use Rattle.fvn_obeying.proofs.Standing.{part_among, entry_alone, entry_some, entry_pieces, entry_settled, entry_kinded, entry_variable, entries_apart}
 
 -- the operators that head nodes

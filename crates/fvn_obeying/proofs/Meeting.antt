@@ -69,7 +69,7 @@ module _ (law : CountsSolve) (d : Declarations) (t : NodeTable) (made : IsWellMa
   ]
 
   module _ (basis : List (List ℕ)) (exact : (v : List ℕ) → Contains basis v ↔ IsMinimal system.columns (rows_of system) v) (constants : List ℕ) (may_be_zero : List Bool) (asked : AreAsked d t (class_of s) tag f columns constants may_be_zero) where
-    pub counts_meet : CountsMeet d (class_of s) f values columns system basis constants may_be_zero
+    pub counts_meet : CountsMeet d f values columns system basis constants may_be_zero
     counts_meet =
         let solve = (law d t (class_of s) f sum.associative columns system is values go_with.are.settled adds_nothing).0 add_up in
         record {
@@ -105,5 +105,5 @@ module _ (law : CountsSolve) (d : Declarations) (t : NodeTable) (made : IsWellMa
 
 pub values_meet : (law : CountsSolve) (d : Declarations) (t : NodeTable) → IsWellMade t → HasSums d t → (s : State) → IsFrame d t s → IsTold d t (class_of s) → (values : ℕ → FlatTerm) → GoWith d t s values → (tag : ℕ → Option OpId) → ObeyTags d t (class_of s) tag values →
     (f : OpId) → IsSumOperator d t f → (columns : List ℕ) (system : System) → IsNodeSystem t (class_of s) f columns system → (basis : List (List ℕ)) → ((v : List ℕ) → Contains basis v ↔ IsMinimal system.columns (rows_of system) v) →
-    (constants : List ℕ) (may_be_zero : List Bool) → AreAsked d t (class_of s) tag f columns constants may_be_zero → CountsMeet d (class_of s) f values columns system basis constants may_be_zero
+    (constants : List ℕ) (may_be_zero : List Bool) → AreAsked d t (class_of s) tag f columns constants may_be_zero → CountsMeet d f values columns system basis constants may_be_zero
 values_meet law d t made has s frame told values go_with tag obey f sum columns system is basis exact constants may_be_zero asked = counts_meet law d t made has s frame told values go_with tag obey f sum columns system is basis exact constants may_be_zero asked

@@ -1,5 +1,5 @@
 -- Values that go with a frame obey a possible choice.
-use Rattle.std.proofs.Common.{◌≡◌, ℕ, true, List, [], refl, sym, ap, ◌∙◌, subst, inl, inr, Option, Some, None, Contains}
+use Rattle.std.proofs.Common.{◌≡◌, ℕ, List, [], refl, sym, ap, ◌∙◌, subst, inl, inr, Option, Some, None}
 use Rattle.std.specs.Prelude.{◌↔◌}
 use Rattle.fvn_base.specs.Decided.{Decided}
 use Rattle.fvn_base.proofs.Options.{Some-injective}
@@ -65,7 +65,7 @@ module _ (choose : ValuesChoose) (aliases : NoAliases) (law : MadeUpByTaken) (d 
   asked_for : (f : OpId) → IsSumOperator d t f → Asked d t made has s frame told values go_with tag obey f (y.columns f)
   asked_for f sum = asked d t made has s frame told values go_with tag obey f sum (y.columns f) (systems.is_system f sum).exact
 
-  chosen_for : (f : OpId) (sum : IsSumOperator d t f) → IsChosen d class f values (y.columns f) (y.system f) (y.basis f) (asked_for f sum).constants (asked_for f sum).may_be_zero
+  chosen_for : (f : OpId) (sum : IsSumOperator d t f) → IsChosen d f values (y.columns f) (y.system f) (y.basis f) (asked_for f sum).constants (asked_for f sum).may_be_zero
   chosen_for f sum =
       choose d t made has s frame told values go_with tag obey f sum (y.columns f) (y.system f) (systems.is_system f sum) (y.basis f) (systems.exact f sum)
       (asked_for f sum).constants (asked_for f sum).may_be_zero (asked_for f sum).are_asked

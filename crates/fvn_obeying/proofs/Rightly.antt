@@ -1,7 +1,7 @@
 -- The bindings of a plan are right for the values.
-use Rattle.std.proofs.Common.{◌≡◌, ◌⊎◌, ℕ, zero, suc, ◌+◌, ◌<◌, List, [], ◌∷◌, length, map, refl, sym, ap, ◌∙◌, subst, inl, inr, arith, All, Contains, Option, Some, None}
+use Rattle.std.proofs.Common.{◌≡◌, ℕ, ◌<◌, List, [], ◌∷◌, length, map, refl, sym, ap, ◌∙◌, subst, inl, inr, arith, All, Contains, Option, Some, None}
 use Rattle.std.specs.List.{AllByRecursion}
-use Rattle.std.proofs.lemmas.List.Elements.{All-contains_itself, All-weaker, All-head, All-tail}
+use Rattle.std.proofs.lemmas.List.Elements.{All-head, All-tail}
 use Rattle.std.proofs.lemmas.Option.{slice_get_within}
 use Rattle.fvn_base.proofs.Options.{Some-injective}
 use Rattle.fvn_terms.specs.declared.plain.Var.{Var}
@@ -11,19 +11,18 @@ use Rattle.fvn_terms.specs.declared.declarations.Axioms.{Axioms}
 use Rattle.fvn_terms.specs.declared.declarations.Axioms.TheVariants.{Free, Comm, AssocComm, AssocCommId}
 use Rattle.fvn_terms.specs.declared.declarations.Rank.{Rank}
 use Rattle.fvn_terms.specs.declared.declarations.Declarations.{Declarations}
-use Rattle.fvn_terms.specs.Term.{Term, Terms, var, app, none, more, pack}
+use Rattle.fvn_terms.specs.Term.{Terms, var, app, none, more, pack}
 use Rattle.fvn_terms.specs.Substitution.{Substitution, apply}
-use Rattle.fvn_terms.specs.Signature.{kind, declared, axioms, IsSort, HasKind, HaveKinds, IsTerm, AtOrBelow}
-use Rattle.fvn_terms.specs.Equality.{IsAssociative, constant}
+use Rattle.fvn_terms.specs.Signature.{kind, declared, axioms, HasKind, HaveKinds, IsTerm, AtOrBelow}
 use Rattle.fvn_terms.specs.Unifiers.{Problem}
-use Rattle.fvn_forms.specs.Flat.{FlatTerm, fvar, fapp, fnone, fconstant, plain, plain_all, fpack}
+use Rattle.fvn_forms.specs.Flat.{FlatTerm, fvar, plain, plain_all, fpack}
 use Rattle.fvn_forms.specs.InOrder.{count, SameCounts}
-use Rattle.fvn_forms.specs.Canon.{parts, sum, build, canon, eval, eval_all, inst, identity, empty_sum}
+use Rattle.fvn_forms.specs.Canon.{parts, sum, build, canon, eval_all, inst, identity, empty_sum}
 use Rattle.fvn_forms.specs.Settled.{Settled, IsPiece}
 use Rattle.fvn_forms.specs.Ranks.{result}
 use Rattle.fvn_forms.specs.LeastSort.{sort_in, least_sort, KeepsKindsOfVariables}
 use Rattle.fvn_forms.proofs.Build.{HasIdentity, parts_none, sum_settled}
-use Rattle.fvn_forms.proofs.Eval.{canon_settled, canon_plain}
+use Rattle.fvn_forms.proofs.Eval.{canon_settled}
 use Rattle.fvn_forms.proofs.InOrder.{count_itself}
 use Rattle.fvn_forms.proofs.Instances.{eval_canon}
 use Rattle.fvn_forms.proofs.KindsOfSums.{sum_of_forms_of_kind}
@@ -33,7 +32,7 @@ use Rattle.fvn_forms.proofs.SortOrder.{AtOrBelow-from_same}
 use Rattle.fvn_forms.proofs.Sums.{sum_parts, sum_same_counts}
 use Rattle.fvn_forms.proofs.ToCanon.{canon_of_kind, identity_is}
 use Rattle.fvn_flat.specs.Problems.{variables_of}
-use Rattle.fvn_flat.specs.SolvedLists.{Plan, Form, unbound, as_member, as_sum, members, IsSimple, IsClass, IsBinding, bound_as, bound_to, names_of, over_classes}
+use Rattle.fvn_flat.specs.SolvedLists.{Plan, Form, unbound, as_member, as_sum, members, IsSimple, IsBinding, bound_as, bound_to, names_of, over_classes}
 use Rattle.fvn_nodes.specs.Table.{NodeTable, IsOver, term_at}
 use Rattle.fvn_nodes.specs.States.{class_of}
 use Rattle.fvn_nodes.specs.Laws.{class_at}
@@ -42,15 +41,14 @@ use Rattle.fvn_nodes.specs.declared.state.State.{State}
 use Rattle.fvn_nodes.specs.declared.table.Node.TheVariants.{App}
 use Rattle.fvn_nodes.proofs.Nodes.{term_at-over, arguments_within}
 use Rattle.fvn_frames.specs.Frames.{IsSumOperator, Uses}
-use Rattle.fvn_plans.specs.Binding.{IsBound}
-use Rattle.fvn_plans.specs.Choosing.{Systems, Choice, taken}
-use Rattle.fvn_plans.specs.Plans.{IsSimpleAt, IsFormBy}
+use Rattle.fvn_plans.specs.Choosing.{Systems, Choice}
+use Rattle.fvn_plans.specs.Plans.{IsFormBy}
 use Rattle.fvn_obeying.specs.LaidOut.{laid_for}
 use Rattle.fvn_obeying.proofs.Entries.{entries, members_are, spread_are, each_entry}
 use Rattle.fvn_obeying.proofs.Kinded.{node_kinded}
 use Rattle.fvn_obeying.proofs.Later.{later, later_flat, value_of_name, value_of_part, value_of_variable}
 use Rattle.fvn_obeying.proofs.NodesOf.{node_of, variable_node, class_of_node}
-use Rattle.fvn_obeying.proofs.Setting.{Setting, value_kinded, class_within, same_value, column_rank, column_kinded, column_within, name_kinded, name_of_kind, column_name}
+use Rattle.fvn_obeying.proofs.Setting.{Setting, value_kinded, class_within, same_value, column_rank, column_within, name_kinded, name_of_kind, column_name}
 use Rattle.fvn_obeying.proofs.Spread.{variables_in, spread, Stands, value_of_sum, sort_of_sum}
 use Rattle.fvn_obeying.proofs.Standing.{as_many, entry_some, entry_pieces, entry_settled, entry_kinded, variable_kinded}
 use Rattle.fvn_obeying.proofs.Unfolding.{env, env_keeps, IsRight}

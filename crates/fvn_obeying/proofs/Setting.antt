@@ -1,8 +1,7 @@
 -- A frame that admits a unifier's partition, with a choice that the unifier's values obey, and the kinds of the values.
-use Rattle.std.proofs.Common.{◌≡◌, ℕ, ◌+◌, ◌<◌, List, [], ◌∷◌, length, map, refl, sym, ap, ◌∙◌, subst, inl, inr, arith, Contains}
+use Rattle.std.proofs.Common.{◌≡◌, ℕ, ◌<◌, [], ◌∷◌, length, sym, ap, ◌∙◌, subst, inl, inr, arith, Contains}
 use Rattle.std.proofs.lemmas.Option.{slice_get_within}
 use Rattle.fvn_base.proofs.Membership.{contains_cases, contains_none}
-use Rattle.fvn_terms.specs.declared.plain.Var.{Var}
 use Rattle.fvn_terms.specs.declared.plain.OpId.{OpId}
 use Rattle.fvn_terms.specs.declared.plain.SortId.{SortId}
 use Rattle.fvn_terms.specs.declared.declarations.Rank.{Rank}
@@ -34,7 +33,7 @@ use Rattle.fvn_obeying.specs.CoveringChoices.{IsAfterNumbersOf}
 use Rattle.fvn_obeying.specs.Obeyed.{AreObeying}
 use Rattle.fvn_obeying.specs.Obeying.{HasSums, IsTold, GoWith}
 use Rattle.fvn_obeying.proofs.Kinded.{node_kinded}
-use Rattle.fvn_obeying.proofs.Values.{IsName, own_name}
+use Rattle.fvn_obeying.proofs.Values.{own_name}
 
 -- a frame that admits a unifier's partition, a choice that the unifier's values obey, and a plan of the choice
 pub record Setting (d : Declarations) (problem : Problem) (t : NodeTable) (s : State) (y : Systems) (u : Substitution) (c : Choice) (first next : ℕ) (plan : Plan) : Type 0 where

@@ -1,13 +1,12 @@
 -- The variables that stand for solutions, and the pieces of these.
-use Rattle.std.proofs.Common.{◌≡◌, ◌≢◌, ◌⊎◌, ℕ, zero, suc, ◌+◌, ◌<◌, ◌≤◌, true, false, List, [], ◌∷◌, length, map, get_or, refl, sym, ap, ◌∙◌, subst, inl, inr, arith, All, AllPairs, Contains}
+use Rattle.std.proofs.Common.{◌≡◌, ◌⊎◌, ℕ, ◌<◌, List, [], ◌∷◌, length, map, get_or, sym, ap, ◌∙◌, subst, inl, inr, arith, Contains}
 use Rattle.std.specs.List.{AllByRecursion}
 use Rattle.std.proofs.lemmas.Bool.{cases_eq, cases_order}
 use Rattle.std.proofs.lemmas.List.{get_or-map, length-map, get_or_default}
-use Rattle.std.proofs.lemmas.List.Elements.{All-contains, Contains-get_or}
+use Rattle.std.proofs.lemmas.List.Elements.{All-contains}
 use Rattle.fvn_base.specs.Decided.{Decided}
-use Rattle.fvn_base.proofs.Decided.{some_or_none, both_or}
+use Rattle.fvn_base.proofs.Decided.{some_or_none}
 use Rattle.fvn_base.proofs.Membership.{contains_here, contains_later}
-use Rattle.fvn_terms.specs.declared.plain.Var.{Var}
 use Rattle.fvn_terms.specs.declared.plain.OpId.{OpId}
 use Rattle.fvn_terms.specs.declared.declarations.Rank.{Rank}
 use Rattle.fvn_terms.specs.declared.declarations.Declarations.{Declarations}
@@ -25,7 +24,7 @@ use Rattle.fvn_nodes.specs.Table.{NodeTable}
 use Rattle.fvn_nodes.specs.States.{class_of}
 use Rattle.fvn_nodes.specs.Unifiers.{value_at}
 use Rattle.fvn_nodes.specs.declared.state.State.{State}
-use Rattle.fvn_frames.specs.Frames.{IsSumOperator, Uses}
+use Rattle.fvn_frames.specs.Frames.{IsSumOperator}
 use Rattle.fvn_plans.specs.Binding.{IsConstant}
 use Rattle.fvn_plans.specs.Choosing.{Systems, Choice, taken}
 use Rattle.fvn_plans.specs.Plans.{IsForSolution, StandsFor}

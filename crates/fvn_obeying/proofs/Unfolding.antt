@@ -1,12 +1,12 @@
 -- What bindings unfold to, where each is right for values of variables.
 use Rattle.std.proofs.Common.{◌≡◌, true, false, List, [], ◌∷◌, refl, sym, ap, ◌∙◌, subst, inl, inr, All, Contains}
-use Rattle.std.specs.Prelude.{Bool, if◌then◌else◌}
+use Rattle.std.specs.Prelude.{if◌then◌else◌}
 use Rattle.std.proofs.lemmas.Bool.{cases_Bool}
 use Rattle.std.proofs.lemmas.List.Elements.{All-head, All-tail}
 use Rattle.fvn_terms.specs.declared.plain.Var.{Var}
 use Rattle.fvn_terms.specs.declared.plain.SortId.{SortId}
 use Rattle.fvn_terms.specs.declared.declarations.Declarations.{Declarations}
-use Rattle.fvn_terms.specs.Term.{Term, var}
+use Rattle.fvn_terms.specs.Term.{var}
 use Rattle.fvn_terms.specs.Substitution.{Substitution, apply, same_var}
 use Rattle.fvn_terms.specs.Signature.{kind, IsSort, HasKind, AtOrBelow, same, KeepsKinds}
 use Rattle.fvn_terms.specs.Equality.{BEqual}
@@ -16,7 +16,7 @@ use Rattle.fvn_forms.specs.Canon.{eval, canon, inst}
 use Rattle.fvn_forms.specs.Settled.{Settled}
 use Rattle.fvn_forms.specs.Good.{IsGood}
 use Rattle.fvn_forms.specs.LeastSort.{sort_in, least_sort, KeepsKindsOfVariables, IsFlatSubstitution}
-use Rattle.fvn_forms.proofs.SortOrder.{AtOrBelow-trans, AtOrBelow-antisym, AtOrBelow-from_same}
+use Rattle.fvn_forms.proofs.SortOrder.{AtOrBelow-trans, AtOrBelow-antisym}
 use Rattle.fvn_forms.proofs.Eval.{canon_settled, canon_plain, eval_apply}
 use Rattle.fvn_forms.proofs.Instances.{eval_canon}
 use Rattle.fvn_forms.proofs.LeastSort.{eval_is_canon, value_sort_keeps, inst_lowers, sort_in_monotone}

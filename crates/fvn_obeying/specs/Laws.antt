@@ -36,14 +36,14 @@ use Rattle.fvn_obeying.specs.Obeyed.{AreObeying}
 use Rattle.fvn_obeying.specs.Obeying.{HasSums, IsTold, GoWith, ObeyTags}
 
 -- what is counted of each flat form in the columns of f solves f's system, and meets what is asked of the choice
-pub record CountsMeet (d : Declarations) (class : ℕ → ℕ) (f : OpId) (values : ℕ → FlatTerm) (columns : List ℕ) (system : System) (basis : List (List ℕ)) (constants : List ℕ) (may_be_zero : List Bool) : Type 0 where
+pub record CountsMeet (d : Declarations) (f : OpId) (values : ℕ → FlatTerm) (columns : List ℕ) (system : System) (basis : List (List ℕ)) (constants : List ℕ) (may_be_zero : List Bool) : Type 0 where
   pub counted : FlatTerm → List ℕ
   pub counts : (q : FlatTerm) → Counts d f values columns (rows_of system) q (counted q)
   pub solve : (q : FlatTerm) → Solves system.columns (rows_of system) (counted q)
   pub meets : Meets constants may_be_zero basis counted (λ j. values (slice_index columns j))
 
 -- minimal solutions that are chosen, with their pieces, which make up what is counted
-pub record IsChosen (d : Declarations) (class : ℕ → ℕ) (f : OpId) (values : ℕ → FlatTerm) (columns : List ℕ) (system : System) (basis : List (List ℕ)) (constants : List ℕ) (may_be_zero : List Bool) : Type 0 where
+pub record IsChosen (d : Declarations) (f : OpId) (values : ℕ → FlatTerm) (columns : List ℕ) (system : System) (basis : List (List ℕ)) (constants : List ℕ) (may_be_zero : List Bool) : Type 0 where
   pub counted : FlatTerm → List ℕ
   pub counts : (q : FlatTerm) → Counts d f values columns (rows_of system) q (counted q)
   pub pieces : List (List FlatTerm)
@@ -52,7 +52,7 @@ pub record IsChosen (d : Declarations) (class : ℕ → ℕ) (f : OpId) (values 
   -- a solution that is chosen and has a constant has the value of its class as its one piece
   pub stand : StandAlone constants basis pieces (λ j. values (slice_index columns j))
 
--- so it is where values go with a frame and obey the tags
+-- what is counted of values that go with a frame and obey tags meets what is asked for each sum operator
 abbrev pub ValuesMeetWhatIsAsked : Type 0
 ValuesMeetWhatIsAsked =
     (d : Declarations) (t : NodeTable) → IsWellMade t → HasSums d t → (s : State) → IsFrame d t s → IsTold d t (class_of s)
@@ -60,9 +60,9 @@ ValuesMeetWhatIsAsked =
     → (f : OpId) → IsSumOperator d t f → (columns : List ℕ) (system : System) → IsNodeSystem t (class_of s) f columns system
     → (basis : List (List ℕ)) → ((v : List ℕ) → Contains basis v ↔ IsMinimal system.columns (rows_of system) v)
     → (constants : List ℕ) (may_be_zero : List Bool) → AreAsked d t (class_of s) tag f columns constants may_be_zero
-    → CountsMeet d (class_of s) f values columns system basis constants may_be_zero
+    → CountsMeet d f values columns system basis constants may_be_zero
 
--- and minimal solutions are chosen
+-- such values choose minimal solutions for each sum operator
 abbrev pub ValuesChoose : Type 0
 ValuesChoose =
     (d : Declarations) (t : NodeTable) → IsWellMade t → HasSums d t → (s : State) → IsFrame d t s → IsTold d t (class_of s)
@@ -70,23 +70,23 @@ ValuesChoose =
     → (f : OpId) → IsSumOperator d t f → (columns : List ℕ) (system : System) → IsNodeSystem t (class_of s) f columns system
     → (basis : List (List ℕ)) → ((v : List ℕ) → Contains basis v ↔ IsMinimal system.columns (rows_of system) v)
     → (constants : List ℕ) (may_be_zero : List Bool) → AreAsked d t (class_of s) tag f columns constants may_be_zero
-    → IsChosen d (class_of s) f values columns system basis constants may_be_zero
+    → IsChosen d f values columns system basis constants may_be_zero
 
 -- the summands of the value of a used column's class are the pieces, laid out as the column says
 abbrev pub ValuesAreLaidOut : Type 0
 ValuesAreLaidOut =
-    (d : Declarations) (class : ℕ → ℕ) (f : OpId) (values : ℕ → FlatTerm) (columns : List ℕ) (system : System)
+    (d : Declarations) (f : OpId) (values : ℕ → FlatTerm) (columns : List ℕ) (system : System)
     → (basis : List (List ℕ)) → ((v : List ℕ) → Contains basis v ↔ IsMinimal system.columns (rows_of system) v)
-    → (constants : List ℕ) (may_be_zero : List Bool) → (ch : IsChosen d class f values columns system basis constants may_be_zero)
+    → (constants : List ℕ) (may_be_zero : List Bool) → (ch : IsChosen d f values columns system basis constants may_be_zero)
     → (j : ℕ) → j < length columns → (IsUnused (rows_of system) j → ⊥)
     → SameCounts (parts d f (values (slice_index columns j))) (laid_out j ch.pieces basis)
 
 -- a value with two summands or more is no sum of a single constant: where a solution that is chosen has its column and a constant, the choice has two there
 abbrev pub NoAliases : Type 0
 NoAliases =
-    (d : Declarations) (class : ℕ → ℕ) (f : OpId) (values : ℕ → FlatTerm) (columns : List ℕ) (system : System)
+    (d : Declarations) (f : OpId) (values : ℕ → FlatTerm) (columns : List ℕ) (system : System)
     → (basis : List (List ℕ)) → ((v : List ℕ) → Contains basis v ↔ IsMinimal system.columns (rows_of system) v)
-    → (constants : List ℕ) (may_be_zero : List Bool) → (ch : IsChosen d class f values columns system basis constants may_be_zero)
+    → (constants : List ℕ) (may_be_zero : List Bool) → (ch : IsChosen d f values columns system basis constants may_be_zero)
     → (i j c : ℕ) → i < length basis → has_some (slice_index_or ch.pieces i []) ≡ true → j < length columns → (IsUnused (rows_of system) j → ⊥) → Contains constants c
     → 2 ≤ length (parts d f (values (slice_index columns j))) → 0 < slice_index (slice_index_or basis i []) j → 0 < slice_index (slice_index_or basis i []) c
     → 2 ≤ column_sum j (chosen (number_of ch.pieces) basis)
