@@ -26,7 +26,7 @@ use Rattle.fvn_obeying.specs.Laws.{IsChosen, NoAliases}
 use Rattle.fvn_obeying.specs.LaidOut.{laid_for}
 use Rattle.fvn_obeying.specs.Obeying.{HasSums, IsTold, GoWith, ObeyTags}
 use Rattle.fvn_obeying.specs.Obeyed.{IsSummand, AreMadeOf}
-use Rattle.fvn_obeying.proofs.Aliases.{laid_out_are, no_alias}
+use Rattle.fvn_obeying.proofs.Aliases.{laid_out_are}
 use Rattle.fvn_obeying.proofs.Asked.{uses_told}
 use Rattle.fvn_obeying.proofs.Meeting.{component_at, not_unused}
 use Rattle.fvn_obeying.proofs.Taken.{laid_for_is, TakenAt, taken_at, some_are_some, contains_counted, laid_counts, sum_by_alike}
@@ -110,7 +110,7 @@ module _ (d : Declarations) (t : NodeTable) (made : IsWellMade t) (has : HasSums
     minimal : IsMinimal (y.system f).columns (rows_of (y.system f)) v
     minimal = (exact v).0 (Contains-get_or (y.basis f) (from i l).place [] (from i l).within)
 
-    summand_at : (j : ℕ) → j < length v → 0 < get_or v j 0 → IsSummand d t class y c values f q
+    summand_at : (j : ℕ) → j < length v → 0 < get_or v j 0 → IsSummand d t class values f q
     summand_at j m p =
         let within : j < length (y.columns f) = let e = minimal.solves.sized in let w = is_node_system.wide in omega (arith, m, e, w) in
         let k = get_or (y.columns f) j 0 in
@@ -138,7 +138,7 @@ module _ (d : Declarations) (t : NodeTable) (made : IsWellMade t) (has : HasSums
                   | inr z ↦ absurd (n (record { associative = sum.associative; column = (is_node_system.exact k).0 (Contains-get_or (y.columns f) j 0 within); row = r; listed = listed; other = z }))
                 ]
 
-    summand : IsSummand d t class y c values f q
+    summand : IsSummand d t class values f q
     summand = let r = some_component v minimal.nonzero in summand_at r.0 r.1 r.2
 
   pub made_of : AreMadeOf d t class y c values f (some_of ch.pieces)

@@ -62,7 +62,7 @@ frames_cover go_with sums obey fall cover d good problem kinded t made table s f
     let values = go_with d good.fits problem kinded t made table u unifier s frame.closed admits in
     let chosen = obey d t made has s frame told y systems (value_at d u t.nodes) values in
     let c = chosen.0 in
-    let ranked = fall d t made has s frame told y systems (value_at d u t.nodes) values c chosen.2 in (
+    let ranked = fall d t made has s frame told y (value_at d u t.nodes) values c chosen.2 in (
       c,
       record {
         possible = chosen.1;

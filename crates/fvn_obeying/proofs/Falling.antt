@@ -20,7 +20,7 @@ use Rattle.fvn_nodes.specs.States.{class_of}
 use Rattle.fvn_nodes.specs.declared.state.State.{State}
 use Rattle.fvn_frames.specs.Frames.{IsFrame, IsSumOperator, IsSolid, Uses}
 use Rattle.fvn_plans.specs.Binding.{IsBound, solid, alone, tagged, IsConstant}
-use Rattle.fvn_plans.specs.Choosing.{Systems, Choice, AreSystems, AreTakenTogether, argument, summand, Falls, taken}
+use Rattle.fvn_plans.specs.Choosing.{Systems, Choice, AreTakenTogether, argument, summand, Falls, taken}
 use Rattle.fvn_obeying.specs.Obeying.{HasSums, IsTold, GoWith}
 use Rattle.fvn_obeying.specs.Obeyed.{AreObeying}
 use Rattle.fvn_obeying.proofs.Heads.{build_free, build_commutative}
@@ -60,7 +60,7 @@ argument_smaller d f simple l q c = go (axioms d f) refl
     go AssocComm e = absurd (subst IsSimple e simple)
     go (AssocCommId o) e = absurd (subst IsSimple e simple)
 
-module _ (d : Declarations) (t : NodeTable) (made : IsWellMade t) (has : HasSums d t) (s : State) (frame : IsFrame d t s) (told : IsTold d t (class_of s)) (y : Systems) (systems : AreSystems d t (class_of s) y) (values : ℕ → FlatTerm) (go_with : GoWith d t s values) (c : Choice) (obeying : AreObeying d t (class_of s) y c values) where
+module _ (d : Declarations) (t : NodeTable) (made : IsWellMade t) (has : HasSums d t) (s : State) (frame : IsFrame d t s) (told : IsTold d t (class_of s)) (y : Systems) (values : ℕ → FlatTerm) (go_with : GoWith d t s values) (c : Choice) (obeying : AreObeying d t (class_of s) y c values) where
   abbrev class : ℕ → ℕ
   class = class_of s
 

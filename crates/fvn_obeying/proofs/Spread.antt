@@ -10,10 +10,9 @@ use Rattle.fvn_terms.specs.Term.{var}
 use Rattle.fvn_terms.specs.Signature.{kind, declared, axioms, HasKind, AtOrBelow}
 use Rattle.fvn_terms.specs.Equality.{IsAssociative}
 use Rattle.fvn_forms.specs.Flat.{FlatTerm, fvar, plain}
-use Rattle.fvn_forms.specs.InOrder.{sort, count, SameCounts}
+use Rattle.fvn_forms.specs.InOrder.{count, SameCounts}
 use Rattle.fvn_forms.specs.Canon.{parts, all_parts, sum, build, inst}
 use Rattle.fvn_forms.specs.Settled.{Settled, IsPiece}
-use Rattle.fvn_forms.specs.Ranks.{result}
 use Rattle.fvn_forms.specs.Good.{IsGood, IsOfKind}
 use Rattle.fvn_forms.specs.LeastSort.{sort_in, least_sort, KeepsKindsOfVariables, IsFlatSubstitution}
 use Rattle.fvn_forms.proofs.InOrder.{count_append, count_sort, each_append}

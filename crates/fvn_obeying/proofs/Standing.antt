@@ -1,7 +1,7 @@
 -- The variables that stand for solutions, and the pieces of these.
-use Rattle.std.proofs.Common.{◌≡◌, ◌⊎◌, ℕ, ◌<◌, List, [], ◌∷◌, length, map, get_or, sym, ap, ◌∙◌, subst, inl, inr, arith, Contains}
+use Rattle.std.proofs.Common.{◌≡◌, ◌⊎◌, ℕ, ◌<◌, List, [], ◌∷◌, length, map, get_or, sym, ap, ◌∙◌, subst, inl, inr, arith, Contains, zero, suc, refl}
 use Rattle.std.specs.List.{AllByRecursion}
-use Rattle.std.proofs.lemmas.Bool.{cases_eq, cases_order}
+use Rattle.std.proofs.lemmas.Bool.{cases_order}
 use Rattle.std.proofs.lemmas.List.{get_or-map, length-map, get_or_default}
 use Rattle.std.proofs.lemmas.List.Elements.{All-contains}
 use Rattle.fvn_base.specs.Decided.{Decided}
@@ -37,6 +37,10 @@ use Rattle.fvn_obeying.proofs.Setting.{Setting, column_kinded, column_within, co
 each_from : {A : Type 0} (P : A → Type 0) (l : List A) → ((x : A) → Contains l x → P x) → AllByRecursion P l
 each_from P [] h = tt
 each_from P (x ∷ l) h = (h x (contains_here x l), each_from P l (λ z m. h z (contains_later x l z m)))
+
+zero_or_more : (n : ℕ) → (n ≡ 0) ⊎ (0 < n)
+zero_or_more zero = inl refl
+zero_or_more (suc n) = inr (omega arith)
 
 module _ {d : Declarations} {problem : Problem} {t : NodeTable} {s : State} {y : Systems} {u : Substitution} {c : Choice} {first next : ℕ} {plan : Plan} (g : Setting d problem t s y u c first next plan) (f : OpId) (sum : IsSumOperator d t f) where
   abbrev class : ℕ → ℕ
@@ -83,7 +87,7 @@ module _ {d : Declarations} {problem : Problem} {t : NodeTable} {s : State} {y :
     pub entry_some : e.1 ≡ [] → ⊥
     entry_some = made.some e.1 piece_among
 
-    summand : (q : FlatTerm) → Contains e.1 q → IsSummand d t class y c values f q
+    summand : (q : FlatTerm) → Contains e.1 q → IsSummand d t class values f q
     summand q m = made.summands e.1 q piece_among m
 
     pub entry_pieces : AllByRecursion (IsPiece d f) e.1
@@ -110,21 +114,12 @@ module _ {d : Declarations} {problem : Problem} {t : NodeTable} {s : State} {y :
       where
         told : (k : ℕ) → Decided (HasConstant k)
         told k = elim (constant_told d t g.made g.has s g.frame g.told values g.go_with c.tag g.obeying.tags f k (user_told d t class y g.systems f k)) [
-          | inl h ↦ elim (cases_eq (component (y.columns f) e.0.solution k) 0) [
+          | inl h ↦ elim (zero_or_more (component (y.columns f) e.0.solution k)) [
             | inl z ↦ inr (λ o. let p = o.positive in omega (arith, p, z))
-            | inr n ↦ inl (record { constant = h; positive = positive n })
+            | inr p ↦ inl (record { constant = h; positive = p })
           ]
           | inr n ↦ inr (λ o. n o.constant)
         ]
-          where
-            positive : (component (y.columns f) e.0.solution k ≡ 0 → ⊥) → 0 < component (y.columns f) e.0.solution k
-            positive n = elim (cases_order 0 (component (y.columns f) e.0.solution k)) [
-              | inl z ↦ absurd (n (sym z))
-              | inr o ↦ elim o [
-                | inl l ↦ l
-                | inr l ↦ absurd (omega (arith, l))
-              ]
-            ]
 
     stands_for : StandsFor d t class y c first next plan f e.0
     stands_for = All-contains (StandsFor d t class y c first next plan f) (plan.parts f) e.0 (g.plan_by.standing f sum) part_among
@@ -133,15 +128,9 @@ module _ {d : Declarations} {problem : Problem} {t : NodeTable} {s : State} {y :
     pub entry_variable : ((k : ℕ) × HasConstant k × (e.0.variable ≡ plan.name k)) ⊎ IsForSolution d t first next f e.0.variable
     entry_variable = elim constant_or_none [
       | inl h ↦ inl (h.0, h.1, stands_for.constant h.0 h.1.constant h.1.positive)
-      | inr n ↦ inr (stands_for.other (λ k h. elim (cases_eq (component (y.columns f) e.0.solution k) 0) [
+      | inr n ↦ inr (stands_for.other (λ k h. elim (zero_or_more (component (y.columns f) e.0.solution k)) [
         | inl z ↦ z
-        | inr p ↦ absurd (n k (record {
-          constant = h;
-          positive = elim (cases_order 0 (component (y.columns f) e.0.solution k)) [
-            | inl z ↦ absurd (p (sym z))
-            | inr o ↦ elim o [ inl l ↦ l | inr l ↦ absurd (omega (arith, l)) ]
-          ];
-        }))
+        | inr p ↦ absurd (n k (record { constant = h; positive = p }))
       ]))
     ]
 

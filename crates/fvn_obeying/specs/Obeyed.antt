@@ -13,19 +13,20 @@ use Rattle.fvn_plans.specs.Choosing.{Systems, Choice, taken}
 use Rattle.fvn_obeying.specs.LaidOut.{laid_for}
 use Rattle.fvn_obeying.specs.Obeying.{ObeyTags}
 
-module _ (d : Declarations) (t : NodeTable) (class : ℕ → ℕ) (y : Systems) (c : Choice) (values : ℕ → FlatTerm) where
+module _ (d : Declarations) (t : NodeTable) (class : ℕ → ℕ) (values : ℕ → FlatTerm) where
   -- q is a summand, under f, of the value of a class that f uses
   pub record IsSummand (f : OpId) (q : FlatTerm) : Type 0 where
     pub k : ℕ
     pub used : Uses d t class f k
     pub among : Contains (parts d f (values k)) q
 
+module _ (d : Declarations) (t : NodeTable) (class : ℕ → ℕ) (y : Systems) (c : Choice) (values : ℕ → FlatTerm) where
   -- for each solution that is taken for f the pieces that it stands for: summands of values, which are made up of them
   pub record AreMadeOf (f : OpId) (pieces : List (List FlatTerm)) : Type 0 where
     pub as_many : length pieces ≡ length (taken y c f)
     -- each solution stands for something
     pub some : (z : List FlatTerm) → Contains pieces z → z ≡ [] → ⊥
-    pub summands : (z : List FlatTerm) (q : FlatTerm) → Contains pieces z → Contains z q → IsSummand f q
+    pub summands : (z : List FlatTerm) (q : FlatTerm) → Contains pieces z → Contains z q → IsSummand d t class values f q
     -- the summands of each used class are the pieces, as often as the solutions have the class
     pub made : (k : ℕ) → Uses d t class f k → SameCounts (parts d f (values k)) (laid_for (y.columns f) k (taken y c f) pieces)
     -- a solution that has a constant stands for the constant's value alone
