@@ -12,13 +12,13 @@ use Rattle.fvn_nodes.specs.declared.state.State.{State}
 use Rattle.fvn_sums.specs.Values.{AreValues}
 use Rattle.fvn_frames.specs.Frames.{IsSolid, Uses, IsShared}
 
--- what well-kinded problems give: sums stand over two subterms, and identities are nodes
+-- what well-kinded problems give: a sum has two arguments and is a subterm, and identities are nodes
 pub record HasSums (d : Declarations) (t : NodeTable) : Type 0 where
   pub pairs : (i : ℕ) (f : OpId) (ks : List ℕ) → IsOver t.nodes i f ks → IsAssociative (axioms d f) → (length ks ≡ 2) × Contains t.subterms i
   pub units : (p : OpId × ℕ) → Contains t.units p → (e : OpId) × (identity (axioms d p.0) ≡ Some e) × IsOver t.nodes p.1 e []
   pub all_units : (i : ℕ) (f e : OpId) (ks : List ℕ) → Contains t.subterms i → IsOver t.nodes i f ks → identity (axioms d f) ≡ Some e → Any (λ p. p.0 ≡ f) t.units
 
--- of each class it is told whether an operator without an identity heads a member, and whether another operator uses it
+-- of each class it is told whether an operator without an identity heads a member, and whether an operator other than a given one uses it
 pub record IsTold (d : Declarations) (t : NodeTable) (class : ℕ → ℕ) : Type 0 where
   pub heads : (k : ℕ) → ((g : OpId) × IsSolid d t class g k) ⊎ ((g : OpId) → IsSolid d t class g k → ⊥)
   pub users : (f : OpId) (k : ℕ) → ((g : OpId) × (g ≢ f) × Uses d t class g k) ⊎ ((g : OpId) → Uses d t class g k → g ≡ f)
