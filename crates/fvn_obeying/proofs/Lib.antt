@@ -1,0 +1,26 @@
+-- Lemmas on the values of classes at a frame.
+mod Heads
+mod Values
+mod Meeting
+mod Supporting
+mod Telling
+mod Kinded
+mod Tagging
+mod Combined
+mod Laying
+mod Aliases
+mod Asked
+mod TwoSummands
+mod Taken
+mod Chosen
+mod Obeying
+mod Falling
+mod Unfolding
+mod Spread
+mod Entries
+mod NodesOf
+mod Setting
+mod Standing
+mod Later
+mod Rightly
+mod Covering
