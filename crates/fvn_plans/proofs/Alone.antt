@@ -10,12 +10,12 @@ use Rattle.fvn_terms.specs.declared.plain.OpId.{OpId}
 use Rattle.fvn_terms.specs.declared.declarations.Declarations.{Declarations}
 use Rattle.fvn_terms.specs.Signature.{axioms}
 use Rattle.fvn_terms.specs.Equality.{IsAssociative}
-use Rattle.fvn_terms.specs.Substitution.{Occurs, OccursAmong}
+use Rattle.fvn_terms.specs.Substitution.{Occurs}
 use Rattle.fvn_forms.specs.Flat.{FlatTerm, fvar, plain}
 use Rattle.fvn_forms.specs.Canon.{identity, parts, all_parts, sum, build, inst}
 use Rattle.fvn_forms.specs.Settled.{IsPiece}
 use Rattle.fvn_forms.proofs.InOrder.{length_sort}
-use Rattle.fvn_forms.proofs.Nests.{plain_list}
+use Rattle.fvn_flat.proofs.Occurrences.{OccursIn}
 use Rattle.fvn_forms.proofs.Sums.{all_parts-pieces}
 use Rattle.fvn_forms.proofs.Instances.{parts_inst_sum}
 use Rattle.fvn_flat.specs.Bindings.{Bindings}
@@ -54,6 +54,10 @@ module _ {d : Declarations} {given : Pairs} {first : ℕ} {t : NodeTable} {s : S
 
   unbound_piece : (f : OpId) (x : Var) → IsUnbound bindings x → IsPiece d f (unfolds_to d bindings x)
   unbound_piece f x u = subst (IsPiece d f) (sym (unfolding_unbound d bindings x u)) refl
+
+  -- a variable that is not bound
+  abbrev IsNewMember : FlatTerm → Type 0
+  IsNewMember u = (x : Var) × ((u ≡ fvar x) × IsUnbound bindings x)
 
   -- x is no name of a constant that is not a single summand
   abbrev IsAlone : Var → Type 0
@@ -96,8 +100,8 @@ module _ {d : Declarations} {given : Pairs} {first : ℕ} {t : NodeTable} {s : S
         omega (arith, e, a, b, m, n, two)
 
   -- the variables of members stand in a sum
-  module _ (g : OpId) (assoc : IsAssociative (axioms d g)) (k : ℕ) where
-    in_list : (l : List FlatTerm) (x : Var) → Contains l (fvar x) → OccursAmong x (plain_list l)
+  module _ (g : OpId) (k : ℕ) where
+    in_list : (l : List FlatTerm) (x : Var) → Contains l (fvar x) → OccursIn x l
     in_list [] x m = absurd (contains_none (fvar x) m)
     in_list (u ∷ l) x m = elim (contains_cases u l (fvar x) m) [
       | inl e ↦ inl (subst (λ w. Occurs x (plain w)) (sym e) refl)
@@ -116,7 +120,7 @@ module _ {d : Declarations} {given : Pairs} {first : ℕ} {t : NodeTable} {s : S
         copied (suc n) l = contains_here (fvar p.variable) (replicate n (fvar p.variable))
 
     pub member_occurs : (p : Part) → Contains (plan.parts g) p → 0 < times_in (plan.columns g) k p → Occurs p.variable (plain (sum d g (members_of d (problem_of given) (class_at t (class_of s)) plan g k)))
-    member_occurs p m some = occurs_sum d g assoc p.variable (members_of d (problem_of given) (class_at t (class_of s)) plan g k) (in_list (members_of d (problem_of given) (class_at t (class_of s)) plan g k) p.variable (member_listed p (plan.parts g) m some))
+    member_occurs p m some = occurs_sum p.variable d g (members_of d (problem_of given) (class_at t (class_of s)) plan g k) (in_list (members_of d (problem_of given) (class_at t (class_of s)) plan g k) p.variable (member_listed p (plan.parts g) m some))
 
   -- the instances of members
   pub each_instance : (P : FlatTerm → Type 0) (l : List FlatTerm) → AllByRecursion (λ u. P (inst d (unfolds_to d bindings) u)) l → AllByRecursion P (map (inst d (unfolds_to d bindings)) l)
@@ -145,7 +149,7 @@ module _ {d : Declarations} {given : Pairs} {first : ℕ} {t : NodeTable} {s : S
                 (
                 long_value g sum_of k is bound
                 (each_instance (IsPiece d g) (members_of d (problem_of given) (class_at t (class_of s)) plan g k)
-                (each_member (λ u. IsPiece d g (inst d (unfolds_to d bindings) u)) (plan.columns g) (plan.parts g) k (λ p m some. member_piece g sum_of p m (smaller p.variable (member_occurs g sum_of.associative k p m some)))))
+                (each_member (λ u. IsPiece d g (inst d (unfolds_to d bindings) u)) (plan.columns g) (plan.parts g) k (λ p m some. member_piece g sum_of p m (smaller p.variable (member_occurs g k p m some)))))
                 two
                 )
           ]
@@ -159,9 +163,6 @@ module _ {d : Declarations} {given : Pairs} {first : ℕ} {t : NodeTable} {s : S
                 absurd (omega (arith, two, few))
             | inr r ↦ solution_unbound g p.variable r.new
           ]
-
-          abbrev IsNewMember : FlatTerm → Type 0
-          IsNewMember u = (x : Var) × ((u ≡ fvar x) × IsUnbound bindings x)
 
           single : IsSumOperator d t g → member_count y c g k < 2 → IsPiece d f (value h k)
           single sum_of few = go (members_of d (problem_of given) (class_at t (class_of s)) plan g k) refl (each_member IsNewMember (plan.columns g) (plan.parts g) k (λ p m some. (p.variable, (refl, new_member sum_of few p m some))))

@@ -10,7 +10,7 @@ use Rattle.fvn_terms.specs.Term.{var, app, pack}
 use Rattle.fvn_terms.specs.Substitution.{Occurs, OccursAmong}
 use Rattle.fvn_terms.specs.Signature.{kind, IsSort, HasKind}
 use Rattle.fvn_forms.specs.Flat.{FlatTerm, fvar, plain}
-use Rattle.fvn_forms.proofs.Nests.{plain_list}
+use Rattle.fvn_flat.proofs.Occurrences.{OccursIn}
 use Rattle.fvn_flat.specs.Bindings.{Bindings}
 use Rattle.fvn_flat.specs.Problems.{variables_of}
 use Rattle.fvn_flat.specs.Solving.{problem_of}
@@ -31,7 +31,7 @@ use Rattle.fvn_plans.proofs.Places.{own_class, variable_node}
 use Rattle.fvn_plans.proofs.Planned.{class_within, class_below, column_class, name_not_given, bound_operator}
 use Rattle.fvn_plans.proofs.Parts.{part_stands}
 use Rattle.fvn_plans.proofs.Members.{each_member}
-use Rattle.fvn_plans.proofs.Kinds.{kind_itself, term_kinded, over_names_kind, over_classes_is, bindings_keep}
+use Rattle.fvn_plans.proofs.Kinding.{kind_itself, term_kinded, over_names_kind, over_classes_is, bindings_keep}
 use Rattle.fvn_plans.proofs.Occurring.{canon_occurs, sum_occurs}
 
 module _ {d : Declarations} {given : Pairs} {first : ℕ} {t : NodeTable} {s : State} {y : Systems} {c : Choice} {next : ℕ} {plan : Plan} {bindings : Bindings} (h : IsPlanned d given first t s y c next plan bindings) where
@@ -77,7 +77,7 @@ module _ {d : Declarations} {given : Pairs} {first : ℕ} {t : NodeTable} {s : S
       subst IsNewOne (sym (e ∙ ap plan.name (own_class h.well_made h.table (class_of s) k within))) (name_new (class_of s k) (class_within h k within))
   names_new z (k ∷ ks) l (inr o) = names_new z ks (All-tail (λ k. k < length t.nodes) k ks l) o
 
-  among_new : (z : Var) (l : List FlatTerm) → AllByRecursion (λ u. Occurs z (plain u) → IsNewOne z) l → OccursAmong z (plain_list l) → IsNewOne z
+  among_new : (z : Var) (l : List FlatTerm) → AllByRecursion (λ u. Occurs z (plain u) → IsNewOne z) l → OccursIn z l → IsNewOne z
   among_new z [] all o = absurd o
   among_new z (u ∷ l) all (inl o) = all.0 o
   among_new z (u ∷ l) all (inr o) = among_new z l all.1 o
@@ -102,7 +102,7 @@ module _ {d : Declarations} {given : Pairs} {first : ℕ} {t : NodeTable} {s : S
           let sum = bound_operator h f k by in
           let l = members_of d (problem_of given) (class_at t (class_of s)) plan f k in
           let all = each_member (λ u. Occurs z (plain u) → IsNewOne z) (plan.columns f) (plan.parts f) k (λ p m some o. subst IsNewOne (sym o) (part_new f sum p m)) in
-          among_new z l all (sum_occurs d f sum.associative z l (subst (λ w. Occurs z (plain w)) (sym (some_same _ u e)) o))
+          among_new z l all (sum_occurs z d f l (subst (λ w. Occurs z (plain w)) (sym (some_same _ u e)) o))
 
   binding_new : (b : Var × FlatTerm) → IsBinding d (problem_of given) (class_at t (class_of s)) plan b → (z : Var) → Occurs z (plain b.1) → IsNewOne z
   binding_new b (inl r) z o = class_new r.0 r.1 b.1 r.3 z o

@@ -31,7 +31,7 @@ use Rattle.fvn_plans.proofs.Triangular.{unfolding_bound, unfolding_settled}
 use Rattle.fvn_plans.proofs.Columns.{all_from}
 use Rattle.fvn_plans.proofs.Planned.{class_below, bound_operator}
 use Rattle.fvn_plans.proofs.Members.{each_member}
-use Rattle.fvn_plans.proofs.Kinds.{over_classes_is}
+use Rattle.fvn_plans.proofs.Kinding.{over_classes_is}
 use Rattle.fvn_plans.proofs.Values.{members_or_identity}
 use Rattle.fvn_plans.proofs.Measured.{IsVariable, size_unjoined, size_sum}
 use Rattle.fvn_plans.proofs.Alone.{each_instance, part_piece}

@@ -24,7 +24,7 @@ use Rattle.fvn_plans.proofs.Triangular.{unfolding_bound}
 use Rattle.fvn_plans.proofs.Places.{own_class, node_variable, heads_sum}
 use Rattle.fvn_plans.proofs.Planned.{class_within, class_below, name_not_given}
 use Rattle.fvn_plans.proofs.Standing.{rests_on, parts_apart, forms_are, names_are}
-use Rattle.fvn_plans.proofs.Kinds.{bindings_keep}
+use Rattle.fvn_plans.proofs.Kinding.{bindings_keep}
 use Rattle.fvn_plans.proofs.Values.{value, are_values}
 
 module _ {d : Declarations} {given : Pairs} {first : ℕ} {t : NodeTable} {s : State} {y : Systems} {c : Choice} {next : ℕ} {plan : Plan} {bindings : Bindings} (h : IsPlanned d given first t s y c next plan bindings) where

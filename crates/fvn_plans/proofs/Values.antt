@@ -54,7 +54,7 @@ use Rattle.fvn_plans.proofs.Using.{uses_or_unused}
 use Rattle.fvn_plans.proofs.Planned.{has_sums, is_class, class_below, column_class}
 use Rattle.fvn_plans.proofs.Parts.{component_is, part_minimal, part_named}
 use Rattle.fvn_plans.proofs.Standing.{some_members}
-use Rattle.fvn_plans.proofs.Kinds.{term_kinded, over_classes_is}
+use Rattle.fvn_plans.proofs.Kinding.{term_kinded, over_classes_is}
 
 simple_of : (a : Axioms) → (IsAssociative a → ⊥) → IsSimple a
 simple_of Free n = tt
