@@ -36,7 +36,7 @@ ghost use Rattle.std.specs.Prelude.{IfOk, All};
 ghost use Rattle.fvn_cover.specs.Covering.{IsFlatVariant};
 
 /// A sum without an identity.
-const SUM: &str = "A B C; B < A; C < A; h : A A -> A [assoc comm]";
+const SUM: &str = "A B C; B < A; C < A; f : A A -> A [assoc comm]";
 
 /// The sum with one more variable.
 fn with_summand(alloc: Global, sum: String, sort: &str, variable: u32) -> Result<String, NoMemory> {
@@ -44,7 +44,7 @@ fn with_summand(alloc: Global, sum: String, sort: &str, variable: u32) -> Result
     let word = if all.is_empty() {
         format!(in alloc; "{sort}{variable}")?
     } else {
-        format!(in alloc; " {sort}{variable} h")?
+        format!(in alloc; " {sort}{variable} f")?
     };
     all.push_str(word.as_str())?;
     Ok(all)
@@ -150,7 +150,7 @@ fn times(rt: HostRuntime) -> Result<(), NoMemory> {
 }
 PROGRAM
 case "$1" in
-try) rt try --test ;;
+try) rt try --test --seconds 240 ;;
 *) rt test ;;
 esac > "$there/log" 2>&1 || true
 grep -aE "^ *prune: |not proved|no proof|error\[|error:|panicked|fault|at src|test result" "$there/log" | sed "s/^ *//"
