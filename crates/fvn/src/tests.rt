@@ -1,4 +1,7 @@
 //! The program's answers, from the words and the module to the bytes that are written.
+mod check;
+mod verify;
+
 use crate::program;
 use fvn_outside::{MemSink, MemSource};
 use fvn_terms::NoMemory;
@@ -300,13 +303,15 @@ fn twenty_variables_and_deep_terms_are_solved(rt: HostRuntime) -> Result<(), NoM
 
 #[test]
 fn refusals_have_their_lines(rt: HostRuntime) -> Result<(), NoMemory> {
-    let usage: [&[&str]; 6] = [
+    let usage: [&[&str]; 8] = [
         &[],
         &["unify"],
         &["unify", "a", "b"],
         &["unify", "-x"],
         &["solve", "X =? X"],
-        &["check"],
+        &["check", "X =? X"],
+        &["-check"],
+        &["checks"],
     ];
     for words in usage {
         let (status, text) = answer(rt.alloc(), &plain(words, FREE.as_bytes()))?;

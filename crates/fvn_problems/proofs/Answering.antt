@@ -1,15 +1,14 @@
 -- The first fault of a text, and that a refused text is none.
-use Rattle.std.proofs.Common.{◌≡◌, ◌⊎◌, inl, inr, List, Option, Some, None, Result, Ok, Err, refl, sym, ap, ◌∙◌, subst}
+use Rattle.std.proofs.Common.{◌≡◌, inl, inr, Some, None, Result, Ok, Err, refl, sym, ap, ◌∙◌}
 use Rattle.std.specs.Prelude.{IfOk, IfErr}
 use Rattle.fvn_lex.specs.declared.token.LexFault.{LexFault}
-use Rattle.fvn_lex.specs.Cut.{Piece, lex, pieces_of, pieces_in}
+use Rattle.fvn_lex.specs.Cut.{lex, pieces_of, pieces_in}
 use Rattle.fvn_syntax.specs.declared.fault.TermFault.{TermFault}
 use Rattle.fvn_syntax.specs.declared.fault.TermFault.TheVariants as term
 use Rattle.fvn_syntax.specs.Pieces.{Text}
 use Rattle.fvn_problems.specs.declared.fault.ProblemFault.{ProblemFault}
 use Rattle.fvn_problems.specs.declared.fault.ProblemFault.TheVariants.{Lex, Text as NoText, UnknownName, Arity, WrongKind, TooLarge, ReservedName, WrongSort, NoMemory}
 use Rattle.fvn_problems.specs.Faults.{fault_of, HasTokens, IsFirstFault, ButForMemory}
-use Rattle.fvn_problems.specs.inner.Steps.{IsLexFault}
 
 pub on-ok : {A F : Type 0} (P Q : A → Type 0) → ((a : A) → P a → Q a) → (r : Result A F) → IfOk r P → IfOk r Q
 on-ok P Q f (Ok a) h = f a h
@@ -43,17 +42,6 @@ fault_of-text term.WrongKind = tt
 fault_of-text term.NoMemory = tt
 
 module _ {Raw : Type 0} (IsText : Raw → Type 0) (IsFault : Raw → ProblemFault → Type 0) (bytes : Text) where
-  pub first-lex : (fault : ProblemFault) → IsLexFault bytes fault → IsFirstFault IsText IsFault bytes fault
-  first-lex (Lex fault) h = h
-  first-lex NoText h = absurd h
-  first-lex UnknownName h = absurd h
-  first-lex Arity h = absurd h
-  first-lex WrongKind h = absurd h
-  first-lex TooLarge h = absurd h
-  first-lex ReservedName h = absurd h
-  first-lex WrongSort h = absurd h
-  first-lex NoMemory h = tt
-
   pub first-written : (fault : ProblemFault) → IsOfText fault → (raw : Raw) → IsText raw → IsFault raw fault → IsFirstFault IsText IsFault bytes fault
   first-written (Lex fault) o raw t h = absurd o
   first-written NoText o raw t h = absurd o

@@ -1,12 +1,10 @@
 -- What bindings bind is determined, and read from left to right.
-use Rattle.std.proofs.Common.{◌≡◌, ◌≢◌, ℕ, zero, suc, ◌+◌, ◌-◌, ◌^◌, ◌<◌, ◌≤◌, max, min, ◌⊎◌, inl, inr, Bool, true, false, IsTrue, List, [], ◌∷◌, ◌++◌, length, take, drop, map, get_or, Option, Some, None, Result, Ok, Err, refl, sym, ap, ◌∙◌, subst, arith}
-use Rattle.std.specs.Prelude.{◌↔◌, slice_get, All, Contains, AllPairs, if◌then◌else◌}
-use Rattle.std.specs.List.{AllByRecursion}
+use Rattle.std.proofs.Common.{◌≡◌, ◌≢◌, ℕ, suc, ◌+◌, ◌<◌, ◌≤◌, max, ◌⊎◌, inl, inr, List, [], ◌∷◌, ◌++◌, length, take, drop, get_or, Some, None, Ok, refl, sym, ap, ◌∙◌, subst, arith}
+use Rattle.std.specs.Prelude.{All, AllPairs}
 use Rattle.std.proofs.lemmas.Bool.{cases_lt}
 use Rattle.std.proofs.lemmas.List.{length-map, take_all}
 use Rattle.std.proofs.lemmas.List.Elements.{All-push, Contains-push, Contains-append_left}
 use Rattle.fvn_base.specs.declared.limits.TheConstants.{TERM_SYMBOLS}
-use Rattle.fvn_lex.specs.Cut.{Piece}
 use Rattle.fvn_terms.specs.declared.plain.Var.{Var}
 use Rattle.fvn_terms.specs.declared.plain.SortId.{SortId}
 use Rattle.fvn_terms.specs.declared.plain.Plain.{Plain}
@@ -21,22 +19,21 @@ use Rattle.fvn_syntax.specs.declared.fault.TermFault.TheVariants as term_fault
 use Rattle.fvn_syntax.specs.declared.seen.Seen.{Seen}
 use Rattle.fvn_syntax.specs.declared.seen.Kinded.{Kinded}
 use Rattle.fvn_syntax.specs.Pieces.{Text}
-use Rattle.fvn_syntax.specs.Raw.{RawTerm, spell, IsWritten}
+use Rattle.fvn_syntax.specs.Raw.{RawTerm}
 use Rattle.fvn_syntax.specs.Readings.{sum_or_most, IsReadAs, Reads, Refuses}
 use Rattle.fvn_syntax.specs.Resolve.{Resolved, resolve}
 use Rattle.fvn_syntax.specs.Scope.{Scope}
 use Rattle.fvn_problems.specs.declared.fault.ProblemFault.{ProblemFault}
-use Rattle.fvn_problems.specs.declared.fault.ProblemFault.TheVariants.{UnknownName, WrongKind, WrongSort, TooLarge, NoMemory}
+use Rattle.fvn_problems.specs.declared.fault.ProblemFault.TheVariants.{UnknownName, WrongKind, WrongSort, TooLarge}
 use Rattle.fvn_problems.specs.declared.problem.Problem.{Problem}
-use Rattle.fvn_problems.specs.declared.bindings.Bindings.{Bindings}
 use Rattle.fvn_problems.specs.declared.split.Halves.{Halves}
 use Rattle.fvn_problems.specs.Faults.{fault_of}
-use Rattle.fvn_problems.specs.Bindings.{written_variable, IsVariableOf, IsBindingOf, IsBindingFault, no_variable, in_term, other_kind, other_sort, AreBindingsOf, IsBindingsFault, IsLarge, AreBindings, IsFault, in_bindings, too_large}
+use Rattle.fvn_problems.specs.Bindings.{IsVariableOf, IsBindingOf, IsBindingFault, no_variable, in_term, other_kind, other_sort, AreBindingsOf, IsBindingsFault, in_bindings, too_large}
 use Rattle.fvn_problems.specs.Spelling.{RawPair, IsWrittenBinding}
 use Rattle.fvn_problems.specs.inner.Split.{halves_of}
 use Rattle.fvn_problems.specs.inner.Sorting.{HasLeastSort}
-use Rattle.fvn_problems.specs.inner.Bound.{IsBound, AreBound, Finds, IsBindingRead, ReadsBinding, RefusesBinding, AreBindingsRead, Binds, BindsNothing}
-use Rattle.fvn_problems.proofs.Pairs.{same-meaning, no-fault, sort-of, At, at}
+use Rattle.fvn_problems.specs.inner.Bound.{IsBound, AreBound, Finds, ReadsBinding, RefusesBinding, AreBindingsRead, Binds, BindsNothing}
+use Rattle.fvn_problems.proofs.Pairs.{same-meaning, no-fault, same-fault, sort-of, At, at}
 use Rattle.fvn_problems.proofs.Writing.{named, place-only}
 
 larger : (a b : ℕ) → TERM_SYMBOLS < max a b → (TERM_SYMBOLS < a) ⊎ (TERM_SYMBOLS < b)
@@ -118,15 +115,6 @@ module _ (c : Scope) (p : Problem) where
     abbrev pub BoundSoFar : ℕ → List (Var × Plain) → List Text → ℕ → Type 0
     BoundSoFar i pairs texts most = (raws : List RawPair) → AreBound list raws → AreBindingsRead c p (take i raws) pairs texts most
 
-    pub bound-none : (pairs : List (Var × Plain)) (texts : List Text) → pairs ≡ [] → texts ≡ p.names.texts → BoundSoFar 0 pairs texts 0
-    bound-none pairs texts e f raws of =
-        record {
-          true_pairs = [];
-          stand = sym f;
-          built = λ _. (e, λ k d l. absurd (omega arith));
-          large = λ l. absurd (omega arith);
-        }
-
     module _ (i : ℕ) (pairs : List (Var × Plain)) (texts : List Text) (most : ℕ) (h : Halves) (so : BoundSoFar i pairs texts most) (within : i < length list) (is : h ≡ get_or list i h) where
       bound : (raws : List RawPair) (q : At IsWrittenBinding raws i h) → IsBound h q.raw
       bound raws q = record { written = q.written; is = q.is }
@@ -192,6 +180,71 @@ module _ (c : Scope) (p : Problem) where
           let b = all-bound raws of in
           inr (too_large b.true_pairs texts b.stand (b.large large) refl)
 
+  -- the sort of a variable that is written, and the names up to the end of a binding
+  sort-same : (v : RawTerm) (x y : Var) → IsVariableOf c p v x → IsVariableOf c p v y → x.sort ≡ y.sort
+  sort-same v x y a b =
+      let w : named a.text x.sort ≡ named b.text y.sort = (let f : Some (named a.text x.sort) ≡ Some (named b.text y.sort) = sym a.stands ∙ b.stands in cc) in
+      ap (λ q. q.1) w
+
+  names-same : (before : List Text) (raw : RawPair) (b e : Var × Plain) (x y : List Text) → IsBindingOf c p before raw b x → IsBindingOf c p before raw e y → x ≡ y
+  names-same before raw b e x y u v =
+      let r = same-meaning c before raw.right u.resolved v.resolved u.stands v.stands in
+      u.names ∙ ap (λ z. z.texts) r ∙ sym v.names
+
+  binding-faultless : (before : List Text) (raw : RawPair) (b : Var × Plain) (x : List Text) (f : ProblemFault) → IsBindingOf c p before raw b x → IsBindingFault c p before raw f → ⊥
+  binding-faultless before raw b x f u (no_variable n is) = n b.0 u.variable
+  binding-faultless before raw b x f u (in_term y v first h is) = no-fault c before raw.right u.resolved first u.stands h
+  binding-faultless before raw b x f u (other_kind y v r h ne is) =
+      let e = same-meaning c before raw.right u.resolved r u.stands h in
+      let n = sort-same raw.left b.0 y u.variable v in
+      ne (ap (λ z. z.kind) (sym e) ∙ u.one_kind ∙ ap (kind c.declarations) n)
+  binding-faultless before raw b x f u (other_sort y v r h k n is) =
+      let e = same-meaning c before raw.right u.resolved r u.stands h in
+      let m = sort-same raw.left b.0 y u.variable v in
+      n (subst (λ (z : Resolved). HasSort c.declarations (term z.term) y.sort) e (subst (HasSort c.declarations (term u.resolved.term)) m u.sorted))
+
+  pub bindings-faultless : (before : List Text) (rs : List RawPair) (bs : List (Var × Plain)) (x : List Text) (f : ProblemFault) → AreBindingsOf c p before rs bs x → IsBindingsFault c p before rs f → ⊥
+  bindings-faultless before [] bs x f u v = absurd v
+  bindings-faultless before (r ∷ rs) [] x f u v = absurd u
+  bindings-faultless before (r ∷ rs) (b ∷ bs) x f u (inl v) = binding-faultless before r b u.0 f u.1.0 v
+  bindings-faultless before (r ∷ rs) (b ∷ bs) x f u (inr v) =
+      let e = names-same before r v.0 b v.1 u.0 v.2.0 u.1.0 in
+      bindings-faultless v.1 rs bs x f (subst (λ n. AreBindingsOf c p n rs bs x) (sym e) u.1.1) v.2.1
+
+  -- a term is not of another kind and of one kind
+  kinds-apart : (before : List Text) (raw : RawPair) (x : Var) → IsVariableOf c p raw.left x → (r : Resolved) → resolve c before raw.right ≡ Ok r → r.kind ≢ kind c.declarations x.sort →
+      (y : Var) → IsVariableOf c p raw.left y → (s : Resolved) → resolve c before raw.right ≡ Ok s → s.kind ≡ kind c.declarations y.sort → ⊥
+  kinds-apart before raw x u r h ne y v s k same =
+      let e = same-meaning c before raw.right r s h k in
+      ne (ap (λ z. z.kind) e ∙ same ∙ ap (kind c.declarations) (sort-same raw.left y x v u))
+
+  binding-fault-same : (before : List Text) (raw : RawPair) (f g : ProblemFault) → IsBindingFault c p before raw f → IsBindingFault c p before raw g → f ≡ g
+  binding-fault-same before raw f g (no_variable n is) (no_variable m e) = is ∙ sym e
+  binding-fault-same before raw f g (no_variable n is) (in_term y v second k e) = absurd (n y v)
+  binding-fault-same before raw f g (no_variable n is) (other_kind y v r k ne e) = absurd (n y v)
+  binding-fault-same before raw f g (no_variable n is) (other_sort y v r k q m e) = absurd (n y v)
+  binding-fault-same before raw f g (in_term x u first h is) (no_variable m e) = absurd (m x u)
+  binding-fault-same before raw f g (in_term x u first h is) (in_term y v second k e) = is ∙ ap fault_of (same-fault c before raw.right first second h k) ∙ sym e
+  binding-fault-same before raw f g (in_term x u first h is) (other_kind y v r k ne e) = absurd (no-fault c before raw.right r first k h)
+  binding-fault-same before raw f g (in_term x u first h is) (other_sort y v r k q m e) = absurd (no-fault c before raw.right r first k h)
+  binding-fault-same before raw f g (other_kind x u r h ne is) (no_variable m e) = absurd (m x u)
+  binding-fault-same before raw f g (other_kind x u r h ne is) (in_term y v second k e) = absurd (no-fault c before raw.right r second h k)
+  binding-fault-same before raw f g (other_kind x u r h ne is) (other_kind y v s k me e) = is ∙ sym e
+  binding-fault-same before raw f g (other_kind x u r h ne is) (other_sort y v s k q m e) = absurd (kinds-apart before raw x u r h ne y v s k q)
+  binding-fault-same before raw f g (other_sort x u r h q n is) (no_variable m e) = absurd (m x u)
+  binding-fault-same before raw f g (other_sort x u r h q n is) (in_term y v second k e) = absurd (no-fault c before raw.right r second h k)
+  binding-fault-same before raw f g (other_sort x u r h q n is) (other_kind y v s k me e) = absurd (kinds-apart before raw y v s k me x u r h q)
+  binding-fault-same before raw f g (other_sort x u r h q n is) (other_sort y v s k t m e) = is ∙ sym e
+
+  pub bindings-fault-same : (before : List Text) (rs : List RawPair) (f g : ProblemFault) → IsBindingsFault c p before rs f → IsBindingsFault c p before rs g → f ≡ g
+  bindings-fault-same before [] f g a b = absurd a
+  bindings-fault-same before (r ∷ rs) f g (inl a) (inl b) = binding-fault-same before r f g a b
+  bindings-fault-same before (r ∷ rs) f g (inl a) (inr b) = absurd (binding-faultless before r b.0 b.1 f b.2.0 a)
+  bindings-fault-same before (r ∷ rs) f g (inr a) (inl b) = absurd (binding-faultless before r a.0 a.1 g a.2.0 b)
+  bindings-fault-same before (r ∷ rs) f g (inr a) (inr b) =
+      let e = names-same before r a.0 b.0 a.1 b.1 a.2.0 b.2.0 in
+      bindings-fault-same b.1 rs f g (subst (λ n. IsBindingsFault c p n rs f) e a.2.1) b.2.1
+
   -- a variable that is written is one of the problem
   module _ (distinct : AllPairs (λ x y. x ≢ y) p.names.texts) where
     pub variable-same : (v : RawTerm) (x y : Var) → IsVariableOf c p v x → IsVariableOf c p v y → x ≡ y
@@ -217,23 +270,3 @@ module _ (c : Scope) (p : Problem) where
         let f = binding-same before r b e u.0 v.0 u.1.0 v.1.0 in
         let g = bindings-same v.0 rs bs es x y (subst (λ n. AreBindingsOf c p n rs bs x) f.1 u.1.1) v.1.1 in
         (ap (λ z. z ∷ bs) f.0 ∙ ap (λ zs. e ∷ zs) g.0, g.1)
-
-    pub binding-faultless : (before : List Text) (raw : RawPair) (b : Var × Plain) (x : List Text) (f : ProblemFault) → IsBindingOf c p before raw b x → IsBindingFault c p before raw f → ⊥
-    binding-faultless before raw b x f u (no_variable n is) = n b.0 u.variable
-    binding-faultless before raw b x f u (in_term y v first h is) = no-fault c before raw.right u.resolved first u.stands h
-    binding-faultless before raw b x f u (other_kind y v r h ne is) =
-        let e = same-meaning c before raw.right u.resolved r u.stands h in
-        let n = variable-same raw.left b.0 y u.variable v in
-        ne (ap (λ z. z.kind) (sym e) ∙ u.one_kind ∙ ap (λ z. kind c.declarations z.sort) n)
-    binding-faultless before raw b x f u (other_sort y v r h k n is) =
-        let e = same-meaning c before raw.right u.resolved r u.stands h in
-        let m = variable-same raw.left b.0 y u.variable v in
-        n (subst (λ (z : Resolved). HasSort c.declarations (term z.term) y.sort) e (subst (λ (z : Var). HasSort c.declarations (term u.resolved.term) z.sort) m u.sorted))
-
-    pub bindings-faultless : (before : List Text) (rs : List RawPair) (bs : List (Var × Plain)) (x : List Text) (f : ProblemFault) → AreBindingsOf c p before rs bs x → IsBindingsFault c p before rs f → ⊥
-    bindings-faultless before [] bs x f u v = absurd v
-    bindings-faultless before (r ∷ rs) [] x f u v = absurd u
-    bindings-faultless before (r ∷ rs) (b ∷ bs) x f u (inl v) = binding-faultless before r b u.0 f u.1.0 v
-    bindings-faultless before (r ∷ rs) (b ∷ bs) x f u (inr v) =
-        let e = binding-same before r v.0 b v.1 u.0 v.2.0 u.1.0 in
-        bindings-faultless v.1 rs bs x f (subst (λ n. AreBindingsOf c p n rs bs x) (sym e.1) u.1.1) v.2.1

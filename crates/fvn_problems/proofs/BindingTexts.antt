@@ -1,15 +1,12 @@
 -- What a binding text binds is determined.
-use Rattle.std.proofs.Common.{◌≡◌, ◌≢◌, ℕ, zero, suc, ◌<◌, ◌≤◌, ◌⊎◌, inl, inr, Bool, true, false, IsTrue, List, [], ◌∷◌, ◌++◌, length, map, get_or, Option, Some, None, Result, Ok, Err, refl, sym, ap, ◌∙◌, subst, arith}
-use Rattle.std.specs.Prelude.{◌↔◌, IfOk, IfErr, All, AllPairs, Contains, slice_get, if◌then◌else◌}
+use Rattle.std.proofs.Common.{◌≡◌, ◌≢◌, ℕ, zero, suc, ◌<◌, ◌⊎◌, inl, inr, Bool, true, false, List, [], ◌∷◌, length, get_or, Some, Result, refl, sym, ap, ◌∙◌, subst, arith}
+use Rattle.std.specs.Prelude.{IfOk, IfErr, All, AllPairs, Contains, slice_get, if◌then◌else◌}
 use Rattle.std.specs.List.{AllByRecursion}
-use Rattle.std.proofs.lemmas.List.{get_or_default}
-use Rattle.fvn_base.specs.declared.limits.TheConstants.{TERM_SYMBOLS}
 use Rattle.fvn_lex.specs.Cut.{Piece, pieces_of}
 use Rattle.fvn_terms.specs.declared.plain.Var.{Var}
-use Rattle.fvn_terms.specs.declared.plain.SortId.{SortId}
 use Rattle.fvn_terms.specs.declared.plain.Plain.{Plain}
 use Rattle.fvn_terms.specs.declared.declarations.Declarations.{Declarations}
-use Rattle.fvn_terms.specs.Term.{Term, nodes, var}
+use Rattle.fvn_terms.specs.Term.{nodes, var}
 use Rattle.fvn_terms.specs.Places.{stop}
 use Rattle.fvn_terms.specs.Plain.{term}
 use Rattle.fvn_terms.specs.Signature.{kind, IsSort, HasKind, same}
@@ -20,15 +17,14 @@ use Rattle.fvn_syntax.specs.Laws.{IsFitting, TermsAreWellKinded}
 use Rattle.fvn_syntax.specs.Pieces.{Text}
 use Rattle.fvn_syntax.specs.Scope.{Scope}
 use Rattle.fvn_problems.specs.declared.fault.ProblemFault.{ProblemFault}
-use Rattle.fvn_problems.specs.declared.fault.ProblemFault.TheVariants.{Text as NoText, TooLarge, NoMemory}
+use Rattle.fvn_problems.specs.declared.fault.ProblemFault.TheVariants.{Text as NoText, NoMemory}
 use Rattle.fvn_problems.specs.declared.problem.Problem.{Problem}
 use Rattle.fvn_problems.specs.declared.bindings.Bindings.{Bindings}
 use Rattle.fvn_problems.specs.declared.split.Halves.{Halves}
-use Rattle.fvn_problems.specs.Bindings.{BindsOnce, AreOneVariable, IsVariableOf, IsBindingOf, IsBindingFault, no_variable, in_term, other_kind, other_sort, AreBindingsOf, IsBindingsFault, IsLarge, AreBindings, IsFault, in_bindings, too_large, IsText, IsBindings, IsOnlyBindings, RefusesBindings, HasNoBindings, AreOfProblem, AreDistinct, AreNotFresh}
-use Rattle.fvn_problems.specs.Scopes.{guarded, unguarded, AreNamesOf}
-use Rattle.fvn_problems.specs.Spelling.{RawPair, spell_bindings, IsWrittenBinding, IsBindingText}
-use Rattle.fvn_problems.specs.inner.Split.{AreTerms, IsBindingRow, IsBindingSplit}
-use Rattle.fvn_problems.specs.inner.Steps.{AreOf}
+use Rattle.fvn_problems.specs.Bindings.{BindsOnce, AreOneVariable, IsVariableOf, IsBindingFault, no_variable, in_term, other_kind, other_sort, AreBindingsOf, IsBindingsFault, AreBindings, IsFault, in_bindings, too_large, IsText, IsBindings, IsOnlyBindings, RefusesBindings, HasNoBindings, AreOfProblem, AreDistinct, AreNotFresh}
+use Rattle.fvn_problems.specs.Scopes.{unguarded, AreNamesOf}
+use Rattle.fvn_problems.specs.Spelling.{RawPair, spell_bindings, IsBindingText}
+use Rattle.fvn_problems.specs.inner.Split.{AreTerms, IsBindingSplit}
 use Rattle.fvn_problems.specs.inner.Bound.{AreBound, TellsOnce, Binds, BindsNothing}
 use Rattle.fvn_problems.proofs.Answering.{on-ok, on-err, first-written, refuted, IsOfText, fault_of-text}
 use Rattle.fvn_problems.proofs.Binding.{bindings-same, bindings-faultless}
@@ -67,7 +63,7 @@ module _ (c : Scope) (p : Problem) where
     bound-once b e u v = ap make (bindings-same c p distinct p.names.texts raws b.subst.pairs e.subst.pairs u.names v.names u.pairs v.pairs).0
 
     bound-faultless : (b : Bindings) (f : ProblemFault) → AreBindings c p raws b → IsFault c p raws f → ⊥
-    bound-faultless b f u (in_bindings h) = bindings-faultless c p distinct p.names.texts raws b.subst.pairs u.names f u.pairs h
+    bound-faultless b f u (in_bindings h) = bindings-faultless c p p.names.texts raws b.subst.pairs u.names f u.pairs h
     bound-faultless b f u (too_large bs after h l is) =
         let e = (bindings-same c p distinct p.names.texts raws b.subst.pairs bs u.names after u.pairs h).0 in
         let c : Contains b.subst.pairs l.0 = subst (λ ps. Contains ps l.0) (sym e) l.1.0 in
@@ -149,7 +145,7 @@ module _ (d : Declarations) (names : Names) (p : Problem) (fit : AreNamesOf d na
     go false e later = later
 
 module _ (d : Declarations) (names : Names) (p : Problem) (bytes : Text) where
-  text-once : (q r : List RawPair) → IsText d names p bytes q → IsText d names p bytes r → q ≡ r
+  pub text-once : (q r : List RawPair) → IsText d names p bytes q → IsText d names p bytes r → q ≡ r
   text-once q r a b =
       let e : spell_bindings q ≡ spell_bindings r = (let f : Some (spell_bindings q) ≡ Some (spell_bindings r) = sym (a.0).spelled ∙ (b.0).spelled in cc) in
       bindings-once q r (a.0).written (b.0).written e
@@ -187,12 +183,6 @@ module _ (d : Declarations) (names : Names) (p : Problem) (bytes : Text) where
       (λ x s. (value-fits d names p fit law b.subst.pairs h x).0 s, λ x. (value-fits d names p fit law b.subst.pairs h x).1)
 
   module _ (row : List Piece) (cut : pieces_of bytes ≡ Some row) where
-    in-row : (raw : List RawPair) → IsBindingText bytes raw → IsBindingRow row raw
-    in-row raw t = record { written = t.written; spelled = (let f : Some row ≡ Some (spell_bindings raw) = sym cut ∙ t.spelled in cc) }
-
-    pub bindings-no-form : ((bs : List RawPair) → IsBindingRow row bs → ⊥) → RefusesBindings d names p bytes NoText
-    bindings-no-form n = ((row, cut), λ raw t. n raw (in-row raw t.0))
-
     module _ (list : List Halves) (split : IsBindingSplit row list) where
       in-text : IsBindingText bytes split.raw
       in-text = record { written = split.is.written; spelled = cut ∙ ap Some split.is.spelled }

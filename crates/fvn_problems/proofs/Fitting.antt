@@ -1,12 +1,10 @@
 -- Names of a good signature are its own where there are no more of them than sorts and operators.
-use Rattle.std.proofs.Common.{◌≡◌, ℕ, ◌<◌, ◌≤◌, List, ◌∷◌, length, map, Some, arith}
-use Rattle.std.specs.Prelude.{slice_get, All, Contains}
+use Rattle.std.proofs.Common.{◌≤◌, length, arith}
+use Rattle.std.specs.Prelude.{All}
 use Rattle.std.proofs.lemmas.Option.{slice_get_within, get_or_from_slice_get}
 use Rattle.std.proofs.Common.{subst}
-use Rattle.fvn_base.specs.declared.limits.TheConstants.{SORTS, OPERATORS}
-use Rattle.fvn_terms.specs.declared.plain.SortId.{SortId}
 use Rattle.fvn_terms.specs.declared.declarations.Declarations.{Declarations}
-use Rattle.fvn_terms.specs.Signature.{kind, IsSort}
+use Rattle.fvn_terms.specs.Signature.{IsSort}
 use Rattle.fvn_forms.specs.Good.{IsGood}
 use Rattle.fvn_sorts.specs.Queries.{IsCompleted}
 use Rattle.fvn_syntax.specs.declared.names.Names.{Names}

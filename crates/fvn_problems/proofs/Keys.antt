@@ -1,9 +1,8 @@
 -- A variable is written twice exactly where its key is there already.
-use Rattle.std.proofs.Common.{◌≡◌, ℕ, zero, suc, ◌+◌, ◌*◌, ◌/◌, ◌%◌, ◌<◌, ◌≤◌, ◌⊎◌, inl, inr, Bool, true, false, IsTrue, List, [], ◌∷◌, ◌++◌, length, take, drop, map, get_or, Option, Some, None, refl, sym, ap, ◌∙◌, subst, arith, length-append}
-use Rattle.std.specs.Prelude.{◌↔◌, if◌then◌else◌, slice_get, Contains, AllPairs}
-use Rattle.std.specs.List.{AllByRecursion}
+use Rattle.std.proofs.Common.{◌≡◌, ℕ, zero, suc, ◌+◌, ◌/◌, ◌%◌, ◌<◌, ◌≤◌, inl, inr, true, false, List, [], ◌∷◌, ◌++◌, length, take, map, get_or, Option, Some, None, refl, sym, ap, ◌∙◌, subst, arith, length-append}
+use Rattle.std.specs.Prelude.{slice_get, Contains}
 use Rattle.std.proofs.lemmas.Option.{get_or_from_slice_get, slice_get_within, slice_get-get_or}
-use Rattle.std.proofs.lemmas.List.{length-map, get_or_default, take_all, map-append}
+use Rattle.std.proofs.lemmas.List.{length-map, take_all, map-append}
 use Rattle.std.proofs.lemmas.List.Quantifiers.{all_pairs_push}
 use Rattle.fvn_base.proofs.Membership.{contains_here, contains_later, contains_cases, contains_none}
 use Rattle.fvn_terms.specs.declared.plain.SortId.{SortId}
@@ -15,7 +14,7 @@ use Rattle.fvn_problems.specs.Bindings.{written_variable, AreOneVariable, BindsO
 use Rattle.fvn_problems.specs.Spelling.{RawPair, IsWrittenBinding}
 use Rattle.fvn_problems.specs.inner.Split.{halves_of}
 use Rattle.fvn_problems.specs.inner.Bound.{key_of, keys_of, with_key, with_written, AreBound, Adds, TellsOnce}
-use Rattle.fvn_problems.proofs.Pairs.{At, at}
+use Rattle.fvn_problems.proofs.Pairs.{at}
 use Rattle.fvn_problems.proofs.Writing.{get-take, place-text, place-none}
 
 abbrev pub Written : Type 0
@@ -69,7 +68,7 @@ keys-more [] v = refl
 keys-more (None ∷ ws) v = keys-more ws v
 keys-more (Some u ∷ ws) v = ap (λ x. key_of u ∷ x) (keys-more ws v)
 
-contains-text : (texts : List Text) (t : Text) → Contains texts t → place texts t ≡ None → ⊥
+pub contains-text : (texts : List Text) (t : Text) → Contains texts t → place texts t ≡ None → ⊥
 contains-text texts t h n = place-none texts t h.0 n (slice_get-get_or texts h.0 t h.1 ∙ ap Some h.2)
 
 text-contained : (texts : List Text) (t : Text) (i : ℕ) → place texts t ≡ Some i → Contains texts t
@@ -94,9 +93,6 @@ module _ (c : Scope) where
   -- the bindings so far bind no variable twice, and their keys are there
   abbrev pub OnceSoFar : List Halves → ℕ → List Text → Type 0
   OnceSoFar list i keys = (raws : List RawPair) → AreBound list raws → (keys ≡ keys_of (map writes (take i raws))) × BindsOnce c (take i raws)
-
-  pub once-none : (list : List Halves) (keys : List Text) → keys ≡ [] → OnceSoFar list 0 keys
-  once-none list keys e raws of = (e, λ i j d l m. absurd (omega arith))
 
   -- one more binding
   module _ (rs : List RawPair) (r : RawPair) (keys : List Text) (are : keys ≡ keys_of (map writes rs)) (once : BindsOnce c rs) where

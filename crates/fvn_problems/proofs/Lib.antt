@@ -15,3 +15,7 @@ mod Writing
 mod Keys
 mod Binding
 mod BindingTexts
+mod OneFault
+mod Results
+mod WordNames
+mod DistinctNames

@@ -1,5 +1,5 @@
 -- Names go on from term to term, and each variable of a term has a name.
-use Rattle.std.proofs.Common.{◌≡◌, ℕ, ◌+◌, ◌<◌, ◌≤◌, ◌⊎◌, inl, inr, Bool, true, false, List, [], ◌∷◌, ◌++◌, length, Option, Some, None, Result, Ok, Err, refl, sym, ap, ◌∙◌, subst, append_assoc, arith, length-append}
+use Rattle.std.proofs.Common.{◌≡◌, ℕ, ◌+◌, ◌<◌, ◌⊎◌, inl, inr, Bool, true, false, List, [], ◌∷◌, ◌++◌, length, Option, Some, None, Result, Ok, Err, refl, sym, ap, ◌∙◌, subst, append_assoc, arith, length-append}
 use Rattle.std.specs.Prelude.{◌&&◌, if◌then◌else◌}
 use Rattle.std.specs.List.{position_from}
 use Rattle.std.specs.Str.{bytes_eq}
@@ -8,7 +8,6 @@ use Rattle.fvn_terms.specs.declared.plain.Var.{Var}
 use Rattle.fvn_terms.specs.declared.plain.OpId.{OpId}
 use Rattle.fvn_terms.specs.declared.plain.SortId.{SortId}
 use Rattle.fvn_terms.specs.declared.plain.Plain.{Plain}
-use Rattle.fvn_terms.specs.declared.plain.Plain.TheVariants.{Var as AVar, App}
 use Rattle.fvn_terms.specs.declared.declarations.Declarations.{Declarations}
 use Rattle.fvn_terms.specs.Term.{Term, Terms, var, app, none, more}
 use Rattle.fvn_terms.specs.Plain.{term, terms}
@@ -21,10 +20,10 @@ use Rattle.fvn_syntax.specs.declared.naming.Meaning.TheVariants.{Constant, Varia
 use Rattle.fvn_syntax.specs.Names.{resolve_name, op_named, bracket, is_sum, result_of}
 use Rattle.fvn_syntax.specs.Pieces.{Text, without_last, is_reserved}
 use Rattle.fvn_syntax.specs.Raw.{RawTerm, RawTerms, name, call, round, kind_variable, last, and}
-use Rattle.fvn_syntax.specs.Resolve.{Resolved, AllResolved, bind, or_fault, checked, nested, nested_all, applied, unless, application_fault, apply, the_constant, the_variable, resolve_meaning, resolve_kind, resolve, resolve_all}
+use Rattle.fvn_syntax.specs.Resolve.{Resolved, AllResolved, bind, or_fault, nested, applied, unless, application_fault, apply, the_constant, the_variable, resolve_meaning, resolve_kind, resolve, resolve_all}
 use Rattle.fvn_syntax.specs.Scope.{Scope}
 use Rattle.fvn_problems.specs.Laws.{NamesGoOn}
-use Rattle.fvn_syntax.specs.Texts.{place, or_end, unless_at, place_or_end, with_text}
+use Rattle.fvn_syntax.specs.Texts.{place, or_end, unless_at}
 
 -- each variable that occurs has the text with its number
 abbrev pub IsOld : List Text → Var → Type 0

@@ -1,8 +1,7 @@
 -- What pairs stand for is determined, and read from left to right.
-use Rattle.std.proofs.Common.{◌≡◌, ℕ, zero, suc, ◌+◌, ◌-◌, ◌^◌, ◌<◌, ◌≤◌, min, ◌⊎◌, inl, inr, List, [], ◌∷◌, ◌++◌, length, take, drop, map, get_or, refl, sym, ap, ◌∙◌, subst, arith}
+use Rattle.std.proofs.Common.{◌≡◌, ℕ, zero, suc, ◌+◌, ◌-◌, ◌^◌, ◌<◌, ◌≤◌, ◌⊎◌, inl, inr, List, [], ◌∷◌, ◌++◌, length, take, drop, map, get_or, refl, sym, ap, ◌∙◌, subst, arith}
 use Rattle.std.specs.Prelude.{Result, Ok, Err}
 use Rattle.std.specs.List.{AllByRecursion}
-use Rattle.std.proofs.lemmas.List.{length-map, take_all}
 use Rattle.fvn_base.specs.declared.limits.TheConstants.{TEXT_SYMBOLS}
 use Rattle.fvn_terms.specs.declared.plain.Plain.{Plain}
 use Rattle.fvn_terms.specs.declared.plain.SortId.{SortId}
@@ -21,7 +20,7 @@ use Rattle.fvn_problems.specs.declared.split.Halves.{Halves}
 use Rattle.fvn_problems.specs.Spelling.{RawPair, IsWrittenPair}
 use Rattle.fvn_problems.specs.Problems.{symbols_of, IsPairOf, IsPairFault, in_left, in_right, two_kinds, ArePairsOf, IsPairsFault}
 use Rattle.fvn_problems.specs.inner.Split.{halves_of}
-use Rattle.fvn_problems.specs.inner.Steps.{MemoryOr, IsOf, AreOf, IsPairRead, ReadsPair, RefusesPair, ArePairsRead, ReadsPairs, RefusesPairs}
+use Rattle.fvn_problems.specs.inner.Steps.{MemoryOr, IsOf, AreOf, IsPairRead, ReadsPair, RefusesPair, ArePairsRead, RefusesPairs}
 
 abbrev pub ok : Resolved → Result Resolved TermFault
 ok r = Ok r
@@ -35,6 +34,9 @@ module _ (c : Scope) where
 
   pub no-fault : (before : List Text) (t : RawTerm) (a : Resolved) (f : TermFault) → resolve c before t ≡ Ok a → resolve c before t ≡ Err f → ⊥
   no-fault before t a f h k = (let e : ok a ≡ err f = sym h ∙ k in cc)
+
+  pub same-fault : (before : List Text) (t : RawTerm) (f g : TermFault) → resolve c before t ≡ Err f → resolve c before t ≡ Err g → f ≡ g
+  same-fault before t f g h k = (let e : err f ≡ err g = sym h ∙ k in cc)
 
   pub same-right : (t : RawTerm) (a b r s : Resolved) → a ≡ b → resolve c a.texts t ≡ Ok r → resolve c b.texts t ≡ Ok s → r ≡ s
   same-right t a b r s e h k = same-meaning b.texts t r s (ap (λ x. resolve c x.texts t) (sym e) ∙ h) k
@@ -57,11 +59,16 @@ module _ (c : Scope) where
       let f = pairs-same b.0 rs ps qs x y (subst (λ n. ArePairsOf c n rs ps x) e.1 a.1.1) b.1.1 in
       (ap (λ v. v ∷ ps) e.0 ∙ ap (λ vs. q ∷ vs) f.0, f.1)
 
+  -- a right side does not both stand for a term and have a fault
+  right-faultless : (before : List Text) (raw : RawPair) (l m : Resolved) (f : TermFault) (r : Resolved) → resolve c before raw.left ≡ Ok l → resolve c l.texts raw.right ≡ Err f →
+      resolve c before raw.left ≡ Ok m → resolve c m.texts raw.right ≡ Ok r → ⊥
+  right-faultless before raw l m f r h k i j =
+      let e = same-meaning before raw.left m l i h in
+      no-fault l.texts raw.right r f (ap (λ v. resolve c v.texts raw.right) (sym e) ∙ j) k
+
   pub pair-faultless : (before : List Text) (raw : RawPair) (p : Plain × Plain) (x : List Text) (f : TermFault) → IsPairOf c before raw p x → IsPairFault c before raw f → ⊥
   pair-faultless before raw p x f a (in_left h) = no-fault before raw.left a.left f a.left_stands h
-  pair-faultless before raw p x f a (in_right l h k) =
-      let e = same-meaning before raw.left a.left l a.left_stands h in
-      no-fault l.texts raw.right a.right f (ap (λ v. resolve c v.texts raw.right) (sym e) ∙ a.right_stands) k
+  pair-faultless before raw p x f a (in_right l h k) = right-faultless before raw l a.left f a.right h k a.left_stands a.right_stands
   pair-faultless before raw p x f a (two_kinds l r h k ne is) =
       let e = same-meaning before raw.left a.left l a.left_stands h in
       let g = same-right raw.right a.left l a.right r e a.right_stands k in
@@ -74,6 +81,28 @@ module _ (c : Scope) where
   pairs-faultless before (r ∷ rs) (p ∷ ps) x f a (inr b) =
       let e = pair-same before r p b.0 a.0 b.1 a.1.0 b.2.0 in
       pairs-faultless b.1 rs ps x f (subst (λ n. ArePairsOf c n rs ps x) e.1 a.1.1) b.2.1
+
+  pair-fault-same : (before : List Text) (raw : RawPair) (f g : TermFault) → IsPairFault c before raw f → IsPairFault c before raw g → f ≡ g
+  pair-fault-same before raw f g (in_left h) (in_left k) = same-fault before raw.left f g h k
+  pair-fault-same before raw f g (in_left h) (in_right m i j) = absurd (no-fault before raw.left m f i h)
+  pair-fault-same before raw f g (in_left h) (two_kinds m r i j ne e) = absurd (no-fault before raw.left m f i h)
+  pair-fault-same before raw f g (in_right l h k) (in_left i) = absurd (no-fault before raw.left l g h i)
+  pair-fault-same before raw f g (in_right l h k) (in_right m i j) =
+      let e = same-meaning before raw.left m l i h in
+      same-fault l.texts raw.right f g k (ap (λ v. resolve c v.texts raw.right) (sym e) ∙ j)
+  pair-fault-same before raw f g (in_right l h k) (two_kinds m r i j ne e) = absurd (right-faultless before raw l m f r h k i j)
+  pair-fault-same before raw f g (two_kinds l r h k ne is) (in_left i) = absurd (no-fault before raw.left l g h i)
+  pair-fault-same before raw f g (two_kinds l r h k ne is) (in_right m i j) = absurd (right-faultless before raw m l g r i j h k)
+  pair-fault-same before raw f g (two_kinds l r h k ne is) (two_kinds m s i j me e) = is ∙ sym e
+
+  pub pairs-fault-same : (before : List Text) (rs : List RawPair) (f g : TermFault) → IsPairsFault c before rs f → IsPairsFault c before rs g → f ≡ g
+  pairs-fault-same before [] f g a b = absurd a
+  pairs-fault-same before (r ∷ rs) f g (inl a) (inl b) = pair-fault-same before r f g a b
+  pairs-fault-same before (r ∷ rs) f g (inl a) (inr b) = absurd (pair-faultless before r b.0 b.1 f b.2.0 a)
+  pairs-fault-same before (r ∷ rs) f g (inr a) (inl b) = absurd (pair-faultless before r a.0 a.1 g a.2.0 b)
+  pairs-fault-same before (r ∷ rs) f g (inr a) (inr b) =
+      let e = pair-same before r a.0 b.0 a.1 b.1 a.2.0 b.2.0 in
+      pairs-fault-same b.1 rs f g (subst (λ n. IsPairsFault c n rs f) e.1 a.2.1) b.2.1
 
   pub pairs-more : (before : List Text) (rs : List RawPair) (ps : List (Plain × Plain)) (mid : List Text) (r : RawPair) (p : Plain × Plain) (after : List Text) →
       ArePairsOf c before rs ps mid → IsPairOf c mid r p after → ArePairsOf c before (rs ++ (r ∷ [])) (ps ++ (p ∷ [])) after
@@ -184,15 +213,6 @@ module _ (c : Scope) (list : List Halves) where
   abbrev pub ReadSoFar : ℕ → List (Plain × Plain) → Seen → Type 0
   ReadSoFar i pairs seen = (raws : List RawPair) → AreOf list raws → ArePairsRead c (take i raws) pairs seen
 
-  pub none-so-far : (pairs : List (Plain × Plain)) (seen : Seen) → pairs ≡ [] → seen.texts ≡ [] → seen.count ≡ 0 → ReadSoFar 0 pairs seen
-  none-so-far pairs seen p t n raws of =
-      record {
-        true_pairs = [];
-        stand = sym t;
-        count = n;
-        built = λ _. p;
-      }
-
   module _ (i : ℕ) (pairs : List (Plain × Plain)) (seen : Seen) (h : Halves) (so : ReadSoFar i pairs seen) (within : i < length list) (is : h ≡ get_or list i h) where
     next-read : (read : (Plain × Plain) × Seen) → ReadsPair c seen h read → ReadSoFar (suc i) (pairs ++ (read.0 ∷ [])) read.1
     next-read read a raws of =
@@ -224,12 +244,3 @@ module _ (c : Scope) (list : List Halves) where
         let p = at IsWrittenPair list raws i h of.written of.are within is in
         let b = so raws of in
         subst (λ rs. IsPairsFault c [] rs f) (sym p.whole) (fault-more c [] (take i raws) b.true_pairs seen.texts p.raw (drop (suc i) raws) f b.stand (g p.raw (at-of raws i h p))))
-
-  length-raws : (raws : List RawPair) → AreOf list raws → length raws ≡ length list
-  length-raws raws of = sym (ap length of.are ∙ length-map raws halves_of)
-
-  pub all-read : (i : ℕ) (pairs : List (Plain × Plain)) (seen : Seen) → ReadSoFar i pairs seen → length list ≤ i → ReadsPairs c list (pairs, seen)
-  all-read i pairs seen so l raws of =
-      let n = length-raws raws of in
-      let e : take i raws ≡ raws = take_all i raws (omega arith) in
-      subst (λ rs. ArePairsRead c rs pairs seen) e (so raws of)

@@ -1,6 +1,6 @@
 -- What a problem asks is determined.
-use Rattle.std.proofs.Common.{◌≡◌, ℕ, zero, suc, ◌+◌, ◌<◌, ◌≤◌, ◌⊎◌, inl, inr, List, [], ◌∷◌, ◌++◌, length, get_or, Some, Result, Ok, Err, refl, sym, ap, ◌∙◌, subst, arith}
-use Rattle.std.specs.Prelude.{IfOk, IfErr, All, map}
+use Rattle.std.proofs.Common.{◌≡◌, zero, suc, ◌<◌, ◌≤◌, ◌⊎◌, inl, inr, List, [], ◌∷◌, Some, Result, refl, sym, ap, ◌∙◌, subst, arith}
+use Rattle.std.specs.Prelude.{IfErr, All, map}
 use Rattle.std.specs.List.{AllByRecursion}
 use Rattle.std.proofs.lemmas.List.{append-nil}
 use Rattle.fvn_base.specs.declared.limits.TheConstants.{TEXT_SYMBOLS}
@@ -18,22 +18,23 @@ use Rattle.fvn_syntax.specs.Laws.{TermsAreWellKinded}
 use Rattle.fvn_syntax.specs.Pieces.{Text}
 use Rattle.fvn_syntax.specs.Raw.{RawTerm, spell, IsWritten, IsTermBefore}
 use Rattle.fvn_syntax.specs.Scope.{Scope}
+use Rattle.fvn_syntax.proofs.SpelledOnce.{ends-nil}
 use Rattle.fvn_problems.specs.declared.fault.ProblemFault.{ProblemFault}
-use Rattle.fvn_problems.specs.declared.fault.ProblemFault.TheVariants.{Text as NoText, TooLarge, NoMemory}
+use Rattle.fvn_problems.specs.declared.fault.ProblemFault.TheVariants.{TooLarge, NoMemory}
 use Rattle.fvn_problems.specs.declared.problem.Problem.{Problem}
 use Rattle.fvn_problems.specs.declared.split.Halves.{Halves}
 use Rattle.fvn_problems.specs.Faults.{fault_of}
-use Rattle.fvn_problems.specs.Problems.{symbols_of, AreOfOneKind, IsPairOf, ArePairsOf, IsPairsFault, IsProblemOf, IsProblemFault, in_pairs, too_large, IsProblem, IsOnlyProblem, RefusesProblem, HasNoProblem, HasVariables}
+use Rattle.fvn_problems.specs.Problems.{symbols_of, AreOfOneKind, IsPairOf, ArePairsOf, IsProblemOf, IsProblemFault, in_pairs, too_large, IsProblem, IsOnlyProblem, RefusesProblem, HasNoProblem, HasVariables}
 use Rattle.fvn_problems.specs.Scopes.{guarded, AreNamesOf}
 use Rattle.fvn_problems.specs.Spelling.{RawPair, RawProblem, pairs_in, spell_problem, IsWrittenPair, IsProblemText}
-use Rattle.fvn_problems.specs.Variables.{with_sides, OccursInSides, IsNamed}
-use Rattle.fvn_problems.specs.inner.Split.{halves_of, AreTerms, IsProblemRow, IsProblemSplit}
-use Rattle.fvn_problems.specs.inner.Steps.{MemoryOr, AreOf, ArePairsRead, ReadsPairs, RefusesPairs, Asks, AsksNothing}
-use Rattle.fvn_problems.proofs.Answering.{on-ok, on-err, first-written, refuted, IsOfText, fault_of-text}
-use Rattle.fvn_problems.proofs.Named.{IsOld, Grown, grown-ok, grown-both, grown-same, old-later, sort-known}
+use Rattle.fvn_problems.specs.Variables.{with_sides, OccursInSides}
+use Rattle.fvn_problems.specs.inner.Split.{halves_of, AreTerms, IsProblemSplit}
+use Rattle.fvn_problems.specs.inner.Steps.{MemoryOr, AreOf, ReadsPairs, RefusesPairs, Asks, AsksNothing}
+use Rattle.fvn_problems.proofs.Answering.{on-err, first-written, refuted, IsOfText, fault_of-text}
+use Rattle.fvn_problems.proofs.Named.{Grown, grown-ok, grown-both, grown-same, sort-known}
 use Rattle.fvn_problems.proofs.Occurring.{Lists, lists-sides, lists-nothing, alone-listed}
 use Rattle.fvn_problems.proofs.Pairs.{pairs-same, pairs-faultless}
-use Rattle.fvn_problems.proofs.Spelled.{ends-nil, problems-once}
+use Rattle.fvn_problems.proofs.Spelled.{problems-once}
 
 abbrev pub make : List (Plain × Plain) → List Var → List Text → Problem
 make ps vars texts = record { pairs = ps; vars = vars; names = record { texts = texts } }
@@ -125,7 +126,7 @@ side-sorted d x (p ∷ ps) a (inl (inr o)) = sort-known d x (term p.1) a.0.0 a.0
 side-sorted d x (p ∷ ps) a (inr o) = side-sorted d x ps a.1 o
 
 module _ (d : Declarations) (names : Names) (bytes : Text) where
-  text-once : (q r : RawProblem) → IsProblemText bytes q → IsProblemText bytes r → q ≡ r
+  pub text-once : (q r : RawProblem) → IsProblemText bytes q → IsProblemText bytes r → q ≡ r
   text-once q r a b =
       let e : spell_problem q ≡ spell_problem r = (let f : Some (spell_problem q) ≡ Some (spell_problem r) = sym a.spelled ∙ b.spelled in cc) in
       problems-once q r a.written b.written e
@@ -162,21 +163,12 @@ module _ (d : Declarations) (names : Names) (bytes : Text) where
       }
 
   module _ (row : List Piece) (cut : pieces_of bytes ≡ Some row) where
-    pub problem-no-form : ((p : RawProblem) → IsProblemRow row p → ⊥) → RefusesProblem d names bytes NoText
-    problem-no-form n = (
-      (row, cut),
-      λ raw t. n raw (record { written = t.written; spelled = (let f : Some row ≡ Some (spell_problem raw) = sym cut ∙ t.spelled in cc) }),
-    )
-
     module _ (list : List Halves) (split : IsProblemSplit row list) where
       in-text : IsProblemText bytes split.raw
       in-text = record { written = split.is.written; spelled = cut ∙ ap Some split.is.spelled }
 
       in-list : AreOf list (pairs_in split.raw)
       in-list = record { written = split.is.written; are = split.halves }
-
-      pub problem-ok : (r : Result Problem ProblemFault) → IfOk r (Asks (guarded d names) list) → IfOk r (IsProblem d names bytes)
-      problem-ok = on-ok (Asks (guarded d names) list) (IsProblem d names bytes) (λ p a. record { raw = split.raw; text = in-text; asked = a split.raw in-list })
 
       fault-of : (f : ProblemFault) → (f ≡ NoMemory) ⊎ IsProblemFault (guarded d names) split.raw f → RefusesProblem d names bytes f
       fault-of f (inl e) = subst (RefusesProblem d names bytes) (sym e) tt

@@ -1,7 +1,6 @@
 -- What a term text asks is determined.
-use Rattle.std.proofs.Common.{◌≡◌, ℕ, ◌<◌, ◌≤◌, ◌⊎◌, inl, inr, List, [], ◌∷◌, ◌++◌, length, Some, Result, Ok, Err, refl, sym, ap, ◌∙◌, subst, arith}
-use Rattle.std.specs.Prelude.{IfOk, IfErr}
-use Rattle.std.proofs.lemmas.List.{append-nil}
+use Rattle.std.proofs.Common.{◌≡◌, ◌<◌, ◌⊎◌, inl, inr, List, [], length, Some, Result, Ok, refl, sym, ap, ◌∙◌, subst, arith}
+use Rattle.std.specs.Prelude.{IfErr}
 use Rattle.fvn_base.specs.declared.limits.TheConstants.{TEXT_SYMBOLS}
 use Rattle.fvn_lex.specs.Cut.{Piece, pieces_of}
 use Rattle.fvn_terms.specs.declared.plain.Var.{Var}
@@ -17,27 +16,25 @@ use Rattle.fvn_syntax.specs.declared.names.Names.{Names}
 use Rattle.fvn_syntax.specs.declared.seen.Seen.{Seen}
 use Rattle.fvn_syntax.specs.declared.seen.Kinded.{Kinded}
 use Rattle.fvn_syntax.specs.Readings.{sum_or_most, Reads, Refuses}
-use Rattle.fvn_syntax.specs.declared.names.VarNames.{VarNames}
 use Rattle.fvn_syntax.specs.Laws.{TermsAreWellKinded}
 use Rattle.fvn_syntax.specs.Pieces.{Text}
-use Rattle.fvn_syntax.specs.Raw.{spell, IsWritten, IsTermBefore}
-use Rattle.fvn_syntax.specs.Resolve.{Resolved, resolve}
+use Rattle.fvn_syntax.specs.Resolve.{resolve}
 use Rattle.fvn_syntax.specs.Scope.{Scope}
 use Rattle.fvn_problems.specs.declared.fault.ProblemFault.{ProblemFault}
-use Rattle.fvn_problems.specs.declared.fault.ProblemFault.TheVariants.{Text as NoText, TooLarge, NoMemory}
+use Rattle.fvn_problems.specs.declared.fault.ProblemFault.TheVariants.{TooLarge, NoMemory}
 use Rattle.fvn_problems.specs.declared.query.Query.{Query}
 use Rattle.fvn_problems.specs.Faults.{fault_of}
 use Rattle.fvn_problems.specs.Queries.{IsQueryOf, IsQueryFault, in_term, too_large, IsQuery, IsOnlyQuery, RefusesQuery, HasNoQuery, HasVariables}
 use Rattle.fvn_problems.specs.Scopes.{guarded, AreNamesOf}
 use Rattle.fvn_problems.specs.Spelling.{RawQuery, spell_query, IsQueryText}
 use Rattle.fvn_problems.specs.Variables.{with_variables}
-use Rattle.fvn_problems.specs.inner.Split.{IsQueryRow, IsQuerySplit}
-use Rattle.fvn_problems.specs.inner.Steps.{IsLexFault, IsTermOf, AsksTerm, AsksNoTerm}
-use Rattle.fvn_problems.proofs.Answering.{on-ok, on-err, first-lex, first-written, refuted, IsOfText, fault_of-text}
-use Rattle.fvn_problems.proofs.Named.{Grown, grown-ok, sort-known}
+use Rattle.fvn_problems.specs.inner.Split.{IsQuerySplit}
+use Rattle.fvn_problems.specs.inner.Steps.{IsTermOf, AsksNoTerm}
+use Rattle.fvn_problems.proofs.Answering.{on-err, first-written, refuted, IsOfText, fault_of-text}
+use Rattle.fvn_problems.proofs.Named.{grown-ok, sort-known}
 use Rattle.fvn_problems.proofs.Occurring.{Lists, lists-term, lists-nothing, alone-listed}
 use Rattle.fvn_problems.proofs.Pairs.{same-meaning, no-fault}
-use Rattle.fvn_problems.proofs.Spelled.{ends-nil, queries-once}
+use Rattle.fvn_problems.proofs.Spelled.{queries-once}
 
 abbrev pub make : Plain → List Var → List Text → Query
 make t vars texts = record { term = t; vars = vars; names = record { texts = texts } }
@@ -65,7 +62,7 @@ module _ (c : Scope) (raw : RawQuery) where
   of-text f (too_large r h large is) = subst IsOfText (sym is) tt
 
 module _ (d : Declarations) (names : Names) (bytes : Text) where
-  text-once : (q r : RawQuery) → IsQueryText bytes q → IsQueryText bytes r → q ≡ r
+  pub text-once : (q r : RawQuery) → IsQueryText bytes q → IsQueryText bytes r → q ≡ r
   text-once q r a b =
       let e : spell_query q ≡ spell_query r = (let f : Some (spell_query q) ≡ Some (spell_query r) = sym a.spelled ∙ b.spelled in cc) in
       queries-once q r a.written b.written e
@@ -106,21 +103,12 @@ module _ (d : Declarations) (names : Names) (bytes : Text) where
       }
 
   module _ (row : List Piece) (cut : pieces_of bytes ≡ Some row) where
-    pub query-no-form : ((q : RawQuery) → IsQueryRow row q → ⊥) → RefusesQuery d names bytes NoText
-    query-no-form n = (
-      (row, cut),
-      λ raw t. n raw (record { written = t.written; spelled = (let f : Some row ≡ Some (spell_query raw) = sym cut ∙ t.spelled in cc) }),
-    )
-
     module _ (front : List Piece) (split : IsQuerySplit row front) where
       in-text : IsQueryText bytes split.raw
       in-text = record { written = split.is.written; spelled = cut ∙ ap Some split.is.spelled }
 
       in-row : IsTermOf front split.raw
       in-row = record { written = split.is.written; is = split.front_is }
-
-      pub query-ok : (r : Result Query ProblemFault) → IfOk r (AsksTerm (guarded d names) front) → IfOk r (IsQuery d names bytes)
-      query-ok = on-ok (AsksTerm (guarded d names) front) (IsQuery d names bytes) (λ q a. record { raw = split.raw; text = in-text; asked = a split.raw in-row })
 
       fault-of : (f : ProblemFault) → (f ≡ NoMemory) ⊎ IsQueryFault (guarded d names) split.raw f → RefusesQuery d names bytes f
       fault-of f (inl e) = subst (RefusesQuery d names bytes) (sym e) tt
@@ -129,10 +117,6 @@ module _ (d : Declarations) (names : Names) (bytes : Text) where
 
       pub query-err : (r : Result Query ProblemFault) → IfErr r (AsksNoTerm (guarded d names) front) → IfErr r (RefusesQuery d names bytes)
       query-err = on-err (AsksNoTerm (guarded d names) front) (RefusesQuery d names bytes) (λ f a. fault-of f (a split.raw in-row))
-
-      -- what is told of a term is told of its text
-      pub term-of : IsTermBefore [] front
-      term-of = record { term = split.raw.term; written = split.is.written; ends = ends-nil split.raw.term; spelled = split.front_is ∙ sym (append-nil (spell split.raw.term)) }
 
 -- the step from what was read to what is asked
 module _ (c : Scope) (row : List Piece) (before : Seen) (none : before.texts ≡ []) where
@@ -151,18 +135,3 @@ module _ (c : Scope) (row : List Piece) (before : Seen) (none : before.texts ≡
     too-large large raw of =
         let n = counted raw of in
         inr (too_large (reads raw.term of.written of.is).resolved (stands raw of) (omega arith) refl)
-
-    pub asks : (vars : List Var) → (read.1).count ≤ TEXT_SYMBOLS → vars ≡ with_variables [] (term (read.0).term) → AsksTerm c row (make (read.0).term vars (read.1).texts)
-    asks vars small is raw of =
-        let a = reads raw.term of.written of.is in
-        let n = counted raw of in
-        let e : (read.0).term ≡ a.resolved.term = a.built small in
-        let l : nodes (term a.resolved.term) ≤ TEXT_SYMBOLS = omega arith in
-        record {
-          resolved = a.resolved;
-          stands = stands raw of;
-          term_is = e;
-          names = a.texts;
-          vars = is;
-          small = subst (λ t. nodes (term t) ≤ TEXT_SYMBOLS) (sym e) l;
-        }

@@ -1,5 +1,5 @@
 -- The walk over the pieces of a term gives its least sort.
-use Rattle.std.proofs.Common.{◌≡◌, ℕ, ◌≤◌, Bool, true, false, List, [], ◌∷◌, ◌++◌, map, length, Option, Some, None, Result, Ok, Err, refl, sym, ap, ◌∙◌, subst, append_assoc, arith}
+use Rattle.std.proofs.Common.{◌≡◌, ◌≤◌, Bool, true, false, List, [], ◌∷◌, ◌++◌, map, length, Option, Some, None, Result, Ok, Err, refl, sym, ap, ◌∙◌, subst, append_assoc, arith}
 use Rattle.std.specs.Prelude.{◌&&◌, if◌then◌else◌, codes}
 use Rattle.std.proofs.lemmas.List.{append-nil}
 use Rattle.fvn_lex.specs.Cut.{Piece}
@@ -7,7 +7,7 @@ use Rattle.fvn_terms.specs.declared.plain.OpId.{OpId}
 use Rattle.fvn_terms.specs.declared.plain.SortId.{SortId}
 use Rattle.fvn_terms.specs.declared.plain.Plain.{Plain}
 use Rattle.fvn_terms.specs.declared.declarations.Declarations.{Declarations}
-use Rattle.fvn_terms.specs.Plain.{term, terms}
+use Rattle.fvn_terms.specs.Plain.{term}
 use Rattle.fvn_terms.specs.Signature.{kind, axioms, HasKind, IsTerm}
 use Rattle.fvn_terms.specs.Sorts.{IsLeastSort}
 use Rattle.fvn_forms.specs.Good.{IsGood}
@@ -21,6 +21,7 @@ use Rattle.fvn_syntax.specs.Pieces.{Text, word, left_paren, right_paren, left_br
 use Rattle.fvn_syntax.specs.Raw.{RawTerm, RawTerms, name, call, round, kind_variable, last, and, spell, spell_all, spell_others, IsWritten, AreWritten, EndsBefore}
 use Rattle.fvn_syntax.specs.Resolve.{Resolved, AllResolved, bind, or_fault, unless, application_fault, applied, apply, the_variable, resolve_meaning, resolve_kind, resolve, resolve_all}
 use Rattle.fvn_syntax.specs.Scope.{Scope}
+use Rattle.fvn_syntax.proofs.SpelledOnce.{ends-before, ends-nil}
 use Rattle.fvn_problems.specs.declared.sorting.Sorted.{Sorted}
 use Rattle.fvn_problems.specs.declared.sorting.Frame.{Frame}
 use Rattle.fvn_problems.specs.declared.sorting.Frame.TheVariants.{Round, Call}
@@ -28,7 +29,6 @@ use Rattle.fvn_problems.specs.declared.sorting.Spot.TheVariants.{Wanted, Named, 
 use Rattle.fvn_problems.specs.inner.Sorting.{sorted_of, of_sort, or_first_sort, or_first_op, sort_of_variable, State, state, over, leaf_of, leaf, kind_named, behind, step_at, step, finish, run, HasLeastSort}
 use Rattle.fvn_problems.proofs.Pairs.{ok, err}
 use Rattle.fvn_problems.proofs.Sorts.{over_sorted}
-use Rattle.fvn_problems.proofs.Spelled.{ends-before, ends-nil}
 
 module _ (d : Declarations) (names : Names) where
   -- the walk from here, behind a whole term

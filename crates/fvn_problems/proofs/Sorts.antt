@@ -1,5 +1,5 @@
 -- The least sort of a term, by those of its arguments.
-use Rattle.std.proofs.Common.{◌≡◌, ℕ, ◌≤◌, Bool, true, false, List, [], ◌∷◌, ◌++◌, map, length, Option, Some, None, refl, sym, ap, subst, ◌∙◌, append_assoc, arith}
+use Rattle.std.proofs.Common.{◌≡◌, ◌≤◌, Bool, true, false, List, [], ◌∷◌, ◌++◌, map, length, Option, Some, None, refl, sym, ap, ◌∙◌, append_assoc, arith}
 use Rattle.std.specs.Prelude.{nat_eq, if◌then◌else◌}
 use Rattle.std.specs.List.{AllByRecursion}
 use Rattle.std.proofs.lemmas.Bool.{eqb-true, eq-eqb}
@@ -9,11 +9,11 @@ use Rattle.fvn_terms.specs.declared.plain.Plain.{Plain}
 use Rattle.fvn_terms.specs.declared.declarations.Axioms.{Axioms}
 use Rattle.fvn_terms.specs.declared.declarations.Axioms.TheVariants.{Free, Comm, AssocComm, AssocCommId}
 use Rattle.fvn_terms.specs.declared.declarations.Declarations.{Declarations}
-use Rattle.fvn_terms.specs.Term.{Term, Terms, app, none, more}
+use Rattle.fvn_terms.specs.Term.{Term, app, none, more}
 use Rattle.fvn_terms.specs.Plain.{term, terms}
-use Rattle.fvn_terms.specs.Signature.{axioms, HasKind, IsTerm}
+use Rattle.fvn_terms.specs.Signature.{axioms, IsTerm}
 use Rattle.fvn_terms.specs.Equality.{two, IsAssociative}
-use Rattle.fvn_forms.specs.Flat.{FlatTerm, fvar}
+use Rattle.fvn_forms.specs.Flat.{fvar}
 use Rattle.fvn_forms.specs.Canon.{identity, as_constant, eval_all, canon}
 use Rattle.fvn_forms.specs.Ranks.{result}
 use Rattle.fvn_forms.specs.Good.{IsGood}
@@ -22,7 +22,7 @@ use Rattle.fvn_forms.proofs.Build.{build_unjoined_some}
 use Rattle.fvn_forms.proofs.KindsKept.{both_of_kind}
 use Rattle.fvn_forms.proofs.LeastSortOf.{IsIdentityOf, canon_left_identity, canon_right_identity, least_sort_of_app, canon_joined}
 use Rattle.fvn_syntax.specs.Names.{is_sum}
-use Rattle.fvn_syntax.specs.Resolve.{nested, nested_all, applied}
+use Rattle.fvn_syntax.specs.Resolve.{nested, applied}
 use Rattle.fvn_problems.specs.declared.sorting.Sorted.{Sorted}
 use Rattle.fvn_problems.specs.inner.Sorting.{sorted_of, of_sort, same_constant, sum_of_two, sum_of, sum_of_all, over}
 

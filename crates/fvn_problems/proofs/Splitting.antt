@@ -1,27 +1,15 @@
 -- Rows are cut where the terms and pairs with which they begin end.
-use Rattle.std.proofs.Common.{◌≡◌, ℕ, ◌<◌, Bool, true, false, ◌&&◌, List, [], ◌∷◌, ◌++◌, length, take, drop, map, refl, sym, ap, ◌∙◌, subst, append_assoc, arith}
-use Rattle.std.specs.Prelude.{◌==◌, codes}
+use Rattle.std.proofs.Common.{◌≡◌, List, [], ◌∷◌, ◌++◌, map, refl, sym, ap, ◌∙◌}
 use Rattle.std.specs.List.{AllByRecursion}
-use Rattle.std.proofs.lemmas.List.{append-nil, take-append-drop, append_cancel_right, map-append}
-use Rattle.std.proofs.lemmas.Bool.{eqb-true}
+use Rattle.std.proofs.lemmas.List.{append-nil, map-append}
 use Rattle.fvn_lex.specs.Cut.{Piece}
-use Rattle.fvn_syntax.specs.Pieces.{Text, word, comma, dot, left_brace, right_brace}
-use Rattle.fvn_syntax.specs.Raw.{RawTerm, spell, IsWritten, EndsBefore, IsTermBefore, BeginsWithNoTerm}
+use Rattle.fvn_syntax.specs.Pieces.{Text, word}
+use Rattle.fvn_syntax.specs.Raw.{spell, BeginsWithNoTerm}
+use Rattle.fvn_syntax.proofs.SpelledOnce.{tail, once, ends-before}
 use Rattle.fvn_problems.specs.declared.split.Halves.{Halves}
-use Rattle.fvn_problems.specs.Spelling.{RawPair, spell_pair, spell_further, spell_pairs, IsWrittenPair}
-use Rattle.fvn_problems.specs.inner.Split.{BeginsNotWith, IsBetween, Closes, IsTermSplit, halves_of, IsPairSplit, BeginsWithNoPair, IsFront, Decides, ArePairsBefore, ArePairsSplit, BeginsWithNoPairs}
-use Rattle.fvn_problems.proofs.Spelled.{tail, once, ends-before, pair-rest, pair-once, further-ends, further-rest}
-
-pub term-split : (row front rest : List Piece) (n : ℕ) → front ≡ take n row → rest ≡ drop n row → IsTermBefore (drop n row) row → IsTermSplit row front rest
-term-split row front rest n f r h =
-    let e : take n row ≡ spell h.term = append_cancel_right (take n row) (spell h.term) (drop n row) (take-append-drop n row ∙ h.spelled) in
-    record {
-      term = h.term;
-      written = h.written;
-      ends = subst (λ x. EndsBefore x h.term) (sym r) h.ends;
-      front_is = f ∙ e;
-      spelled = h.spelled ∙ ap (λ x. spell h.term ++ x) (sym r);
-    }
+use Rattle.fvn_problems.specs.Spelling.{RawPair, spell_pair, spell_further, IsWrittenPair}
+use Rattle.fvn_problems.specs.inner.Split.{BeginsNotWith, IsBetween, Closes, IsTermSplit, halves_of, IsPairSplit, BeginsWithNoPair, IsFront, Decides, ArePairsSplit, BeginsWithNoPairs}
+use Rattle.fvn_problems.proofs.Spelled.{pair-rest, pair-once, further-ends, further-rest}
 
 abbrev pub halves : List Piece → List Piece → Halves
 halves l r = record { left = l; right = r }

@@ -1,6 +1,6 @@
 -- Term texts, problems and binding texts are cut into their terms.
-use Rattle.std.proofs.Common.{◌≡◌, ℕ, Bool, true, false, List, [], ◌∷◌, ◌++◌, length, map, refl, sym, ap, ◌∙◌, subst, arith}
-use Rattle.std.specs.Prelude.{◌&&◌, ◌==◌, not, codes}
+use Rattle.std.proofs.Common.{◌≡◌, Bool, true, false, List, [], ◌∷◌, ◌++◌, length, map, refl, sym, ap, ◌∙◌, arith}
+use Rattle.std.specs.Prelude.{◌==◌, codes}
 use Rattle.std.specs.List.{AllByRecursion, list_all}
 use Rattle.std.specs.Str.{bytes_eq}
 use Rattle.std.proofs.lemmas.Bool.{eqb-true}
@@ -10,10 +10,11 @@ use Rattle.fvn_lex.specs.Cut.{Piece}
 use Rattle.fvn_syntax.specs.Pieces.{Text, dot, is_dot, is_dot_class, left_brace, right_brace, comma}
 use Rattle.fvn_syntax.specs.Raw.{RawTerm, name, call, round, kind_variable, spell, BeginsWithNoTerm}
 use Rattle.fvn_syntax.proofs.PieceLemmas.{and-left, and-right, bytes_eq-is}
+use Rattle.fvn_syntax.proofs.SpelledOnce.{tail, once}
 use Rattle.fvn_problems.specs.declared.split.Halves.{Halves}
-use Rattle.fvn_problems.specs.Spelling.{RawQuery, RawPair, RawProblem, ending, equals, conjunction, goes_to, pairs_in, spell_pairs, IsWrittenPair, IsAlone, IsWrittenBinding}
-use Rattle.fvn_problems.specs.inner.Split.{is_full_stop, is_end, is_alone, BeginsNotWith, IsTermSplit, halves_of, ArePairsBefore, ArePairsSplit, BeginsWithNoPairs, IsQueryRow, IsQuerySplit, IsProblemRow, IsProblemSplit, IsBindingRow, IsBindingSplit}
-use Rattle.fvn_problems.proofs.Spelled.{tail, apart, once, ending-closes, brace-closes, comma-between, pairs-once, pairs-written, no-brace, begin}
+use Rattle.fvn_problems.specs.Spelling.{RawQuery, RawPair, RawProblem, ending, equals, conjunction, goes_to, spell_pairs, IsWrittenPair, IsAlone, IsWrittenBinding}
+use Rattle.fvn_problems.specs.inner.Split.{is_full_stop, is_end, is_alone, IsTermSplit, halves_of, ArePairsBefore, ArePairsSplit, BeginsWithNoPairs, IsQueryRow, IsQuerySplit, IsProblemRow, IsProblemSplit, IsBindingRow, IsBindingSplit}
+use Rattle.fvn_problems.proofs.Spelled.{ending-closes, brace-closes, comma-between, pairs-once, pairs-written}
 
 abbrev piece : Class → Text → Piece
 piece k u = record { class = k; text = u }

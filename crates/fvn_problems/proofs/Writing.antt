@@ -1,79 +1,28 @@
 -- The variables that are written before arrows.
-use Rattle.std.proofs.Common.{◌≡◌, ◌≢◌, ℕ, zero, suc, ◌+◌, ◌-◌, ◌*◌, ◌/◌, ◌%◌, ◌<◌, ◌≤◌, ◌⊎◌, inl, inr, Bool, true, false, IsTrue, List, [], ◌∷◌, ◌++◌, length, take, drop, map, get_or, min, Option, Some, None, Result, Ok, Err, refl, sym, ap, ◌∙◌, subst, arith}
-use Rattle.std.specs.Prelude.{◌&&◌, ◌||◌, ◌↔◌, cond, not, nat_eq, if◌then◌else◌, slice_get, Contains, AllPairs, IfSome, IfNone}
-use Rattle.std.specs.List.{AllByRecursion, position_from, list_any}
+use Rattle.std.proofs.Common.{◌≡◌, ◌≢◌, ℕ, zero, suc, ◌+◌, ◌-◌, ◌<◌, ◌≤◌, inl, inr, Bool, true, false, List, [], ◌∷◌, ◌++◌, take, Option, Some, None, refl, sym, ap, ◌∙◌, subst, arith}
+use Rattle.std.specs.Prelude.{◌&&◌, ◌||◌, cond, not, nat_eq, slice_get, Contains, AllPairs, IfSome, IfNone}
+use Rattle.std.specs.List.{position_from, list_any}
 use Rattle.std.specs.Str.{bytes_eq}
 use Rattle.std.proofs.lemmas.Bool.{eqb-true, eq-eqb, cases_order}
 use Rattle.std.proofs.lemmas.Option.{get_or_from_slice_get, slice_get_within}
-use Rattle.std.proofs.lemmas.List.{length-map, get_or_default, take_more}
+use Rattle.std.proofs.lemmas.List.{take_more}
 use Rattle.fvn_base.proofs.Membership.{contains_cases, contains_none}
 use Rattle.fvn_lex.specs.Cut.{Piece}
 use Rattle.fvn_terms.specs.declared.plain.Var.{Var}
 use Rattle.fvn_terms.specs.declared.plain.SortId.{SortId}
-use Rattle.fvn_terms.specs.declared.plain.Plain.{Plain}
 use Rattle.fvn_terms.specs.declared.declarations.Declarations.{Declarations}
-use Rattle.fvn_terms.specs.Term.{nodes}
-use Rattle.fvn_terms.specs.Plain.{term}
-use Rattle.fvn_terms.specs.Signature.{kind}
-use Rattle.fvn_syntax.specs.declared.fault.TermFault.{TermFault}
-use Rattle.fvn_syntax.specs.declared.naming.Meaning.{Meaning}
-use Rattle.fvn_syntax.specs.declared.naming.Meaning.TheVariants.{Constant, Variable}
 use Rattle.fvn_syntax.specs.declared.names.Names.{Names}
-use Rattle.fvn_syntax.specs.declared.seen.Seen.{Seen}
-use Rattle.fvn_syntax.specs.declared.seen.Kinded.{Kinded}
-use Rattle.fvn_syntax.specs.Names.{resolve_name, of_sort, bracket}
-use Rattle.fvn_syntax.specs.Pieces.{Text, without_last}
-use Rattle.fvn_syntax.specs.Raw.{RawTerm, name, call, round, kind_variable, spell, IsWritten}
-use Rattle.fvn_syntax.specs.Readings.{sum_or_most, IsReadAs, Reads, Refuses}
-use Rattle.fvn_syntax.specs.Resolve.{Resolved, resolve, resolve_meaning, resolve_kind}
-use Rattle.fvn_syntax.specs.Scope.{Scope}
+use Rattle.fvn_syntax.specs.Pieces.{Text}
 use Rattle.fvn_syntax.specs.Texts.{place, unless_at, with_text}
 use Rattle.fvn_syntax.proofs.PieceLemmas.{bytes_eq-refl, bytes_eq-is}
 use Rattle.fvn_problems.specs.declared.problem.Problem.{Problem}
-use Rattle.fvn_problems.specs.Bindings.{variable_of, written_variable, IsVariableOf}
 use Rattle.fvn_problems.specs.Scopes.{unguarded}
-use Rattle.fvn_problems.specs.Spelling.{IsAlone}
-use Rattle.fvn_problems.specs.inner.Bound.{text_and_sort, Writes, is_named, IsTheVariable, Finds}
+use Rattle.fvn_problems.specs.inner.Bound.{Writes, is_named, IsTheVariable, Finds}
 
 abbrev pub named : Text → SortId → Text × SortId
 named x s = (x, s)
 
 module _ (d : Declarations) (names : Names) where
-  -- the term that is read is the variable that is written
-  abbrev Agree : Result Resolved TermFault → Option (Text × SortId) → Type 0
-  Agree (Ok r) v = (text_and_sort r.texts r.term ≡ v) × (nodes (term r.term) ≡ 1)
-  Agree (Err f) v = None ≡ v
-
-  meaning-agrees : (m : Option Meaning) → Agree (resolve_meaning (unguarded d names) [] m) (variable_of m)
-  meaning-agrees None = refl
-  meaning-agrees (Some (Constant f)) = (refl, refl)
-  meaning-agrees (Some (Variable x s)) = (refl, refl)
-
-  kind-agrees : (x : Text) (o : Option SortId) → Agree (resolve_kind (unguarded d names) [] x o) (of_sort x o)
-  kind-agrees x None = refl
-  kind-agrees x (Some k) = (refl, refl)
-
-  agrees : (t : RawTerm) → IsAlone t → Agree (resolve (unguarded d names) [] t) (written_variable (unguarded d names) t)
-  agrees (name w) a = meaning-agrees (resolve_name d names w)
-  agrees (call w ts) a = absurd a
-  agrees (round t) a = absurd a
-  agrees (kind_variable x s ss) a = kind-agrees (without_last x) (bracket names.sorts d.kinds s ss)
-
-  pub writes-read : (row : List Piece) (before : Seen) (read : Kinded × Seen) (v : Option (Text × SortId)) → before.texts ≡ [] → before.count ≡ 0 →
-      Reads (unguarded d names) 1 before row read → v ≡ text_and_sort (read.1).texts (read.0).term → Writes (unguarded d names) row v
-  writes-read row before read v none nil reads is t w alone e =
-      let a = reads t w e in
-      let stands : resolve (unguarded d names) [] t ≡ Ok a.resolved = ap (λ x. resolve (unguarded d names) x t) (sym none) ∙ a.stands in
-      let g : Agree (Ok a.resolved) (written_variable (unguarded d names) t) = subst (λ r. Agree r (written_variable (unguarded d names) t)) stands (agrees t alone) in
-      let n = g.1 in
-      let count : (read.1).count ≡ sum_or_most 0 1 = a.count ∙ ap (λ m. sum_or_most m (nodes (term a.resolved.term))) nil ∙ ap (sum_or_most 0) n in
-      let small : (read.1).count ≤ 1 = omega arith in
-      is ∙ ap (λ x. text_and_sort x (read.0).term) a.texts ∙ ap (text_and_sort a.resolved.texts) (a.built small) ∙ g.0
-
-  pub writes-nothing : (row : List Piece) (f : TermFault) → Refuses (unguarded d names) [] row f → Writes (unguarded d names) row None
-  writes-nothing row f refuses t w alone e =
-      subst (λ r. Agree r (written_variable (unguarded d names) t)) (refuses t w e) (agrees t alone)
-
   -- the variable of the problem, where one is written
   pub finds : (p : Problem) (row : List Piece) (text : Text) (sort : SortId) (x : Var) → Writes (unguarded d names) row (Some (text, sort)) → IsTheVariable p text sort x →
       Finds (unguarded d names) p row (Some x)

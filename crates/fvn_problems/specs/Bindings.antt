@@ -1,5 +1,5 @@
 -- What a binding text binds in a problem, and its first fault.
-use Rattle.std.specs.Prelude.{ℕ, ◌≡◌, ◌≢◌, ◌<◌, ◌≤◌, ◌⊎◌, false, List, [], ◌∷◌, slice_get, All, AllPairs, Contains, Option, Some, None, Ok, Err}
+use Rattle.std.specs.Prelude.{◌≡◌, ◌≢◌, ◌<◌, ◌≤◌, ◌⊎◌, false, List, [], ◌∷◌, slice_get, All, AllPairs, Contains, Option, Some, None, Ok, Err}
 use Rattle.fvn_base.specs.declared.limits.TheConstants.{TERM_SYMBOLS}
 use Rattle.fvn_terms.specs.declared.plain.Var.{Var}
 use Rattle.fvn_terms.specs.declared.plain.Plain.{Plain}

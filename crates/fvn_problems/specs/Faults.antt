@@ -37,3 +37,7 @@ module _ {Raw : Type 0} (IsText : Raw → Type 0) (IsFault : Raw → ProblemFaul
 -- this holds, but for want of memory
 abbrev pub ButForMemory : Type 0 → ProblemFault → Type 0
 ButForMemory P fault = (fault ≡ NoMemory) ⊎ P
+
+-- the two faults are one, but for want of memory
+abbrev pub AreOneFault : ProblemFault → ProblemFault → Type 0
+AreOneFault f g = ButForMemory (ButForMemory (f ≡ g) g) f

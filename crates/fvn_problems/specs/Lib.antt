@@ -6,5 +6,6 @@ pub mod Problems
 pub mod Queries
 pub mod Scopes
 pub mod Spelling
+pub mod VariableTexts
 pub mod Variables
 pub mod inner

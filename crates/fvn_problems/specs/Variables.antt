@@ -1,5 +1,5 @@
 -- The variables of a text, in order of first occurrence.
-use Rattle.std.specs.Prelude.{ℕ, ◌≡◌, ◌≢◌, ◌<◌, ◌⊎◌, ◌↔◌, ◌++◌, false, List, [], ◌∷◌, if◌then◌else◌, length, All, AllPairs, Contains}
+use Rattle.std.specs.Prelude.{◌≡◌, ◌≢◌, ◌<◌, ◌⊎◌, ◌↔◌, ◌++◌, false, List, [], ◌∷◌, if◌then◌else◌, length, AllPairs, Contains}
 use Rattle.std.specs.List.{list_any}
 use Rattle.fvn_terms.specs.declared.plain.Var.{Var}
 use Rattle.fvn_terms.specs.declared.plain.Plain.{Plain}

@@ -4,7 +4,18 @@ ghost use Rattle.fvn_problems.specs.Laws.{
   ProblemsAreSpelledOnce,
   BindingsAreSpelledOnce,
   NamesGoOn,
+  QueryFaultsAreDetermined,
+  ProblemFaultsAreDetermined,
+  BindingFaultsAreDetermined,
+  QueryNamesAreWords,
+  ProblemNamesAreWords,
+  ProblemsAreDetermined,
+  BindingsAreDetermined,
+  RefusedProblemsAskNothing,
+  RefusedBindingsBindNothing,
 };
+
+use fvn_lex::{pieces_by_form, pieces_stand_alone};
 
 /// Two term texts that are spelled alike are one.
 pub fn queries_are_spelled_once()
@@ -24,4 +35,55 @@ pub fn bindings_are_spelled_once()
 /// The names of the variables before a term stay, and others come behind them.
 pub fn names_go_on()
     ensures { NamesGoOn }
+{}
+
+/// But for want of memory, a term text has one first fault at most.
+pub fn query_faults_are_determined()
+    ensures { QueryFaultsAreDetermined }
+{}
+
+/// But for want of memory, a problem has one first fault at most.
+pub fn problem_faults_are_determined()
+    ensures { ProblemFaultsAreDetermined }
+{}
+
+/// But for want of memory, a binding text has one first fault at most.
+pub fn binding_faults_are_determined()
+    ensures { BindingFaultsAreDetermined }
+{}
+
+/// The name of each variable of a term text is a word with a colon behind it, and does not begin with `#`.
+pub fn query_names_are_words()
+    ensures { QueryNamesAreWords }
+{
+    pieces_by_form();
+    pieces_stand_alone();
+}
+
+/// The name of each variable of a problem is a word with a colon behind it, and does not begin with `#`.
+pub fn problem_names_are_words()
+    ensures { ProblemNamesAreWords }
+{
+    pieces_by_form();
+    pieces_stand_alone();
+}
+
+/// A text asks one problem at most.
+pub fn problems_are_determined()
+    ensures { ProblemsAreDetermined }
+{}
+
+/// A text binds one thing at most in a problem that a text asks.
+pub fn bindings_are_determined()
+    ensures { BindingsAreDetermined }
+{}
+
+/// But for want of memory, a text with a fault as a problem asks nothing.
+pub fn refused_problems_ask_nothing()
+    ensures { RefusedProblemsAskNothing }
+{}
+
+/// But for want of memory, a text with a fault as a binding text binds nothing.
+pub fn refused_bindings_bind_nothing()
+    ensures { RefusedBindingsBindNothing }
 {}

@@ -12,12 +12,12 @@ use Rattle.fvn_first.specs.ModuleText.{IsModule, IsModuleText}
 use Rattle.fvn_first.specs.Laws.{IsFirstForm, ModulesAreFirst, ProblemsAreFirst, IsFirstProblem}
 use Rattle.fvn_tool.specs.declared.status.Status.{Status}
 use Rattle.fvn_tool.specs.declared.status.Status.TheVariants.{Solved, Nothing, ModuleRefused, ProblemRefused, Ended}
-use Rattle.fvn_tool.specs.Free.{ListsVariables, IsMostGeneral, AreNumbered, variables_among}
+use Rattle.fvn_free.specs.Free.{ListsVariables, IsMostGeneral, AreNumbered, variables_among}
 use Rattle.fvn_tool.specs.Lines.{bindings_line}
 use Rattle.fvn_tool.specs.Spellings.{spelling}
 use Rattle.fvn_tool.specs.Replies.{answer_text, complete, bound_size, line_of, CannotBeUnified, ExceedsSize, IsPrintable, IsAnswer, unified, not_unified, too_large, IsProblem, IsUnifyReply, no_module, no_problem, no_module_line, no_problem_line, DeclareNoModule, AsksNothing}
-use Rattle.fvn_tool.proofs.Asked.{lists_variables}
-use Rattle.fvn_tool.proofs.Pairs.{values-pairs, pack-values, within-values}
+use Rattle.fvn_free.proofs.Asked.{lists_variables}
+use Rattle.fvn_free.proofs.Pairs.{values-pairs, pack-values, within-values}
 
 module _ (scope : FirstModule) (problem : FirstProblem) (m : IsModule scope) (q : IsProblem scope problem) (modules : ModulesAreFirst) (problems : ProblemsAreFirst) where
   pub asked_problem : IsFirstProblem scope problem

@@ -9,37 +9,54 @@ use Rattle.fvn_first.specs.ProblemText.{IsProblemText}
 use Rattle.fvn_first.specs.Laws.{ModulesAreDetermined, ModulesAreFirst, ProblemsAreDetermined}
 use Rattle.fvn_outside.specs.Source.{Takes, TakesCount}
 use Rattle.fvn_tool.specs.declared.status.Status.{Status}
-use Rattle.fvn_tool.specs.declared.status.Status.TheVariants.{Usage, ModuleRefused, ProblemRefused, ReadFault, WriteFault}
-use Rattle.fvn_tool.specs.Statuses.{IsSilent, IsSpoken}
-use Rattle.fvn_tool.specs.Words.{Command, unify, command_of}
+use Rattle.fvn_tool.specs.declared.status.Status.TheVariants.{Solved, Nothing, Usage, ModuleRefused, ProblemRefused, Ended, ReadFault, WriteFault, NoMemory}
+use Rattle.fvn_tool.specs.Statuses.{IsSilent, IsSpoken, IsAnswering}
+use Rattle.fvn_module.specs.Contents.{Contents}
+use Rattle.fvn_module.specs.ModuleText.{IsModule}
+use Rattle.fvn_module.specs.Laws.{ModulesAreDetermined as EachIsOneModule, RefusedTextsDeclareNothing}
+use Rattle.fvn_problems.specs.declared.problem.Problem.{Problem}
+use Rattle.fvn_problems.specs.declared.bindings.Bindings.{Bindings}
+use Rattle.fvn_tool.specs.Words.{Command, check, unify, verify, command_of}
+use Rattle.fvn_tool.specs.Laws.{ReadersAreLawful}
+use Rattle.fvn_tool.specs.Checks.{AreNoModule, summary_line}
+use Rattle.fvn_tool.specs.Verifying.{HasEquations, later_line, AreSolvedBy, IsModuleOfAxioms, IsAskedIn, IsAskedOf}
 use Rattle.fvn_tool.specs.Replies.{complete, bound_size, line_of, IsReply, IsUnifyReply, no_module, no_problem, answered, IsAnswer, unified, not_unified, too_large, no_module_line, no_problem_line, DeclareNoModule}
 use Rattle.fvn_tool.specs.Runs.{Outside, Run, Leaves, HasFailed}
 use Rattle.fvn_tool.specs.Outcomes.{usage_line, too_long_line, IsOutcome, no_command, too_long, replied}
-use Rattle.fvn_tool.specs.Claims.{IsOneText, Is, RefusesWords, Asks, RefusesLongText, RefusesModule, RefusesProblem, HasNoProblem, IsAsked, IsRight, Shows, EndsComplete, AnswersRight, AnswersWithoutEvent, AnswersUnify, IsReport}
+use Rattle.fvn_tool.specs.Claims.{IsUnifyText, IsOneText, IsFirstRefusalOf, RefusesText, TellsModule, AnswersCheck, Is, RefusesWords, Asks, RefusesLongText, RefusesModule, RefusesProblem, HasNoProblem, IsAsked, IsRight, Shows, EndsComplete, AnswersRight, AnswersWithoutEvent, AnswersUnify, RefusesToVerify, AsksNoProblem, BindsNothing, IsProblemRefusalOf, IsBindingRefusalOf, RefusesToVerifyWords, TellsVerdict, AnswersVerify, IsReport}
+use Rattle.fvn_tool.proofs.Checks.{check_one_text, check_not_usage, check_refuses, check_no_module, check_tells, check_module}
+use Rattle.fvn_tool.proofs.Verified.{verify_one_text, verify_not_usage, verify_no_module, verify_answers, verify_yes, verify_refuses, verify_later, verify_refuses_words, verify_no_problem, verify_no_bindings, verify_verdict}
 use Rattle.fvn_tool.proofs.Outcomes.{Leaves-weaker, Leaves-goes, Leaves-without_fault}
 use Rattle.fvn_tool.proofs.Shows.{shows_right, shows_end}
-use Rattle.fvn_tool.proofs.Sizes.{same_sizes}
-use Rattle.fvn_tool.proofs.FreeSorted.{free_operators}
+use Rattle.fvn_free.proofs.Sizes.{same_sizes}
+use Rattle.fvn_free.proofs.FreeSorted.{free_operators}
 
 -- Texts
 
-answer_one_text : (scope : FirstModule) (problem : FirstProblem) (s : Status) (t : List ℕ) → IsAnswer scope problem s t → IsOneText s t
+answer_one_text : (scope : FirstModule) (problem : FirstProblem) (s : Status) (t : List ℕ) → IsAnswer scope problem s t → IsUnifyText s t
 answer_one_text scope problem s t (unified c p is) = record { texts = line_of scope problem c ∷ []; end = complete 1; text_is = is; status_is = refl }
 answer_one_text scope problem s t (not_unified h is) = record { texts = []; end = complete 0; text_is = is; status_is = refl }
 answer_one_text scope problem s t (too_large h is) = record { texts = []; end = bound_size; text_is = is; status_is = refl }
 
-unify_one_text : (bytes word : List ℕ) (s : Status) (t : List ℕ) → IsUnifyReply bytes word s t → IsOneText s t
+unify_one_text : (bytes word : List ℕ) (s : Status) (t : List ℕ) → IsUnifyReply bytes word s t → IsUnifyText s t
 unify_one_text bytes word s t (no_module h is) = inr is
 unify_one_text bytes word s t (no_problem scope m h is) = is
 unify_one_text bytes word s t (answered scope problem m p a) = answer_one_text scope problem s t a
 
-reply_one_text : (command : Command) (bytes : List ℕ) (s : Status) (t : List ℕ) → IsReply command bytes s t → IsOneText s t
+reply_one_text : (command : Command) (bytes : List ℕ) (s : Status) (t : List ℕ) → IsReply command bytes s t → IsOneText (Some command) s t
+reply_one_text check bytes s t r = check_one_text bytes s t r
 reply_one_text (unify word) bytes s t r = unify_one_text bytes word s t r
+reply_one_text (verify problem bindings) bytes s t r = verify_one_text bytes problem bindings s t r
 
-outcome_one_text : (words : List (List ℕ)) (source : Outside) (s : Status) (t : List ℕ) → IsOutcome words source s t → IsOneText s t
-outcome_one_text words source s t (no_command h is) = is
-outcome_one_text words source s t (too_long command h n is) = inl is
-outcome_one_text words source s t (replied command bytes h n e f r) = reply_one_text command bytes s t r
+long_one_text : (command : Command) (t : List ℕ) → t ≡ too_long_line → IsOneText (Some command) ModuleRefused t
+long_one_text check t is = inl is
+long_one_text (unify word) t is = inl is
+long_one_text (verify problem bindings) t is = inl is
+
+outcome_one_text : (words : List (List ℕ)) (source : Outside) (s : Status) (t : List ℕ) → IsOutcome words source s t → IsOneText (command_of words) s t
+outcome_one_text words source s t (no_command h is) = subst (λ c. IsOneText c s t) (sym h) (refl, is)
+outcome_one_text words source s t (too_long command h n is) = subst (λ c. IsOneText c s t) (sym h) (long_one_text command t is)
+outcome_one_text words source s t (replied command bytes h n e f r) = subst (λ c. IsOneText c s t) (sym h) (reply_one_text command bytes s t r)
 
 -- Words
 
@@ -59,7 +76,9 @@ unify_not_usage bytes word s t e (no_problem scope m k is) = cc
 unify_not_usage bytes word s t e (answered scope problem m p k) = answer_not_usage scope problem s t e k
 
 reply_not_usage : (command : Command) (bytes : List ℕ) (s : Status) (t : List ℕ) → s ≡ Usage → IsReply command bytes s t → ⊥
+reply_not_usage check bytes s t e r = check_not_usage bytes s t e r
 reply_not_usage (unify word) bytes s t e r = unify_not_usage bytes word s t e r
+reply_not_usage (verify problem bindings) bytes s t e r = verify_not_usage bytes problem bindings s t e r
 
 usage_only : (words : List (List ℕ)) (source : Outside) (s : Status) (t : List ℕ) → s ≡ Usage → IsOutcome words source s t → command_of words ≡ None
 usage_only words source s t e (no_command h is) = h
@@ -130,6 +149,18 @@ module _ (bytes word : List ℕ) (determined : ModulesAreDetermined) where
       let q : IsProblemText scope word found = subst (λ x. IsProblemText x word found) e p in
       subst (λ x. IsAnswer scope x u t) (problems_determined scope word found problem q asked.problem_text) (subst (λ x. IsAnswer x found u t) e a)
 
+-- an answer has a text
+answering_spoken : (s : Status) → IsAnswering s → IsSpoken s
+answering_spoken Solved a = tt
+answering_spoken Nothing a = tt
+answering_spoken Ended a = tt
+answering_spoken Usage a = absurd a
+answering_spoken ModuleRefused a = absurd a
+answering_spoken ProblemRefused a = absurd a
+answering_spoken ReadFault a = absurd a
+answering_spoken WriteFault a = absurd a
+answering_spoken NoMemory a = absurd a
+
 -- A run
 
 module _ (run : Run) (h : Leaves (IsOutcome run.words run.source) run.status run.sink) where
@@ -156,6 +187,101 @@ module _ (run : Run) (h : Leaves (IsOutcome run.words run.source) run.status run
 
   refuses_long : RefusesLongText run
   refuses_long command bytes asks l = weaker command bytes asks (Is ModuleRefused too_long_line) (long_text command bytes asks l)
+
+  module _ (bytes : List ℕ) (asks : Asks run check bytes) (one : EachIsOneModule) (nothing : RefusedTextsDeclareNothing) where
+    text_only : run.status ≡ ModuleRefused → (t : List ℕ) → Comes bytes check run.status t → (MODULE_BYTES < length bytes) ⊎ ((length bytes ≤ MODULE_BYTES) × AreNoModule bytes)
+    text_only e t (comes_long i l is) = inl l
+    text_only e t (comes_reply f r) = inr (f, check_refuses bytes one nothing run.status t e r)
+
+    text_none : length bytes ≤ MODULE_BYTES → AreNoModule bytes → (u : Status) (t : List ℕ) → Comes bytes check u t → IsFirstRefusalOf bytes u t
+    text_none f none u t (comes_long i k is) = absurd (omega (arith, f, k))
+    text_none f none u t (comes_reply g r) = check_no_module bytes none u t r
+
+    told_only : run.status ≡ Solved → (t : List ℕ) → Comes bytes check run.status t → (length bytes ≤ MODULE_BYTES) × ((m : Contents) × IsModule bytes m)
+    told_only e t (comes_long i l is) = cc
+    told_only e t (comes_reply f r) = (f, check_tells bytes run.status t e r)
+
+    told_always : length bytes ≤ MODULE_BYTES → (m : Contents) → IsModule bytes m → (u : Status) (t : List ℕ) → Comes bytes check u t → Is Solved (summary_line m) u t
+    told_always f m is_module u t (comes_long i k is) = absurd (omega (arith, f, k))
+    told_always f m is_module u t (comes_reply g r) = check_module bytes one nothing m is_module u t r
+
+    refuses_text : RefusesText bytes run
+    refuses_text = record {
+      only = λ e. let g = came check bytes asks (subst IsSpoken (sym e) tt) in text_only e g.0 g.1;
+      no_module = λ f none. weaker check bytes asks (IsFirstRefusalOf bytes) (text_none f none);
+    }
+
+    tells_module : TellsModule bytes run
+    tells_module = record {
+      only = λ e. let g = came check bytes asks (subst IsSpoken (sym e) tt) in told_only e g.0 g.1;
+      always = λ f m is_module. weaker check bytes asks (Is Solved (summary_line m)) (told_always f m is_module);
+    }
+
+    answers_check : AnswersCheck bytes run
+    answers_check = record { refused = refuses_text; told = tells_module }
+
+  module _ (problem bindings bytes : List ℕ) (asks : Asks run (verify problem bindings) bytes) (laws : ReadersAreLawful) where
+    verified_module : run.status ≡ ModuleRefused → (t : List ℕ) → Comes bytes (verify problem bindings) run.status t →
+        (MODULE_BYTES < length bytes) ⊎ ((length bytes ≤ MODULE_BYTES) × (AreNoModule bytes ⊎ ((m : Contents) × (n : ℕ) × (IsModule bytes m × HasEquations m n))))
+    verified_module e t (comes_long i l is) = inl l
+    verified_module e t (comes_reply f r) = inr (f, verify_refuses bytes problem bindings laws run.status t e r)
+
+    verified_none : length bytes ≤ MODULE_BYTES → AreNoModule bytes → (u : Status) (t : List ℕ) → Comes bytes (verify problem bindings) u t → IsFirstRefusalOf bytes u t
+    verified_none f none u t (comes_long i k is) = absurd (omega (arith, f, k))
+    verified_none f none u t (comes_reply g r) = verify_no_module bytes problem bindings none u t r
+
+    verified_later : length bytes ≤ MODULE_BYTES → (m : Contents) (n : ℕ) → IsModule bytes m → HasEquations m n → (u : Status) (t : List ℕ) → Comes bytes (verify problem bindings) u t → Is ModuleRefused (later_line n) u t
+    verified_later f m n h q u t (comes_long i k is) = absurd (omega (arith, f, k))
+    verified_later f m n h q u t (comes_reply g r) = verify_later bytes problem bindings laws m n h q u t r
+
+    refuses_to_verify : RefusesToVerify bytes run
+    refuses_to_verify = record {
+      only = λ e. let g = came (verify problem bindings) bytes asks (subst IsSpoken (sym e) tt) in verified_module e g.0 g.1;
+      no_module = λ f none. weaker (verify problem bindings) bytes asks (IsFirstRefusalOf bytes) (verified_none f none);
+      later = λ f m n h q. weaker (verify problem bindings) bytes asks (Is ModuleRefused (later_line n)) (verified_later f m n h q);
+    }
+
+    verified_words : run.status ≡ ProblemRefused → (t : List ℕ) → Comes bytes (verify problem bindings) run.status t → (length bytes ≤ MODULE_BYTES)
+        × (((m : Contents) × (IsModuleOfAxioms bytes m × AsksNoProblem m problem))
+        ⊎ ((m : Contents) × (p : Problem) × (IsAskedIn bytes problem m p × BindsNothing m p bindings)))
+    verified_words e t (comes_long i l is) = cc
+    verified_words e t (comes_reply f r) = (f, verify_refuses_words bytes problem bindings laws run.status t e r)
+
+    verified_no_problem : length bytes ≤ MODULE_BYTES → (m : Contents) → IsModuleOfAxioms bytes m → AsksNoProblem m problem → (u : Status) (t : List ℕ) → Comes bytes (verify problem bindings) u t → IsProblemRefusalOf m problem u t
+    verified_no_problem f m a none u t (comes_long i k is) = absurd (omega (arith, f, k))
+    verified_no_problem f m a none u t (comes_reply g r) = verify_no_problem bytes problem bindings laws m a none u t r
+
+    verified_no_bindings : length bytes ≤ MODULE_BYTES → (m : Contents) (p : Problem) → IsAskedIn bytes problem m p → BindsNothing m p bindings → (u : Status) (t : List ℕ) → Comes bytes (verify problem bindings) u t → IsBindingRefusalOf m p bindings u t
+    verified_no_bindings f m p a none u t (comes_long i k is) = absurd (omega (arith, f, k))
+    verified_no_bindings f m p a none u t (comes_reply g r) = verify_no_bindings bytes problem bindings laws m a.module_text p a.problem_text none u t r
+
+    refuses_words_of : RefusesToVerifyWords bytes problem bindings run
+    refuses_words_of = record {
+      only = λ e. let g = came (verify problem bindings) bytes asks (subst IsSpoken (sym e) tt) in verified_words e g.0 g.1;
+      no_problem = λ f m a none. weaker (verify problem bindings) bytes asks (IsProblemRefusalOf m problem) (verified_no_problem f m a none);
+      no_bindings = λ f m p a none. weaker (verify problem bindings) bytes asks (IsBindingRefusalOf m p bindings) (verified_no_bindings f m p a none);
+    }
+
+    verified_only : IsAnswering run.status → (t : List ℕ) → Comes bytes (verify problem bindings) run.status t → (m : Contents) × (p : Problem) × (b : Bindings) × IsAskedOf bytes problem bindings m p b
+    verified_only a t (comes_long i l is) = absurd (subst IsAnswering i a)
+    verified_only a t (comes_reply f r) = verify_answers bytes problem bindings run.status t a r
+
+    verified_yes : run.status ≡ Solved → (t : List ℕ) → Comes bytes (verify problem bindings) run.status t → (m : Contents) × (p : Problem) × (b : Bindings) × (IsAskedOf bytes problem bindings m p b × AreSolvedBy m p b)
+    verified_yes e t (comes_long i l is) = cc
+    verified_yes e t (comes_reply f r) = verify_yes bytes problem bindings run.status t e r
+
+    verified_verdict : length bytes ≤ MODULE_BYTES → (m : Contents) (p : Problem) (b : Bindings) → IsAskedOf bytes problem bindings m p b → (u : Status) (t : List ℕ) → Comes bytes (verify problem bindings) u t → TellsVerdict m p b u t
+    verified_verdict f m p b a u t (comes_long i k is) = absurd (omega (arith, f, k))
+    verified_verdict f m p b a u t (comes_reply g r) = verify_verdict bytes problem bindings laws m a.asked_in.module_text p a.asked_in.problem_text b a.bindings_text u t r
+
+    answers_verify : AnswersVerify bytes problem bindings run
+    answers_verify = record {
+      module_refused = refuses_to_verify;
+      words_refused = refuses_words_of;
+      only = λ a. let g = came (verify problem bindings) bytes asks (answering_spoken run.status a) in verified_only a g.0 g.1;
+      yes = λ e. let g = came (verify problem bindings) bytes asks (subst IsSpoken (sym e) tt) in verified_yes e g.0 g.1;
+      verdict = λ f m p b a. weaker (verify problem bindings) bytes asks (TellsVerdict m p b) (verified_verdict f m p b a);
+    }
 
   module _ (word bytes : List ℕ) (asks : Asks run (unify word) bytes) where
     module_only : run.status ≡ ModuleRefused → (t : List ℕ) → Comes bytes (unify word) run.status t → (MODULE_BYTES < length bytes) ⊎ ((length bytes ≤ MODULE_BYTES) × DeclareNoModule bytes)
@@ -220,16 +346,18 @@ module _ (run : Run) (h : Leaves (IsOutcome run.words run.source) run.status run
     }
 
     -- the outcome, what stays the same and the causes of faults are all that there is to prove of a run
-    pub report : (command_of run.words ≡ None → (run.status ≡ Usage) ⊎ (run.status ≡ WriteFault)) →
+    pub report : ReadersAreLawful → (command_of run.words ≡ None → (run.status ≡ Usage) ⊎ (run.status ≡ WriteFault)) →
         (command_of run.words ≡ None → run.source.after ≡ run.source.before) → (IsSilent run.status → run.sink.after ≡ run.sink.before) → IsReport run
-    report always unread unwritten = record {
+    report laws always unread unwritten = record {
       outcome = h;
       unread = unread;
       unwritten = unwritten;
-      whole = Leaves-weaker (IsOutcome run.words run.source) IsOneText (outcome_one_text run.words run.source) run.status run.sink h;
+      whole = Leaves-weaker (IsOutcome run.words run.source) (IsOneText (command_of run.words)) (outcome_one_text run.words run.source) run.status run.sink h;
       read_fault = read;
       write_fault = write;
       usage = refuses_words always;
       too_long = refuses_long;
+      check = λ bytes asks. answers_check bytes asks laws.modules laws.no_module;
       unify = answers_unify;
+      verify = λ problem bindings bytes asks. answers_verify problem bindings bytes asks laws;
     }

@@ -15,16 +15,18 @@ use Rattle.fvn_first.specs.Laws.{ModulesAreDetermined, ModulesAreFirst, Problems
 use Rattle.fvn_tool.specs.declared.status.Status.{Status}
 use Rattle.fvn_tool.specs.Lines.{bindings_line}
 use Rattle.fvn_tool.specs.Spellings.{spelling}
-use Rattle.fvn_tool.specs.Words.{Command, unify}
+use Rattle.fvn_tool.specs.Words.{Command, check, unify, verify}
 use Rattle.fvn_tool.specs.Replies.{answer_text, complete, IsInstanceOf, ExceedsSize, IsPrintable, IsAnswer, unified, not_unified, too_large, IsReply, IsUnifyReply, no_module, no_problem, answered}
 use Rattle.fvn_tool.specs.Outcomes.{no_command, too_long, replied}
 use Rattle.fvn_tool.specs.Claims.{Is}
-use Rattle.fvn_tool.specs.Laws.{OutcomesAreDetermined}
-use Rattle.fvn_tool.proofs.NumberedAlike.{more-head, more-tail, numbered_alike}
-use Rattle.fvn_tool.proofs.Pairs.{given}
-use Rattle.fvn_tool.proofs.Sizes.{same_sizes}
-use Rattle.fvn_tool.proofs.FreeSorted.{free_operators}
+use Rattle.fvn_tool.specs.Laws.{ReadersAreLawful, OutcomesAreDetermined}
+use Rattle.fvn_free.proofs.NumberedAlike.{more-head, more-tail, numbered_alike}
+use Rattle.fvn_free.proofs.Pairs.{given}
+use Rattle.fvn_free.proofs.Sizes.{same_sizes}
+use Rattle.fvn_free.proofs.FreeSorted.{free_operators}
 use Rattle.fvn_tool.proofs.Shows.{not_exceeded}
+use Rattle.fvn_tool.proofs.Checks.{check_determined}
+use Rattle.fvn_tool.proofs.Verified.{verify_determined}
 use Rattle.fvn_tool.proofs.Claims.{outcome_usage, Comes, comes_long, comes_reply, comes, reply_no_module, reply_no_problem, reply_answers}
 
 pack-instance : (vars : List Var) (a b c : Substitution) → All (λ x. a x ≡ apply c (b x)) vars → pack (map a vars) ≡ apply_all c (pack (map b vars))
@@ -68,7 +70,7 @@ module _ (scope : FirstModule) (problem : FirstProblem) (free : IsFree scope.dec
   answer_determined s t (too_large h is) u v (not_unified k i) = absurd (k h.by h.most_general.solution)
   answer_determined s t (too_large h is) u v (too_large k i) = (refl, i ∙ sym is)
 
-module _ (determined : ModulesAreDetermined) (first : ModulesAreFirst) (problems_determined : ProblemsAreDetermined) where
+module _ (determined : ModulesAreDetermined) (first : ModulesAreFirst) (problems_determined : ProblemsAreDetermined) (laws : ReadersAreLawful) where
   reply_determined : (bytes word : List ℕ) → length bytes ≤ MODULE_BYTES → (s : Status) (t : List ℕ) → IsUnifyReply bytes word s t → (u : Status) (v : List ℕ) → IsUnifyReply bytes word u v → Is s t u v
   reply_determined bytes word few s t (no_module h is) u v k = let r = reply_no_module bytes word h u v k in (r.0, r.1 ∙ sym is)
   reply_determined bytes word few s t (no_problem scope m h is) u v k =
@@ -78,7 +80,9 @@ module _ (determined : ModulesAreDetermined) (first : ModulesAreFirst) (problems
       (reply_answers bytes word determined problems_determined scope problem (record { few = few; module_text = m; problem_text = p }) u v k)
 
   replies_determined : (command : Command) (bytes : List ℕ) → length bytes ≤ MODULE_BYTES → (s : Status) (t : List ℕ) → IsReply command bytes s t → (u : Status) (v : List ℕ) → IsReply command bytes u v → Is s t u v
+  replies_determined check bytes few s t r u v k = check_determined bytes laws.modules laws.no_module laws.refusals s t r u v k
   replies_determined (unify word) bytes few s t r u v k = reply_determined bytes word few s t r u v k
+  replies_determined (verify problem bindings) bytes few s t r u v k = verify_determined bytes problem bindings laws s t r u v k
 
   comes_determined : (command : Command) (bytes : List ℕ) (s : Status) (t : List ℕ) → Comes bytes command s t → (u : Status) (v : List ℕ) → Comes bytes command u v → Is s t u v
   comes_determined command bytes s t (comes_long e l is) u v (comes_long i m k) = (i ∙ sym e, k ∙ sym is)

@@ -1,22 +1,10 @@
 -- Lemmas of this crate; none is for other crates.
 mod Printing
+mod Checks
+mod Verified
+mod Replying
 mod Outcomes
 mod Claims
 mod Shows
-mod Sizes
-mod Members
-mod Asked
-mod FreeTables
-mod FreeClasses
-mod FreeValues
-mod FreeSolved
-mod FreeSorted
-mod FreeNumbering
-mod FreeAssigned
-mod FreeUnify
-mod Pairs
 mod Answers
-mod FreeSmall
-mod FreeExact
-mod NumberedAlike
 mod Determined

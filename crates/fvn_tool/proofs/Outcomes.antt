@@ -7,11 +7,13 @@ use Rattle.fvn_outside.specs.Source.{TakesCount}
 use Rattle.fvn_outside.specs.Sink.{Appends}
 use Rattle.fvn_tool.specs.declared.status.Status.{Status}
 use Rattle.fvn_tool.specs.declared.status.Status.TheVariants.{Solved, Nothing, Usage, ModuleRefused, ProblemRefused, Ended, ReadFault, WriteFault, NoMemory}
-use Rattle.fvn_tool.specs.Words.{Command, unify, command_of}
+use Rattle.fvn_tool.specs.Words.{Command, check, unify, verify, command_of}
 use Rattle.fvn_tool.specs.Statuses.{IsSilent, IsSpoken}
 use Rattle.fvn_tool.specs.Runs.{Outside, Leaves, WritesWhole}
 use Rattle.fvn_tool.specs.Replies.{IsReply, IsUnifyReply, no_module, no_problem, answered, IsAnswer, unified, not_unified, too_large}
 use Rattle.fvn_tool.specs.Outcomes.{usage_line, too_long_line, IsOutcome, no_command, too_long, replied}
+use Rattle.fvn_tool.proofs.Checks.{check_spoken}
+use Rattle.fvn_tool.proofs.Verified.{verify_spoken}
 
 module _ (words : List (List ℕ)) (source : Outside) (status : Status) (text : List ℕ) where
   pub usage_outcome : status ≡ Usage → command_of words ≡ None → text ≡ usage_line → IsOutcome words source status text
@@ -32,7 +34,9 @@ unify_spoken (no_problem scope m h is) = tt
 unify_spoken (answered scope problem m p a) = answer_spoken scope problem a
 
 reply_spoken : (command : Command) (bytes : List ℕ) (status : Status) (text : List ℕ) → IsReply command bytes status text → IsSpoken status
+reply_spoken check bytes status text r = check_spoken bytes r
 reply_spoken (unify word) bytes status text r = unify_spoken r
+reply_spoken (verify problem bindings) bytes status text r = verify_spoken bytes problem bindings r
 
 pub outcome_spoken : {words : List (List ℕ)} {source : Outside} {status : Status} {text : List ℕ} → IsOutcome words source status text → IsSpoken status
 outcome_spoken (no_command h is) = tt

@@ -7,6 +7,15 @@ use Rattle.fvn_terms.specs.declared.plain.SortId.{SortId}
 use Rattle.fvn_terms.specs.Term.{Term, Terms, var, app, none, more}
 use Rattle.fvn_terms.specs.Substitution.{Substitution}
 
+-- a line ends with a line feed
+abbrev pub line : List ℕ → List ℕ
+line text = text ++ 10 ∷ []
+
+-- each text as a line
+abbrev pub lines : List (List ℕ) → List ℕ
+lines [] = []
+lines (text ∷ texts) = line text ++ lines texts
+
 -- The text goes on with a special byte. After a backquote one space stands between, since the two would else be one token.
 abbrev pub beside : List ℕ → ℕ → List ℕ
 beside text special = text ++ (if ends_with nat_eq text (codes "`") then 32 ∷ special ∷ [] else special ∷ [])

@@ -6,7 +6,8 @@ use Rattle.fvn_outside.specs.Source.{Takes, TakesCount}
 use Rattle.fvn_tool.specs.declared.status.Status.{Status}
 use Rattle.fvn_tool.specs.declared.status.Status.TheVariants.{Usage, ModuleRefused}
 use Rattle.fvn_tool.specs.Words.{Command, command_of}
-use Rattle.fvn_tool.specs.Replies.{line, IsReply}
+use Rattle.fvn_tool.specs.Lines.{line}
+use Rattle.fvn_tool.specs.Replies.{IsReply}
 use Rattle.fvn_tool.specs.Runs.{Outside}
 
 -- the line for words that are no command

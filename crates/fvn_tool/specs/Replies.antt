@@ -11,19 +11,12 @@ use Rattle.fvn_first.specs.ModuleText.{IsModuleText}
 use Rattle.fvn_first.specs.ProblemText.{IsProblemText}
 use Rattle.fvn_tool.specs.declared.status.Status.{Status}
 use Rattle.fvn_tool.specs.declared.status.Status.TheVariants.{Solved, Nothing, ModuleRefused, ProblemRefused, Ended}
-use Rattle.fvn_tool.specs.Words.{Command, unify}
-use Rattle.fvn_tool.specs.Lines.{unifier_line}
+use Rattle.fvn_tool.specs.Words.{Command, check, unify, verify}
+use Rattle.fvn_tool.specs.Lines.{line, lines, unifier_line}
 use Rattle.fvn_tool.specs.Spellings.{spelling}
-use Rattle.fvn_tool.specs.Free.{IsMostGeneral, HasNoUnifier, IsTooLarge, AreNumbered, variables_among}
-
--- a line ends with a line feed
-abbrev pub line : List ℕ → List ℕ
-line text = text ++ 10 ∷ []
-
--- each text as a line
-abbrev pub lines : List (List ℕ) → List ℕ
-lines [] = []
-lines (text ∷ texts) = line text ++ lines texts
+use Rattle.fvn_tool.specs.Checks.{IsCheckReply}
+use Rattle.fvn_tool.specs.Verifying.{IsVerifyReply}
+use Rattle.fvn_free.specs.Free.{IsMostGeneral, HasNoUnifier, IsTooLarge, AreNumbered, variables_among}
 
 -- how an answer ends: all was found, with so many lines; or a term would have had over 1,000 symbols
 pub data End : Type 0 where
@@ -110,4 +103,6 @@ pub data IsUnifyReply (bytes word : List ℕ) : Status → List ℕ → Type 0 w
 
 -- this status with this text replies to a command over the bytes of a module
 abbrev pub IsReply : Command → List ℕ → Status → List ℕ → Type 0
+IsReply check bytes status text = IsCheckReply bytes status text
 IsReply (unify word) bytes status text = IsUnifyReply bytes word status text
+IsReply (verify problem bindings) bytes status text = IsVerifyReply bytes problem bindings status text

@@ -9,15 +9,17 @@ ghost use Rattle.fvn_tool.specs.Replies.{IsReply, IsUnifyReply, IsAnswer, IsProb
 ghost use Rattle.fvn_tool.specs.Outcomes.{usage_line, too_long_line};
 ghost use Rattle.fvn_tool.specs.Texts.{bytes_of};
 
-use crate::free::{Unified, unify};
+use crate::checking::check_reply;
 use crate::lines::push_unifier;
 use crate::status::Status;
+use crate::verifying::verify_reply;
 use crate::words::Command;
 use fvn_base::limits::TERM_SYMBOLS;
 use fvn_first::first::{
     FirstFault, FirstModule, FirstProblem, Names, VarNames, modules_are_first, problems_are_first,
     read_module, read_problem,
 };
+use fvn_free::{Unified, unify};
 use fvn_terms::{NoMemory, PlainSubst};
 use std::alloc::Global;
 
@@ -151,6 +153,8 @@ pub(crate) fn reply(alloc: Global, bytes: &[u8], command: Command<'_>) -> Result
     ensures { IfOk result (λ a. IsReply (meant command.entry) bytes.now a.status (bytes_of a.text)) }
 {
     match command {
+        Command::Check => check_reply(alloc, bytes),
         Command::Unify(word) => unify_reply(alloc, bytes, word),
+        Command::Verify(problem, bindings) => verify_reply(alloc, bytes, problem, bindings),
     }
 }

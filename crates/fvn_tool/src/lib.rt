@@ -2,11 +2,12 @@
 #![tactic(auto)]
 
 mod answer;
-mod free;
+mod checking;
 mod laws;
 mod lines;
 mod status;
 mod top;
+mod verifying;
 mod words;
 
 pub use laws::outcomes_are_determined;

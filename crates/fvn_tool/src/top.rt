@@ -9,6 +9,7 @@ ghost use Rattle.fvn_tool.specs.Outcomes.{IsOutcome};
 ghost use Rattle.fvn_tool.specs.Claims.{IsReport};
 
 use crate::answer::{Answer, reply};
+use crate::checking::readers_are_lawful;
 use crate::status::Status;
 use crate::words;
 use fvn_base::limits::MODULE_BYTES;
@@ -102,5 +103,6 @@ pub fn run<S: Source, K: Sink>(
     modules_are_determined();
     modules_are_first();
     problems_are_determined();
+    readers_are_lawful();
     conclude(alloc, words, source, out)
 }

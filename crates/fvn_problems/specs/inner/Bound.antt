@@ -21,7 +21,7 @@ use Rattle.fvn_problems.specs.declared.problem.Problem.{Problem}
 use Rattle.fvn_problems.specs.declared.bindings.Bindings.{Bindings}
 use Rattle.fvn_problems.specs.declared.split.Halves.{Halves}
 use Rattle.fvn_problems.specs.Spelling.{RawPair, IsAlone, IsWrittenBinding}
-use Rattle.fvn_problems.specs.Bindings.{written_variable, BindsOnce, IsVariableOf, IsBindingOf, IsBindingFault, AreBindingsOf, IsBindingsFault, IsLarge, AreBindings, IsFault}
+use Rattle.fvn_problems.specs.Bindings.{written_variable, BindsOnce, IsVariableOf, IsBindingOf, IsBindingFault, AreBindingsOf, IsLarge, AreBindings, IsFault}
 use Rattle.fvn_problems.specs.inner.Split.{halves_of}
 
 -- a text with a sort

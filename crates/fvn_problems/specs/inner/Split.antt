@@ -1,12 +1,12 @@
 -- Rows of pieces that are cut into terms and pairs.
-use Rattle.std.specs.Prelude.{ℕ, ◌≡◌, Bool, true, false, ◌&&◌, not, length, ◌==◌, List, [], ◌∷◌, ◌++◌, map, codes}
+use Rattle.std.specs.Prelude.{◌≡◌, Bool, true, false, ◌&&◌, not, length, ◌==◌, List, [], ◌∷◌, ◌++◌, map, codes}
 use Rattle.std.specs.Str.{bytes_eq}
 use Rattle.std.specs.List.{AllByRecursion}
-use Rattle.fvn_lex.specs.Cut.{Piece, lex}
-use Rattle.fvn_syntax.specs.Pieces.{Text, word, comma, is_word, is_special, is_dot}
+use Rattle.fvn_lex.specs.Cut.{Piece}
+use Rattle.fvn_syntax.specs.Pieces.{Text, is_word, is_special, is_dot}
 use Rattle.fvn_syntax.specs.Raw.{RawTerm, spell, IsWritten, EndsBefore, IsTermBefore}
 use Rattle.fvn_problems.specs.declared.split.Halves.{Halves}
-use Rattle.fvn_problems.specs.Spelling.{RawQuery, RawPair, RawProblem, spell_query, spell_pair, spell_further, spell_pairs, spell_problem, spell_bindings, pairs_in, equals, goes_to, conjunction, IsWrittenPair, IsWrittenBinding}
+use Rattle.fvn_problems.specs.Spelling.{RawQuery, RawPair, RawProblem, spell_query, spell_pair, spell_further, spell_pairs, spell_problem, spell_bindings, pairs_in, IsWrittenPair, IsWrittenBinding}
 
 -- the dot
 abbrev pub is_full_stop : Piece → Bool

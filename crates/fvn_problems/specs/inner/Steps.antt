@@ -1,9 +1,8 @@
 -- What the steps of the readers answer.
-use Rattle.std.specs.Prelude.{ℕ, ◌≡◌, ◌+◌, ◌<◌, ◌≤◌, ◌⊎◌, List, [], ◌∷◌, map, All, Ok, Err}
+use Rattle.std.specs.Prelude.{◌≡◌, ◌+◌, ◌≤◌, ◌⊎◌, List, [], map, Err}
 use Rattle.std.specs.List.{AllByRecursion}
 use Rattle.fvn_base.specs.declared.limits.TheConstants.{TEXT_SYMBOLS}
 use Rattle.fvn_lex.specs.Cut.{Piece, lex}
-use Rattle.fvn_terms.specs.declared.plain.Var.{Var}
 use Rattle.fvn_terms.specs.declared.plain.Plain.{Plain}
 use Rattle.fvn_terms.specs.Term.{nodes}
 use Rattle.fvn_terms.specs.Plain.{term}
@@ -87,9 +86,11 @@ module _ (c : Scope) where
     pub count : seen.count ≡ sum_or_most 0 (symbols_of true_pairs)
     pub built : seen.count ≤ TEXT_SYMBOLS → pairs ≡ true_pairs
 
+  -- all written pairs of these halves stand for what was read
   abbrev pub ReadsPairs : List Halves → List (Plain × Plain) × Seen → Type 0
   ReadsPairs list read = (raws : List RawPair) → AreOf list raws → ArePairsRead raws read.0 read.1
 
+  -- all written pairs of these halves have this first fault
   abbrev pub RefusesPairs : List Halves → TermFault → Type 0
   RefusesPairs list fault = (raws : List RawPair) → AreOf list raws → IsPairsFault c [] raws fault
 

@@ -1,5 +1,5 @@
 -- The first fault of a binding, or what it binds.
-use Rattle.std.proofs.Common.{◌≡◌, ◌⊎◌, Bool, true, false, IsTrue, ◌↔◌, Option, None, Some, refl, sym, ap, subst, ◌∙◌}
+use Rattle.std.proofs.Common.{◌≡◌, ◌⊎◌, true, false, None, Some, refl, sym, ap, subst, ◌∙◌}
 use Rattle.fvn_base.specs.declared.limits.TheConstants.{TERM_SYMBOLS}
 use Rattle.fvn_terms.specs.Signature.{kind}
 use Rattle.fvn_syntax.specs.declared.fault.TermFault.TheVariants.{NoMemory}

@@ -2,7 +2,7 @@
 use Rattle.std.proofs.Common.{Some, sym, ap, subst, ◌∙◌}
 use Rattle.std.specs.Prelude.{All, IfErr}
 use Rattle.fvn_problems.specs.Scopes.{guarded}
-use Rattle.fvn_problems.specs.inner.Split.{AreTerms, IsProblemSplit}
+use Rattle.fvn_problems.specs.inner.Split.{AreTerms}
 use Rattle.fvn_problems.specs.inner.Steps.{AsksNothing}
 use Rattle.fvn_problems.proofs.ProblemTexts.{split-terms, problem-err}
 use Rattle.fvn_problems.proofs.problem.problem_of.Goals as goal

@@ -1,8 +1,8 @@
 -- What is walked is the least sort.
-use Rattle.std.proofs.Common.{[], sym, ap, subst, ◌∙◌}
+use Rattle.std.proofs.Common.{[], ap, ◌∙◌}
 use Rattle.fvn_problems.specs.Scopes.{unguarded}
 use Rattle.fvn_problems.specs.declared.sorting.Spot.TheVariants.{Wanted}
-use Rattle.fvn_problems.specs.inner.Sorting.{run, state, HasLeastSort}
+use Rattle.fvn_problems.specs.inner.Sorting.{run, state}
 use Rattle.fvn_problems.proofs.BindingTexts.{unguarded-fit}
 use Rattle.fvn_problems.proofs.SortWalk.{walked}
 use Rattle.fvn_problems.proofs.sorting.sort_row.Goals as goal

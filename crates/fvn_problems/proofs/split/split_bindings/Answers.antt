@@ -1,8 +1,8 @@
 -- Bindings are pairs in braces.
-use Rattle.std.proofs.Common.{◌≡◌, Bool, true, false, IsTrue, List, [], ◌∷◌, ◌↔◌, sym, ap, subst, ◌∙◌}
+use Rattle.std.proofs.Common.{◌≡◌, Bool, true, false, IsTrue, List, ◌∷◌, ◌↔◌, sym, ap, subst, ◌∙◌}
 use Rattle.std.specs.List.{list_all}
 use Rattle.fvn_lex.specs.Cut.{Piece}
-use Rattle.fvn_syntax.specs.Pieces.{left_brace, right_brace, comma}
+use Rattle.fvn_syntax.specs.Pieces.{left_brace, comma}
 use Rattle.fvn_problems.specs.declared.split.Halves.{Halves}
 use Rattle.fvn_problems.specs.Spelling.{goes_to}
 use Rattle.fvn_problems.specs.inner.Split.{is_alone, ArePairsSplit, BeginsWithNoPairs}

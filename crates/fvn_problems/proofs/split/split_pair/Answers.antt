@@ -1,5 +1,5 @@
 -- A pair is a term, the word between, and a term.
-use Rattle.std.proofs.Common.{◌≡◌, List, [], ◌∷◌, sym, ap, subst, ◌∙◌}
+use Rattle.std.proofs.Common.{◌≡◌, List, ◌∷◌, sym, ap, subst, ◌∙◌}
 use Rattle.fvn_lex.specs.Cut.{Piece}
 use Rattle.fvn_syntax.specs.Pieces.{word}
 use Rattle.fvn_syntax.specs.Raw.{BeginsWithNoTerm}

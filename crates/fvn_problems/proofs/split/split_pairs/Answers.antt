@@ -1,5 +1,5 @@
 -- Pairs are read one after another, each behind a separator.
-use Rattle.std.proofs.Common.{◌≡◌, List, [], ◌∷◌, ◌++◌, sym, ap, subst, ◌∙◌}
+use Rattle.std.proofs.Common.{◌≡◌, [], ◌∷◌, ◌++◌, sym, ap, subst, ◌∙◌}
 use Rattle.fvn_problems.specs.inner.Split.{IsFront, IsPairSplit, BeginsWithNoPair, ArePairsSplit}
 use Rattle.fvn_problems.proofs.Splitting.{no-pair, no-more, front-first, decides-first, front-next, decides-next, whole}
 use Rattle.fvn_problems.proofs.split.split_pairs.Goals as goal

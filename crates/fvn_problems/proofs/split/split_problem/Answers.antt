@@ -1,6 +1,6 @@
 -- A problem is pairs and an end.
 use Rattle.std.proofs.Common.{sym, ap, subst, ◌∙◌}
-use Rattle.fvn_problems.specs.Spelling.{equals, conjunction}
+use Rattle.fvn_problems.specs.Spelling.{equals}
 use Rattle.fvn_problems.specs.inner.Split.{is_end, ArePairsSplit, BeginsWithNoPairs}
 use Rattle.fvn_problems.proofs.TextSplits.{problem-split, problem-no-end, problem-no-pairs}
 use Rattle.fvn_problems.proofs.split.split_problem.Goals as goal

@@ -2,7 +2,7 @@
 use Rattle.std.proofs.Common.{◌++◌, ◌∙◌, ap, codes, map}
 use Rattle.fvn_tool.specs.Lines.{bindings_line}
 use Rattle.fvn_tool.specs.Spellings.{spelling}
-use Rattle.fvn_tool.proofs.Pairs.{bound_term}
+use Rattle.fvn_free.proofs.Pairs.{bound_term}
 use Rattle.fvn_tool.proofs.Printing.{one_line}
 use Rattle.fvn_tool.proofs.answer.solved_text.Goals as goal
 

@@ -1,0 +1,166 @@
+//! What `verify` says of bindings.
+use super::{answer, plain};
+use fvn_terms::NoMemory;
+use fvn_tool::Status;
+use std::alloc::Global;
+use std::process::Abort;
+use std::string::String;
+
+// Modules, and problems over each with bindings and what is said of them.
+
+const AC: &str =
+    "fmod AC is sort S . ops a b : -> S . op g : S -> S . op c : S S -> S [comm] . op _+_ : S S -> S [assoc comm] . vars X Y Z U V : S . endfm";
+
+const OVER_AC: &str = "\
+_+_(a,_+_(b,X)) =? _+_(X,a,b) | {} ==> yes
+_+_(X,Y) =? _+_(a,b) | {X:S --> b, Y:S --> a} ==> yes
+_+_(X,Y) =? _+_(a,b) | {X:S --> a, Y:S --> a} ==> no 1
+_+_(X,Y) =? _+_(a,b,b) | {X:S --> _+_(b,a), Y:S --> b} ==> yes
+c(X,g(Y)) =? c(g(b),a) | {X:S --> a, Y:S --> b} ==> yes
+c(X,g(Y)) =? c(g(b),a) | {X:S --> a, Y:S --> a} ==> no 1
+X =? a /\\ Y =? g(X) | {X:S --> a, Y:S --> g(a)} ==> yes
+X =? a /\\ Y =? g(X) | {X:S --> a, Y:S --> g(b)} ==> no 2
+X =? a /\\ Y =? b /\\ Z =? c(X,Y) | {X:S --> a, Y:S --> a, Z:S --> b} ==> no 2
+X =? X | {} ==> yes
+X =? Y | {X:S --> #1:S, Y:S --> #1:S} ==> yes
+X =? Y | {X:S --> #1:S, Y:S --> #2:S} ==> no 1
+X =? a | {X:S --> a, X:S --> b} ==> problem 2
+X =? a | {Y:S --> a} ==> problem 3
+X =? a | {X:S --> } ==> problem 2
+X =? | {} ==> problem 2
+X =? d | {} ==> problem 3
+#1:S =? a | {} ==> problem 7
+c(X) =? a | {} ==> problem 4
+X =? d | {Y:S --> a} ==> problem 3";
+
+const SET: &str =
+    "fmod SET is sorts Elt Set . subsort Elt < Set . ops a b : -> Elt . op mt : -> Set . op _;_ : Set Set -> Set [assoc comm id: mt] . vars X Y : Set . endfm";
+
+const OVER_SET: &str = "\
+_;_(X,mt) =? X | {} ==> yes
+_;_(X,Y) =? a | {X:Set --> mt, Y:Set --> a} ==> yes
+_;_(X,Y) =? a | {X:Set --> a, Y:Set --> a} ==> no 1
+E:Elt =? a | {E:Elt --> _;_(a,b)} ==> problem 8
+E:Elt =? a | {E:Elt --> _;_(mt,a)} ==> yes";
+
+const ENC: &str =
+    "fmod ENC is sorts Msg Key . op a : -> Msg . op k : -> Key . ops enc dec : Msg Key -> Msg . vars X M : Msg . vars Y K : Key . eq dec(enc(M,K),K) = M [variant] . endfm";
+
+const OVER_ENC: &str = "\
+X =? a | {} ==> module 8 statement 7 later
+X =? | { ==> module 8 statement 7 later";
+
+const NOPRE: &str =
+    "fmod NOPRE is sorts A B C . subsorts A < B . subsorts A < C . op f : B -> B . op f : C -> C . endfm";
+
+const OVER_NOPRE: &str = "\
+X =? a | {} ==> module 9.6 f A";
+
+const NO_FORM: &str = "fmod M was sort A . endfm";
+
+const OVER_NO_FORM: &str = "\
+X =? a | {} ==> module 2";
+
+const TWO_KINDS: &str =
+    "fmod T is sorts A B . op a : -> A . op b : -> B . op f : A -> A . vars X : A . endfm";
+
+const OVER_TWO_KINDS: &str = "\
+f(X) =? b | {} ==> problem 5
+X =? a | {X:A --> b} ==> problem 5
+f(X) =? f(a) | {X:A --> a} ==> yes";
+
+// The status that goes with what is said.
+fn status_of(said: &str) -> Status {
+    if said == "yes" {
+        return Status::Solved;
+    }
+    if said.starts_with("no ") {
+        return Status::Nothing;
+    }
+    if said.starts_with("problem ") {
+        return Status::ProblemRefused;
+    }
+    if said.starts_with("module ") {
+        return Status::ModuleRefused;
+    }
+    Status::Ended
+}
+
+// What is said of a problem and bindings in a module.
+fn tell<'a>(
+    rt: &impl Abort,
+    alloc: Global,
+    module: &'a str,
+    problem: &'a str,
+    bindings: &'a str,
+    said: &'a str,
+) -> Result<(), NoMemory> {
+    let words = ["verify", problem, bindings];
+    let (status, written) = answer(alloc, &plain(&words, module.as_bytes()))?;
+    let line = format!(in alloc; "{said}\n")?;
+    assert_eq!(rt; status, status_of(said), "{problem} {bindings}");
+    assert!(rt;
+        written.as_slice() == line.as_bytes(),
+        "{problem} {bindings}"
+    );
+    Ok(())
+}
+
+// A row of words and what is said of them in this module.
+fn verified(rt: &impl Abort, alloc: Global, module: &str, row: &str) -> Result<(), NoMemory> {
+    let Some((words, said)) = row.split_once(" ==> ") else {
+        return Ok(());
+    };
+    let Some((problem, bindings)) = words.split_once(" | ") else {
+        return Ok(());
+    };
+    tell(rt, alloc, module, problem, bindings, said)
+}
+
+// All rows over this module.
+fn all_verified(rt: &impl Abort, alloc: Global, module: &str, rows: &str) -> Result<(), NoMemory> {
+    for row in rows.lines() {
+        verified(rt, alloc, module, row)?;
+    }
+    Ok(())
+}
+
+#[test]
+fn bindings_are_verified(rt: HostRuntime) -> Result<(), NoMemory> {
+    all_verified(&rt, rt.alloc(), AC, OVER_AC)?;
+    all_verified(&rt, rt.alloc(), SET, OVER_SET)?;
+    all_verified(&rt, rt.alloc(), ENC, OVER_ENC)?;
+    all_verified(&rt, rt.alloc(), NOPRE, OVER_NOPRE)?;
+    all_verified(&rt, rt.alloc(), NO_FORM, OVER_NO_FORM)?;
+    all_verified(&rt, rt.alloc(), TWO_KINDS, OVER_TWO_KINDS)?;
+    Ok(())
+}
+
+const LARGE: &str =
+    "fmod F is sort A . op a : -> A . op f : A A -> A . op s : A -> A . var X : A . endfm";
+
+/// A term of 15 symbols, of which 8 are the variable.
+const TOWER: &str = "f(f(f(X,X),f(X,X)),f(f(X,X),f(X,X)))";
+
+// A term with a symbol more than this many.
+fn chain(alloc: Global, count: u32) -> Result<String, NoMemory> {
+    let mut text = String::from_str(alloc, "a")?;
+    for _ in 0..count {
+        text = format!(in alloc; "s({text})")?;
+    }
+    Ok(text)
+}
+
+// With terms of 124 symbols for its variable the tower has 999 symbols, and with terms of 125 it has 1,007.
+fn tower_told(rt: &impl Abort, alloc: Global, count: u32, said: &str) -> Result<(), NoMemory> {
+    let term = chain(alloc, count)?;
+    let problem = format!(in alloc; "X =? {TOWER}")?;
+    let bindings = format!(in alloc; "{{X:A --> {term}}}")?;
+    tell(rt, alloc, LARGE, problem.as_str(), bindings.as_str(), said)
+}
+
+#[test]
+fn sides_of_over_1000_symbols_are_told(rt: HostRuntime) -> Result<(), NoMemory> {
+    tower_told(&rt, rt.alloc(), 123, "no 1")?;
+    tower_told(&rt, rt.alloc(), 124, "bound size 1000")
+}

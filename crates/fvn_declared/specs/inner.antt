@@ -1,0 +1,5 @@
+-- What mirrors the code.
+pub mod Pairs
+pub mod Shapes
+pub mod Codes
+pub mod Drafts

@@ -1,0 +1,4 @@
+-- What unification of free terms comes to.
+pub mod Free
+pub mod Answer
+pub mod inner

@@ -1,0 +1,20 @@
+-- Lemmas of this crate.
+mod Results
+mod SideLemmas
+mod EquationLists
+mod Determined
+mod Excluded
+mod Told
+mod Texts
+mod Stops
+mod OneForm
+mod OneFault
+mod OneText
+mod ReadableLists
+mod ReadableWords
+mod ReadableTexts
+mod ReadableConstants
+mod ReadableDeclared
+mod ReadableScope
+mod ReadableEquations
+mod ReadableModules

@@ -1,0 +1,3 @@
+-- What parts of the reader answer.
+pub mod Steps
+pub mod Sides

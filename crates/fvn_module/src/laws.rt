@@ -1,0 +1,29 @@
+//! What is proved of all texts, each law carried by a function that does nothing.
+ghost use Rattle.fvn_module.specs.Laws.{
+  ModulesAreDetermined,
+  RefusalsAreDetermined,
+  RefusedTextsDeclareNothing,
+};
+
+use fvn_statements::statements_are_exact;
+
+/// A text is one module at most.
+pub fn modules_are_determined()
+    ensures { ModulesAreDetermined }
+{
+    statements_are_exact();
+}
+
+/// But for want of memory, a text has one first fault at most.
+pub fn refusals_are_determined()
+    ensures { RefusalsAreDetermined }
+{
+    statements_are_exact();
+}
+
+/// But for want of memory, a text with a fault is no module.
+pub fn refused_texts_declare_nothing()
+    ensures { RefusedTextsDeclareNothing }
+{
+    statements_are_exact();
+}
