@@ -1,4 +1,6 @@
 //! Large problems.
+ghost use Rattle.std.specs.Prelude.{◌<◌};
+
 use super::signatures::collected;
 use super::terms::flat_of;
 use fvn_base::Seq;

@@ -1,5 +1,4 @@
 -- The states of the tree are closed; its weight falls.
-use Rattle.std.proofs.Common.{ℕ}
 use Rattle.fvn_nodes.specs.Trees.{weight, AreClosed}
 use Rattle.fvn_nodes_tests.proofs.tests.driving.push_states.Given as goal
 

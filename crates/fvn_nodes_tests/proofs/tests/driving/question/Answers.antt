@@ -1,5 +1,5 @@
 -- The nodes of a question are nodes of the table.
-use Rattle.std.proofs.Common.{◌≡◌, ◌<◌, ℕ, subst}
+use Rattle.std.proofs.Common.{◌<◌, subst}
 use Rattle.std.specs.Prelude.{IfSome}
 use Rattle.fvn_nodes_tests.proofs.Asking.{swap_within, swap_open}
 use Rattle.fvn_nodes_tests.proofs.tests.driving.question.Goals as goal
