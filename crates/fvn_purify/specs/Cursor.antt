@@ -4,9 +4,9 @@ use Rattle.fvn_terms.specs.declared.declarations.Declarations.{Declarations}
 use Rattle.fvn_nodes.specs.Classes.{IsNodePartition}
 use Rattle.fvn_nodes.specs.States.{Admits}
 use Rattle.fvn_nodes.specs.declared.state.State.{State}
+use Rattle.fvn_purify.specs.Parts.{Outline}
 use Rattle.fvn_purify.specs.Splits.{IsSplitBy}
 use Rattle.fvn_purify.specs.declared.classes.Head.{Head}
-use Rattle.fvn_purify.specs.declared.classes.Classes.{Classes}
 use Rattle.fvn_purify.specs.declared.split.Split.{Split}
 use Rattle.fvn_purify.specs.declared.choosing.Partial.{Partial}
 use Rattle.fvn_purify.specs.declared.choosing.Partial.TheVariants.{Asking, Choosing}
@@ -15,7 +15,7 @@ use Rattle.fvn_purify.specs.declared.choosing.Partial.TheVariants.{Asking, Choos
 abbrev pub BeginsWith : {A : Type 0} → List A → List A → Type 0
 BeginsWith {A} front list = (rest : List A) × (list ≡ front ++ rest)
 
-module _ (d : Declarations) (c : Classes) where
+module _ (d : Declarations) (c : Outline) where
   -- the split tells what the classes of a partition are that has what the state has, and its heads and ways begin with these
   pub record IsAhead (s : State) (heads : List Head) (swaps : List Bool) (split : Split) : Type 0 where
     pub class : ℕ → ℕ
@@ -30,15 +30,15 @@ module _ (d : Declarations) (c : Classes) where
   IsAheadOf (Asking s) split = IsAhead s [] [] split
   IsAheadOf (Choosing l) split = IsAhead l.state l.heads l.swaps split
 
--- the splits of classes in a signature, and what is decided of those that are still to come
+-- the splits of an outline in a signature, and what is decided of those that are still to come
 pub record Cursor : Type 0 where
   pub declarations : Declarations
-  pub classes : Classes
+  pub outline : Outline
   pub partials : List Partial
 
 -- the split is still to come
 abbrev pub Pending : Cursor → Split → Type 0
-Pending cursor split = Any (λ p. IsAheadOf cursor.declarations cursor.classes p split) cursor.partials
+Pending cursor split = Any (λ p. IsAheadOf cursor.declarations cursor.outline p split) cursor.partials
 
 -- the same splits are still to come
 abbrev pub HasSamePending : Cursor → Cursor → Type 0

@@ -8,10 +8,10 @@ use Rattle.fvn_forms.specs.Flat.{FlatTerm, fvar, fapp, fconstant}
 use Rattle.fvn_forms.specs.Canon.{canon}
 use Rattle.fvn_nodes.specs.Table.{IsOver, term_at}
 use Rattle.fvn_nodes.specs.Unifiers.{value_at}
+use Rattle.fvn_purify.specs.Parts.{Outline}
 use Rattle.fvn_purify.specs.Heads.{head_of, IsTheory, IsUnitNode}
 use Rattle.fvn_purify.specs.declared.classes.Head.{Head}
 use Rattle.fvn_purify.specs.declared.classes.Head.TheVariants.{Free, Pair, Sum, Identity}
-use Rattle.fvn_purify.specs.declared.classes.Classes.{Classes}
 use Rattle.fvn_purify.specs.declared.split.Split.{Split}
 
 -- the operator that heads a form
@@ -19,7 +19,7 @@ abbrev pub operator_of : FlatTerm → Option OpId
 operator_of (fvar x) = None
 operator_of (fapp f joined ts) = Some f
 
-module _ (d : Declarations) (c : Classes) where
+module _ (d : Declarations) (c : Outline) where
   -- e is the identity of an operator of the problem
   abbrev pub IsUnitName : OpId → Type 0
   IsUnitName e = (i : ℕ) × IsUnitNode c.table e i

@@ -43,6 +43,16 @@ HasAxioms d t f = (axioms d f ≢ Free) × ((i : ℕ) × (ks : List ℕ) × IsOv
 abbrev pub form_at : Declarations → NodeTable → ℕ → FlatTerm
 form_at d t i = canon d (term_at t.nodes i)
 
+-- what splits speak of: the table, the operators with axioms, and the places of parts and pairs
+pub record Outline : Type 0 where
+  pub table : NodeTable
+  pub ops : List OpId
+  pub places : Places
+
+-- what splits of these classes speak of
+abbrev pub outline : Classes → Outline
+outline c = record { table = c.table; ops = c.ops; places = c.places }
+
 module _ (d : Declarations) where
   -- these are the places of parts and pairs in the table
   pub record ArePlaces (t : NodeTable) (places : Places) : Type 0 where
@@ -57,13 +67,13 @@ module _ (d : Declarations) where
     pub pairs : IsEach (ArePair d t) places.pairs
 
   -- parts, pairs and operators with axioms are those of the table
-  pub record AreParts (c : Classes) : Type 0 where
+  pub record AreParts (c : Outline) : Type 0 where
     pub places : ArePlaces c.table c.places
     pub ops : IsEach (HasAxioms d c.table) c.ops
 
   -- the table is that of the problem, and parts and pairs stand there as flat forms too
   pub record AreClassesOf (problem : Problem) (c : Classes) : Type 0 where
     pub table : IsTableOf d problem c.table
-    pub are : AreParts c
+    pub are : AreParts (outline c)
     pub parts : c.parts ≡ map (form_at d c.table) c.places.parts
     pub pairs : c.pairs ≡ map (λ p. (form_at d c.table p.0, form_at d c.table p.1)) c.places.pairs

@@ -7,10 +7,10 @@ use Rattle.fvn_terms.specs.Signature.{axioms}
 use Rattle.fvn_flat.specs.Partitions.{HasNoIdentity}
 use Rattle.fvn_nodes.specs.Table.{NodeTable, IsOver}
 use Rattle.fvn_nodes.specs.Classes.{IsNodePartition}
+use Rattle.fvn_purify.specs.Parts.{Outline}
 use Rattle.fvn_purify.specs.Heads.{head_of, IsTheory, IsUnitNode}
 use Rattle.fvn_purify.specs.declared.classes.Head.{Head}
 use Rattle.fvn_purify.specs.declared.classes.Head.TheVariants.{Free, Pair, Sum, Identity}
-use Rattle.fvn_purify.specs.declared.classes.Classes.{Classes}
 use Rattle.fvn_purify.specs.declared.split.Split.{Split}
 
 -- the number of the class of node i: the place of the first of the parts that is in it
@@ -18,7 +18,7 @@ abbrev pub number_in : (ℕ → ℕ) → List ℕ → ℕ → ℕ
 number_in class [] i = 0
 number_in class (p ∷ parts) i = if nat_eq (class p) (class i) then 0 else suc (number_in class parts i)
 
-module _ (d : Declarations) (c : Classes) (class : ℕ → ℕ) where
+module _ (d : Declarations) (c : Outline) (class : ℕ → ℕ) where
   -- node i is in the class of the identity e
   abbrev pub IsInUnit : ℕ → OpId → Type 0
   IsInUnit i e = (j : ℕ) × IsUnitNode c.table e j × (class i ≡ class j)
@@ -58,11 +58,11 @@ module _ (d : Declarations) (c : Classes) (class : ℕ → ℕ) where
     pub all_swaps : length split.swaps ≡ length c.places.pairs
 
 -- the split tells what the classes of a partition are
-abbrev pub IsSplit : Declarations → Classes → Split → Type 0
+abbrev pub IsSplit : Declarations → Outline → Split → Type 0
 IsSplit d c split = (class : ℕ → ℕ) × IsNodePartition d c.table class × IsSplitBy d c class split
 
 -- no two parts with one number are headed by two free operators
-abbrev pub HasOneFree : Declarations → Classes → Split → Type 0
+abbrev pub HasOneFree : Declarations → Outline → Split → Type 0
 HasOneFree d c split =
     (k l i j n : ℕ) (f g : OpId) (ks ls : List ℕ) → slice_get c.places.parts k ≡ Some i → slice_get c.places.parts l ≡ Some j → slice_get split.class_of k ≡ Some n → slice_get split.class_of l ≡ Some n →
         IsOver c.table.nodes i f ks → IsOver c.table.nodes j g ls → axioms d f ≡ NoAxioms → axioms d g ≡ NoAxioms → f ≡ g

@@ -29,6 +29,10 @@ IsVariable t i = (x : Variable) × (slice_get t.nodes i ≡ Some (Var x))
 abbrev pub AreOpposite : NodeTable → ℕ → ℕ → Type 0
 AreOpposite t i j = Contains t.sides (i, j) ⊎ Contains t.sides (j, i)
 
+-- node i is the side of a pair whose other side is a variable
+abbrev pub FacesVariable : NodeTable → ℕ → Type 0
+FacesVariable t i = (j : ℕ) × AreOpposite t i j × IsVariable t j
+
 -- node i is an argument of an f-headed node, or the side of a pair whose other side is one
 pub record StandsUnder (t : NodeTable) (i : ℕ) (f : OpId) : Type 0 where
   pub headed : ℕ
@@ -56,10 +60,6 @@ module _ (d : Declarations) (t : NodeTable) where
     pub under : StandsUnder t i operator
     pub outside : StandsOutside i (theory d operator)
 
-  -- node i is the side of a pair whose other side is a variable
-  abbrev pub FacesVariable : ℕ → Type 0
-  FacesVariable i = (j : ℕ) × AreOpposite t i j × IsVariable t j
-
   -- node i is a variable of two theories, or one that is to equal a variable
   abbrev pub IsShared : ℕ → Type 0
-  IsShared i = IsVariable t i × (StandsInTwo i ⊎ FacesVariable i)
+  IsShared i = IsVariable t i × (StandsInTwo i ⊎ FacesVariable t i)

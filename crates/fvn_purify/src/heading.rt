@@ -4,6 +4,7 @@ ghost use Rattle.fvn_terms.specs.declared.plain.OpId.{OpId};
 ghost use Rattle.fvn_flat.specs.Partitions.{HasNoIdentity};
 ghost use Rattle.fvn_nodes.specs.Table.{IsOver};
 ghost use Rattle.fvn_nodes.specs.States.{IsClosed, class_of};
+ghost use Rattle.fvn_purify.specs.Parts.{outline};
 ghost use Rattle.fvn_purify.specs.Heads.{head_by, head_of};
 ghost use Rattle.fvn_purify.specs.inner.Choices.{ArePlacesWithin};
 ghost use Rattle.fvn_purify.specs.inner.Options.{IsEarlier, IsUnitIn, IsSolidAt, IsForcedHead, IsHeadOptions};
@@ -132,10 +133,10 @@ fn forced_head(
     i: usize,
 ) -> Option<Head>
     requires closed { IsClosed sig.now classes.now.table state.now }
-    requires within { ArePlacesWithin classes.now }
+    requires within { ArePlacesWithin (outline classes.now) }
     requires few { length heads.now ≤ length classes.now.places.headed }
     requires node { i < length classes.now.table.nodes }
-    ensures { IsForcedHead sig.now classes.now (class_of state.now) heads.now i result }
+    ensures { IsForcedHead sig.now (outline classes.now) (class_of state.now) heads.now i result }
 {
     match earlier(state, classes.places.headed.as_slice(), heads, i) {
         Some(h) => Some(h),
@@ -181,10 +182,10 @@ pub(crate) fn head_options(
     i: usize,
 ) -> Result<Vec<Head>, NoMemory>
     requires closed { IsClosed sig.now classes.now.table state.now }
-    requires within { ArePlacesWithin classes.now }
+    requires within { ArePlacesWithin (outline classes.now) }
     requires node { slice_get classes.now.places.headed (length heads.now) ≡ Some i }
     requires few { length heads.now ≤ length classes.now.places.headed }
-    ensures { IfOk result (λ options. IsHeadOptions sig.now classes.now (class_of state.now) heads.now i options.items) }
+    ensures { IfOk result (λ options. IsHeadOptions sig.now (outline classes.now) (class_of state.now) heads.now i options.items) }
 {
     match forced_head(sig, classes, state, heads, i) {
         Some(h) => {

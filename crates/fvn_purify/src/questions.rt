@@ -3,6 +3,7 @@ ghost use Rattle.std.specs.Prelude.{◌≡◌, ◌<◌, ℕ, List, ◌∷◌, le
 ghost use Rattle.fvn_terms.specs.declared.plain.OpId.{OpId};
 ghost use Rattle.fvn_nodes.specs.Table.{IsOver};
 ghost use Rattle.fvn_nodes.specs.States.{IsNaming, IsOpen, class_of};
+ghost use Rattle.fvn_purify.specs.Parts.{outline};
 ghost use Rattle.fvn_purify.specs.inner.Options.{AreFirst};
 ghost use Rattle.fvn_purify.specs.inner.Choices.{ArePlacesWithin, IsNextQuestion};
 
@@ -164,8 +165,8 @@ fn open_ways(table: &Table, state: &State, pairs: &[(usize, usize)]) -> Option<(
 pub(crate) fn question(classes: &Classes, state: &State) -> Option<(usize, usize)>
     requires naming { IsNaming state.now }
     requires whole { length state.now.names ≡ length classes.now.table.nodes }
-    requires within { ArePlacesWithin classes.now }
-    ensures { IsNextQuestion classes.now state.now result }
+    requires within { ArePlacesWithin (outline classes.now) }
+    ensures { IsNextQuestion (outline classes.now) state.now result }
 {
     classes.table.recall_well_made();
     match open_parts(state, classes.places.parts.as_slice()) {

@@ -1,10 +1,10 @@
 //! All splits of a problem, one after another.
-ghost use Rattle.std.specs.Prelude.{◌≡◌, [], ◌++◌, length, take, IfOk, OnOk, OnErr, IfSome};
+ghost use Rattle.std.specs.Prelude.{◌≡◌, ◌↔◌, ◌-◌, ◌<◌, [], ◌++◌, length, take, IfOk, OnOk, OnErr, IfSome};
 ghost use Rattle.fvn_terms.specs.Substitution.{Substitution};
 ghost use Rattle.fvn_terms.specs.Unifiers.{Problem};
 ghost use Rattle.fvn_flat.specs.Problems.{IsProblem};
 ghost use Rattle.fvn_flat.specs.SolvedLists.{IsKindUnifier};
-ghost use Rattle.fvn_purify.specs.Parts.{AreClassesOf};
+ghost use Rattle.fvn_purify.specs.Parts.{AreClassesOf, outline};
 ghost use Rattle.fvn_purify.specs.Obeying.{Obeys};
 ghost use Rattle.fvn_purify.specs.Splits.{IsSplit, HasOneFree};
 ghost use Rattle.fvn_purify.specs.Cursor.{Pending, HasSamePending, IsGivenFrom};
@@ -23,6 +23,14 @@ use fvn_terms::NoMemory;
 use std::alloc::Global;
 use std::marker::Model;
 
+/// What is found in one step.
+#[derive(Drop)]
+enum Found {
+    Nothing,
+    More,
+    Split(Split),
+}
+
 /// A cursor over the splits of a problem's parts. It is seen as what is decided of those to come.
 #[derive(Drop)]
 pub struct Splits<'a> {
@@ -33,14 +41,15 @@ pub struct Splits<'a> {
 }
 
 impl<'a> Model for Splits<'a> {
+    ghost use Rattle.fvn_purify.specs.Parts.{outline};
     ghost use Rattle.fvn_purify.specs.Cursor.{Cursor};
     ghost use Rattle.fvn_purify.specs.inner.Choices.{IsKept};
 
     ghost Value = { Cursor };
 
-    ghost view = { λ s. record { declarations = s.sig.now; classes = s.classes.now; partials = s.partials.items } };
+    ghost view = { λ s. record { declarations = s.sig.now; outline = outline s.classes.now; partials = s.partials.items } };
 
-    ghost invariant = { λ s. IsKept (record { declarations = s.sig.now; classes = s.classes.now; partials = s.partials.items }) };
+    ghost invariant = { λ s. IsKept (record { declarations = s.sig.now; outline = outline s.classes.now; partials = s.partials.items }) };
 }
 
 // Puts these in place of the last one.
@@ -63,9 +72,9 @@ fn advance_once(
     classes: &Classes,
     partials: &mut Vec<Partial>,
 ) -> Result<Found, NoMemory>
-    requires kept { IsKept (cursor sig.now classes.now partials.old.items) }
-    ensures kept { IsKept (cursor sig.now classes.now partials.new.items) }
-    ensures found { IfOk result (IsFoundFrom (cursor sig.now classes.now partials.old.items) (cursor sig.now classes.now partials.new.items)) }
+    requires kept { IsKept (cursor sig.now (outline classes.now) partials.old.items) }
+    ensures kept { IsKept (cursor sig.now (outline classes.now) partials.new.items) }
+    ensures found { IfOk result (IsFoundFrom (cursor sig.now (outline classes.now) partials.old.items) (cursor sig.now (outline classes.now) partials.new.items)) }
     ensures no_memory { OnErr result (partials.new.items ≡ partials.old.items) }
 {
     let given = match partials.as_slice().last() {
@@ -84,12 +93,27 @@ fn advance_once(
     }
 }
 
-/// What is found in one step.
-#[derive(Drop)]
-enum Found {
-    Nothing,
-    More,
-    Split(Split),
+// Takes steps until a split is found, or none is to come.
+fn next_split(
+    alloc: Global,
+    sig: &Signature,
+    classes: &Classes,
+    partials: &mut Vec<Partial>,
+) -> Result<Option<Split>, NoMemory>
+    requires kept { IsKept (cursor sig.now (outline classes.now) partials.old.items) }
+    ensures kept { IsKept (cursor sig.now (outline classes.now) partials.new.items) }
+    ensures given { IfOk result (IsGivenFrom (cursor sig.now (outline classes.now) partials.old.items)
+        (cursor sig.now (outline classes.now) partials.new.items)) }
+    ensures no_memory { OnErr result (HasSamePending (cursor sig.now (outline classes.now) partials.old.items)
+        (cursor sig.now (outline classes.now) partials.new.items)) }
+{
+    'steps: loop {
+        match advance_once(alloc, sig, classes, partials)? {
+            Found::Nothing => return Ok(None),
+            Found::More => {}
+            Found::Split(split) => return Ok(Some(split)),
+        }
+    }
 }
 
 impl<'a> Splits<'a> {
@@ -100,13 +124,13 @@ impl<'a> Splits<'a> {
         classes: &'a Classes,
     ) -> Result<Splits<'a>, NoMemory>
         requires classes { (problem : Problem) × IsProblem sig.now problem × AreClassesOf sig.now problem classes.now }
-        ensures of { IfOk result (λ s. (s.declarations ≡ sig.now) × (s.classes ≡ classes.now)) }
+        ensures of { IfOk result (λ s. (s.declarations ≡ sig.now) × (s.outline ≡ outline classes.now)) }
         // All splits are to come, and nothing else.
-        ensures exact { IfOk result (λ s. (split : InSplit) → Pending s split ↔ IsSplit sig.now classes.now split) }
+        ensures exact { IfOk result (λ s. (split : InSplit) → Pending s split ↔ IsSplit sig.now (outline classes.now) split) }
         // Every unifier on kinds obeys one of them.
         ensures complete { IfOk result (λ s. (problem : Problem) (u : Substitution) → IsProblem sig.now problem →
             AreClassesOf sig.now problem classes.now → IsKindUnifier sig.now problem u →
-            (split : InSplit) × Obeys sig.now classes.now u split × Pending s split) }
+            (split : InSplit) × Obeys sig.now (outline classes.now) u split × Pending s split) }
     {
         sig.recall_good();
         let mut partials = Vec::new(alloc);
@@ -124,17 +148,12 @@ impl<'a> Splits<'a> {
 
     /// The next split, or none where all are given. At want of memory the same are to come as before.
     pub fn advance(&mut self) -> Result<Option<Split>, NoMemory>
-        ensures of { (self.new.declarations ≡ self.old.declarations) × (self.new.classes ≡ self.old.classes) }
+        ensures of { (self.new.declarations ≡ self.old.declarations) × (self.new.outline ≡ self.old.outline) }
         ensures given { IfOk result (IsGivenFrom self.old self.new) }
-        ensures one_free { IfOk result (λ r. IfSome r (HasOneFree self.old.declarations self.old.classes)) }
+        ensures one_free { IfOk result (λ r. IfSome r (HasOneFree self.old.declarations self.old.outline)) }
         ensures no_memory { OnErr result (HasSamePending self.old self.new) }
     {
-        'steps: loop {
-            match advance_once(self.alloc, self.sig, self.classes, &mut self.partials)? {
-                Found::Nothing => return Ok(None),
-                Found::More => {}
-                Found::Split(split) => return Ok(Some(split)),
-            }
-        }
+        let found = next_split(self.alloc, self.sig, self.classes, &mut self.partials)?;
+        Ok(found)
     }
 }

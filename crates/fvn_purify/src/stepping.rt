@@ -3,9 +3,10 @@ ghost use Rattle.std.specs.Prelude.{◌≡◌, ◌<◌, ◌++◌, [], ◌∷◌,
 ghost use Rattle.fvn_nodes.specs.States.{IsClosed, IsOpen, class_of};
 ghost use Rattle.fvn_nodes.specs.Questions.{AreAnswers};
 ghost use Rattle.fvn_nodes.specs.declared.asking.Answers.{Answers};
+ghost use Rattle.fvn_purify.specs.Parts.{outline};
 ghost use Rattle.fvn_purify.specs.Splits.{number_in};
 ghost use Rattle.fvn_purify.specs.inner.Options.{IsForcedWay, IsWayOptions};
-ghost use Rattle.fvn_purify.specs.inner.Choices.{asking, leaf, split_of, AreStepped, IsSound, IsLeaf, IsStepOf, IsExpansion, ArePlacesWithin};
+ghost use Rattle.fvn_purify.specs.inner.Choices.{asking, chosen, split_of, AreStepped, IsSound, IsLeaf, IsStepOf, IsExpansion, ArePlacesWithin};
 
 use crate::choosing::{Leaf, Partial};
 use crate::classes::{Classes, Head};
@@ -94,7 +95,7 @@ fn asked(
 
 // The state as a leaf without heads and ways.
 fn settled(alloc: Global, state: &State) -> Result<Seq<Partial>, NoMemory>
-    ensures { IfOk result (λ list. list ≡ leaf state.now [] [] ∷ []) }
+    ensures { IfOk result (λ list. list ≡ chosen state.now [] [] ∷ []) }
 {
     let state = same_state(alloc, state)?;
     let leaf = Leaf {
@@ -109,7 +110,7 @@ fn settled(alloc: Global, state: &State) -> Result<Seq<Partial>, NoMemory>
 
 // The leaf with one more head.
 fn with_head(alloc: Global, leaf: &Leaf, head: Head) -> Result<Partial, NoMemory>
-    ensures { IfOk result (λ p. p ≡ leaf leaf.now.state (leaf.now.heads ++ head ∷ []) leaf.now.swaps) }
+    ensures { IfOk result (λ p. p ≡ chosen leaf.now.state (leaf.now.heads ++ head ∷ []) leaf.now.swaps) }
 {
     let state = same_state(alloc, &leaf.state)?;
     let heads = with_one(alloc, leaf.heads.as_slice(), head)?;
@@ -123,7 +124,7 @@ fn with_head(alloc: Global, leaf: &Leaf, head: Head) -> Result<Partial, NoMemory
 
 // The leaf with each of the heads as one more.
 fn with_heads(alloc: Global, leaf: &Leaf, options: &[Head]) -> Result<Seq<Partial>, NoMemory>
-    ensures { IfOk result (λ list. list ≡ map (λ h. leaf leaf.now.state (leaf.now.heads ++ h ∷ []) leaf.now.swaps) options.now) }
+    ensures { IfOk result (λ list. list ≡ map (λ h. chosen leaf.now.state (leaf.now.heads ++ h ∷ []) leaf.now.swaps) options.now) }
 {
     let mut list = Vec::new(alloc);
     for head in options {
@@ -135,7 +136,7 @@ fn with_heads(alloc: Global, leaf: &Leaf, options: &[Head]) -> Result<Seq<Partia
 
 // The leaf with one more way.
 fn with_way(alloc: Global, leaf: &Leaf, crossed: bool) -> Result<Partial, NoMemory>
-    ensures { IfOk result (λ p. p ≡ leaf leaf.now.state leaf.now.heads (leaf.now.swaps ++ crossed ∷ [])) }
+    ensures { IfOk result (λ p. p ≡ chosen leaf.now.state leaf.now.heads (leaf.now.swaps ++ crossed ∷ [])) }
 {
     let state = same_state(alloc, &leaf.state)?;
     let heads = copied(alloc, leaf.heads.as_slice())?;
@@ -149,7 +150,7 @@ fn with_way(alloc: Global, leaf: &Leaf, crossed: bool) -> Result<Partial, NoMemo
 
 // The leaf with each of the ways as one more.
 fn with_ways(alloc: Global, leaf: &Leaf, options: &[bool]) -> Result<Seq<Partial>, NoMemory>
-    ensures { IfOk result (λ list. list ≡ map (λ w. leaf leaf.now.state leaf.now.heads (leaf.now.swaps ++ w ∷ [])) options.now) }
+    ensures { IfOk result (λ list. list ≡ map (λ w. chosen leaf.now.state leaf.now.heads (leaf.now.swaps ++ w ∷ [])) options.now) }
 {
     let mut list = Vec::new(alloc);
     for crossed in options {
@@ -165,7 +166,7 @@ fn forced_way(classes: &Classes, state: &State, i: usize, j: usize) -> Option<bo
     requires left { i < length classes.now.table.nodes }
     requires right { j < length classes.now.table.nodes }
     requires whole { length state.now.names ≡ length classes.now.table.nodes }
-    ensures { IsForcedWay classes.now (class_of state.now) (i, j) result }
+    ensures { IsForcedWay (outline classes.now) (class_of state.now) (i, j) result }
 {
     classes.table.recall_well_made();
     if !state.is_same(i, j) {
@@ -188,7 +189,7 @@ fn way_options(
     requires left { i < length classes.now.table.nodes }
     requires right { j < length classes.now.table.nodes }
     requires whole { length state.now.names ≡ length classes.now.table.nodes }
-    ensures { IfOk result (λ options. IsWayOptions classes.now (class_of state.now) (i, j) options.items) }
+    ensures { IfOk result (λ options. IsWayOptions (outline classes.now) (class_of state.now) (i, j) options.items) }
 {
     let mut options = Vec::new(alloc);
     match forced_way(classes, state, i, j) {
@@ -210,8 +211,8 @@ fn number_in(state: &State, parts: &[usize], i: usize) -> usize
     requires node { i < length state.now.names }
     ensures { result ≡ number_in (class_of state.now) parts.now i }
 {
-    for (k, p) in parts.iter().enumerate() {
-        if state.is_same(*p, i) {
+    for k in 0..parts.len() {
+        if state.is_same(parts[k], i) {
             return k;
         }
     }
@@ -233,9 +234,9 @@ fn numbers(alloc: Global, state: &State, parts: &[usize]) -> Result<Seq<usize>, 
 
 // The split that a leaf with all heads and ways is.
 fn whole(alloc: Global, classes: &Classes, leaf: &Leaf) -> Result<Split, NoMemory>
-    requires within { ArePlacesWithin classes.now }
+    requires within { ArePlacesWithin (outline classes.now) }
     requires nodes { length leaf.now.state.names ≡ length classes.now.table.nodes }
-    ensures { IfOk result (λ split. split ≡ split_of classes.now leaf.now) }
+    ensures { IfOk result (λ split. split ≡ split_of (outline classes.now) leaf.now) }
 {
     let class_of = numbers(alloc, &leaf.state, classes.places.parts.as_slice())?;
     let heads = copied(alloc, leaf.heads.as_slice())?;
@@ -254,9 +255,9 @@ fn step_asking(
     classes: &Classes,
     state: &State,
 ) -> Result<Seq<Partial>, NoMemory>
-    requires fit { AreStepped sig.now classes.now }
+    requires fit { AreStepped sig.now (outline classes.now) }
     requires closed { IsClosed sig.now classes.now.table state.now }
-    ensures { IfOk result (IsExpansion sig.now classes.now (Partial.Asking state.now)) }
+    ensures { IfOk result (IsExpansion sig.now (outline classes.now) (Partial.Asking state.now)) }
 {
     match question(classes, state) {
         Some((i, j)) => {
@@ -277,10 +278,10 @@ fn step_head(
     classes: &Classes,
     leaf: &Leaf,
 ) -> Result<Seq<Partial>, NoMemory>
-    requires fit { AreStepped sig.now classes.now }
-    requires leaf { IsLeaf sig.now classes.now leaf.now }
+    requires fit { AreStepped sig.now (outline classes.now) }
+    requires leaf { IsLeaf sig.now (outline classes.now) leaf.now }
     requires more { length leaf.now.heads < length classes.now.places.headed }
-    ensures { IfOk result (IsExpansion sig.now classes.now (Partial.Choosing leaf.now)) }
+    ensures { IfOk result (IsExpansion sig.now (outline classes.now) (Partial.Choosing leaf.now)) }
 {
     let i = classes.places.headed.as_slice()[leaf.heads.len()];
     let options = head_options(alloc, sig, classes, &leaf.state, leaf.heads.as_slice(), i)?;
@@ -295,10 +296,10 @@ fn step_way(
     classes: &Classes,
     leaf: &Leaf,
 ) -> Result<Seq<Partial>, NoMemory>
-    requires fit { AreStepped sig.now classes.now }
-    requires leaf { IsLeaf sig.now classes.now leaf.now }
+    requires fit { AreStepped sig.now (outline classes.now) }
+    requires leaf { IsLeaf sig.now (outline classes.now) leaf.now }
     requires more { length leaf.now.swaps < length classes.now.places.pairs }
-    ensures { IfOk result (IsExpansion sig.now classes.now (Partial.Choosing leaf.now)) }
+    ensures { IfOk result (IsExpansion sig.now (outline classes.now) (Partial.Choosing leaf.now)) }
 {
     let (i, j) = classes.places.pairs.as_slice()[leaf.swaps.len()];
     let options = way_options(alloc, classes, &leaf.state, i, j)?;
@@ -313,9 +314,9 @@ pub(crate) fn take_step(
     classes: &Classes,
     partial: &Partial,
 ) -> Result<Step, NoMemory>
-    requires fit { AreStepped sig.now classes.now }
-    requires sound { IsSound sig.now classes.now partial.now }
-    ensures { IfOk result (IsStepOf sig.now classes.now partial.now) }
+    requires fit { AreStepped sig.now (outline classes.now) }
+    requires sound { IsSound sig.now (outline classes.now) partial.now }
+    ensures { IfOk result (IsStepOf sig.now (outline classes.now) partial.now) }
 {
     match partial {
         Partial::Asking(state) => {

@@ -2,17 +2,17 @@
 use Rattle.std.specs.Prelude.{◌≡◌, ◌≢◌, ◌↔◌, ◌⊎◌, ℕ, suc, ◌+◌, ◌*◌, ◌-◌, ◌^◌, ◌<◌, ◌≤◌, Bool, List, [], ◌∷◌, length, map, sum_by, Option, Some, None, All, AllPairs, Any, Contains}
 use Rattle.fvn_terms.specs.declared.plain.OpId.{OpId}
 use Rattle.fvn_terms.specs.declared.declarations.Declarations.{Declarations}
-use Rattle.fvn_forms.specs.FitsKinds.{FitsKinds}
-use Rattle.fvn_nodes.specs.Table.{NodeTable, IsOver}
+use Rattle.fvn_terms.specs.Signature.{axioms}
+use Rattle.fvn_flat.specs.Partitions.{HasNoIdentity}
+use Rattle.fvn_nodes.specs.Table.{NodeTable, IsOver, IsWellMade}
 use Rattle.fvn_nodes.specs.Classes.{IsNodePartition}
 use Rattle.fvn_nodes.specs.States.{Admits, IsClosed, IsOpen, class_of, open_pairs}
 use Rattle.fvn_nodes.specs.declared.state.State.{State}
-use Rattle.fvn_purify.specs.Parts.{AreParts}
+use Rattle.fvn_purify.specs.Parts.{Outline, AreParts}
 use Rattle.fvn_purify.specs.Splits.{number_in, AreHeads, AreWays}
 use Rattle.fvn_purify.specs.inner.Options.{AreFirst}
 use Rattle.fvn_purify.specs.Cursor.{IsAheadOf, Cursor}
 use Rattle.fvn_purify.specs.declared.classes.Head.{Head}
-use Rattle.fvn_purify.specs.declared.classes.Classes.{Classes}
 use Rattle.fvn_purify.specs.declared.split.Split.{Split}
 use Rattle.fvn_purify.specs.declared.choosing.Leaf.{Leaf}
 use Rattle.fvn_purify.specs.declared.choosing.Partial.{Partial}
@@ -20,12 +20,12 @@ use Rattle.fvn_purify.specs.declared.choosing.Partial.TheVariants.{Asking, Choos
 use Rattle.fvn_purify.specs.declared.stepping.Step.{Step}
 use Rattle.fvn_purify.specs.declared.stepping.Step.TheVariants.{More, Whole}
 
--- each identity in the table is a constant
-abbrev pub HasUnits : NodeTable → Type 0
-HasUnits t = (p : OpId × ℕ) → Contains t.units p → (e : OpId) × IsOver t.nodes p.1 e []
+-- each identity in the table is a constant without axioms
+abbrev pub HasUnits : Declarations → NodeTable → Type 0
+HasUnits d t = (p : OpId × ℕ) → Contains t.units p → (e : OpId) × IsOver t.nodes p.1 e [] × HasNoIdentity (axioms d e)
 
 -- parts, nodes with a head and pairs are nodes of the table
-pub record ArePlacesWithin (c : Classes) : Type 0 where
+pub record ArePlacesWithin (c : Outline) : Type 0 where
   pub parts : All (λ i. i < length c.table.nodes) c.places.parts
   pub headed : All (λ i. i < length c.table.nodes) c.places.headed
   pub pairs : All (λ p. (p.0 < length c.table.nodes) × (p.1 < length c.table.nodes)) c.places.pairs
@@ -36,14 +36,14 @@ asking None = []
 asking (Some s) = Asking s ∷ []
 
 -- a state with these heads and ways
-abbrev pub leaf : State → List Head → List Bool → Partial
-leaf s heads swaps = Choosing (record { state = s; heads = heads; swaps = swaps })
+abbrev pub chosen : State → List Head → List Bool → Partial
+chosen s heads swaps = Choosing (record { state = s; heads = heads; swaps = swaps })
 
 -- the split that a leaf with all heads and ways is
-abbrev pub split_of : Classes → Leaf → Split
+abbrev pub split_of : Outline → Leaf → Split
 split_of c l = record { class_of = map (number_in (class_of l.state) c.places.parts) c.places.parts; heads = l.heads; swaps = l.swaps }
 
-module _ (c : Classes) (s : State) where
+module _ (c : Outline) (s : State) where
   -- two parts, a part with a head and an identity, or the first arguments of a pair of one class
   abbrev pub IsQuestion : (x y : ℕ) → Type 0
   IsQuestion x y =
@@ -60,12 +60,12 @@ module _ (c : Classes) (s : State) where
   IsNextQuestion None = IsDecided
   IsNextQuestion (Some p) = IsQuestion p.0 p.1 × IsOpen s p.0 p.1
 
-module _ (d : Declarations) (c : Classes) where
+module _ (d : Declarations) (c : Outline) where
   -- what steps need: parts, pairs and operators are those of the table, and identities are constants
   pub record AreStepped : Type 0 where
-    pub fits : FitsKinds d
+    pub made : IsWellMade c.table
     pub within : ArePlacesWithin c
-    pub units : HasUnits c.table
+    pub units : HasUnits d c.table
     pub are : AreParts d c
 
   -- these are the options for one more head or way: they fit the state, and whatever fits classes that the state admits is one of them
@@ -123,6 +123,6 @@ module _ (d : Declarations) (c : Classes) where
 
 -- what is kept of a cursor
 pub record IsKept (cursor : Cursor) : Type 0 where
-  pub fit : AreStepped cursor.declarations cursor.classes
-  pub sound : All (IsSound cursor.declarations cursor.classes) cursor.partials
-  pub apart : AllPairs (AreApart cursor.declarations cursor.classes) cursor.partials
+  pub fit : AreStepped cursor.declarations cursor.outline
+  pub sound : All (IsSound cursor.declarations cursor.outline) cursor.partials
+  pub apart : AllPairs (AreApart cursor.declarations cursor.outline) cursor.partials

@@ -1,20 +1,20 @@
 -- What one step of a cursor finds.
 use Rattle.std.specs.Prelude.{ℕ, ◌<◌, List, Some, None}
 use Rattle.fvn_terms.specs.declared.declarations.Declarations.{Declarations}
+use Rattle.fvn_purify.specs.Parts.{Outline}
 use Rattle.fvn_purify.specs.Cursor.{Cursor, HasSamePending, IsGivenFrom}
 use Rattle.fvn_purify.specs.inner.Choices.{weights}
-use Rattle.fvn_purify.specs.declared.classes.Classes.{Classes}
 use Rattle.fvn_purify.specs.declared.choosing.Partial.{Partial}
 use Rattle.fvn_purify.specs.declared.splits.Found.{Found}
 use Rattle.fvn_purify.specs.declared.splits.Found.TheVariants.{Nothing, More, Split}
 
 -- the cursor with these parts
-abbrev pub cursor : Declarations → Classes → List Partial → Cursor
-cursor d c partials = record { declarations = d; classes = c; partials = partials }
+abbrev pub cursor : Declarations → Outline → List Partial → Cursor
+cursor d c partials = record { declarations = d; outline = c; partials = partials }
 
 -- by this a cursor falls with each step
 abbrev pub cursor_weight : Cursor → ℕ
-cursor_weight c = weights c.declarations c.classes c.partials
+cursor_weight c = weights c.declarations c.outline c.partials
 
 -- nothing was to come; or the same is to come, with less weight; or the split that was found is not to come any more
 abbrev pub IsFoundFrom : Cursor → Cursor → Found → Type 0

@@ -5,10 +5,10 @@ use Rattle.fvn_terms.specs.declared.declarations.Declarations.{Declarations}
 use Rattle.fvn_terms.specs.Signature.{axioms}
 use Rattle.fvn_flat.specs.Partitions.{HasNoIdentity}
 use Rattle.fvn_nodes.specs.Table.{NodeTable, IsOver}
+use Rattle.fvn_purify.specs.Parts.{Outline}
 use Rattle.fvn_purify.specs.Heads.{head_of}
 use Rattle.fvn_purify.specs.declared.classes.Head.{Head}
 use Rattle.fvn_purify.specs.declared.classes.Head.TheVariants.{Free, Identity}
-use Rattle.fvn_purify.specs.declared.classes.Classes.{Classes}
 
 -- node x is the first argument of the pair's left node, and y of its right one
 abbrev pub AreFirst : NodeTable → ℕ × ℕ → (x y : ℕ) → Type 0
@@ -26,7 +26,7 @@ IsUnitIn t class i e = (p : OpId × ℕ) × Contains t.units p × (class i ≡ c
 abbrev pub IsSolidAt : Declarations → NodeTable → (ℕ → ℕ) → (i j : ℕ) → Head → Type 0
 IsSolidAt d t class i j h = (f : OpId) × (ks : List ℕ) × IsOver t.nodes j f ks × HasNoIdentity (axioms d f) × (class j ≡ class i) × (h ≡ head_of d f)
 
-module _ (d : Declarations) (c : Classes) (class : ℕ → ℕ) where
+module _ (d : Declarations) (c : Outline) (class : ℕ → ℕ) where
   -- nothing forces the head of node i
   pub record IsUnforced (heads : List Head) (i : ℕ) : Type 0 where
     pub earlier : (h : Head) → IsEarlier class c.places.headed heads i h → ⊥
@@ -49,10 +49,10 @@ module _ (d : Declarations) (c : Classes) (class : ℕ → ℕ) where
   IsHeadOptions heads i options = ((h : Head) × Forces heads i h × (options ≡ h ∷ [])) ⊎ (IsUnforced heads i × (options ≡ Free ∷ map (head_of d) c.ops))
 
 -- the way in which the pair can meet, if it is in one class
-abbrev pub IsForcedWay : Classes → (ℕ → ℕ) → ℕ × ℕ → Option Bool → Type 0
+abbrev pub IsForcedWay : Outline → (ℕ → ℕ) → ℕ × ℕ → Option Bool → Type 0
 IsForcedWay c class p None = (class p.0 ≢ class p.1) ⊎ ((x y : ℕ) → AreFirst c.table p x y → ⊥)
 IsForcedWay c class p (Some crossed) = (class p.0 ≡ class p.1) × ((x : ℕ) × (y : ℕ) × AreFirst c.table p x y × (crossed ≡ not (nat_eq (class x) (class y))))
 
 -- the way that is forced, or both
-abbrev pub IsWayOptions : Classes → (ℕ → ℕ) → ℕ × ℕ → List Bool → Type 0
+abbrev pub IsWayOptions : Outline → (ℕ → ℕ) → ℕ × ℕ → List Bool → Type 0
 IsWayOptions c class p options = ((crossed : Bool) × IsForcedWay c class p (Some crossed) × (options ≡ crossed ∷ [])) ⊎ (IsForcedWay c class p None × (options ≡ false ∷ true ∷ []))

@@ -1,0 +1,1 @@
+-- Lemmas on parts, splits and what is decided of them.
