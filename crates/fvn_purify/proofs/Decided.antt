@@ -24,7 +24,8 @@ use Rattle.fvn_purify.specs.inner.Choices.{AreStepped, ArePlacesWithin, IsQuesti
 use Rattle.fvn_purify.proofs.Numbers.{same_tests}
 
 module _ (d : Declarations) (c : Outline) (fit : AreStepped d c) where
-  abbrev nodes : ℕ
+  -- the number of nodes
+  abbrev pub nodes : ℕ
   nodes = length c.table.nodes
 
   -- nodes over the same are one

@@ -158,7 +158,7 @@ module _ (d : Declarations) (c : Outline) (fit : AreStepped d c) where
     ]);
     falls =
         let e = sum_by-cons (weight d c) (chosen s [] []) [] in
-        let z : base d c ^ (places_count d c - (length {A = Head} [] + length {A = Bool} [])) ≡ base d c ^ places_count d c = refl in
+        let z : base d c ^ (places_count d c - (length {A = Head} [] + length {A = Bool} [])) ≡ base d c ^ places_count d c = ap (λ k. base d c ^ k) (let q : places_count d c - (length {A = Head} [] + length {A = Bool} []) ≡ places_count d c = omega arith in q) in
         let f = leaf_falls (base d c) (places_count d c) (open_pairs s) (omega arith) in
         omega arith;
   }

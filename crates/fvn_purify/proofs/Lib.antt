@@ -16,3 +16,4 @@ mod Solid
 mod Asked
 mod Complete
 mod Firsts
+mod Stepped

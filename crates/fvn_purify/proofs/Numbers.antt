@@ -1,7 +1,7 @@
 -- The numbers of classes.
 use Rattle.std.proofs.Common.{◌≡◌, ◌⊎◌, ℕ, zero, suc, true, false, Bool, List, [], ◌∷◌, ◌++◌, map, length, refl, sym, ap, ◌∙◌, subst, inl, inr, arith, Contains}
 use Rattle.std.specs.Prelude.{nat_eq, if◌then◌else◌}
-use Rattle.std.proofs.lemmas.Bool.{eqb-true, cases_Bool, true≢false}
+use Rattle.std.proofs.lemmas.Bool.{eq-eqb, eqb-true, cases_Bool, true≢false}
 use Rattle.fvn_base.proofs.Membership.{contains_here, contains_cases, contains_none}
 use Rattle.fvn_purify.specs.Splits.{number_in}
 use Rattle.fvn_purify.proofs.Elements.{map_equal}
@@ -20,11 +20,7 @@ number_later : (class : ℕ → ℕ) (p : ℕ) (parts : List ℕ) (x : ℕ) → 
 number_later class p parts x e = ap (λ b. if b then 0 else suc (number_in class parts x)) e
 
 pub nat_eq-same : (m n : ℕ) → m ≡ n → nat_eq m n ≡ true
-nat_eq-same m n e = subst (λ k. nat_eq m k ≡ true) e (itself m)
-  where
-    itself : (m : ℕ) → nat_eq m m ≡ true
-    itself zero = refl
-    itself (suc m) = itself m
+nat_eq-same m n e = eq-eqb m n e
 
 -- a part with the number of a node is in its class
 pub number_tells : (class : ℕ → ℕ) (parts : List ℕ) (x y : ℕ) → Contains parts x → number_in class parts x ≡ number_in class parts y → class x ≡ class y

@@ -1,12 +1,12 @@
 -- Weights fall.
 use Rattle.std.proofs.Common.{◌≡◌, ℕ, zero, suc, ◌+◌, ◌-◌, ◌*◌, ◌^◌, ◌<◌, ◌≤◌, List, [], ◌∷◌, ◌++◌, map, length, sum_by, refl, sym, ap, ◌∙◌, arith}
-use Rattle.std.proofs.Math.Nat.{pow-le-pow_right, one-le-pow}
+use Rattle.std.proofs.Math.Nat.{pow-le-pow_right, one-le-pow, mul-lt-mul_of_pos_right, add-mul}
 use Rattle.std.proofs.lemmas.Grind.{pow_more}
 use Rattle.std.proofs.lemmas.List.Sums.{sum_by-append, sum_by-cons}
 
 -- what each of several weighs, as often as there are some
 pub sum_by-same : {A B : Type 0} (weight : B → ℕ) (f : A → B) (w : ℕ) → ((x : A) → weight (f x) ≡ w) → (xs : List A) → sum_by weight (map f xs) ≡ length xs * w
-sum_by-same weight f w h [] = refl
+sum_by-same weight f w h [] = omega arith
 sum_by-same weight f w h (x ∷ xs) =
     let one = h x in
     let rest = sum_by-same weight f w h xs in
@@ -37,7 +37,10 @@ powers_fall a b (suc m) h k =
     omega arith
 
 times : (x y z p : ℕ) → x + y < z → 1 ≤ p → x * p + y * p < z * p
-times x y z p h some = grind arith
+times x y z p h some =
+    let r : (x + y) * p < z * p = mul-lt-mul_of_pos_right h (omega arith) in
+    let e : (x + y) * p ≡ x * p + y * p = add-mul x y p in
+    omega arith
 
 -- so are they after a factor
 pub two_fall : (a b m p : ℕ) → a < m → b < m → 1 ≤ p → 3 ^ a * p + 3 ^ b * p < 3 ^ m * p
