@@ -51,23 +51,7 @@ use Rattle.fvn_purify.proofs.Kinded.{node_kinded}
 use Rattle.fvn_purify.proofs.Solid.{value_headed, value_constant}
 use Rattle.fvn_purify.proofs.Asked.{Choice, choice}
 
-module _ (d : Declarations) (c : Outline) (fit : AreStepped d c) where
-  -- how a cursor begins
-  pub begun_kept : (r : Option State) → IsStart d c.table r → IsKept (cursor d c (asking r))
-  begun_kept None h = record { fit = fit; sound = all_from (IsSound d c) [] (λ p k. absurd (contains_none p k)); apart = all_pairs_none (AreApart d c) }
-  begun_kept (Some s) h = record {
-    fit = fit;
-    sound = all_from (IsSound d c) (Asking s ∷ []) (λ p k. elim (contains_cases (Asking s) [] p k) [ inl e ↦ subst (IsSound d c) e h.0 | inr z ↦ absurd (contains_none p z) ]);
-    apart = all_pairs_one (AreApart d c) (Asking s);
-  }
-
-  pub begun_exact : (r : Option State) → IsStart d c.table r → (split : Split) → Pending (cursor d c (asking r)) split ↔ IsSplit d c split
-  begun_exact None h split = (λ k. absurd (any_none _ k), λ k. absurd (h k.0 k.1))
-  begun_exact (Some s) h split = (
-    λ k. let a : IsAhead d c s [] [] split = any_one (λ p. IsAheadOf d c p split) (Asking s) k in (a.class, a.partition, a.split_by),
-    λ k. any_here (λ p. IsAheadOf d c p split) (Asking s) [] (record { class = k.0; partition = k.1; admits = h.1 k.0 k.1; split_by = k.2; heads_begin = (split.heads, refl); swaps_begin = (split.swaps, refl) }),
-  )
-
+module _ (d : Declarations) (c : Outline) where
   -- what is still to come is a split
   pub ahead_split : (partials : List Partial) (split : Split) → Pending (cursor d c partials) split → IsSplit d c split
   ahead_split partials split h = let r = any_contains (λ p. IsAheadOf d c p split) partials h in go r.0 r.2
@@ -96,6 +80,23 @@ module _ (d : Declarations) (c : Outline) (fit : AreStepped d c) where
       let e = number_tells class c.places.parts i j (contains_at c.places.parts k i at) (sym a ∙ b) in
       let alike = (s.1.nodes i j f g ks ls left right).alike e in
       alike.one_head (bare_free f own) (bare_free g other)
+
+module _ (d : Declarations) (c : Outline) (fit : AreStepped d c) where
+  -- how a cursor begins
+  pub begun_kept : (r : Option State) → IsStart d c.table r → IsKept (cursor d c (asking r))
+  begun_kept None h = record { fit = fit; sound = all_from (IsSound d c) [] (λ p k. absurd (contains_none p k)); apart = all_pairs_none (AreApart d c) }
+  begun_kept (Some s) h = record {
+    fit = fit;
+    sound = all_from (IsSound d c) (Asking s ∷ []) (λ p k. elim (contains_cases (Asking s) [] p k) [ inl e ↦ subst (IsSound d c) e h.0 | inr z ↦ absurd (contains_none p z) ]);
+    apart = all_pairs_one (AreApart d c) (Asking s);
+  }
+
+  pub begun_exact : (r : Option State) → IsStart d c.table r → (split : Split) → Pending (cursor d c (asking r)) split ↔ IsSplit d c split
+  begun_exact None h split = (λ k. absurd (any_none _ k), λ k. absurd (h k.0 k.1))
+  begun_exact (Some s) h split = (
+    λ k. let a : IsAhead d c s [] [] split = any_one (λ p. IsAheadOf d c p split) (Asking s) k in (a.class, a.partition, a.split_by),
+    λ k. any_here (λ p. IsAheadOf d c p split) (Asking s) [] (record { class = k.0; partition = k.1; admits = h.1 k.0 k.1; split_by = k.2; heads_begin = (split.heads, refl); swaps_begin = (split.swaps, refl) }),
+  )
 
   module _ (fits : FitsKinds d) (problem : Problem) (is_problem : IsProblem d problem) (table : IsTableOf d problem c.table) (u : Substitution) (unifier : IsKindUnifier d problem u) (parts : Partitions d c.table u) where
     abbrev class : ℕ → ℕ
@@ -262,8 +263,8 @@ module _ (d : Declarations) (c : Outline) (fit : AreStepped d c) where
     unfolding its_split
     its_obeyed = record {
       numbers = λ k l i j n m at there number same.
-          let a = number_at class its_split its_split_by k i n at number in
-          let b = number_at class its_split its_split_by l j m there same in
+          let a = number_at d c class its_split its_split_by k i n at number in
+          let b = number_at d c class its_split its_split_by l j m there same in
           let p = parts_within k i at in
           let q = parts_within l j there in (
             λ e. made_equal i j p q (number_tells class c.places.parts i j (contains_at c.places.parts k i at) (sym a ∙ e ∙ b)),

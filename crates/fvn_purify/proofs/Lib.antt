@@ -17,3 +17,6 @@ mod Asked
 mod Complete
 mod Firsts
 mod Stepped
+mod Lasts
+mod Fitted
+mod Listed

@@ -1,5 +1,5 @@
 //! All splits of a problem, one after another.
-ghost use Rattle.std.specs.Prelude.{◌≡◌, ◌↔◌, ◌-◌, ◌<◌, [], ◌++◌, length, take, IfOk, OnOk, OnErr, IfSome};
+ghost use Rattle.std.specs.Prelude.{◌≡◌, ◌↔◌, ◌-◌, ◌<◌, ◌++◌, length, take, Option, IfOk, OnOk, OnErr, IfSome};
 ghost use Rattle.fvn_terms.specs.Substitution.{Substitution};
 ghost use Rattle.fvn_terms.specs.Unifiers.{Problem};
 ghost use Rattle.fvn_flat.specs.Problems.{IsProblem};
@@ -8,7 +8,9 @@ ghost use Rattle.fvn_purify.specs.Parts.{AreClassesOf, outline};
 ghost use Rattle.fvn_purify.specs.Obeying.{Obeys};
 ghost use Rattle.fvn_purify.specs.Splits.{IsSplit, HasOneFree};
 ghost use Rattle.fvn_purify.specs.Cursor.{Pending, HasSamePending, IsGivenFrom};
-ghost use Rattle.fvn_purify.specs.inner.Choices.{IsKept};
+ghost use Rattle.fvn_nodes.specs.Questions.{IsStart};
+ghost use Rattle.fvn_nodes.specs.declared.state.State.{State};
+ghost use Rattle.fvn_purify.specs.inner.Choices.{IsKept, asking};
 ghost use Rattle.fvn_purify.specs.inner.Founds.{cursor, IsFoundFrom};
 ghost use Rattle.fvn_purify.specs.declared.split.Split.{Split as InSplit};
 
@@ -17,7 +19,7 @@ use crate::classes::Classes;
 use crate::split::Split;
 use crate::stepping::{Step, take_step};
 use fvn_base::Seq;
-use fvn_nodes::start;
+use fvn_nodes::{start, unifiers_partition};
 use fvn_sorts::Signature;
 use fvn_terms::NoMemory;
 use std::alloc::Global;
@@ -116,6 +118,20 @@ fn next_split(
     }
 }
 
+// The state that every partition has, if there is a partition.
+fn begun(alloc: Global, sig: &Signature, classes: &Classes) -> Result<Vec<Partial>, NoMemory>
+    ensures { IfOk result (λ partials. (r : Option State) × IsStart sig.now classes.now.table r × (partials.items ≡ asking r)) }
+{
+    let mut partials = Vec::new(alloc);
+    match start(alloc, sig, &classes.table)? {
+        None => Ok(partials),
+        Some(state) => {
+            partials.push(Partial::Asking(state))?;
+            Ok(partials)
+        }
+    }
+}
+
 impl<'a> Splits<'a> {
     /// The splits of a problem's parts, none of them given yet.
     pub fn new(
@@ -133,11 +149,9 @@ impl<'a> Splits<'a> {
             (split : InSplit) × Obeys sig.now (outline classes.now) u split × Pending s split) }
     {
         sig.recall_good();
-        let mut partials = Vec::new(alloc);
-        match start(alloc, sig, &classes.table)? {
-            None => {}
-            Some(state) => partials.push(Partial::Asking(state))?,
-        }
+        classes.table.recall_well_made();
+        unifiers_partition();
+        let partials = begun(alloc, sig, classes)?;
         Ok(Splits {
             alloc,
             sig,

@@ -1,0 +1,20 @@
+-- What the steps give.
+use Rattle.std.proofs.Common.{sym, subst}
+use Rattle.std.specs.Prelude.{IfSome}
+use Rattle.fvn_purify.specs.Parts.{outline}
+use Rattle.fvn_purify.specs.Splits.{HasOneFree}
+use Rattle.fvn_purify.specs.Cursor.{HasSamePending}
+use Rattle.fvn_purify.specs.inner.Founds.{cursor}
+use Rattle.fvn_purify.proofs.Lasts.{given_free, on_err}
+use Rattle.fvn_purify.proofs.splits.Splits.advance.Goals as goal
+
+pub returns-in_err-found-clause-no_memory : goal.returns-in_err-found-clause-no_memory
+returns-in_err-found-clause-no_memory c =
+    on_err c.from_residual.result (subst (λ k. HasSamePending k (cursor c.self.inside.sig.now (outline c.self.inside.classes.now) c.next_split.new.partials.items)) c.self.view_is c.in_err-found.ensures.no_memory)
+
+pub returns-clause-one_free : goal.returns-clause-one_free
+returns-clause-one_free c =
+    let d = c.self.inside.sig.now in
+    let o = outline c.self.inside.classes.now in
+    subst (λ k. IfSome c.in_ok-found.found (HasOneFree k.declarations k.outline)) c.self.view_is
+        (given_free d o c.self.inside.partials.items c.next_split.new.partials.items c.in_ok-found.found c.in_ok-found.ensures.given)
