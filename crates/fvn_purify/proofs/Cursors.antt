@@ -1,16 +1,19 @@
 -- How a cursor changes with a step.
-use Rattle.std.proofs.Common.{◌≡◌, ◌≢◌, ◌⊎◌, ℕ, ◌+◌, ◌<◌, List, [], ◌∷◌, ◌++◌, length, sum_by, refl, sym, ap, ◌∙◌, subst, inl, inr, arith, Option, Some, None, All, Any, AllPairs, Contains}
+use Rattle.std.proofs.Common.{◌≡◌, ◌≢◌, ◌⊎◌, ℕ, suc, ◌+◌, ◌-◌, ◌*◌, ◌^◌, ◌<◌, ◌≤◌, List, [], ◌∷◌, ◌++◌, length, sum_by, refl, sym, ap, ◌∙◌, subst, inl, inr, arith, Option, Some, None, All, Any, AllPairs, Contains}
 use Rattle.std.specs.Prelude.{◌↔◌}
+use Rattle.std.proofs.Math.Nat.{one-le-pow}
 use Rattle.std.proofs.lemmas.List.Sums.{sum_by-append, sum_by-cons}
 use Rattle.std.proofs.lemmas.List.Elements.{All-contains, Contains-append_cases}
 use Rattle.fvn_base.proofs.Membership.{contains_here}
 use Rattle.fvn_terms.specs.declared.declarations.Declarations.{Declarations}
+use Rattle.fvn_nodes.specs.States.{open_pairs}
 use Rattle.fvn_purify.specs.Parts.{Outline}
 use Rattle.fvn_purify.specs.Cursor.{IsAheadOf, Pending, HasSamePending, IsGivenFrom}
-use Rattle.fvn_purify.specs.inner.Choices.{weight, weights, IsSound, AreApart, IsExpansion, IsKept}
+use Rattle.fvn_purify.specs.inner.Choices.{base, places_count, weight, weights, IsSound, AreApart, IsExpansion, IsKept}
 use Rattle.fvn_purify.specs.inner.Founds.{cursor, cursor_weight}
 use Rattle.fvn_purify.specs.declared.split.Split.{Split}
 use Rattle.fvn_purify.specs.declared.choosing.Partial.{Partial}
+use Rattle.fvn_purify.specs.declared.choosing.Partial.TheVariants.{Asking, Choosing}
 use Rattle.fvn_purify.proofs.Elements.{contains_left, contains_right, all_from, any_here, any_one, any_from, any_contains, any_left, any_right, any_append, any_none, all_pairs_append, all_pairs_front, all_pairs_cross}
 
 module _ (d : Declarations) (c : Outline) (below : List Partial) (top : Partial) (kept : IsKept (cursor d c (below ++ top ∷ []))) where
@@ -78,6 +81,21 @@ module _ (d : Declarations) (c : Outline) (below : List Partial) (top : Partial)
         ],
       ),
     )
+
+-- a partial is not weightless
+some_weight : (d : Declarations) (c : Outline) (p : Partial) → 1 ≤ weight d c p
+some_weight d c (Asking s) = times (3 ^ open_pairs s) (base d c ^ suc (places_count d c)) (one-le-pow (open_pairs s) 3 (omega arith)) (one-le-pow (suc (places_count d c)) (base d c) (omega arith))
+  where
+    times : (m n : ℕ) → 1 ≤ m → 1 ≤ n → 1 ≤ m * n
+    times m n a b = grind arith
+some_weight d c (Choosing l) = one-le-pow (places_count d c - (length l.heads + length l.swaps)) (base d c) (omega arith)
+
+pub top_falls : (d : Declarations) (c : Outline) (below : List Partial) (top : Partial) → cursor_weight (cursor d c below) < cursor_weight (cursor d c (below ++ top ∷ []))
+top_falls d c below top =
+    let a = sum_by-append (weight d c) below (top ∷ []) in
+    let e = sum_by-cons (weight d c) top [] in
+    let w = some_weight d c top in
+    omega arith
 
 -- nothing is ahead of nothing
 pub none_from : (d : Declarations) (c : Outline) (partials : List Partial) → partials ≡ [] → IsGivenFrom (cursor d c partials) (cursor d c partials) None

@@ -11,7 +11,7 @@ use Rattle.fvn_purify.specs.inner.Choices.{IsExpansion, IsSound, IsKept}
 use Rattle.fvn_purify.specs.inner.Founds.{cursor, cursor_weight}
 use Rattle.fvn_purify.specs.declared.split.Split.{Split}
 use Rattle.fvn_purify.specs.declared.choosing.Partial.{Partial}
-use Rattle.fvn_purify.proofs.Cursors.{top_sound, more_kept, more_same, more_falls, given_kept, given_from}
+use Rattle.fvn_purify.proofs.Cursors.{top_sound, more_kept, more_same, more_falls, given_kept, given_from, top_falls}
 use Rattle.fvn_purify.proofs.Complete.{ahead_split, one_free}
 
 -- a list with a last one
@@ -51,6 +51,11 @@ module _ (d : Declarations) (c : Outline) (before below : List Partial) (top : P
     pub whole_given : IsGivenFrom (cursor d c before) (cursor d c after) (Some given)
     whole_given =
         subst (λ l. IsGivenFrom (cursor d c before) (cursor d c l) (Some given)) (sym now) (subst (λ l. IsGivenFrom (cursor d c l) (cursor d c below) (Some given)) (sym is) (given_from d c below top kept_top given only))
+
+-- less is left to do without the last one
+pub without_last_falls : (d : Declarations) (c : Outline) (before below : List Partial) (top : Partial) → before ≡ below ++ top ∷ [] → (after : List Partial) → after ≡ below → cursor_weight (cursor d c after) < cursor_weight (cursor d c before)
+without_last_falls d c before below top is after now =
+    subst (λ l. cursor_weight (cursor d c l) < cursor_weight (cursor d c before)) (sym now) (subst (λ l. cursor_weight (cursor d c below) < cursor_weight (cursor d c l)) (sym is) (top_falls d c below top))
 
 -- what is given has one free operator in a class
 pub given_free : (d : Declarations) (c : Outline) (before after : List Partial) (r : Option Split) → IsGivenFrom (cursor d c before) (cursor d c after) r → IfSome r (HasOneFree d c)

@@ -1,5 +1,5 @@
 //! The parts of a problem.
-ghost use Rattle.std.specs.Prelude.{IfOk};
+ghost use Rattle.std.specs.Prelude.{◌≡◌, ◌++◌, IfOk};
 ghost use Rattle.fvn_flat.specs.Problems.{IsProblem};
 ghost use Rattle.fvn_flat.specs.Solving.{problem_of};
 ghost use Rattle.fvn_purify.specs.Parts.{ArePlaces, AreClassesOf};
@@ -14,20 +14,29 @@ use fvn_sorts::Signature;
 use fvn_terms::{NoMemory};
 use std::alloc::Global;
 
+// The numbers of both lists.
+fn joined(alloc: Global, first: &[usize], second: &[usize]) -> Result<Seq<usize>, NoMemory>
+    ensures { IfOk result (λ list. list ≡ first.now ++ second.now) }
+{
+    let mut list = Vec::new(alloc);
+    list.extend_from_slice(first)?;
+    list.extend_from_slice(second)?;
+    Ok(Seq::from_vec(list))
+}
+
 // The nodes that splits speak of.
 fn places(alloc: Global, sig: &Signature, table: &Table) -> Result<Places, NoMemory>
     ensures { IfOk result (ArePlaces sig.now table.now) }
 {
-    let mut parts = abstracted(alloc, sig, table)?;
-    let mut headed = collapsing(alloc, sig, table, parts.as_slice())?;
-    let mut first = shared(alloc, sig, table)?;
-    let mut second = shared(alloc, sig, table)?;
-    parts.append(&mut first)?;
-    headed.append(&mut second)?;
+    let listed = abstracted(alloc, sig, table)?;
+    let variables = shared(alloc, sig, table)?;
+    let parts = joined(alloc, listed.as_slice(), variables.as_slice())?;
+    let collapsing = collapsing(alloc, sig, table, listed.as_slice())?;
+    let headed = joined(alloc, collapsing.as_slice(), variables.as_slice())?;
     let pairs = pairs(alloc, sig, table)?;
     Ok(Places {
-        parts: Seq::from_vec(parts),
-        headed: Seq::from_vec(headed),
+        parts,
+        headed,
         pairs: Seq::from_vec(pairs),
     })
 }

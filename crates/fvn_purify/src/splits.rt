@@ -11,7 +11,7 @@ ghost use Rattle.fvn_purify.specs.Cursor.{Pending, HasSamePending, IsGivenFrom};
 ghost use Rattle.fvn_nodes.specs.Questions.{IsStart};
 ghost use Rattle.fvn_nodes.specs.declared.state.State.{State};
 ghost use Rattle.fvn_purify.specs.inner.Choices.{IsKept, asking};
-ghost use Rattle.fvn_purify.specs.inner.Founds.{cursor, IsFoundFrom};
+ghost use Rattle.fvn_purify.specs.inner.Founds.{cursor, cursor_weight, IsFoundFrom};
 ghost use Rattle.fvn_purify.specs.declared.split.Split.{Split as InSplit};
 
 use crate::choosing::Partial;
@@ -106,6 +106,8 @@ fn next_split(
     ensures kept { IsKept (cursor sig.now (outline classes.now) partials.new.items) }
     ensures given { IfOk result (IsGivenFrom (cursor sig.now (outline classes.now) partials.old.items)
         (cursor sig.now (outline classes.now) partials.new.items)) }
+    ensures falls { IfOk result (λ r. IfSome r (λ s. cursor_weight (cursor sig.now (outline classes.now) partials.new.items)
+        < cursor_weight (cursor sig.now (outline classes.now) partials.old.items))) }
     ensures no_memory { OnErr result (HasSamePending (cursor sig.now (outline classes.now) partials.old.items)
         (cursor sig.now (outline classes.now) partials.new.items)) }
 {
@@ -165,6 +167,7 @@ impl<'a> Splits<'a> {
         ensures of { (self.new.declarations ≡ self.old.declarations) × (self.new.outline ≡ self.old.outline) }
         ensures given { IfOk result (IsGivenFrom self.old self.new) }
         ensures one_free { IfOk result (λ r. IfSome r (HasOneFree self.old.declarations self.old.outline)) }
+        ensures falls { IfOk result (λ r. IfSome r (λ s. cursor_weight self.new < cursor_weight self.old)) }
         ensures no_memory { OnErr result (HasSamePending self.old self.new) }
     {
         let found = next_split(self.alloc, self.sig, self.classes, &mut self.partials)?;

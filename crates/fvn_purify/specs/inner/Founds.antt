@@ -12,12 +12,12 @@ use Rattle.fvn_purify.specs.declared.splits.Found.TheVariants.{Nothing, More, Sp
 abbrev pub cursor : Declarations → Outline → List Partial → Cursor
 cursor d c partials = record { declarations = d; outline = c; partials = partials }
 
--- by this a cursor falls with each step
+-- what is left to do; it falls with each step
 abbrev pub cursor_weight : Cursor → ℕ
 cursor_weight c = weights c.declarations c.outline c.partials
 
--- nothing was to come; or the same is to come, with less weight; or the split that was found is not to come any more
+-- nothing was to come; or the same is to come, with less left to do; or the split that was found is not to come any more, and less is left to do
 abbrev pub IsFoundFrom : Cursor → Cursor → Found → Type 0
 IsFoundFrom before after Nothing = IsGivenFrom before after None
 IsFoundFrom before after More = HasSamePending before after × (cursor_weight after < cursor_weight before)
-IsFoundFrom before after (Split given) = IsGivenFrom before after (Some given)
+IsFoundFrom before after (Split given) = IsGivenFrom before after (Some given) × (cursor_weight after < cursor_weight before)

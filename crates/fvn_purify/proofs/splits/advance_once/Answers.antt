@@ -2,7 +2,7 @@
 use Rattle.std.proofs.Common.{◌≡◌, ◌-◌, ◌∷◌, ◌++◌, [], length, take, sym, ap, ◌∙◌, subst, slice_get}
 use Rattle.fvn_purify.specs.Parts.{outline}
 use Rattle.fvn_purify.specs.inner.Choices.{IsStepOf}
-use Rattle.fvn_purify.proofs.Lasts.{last_split, last_kept, last_same, last_falls, whole_kept, whole_given}
+use Rattle.fvn_purify.proofs.Lasts.{last_split, last_kept, last_same, last_falls, whole_kept, whole_given, without_last_falls}
 use Rattle.fvn_purify.proofs.splits.advance_once.Goals.{In-Some}
 use Rattle.fvn_purify.proofs.splits.advance_once.Goals as goal
 
@@ -45,6 +45,11 @@ returns-in-Whole-clause-found c =
     let d = c.args.sig.now in
     let o = outline c.args.classes.now in
     let before = c.args.partials.now.items in
+    let below = take (length before - 1) before in
     let top = c.in-Some.top.now in
-    whole_given d o before (take (length before - 1) before) top (is (goal.at.returns-in-Whole-clause-found c).In-Some) c.requires.kept
-        c.in-Whole.split (subst (IsStepOf d o top) c.in-Whole.is c.in_ok-given-in-Some.ensures) c.pop-top.new.self.items (c.pop-top.ensures.rest ∙ ap (λ n. take (n - 1) before) c.args.partials.now.ok.0)
+    let at = is (goal.at.returns-in-Whole-clause-found c).In-Some in
+    let now = c.pop-top.ensures.rest ∙ ap (λ n. take (n - 1) before) c.args.partials.now.ok.0 in
+    (
+      whole_given d o before below top at c.requires.kept c.in-Whole.split (subst (IsStepOf d o top) c.in-Whole.is c.in_ok-given-in-Some.ensures) c.pop-top.new.self.items now,
+      without_last_falls d o before below top at c.pop-top.new.self.items now,
+    )

@@ -1,5 +1,5 @@
 -- The same splits are to come until one is found.
-use Rattle.std.proofs.Common.{sym, subst, Some, None}
+use Rattle.std.proofs.Common.{◌<◌, ◌≤◌, sym, subst, arith, Some, None}
 use Rattle.fvn_purify.specs.Parts.{outline}
 use Rattle.fvn_purify.specs.Cursor.{HasSamePending}
 use Rattle.fvn_purify.specs.inner.Founds.{cursor, IsFoundFrom}
@@ -30,6 +30,7 @@ steps-preserved c =
     let found = subst (IsFoundFrom (cursor d o now) (cursor d o after)) c.in-More.is c.in_ok-advance_once.ensures.found in
     record {
       kept = c.advance_once.ensures.kept;
+      less = let l = c.steps.invariant.less in let m = found.1 in omega arith;
       same = same_then_same d o c.args.partials.now.items now after c.steps.invariant.same found.0;
     }
 
@@ -39,4 +40,15 @@ returns-in-Split-clause-given c =
     let o = outline c.args.classes.now in
     let now = c.steps.partials.items in
     let after = c.advance_once.new.partials.items in
-    same_then_given d o c.args.partials.now.items now after (Some c.in-Split.split) c.steps.invariant.same (subst (IsFoundFrom (cursor d o now) (cursor d o after)) c.in-Split.is c.in_ok-advance_once.ensures.found)
+    same_then_given d o c.args.partials.now.items now after (Some c.in-Split.split) c.steps.invariant.same (subst (IsFoundFrom (cursor d o now) (cursor d o after)) c.in-Split.is c.in_ok-advance_once.ensures.found).0
+
+pub returns-in-Split-clause-falls : goal.returns-in-Split-clause-falls
+returns-in-Split-clause-falls c =
+    let d = c.args.sig.now in
+    let o = outline c.args.classes.now in
+    let now = c.steps.partials.items in
+    let after = c.advance_once.new.partials.items in
+    let found = subst (IsFoundFrom (cursor d o now) (cursor d o after)) c.in-Split.is c.in_ok-advance_once.ensures.found in
+    let l = c.steps.invariant.less in
+    let m = found.1 in
+    omega arith

@@ -1,4 +1,5 @@
 -- The same splits are to come, and the weight falls.
+use Rattle.std.proofs.Common.{◌≤◌}
 use Rattle.fvn_purify.specs.Parts.{outline}
 use Rattle.fvn_purify.specs.Cursor.{HasSamePending}
 use Rattle.fvn_purify.specs.inner.Choices.{IsKept}
@@ -7,6 +8,7 @@ use Rattle.fvn_purify.proofs.splits.next_split.Given as goal
 abbrev pub invariant-steps : goal.invariant-steps
 invariant-steps l = record {
   kept : IsKept (cursor l.sig (outline l.classes) l.partials.items);
+  less : cursor_weight (cursor l.sig (outline l.classes) l.partials.items) ≤ cursor_weight (cursor l.sig (outline l.classes) l.initial.partials.items);
   same : HasSamePending (cursor l.sig (outline l.classes) l.initial.partials.items) (cursor l.sig (outline l.classes) l.partials.items);
 }
 
