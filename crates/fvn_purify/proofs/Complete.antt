@@ -186,6 +186,14 @@ module _ (d : Declarations) (c : Outline) (fit : AreStepped d c) where
     way_over p f g a v ks ls l m =
         ap (λ n. not (nat_eq (class n) (class (first_of (slice_get c.table.nodes p.1))))) (first_is p.0 a f ks l) ∙ ap (λ n. not (nat_eq (class a) (class n))) (first_is p.1 v g ls m)
 
+    asked : (i : ℕ) → AsksFor d c (value i) (head_at i)
+    unfolding head_at
+    asked i = (choice d c (value i)).asks
+
+    same_head : (i j : ℕ) → value i ≡ value j → head_at i ≡ head_at j
+    unfolding head_at
+    same_head i j e = ap (λ v. (choice d c v).head) e
+
     pub its_split_by : IsSplitBy d c class its_split
     unfolding its_split
     its_split_by = record {
@@ -198,14 +206,6 @@ module _ (d : Declarations) (c : Outline) (fit : AreStepped d c) where
       swaps = λ k p w at there f g a v ks ls l m same. way_is k p w at there ∙ way_over p f g a v ks ls l m;
       all_swaps = length-map c.places.pairs way_at;
     }
-      where
-        asked : (i : ℕ) → AsksFor d c (value i) (head_at i)
-        unfolding head_at
-        asked i = (choice d c (value i)).asks
-
-        same_head : (i j : ℕ) → value i ≡ value j → head_at i ≡ head_at j
-        unfolding head_at
-        same_head i j e = ap (λ v. (choice d c v).head) e
 
     made_equal : (i j : ℕ) → i < nodes d c fit → j < nodes d c fit → class i ≡ class j → MakesEqual d c u i j
     made_equal i j l m e = (parts.exact i j l m).0 e
@@ -226,20 +226,14 @@ module _ (d : Declarations) (c : Outline) (fit : AreStepped d c) where
           | inr z ↦ absurd z
         ]
       where
-        Q : ℕ → Type 0
-        Q k = k < nodes d c fit
-
-        left_within : All Q (a ∷ b ∷ [])
-        unfolding Q
+        left_within : All (λ (k : ℕ). k < nodes d c fit) (a ∷ b ∷ [])
         left_within = arguments_within c.table.nodes fit.made.ordered p.0 f (a ∷ b ∷ []) l
 
-        right_within : All Q (v ∷ w ∷ [])
-        unfolding Q
+        right_within : All (λ (k : ℕ). k < nodes d c fit) (v ∷ w ∷ [])
         right_within = arguments_within c.table.nodes fit.made.ordered p.1 f (v ∷ w ∷ []) m
 
         one : (x y : ℕ) → Contains (a ∷ b ∷ []) x → Contains (v ∷ w ∷ []) y → class x ≡ class y → MakesEqual d c u x y
-        unfolding Q
-        one x y h k e = made_equal x y (All-contains Q (a ∷ b ∷ []) x left_within h) (All-contains Q (v ∷ w ∷ []) y right_within k) e
+        one x y h k e = made_equal x y (All-contains (λ (k : ℕ). k < nodes d c fit) (a ∷ b ∷ []) x left_within h) (All-contains (λ (k : ℕ). k < nodes d c fit) (v ∷ w ∷ []) y right_within k) e
 
         second : (x y : ℕ) → Contains (x ∷ y ∷ []) y
         second x y = contains_later x (y ∷ []) y (contains_here y [])
@@ -276,10 +270,6 @@ module _ (d : Declarations) (c : Outline) (fit : AreStepped d c) where
       swaps = λ k p t f a b v w at there l m equal. meets p f a b v w (contains_at c.places.pairs k p at) l m equal t (way_is k p t at there ∙ way_over p f f a v (b ∷ []) (w ∷ []) l m);
       all_swaps = length-map c.places.pairs way_at;
     }
-      where
-        asked : (i : ℕ) → AsksFor d c (value i) (head_at i)
-        unfolding head_at
-        asked i = (choice d c (value i)).asks
 
     pub obeyed_split : (split : Split) × (Obeys d c u split × IsSplit d c split)
     obeyed_split = (its_split, (its_obeyed, (class, parts.partition, its_split_by)))

@@ -103,7 +103,7 @@ none_from d c partials e split h = any_none (λ p. IsAheadOf d c p split) (subst
 
 -- a step from what has the same to come
 pub same_then_given : (d : Declarations) (c : Outline) (first before after : List Partial) (r : Option Split) → HasSamePending (cursor d c first) (cursor d c before) → IsGivenFrom (cursor d c before) (cursor d c after) r → IsGivenFrom (cursor d c first) (cursor d c after) r
-same_then_given d c first before after None same h split k = h split ((same split).1 k)
+same_then_given d c first before after None same h = λ split k. h split ((same split).1 k)
 same_then_given d c first before after (Some given) same h = (
   (same given).0 h.0,
   λ split. (λ k. let r = (h.1 split).0 k in ((same split).0 r.0, r.1), λ k. (h.1 split).1 ((same split).1 k.0, k.1)),

@@ -13,28 +13,42 @@ use Rattle.fvn_purify.specs.Parts.{IsEach, ArePair, HasAxioms}
 use Rattle.fvn_purify.specs.inner.Standing.{IsPairBelow, HeadsWithAxioms}
 use Rattle.fvn_purify.proofs.Each.{each_same, each_more}
 
-module _ (Has : ℕ → Type 0) (list : List ℕ) (i : ℕ) (each : IsEach (λ k. (k < i) × Has k) list) where
+module _ (Has : ℕ → Type 0) (list : List ℕ) (i : ℕ) (each : IsEach (λ (k : ℕ). (k < i) × Has k) list) where
   -- the next number has it
-  pub each_next : Has i → IsEach (λ k. (k < i + 1) × Has k) (list ++ i ∷ [])
+  pub each_next : Has i → IsEach (λ (k : ℕ). (k < i + 1) × Has k) (list ++ i ∷ [])
   each_next own =
-      each_more (λ k. (k < i) × Has k) (λ k. (k < i + 1) × Has k) list i each (λ h. let l = h.0 in omega arith) (λ k h. (let l = h.0 in omega arith, h.1)) (omega arith, own) (λ k h. elim (cases_lt k i) [
+      each_more (λ (k : ℕ). (k < i) × Has k) (λ (k : ℕ). (k < i + 1) × Has k) list i each (λ h. let l = h.0 in omega arith) (λ k h. (let l = h.0 in omega arith, h.1)) (omega arith, own) (λ k h. elim (cases_lt k i) [
         | inl l ↦ inl (l, h.1)
         | inr g ↦ inr (let l = h.0 in omega arith)
       ])
 
   -- the next number does not have it
-  pub each_skip : (Has i → ⊥) → IsEach (λ k. (k < i + 1) × Has k) list
-  each_skip other = each_same (λ k. (k < i) × Has k) (λ k. (k < i + 1) × Has k) list (λ k h. (let l = h.0 in omega arith, h.1)) (λ k h. elim (cases_lt k i) [
+  pub each_skip : (Has i → ⊥) → IsEach (λ (k : ℕ). (k < i + 1) × Has k) list
+  each_skip other = each_same (λ (k : ℕ). (k < i) × Has k) (λ (k : ℕ). (k < i + 1) × Has k) list (λ k h. (let l = h.0 in omega arith, h.1)) (λ k h. elim (cases_lt k i) [
     | inl l ↦ (l, h.1)
     | inr g ↦ absurd (let l = h.0 in let e : k ≡ i = omega arith in other (subst Has e h.1))
   ]) each
 
   -- no later number has it
   pub each_end : ((k : ℕ) → Has k → k < i) → IsEach Has list
-  each_end below = each_same (λ k. (k < i) × Has k) Has list (λ k h. h.1) (λ k h. (below k h, h)) each
+  each_end below = each_same (λ (k : ℕ). (k < i) × Has k) Has list (λ k h. h.1) (λ k h. (below k h, h)) each
+
+-- two numbers as a pair
+abbrev Both : (i j : ℕ) → ℕ × ℕ
+Both i j = (i, j)
+
+-- the pair is that of the two numbers
+abbrev Here : (i j : ℕ) → ℕ × ℕ → Type 0
+Here i j p = Both i j ≡ p
+
+same_pair : (i j : ℕ) (p : ℕ × ℕ) → i ≡ p.0 → j ≡ p.1 → Here i j p
+same_pair i j p a b = subst (λ n. Here i n p) (sym b) (subst (λ n. Here n p.1 p) (sym a) refl)
 
 module _ (d : Declarations) (t : NodeTable) where
   module _ (list : List (ℕ × ℕ)) (j i : ℕ) (each : IsEach (IsPairBelow d t j i) list) where
+    abbrev here : ℕ × ℕ
+    here = (i, j)
+
     wider : (p : ℕ × ℕ) → IsPairBelow d t j i p → IsPairBelow d t j (i + 1) p
     wider p h = (h.0, place h.1)
       where
@@ -42,14 +56,14 @@ module _ (d : Declarations) (t : NodeTable) where
         place (inl l) = inl l
         place (inr r) = inr (r.0, let l = r.1 in omega arith)
 
-    narrower : (p : ℕ × ℕ) → IsPairBelow d t j (i + 1) p → IsPairBelow d t j i p ⊎ ((i, j) ≡ p)
+    narrower : (p : ℕ × ℕ) → IsPairBelow d t j (i + 1) p → IsPairBelow d t j i p ⊎ (here ≡ p)
     narrower p h = place h.1
       where
-        place : (p.1 < j) ⊎ ((p.1 ≡ j) × (p.0 < i + 1)) → IsPairBelow d t j i p ⊎ ((i, j) ≡ p)
+        place : (p.1 < j) ⊎ ((p.1 ≡ j) × (p.0 < i + 1)) → IsPairBelow d t j i p ⊎ (here ≡ p)
         place (inl l) = inl (h.0, inl l)
         place (inr r) = elim (cases_lt p.0 i) [
           | inl l ↦ inl (h.0, inr (r.0, l))
-          | inr g ↦ inr (let l = r.1 in let e : i ≡ p.0 = omega arith in ap (λ k. (k, j)) e ∙ ap (λ k. (p.0, k)) (sym r.0))
+          | inr g ↦ inr (let l = r.1 in same_pair i j p (omega arith) (sym r.0))
         ]
 
     pub pair_next : ArePair d t (i, j) → IsEach (IsPairBelow d t j (i + 1)) (list ++ (i, j) ∷ [])
