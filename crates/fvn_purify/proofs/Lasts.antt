@@ -20,7 +20,7 @@ last_split xs x e =
     let n = length xs - 1 in
     let l : n < length xs = slice_get_within xs n x (sym e) in
     sym (take-append-drop n xs)
-    ∙ ap (λ ys. take n xs ++ ys) (drop_more n xs x l)
+    ∙ ap (λ ys. take n xs ++ ys) (drop_more xs n x l)
     ∙ ap (λ y. take n xs ++ y ∷ drop (n + 1) xs) (get_or_from_slice_get xs n x x (sym e))
     ∙ ap (λ ys. take n xs ++ x ∷ ys) (drop_all (n + 1) xs (omega arith))
 

@@ -20,3 +20,4 @@ mod Stepped
 mod Lasts
 mod Fitted
 mod Listed
+mod Packing

@@ -22,8 +22,9 @@ fn plain_at(alloc: Global, table: &Table, i: usize) -> Result<Plain, NoMemory>
         Node::Var(x) => Ok(Plain::Var(*x)),
         Node::App(f, arguments) => {
             let mut items = Vec::new(alloc);
-            for k in arguments.as_slice() {
-                let t = plain_at(alloc, table, *k)?;
+            for n in 0..arguments.len() {
+                let k = arguments.as_slice()[n];
+                let t = plain_at(alloc, table, k)?;
                 items.push(t)?;
             }
             Ok(Plain::App(*f, Args::from_vec(items)))

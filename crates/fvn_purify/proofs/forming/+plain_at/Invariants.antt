@@ -7,5 +7,5 @@ use Rattle.fvn_purify.proofs.forming.+plain_at.Given as goal
 abbrev pub decreases-plain_at : goal.decreases-plain_at
 decreases-plain_at l = l.i
 
-abbrev pub invariant-loop-k : goal.invariant-loop-k
-invariant-loop-k l = terms l.items.items ≡ pack (map (term_at l.table.nodes) (take l.k-index l.arguments))
+abbrev pub invariant-loop-n : goal.invariant-loop-n
+invariant-loop-n l = terms l.items.items ≡ pack (map (term_at l.table.nodes) (take l.n l.arguments))
