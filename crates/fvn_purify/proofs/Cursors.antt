@@ -72,9 +72,12 @@ module _ (d : Declarations) (c : Outline) (below : List Partial) (top : Partial)
     given_from = (
       any_right (Ahead given) below (top ∷ []) (any_here (Ahead given) top [] ((only given).1 refl)),
       λ split. (
-        λ h. (any_left (Ahead split) below (top ∷ []) h, λ e.
-            let r = any_contains (Ahead split) below h in
-            all_pairs_cross (AreApart d c) below (top ∷ []) kept.apart r.0 top r.1 (contains_here top []) split r.2 ((only split).1 e)),
+        λ h. (
+          any_left (Ahead split) below (top ∷ []) h,
+          λ e.
+              let r = any_contains (Ahead split) below h in
+              all_pairs_cross (AreApart d c) below (top ∷ []) kept.apart r.0 top r.1 (contains_here top []) split r.2 ((only split).1 e),
+        ),
         λ h. elim (any_append (Ahead split) below (top ∷ []) h.0) [
           | inl l ↦ l
           | inr r ↦ absurd (h.1 ((only split).0 (any_one (Ahead split) top r)))

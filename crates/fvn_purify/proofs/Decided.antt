@@ -32,7 +32,7 @@ module _ (d : Declarations) (c : Outline) (fit : AreStepped d c) where
   pub one_node : (i j : ℕ) (f g : OpId) (ks : List ℕ) → IsOver c.table.nodes i f ks → IsOver c.table.nodes j g ks → f ≡ g → i ≡ j
   one_node i j f g ks a b e =
       term_at-injective c.table.nodes fit.made.distinct i j (slice_get_within c.table.nodes i (App f ks) a) (slice_get_within c.table.nodes j (App g ks) b)
-          (term_at-over c.table.nodes fit.made.ordered i f ks a ∙ ap (λ o. app o (pack (map (term_at c.table.nodes) ks))) e ∙ sym (term_at-over c.table.nodes fit.made.ordered j g ks b))
+      (term_at-over c.table.nodes fit.made.ordered i f ks a ∙ ap (λ o. app o (pack (map (term_at c.table.nodes) ks))) e ∙ sym (term_at-over c.table.nodes fit.made.ordered j g ks b))
 
   -- one node is over one operator and one list
   pub one_operator : (i : ℕ) (f g : OpId) (ks ls : List ℕ) → IsOver c.table.nodes i f ks → IsOver c.table.nodes i g ls → (f ≡ g) × (ks ≡ ls)
@@ -60,6 +60,7 @@ module _ (d : Declarations) (c : Outline) (fit : AreStepped d c) where
   one_unit Undecided class partition i j e f a b same =
       let alike = (partition.nodes i j e f [] [] a.3 b.3).alike same in
       alike.one_head (unit_bare i e a) (unit_bare j f b)
+
   module _ (s : State) (closed : IsClosed d c.table s) where
     pub state_within : (i : ℕ) → i < nodes → i < length s.names
     state_within i h = let w = closed.whole in omega arith

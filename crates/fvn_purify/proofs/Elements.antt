@@ -99,8 +99,8 @@ module _ {A : Type 0} where
   all_pairs_append R [] ys h k f = k
   all_pairs_append R (x ∷ xs) ys h k f =
       AllPairs-cons R x (xs ++ ys)
-          (all_from (R x) (xs ++ ys) (λ y c. elim (Contains-append_cases xs ys y c) [ inl a ↦ AllPairs-first R x xs y h a | inr b ↦ f x y (contains_here x xs) b ]))
-          (all_pairs_append R xs ys (AllPairs-tail R x xs h) k (λ u v a b. f u v (contains_later x xs u a) b))
+      (all_from (R x) (xs ++ ys) (λ y c. elim (Contains-append_cases xs ys y c) [ inl a ↦ AllPairs-first R x xs y h a | inr b ↦ f x y (contains_here x xs) b ]))
+      (all_pairs_append R xs ys (AllPairs-tail R x xs h) k (λ u v a b. f u v (contains_later x xs u a) b))
 
   pub all_pairs_front : (R : A → A → Type 0) (xs ys : List A) → AllPairs R (xs ++ ys) → AllPairs R xs
   all_pairs_front R [] ys h = all_pairs_none R
@@ -119,8 +119,8 @@ module _ {A B : Type 0} where
   all_pairs_map S R f g [] h = all_pairs_none R
   all_pairs_map S R f g (x ∷ xs) h =
       AllPairs-cons R (f x) (map f xs)
-          (all_from (R (f x)) (map f xs) (λ y c. let m = map_contains f xs y c in subst (R (f x)) m.1.1 (g x m.0 (AllPairs-first S x xs m.0 h m.1.0))))
-          (all_pairs_map S R f g xs (AllPairs-tail S x xs h))
+      (all_from (R (f x)) (map f xs) (λ y c. let m = map_contains f xs y c in subst (R (f x)) m.1.1 (g x m.0 (AllPairs-first S x xs m.0 h m.1.0))))
+      (all_pairs_map S R f g xs (AllPairs-tail S x xs h))
 
   -- where two functions agree on a list, each element has one value
   pub map_same : (f g : A → B) (xs : List A) → map f xs ≡ map g xs → (x : A) → Contains xs x → f x ≡ g x

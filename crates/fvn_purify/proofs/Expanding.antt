@@ -192,7 +192,7 @@ module _ (d : Declarations) (c : Outline) (fit : AreStepped d c) where
             let on = goes_on l.heads split.heads (let n = h.split_by.all_heads in omega arith) h.heads_begin in
             let fits : AreHeads d c h.class c.places.headed (l.heads ++ on.0 ∷ []) = heads_front d c h.class c.places.headed (l.heads ++ on.0 ∷ []) split.heads on.1 h.split_by.heads in
             any_from (λ p. IsAheadOf d c p split) (map next options) (next on.0) (contains_map next options on.0 (are.all h.class h.partition h.admits on.0 fits))
-                (record { class = h.class; partition = h.partition; admits = h.admits; split_by = h.split_by; heads_begin = on.1; swaps_begin = h.swaps_begin })
+            (record { class = h.class; partition = h.partition; admits = h.admits; split_by = h.split_by; heads_begin = on.1; swaps_begin = h.swaps_begin })
 
         from : (split : Split) → (p : Partial) × Contains (map next options) p × IsAheadOf d c p split → IsAhead d c l.state l.heads l.swaps split
         from split h =
@@ -228,7 +228,7 @@ module _ (d : Declarations) (c : Outline) (fit : AreStepped d c) where
             let on = goes_on l.swaps split.swaps (let n = h.split_by.all_swaps in omega arith) h.swaps_begin in
             let fits : AreWays d c h.class c.places.pairs (l.swaps ++ on.0 ∷ []) = ways_front d c h.class c.places.pairs (l.swaps ++ on.0 ∷ []) split.swaps on.1 h.split_by.swaps in
             any_from (λ p. IsAheadOf d c p split) (map next options) (next on.0) (contains_map next options on.0 (are.all h.class h.partition h.admits on.0 fits))
-                (record { class = h.class; partition = h.partition; admits = h.admits; split_by = h.split_by; heads_begin = h.heads_begin; swaps_begin = on.1 })
+            (record { class = h.class; partition = h.partition; admits = h.admits; split_by = h.split_by; heads_begin = h.heads_begin; swaps_begin = on.1 })
 
         from : (split : Split) → (p : Partial) × Contains (map next options) p × IsAheadOf d c p split → IsAhead d c l.state l.heads l.swaps split
         from split h =

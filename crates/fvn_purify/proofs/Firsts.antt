@@ -28,7 +28,7 @@ first_within t ordered i x f ks is = All-head (λ k. k < length t.nodes) x ks (a
 pub ways_last : (c : Outline) (s : State) → ((x y : ℕ) → Contains c.places.parts x → Contains c.places.parts y → IsOpen s x y → ⊥) →
     ((x : ℕ) → Contains c.places.headed x → (p : OpId × ℕ) → Contains c.table.units p → IsOpen s x p.1 → ⊥) →
     (r : Option (ℕ × ℕ)) → MatchOption r ((p : ℕ × ℕ) (x y : ℕ) → Contains c.places.pairs p → class_of s p.0 ≡ class_of s p.1 → AreFirst c.table p x y → IsOpen s x y → ⊥)
-        (λ q. ((p : ℕ × ℕ) × Contains c.places.pairs p × (class_of s p.0 ≡ class_of s p.1) × AreFirst c.table p q.0 q.1) × IsOpen s q.0 q.1) → IsNextQuestion c s r
+    (λ q. ((p : ℕ × ℕ) × Contains c.places.pairs p × (class_of s p.0 ≡ class_of s p.1) × AreFirst c.table p q.0 q.1) × IsOpen s q.0 q.1) → IsNextQuestion c s r
 ways_last c s parts units (Some q) h = (inr (inr h.0), h.1)
 ways_last c s parts units None h = none
   where

@@ -89,9 +89,10 @@ module _ (d : Declarations) (c : Outline) (class : ℕ → ℕ) where
 
   -- the last of these heads
   pub last_head : (list : List ℕ) (heads : List Head) (i : ℕ) (h : Head) → AreHeads d c class list (heads ++ h ∷ []) → slice_get list (length heads) ≡ Some i → CanHead d c class i h × ((g : Head) → IsEarlier class list heads i g → h ≡ g)
-  last_head list heads i h are at =
-      (are.can (length heads) i h at (slice_get-middle heads [] h),
-      λ g k. are.one (length heads) k.0 i k.1 h g at k.2 (slice_get-middle heads [] h) (slice_get-left heads (h ∷ []) k.0 g k.3) (sym k.4))
+  last_head list heads i h are at = (
+    are.can (length heads) i h at (slice_get-middle heads [] h),
+    λ g k. are.one (length heads) k.0 i k.1 h g at k.2 (slice_get-middle heads [] h) (slice_get-left heads (h ∷ []) k.0 g k.3) (sym k.4),
+  )
 
   -- no heads
   pub no_heads : (list : List ℕ) → AreHeads d c class list []
@@ -150,8 +151,8 @@ module _ (d : Declarations) (c : Outline) (fit : AreStepped d c) where
   pub theories_once : AllPairs ◌≢◌ (Free ∷ map (head_of d) c.ops)
   theories_once =
       AllPairs-cons ◌≢◌ Free (map (head_of d) c.ops)
-          (all_from (λ h. Free ≢ h) (map (head_of d) c.ops) (λ h k. let m = map_contains (head_of d) c.ops h k in subst (λ g. Free ≢ g) m.1.1 (head_not_free d m.0 m.0 (own m.0 m.1.0))))
-          (pairs c.ops (λ f k. k) fit.are.ops.once)
+      (all_from (λ h. Free ≢ h) (map (head_of d) c.ops) (λ h k. let m = map_contains (head_of d) c.ops h k in subst (λ g. Free ≢ g) m.1.1 (head_not_free d m.0 m.0 (own m.0 m.1.0))))
+      (pairs c.ops (λ f k. k) fit.are.ops.once)
     where
       own : (f : OpId) → Contains c.ops f → axioms d f ≢ NoAxioms
       own f k = ((fit.are.ops.all f).0 k).0
@@ -160,8 +161,8 @@ module _ (d : Declarations) (c : Outline) (fit : AreStepped d c) where
       pairs [] within once = λ i j e a b. absurd (omega (arith, b))
       pairs (f ∷ ops) within once =
           AllPairs-cons ◌≢◌ (head_of d f) (map (head_of d) ops)
-              (all_from (λ h. head_of d f ≢ h) (map (head_of d) ops) (λ h k. let m = map_contains (head_of d) ops h k in subst (λ g. head_of d f ≢ g) m.1.1 (heads_apart d f m.0 (AllPairs-first ◌≢◌ f ops m.0 once m.1.0) (own f (within f (contains_here f ops))) (own m.0 (within m.0 (contains_later f ops m.0 m.1.0))))))
-              (pairs ops (λ g k. within g (contains_later f ops g k)) (AllPairs-tail ◌≢◌ f ops once))
+          (all_from (λ h. head_of d f ≢ h) (map (head_of d) ops) (λ h k. let m = map_contains (head_of d) ops h k in subst (λ g. head_of d f ≢ g) m.1.1 (heads_apart d f m.0 (AllPairs-first ◌≢◌ f ops m.0 once m.1.0) (own f (within f (contains_here f ops))) (own m.0 (within m.0 (contains_later f ops m.0 m.1.0))))))
+          (pairs ops (λ g k. within g (contains_later f ops g k)) (AllPairs-tail ◌≢◌ f ops once))
 
   module _ (s : State) (closed : IsClosed d c.table s) (none : IsDecided c s) (heads : List Head) (are : AreHeads d c (class_of s) c.places.headed heads) (i : ℕ) (at : slice_get c.places.headed (length heads) ≡ Some i) where
     here : Contains c.places.headed i
@@ -193,18 +194,20 @@ module _ (d : Declarations) (c : Outline) (fit : AreStepped d c) where
 
     -- what is forced fits
     forced_can : (h : Head) → Forces d c (class_of s) heads i h → CanHead d c (class_of s) i h × ((g : Head) → IsEarlier (class_of s) c.places.headed heads i g → h ≡ g)
-    forced_can h (by_earlier k) =
-        (can_same d c (class_of s) k.1 i h k.4 (are.can k.0 k.1 h k.2 k.3),
-        λ g l. are.one k.0 l.0 k.1 l.1 h g k.2 l.2 k.3 l.3 (k.4 ∙ sym l.4))
+    forced_can h (by_earlier k) = (
+      can_same d c (class_of s) k.1 i h k.4 (are.can k.0 k.1 h k.2 k.3),
+      λ g l. are.one k.0 l.0 k.1 l.1 h g k.2 l.2 k.3 l.3 (k.4 ∙ sym l.4),
+    )
     forced_can h (by_unit e is earlier u) = (subst (CanHead d c (class_of s) i) (sym is) (unit_in e u), λ g l. absurd (earlier g l))
     forced_can h (by_solid j earlier unit k) =
-        let f = k.0 in
-        (subst (CanHead d c (class_of s) i) (sym k.5) (theory_can d c (class_of s) i f (record {
-          no_unit = λ e u. unit e (unit_within e u);
-          theory = node_theory j f k.1 k.2;
-          solid = λ n g ls is bare same. ap (head_of d) (one_solid _ (class_of s) closed.partition j n f g k.1 ls k.2 is k.3 bare (k.4 ∙ sym same));
-        })),
-        λ g l. absurd (earlier g l))
+        let f = k.0 in (
+          subst (CanHead d c (class_of s) i) (sym k.5) (theory_can d c (class_of s) i f (record {
+            no_unit = λ e u. unit e (unit_within e u);
+            theory = node_theory j f k.1 k.2;
+            solid = λ n g ls is bare same. ap (head_of d) (one_solid _ (class_of s) closed.partition j n f g k.1 ls k.2 is k.3 bare (k.4 ∙ sym same));
+          })),
+          λ g l. absurd (earlier g l),
+        )
 
     unforced_can : IsUnforced d c (class_of s) heads i → (h : Head) → IsTheory d c.ops h → HasTheory d c (class_of s) i h
     unforced_can free h theory = record {

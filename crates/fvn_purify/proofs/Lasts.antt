@@ -42,7 +42,7 @@ module _ (d : Declarations) (c : Outline) (before below : List Partial) (top : P
     pub last_falls : cursor_weight (cursor d c after) < cursor_weight (cursor d c before)
     last_falls =
         subst (λ l. cursor_weight (cursor d c l) < cursor_weight (cursor d c before)) (sym now)
-            (subst (λ l. cursor_weight (cursor d c (below ++ parts)) < cursor_weight (cursor d c l)) (sym is) (more_falls d c below top kept_top parts expansion))
+        (subst (λ l. cursor_weight (cursor d c (below ++ parts)) < cursor_weight (cursor d c l)) (sym is) (more_falls d c below top kept_top parts expansion))
 
   module _ (given : Split) (only : (split : Split) → IsAheadOf d c top split ↔ (split ≡ given)) (after : List Partial) (now : after ≡ below) where
     pub whole_kept : IsKept (cursor d c after)

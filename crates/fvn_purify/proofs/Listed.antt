@@ -124,11 +124,11 @@ module _ (d : Declarations) (t : NodeTable) where
     operator_next f own new = each_more Before After list f each (λ h. new ((each.all f).1 h)) later (i, omega arith, own) (λ g h. elim (cases_lt h.0 i) [
       | inl l ↦ inl (h.0, l, h.2)
       | inr m ↦ inr (
-        let l = h.1 in
-        let e : h.0 ≡ i = omega arith in
-        let there = subst (λ k. HeadsWithAxioms d t k g) e h.2 in
-        let same : Some (App f own.1.0) ≡ Some (App g there.1.0) = sym own.1.1 ∙ there.1.1 in
-        cc)
+          let l = h.1 in
+          let e : h.0 ≡ i = omega arith in
+          let there = subst (λ k. HeadsWithAxioms d t k g) e h.2 in
+          let same : Some (App f own.1.0) ≡ Some (App g there.1.0) = sym own.1.1 ∙ there.1.1 in
+          cc)
     ])
 
   pub operators_done : (list : List OpId) (n : ℕ) → length t.nodes ≤ n → IsEach (λ (f : OpId). (k : ℕ) × (k < n) × HeadsWithAxioms d t k f) list → IsEach (HasAxioms d t) list

@@ -110,14 +110,13 @@ module _ (d : Declarations) (s : Substitution) (nodes : List Node) where
   values_settled [] = tt
   values_settled (k ∷ ks) = (canon_settled d (apply s (term_at nodes k)), values_settled ks)
 
-
 -- the value of a node whose operator has no identity is headed by it
 pub value_headed : (d : Declarations) → FitsKinds d → (problem : Problem) → IsProblem d problem → (t : NodeTable) → IsWellMade t → IsTableOf d problem t → (s : Substitution) → (i : ℕ) (f : OpId) (ks : List ℕ) → IsOver t.nodes i f ks → HasNoIdentity (axioms d f) → operator_of (value_at d s t.nodes i) ≡ Some f
 value_headed d fits problem is_problem t made table s i f ks is bare =
     ap operator_of (value_over d s t.nodes made.ordered i f ks is) ∙ build_head d f bare (map (value_at d s t.nodes) ks) (values_settled d s t.nodes ks) (λ assoc.
-        let kinded = node_kinded d fits problem is_problem t table i (slice_get_within t.nodes i (App f ks) is) in
-        let two = two_arguments d fits f (map (term_at t.nodes) ks) (subst (IsTerm d) (term_at-over t.nodes made.ordered i f ks is) kinded) assoc in
-        length-map ks (value_at d s t.nodes) ∙ sym (length-map ks (term_at t.nodes)) ∙ two)
+    let kinded = node_kinded d fits problem is_problem t table i (slice_get_within t.nodes i (App f ks) is) in
+    let two = two_arguments d fits f (map (term_at t.nodes) ks) (subst (IsTerm d) (term_at-over t.nodes made.ordered i f ks is) kinded) assoc in
+    length-map ks (value_at d s t.nodes) ∙ sym (length-map ks (term_at t.nodes)) ∙ two)
 
 -- the value of a constant is that
 pub value_constant : (d : Declarations) (s : Substitution) (t : NodeTable) → IsWellMade t → (i : ℕ) (e : OpId) → IsOver t.nodes i e [] → value_at d s t.nodes i ≡ fconstant e

@@ -22,13 +22,13 @@ module _ (d : Declarations) (c : Outline) (fit : AreStepped d c) (l : Leaf) (lea
       let at : slice_get c.places.headed (length l.heads) ≡ Some i = slice_get-get_or c.places.headed (length l.heads) 0 more in
       let here : IsHeadOptions d c (class_of l.state) l.heads i options =
       subst (λ m. IsHeadOptions d c (class_of l.state) l.heads (get_or c.places.headed m 0) options) count
-          (subst (λ ns. IsHeadOptions d c (class_of l.state) l.heads (get_or ns n 0) options) same (subst (λ hs. IsHeadOptions d c (class_of l.state) hs (get_or nodes n 0) options) these are))
+      (subst (λ ns. IsHeadOptions d c (class_of l.state) l.heads (get_or ns n 0) options) same (subst (λ hs. IsHeadOptions d c (class_of l.state) hs (get_or nodes n 0) options) these are))
       in
       subst (IsExpansion d c (Choosing l)) (sym (is ∙ ap (map (λ h. chosen l.state (l.heads ++ h ∷ []) l.swaps)) from))
-          (heads_expand d c fit l leaf options (head_options d c fit l.state leaf.closed leaf.decided l.heads leaf.heads i at options here) more (few_options d c fit l.state leaf.closed leaf.decided l.heads leaf.heads i at options here))
+      (heads_expand d c fit l leaf options (head_options d c fit l.state leaf.closed leaf.decided l.heads leaf.heads i at options here) more (few_options d c fit l.state leaf.closed leaf.decided l.heads leaf.heads i at options here))
 
   pub way_step : (p : ℕ × ℕ) → slice_get c.places.pairs (length l.swaps) ≡ Some p → (options given : List Bool) → IsWayOptions c (class_of l.state) p options → given ≡ options →
       (list : List Partial) → list ≡ map (λ w. chosen l.state l.heads (l.swaps ++ w ∷ [])) given → length l.swaps < length c.places.pairs → IsExpansion d c (Choosing l) list
   way_step p at options given are from list is more =
       subst (IsExpansion d c (Choosing l)) (sym (is ∙ ap (map (λ w. chosen l.state l.heads (l.swaps ++ w ∷ []))) from))
-          (ways_expand d c fit l leaf options (way_options d c fit l.state leaf.closed leaf.decided l.swaps leaf.swaps p at options are) more (few_ways d c fit l.state leaf.closed leaf.decided l.swaps leaf.swaps p at options are))
+      (ways_expand d c fit l leaf options (way_options d c fit l.state leaf.closed leaf.decided l.swaps leaf.swaps p at options are) more (few_ways d c fit l.state leaf.closed leaf.decided l.swaps leaf.swaps p at options are))

@@ -65,4 +65,4 @@ IsSplit d c split = (class : ℕ → ℕ) × IsNodePartition d c.table class × 
 abbrev pub HasOneFree : Declarations → Outline → Split → Type 0
 HasOneFree d c split =
     (k l i j n : ℕ) (f g : OpId) (ks ls : List ℕ) → slice_get c.places.parts k ≡ Some i → slice_get c.places.parts l ≡ Some j → slice_get split.class_of k ≡ Some n → slice_get split.class_of l ≡ Some n →
-        IsOver c.table.nodes i f ks → IsOver c.table.nodes j g ls → axioms d f ≡ NoAxioms → axioms d g ≡ NoAxioms → f ≡ g
+    IsOver c.table.nodes i f ks → IsOver c.table.nodes j g ls → axioms d f ≡ NoAxioms → axioms d g ≡ NoAxioms → f ≡ g

@@ -38,13 +38,7 @@ fn constant_at(table: &Table, j: usize) -> Option<OpId>
 {
     match table.node(j) {
         Node::Var(_) => None,
-        Node::App(e, arguments) => {
-            if arguments.is_empty() {
-                Some(*e)
-            } else {
-                None
-            }
-        }
+        Node::App(e, arguments) => { if arguments.is_empty() { Some(*e) } else { None } }
     }
 }
 

@@ -11,7 +11,7 @@ use fvn_base::Seq;
 use fvn_flat::Pairs;
 use fvn_nodes::{Table, table_of};
 use fvn_sorts::Signature;
-use fvn_terms::{NoMemory};
+use fvn_terms::NoMemory;
 use std::alloc::Global;
 
 // The numbers of both lists.

@@ -60,11 +60,7 @@ fn open_unit(state: &State, x: usize, units: &[(OpId, usize)]) -> Option<usize>
 }
 
 // A part with a head and an identity that are open.
-fn open_units(
-    state: &State,
-    headed: &[usize],
-    units: &[(OpId, usize)],
-) -> Option<(usize, usize)>
+fn open_units(state: &State, headed: &[usize], units: &[(OpId, usize)]) -> Option<(usize, usize)>
     requires naming { IsNaming state.now }
     requires within { All (λ x. x < length state.now.names) headed.now }
     requires all { All (λ p. p.1 < length state.now.names) units.now }
@@ -147,9 +143,9 @@ fn open_ways(table: &Table, state: &State, pairs: &[(usize, usize)]) -> Option<(
     requires all { All (λ p. (p.0 < length table.now.nodes) × (p.1 < length table.now.nodes)) pairs.now }
     ensures { MatchOption result
         ((p : ℕ × ℕ) (x y : ℕ) → Contains pairs.now p → class_of state.now p.0 ≡ class_of state.now p.1
-            → AreFirst table.now p x y → IsOpen state.now x y → ⊥)
+        → AreFirst table.now p x y → IsOpen state.now x y → ⊥)
         (λ q. ((p : ℕ × ℕ) × Contains pairs.now p × (class_of state.now p.0 ≡ class_of state.now p.1)
-            × AreFirst table.now p q.0 q.1) × IsOpen state.now q.0 q.1) }
+        × AreFirst table.now p q.0 q.1) × IsOpen state.now q.0 q.1) }
 {
     for (i, j) in pairs {
         match open_first(table, state, *i, *j) {
@@ -171,7 +167,11 @@ pub(crate) fn question(classes: &Classes, state: &State) -> Option<(usize, usize
     classes.table.recall_well_made();
     match open_parts(state, classes.places.parts.as_slice()) {
         Some(found) => Some(found),
-        None => match open_units(state, classes.places.headed.as_slice(), classes.table.units()) {
+        None => match open_units(
+            state,
+            classes.places.headed.as_slice(),
+            classes.table.units(),
+        ) {
             Some(found) => Some(found),
             None => open_ways(&classes.table, state, classes.places.pairs.as_slice()),
         },

@@ -94,13 +94,7 @@ fn standing(table: &Table, i: usize) -> Option<OpId>
 }
 
 // Whether node i stands under node j, of another theory than this one.
-fn stands_outside_at(
-    sig: &Signature,
-    table: &Table,
-    i: usize,
-    own: Option<OpId>,
-    j: usize,
-) -> bool
+fn stands_outside_at(sig: &Signature, table: &Table, i: usize, own: Option<OpId>, j: usize) -> bool
     requires { j < length table.now.nodes }
     ensures { IsTrue result ↔ StandsOutsideAt sig.now table.now i own j }
 {

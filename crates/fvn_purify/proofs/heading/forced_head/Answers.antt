@@ -17,5 +17,5 @@ returns-in-Some-unit_in c =
 pub returns-in-None-unit_in : goal.returns-in-None-unit_in
 returns-in-None-unit_in c =
     solid_last c.args.sig.now (outline c.args.classes.now) (class_of c.args.state.now) c.args.heads.now c.args.i
-        (subst (λ l. (h : Head) → IsEarlier (class_of c.args.state.now) l c.args.heads.now c.args.i h → ⊥) c.as_slice.ensures c.in-None.ensures)
-        c.in-None-unit_in.ensures c.solid_in.result c.solid_in.ensures
+    (subst (λ l. (h : Head) → IsEarlier (class_of c.args.state.now) l c.args.heads.now c.args.i h → ⊥) c.as_slice.ensures c.in-None.ensures)
+    c.in-None-unit_in.ensures c.solid_in.result c.solid_in.ensures
