@@ -24,7 +24,7 @@ use Rattle.fvn_naming.specs.Order.{with_all}
 
 -- Sameness of declarations.
 
--- both hold, or none does
+-- whether both hold or neither does
 abbrev pub alike : Bool → Bool → Bool
 alike true b = b
 alike false true = false

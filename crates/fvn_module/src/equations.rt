@@ -104,7 +104,8 @@ fn read_right(
     requires terms { AreTerms sides.now }
     requires left { IsRead scope.now [] sides.now.left left }
     ensures ok { IfOk result (IsEquationOf scope.now sides.now) }
-    ensures err { IfErr result (λ fault. (fault ≡ OutOfMemory) ⊎ HasFault scope.now k sides.now fault) }
+    ensures err { IfErr result (λ fault.
+        (fault ≡ OutOfMemory) ⊎ HasFault scope.now k sides.now fault) }
 {
     let Side { read, texts, count } = left;
     match read_side(alloc, scope, sides.number, texts, sides.right.pieces()) {
@@ -122,7 +123,8 @@ fn read_equation(
 ) -> Result<Equation, ModuleFault>
     requires { AreTerms sides.now }
     ensures ok { IfOk result (IsEquationOf scope.now sides.now) }
-    ensures err { IfErr result (λ fault. (fault ≡ OutOfMemory) ⊎ HasFault scope.now k sides.now fault) }
+    ensures err { IfErr result (λ fault.
+        (fault ≡ OutOfMemory) ⊎ HasFault scope.now k sides.now fault) }
 {
     let number = sides.number;
     match read_side(alloc, scope, number, Texts::new(alloc), sides.left.pieces()) {
@@ -139,7 +141,8 @@ fn read_all(
 ) -> Result<Seq<Equation>, ModuleFault>
     requires { All AreTerms list.now }
     ensures ok { IfOk result (AreEquationsOf scope.now list.now) }
-    ensures err { IfErr result (λ fault. (fault ≡ OutOfMemory) ⊎ IsFirstFaultOf scope.now list.now fault) }
+    ensures err { IfErr result (λ fault.
+        (fault ≡ OutOfMemory) ⊎ IsFirstFaultOf scope.now list.now fault) }
 {
     let mut equations = Vec::new(alloc);
     for (i, sides) in list.iter().enumerate() {

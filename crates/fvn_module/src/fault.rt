@@ -31,9 +31,9 @@ pub enum ModuleFault {
     Header,
     #[error("statement {0} is of no form, or no dot follows it")]
     Statement(usize),
-    #[error("statement {0} has a name that is not declared, or sorts of two kinds in one bracket")]
+    #[error("statement {0} names what is not declared (for `ditto`: before it), or has sorts of two kinds in one bracket")]
     UnknownName(usize),
-    #[error("statement {0} declares a name that is declared otherwise before it")]
+    #[error("statement {0} declares a name that is declared otherwise before it, or a constant whose name reads as a variable")]
     Twice(usize),
     #[error("in statement {0} an operator has another number of arguments than declared")]
     Arity(usize),

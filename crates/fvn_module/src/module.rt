@@ -30,7 +30,8 @@ impl Model for Module {
 
     ghost use Rattle.fvn_module.specs.Readable.{IsReadable};
 
-    ghost invariant = { λ m. IsReadable (record { signature = m.signature; names = m.names; equations = m.equations }) };
+    ghost invariant = { λ m. IsReadable
+        (record { signature = m.signature; names = m.names; equations = m.equations }) };
 }
 
 impl Module {

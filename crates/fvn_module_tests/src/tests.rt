@@ -1,4 +1,6 @@
 //! Modules and their first faults.
+mod queries;
+
 use fvn_lex::LexFault;
 use fvn_module::{ModuleFault, Place, read_module};
 use fvn_sorts::SigFault;

@@ -28,7 +28,7 @@ is_none (Some a) = false
 abbrev pub is_missing : List Text → Text → Bool
 is_missing texts w = is_none (place texts w)
 
--- the sort is there, and another one
+-- both sorts are there, and they are not the same
 abbrev pub is_other : Option SortId → Option SortId → Bool
 is_other (Some s) (Some q) = not (same_sort s q)
 is_other s q = false
@@ -90,7 +90,8 @@ module _ (sorts ops : List Text) (kinds : List SortId) where
       list_any (is_declared_otherwise constants xs (resolve_sort sorts kinds sort)) names
   declares_twice_after constants xs (statement.Equation label left right marks) = false
 
-  -- the statement behind these names something that is not declared
+  -- the statement names a sort or an operator that no statement declares, or has `ditto` for a name that none of those
+  -- before it declares
   abbrev pub names_unknown : List Statement → Statement → Bool
   names_unknown before st = names_unknown_after (operators_of before) st
 
@@ -104,7 +105,7 @@ module _ (sorts ops : List Text) (kinds : List SortId) where
   AreNamed before (st ∷ sts) =
       (names_unknown before st ≡ false) × (declares_twice before st ≡ false) × AreNamed (before ++ (st ∷ [])) sts
 
--- no statement names what is not declared, or declares a name twice
+-- no statement names what is not declared, or declares anew a name that is declared otherwise before it
 abbrev pub HasNames : List Statement → Type 0
 HasNames sts = AreNamed (sorts_of sts) (operators_of sts) (kinds_in sts) [] sts
 

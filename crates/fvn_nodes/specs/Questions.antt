@@ -37,7 +37,8 @@ module _ (d : Declarations) (t : NodeTable) where
     pub same : IsAnswer s (λ class. class i ≡ class j) a.same
     pub apart : IsAnswer s (λ class. class i ≢ class j) a.apart
 
-  -- the two are the first arguments of commutative nodes of one class that meet neither way, and it is open whether they are in one class
+  -- The two are the first arguments of two commutative nodes of one class, whose arguments are not yet together, neither
+  -- in order nor crosswise; and it is open whether the two are in one class.
   pub record IsSwap (s : State) (p : ℕ × ℕ) : Type 0 where
     pub left : ℕ
     pub right : ℕ

@@ -87,7 +87,8 @@ impl Closing {
         is_kept_apart(self.names.as_slice(), self.apart.as_slice(), i, j)
     }
 
-    // Puts two nodes into one class.
+    /// Puts two nodes into one class: all that are named like either are named like the one with the lower name from
+    /// then on. It takes time linear in the number of nodes.
     pub fn join(&mut self, i: usize, j: usize) -> Move
         requires naming { IsNaming (state_of self.old) }
         requires left { i < length self.old.names.items }

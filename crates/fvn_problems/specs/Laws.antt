@@ -11,7 +11,7 @@ use Rattle.fvn_problems.specs.declared.fault.ProblemFault.{ProblemFault}
 use Rattle.fvn_problems.specs.declared.problem.Problem.{Problem}
 use Rattle.fvn_problems.specs.declared.query.Query.{Query}
 use Rattle.fvn_problems.specs.Faults.{AreOneFault}
-use Rattle.fvn_problems.specs.Queries.{IsQuery, RefusesQuery}
+use Rattle.fvn_problems.specs.Queries.{IsQuery, RefusesQuery, HasNoQuery}
 use Rattle.fvn_problems.specs.Problems.{IsProblem, RefusesProblem, HasNoProblem}
 use Rattle.fvn_problems.specs.declared.bindings.Bindings.{Bindings}
 use Rattle.fvn_problems.specs.Bindings.{IsBindings, RefusesBindings, HasNoBindings}
@@ -70,6 +70,12 @@ ProblemNamesAreWords =
     (d : Declarations) (names : Names) (bytes : Text) (p : Problem) →
     IsProblem d names bytes p → All IsVariableText p.names.texts
 
+-- A text asks one term at most.
+abbrev pub QueriesAreDetermined : Type 0
+QueriesAreDetermined =
+    (d : Declarations) (names : Names) (bytes : Text) (q r : Query) →
+    IsQuery d names bytes q → IsQuery d names bytes r → q ≡ r
+
 -- A text asks one problem at most.
 abbrev pub ProblemsAreDetermined : Type 0
 ProblemsAreDetermined =
@@ -81,6 +87,12 @@ abbrev pub BindingsAreDetermined : Type 0
 BindingsAreDetermined =
     (d : Declarations) (names : Names) (text : Text) (p : Problem) → IsProblem d names text p →
     (bytes : Text) (b c : Bindings) → IsBindings d names p bytes b → IsBindings d names p bytes c → b ≡ c
+
+-- But for want of memory, a text with a fault as a term text asks nothing.
+abbrev pub RefusedQueriesAskNothing : Type 0
+RefusedQueriesAskNothing =
+    (d : Declarations) (names : Names) (bytes : Text) (f : ProblemFault) →
+    RefusesQuery d names bytes f → HasNoQuery d names bytes f
 
 -- But for want of memory, a text with a fault as a problem asks nothing.
 abbrev pub RefusedProblemsAskNothing : Type 0

@@ -63,8 +63,10 @@ fn read_binding(
 ) -> Result<((Var, Plain), Seen), ProblemFault>
     requires names { AreNamesOf signature.now names.now }
     requires terms { AreTerms halves.now }
-    ensures ok { IfOk result (ReadsBinding (unguarded signature.now names.now) problem.now texts halves.now) }
-    ensures err { IfErr result (RefusesBinding (unguarded signature.now names.now) problem.now texts halves.now) }
+    ensures ok { IfOk result
+        (ReadsBinding (unguarded signature.now names.now) problem.now texts halves.now) }
+    ensures err { IfErr result
+        (RefusesBinding (unguarded signature.now names.now) problem.now texts halves.now) }
 {
     let Some(x) = find_written(alloc, signature, names, problem, halves.left.pieces())? else {
         return Err(ProblemFault::UnknownName);
@@ -97,7 +99,8 @@ fn bind(
     requires names { AreNamesOf signature.now names.now }
     requires terms { All AreTerms list.now }
     ensures ok { IfOk result (Binds (unguarded signature.now names.now) problem.now list.now) }
-    ensures err { IfErr result (BindsNothing (unguarded signature.now names.now) problem.now list.now) }
+    ensures err { IfErr result
+        (BindsNothing (unguarded signature.now names.now) problem.now list.now) }
 {
     let mut pairs = Vec::new(alloc);
     let mut texts = copy_texts(alloc, &problem.names.texts)?;

@@ -9,8 +9,10 @@ ghost use Rattle.fvn_problems.specs.Laws.{
   BindingFaultsAreDetermined,
   QueryNamesAreWords,
   ProblemNamesAreWords,
+  QueriesAreDetermined,
   ProblemsAreDetermined,
   BindingsAreDetermined,
+  RefusedQueriesAskNothing,
   RefusedProblemsAskNothing,
   RefusedBindingsBindNothing,
 };
@@ -68,6 +70,11 @@ pub fn problem_names_are_words()
     pieces_stand_alone();
 }
 
+/// A text asks one term at most.
+pub fn queries_are_determined()
+    ensures { QueriesAreDetermined }
+{}
+
 /// A text asks one problem at most.
 pub fn problems_are_determined()
     ensures { ProblemsAreDetermined }
@@ -76,6 +83,11 @@ pub fn problems_are_determined()
 /// A text binds one thing at most in a problem that a text asks.
 pub fn bindings_are_determined()
     ensures { BindingsAreDetermined }
+{}
+
+/// But for want of memory, a text with a fault as a term text asks nothing.
+pub fn refused_queries_ask_nothing()
+    ensures { RefusedQueriesAskNothing }
 {}
 
 /// But for want of memory, a text with a fault as a problem asks nothing.

@@ -102,7 +102,8 @@ fn or_first(sort: Option<SortId>) -> SortId
 
 // The sort of the declared variable of a name.
 fn declared_sort(names: &Names, name: &[u8]) -> Option<SortId>
-    ensures { result ≡ declared_sort names.now.variables.sorts (place names.now.variables.texts name.now) }
+    ensures { result ≡
+        declared_sort names.now.variables.sorts (place names.now.variables.texts name.now) }
 {
     let i = names.variables.texts.place(name)?;
     names.variables.sorts.as_slice().get(i).copied()
@@ -239,7 +240,8 @@ fn walk_argument<'a>(
     whole: Sorted,
     piece: &Piece<'a>,
 ) -> Result<Walk<'a>, NoMemory>
-    ensures { IfOk result (λ next. view next ≡ behind signature.now whole piece.now (Frame.Call f args ∷ reverse frames.items)) }
+    ensures { IfOk result (λ next. view next ≡
+        behind signature.now whole piece.now (Frame.Call f args ∷ reverse frames.items)) }
 {
     let mut args = args.into_vec();
     args.push(whole)?;
@@ -258,7 +260,8 @@ fn walk_behind<'a>(
     whole: Sorted,
     piece: &Piece<'a>,
 ) -> Result<Walk<'a>, NoMemory>
-    ensures { IfOk result (λ next. view next ≡ behind signature.now whole piece.now (reverse frames.items)) }
+    ensures { IfOk result (λ next.
+        view next ≡ behind signature.now whole piece.now (reverse frames.items)) }
 {
     match frames.pop() {
         None => Ok(walk_at(frames, Spot::Whole(whole))),
@@ -310,7 +313,8 @@ fn walk_named<'a>(
     name: &'a [u8],
     piece: &Piece<'a>,
 ) -> Result<Walk<'a>, NoMemory>
-    ensures { IfOk result (λ next. view next ≡ step_at signature.now scope.now.names (reverse frames.items) piece.now (Spot.Named name.now)) }
+    ensures { IfOk result (λ next. view next ≡
+        step_at signature.now scope.now.names (reverse frames.items) piece.now (Spot.Named name.now)) }
 {
     if piece.is_special(b"(") {
         return open(frames, Frame::Call(operator(scope, name), Seq::new(alloc)));
@@ -330,7 +334,8 @@ fn walk_bracket<'a>(
     first: Option<SortId>,
     piece: &Piece<'a>,
 ) -> Walk<'a>
-    ensures { view result ≡ step_at signature.now scope.now.names (reverse frames.items) piece.now (Spot.Bracket first) }
+    ensures { view result ≡
+        step_at signature.now scope.now.names (reverse frames.items) piece.now (Spot.Bracket first) }
 {
     if piece.is_special(b"]") {
         return walk_at(frames, Spot::Whole(of_sort(or_first(first))));
@@ -351,7 +356,8 @@ impl<'a> Walk<'a> {
         scope: &Scope<'_>,
         piece: &Piece<'a>,
     ) -> Result<Walk<'a>, NoMemory>
-        ensures { IfOk result (λ next. view next ≡ step signature.now scope.now.names (view self.entry) piece.now) }
+        ensures { IfOk result (λ next.
+            view next ≡ step signature.now scope.now.names (view self.entry) piece.now) }
     {
         let Walk { frames, spot } = self;
         match spot {

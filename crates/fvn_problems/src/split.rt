@@ -77,8 +77,10 @@ fn split_pairs<'a>(
     row: &'a [Piece<'a>],
 ) -> Result<Option<(Seq<Halves<'a>>, Row<'a>)>, NoMemory>
     requires { IsBetween separator.now }
-    ensures some { IfOk result (λ r. IfSome r (λ x. ArePairsSplit between.now separator.now row.now x.0 x.1)) }
-    ensures none { IfOk result (λ r. IfNone r (BeginsWithNoPairs between.now separator.now row.now)) }
+    ensures some { IfOk result (λ r.
+        IfSome r (λ x. ArePairsSplit between.now separator.now row.now x.0 x.1)) }
+    ensures none { IfOk result (λ r.
+        IfNone r (BeginsWithNoPairs between.now separator.now row.now)) }
 {
     let Some((pair, after)) = split_pair(alloc, between, row)? else {
         return Ok(None);

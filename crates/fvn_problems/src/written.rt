@@ -129,7 +129,8 @@ fn add_written(
 ) -> Result<bool, NoMemory>
     requires names { AreNamesOf signature.now names.now }
     requires term { IsTermBefore [] row.now }
-    ensures { IfOk result (λ fresh. Adds (unguarded signature.now names.now) keys.old row.now fresh keys.new) }
+    ensures { IfOk result (λ fresh.
+        Adds (unguarded signature.now names.now) keys.old row.now fresh keys.new) }
 {
     match read_variable(alloc, signature, names, row)? {
         None => Ok(true),

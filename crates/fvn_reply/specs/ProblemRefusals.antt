@@ -16,6 +16,6 @@ problem_number ReservedName = Some 7
 problem_number WrongSort = Some 8
 problem_number NoMemory = None
 
--- The text of a refusal, without its end. Want of memory refuses nothing, and has none.
+-- The text of a refusal, without a line end. Want of memory refuses nothing, and has none.
 abbrev pub problem_text : ProblemFault → Option (List ℕ)
 problem_text fault = option_map (λ k. codes "problem " ++ decimal k) (problem_number fault)

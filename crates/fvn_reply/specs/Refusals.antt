@@ -87,7 +87,7 @@ spaced (text ∷ texts) = (32 ∷ text) ++ spaced texts
 abbrev pub signature_text : Names → List SortId → SigFault → Option (List ℕ)
 signature_text names tops fault = option_map (λ k. (codes "module 9." ++ decimal k) ++ spaced (told names tops fault)) (number fault)
 
--- The text of a refusal, without its end. Statements are numbered from 1, and so are equations among equations. Want
+-- The text of a refusal, without a line end. Statements are numbered from 1, and so are equations among equations. Want
 -- of memory refuses no module, and has none.
 abbrev pub refusal_text : ModuleFault → Option (List ℕ)
 refusal_text (Lex fault) = option_map (λ n. codes "module 1 byte " ++ decimal n) (offset fault)

@@ -3,7 +3,7 @@ use Rattle.std.specs.Prelude.{ℕ, ◌-◌, List, ◌++◌, length, codes, decim
 use Rattle.fvn_terms.specs.declared.declarations.Declarations.{Declarations}
 use Rattle.fvn_module.specs.Contents.{Contents}
 
--- how many kinds there are; they are numbered after the declared sorts
+-- how many kinds there are: `kinds` names the kind of each declared sort, and then of each kind itself
 abbrev pub kind_count : Declarations → ℕ
 kind_count d = length d.kinds - d.sorts
 

@@ -27,7 +27,7 @@ fn problem_number(fault: ProblemFault) -> Option<usize>
     }
 }
 
-/// The text of the refusal of a problem, a term text or a binding text, without its end.
+/// The text of the refusal of a problem, a term text or a binding text, without a line end.
 pub fn problem_text(alloc: Global, fault: ProblemFault) -> Result<Vec<u8>, NoMemory>
     ensures { IfOk result (λ text. problem_text fault ≡ Some text.items) }
 {

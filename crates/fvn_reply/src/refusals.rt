@@ -68,7 +68,7 @@ fn signature_text(
     Ok(text)
 }
 
-/// The text of a module's refusal, without its end.
+/// The text of a module's refusal, without a line end.
 pub fn refusal_text(alloc: Global, fault: &ModuleFault) -> Result<Vec<u8>, NoMemory>
     ensures { IfOk result (λ text. refusal_text fault.now ≡ Some text.items) }
 {

@@ -15,7 +15,7 @@ fn push_count(text: &mut Vec<u8>, head: &[u8], n: usize) -> Result<(), NoMemory>
     push_number(text, n)
 }
 
-/// The text that says how much a module declares, without its end.
+/// The text that says how much a module declares, without a line end.
 pub fn summary_text(alloc: Global, declared: &Module) -> Result<Vec<u8>, NoMemory>
     ensures { IfOk result (λ text. text.items ≡ summary_text declared.now) }
 {

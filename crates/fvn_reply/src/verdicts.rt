@@ -8,7 +8,7 @@ use fvn_base::limits::TERM_SYMBOLS;
 use fvn_verify::Verdict;
 use std::alloc::Global;
 
-/// The text of a verdict, without its end.
+/// The text of a verdict, without a line end.
 pub fn verdict_text(alloc: Global, verdict: &Verdict) -> Result<Vec<u8>, NoMemory>
     ensures { IfOk result (λ text. text.items ≡ verdict_text verdict.now) }
 {
@@ -19,7 +19,7 @@ pub fn verdict_text(alloc: Global, verdict: &Verdict) -> Result<Vec<u8>, NoMemor
     }
 }
 
-/// The text that leaves the equation of this statement for later, without its end.
+/// The text that leaves the equation of this statement for later, without a line end.
 pub fn later_text(alloc: Global, statement: usize) -> Result<Vec<u8>, NoMemory>
     ensures { IfOk result (λ text. text.items ≡ later_text statement) }
 {

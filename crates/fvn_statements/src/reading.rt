@@ -205,7 +205,8 @@ fn read_behind<'a>(
     }
 }
 
-// What the tokens of a statement are.
+/// What the tokens of a statement, without its dot, are: a statement that is read, a form that is left out, or no form.
+/// The texts are borrowed from the tokens; it takes time linear in them.
 pub fn read_statement<'a>(
     alloc: Global,
     row: &'a [Piece<'a>],

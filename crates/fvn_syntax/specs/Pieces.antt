@@ -1,5 +1,5 @@
 -- Pieces of texts: words, special bytes and the dot, and tests of single pieces.
-use Rattle.std.specs.Prelude.{ℕ, Bool, true, false, ◌&&◌, ◌==◌, ◌-◌, List, length, take, slice_index_or, nat_lt, Option, Some, None, codes}
+use Rattle.std.specs.Prelude.{ℕ, Bool, true, false, ◌&&◌, ◌==◌, ◌-◌, List, length, take, slice_index_or, nat_lt, codes}
 use Rattle.std.specs.Str.{bytes_eq}
 use Rattle.fvn_lex.specs.declared.token.Class.{Class}
 use Rattle.fvn_lex.specs.declared.token.Class.TheVariants.{Word, Special, Dot}
@@ -82,11 +82,6 @@ is_special text p = is_special_class p.class && bytes_eq p.text text
 -- the dot
 abbrev pub is_dot : Piece → Bool
 is_dot p = is_dot_class p.class
-
--- a test of the piece at a place; past the end it fails
-abbrev pub passes : (Piece → Bool) → Option Piece → Bool
-passes test None = false
-passes test (Some p) = test p
 
 -- a text that ends with a colon and has a byte before it
 abbrev pub is_colon_name : Text → Bool

@@ -82,8 +82,3 @@ LeavesOnly rest ps = (other : List Piece) → IsTermBefore other ps → other �
 -- these pieces begin with no term
 abbrev pub BeginsWithNoTerm : List Piece → Type 0
 BeginsWithNoTerm ps = (rest : List Piece) → IsTermBefore rest ps → ⊥
-
--- these pieces are a sort and then the rest
-pub record IsSortBefore (rest ps : List Piece) : Type 0 where
-  pub sort : RawSort
-  pub spelled : ps ≡ spell_sort sort ++ rest

@@ -8,24 +8,25 @@ use Rattle.fvn_first.specs.declared.first.problem_text.FirstProblem.{FirstProble
 use Rattle.fvn_first.specs.ProblemText.{IsProblemText}
 use Rattle.fvn_first.specs.Laws.{ModulesAreDetermined, ModulesAreFirst, ProblemsAreDetermined}
 use Rattle.fvn_outside.specs.Source.{Takes, TakesCount}
-use Rattle.fvn_tool.specs.declared.status.Status.{Status}
-use Rattle.fvn_tool.specs.declared.status.Status.TheVariants.{Solved, Nothing, Usage, ModuleRefused, ProblemRefused, Ended, ReadFault, WriteFault, NoMemory}
-use Rattle.fvn_tool.specs.Statuses.{IsSilent, IsSpoken, IsAnswering}
+use Rattle.fvn_commands.specs.declared.status.Status.{Status}
+use Rattle.fvn_commands.specs.declared.status.Status.TheVariants.{Solved, Nothing, Usage, ModuleRefused, ProblemRefused, Ended, ReadFault, WriteFault, NoMemory}
+use Rattle.fvn_commands.specs.Statuses.{IsSilent, IsSpoken, IsAnswering}
 use Rattle.fvn_module.specs.Contents.{Contents}
 use Rattle.fvn_module.specs.ModuleText.{IsModule}
 use Rattle.fvn_module.specs.Laws.{ModulesAreDetermined as EachIsOneModule, RefusedTextsDeclareNothing}
 use Rattle.fvn_problems.specs.declared.problem.Problem.{Problem}
 use Rattle.fvn_problems.specs.declared.bindings.Bindings.{Bindings}
 use Rattle.fvn_tool.specs.Words.{Command, check, unify, verify, command_of}
-use Rattle.fvn_tool.specs.Laws.{ReadersAreLawful}
-use Rattle.fvn_tool.specs.Checks.{AreNoModule, summary_line}
-use Rattle.fvn_tool.specs.Verifying.{HasEquations, later_line, AreSolvedBy, IsModuleOfAxioms, IsAskedIn, IsAskedOf}
+use Rattle.fvn_commands.specs.Laws.{ReadersAreLawful}
+use Rattle.fvn_commands.specs.Texts.{Is}
+use Rattle.fvn_commands.specs.Checks.{AreNoModule, IsFirstRefusalOf, summary_line}
+use Rattle.fvn_commands.specs.Verifying.{HasEquations, later_line, AreSolvedBy, TellsVerdict, AsksNoProblem, AreNoBindings, IsProblemRefusalOf, IsBindingRefusalOf, IsModuleOfAxioms, IsAskedIn, IsAskedOf}
 use Rattle.fvn_tool.specs.Replies.{complete, bound_size, line_of, IsReply, IsUnifyReply, no_module, no_problem, answered, IsAnswer, unified, not_unified, too_large, no_module_line, no_problem_line, DeclareNoModule}
 use Rattle.fvn_tool.specs.Runs.{Outside, Run, Leaves, HasFailed}
 use Rattle.fvn_tool.specs.Outcomes.{usage_line, too_long_line, IsOutcome, no_command, too_long, replied}
-use Rattle.fvn_tool.specs.Claims.{IsUnifyText, IsOneText, IsFirstRefusalOf, RefusesText, TellsModule, AnswersCheck, Is, RefusesWords, Asks, RefusesLongText, RefusesModule, RefusesProblem, HasNoProblem, IsAsked, IsRight, Shows, EndsComplete, AnswersRight, AnswersWithoutEvent, AnswersUnify, RefusesToVerify, AsksNoProblem, BindsNothing, IsProblemRefusalOf, IsBindingRefusalOf, RefusesToVerifyWords, TellsVerdict, AnswersVerify, IsReport}
-use Rattle.fvn_tool.proofs.Checks.{check_one_text, check_not_usage, check_refuses, check_no_module, check_tells, check_module}
-use Rattle.fvn_tool.proofs.Verified.{verify_one_text, verify_not_usage, verify_no_module, verify_answers, verify_yes, verify_refuses, verify_later, verify_refuses_words, verify_no_problem, verify_no_bindings, verify_verdict}
+use Rattle.fvn_tool.specs.Claims.{IsUnifyText, IsCommandText, IsOneText, RefusesText, TellsModule, AnswersCheck, RefusesWords, Asks, RefusesLongText, RefusesModule, RefusesProblem, HasNoProblem, IsAsked, IsRight, Shows, EndsComplete, AnswersRight, AnswersWithoutEvent, AnswersUnify, RefusesToVerify, RefusesToVerifyWords, AnswersVerify, IsReport}
+use Rattle.fvn_commands.proofs.Checks.{check_one_text, check_not_usage, check_refuses, check_no_module, check_tells, check_module}
+use Rattle.fvn_commands.proofs.Verified.{verify_one_text, verify_not_usage, verify_no_module, verify_answers, verify_yes, verify_refuses, verify_later, verify_refuses_words, verify_no_problem, verify_no_bindings, verify_verdict}
 use Rattle.fvn_tool.proofs.Outcomes.{Leaves-weaker, Leaves-goes, Leaves-without_fault}
 use Rattle.fvn_tool.proofs.Shows.{shows_right, shows_end}
 use Rattle.fvn_free.proofs.Sizes.{same_sizes}
@@ -39,24 +40,19 @@ answer_one_text scope problem s t (not_unified h is) = record { texts = []; end 
 answer_one_text scope problem s t (too_large h is) = record { texts = []; end = bound_size; text_is = is; status_is = refl }
 
 unify_one_text : (bytes word : List ℕ) (s : Status) (t : List ℕ) → IsUnifyReply bytes word s t → IsUnifyText s t
-unify_one_text bytes word s t (no_module h is) = inr is
+unify_one_text bytes word s t (no_module h is) = is
 unify_one_text bytes word s t (no_problem scope m h is) = is
 unify_one_text bytes word s t (answered scope problem m p a) = answer_one_text scope problem s t a
 
-reply_one_text : (command : Command) (bytes : List ℕ) (s : Status) (t : List ℕ) → IsReply command bytes s t → IsOneText (Some command) s t
-reply_one_text check bytes s t r = check_one_text bytes s t r
-reply_one_text (unify word) bytes s t r = unify_one_text bytes word s t r
-reply_one_text (verify problem bindings) bytes s t r = verify_one_text bytes problem bindings s t r
-
-long_one_text : (command : Command) (t : List ℕ) → t ≡ too_long_line → IsOneText (Some command) ModuleRefused t
-long_one_text check t is = inl is
-long_one_text (unify word) t is = inl is
-long_one_text (verify problem bindings) t is = inl is
+reply_text : (command : Command) (bytes : List ℕ) (s : Status) (t : List ℕ) → IsReply command bytes s t → IsCommandText command s t
+reply_text check bytes s t r = check_one_text bytes s t r
+reply_text (unify word) bytes s t r = unify_one_text bytes word s t r
+reply_text (verify problem bindings) bytes s t r = verify_one_text bytes problem bindings s t r
 
 outcome_one_text : (words : List (List ℕ)) (source : Outside) (s : Status) (t : List ℕ) → IsOutcome words source s t → IsOneText (command_of words) s t
 outcome_one_text words source s t (no_command h is) = subst (λ c. IsOneText c s t) (sym h) (refl, is)
-outcome_one_text words source s t (too_long command h n is) = subst (λ c. IsOneText c s t) (sym h) (long_one_text command t is)
-outcome_one_text words source s t (replied command bytes h n e f r) = subst (λ c. IsOneText c s t) (sym h) (reply_one_text command bytes s t r)
+outcome_one_text words source s t (too_long command h n is) = subst (λ c. IsOneText c s t) (sym h) (inl (refl, is))
+outcome_one_text words source s t (replied command bytes h n e f r) = subst (λ c. IsOneText c s t) (sym h) (inr (reply_text command bytes s t r))
 
 -- Words
 
@@ -243,7 +239,7 @@ module _ (run : Run) (h : Leaves (IsOutcome run.words run.source) run.status run
 
     verified_words : run.status ≡ ProblemRefused → (t : List ℕ) → Comes bytes (verify problem bindings) run.status t → (length bytes ≤ MODULE_BYTES)
         × (((m : Contents) × (IsModuleOfAxioms bytes m × AsksNoProblem m problem))
-        ⊎ ((m : Contents) × (p : Problem) × (IsAskedIn bytes problem m p × BindsNothing m p bindings)))
+        ⊎ ((m : Contents) × (p : Problem) × (IsAskedIn bytes problem m p × AreNoBindings m p bindings)))
     verified_words e t (comes_long i l is) = cc
     verified_words e t (comes_reply f r) = (f, verify_refuses_words bytes problem bindings laws run.status t e r)
 
@@ -251,7 +247,7 @@ module _ (run : Run) (h : Leaves (IsOutcome run.words run.source) run.status run
     verified_no_problem f m a none u t (comes_long i k is) = absurd (omega (arith, f, k))
     verified_no_problem f m a none u t (comes_reply g r) = verify_no_problem bytes problem bindings laws m a none u t r
 
-    verified_no_bindings : length bytes ≤ MODULE_BYTES → (m : Contents) (p : Problem) → IsAskedIn bytes problem m p → BindsNothing m p bindings → (u : Status) (t : List ℕ) → Comes bytes (verify problem bindings) u t → IsBindingRefusalOf m p bindings u t
+    verified_no_bindings : length bytes ≤ MODULE_BYTES → (m : Contents) (p : Problem) → IsAskedIn bytes problem m p → AreNoBindings m p bindings → (u : Status) (t : List ℕ) → Comes bytes (verify problem bindings) u t → IsBindingRefusalOf m p bindings u t
     verified_no_bindings f m p a none u t (comes_long i k is) = absurd (omega (arith, f, k))
     verified_no_bindings f m p a none u t (comes_reply g r) = verify_no_bindings bytes problem bindings laws m a.module_text p a.problem_text none u t r
 
@@ -262,13 +258,15 @@ module _ (run : Run) (h : Leaves (IsOutcome run.words run.source) run.status run
       no_bindings = λ f m p a none. weaker (verify problem bindings) bytes asks (IsBindingRefusalOf m p bindings) (verified_no_bindings f m p a none);
     }
 
-    verified_only : IsAnswering run.status → (t : List ℕ) → Comes bytes (verify problem bindings) run.status t → (m : Contents) × (p : Problem) × (b : Bindings) × IsAskedOf bytes problem bindings m p b
+    verified_only : IsAnswering run.status → (t : List ℕ) → Comes bytes (verify problem bindings) run.status t → (length bytes ≤ MODULE_BYTES)
+        × ((m : Contents) × (p : Problem) × (b : Bindings) × IsAskedOf bytes problem bindings m p b)
     verified_only a t (comes_long i l is) = absurd (subst IsAnswering i a)
-    verified_only a t (comes_reply f r) = verify_answers bytes problem bindings run.status t a r
+    verified_only a t (comes_reply f r) = (f, verify_answers bytes problem bindings run.status t a r)
 
-    verified_yes : run.status ≡ Solved → (t : List ℕ) → Comes bytes (verify problem bindings) run.status t → (m : Contents) × (p : Problem) × (b : Bindings) × (IsAskedOf bytes problem bindings m p b × AreSolvedBy m p b)
+    verified_yes : run.status ≡ Solved → (t : List ℕ) → Comes bytes (verify problem bindings) run.status t → (length bytes ≤ MODULE_BYTES)
+        × ((m : Contents) × (p : Problem) × (b : Bindings) × (IsAskedOf bytes problem bindings m p b × AreSolvedBy m p b))
     verified_yes e t (comes_long i l is) = cc
-    verified_yes e t (comes_reply f r) = verify_yes bytes problem bindings run.status t e r
+    verified_yes e t (comes_reply f r) = (f, verify_yes bytes problem bindings run.status t e r)
 
     verified_verdict : length bytes ≤ MODULE_BYTES → (m : Contents) (p : Problem) (b : Bindings) → IsAskedOf bytes problem bindings m p b → (u : Status) (t : List ℕ) → Comes bytes (verify problem bindings) u t → TellsVerdict m p b u t
     verified_verdict f m p b a u t (comes_long i k is) = absurd (omega (arith, f, k))

@@ -12,21 +12,22 @@ use Rattle.fvn_terms.proofs.Free.{BEqual-free}
 use Rattle.fvn_first.specs.declared.first.module_text.FirstModule.{FirstModule}
 use Rattle.fvn_first.specs.declared.first.problem_text.FirstProblem.{FirstProblem}
 use Rattle.fvn_first.specs.Laws.{ModulesAreDetermined, ModulesAreFirst, ProblemsAreDetermined}
-use Rattle.fvn_tool.specs.declared.status.Status.{Status}
+use Rattle.fvn_commands.specs.declared.status.Status.{Status}
 use Rattle.fvn_tool.specs.Lines.{bindings_line}
 use Rattle.fvn_tool.specs.Spellings.{spelling}
 use Rattle.fvn_tool.specs.Words.{Command, check, unify, verify}
 use Rattle.fvn_tool.specs.Replies.{answer_text, complete, IsInstanceOf, ExceedsSize, IsPrintable, IsAnswer, unified, not_unified, too_large, IsReply, IsUnifyReply, no_module, no_problem, answered}
 use Rattle.fvn_tool.specs.Outcomes.{no_command, too_long, replied}
-use Rattle.fvn_tool.specs.Claims.{Is}
-use Rattle.fvn_tool.specs.Laws.{ReadersAreLawful, OutcomesAreDetermined}
+use Rattle.fvn_commands.specs.Texts.{Is}
+use Rattle.fvn_commands.specs.Laws.{ReadersAreLawful}
+use Rattle.fvn_tool.specs.Laws.{OutcomesAreDetermined}
 use Rattle.fvn_free.proofs.NumberedAlike.{more-head, more-tail, numbered_alike}
 use Rattle.fvn_free.proofs.Pairs.{given}
 use Rattle.fvn_free.proofs.Sizes.{same_sizes}
 use Rattle.fvn_free.proofs.FreeSorted.{free_operators}
 use Rattle.fvn_tool.proofs.Shows.{not_exceeded}
-use Rattle.fvn_tool.proofs.Checks.{check_determined}
-use Rattle.fvn_tool.proofs.Verified.{verify_determined}
+use Rattle.fvn_commands.proofs.Checks.{check_determined}
+use Rattle.fvn_commands.proofs.Verified.{verify_determined}
 use Rattle.fvn_tool.proofs.Claims.{outcome_usage, Comes, comes_long, comes_reply, comes, reply_no_module, reply_no_problem, reply_answers}
 
 pack-instance : (vars : List Var) (a b c : Substitution) → All (λ x. a x ≡ apply c (b x)) vars → pack (map a vars) ≡ apply_all c (pack (map b vars))

@@ -1,8 +1,5 @@
 -- Lemmas of this crate; none is for other crates.
 mod Printing
-mod Checks
-mod Verified
-mod Replying
 mod Outcomes
 mod Claims
 mod Shows

@@ -5,15 +5,15 @@ use Rattle.fvn_first.specs.declared.first.module_text.FirstModule.{FirstModule}
 use Rattle.fvn_first.specs.declared.first.problem_text.FirstProblem.{FirstProblem}
 use Rattle.fvn_outside.specs.Source.{TakesCount}
 use Rattle.fvn_outside.specs.Sink.{Appends}
-use Rattle.fvn_tool.specs.declared.status.Status.{Status}
-use Rattle.fvn_tool.specs.declared.status.Status.TheVariants.{Solved, Nothing, Usage, ModuleRefused, ProblemRefused, Ended, ReadFault, WriteFault, NoMemory}
+use Rattle.fvn_commands.specs.declared.status.Status.{Status}
+use Rattle.fvn_commands.specs.declared.status.Status.TheVariants.{Solved, Nothing, Usage, ModuleRefused, ProblemRefused, Ended, ReadFault, WriteFault, NoMemory}
 use Rattle.fvn_tool.specs.Words.{Command, check, unify, verify, command_of}
-use Rattle.fvn_tool.specs.Statuses.{IsSilent, IsSpoken}
+use Rattle.fvn_commands.specs.Statuses.{IsSilent, IsSpoken}
 use Rattle.fvn_tool.specs.Runs.{Outside, Leaves, WritesWhole}
 use Rattle.fvn_tool.specs.Replies.{IsReply, IsUnifyReply, no_module, no_problem, answered, IsAnswer, unified, not_unified, too_large}
 use Rattle.fvn_tool.specs.Outcomes.{usage_line, too_long_line, IsOutcome, no_command, too_long, replied}
-use Rattle.fvn_tool.proofs.Checks.{check_spoken}
-use Rattle.fvn_tool.proofs.Verified.{verify_spoken}
+use Rattle.fvn_commands.proofs.Checks.{check_spoken}
+use Rattle.fvn_commands.proofs.Verified.{verify_spoken}
 
 module _ (words : List (List ℕ)) (source : Outside) (status : Status) (text : List ℕ) where
   pub usage_outcome : status ≡ Usage → command_of words ≡ None → text ≡ usage_line → IsOutcome words source status text

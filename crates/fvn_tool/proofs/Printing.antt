@@ -4,7 +4,7 @@ use Rattle.std.proofs.lemmas.List.{drop_all}
 use Rattle.fvn_terms.specs.declared.plain.Plain.{Plain}
 use Rattle.fvn_terms.specs.Plain.{terms}
 use Rattle.std.specs.Fmt.{digits}
-use Rattle.fvn_tool.specs.Lines.{line}
+use Rattle.fvn_commands.specs.Texts.{line}
 use Rattle.fvn_tool.specs.Replies.{answer_text, end_text, complete, bound_size}
 use Rattle.fvn_tool.specs.Lines.{Spelling, beside, with_arguments, with_each}
 

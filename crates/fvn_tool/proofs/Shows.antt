@@ -8,7 +8,7 @@ use Rattle.fvn_terms.specs.Plain.{term}
 use Rattle.fvn_terms.specs.Substitution.{Substitution}
 use Rattle.fvn_first.specs.declared.first.module_text.FirstModule.{FirstModule}
 use Rattle.fvn_first.specs.declared.first.problem_text.FirstProblem.{FirstProblem}
-use Rattle.fvn_tool.specs.declared.status.Status.{Status}
+use Rattle.fvn_commands.specs.declared.status.Status.{Status}
 use Rattle.fvn_free.specs.Free.{IsMostGeneral}
 use Rattle.fvn_tool.specs.Replies.{End, complete, bound_size, Unifies, ExceedsSize, IsPrintable, IsAnswer, unified, not_unified, too_large}
 use Rattle.fvn_tool.specs.Runs.{Outside, Leaves}

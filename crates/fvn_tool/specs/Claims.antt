@@ -7,21 +7,17 @@ use Rattle.fvn_first.specs.declared.first.module_text.FirstModule.{FirstModule}
 use Rattle.fvn_first.specs.declared.first.problem_text.FirstProblem.{FirstProblem}
 use Rattle.fvn_first.specs.ModuleText.{IsModuleText}
 use Rattle.fvn_first.specs.ProblemText.{IsProblemText}
-use Rattle.fvn_module.specs.declared.fault.ModuleFault.{ModuleFault}
 use Rattle.fvn_module.specs.Contents.{Contents}
 use Rattle.fvn_module.specs.ModuleText.{IsModule}
-use Rattle.fvn_tool.specs.declared.status.Status.{Status}
-use Rattle.fvn_tool.specs.declared.status.Status.TheVariants.{Solved, Nothing, Usage, ModuleRefused, ProblemRefused, Ended, ReadFault, WriteFault, NoMemory}
-use Rattle.fvn_tool.specs.Statuses.{IsSilent, IsAnswering}
+use Rattle.fvn_commands.specs.declared.status.Status.{Status}
+use Rattle.fvn_commands.specs.declared.status.Status.TheVariants.{Solved, Nothing, Usage, ModuleRefused, ProblemRefused, Ended, ReadFault, WriteFault, NoMemory}
+use Rattle.fvn_commands.specs.Statuses.{IsSilent, IsAnswering}
 use Rattle.fvn_tool.specs.Words.{Command, check, unify, verify, command_of}
-use Rattle.fvn_problems.specs.declared.fault.ProblemFault.{ProblemFault}
 use Rattle.fvn_problems.specs.declared.problem.Problem.{Problem}
 use Rattle.fvn_problems.specs.declared.bindings.Bindings.{Bindings}
-use Rattle.fvn_problems.specs.Problems.{IsProblem}
-use Rattle.fvn_problems.specs.Bindings.{IsBindings}
-use Rattle.fvn_verify.specs.declared.verdict.Verdict.{Verdict}
-use Rattle.fvn_tool.specs.Checks.{AreNoModule, IsFirstRefusal, IsRefusalLine, summary_line}
-use Rattle.fvn_tool.specs.Verifying.{HasEquations, later_line, status_of_verdict, verdict_line, IsProblemRefusalLine, IsVerdictOn, AreSolvedBy, IsFirstProblemRefusal, IsFirstBindingRefusal, IsModuleOfAxioms, IsAskedIn, IsAskedOf}
+use Rattle.fvn_commands.specs.Texts.{Is}
+use Rattle.fvn_commands.specs.Checks.{AreNoModule, IsFirstRefusalOf, IsCheckText, summary_line}
+use Rattle.fvn_commands.specs.Verifying.{HasEquations, later_line, IsVerifyText, AreSolvedBy, TellsVerdict, AsksNoProblem, AreNoBindings, IsProblemRefusalOf, IsBindingRefusalOf, IsModuleOfAxioms, IsAskedIn, IsAskedOf}
 use Rattle.fvn_tool.specs.Replies.{End, complete, bound_size, answer_text, line_of, Unifies, IsInstanceOf, CannotBeUnified, ExceedsSize, DeclareNoModule, AsksNothing, no_module_line, no_problem_line}
 use Rattle.fvn_tool.specs.Runs.{Run, Leaves, WritesWhole, HasFailed}
 use Rattle.fvn_tool.specs.Outcomes.{usage_line, too_long_line, IsOutcome}
@@ -41,25 +37,9 @@ pub record IsAnswerText (status : Status) (text : List ℕ) : Type 0 where
   pub text_is : text ≡ answer_text texts end
   pub status_is : status ≡ status_of end
 
--- the text goes with this status, and is this one
-abbrev pub Is : Status → List ℕ → Status → List ℕ → Type 0
-Is status text s t = (s ≡ status) × (t ≡ text)
-
--- what `check` writes: the line of a refusal, or the line of what a module declares
-abbrev pub IsCheckText : Status → List ℕ → Type 0
-IsCheckText Solved text = (m : Contents) × (text ≡ summary_line m)
-IsCheckText ModuleRefused text = (text ≡ too_long_line) ⊎ ((fault : ModuleFault) × IsRefusalLine fault text)
-IsCheckText Nothing text = ⊥
-IsCheckText Usage text = ⊥
-IsCheckText ProblemRefused text = ⊥
-IsCheckText Ended text = ⊥
-IsCheckText ReadFault text = ⊥
-IsCheckText WriteFault text = ⊥
-IsCheckText NoMemory text = ⊥
-
--- what `unify` writes: a refusal's line, or the answer's lines and end line
+-- what `unify` writes of a text and a word: a refusal's line, or the answer's lines and end line
 abbrev pub IsUnifyText : Status → List ℕ → Type 0
-IsUnifyText ModuleRefused text = (text ≡ too_long_line) ⊎ (text ≡ no_module_line)
+IsUnifyText ModuleRefused text = text ≡ no_module_line
 IsUnifyText ProblemRefused text = text ≡ no_problem_line
 IsUnifyText Solved text = IsAnswerText Solved text
 IsUnifyText Nothing text = IsAnswerText Nothing text
@@ -69,25 +49,17 @@ IsUnifyText ReadFault text = ⊥
 IsUnifyText WriteFault text = ⊥
 IsUnifyText NoMemory text = ⊥
 
--- what `verify` writes: a refusal's line, or the line of a verdict
-abbrev pub IsVerifyText : Status → List ℕ → Type 0
-IsVerifyText ModuleRefused text =
-    (text ≡ too_long_line) ⊎ (((fault : ModuleFault) × IsRefusalLine fault text) ⊎ ((n : ℕ) × (text ≡ later_line n)))
-IsVerifyText ProblemRefused text = (fault : ProblemFault) × IsProblemRefusalLine fault text
-IsVerifyText Solved text = (v : Verdict) × Is (status_of_verdict v) (verdict_line v) Solved text
-IsVerifyText Nothing text = (v : Verdict) × Is (status_of_verdict v) (verdict_line v) Nothing text
-IsVerifyText Ended text = (v : Verdict) × Is (status_of_verdict v) (verdict_line v) Ended text
-IsVerifyText Usage text = ⊥
-IsVerifyText ReadFault text = ⊥
-IsVerifyText WriteFault text = ⊥
-IsVerifyText NoMemory text = ⊥
+-- what a command writes of the text of a module
+abbrev pub IsCommandText : Command → Status → List ℕ → Type 0
+IsCommandText check status text = IsCheckText status text
+IsCommandText (unify word) status text = IsUnifyText status text
+IsCommandText (verify problem bindings) status text = IsVerifyText status text
 
--- exactly one text: the usage line where there is no command, or one that the command writes
+-- Exactly one text: the usage line where there is no command, or else the line of a module that is too long, or one that
+-- the command writes.
 abbrev pub IsOneText : Option Command → Status → List ℕ → Type 0
 IsOneText None status text = Is Usage usage_line status text
-IsOneText (Some check) status text = IsCheckText status text
-IsOneText (Some (unify word)) status text = IsUnifyText status text
-IsOneText (Some (verify problem bindings)) status text = IsVerifyText status text
+IsOneText (Some command) status text = Is ModuleRefused too_long_line status text ⊎ IsCommandText command status text
 
 -- Every command ---------------------------------------------------------------------------------
 
@@ -110,19 +82,18 @@ RefusesLongText run =
 
 -- The command check -----------------------------------------------------------------------------
 
--- the line of the first fault of the bytes, with its status
-abbrev pub IsFirstRefusalOf : List ℕ → Status → List ℕ → Type 0
-IsFirstRefusalOf bytes status text = (status ≡ ModuleRefused) × IsFirstRefusal bytes text
-
 -- the text is refused exactly where it is too long or no module, and then with the line of its first fault
 pub record RefusesText (bytes : List ℕ) (run : Run) : Type 0 where
-  pub only : run.status ≡ ModuleRefused → (MODULE_BYTES < length bytes) ⊎ ((length bytes ≤ MODULE_BYTES) × AreNoModule bytes)
-  pub no_module : length bytes ≤ MODULE_BYTES → AreNoModule bytes → Leaves (IsFirstRefusalOf bytes) run.status run.sink
+  pub only : run.status ≡ ModuleRefused →
+      (MODULE_BYTES < length bytes) ⊎ ((length bytes ≤ MODULE_BYTES) × AreNoModule bytes)
+  pub no_module : length bytes ≤ MODULE_BYTES → AreNoModule bytes →
+      Leaves (IsFirstRefusalOf bytes) run.status run.sink
 
 -- exactly of a module it is said how much it declares
 pub record TellsModule (bytes : List ℕ) (run : Run) : Type 0 where
   pub only : run.status ≡ Solved → (length bytes ≤ MODULE_BYTES) × ((m : Contents) × IsModule bytes m)
-  pub always : length bytes ≤ MODULE_BYTES → (m : Contents) → IsModule bytes m → Leaves (Is Solved (summary_line m)) run.status run.sink
+  pub always : length bytes ≤ MODULE_BYTES → (m : Contents) → IsModule bytes m →
+      Leaves (Is Solved (summary_line m)) run.status run.sink
 
 -- a run that is asked to check refuses what it should, and else tells how much the module declares
 pub record AnswersCheck (bytes : List ℕ) (run : Run) : Type 0 where
@@ -133,8 +104,10 @@ pub record AnswersCheck (bytes : List ℕ) (run : Run) : Type 0 where
 
 -- the module is refused exactly where its text is too long or declares no module
 pub record RefusesModule (bytes : List ℕ) (run : Run) : Type 0 where
-  pub only : run.status ≡ ModuleRefused → (MODULE_BYTES < length bytes) ⊎ ((length bytes ≤ MODULE_BYTES) × DeclareNoModule bytes)
-  pub no_module : length bytes ≤ MODULE_BYTES → DeclareNoModule bytes → Leaves (Is ModuleRefused no_module_line) run.status run.sink
+  pub only : run.status ≡ ModuleRefused →
+      (MODULE_BYTES < length bytes) ⊎ ((length bytes ≤ MODULE_BYTES) × DeclareNoModule bytes)
+  pub no_module : length bytes ≤ MODULE_BYTES → DeclareNoModule bytes →
+      Leaves (Is ModuleRefused no_module_line) run.status run.sink
 
 -- a module is declared in which the word asks nothing
 pub record HasNoProblem (bytes word : List ℕ) : Type 0 where
@@ -183,7 +156,8 @@ module _ (scope : FirstModule) (problem : FirstProblem) (status : Status) (value
     pub sound : All (Unifies scope problem) values
     pub apart : IsApart (IsInstanceOf scope problem) values
     pub shortest : (n : ℕ) → end ≡ complete n → IsShortest (Unifies scope problem) (IsInstanceOf scope problem) values
-    pub complete : (n : ℕ) → end ≡ complete n → (n ≡ length values) × IsCompleteSet (Unifies scope problem) (IsInstanceOf scope problem) values
+    pub complete : (n : ℕ) → end ≡ complete n →
+        (n ≡ length values) × IsCompleteSet (Unifies scope problem) (IsInstanceOf scope problem) values
     pub nothing : IsNothingExact
     pub bound_size : IsBoundExact
 
@@ -206,8 +180,10 @@ module _ (scope : FirstModule) (problem : FirstProblem) (run : Run) where
 pub record AnswersUnify (bytes word : List ℕ) (run : Run) : Type 0 where
   pub module_refused : RefusesModule bytes run
   pub problem_refused : RefusesProblem bytes word run
-  pub right : (scope : FirstModule) (problem : FirstProblem) → IsAsked bytes word scope problem → AnswersRight scope problem run
-  pub no_event : (scope : FirstModule) (problem : FirstProblem) → IsAsked bytes word scope problem → AnswersWithoutEvent scope problem run
+  pub right : (scope : FirstModule) (problem : FirstProblem) → IsAsked bytes word scope problem →
+      AnswersRight scope problem run
+  pub no_event : (scope : FirstModule) (problem : FirstProblem) → IsAsked bytes word scope problem →
+      AnswersWithoutEvent scope problem run
 
 -- The command verify ----------------------------------------------------------------------------
 
@@ -217,49 +193,34 @@ pub record RefusesToVerify (bytes : List ℕ) (run : Run) : Type 0 where
   pub only : run.status ≡ ModuleRefused →
       (MODULE_BYTES < length bytes)
       ⊎ ((length bytes ≤ MODULE_BYTES) × (AreNoModule bytes ⊎ ((m : Contents) × (n : ℕ) × (IsModule bytes m × HasEquations m n))))
-  pub no_module : length bytes ≤ MODULE_BYTES → AreNoModule bytes → Leaves (IsFirstRefusalOf bytes) run.status run.sink
+  pub no_module : length bytes ≤ MODULE_BYTES → AreNoModule bytes →
+      Leaves (IsFirstRefusalOf bytes) run.status run.sink
   pub later : length bytes ≤ MODULE_BYTES → (m : Contents) (n : ℕ) → IsModule bytes m → HasEquations m n →
       Leaves (Is ModuleRefused (later_line n)) run.status run.sink
 
--- the word is no problem in the module
-abbrev pub AsksNoProblem : Contents → List ℕ → Type 0
-AsksNoProblem m problem = (p : Problem) → IsProblem m.signature m.names problem p → ⊥
-
--- the word is no binding text in the problem
-abbrev pub BindsNothing : Contents → Problem → List ℕ → Type 0
-BindsNothing m p bindings = (b : Bindings) → IsBindings m.signature m.names p bindings b → ⊥
-
--- the line of the first fault of the problem, with its status
-abbrev pub IsProblemRefusalOf : Contents → List ℕ → Status → List ℕ → Type 0
-IsProblemRefusalOf m problem status text = (status ≡ ProblemRefused) × IsFirstProblemRefusal m problem text
-
--- the line of the first fault of the bindings, with its status
-abbrev pub IsBindingRefusalOf : Contents → Problem → List ℕ → Status → List ℕ → Type 0
-IsBindingRefusalOf m p bindings status text = (status ≡ ProblemRefused) × IsFirstBindingRefusal m p bindings text
-
--- in a module without an equation, words are refused exactly where the first is no problem or the second binds nothing
--- in it, with the line of the first fault
+-- in a module without an equation, words are refused exactly where the first is no problem or the second no binding
+-- text in it, with the line of the first fault
 pub record RefusesToVerifyWords (bytes problem bindings : List ℕ) (run : Run) : Type 0 where
   pub only : run.status ≡ ProblemRefused → (length bytes ≤ MODULE_BYTES)
       × (((m : Contents) × (IsModuleOfAxioms bytes m × AsksNoProblem m problem))
-      ⊎ ((m : Contents) × (p : Problem) × (IsAskedIn bytes problem m p × BindsNothing m p bindings)))
+      ⊎ ((m : Contents) × (p : Problem) × (IsAskedIn bytes problem m p × AreNoBindings m p bindings)))
   pub no_problem : length bytes ≤ MODULE_BYTES → (m : Contents) → IsModuleOfAxioms bytes m → AsksNoProblem m problem →
       Leaves (IsProblemRefusalOf m problem) run.status run.sink
-  pub no_bindings : length bytes ≤ MODULE_BYTES → (m : Contents) (p : Problem) → IsAskedIn bytes problem m p → BindsNothing m p bindings →
+  pub no_bindings : length bytes ≤ MODULE_BYTES → (m : Contents) (p : Problem) → IsAskedIn bytes problem m p →
+      AreNoBindings m p bindings →
       Leaves (IsBindingRefusalOf m p bindings) run.status run.sink
-
--- the line of the verdict on the problem under the bindings, with its status
-abbrev pub TellsVerdict : Contents → Problem → Bindings → Status → List ℕ → Type 0
-TellsVerdict m p b status text = (v : Verdict) × (IsVerdictOn m p b v × Is (status_of_verdict v) (verdict_line v) status text)
 
 -- a run that is asked to verify refuses what it should, and else tells the verdict on the problem under the bindings:
 -- that a form is too large, which pair is the first whose sides differ, or that the sides of each pair are equal
 pub record AnswersVerify (bytes problem bindings : List ℕ) (run : Run) : Type 0 where
   pub module_refused : RefusesToVerify bytes run
   pub words_refused : RefusesToVerifyWords bytes problem bindings run
-  pub only : IsAnswering run.status → (m : Contents) × (p : Problem) × (b : Bindings) × IsAskedOf bytes problem bindings m p b
-  pub yes : run.status ≡ Solved → (m : Contents) × (p : Problem) × (b : Bindings) × (IsAskedOf bytes problem bindings m p b × AreSolvedBy m p b)
-  pub verdict : length bytes ≤ MODULE_BYTES → (m : Contents) (p : Problem) (b : Bindings) → IsAskedOf bytes problem bindings m p b →
+  pub only : IsAnswering run.status → (length bytes ≤ MODULE_BYTES)
+      × ((m : Contents) × (p : Problem) × (b : Bindings) × IsAskedOf bytes problem bindings m p b)
+  pub yes : run.status ≡ Solved → (length bytes ≤ MODULE_BYTES)
+      × ((m : Contents) × (p : Problem) × (b : Bindings) × (IsAskedOf bytes problem bindings m p b × AreSolvedBy m p b))
+  pub verdict : length bytes ≤ MODULE_BYTES → (m : Contents) (p : Problem) (b : Bindings) →
+      IsAskedOf bytes problem bindings m p b →
       Leaves (TellsVerdict m p b) run.status run.sink
 
 -- The report ------------------------------------------------------------------------------------
@@ -281,4 +242,5 @@ pub record IsReport (run : Run) : Type 0 where
   -- what each command answers
   pub check : (bytes : List ℕ) → Asks run check bytes → AnswersCheck bytes run
   pub unify : (word bytes : List ℕ) → Asks run (unify word) bytes → AnswersUnify bytes word run
-  pub verify : (problem bindings bytes : List ℕ) → Asks run (verify problem bindings) bytes → AnswersVerify bytes problem bindings run
+  pub verify : (problem bindings bytes : List ℕ) → Asks run (verify problem bindings) bytes →
+      AnswersVerify bytes problem bindings run

@@ -3,10 +3,10 @@ use Rattle.std.specs.Prelude.{◌≡◌, ◌≤◌, ◌+◌, ℕ, List, length, 
 use Rattle.std.specs.Io.KnownBytes.{IsAtEnd}
 use Rattle.fvn_base.specs.declared.limits.TheConstants.{MODULE_BYTES}
 use Rattle.fvn_outside.specs.Source.{Takes, TakesCount}
-use Rattle.fvn_tool.specs.declared.status.Status.{Status}
-use Rattle.fvn_tool.specs.declared.status.Status.TheVariants.{Usage, ModuleRefused}
+use Rattle.fvn_commands.specs.declared.status.Status.{Status}
+use Rattle.fvn_commands.specs.declared.status.Status.TheVariants.{Usage, ModuleRefused}
 use Rattle.fvn_tool.specs.Words.{Command, command_of}
-use Rattle.fvn_tool.specs.Lines.{line}
+use Rattle.fvn_commands.specs.Texts.{line}
 use Rattle.fvn_tool.specs.Replies.{IsReply}
 use Rattle.fvn_tool.specs.Runs.{Outside}
 
@@ -21,5 +21,9 @@ too_long_line = line (codes "module 14")
 -- the status and the text that these words ask for, with what the source gave
 pub data IsOutcome (words : List (List ℕ)) (source : Outside) : Status → List ℕ → Type 0 where
   no_command : {text : List ℕ} → command_of words ≡ None → text ≡ usage_line → IsOutcome words source Usage text
-  too_long : {text : List ℕ} (command : Command) → command_of words ≡ Some command → TakesCount source.before source.after (MODULE_BYTES + 1) → text ≡ too_long_line → IsOutcome words source ModuleRefused text
-  replied : {status : Status} {text : List ℕ} (command : Command) (bytes : List ℕ) → command_of words ≡ Some command → Takes source.before source.after bytes → IsAtEnd source.after → length bytes ≤ MODULE_BYTES → IsReply command bytes status text → IsOutcome words source status text
+  too_long : {text : List ℕ} (command : Command) → command_of words ≡ Some command →
+      TakesCount source.before source.after (MODULE_BYTES + 1) → text ≡ too_long_line →
+      IsOutcome words source ModuleRefused text
+  replied : {status : Status} {text : List ℕ} (command : Command) (bytes : List ℕ) →
+      command_of words ≡ Some command → Takes source.before source.after bytes → IsAtEnd source.after →
+      length bytes ≤ MODULE_BYTES → IsReply command bytes status text → IsOutcome words source status text

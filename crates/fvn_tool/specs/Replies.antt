@@ -9,13 +9,14 @@ use Rattle.fvn_first.specs.declared.first.module_text.FirstModule.{FirstModule}
 use Rattle.fvn_first.specs.declared.first.problem_text.FirstProblem.{FirstProblem}
 use Rattle.fvn_first.specs.ModuleText.{IsModuleText}
 use Rattle.fvn_first.specs.ProblemText.{IsProblemText}
-use Rattle.fvn_tool.specs.declared.status.Status.{Status}
-use Rattle.fvn_tool.specs.declared.status.Status.TheVariants.{Solved, Nothing, ModuleRefused, ProblemRefused, Ended}
+use Rattle.fvn_commands.specs.declared.status.Status.{Status}
+use Rattle.fvn_commands.specs.declared.status.Status.TheVariants.{Solved, Nothing, ModuleRefused, ProblemRefused, Ended}
 use Rattle.fvn_tool.specs.Words.{Command, check, unify, verify}
-use Rattle.fvn_tool.specs.Lines.{line, lines, unifier_line}
+use Rattle.fvn_tool.specs.Lines.{lines, unifier_line}
+use Rattle.fvn_commands.specs.Texts.{line}
 use Rattle.fvn_tool.specs.Spellings.{spelling}
-use Rattle.fvn_tool.specs.Checks.{IsCheckReply}
-use Rattle.fvn_tool.specs.Verifying.{IsVerifyReply}
+use Rattle.fvn_commands.specs.Checks.{IsCheckReply}
+use Rattle.fvn_commands.specs.Verifying.{IsVerifyReply}
 use Rattle.fvn_free.specs.Free.{IsMostGeneral, HasNoUnifier, IsTooLarge, AreNumbered, variables_among}
 
 -- how an answer ends: all was found, with so many lines; or a term would have had over 1,000 symbols
@@ -79,7 +80,8 @@ module _ (scope : FirstModule) (problem : FirstProblem) where
 
   -- this status with this text answers
   pub data IsAnswer : Status → List ℕ → Type 0 where
-    unified : {text : List ℕ} (s : Substitution) → IsPrintable s → text ≡ answer_text (line_of s ∷ []) (complete 1) → IsAnswer Solved text
+    unified : {text : List ℕ} (s : Substitution) → IsPrintable s → text ≡ answer_text (line_of s ∷ []) (complete 1) →
+        IsAnswer Solved text
     not_unified : {text : List ℕ} → CannotBeUnified → text ≡ answer_text [] (complete 0) → IsAnswer Nothing text
     too_large : {text : List ℕ} → ExceedsSize → text ≡ answer_text [] bound_size → IsAnswer Ended text
 
@@ -97,9 +99,13 @@ AsksNothing scope word = (problem : FirstProblem) → IsProblemText scope word p
 
 -- this status with this text replies to the bytes of a module and the word of a problem to be unified
 pub data IsUnifyReply (bytes word : List ℕ) : Status → List ℕ → Type 0 where
-  no_module : {text : List ℕ} → DeclareNoModule bytes → text ≡ no_module_line → IsUnifyReply bytes word ModuleRefused text
-  no_problem : {text : List ℕ} (scope : FirstModule) → IsModuleText bytes scope → AsksNothing scope word → text ≡ no_problem_line → IsUnifyReply bytes word ProblemRefused text
-  answered : {status : Status} {text : List ℕ} (scope : FirstModule) (problem : FirstProblem) → IsModuleText bytes scope → IsProblemText scope word problem → IsAnswer scope problem status text → IsUnifyReply bytes word status text
+  no_module : {text : List ℕ} → DeclareNoModule bytes → text ≡ no_module_line →
+      IsUnifyReply bytes word ModuleRefused text
+  no_problem : {text : List ℕ} (scope : FirstModule) → IsModuleText bytes scope → AsksNothing scope word →
+      text ≡ no_problem_line → IsUnifyReply bytes word ProblemRefused text
+  answered : {status : Status} {text : List ℕ} (scope : FirstModule) (problem : FirstProblem) →
+      IsModuleText bytes scope → IsProblemText scope word problem → IsAnswer scope problem status text →
+      IsUnifyReply bytes word status text
 
 -- this status with this text replies to a command over the bytes of a module
 abbrev pub IsReply : Command → List ℕ → Status → List ℕ → Type 0

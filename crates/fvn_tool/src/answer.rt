@@ -7,14 +7,12 @@ ghost use Rattle.fvn_tool.specs.Spellings.{spelling};
 ghost use Rattle.fvn_tool.specs.Words.{meant};
 ghost use Rattle.fvn_tool.specs.Replies.{IsReply, IsUnifyReply, IsAnswer, IsProblem, answer_text, complete};
 ghost use Rattle.fvn_tool.specs.Outcomes.{usage_line, too_long_line};
-ghost use Rattle.fvn_tool.specs.Texts.{bytes_of};
+ghost use Rattle.fvn_commands.specs.Texts.{bytes_of};
 
-use crate::checking::check_reply;
 use crate::lines::push_unifier;
-use crate::status::Status;
-use crate::verifying::verify_reply;
 use crate::words::Command;
 use fvn_base::limits::TERM_SYMBOLS;
+use fvn_commands::{Answer, Status, Text, check_reply, verify_reply};
 use fvn_first::first::{
     FirstFault, FirstModule, FirstProblem, Names, VarNames, modules_are_first, problems_are_first,
     read_module, read_problem,
@@ -23,61 +21,23 @@ use fvn_free::{Unified, unify};
 use fvn_terms::{NoMemory, PlainSubst};
 use std::alloc::Global;
 
-/// A text that is written as it stands in the program, or one that was made.
-#[derive(Drop)]
-pub(crate) enum Text {
-    Fixed(&'static [u8]),
-    Made(Vec<u8>),
-}
-
-/// A status, and the text that goes with it.
-#[derive(Drop)]
-pub(crate) struct Answer {
-    pub(crate) status: Status,
-    pub(crate) text: Text,
-}
-
-impl Text {
-    /// The bytes of the text.
-    pub(crate) fn as_slice(&self) -> &[u8]
-        ensures { result.now ≡ bytes_of self.now }
-    {
-        match self {
-            Text::Fixed(bytes) => bytes,
-            Text::Made(bytes) => bytes.as_slice(),
-        }
-    }
-}
-
-fn fixed(status: Status, text: &'static [u8]) -> Answer
-    ensures status { result.status ≡ status }
-    ensures text { bytes_of result.text ≡ text.now }
+/// The usage line, for words that are no command.
+pub(crate) fn usage() -> Answer
+    ensures status { result.status ≡ Status.Usage }
+    ensures text { bytes_of result.text ≡ usage_line }
 {
-    Answer {
-        status,
-        text: Text::Fixed(text),
-    }
+    Answer::fixed(
+        Status::Usage,
+        b"usage: fvn check|unify|variants|vunify|verify|work\n",
+    )
 }
 
-impl Answer {
-    /// The usage line, for words that are no command.
-    pub(crate) fn usage() -> Answer
-        ensures status { result.status ≡ Status.Usage }
-        ensures text { bytes_of result.text ≡ usage_line }
-    {
-        fixed(
-            Status::Usage,
-            b"usage: fvn check|unify|variants|vunify|verify|work\n",
-        )
-    }
-
-    /// The refusal of a module whose text is too long.
-    pub(crate) fn too_long() -> Answer
-        ensures status { result.status ≡ Status.ModuleRefused }
-        ensures text { bytes_of result.text ≡ too_long_line }
-    {
-        fixed(Status::ModuleRefused, b"module 14\n")
-    }
+/// The refusal of a module whose text is too long.
+pub(crate) fn too_long() -> Answer
+    ensures status { result.status ≡ Status.ModuleRefused }
+    ensures text { bytes_of result.text ≡ too_long_line }
+{
+    Answer::fixed(Status::ModuleRefused, b"module 14\n")
 }
 
 // The text of an answer with one line, that of a unifier.
@@ -122,8 +82,8 @@ fn solve(alloc: Global, scope: &FirstModule, problem: &FirstProblem) -> Result<A
                 text: Text::Made(text),
             })
         }
-        Unified::NoUnifier => Ok(fixed(Status::Nothing, b"complete 0\n")),
-        Unified::TooLarge => Ok(fixed(Status::Ended, b"bound size 1000\n")),
+        Unified::NoUnifier => Ok(Answer::fixed(Status::Nothing, b"complete 0\n")),
+        Unified::TooLarge => Ok(Answer::fixed(Status::Ended, b"bound size 1000\n")),
     }
 }
 
@@ -135,7 +95,7 @@ fn unify_reply(alloc: Global, bytes: &[u8], word: &[u8]) -> Result<Answer, NoMem
         Ok(scope) => scope,
         Err(FirstFault::NoMemory) => return Err(NoMemory),
         Err(FirstFault::NotOfForm) => {
-            return Ok(fixed(Status::ModuleRefused, b"module 8 statement 0 later\n"));
+            return Ok(Answer::fixed(Status::ModuleRefused, b"module 8 statement 0 later\n"));
         }
     };
     match read_problem(alloc, &scope, word) {
@@ -144,13 +104,14 @@ fn unify_reply(alloc: Global, bytes: &[u8], word: &[u8]) -> Result<Answer, NoMem
             Ok(answer)
         }
         Err(FirstFault::NoMemory) => Err(NoMemory),
-        Err(FirstFault::NotOfForm) => Ok(fixed(Status::ProblemRefused, b"problem 2\n")),
+        Err(FirstFault::NotOfForm) => Ok(Answer::fixed(Status::ProblemRefused, b"problem 2\n")),
     }
 }
 
 /// What is replied to a command over the text of a module.
 pub(crate) fn reply(alloc: Global, bytes: &[u8], command: Command<'_>) -> Result<Answer, NoMemory>
-    ensures { IfOk result (λ a. IsReply (meant command.entry) bytes.now a.status (bytes_of a.text)) }
+    ensures { IfOk result (λ a.
+        IsReply (meant command.entry) bytes.now a.status (bytes_of a.text)) }
 {
     match command {
         Command::Check => check_reply(alloc, bytes),

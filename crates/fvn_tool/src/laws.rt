@@ -1,7 +1,7 @@
 //! A law of outcomes, the contract of a function that does nothing.
 ghost use Rattle.fvn_tool.specs.Laws.{OutcomesAreDetermined};
 
-use crate::checking::readers_are_lawful;
+use fvn_commands::readers_are_lawful;
 use fvn_first::first::{modules_are_determined, modules_are_first, problems_are_determined};
 
 /// Words and the bytes of a source have at most one outcome.

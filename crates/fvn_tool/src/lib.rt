@@ -2,14 +2,11 @@
 #![tactic(auto)]
 
 mod answer;
-mod checking;
 mod laws;
 mod lines;
-mod status;
 mod top;
-mod verifying;
 mod words;
 
+pub use fvn_commands::Status;
 pub use laws::outcomes_are_determined;
-pub use status::Status;
 pub use top::run;

@@ -2,17 +2,15 @@
 ghost use Rattle.std.specs.Prelude.{◌≡◌, ◌⊎◌, map, string_bytes, None, ◌≢◌, IfOk, IfErr, IsOk};
 ghost use Rattle.fvn_outside.specs.Faults.{Rose, NeverFails};
 ghost use Rattle.fvn_tool.specs.Words.{command_of};
-ghost use Rattle.fvn_tool.specs.Texts.{bytes_of};
-ghost use Rattle.fvn_tool.specs.Statuses.{IsSilent};
+ghost use Rattle.fvn_commands.specs.Texts.{bytes_of};
+ghost use Rattle.fvn_commands.specs.Statuses.{IsSilent};
 ghost use Rattle.fvn_tool.specs.Runs.{seen, Leaves};
 ghost use Rattle.fvn_tool.specs.Outcomes.{IsOutcome};
 ghost use Rattle.fvn_tool.specs.Claims.{IsReport};
 
-use crate::answer::{Answer, reply};
-use crate::checking::readers_are_lawful;
-use crate::status::Status;
-use crate::words;
+use crate::{answer, words};
 use fvn_base::limits::MODULE_BYTES;
+use fvn_commands::{Answer, Status, readers_are_lawful};
 use fvn_first::first::{modules_are_determined, modules_are_first, problems_are_determined};
 use fvn_outside::{ReadAll, Sink, Source, WriteFailed, read_all, write_all};
 use fvn_terms::NoMemory;
@@ -32,13 +30,13 @@ fn respond<S: Source>(alloc: Global, words: &[String], source: &mut S) -> Result
     ensures no_read_fault { NeverFails S.faults → IfErr result (λ s. s ≡ Status.NoMemory) }
 {
     let Some(command) = words::read_command(words) else {
-        return Ok(Answer::usage());
+        return Ok(answer::usage());
     };
     match read_all(alloc, source, MODULE_BYTES) {
         Err(ReadAll::Fault) => Err(Status::ReadFault),
         Err(ReadAll::NoMemory) => Err(Status::NoMemory),
-        Err(ReadAll::TooLong) => Ok(Answer::too_long()),
-        Ok(bytes) => match reply(alloc, &bytes, command) {
+        Err(ReadAll::TooLong) => Ok(answer::too_long()),
+        Ok(bytes) => match answer::reply(alloc, &bytes, command) {
             Err(NoMemory) => Err(Status::NoMemory),
             Ok(answer) => Ok(answer),
         },

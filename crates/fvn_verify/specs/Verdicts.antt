@@ -36,7 +36,8 @@ module _ (d : Declarations) (s : Substitution) where
     abbrev pub AreWithin : Plain × Plain → Type 0
     AreWithin p = (symbols (form p.0) ≤ size) × (symbols (form p.1) ≤ size)
 
-    -- the flat form of the pair's first side that has over `size` symbols
+    -- f is the flat form, with over `size` symbols, of the left side of the pair, or of its right side where that of the
+    -- left one has no more than `size`
     abbrev pub IsOverIn : FlatTerm → Plain × Plain → Type 0
     IsOverIn f p = (size < symbols f) × ((f ≡ form p.0) ⊎ ((symbols (form p.0) ≤ size) × (f ≡ form p.1)))
 

@@ -1,7 +1,6 @@
 //! Whether bindings solve a problem modulo the axioms.
 ghost use Rattle.std.specs.Prelude.{◌≡◌, ◌<◌, All, IfOk};
 ghost use Rattle.fvn_terms.specs.Signature.{KeepsKinds};
-ghost use Rattle.fvn_terms.specs.Sorts.{IsWellSorted};
 ghost use Rattle.fvn_terms.specs.Substitution.{value};
 ghost use Rattle.fvn_problems.specs.Problems.{AreOfOneKind};
 ghost use Rattle.fvn_verify.specs.Verdicts.{IsVerdict};
@@ -62,8 +61,9 @@ pub fn verify(
 ) -> Result<Verdict, NoMemory>
     requires kinded { All (AreOfOneKind signature.now) problem.now.pairs }
     requires limited { size < u64.MAX }
-    requires sorted { IsWellSorted signature.now (value bindings.now.subst.pairs) }
-    ensures { IfOk result (IsVerdict signature.now (value bindings.now.subst.pairs) size problem.now.pairs) }
+    requires keeps { KeepsKinds signature.now (value bindings.now.subst.pairs) }
+    ensures { IfOk result
+        (IsVerdict signature.now (value bindings.now.subst.pairs) size problem.now.pairs) }
 {
     verify_pairs(
         alloc,

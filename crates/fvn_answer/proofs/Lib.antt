@@ -1,0 +1,25 @@
+-- Lemmas on lines and answer texts.
+mod Answering
+mod Applying
+mod Arranged
+mod BoundLines
+mod Collecting
+mod Joining
+mod Least
+mod Lists
+mod Naming
+mod NewNames
+mod OneReading
+mod Pieces
+mod Printable
+mod Printing
+mod ReadBack
+mod ReadLines
+mod Sums
+mod TextOrder
+mod TextPlaces
+mod Tokens
+mod Tops
+mod Turning
+mod ValueTexts
+mod Variables

@@ -1,0 +1,11 @@
+-- the bindings that are left decide
+use Rattle.std.proofs.Common.{◌≡◌, true, drop, map}
+use Rattle.std.specs.Prelude.{codes}
+use Rattle.fvn_answer.specs.inner.Bytes.{with_pairs}
+use Rattle.fvn_answer.specs.inner.Shown.{value_texts}
+use Rattle.fvn_answer.proofs.printed.values_text.Given as goal
+
+abbrev pub invariant-loop-x : goal.invariant-loop-x
+invariant-loop-x l =
+    with_pairs true (codes "{") (map (value_texts l.signature l.var_names.texts l.names l.order l.subst) l.fn.vars)
+    ≡ with_pairs l.first l.line.items (map (value_texts l.signature l.var_names.texts l.names l.order l.subst) (drop l.x-index l.vars))

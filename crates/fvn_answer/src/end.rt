@@ -1,0 +1,17 @@
+//! How an answer ends.
+
+use fvn_flat::Flat;
+use fvn_terms::OpId;
+
+/// How an answer ends: complete, or with the first bound or cause that was met.
+#[derive(Drop)]
+pub enum End {
+    Complete(usize),
+    Levels(u32),
+    Variants(u32),
+    Steps(u64, Flat),
+    Size(u64),
+    Basis(OpId),
+    Unifiers(u32),
+    Sorts(usize),
+}

@@ -1,0 +1,19 @@
+//! Lines and answer texts.
+#![tactic(auto)]
+
+mod answer;
+mod end;
+mod laws;
+mod line;
+mod numbering;
+mod printed;
+mod texts;
+
+pub use answer::{Line, answer_text};
+pub use end::End;
+pub use laws::{
+    equal_lines_are_instances, equal_lines_cover, lines_denote_one_substitution,
+    lines_denote_one_variant, six_variables_are_few,
+};
+pub use line::{line_of, variant_line};
+pub use numbering::FEW_VARIABLES;

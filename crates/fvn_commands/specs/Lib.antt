@@ -1,0 +1,7 @@
+-- The words of the contracts of this crate.
+pub mod Statuses
+pub mod Texts
+pub mod Checks
+pub mod Verifying
+pub mod Laws
+pub mod inner

@@ -1,0 +1,4 @@
+-- What contracts of counts speak of.
+pub mod Weights
+pub mod Profiles
+pub mod inner

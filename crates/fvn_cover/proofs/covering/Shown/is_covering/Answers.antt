@@ -1,0 +1,49 @@
+-- what was found says whether there is a covering
+use Rattle.std.proofs.Common.{◌≡◌, ◌++◌}
+use Rattle.fvn_counts.specs.Profiles.{IsProfile}
+use Rattle.fvn_cover.specs.Covering.{values_of}
+use Rattle.fvn_cover.proofs.CoverFacts.{length_values, values_fit, both_fit, found_covers, refused}
+use Rattle.fvn_cover.proofs.covering.Shown.is_covering.Goals as goal
+
+pub returns-then-not-may_cover : goal.returns-then-not-may_cover
+returns-then-not-may_cover c =
+    let d = c.args.sig.now in
+    let a = c.args.self.now in
+    let b = c.args.other.now in
+    let p : IsProfile (a.terms ++ values_of a) c.self.inside.profile.now = rw c.self.view_is at c.self.invariant.1 in
+    let q : IsProfile (b.terms ++ values_of b) c.other.inside.profile.now = rw c.other.view_is at c.other.invariant.1 in
+    let fit = both_fit d a.terms (values_of a) c.requires.this.terms (values_fit d a c.requires.this) in
+    let other_fit = both_fit d b.terms (values_of b) c.requires.that.terms (values_fit d b c.requires.that) in
+    refused d a b c.requires.alike (c.may_cover.ensures.none c.if-not-may_cover.true d (a.terms ++ values_of a) (b.terms ++ values_of b) p q fit other_fit)
+
+pub matches_both-requires-clause-patterns : goal.matches_both-requires-clause-patterns
+matches_both-requires-clause-patterns c =
+    let a = c.args.self.now in
+    let p : c.self.inside.values.now ≡ values_of a = rw c.self.view_is at c.self.invariant.0 in
+    let t : c.as_slice.result.now ≡ a.terms = rw c.self.view_is at c.as_slice.ensures in
+    rw (p, t) (both_fit c.args.sig.now a.terms (values_of a) c.requires.this.terms (values_fit c.args.sig.now a c.requires.this))
+
+pub matches_both-requires-clause-targets : goal.matches_both-requires-clause-targets
+matches_both-requires-clause-targets c =
+    let b = c.args.other.now in
+    let q : c.other.inside.values.now ≡ values_of b = rw c.other.view_is at c.other.invariant.0 in
+    let u : c.as_slice-2.result.now ≡ b.terms = rw c.other.view_is at c.as_slice-2.ensures in
+    rw (q, u) (both_fit c.args.sig.now b.terms (values_of b) c.requires.that.terms (values_fit c.args.sig.now b c.requires.that))
+
+pub matches_both-requires-clause-second_lengths : goal.matches_both-requires-clause-second_lengths
+matches_both-requires-clause-second_lengths c =
+    let a = c.args.self.now in
+    let b = c.args.other.now in
+    let p : c.self.inside.values.now ≡ values_of a = rw c.self.view_is at c.self.invariant.0 in
+    let q : c.other.inside.values.now ≡ values_of b = rw c.other.view_is at c.other.invariant.0 in
+    rw (p, q) (length_values a b c.requires.alike)
+
+pub returns : goal.returns
+returns c =
+    let a = c.args.self.now in
+    let b = c.args.other.now in
+    let p : c.self.inside.values.now ≡ values_of a = rw c.self.view_is at c.self.invariant.0 in
+    let q : c.other.inside.values.now ≡ values_of b = rw c.other.view_is at c.other.invariant.0 in
+    let t : c.as_slice.result.now ≡ a.terms = rw c.self.view_is at c.as_slice.ensures in
+    let u : c.as_slice-2.result.now ≡ b.terms = rw c.other.view_is at c.as_slice-2.ensures in
+    rw c.is_some.ensures (found_covers c.args.sig.now a b c.requires.alike c.in_ok-found.found (rw (p, q, t, u) at c.in_ok-found.ensures.some) (rw (p, q, t, u) at c.in_ok-found.ensures.none))

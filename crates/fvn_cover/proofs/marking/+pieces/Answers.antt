@@ -1,0 +1,31 @@
+-- two ranges of pieces in place of one
+use Rattle.std.proofs.Common.{◌≡◌, ◌-◌, ◌+◌, ◌/◌, length, refl, arith}
+use Rattle.std.proofs.lemmas.Result.{IfOk-at_ok}
+use Rattle.std.proofs.lemmas.Bool.Decides.{nat_tests}
+use Rattle.fvn_cover.specs.Marks.{AreMarks}
+use Rattle.fvn_cover.specs.inner.Pieces.{cut}
+use Rattle.fvn_cover.proofs.PieceFacts.{marks_joined, comparable_back, half_fits, back_range}
+use Rattle.fvn_cover.proofs.marking.+pieces.Goals as goal
+
+pub halves-returns : goal.halves-returns
+halves-returns g t c =
+    let d = c.args.work.now.sig.now in
+    let kept = c.args.work.now.kept.now in
+    rw c.in_ok-append.ensures.items
+    (marks_joined d kept c.args.front.now c.args.back.now c.in_ok-marks.marks.items c.in_ok-rest.rest.items
+    (IfOk-at_ok (λ m. AreMarks d kept c.args.front.now m.items) c.in_ok-marks.was c.join-first.ensures.first)
+    (IfOk-at_ok (λ m. AreMarks d kept c.args.back.now m.items) c.in_ok-rest.was c.join-first.ensures.second))
+
+pub run-split_at-requires : goal.run-split_at-requires
+run-split_at-requires g t c =
+    let w = c.args.work.now in
+    let size : c.start.result - c.start-begin.result ≡ cut w.count w.pieces (c.args.low + (c.args.high - c.args.low) / 2) - cut w.count w.pieces c.args.low = rw (c.start.ensures, c.start-begin.ensures) refl in
+    (half_fits w.count w.pieces c.args.low c.args.high (length c.args.candidates.now) c.requires.range (λ e. grind (arith, nat_tests)) (c.start.result - c.start-begin.result) size).0
+
+pub run-halves-requires-clause-back : goal.run-halves-requires-clause-back
+run-halves-requires-clause-back g t c κs within =
+    let w = c.args.work.now in
+    let size : c.start.result - c.start-begin.result ≡ cut w.count w.pieces (c.args.low + (c.args.high - c.args.low) / 2) - cut w.count w.pieces c.args.low = rw (c.start.ensures, c.start-begin.ensures) refl in (
+      back_range w.count w.pieces c.args.low c.args.high (length c.args.candidates.now) c.requires.range (λ e. grind (arith, nat_tests)) (c.start.result - c.start-begin.result) (length c.split_at.result.1.now) size c.split_at.ensures.back_len,
+      comparable_back w.sig.now w.kept.now c.args.candidates.now (c.start.result - c.start-begin.result) c.split_at.result.1.now c.split_at.ensures.back c.requires.comparable,
+    )

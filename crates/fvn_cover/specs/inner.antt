@@ -1,0 +1,4 @@
+-- What mirrors the code.
+pub mod Leaving
+pub mod Pieces
+pub mod Profiled

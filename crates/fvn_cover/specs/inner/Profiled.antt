@@ -1,0 +1,10 @@
+-- Profiles of variants.
+use Rattle.std.specs.Prelude.{◌++◌}
+use Rattle.fvn_counts.specs.declared.profile.Profile.{Profile}
+use Rattle.fvn_counts.specs.Profiles.{IsProfile}
+use Rattle.fvn_cover.specs.declared.variant.Variant.{Variant}
+use Rattle.fvn_cover.specs.Covering.{values_of}
+
+-- this was counted of the terms and then the values of the variant
+abbrev pub IsProfiled : Variant → Profile → Type 0
+IsProfiled v p = IsProfile (v.terms ++ values_of v) p

@@ -1,0 +1,20 @@
+//! Variants in flat form: which covers which, lists without covered members, and the marks of candidates.
+#![tactic(auto)]
+
+mod covering;
+mod gate;
+mod keeping;
+mod laws;
+mod marking;
+mod pruning;
+mod values;
+mod variant;
+
+pub use covering::covers;
+pub use gate::{Gate, OpenGate};
+pub use laws::{
+    at_most_sixteen_workers, covering_of_unifiers_is_instance, covering_of_variants_is_a_preorder,
+};
+pub use marking::{WORKERS, marks};
+pub use pruning::prune;
+pub use variant::{Variant, all_shared};

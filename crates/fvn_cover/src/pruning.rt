@@ -1,0 +1,94 @@
+//! Lists of variants without those that another one covers.
+ghost use Rattle.std.specs.Prelude.{◌≡◌, ◌↔◌, IsTrue, IfOk, All};
+ghost use Rattle.fvn_cover.specs.Covering.{CoversVariant, AreAlike, IsFlatVariant};
+ghost use Rattle.fvn_cover.specs.Pruning.{IsCoveredBySome, IsPruned};
+ghost use Rattle.fvn_cover.specs.inner.Leaving.{IsLeft, IsAdded};
+
+use crate::keeping::Kept;
+use crate::laws::covering_of_variants_is_a_preorder;
+use crate::variant::Variant;
+use fvn_sorts::Signature;
+use fvn_terms::NoMemory;
+use std::alloc::Global;
+
+// Whether some member of the list covers the variant.
+fn is_covered(alloc: Global, sig: &Signature, list: &[Kept], v: &Kept) -> Result<bool, NoMemory>
+    requires flat { IsFlatVariant sig.now v.now × All (IsFlatVariant sig.now) list.now }
+    requires alike { All (λ k. AreAlike k v.now) list.now }
+    ensures { IfOk result (λ r. IsTrue r ↔ IsCoveredBySome sig.now list.now v.now) }
+{
+    for k in list {
+        if k.shown().is_covering(alloc, sig, &v.shown())? {
+            return Ok(true);
+        }
+    }
+    Ok(false)
+}
+
+// The members of the list that the variant does not cover.
+fn uncovered(
+    alloc: Global,
+    sig: &Signature,
+    list: Vec<Kept>,
+    v: &Kept,
+) -> Result<Vec<Kept>, NoMemory>
+    requires flat { IsFlatVariant sig.now v.now × All (IsFlatVariant sig.now) list.items }
+    requires alike { All (λ k. AreAlike k v.now) list.items }
+    ensures { IfOk result (λ left. IsLeft (CoversVariant sig.now v.now) list.items left.items) }
+{
+    let mut left = Vec::new(alloc);
+    for k in list {
+        if !v.shown().is_covering(alloc, sig, &k.shown())? {
+            left.push(k)?;
+        }
+    }
+    Ok(left)
+}
+
+// The list with the variant, if none of its members covers it, and then without those that it covers.
+fn with_member(
+    alloc: Global,
+    sig: &Signature,
+    list: Vec<Kept>,
+    v: Kept,
+) -> Result<Vec<Kept>, NoMemory>
+    requires flat { IsFlatVariant sig.now v × All (IsFlatVariant sig.now) list.items }
+    requires alike { All (λ k. AreAlike k v) list.items }
+    ensures { IfOk result (λ after. IsAdded sig.now list.items v after.items) }
+{
+    if is_covered(alloc, sig, list.as_slice(), &v)? {
+        return Ok(list);
+    }
+    let mut after = uncovered(alloc, sig, list, &v)?;
+    after.push(v)?;
+    Ok(after)
+}
+
+// The variants alone.
+fn variants(alloc: Global, list: Vec<Kept>) -> Result<Vec<Variant>, NoMemory>
+    ensures { IfOk result (λ vs. vs.items ≡ list.items) }
+{
+    let mut vs = Vec::new(alloc);
+    for k in list {
+        vs.push(k.into_variant())?;
+    }
+    Ok(vs)
+}
+
+/// The list without those that another member covers; of members that cover each other the first stays.
+///
+/// The members are moved and not copied. Each is compared with those that are kept when its turn comes.
+pub fn prune(alloc: Global, sig: &Signature, list: Vec<Variant>) -> Result<Vec<Variant>, NoMemory>
+    requires flat { All (IsFlatVariant sig.now) list.items }
+    requires alike { All (λ a. All (AreAlike a) list.items) list.items }
+    ensures pruned { IfOk result (λ kept. IsPruned sig.now list.items kept.items) }
+{
+    covering_of_variants_is_a_preorder();
+    let mut kept = Vec::new(alloc);
+    for v in list {
+        let v = Kept::new(alloc, sig, v)?;
+        kept = with_member(alloc, sig, kept, v)?;
+    }
+    let vs = variants(alloc, kept)?;
+    Ok(vs)
+}

@@ -1,0 +1,7 @@
+-- Lemmas on readings of states.
+mod Walked
+mod Marking
+mod Gathered
+mod Heading
+mod Using
+mod Framing

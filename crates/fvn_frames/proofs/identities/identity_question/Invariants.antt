@@ -1,0 +1,7 @@
+-- Nothing is open of the classes so far.
+use Rattle.std.proofs.Common.{ℕ, ◌<◌}
+use Rattle.fvn_frames.specs.inner.Users.{IsSharedIn, ArePastIdentities}
+use Rattle.fvn_frames.proofs.identities.identity_question.Given as goal
+
+abbrev pub invariant-loop-k : goal.invariant-loop-k
+invariant-loop-k l = (k : ℕ) → k < l.k → IsSharedIn l.reading k → ArePastIdentities l.table l.state l.reading.sums k

@@ -1,0 +1,23 @@
+-- The lemmas of the crate.
+mod Advancing
+mod Tallies
+mod Placing
+mod SummandLists
+mod Runs
+mod VariableSteps
+mod PairingSteps
+mod Finding
+mod PairSteps
+mod PairFinding
+mod SumSteps
+mod SumFitting
+mod KnownSteps
+mod SumFinding
+mod ChoiceFinding
+mod SummedFinding
+mod Weights
+mod WholeSteps
+mod OnePiece
+mod Rooms
+mod Matchers
+mod TwoLists

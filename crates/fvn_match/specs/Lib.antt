@@ -1,0 +1,3 @@
+-- What contracts of matching speak of.
+pub mod Matching
+pub mod inner

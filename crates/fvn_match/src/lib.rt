@@ -1,0 +1,15 @@
+//! Matching of flat terms modulo the axioms.
+#![tactic(auto)]
+
+mod answers;
+mod choices;
+mod goals;
+mod known;
+mod matching;
+mod pairing;
+mod search;
+mod summands;
+mod variables;
+mod wholes;
+
+pub use matching::{matches, matches_both};

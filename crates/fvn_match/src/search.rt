@@ -1,0 +1,363 @@
+//! The search for a matcher: pairs first, then sums.
+ghost use Rattle.std.specs.Prelude.{◌≡◌, ◌*◌, ◌≤◌, length, IfOk};
+ghost use Rattle.std.specs.List.{AllZip};
+ghost use Rattle.fvn_terms.specs.Signature.{axioms};
+ghost use Rattle.fvn_terms.specs.Equality.{IsAssociative};
+ghost use Rattle.fvn_forms.specs.Flat.{fvar};
+ghost use Rattle.fvn_flat.specs.Forms.{head_of};
+ghost use Rattle.fvn_match.specs.inner.Choices.{quotients};
+ghost use Rattle.fvn_match.specs.inner.Variables.{AreOnce};
+ghost use Rattle.fvn_match.specs.inner.Goals.{IsPair, StateFits};
+ghost use Rattle.fvn_match.specs.inner.Searching.{
+  IsCrossing,
+  SumStateFits,
+  IsGroup,
+  SearchesGoals,
+  SearchesPair,
+  SearchesLists,
+  SearchesEither,
+  SearchesSum,
+  SearchesChoice,
+  SearchesChoices,
+};
+
+use crate::answers::answer;
+use crate::choices::{advanced, quotients, reduced, zeros};
+use crate::goals::{Bound, Goals, SumGoal, Sums};
+use crate::known::{has_known, without_known};
+use crate::summands::{after, alike, count_pieces, is_headed, reversed, summands};
+use crate::wholes::{are_zero, is_short, room, whole};
+use fvn_flat::{Flat, Subst};
+use fvn_sorts::Signature;
+use fvn_terms::{Axioms, NoMemory, OpId, Var};
+use std::alloc::Global;
+
+// A search for the values of some variables.
+#[derive(Clone, Copy)]
+pub(crate) struct Search<'s> {
+    pub(crate) alloc: Global,
+    pub(crate) sig: &'s Signature,
+    pub(crate) vars: &'s [Var],
+}
+
+impl Search<'_> {
+    // Pairs in their order, and when there are none left, sums.
+    #[cycle(search)]
+    pub(crate) fn solve(
+        &self,
+        goals: &Goals<'_>,
+        sums: &Sums<'_>,
+        bound: &Bound<'_>,
+    ) -> Result<Option<Subst>, NoMemory>
+        requires vars { AreOnce self.now.vars.now }
+        requires state { StateFits self.now.sig.now goals.now sums.now bound.now }
+        ensures { IfOk result (SearchesGoals self.now goals.now sums.now bound.now) }
+    {
+        match goals {
+            Goals::Pair(p, t, rest) => self.pair(&**p, &**t, &**rest, &*sums, &*bound),
+            Goals::Lists(ps, ts, rest) => self.lists(*ps, *ts, &**rest, &*sums, &*bound),
+            Goals::Done => match sums {
+                Sums::WithSum(goal, rest) => self.sum(&*goal, &**rest, &*bound),
+                Sums::NoSum => {
+                    let s = answer(self.alloc, self.vars, bound)?;
+                    Ok(Some(s))
+                }
+            },
+        }
+    }
+
+    // The pairs of two lists, then other goals.
+    #[cycle(search)]
+    fn lists(
+        &self,
+        ps: &[Flat],
+        ts: &[Flat],
+        rest: &Goals<'_>,
+        sums: &Sums<'_>,
+        bound: &Bound<'_>,
+    ) -> Result<Option<Subst>, NoMemory>
+        requires vars { AreOnce self.now.vars.now }
+        requires lengths { length ps.now ≡ length ts.now }
+        requires pairs { AllZip (IsPair self.now.sig.now) ps.now ts.now }
+        requires state { StateFits self.now.sig.now rest.now sums.now bound.now }
+        ensures { IfOk result (SearchesLists self.now ps.now ts.now rest.now sums.now bound.now) }
+    {
+        if ps.is_empty() {
+            return self.solve(&*rest, &*sums, &*bound);
+        }
+        let later = Goals::Lists(&ps[1..], &ts[1..], &*rest);
+        self.pair(&ps[0], &ts[0], &later, &*sums, &*bound)
+    }
+
+    // One pair, then other goals.
+    #[cycle(search)]
+    fn pair(
+        &self,
+        p: &Flat,
+        t: &Flat,
+        rest: &Goals<'_>,
+        sums: &Sums<'_>,
+        bound: &Bound<'_>,
+    ) -> Result<Option<Subst>, NoMemory>
+        requires vars { AreOnce self.now.vars.now }
+        requires pair { IsPair self.now.sig.now p.now t.now }
+        requires state { StateFits self.now.sig.now rest.now sums.now bound.now }
+        ensures { IfOk result (SearchesPair self.now p.now t.now rest.now sums.now bound.now) }
+    {
+        if let Some(x) = p.as_var() {
+            return self.variable(x, &*t, &*rest, &*sums, &*bound);
+        }
+        let f = match p.head() {
+            None => return Ok(None),
+            Some(f) => f,
+        };
+        self.sig.recall_good();
+        match self.sig.axioms(f) {
+            Axioms::Free => {
+                if !is_headed(t, f) {
+                    return Ok(None);
+                }
+                self.lists(p.args(), t.args(), &*rest, &*sums, &*bound)
+            }
+            Axioms::Comm => {
+                if !is_headed(t, f) {
+                    return Ok(None);
+                }
+                self.either(p.args(), t.args(), &*rest, &*sums, &*bound)
+            }
+            Axioms::AssocComm => self.summed(f, &*p, &*t, &*rest, &*sums, &*bound),
+            Axioms::AssocCommId(_) => self.summed(f, &*p, &*t, &*rest, &*sums, &*bound),
+        }
+    }
+
+    // The value of a variable, then other goals.
+    #[cycle(search)]
+    fn variable(
+        &self,
+        x: Var,
+        t: &Flat,
+        rest: &Goals<'_>,
+        sums: &Sums<'_>,
+        bound: &Bound<'_>,
+    ) -> Result<Option<Subst>, NoMemory>
+        requires vars { AreOnce self.now.vars.now }
+        requires pair { IsPair self.now.sig.now (fvar x) t.now }
+        requires state { StateFits self.now.sig.now rest.now sums.now bound.now }
+        ensures { IfOk result (SearchesPair self.now (fvar x) t.now rest.now sums.now bound.now) }
+    {
+        match bound.get(x) {
+            Some(v) => {
+                if !v.same(t) {
+                    return Ok(None);
+                }
+                self.solve(&*rest, &*sums, &*bound)
+            }
+            None => {
+                if !self.sig.leq(t.least_sort(self.sig), x.sort) {
+                    return Ok(None);
+                }
+                let more = Bound::Bind(x, &*t, &*bound);
+                self.solve(&*rest, &*sums, &more)
+            }
+        }
+    }
+
+    // Two pairs place by place, or else crosswise, then other goals.
+    #[cycle(search)]
+    fn either(
+        &self,
+        ps: &[Flat],
+        ts: &[Flat],
+        rest: &Goals<'_>,
+        sums: &Sums<'_>,
+        bound: &Bound<'_>,
+    ) -> Result<Option<Subst>, NoMemory>
+        requires vars { AreOnce self.now.vars.now }
+        requires patterns { length ps.now ≡ 2 }
+        requires targets { length ts.now ≡ 2 }
+        requires pairs { IsCrossing self.now.sig.now ps.now ts.now }
+        requires state { StateFits self.now.sig.now rest.now sums.now bound.now }
+        ensures { IfOk result (SearchesEither self.now ps.now ts.now rest.now sums.now bound.now) }
+    {
+        let p = &ps[0];
+        let q = &ps[1];
+        let t = &ts[0];
+        let u = &ts[1];
+        let later = Goals::Pair(q, u, &*rest);
+        let found = self.pair(p, t, &later, &*sums, &*bound)?;
+        if found.is_some() {
+            return Ok(found);
+        }
+        let across = Goals::Pair(q, t, &*rest);
+        self.pair(p, u, &across, &*sums, &*bound)
+    }
+
+    // Other goals, then the summands of a pair.
+    #[cycle(search)]
+    fn summed(
+        &self,
+        f: OpId,
+        p: &Flat,
+        t: &Flat,
+        rest: &Goals<'_>,
+        sums: &Sums<'_>,
+        bound: &Bound<'_>,
+    ) -> Result<Option<Subst>, NoMemory>
+        requires vars { AreOnce self.now.vars.now }
+        requires head { head_of p.now ≡ Some f }
+        requires associative { IsAssociative (axioms self.now.sig.now f) }
+        requires pair { IsPair self.now.sig.now p.now t.now }
+        requires state { StateFits self.now.sig.now rest.now sums.now bound.now }
+        ensures { IfOk result (SearchesPair self.now p.now t.now rest.now sums.now bound.now) }
+    {
+        self.sig.recall_good();
+        let patterns = reversed(self.alloc, p.args())?;
+        let counted = count_pieces(self.alloc, summands(self.sig, f, t))?;
+        let goal = SumGoal {
+            op: f,
+            patterns: patterns.as_slice(),
+            pieces: counted.pieces.as_slice(),
+            left: counted.left.as_slice(),
+            seen: 0,
+        };
+        let more = Sums::WithSum(goal, &*sums);
+        self.solve(&*rest, &more, &*bound)
+    }
+
+    // A sum without what is known of it, then other sums.
+    #[cycle(search)]
+    fn sum(
+        &self,
+        goal: &SumGoal<'_>,
+        sums: &Sums<'_>,
+        bound: &Bound<'_>,
+    ) -> Result<Option<Subst>, NoMemory>
+        requires vars { AreOnce self.now.vars.now }
+        requires state { SumStateFits self.now.sig.now goal.now sums.now bound.now }
+        ensures { IfOk result (SearchesSum self.now goal.now sums.now bound.now) }
+    {
+        if is_short(self.sig, goal) {
+            return Ok(None);
+        }
+        let seen = bound.count();
+        if !has_known(goal.patterns, bound, seen.saturating_sub(goal.seen)) {
+            let same = SumGoal {
+                op: goal.op,
+                patterns: goal.patterns,
+                pieces: goal.pieces,
+                left: goal.left,
+                seen,
+            };
+            return self.pick(&same, &*sums, &*bound);
+        }
+        let open = match without_known(self.alloc, self.sig, goal, bound)? {
+            None => return Ok(None),
+            Some(open) => open,
+        };
+        let smaller = SumGoal {
+            op: goal.op,
+            patterns: open.patterns.as_slice(),
+            pieces: goal.pieces,
+            left: open.left.as_slice(),
+            seen,
+        };
+        self.pick(&smaller, &*sums, &*bound)
+    }
+
+    // The first pattern of a sum, with what may be its summands, then what is left.
+    #[cycle(search)]
+    fn pick(
+        &self,
+        goal: &SumGoal<'_>,
+        sums: &Sums<'_>,
+        bound: &Bound<'_>,
+    ) -> Result<Option<Subst>, NoMemory>
+        requires vars { AreOnce self.now.vars.now }
+        requires state { SumStateFits self.now.sig.now goal.now sums.now bound.now }
+        ensures { IfOk result (SearchesSum self.now goal.now sums.now bound.now) }
+    {
+        if goal.patterns.is_empty() {
+            if !are_zero(goal.left) {
+                return Ok(None);
+            }
+            return self.solve(&Goals::Done, &*sums, &*bound);
+        }
+        let p = goal.patterns[0];
+        let k = alike(goal.patterns);
+        let limits = quotients(self.alloc, goal.left, k)?;
+        if k == goal.patterns.len() {
+            return self.choose(&*goal, &*p, k, limits.as_slice(), &*sums, &*bound);
+        }
+        let room = room(self.sig, goal, p, k);
+        self.choose_any(&*goal, &*p, k, limits.as_slice(), room, &*sums, &*bound)
+    }
+
+    // Each choice of summands in turn for the first pattern of a sum, then what is left.
+    #[cycle(search)]
+    fn choose_any(
+        &self,
+        goal: &SumGoal<'_>,
+        p: &Flat,
+        k: usize,
+        limits: &[usize],
+        room: usize,
+        sums: &Sums<'_>,
+        bound: &Bound<'_>,
+    ) -> Result<Option<Subst>, NoMemory>
+        requires vars { AreOnce self.now.vars.now }
+        requires state { SumStateFits self.now.sig.now goal.now sums.now bound.now }
+        requires group { IsGroup self.now.sig.now goal.now p.now k }
+        requires within { k ≤ length goal.now.patterns.now }
+        requires limits { limits.now ≡ quotients k goal.now.left.now }
+        ensures { IfOk result (SearchesChoices self.now goal.now p.now k limits.now room sums.now bound.now) }
+    {
+        let mut chosen = zeros(self.alloc, limits.len())?;
+        loop {
+            let found = self.choose(&*goal, &*p, k, chosen.as_slice(), &*sums, &*bound)?;
+            if found.is_some() {
+                return Ok(found);
+            }
+            chosen = match advanced(chosen, limits, room) {
+                None => return Ok(None),
+                Some(next) => next,
+            };
+        }
+    }
+
+    // One choice of summands for the first pattern of a sum, then what is left.
+    #[cycle(search)]
+    fn choose(
+        &self,
+        goal: &SumGoal<'_>,
+        p: &Flat,
+        k: usize,
+        chosen: &[usize],
+        sums: &Sums<'_>,
+        bound: &Bound<'_>,
+    ) -> Result<Option<Subst>, NoMemory>
+        requires vars { AreOnce self.now.vars.now }
+        requires state { SumStateFits self.now.sig.now goal.now sums.now bound.now }
+        requires group { IsGroup self.now.sig.now goal.now p.now k }
+        requires within { k ≤ length goal.now.patterns.now }
+        requires long { length chosen.now ≡ length goal.now.left.now }
+        requires choice { AllZip (λ j n. k * j ≤ n) chosen.now goal.now.left.now }
+        ensures { IfOk result (SearchesChoice self.now goal.now p.now k chosen.now sums.now bound.now) }
+    {
+        self.sig.recall_good();
+        let whole = match whole(self.alloc, self.sig, goal, chosen)? {
+            None => return Ok(None),
+            Some(t) => t,
+        };
+        let left = reduced(self.alloc, k, goal.left, chosen)?;
+        let others = after(goal.patterns, k);
+        let smaller = SumGoal {
+            op: goal.op,
+            patterns: others,
+            pieces: goal.pieces,
+            left: left.as_slice(),
+            seen: goal.seen,
+        };
+        let more = Sums::WithSum(smaller, &*sums);
+        self.pair(&*p, &whole, &Goals::Done, &more, &*bound)
+    }
+}

@@ -1,0 +1,82 @@
+//! The variables of patterns.
+ghost use Rattle.std.specs.Prelude.{◌≡◌, ◌++◌, map, IfOk};
+ghost use Rattle.fvn_terms.specs.Substitution.{Occurs};
+ghost use Rattle.fvn_terms.specs.Variants.{OccursInSome};
+ghost use Rattle.fvn_forms.specs.Flat.{plain};
+ghost use Rattle.fvn_flat.specs.Variables.{listed};
+ghost use Rattle.fvn_match.specs.inner.Variables.{AreOnce, Collects, AreVariablesOf};
+
+use fvn_flat::Flat;
+use fvn_terms::{NoMemory, Var};
+use std::alloc::Global;
+
+// Whether the variable stands in the list.
+fn is_listed(vars: &[Var], x: Var) -> bool
+    ensures { result ≡ listed vars.now x }
+{
+    for y in vars {
+        if *y == x {
+            return true;
+        }
+    }
+    false
+}
+
+// The variables with one more at the end, if it is not there yet.
+fn with_variable(vars: Vec<Var>, x: Var) -> Result<Vec<Var>, NoMemory>
+    requires { AreOnce vars.items }
+    ensures { IfOk result (λ all. Collects vars.items (λ y. y ≡ x) all.items) }
+{
+    let mut all = vars;
+    if is_listed(all.as_slice(), x) {
+        return Ok(all);
+    }
+    all.push(x)?;
+    Ok(all)
+}
+
+// The variables with those of a term that are not there yet.
+fn with_variables(t: &Flat, vars: Vec<Var>) -> Result<Vec<Var>, NoMemory>
+    requires { AreOnce vars.items }
+    ensures { IfOk result (λ all. Collects vars.items (λ y. Occurs y (plain t.now)) all.items) }
+{
+    match t.as_var() {
+        Some(x) => {
+            let all = with_variable(vars, x)?;
+            Ok(all)
+        }
+        None => {
+            let mut all = vars;
+            for u in t.args() {
+                all = with_variables(u, all)?;
+            }
+            Ok(all)
+        }
+    }
+}
+
+// The variables with those of the patterns that are not there yet.
+fn with_all_variables(vars: Vec<Var>, patterns: &[Flat]) -> Result<Vec<Var>, NoMemory>
+    requires { AreOnce vars.items }
+    ensures { IfOk result (λ all. Collects vars.items (λ y. OccursInSome y (map plain patterns.now)) all.items) }
+{
+    let mut all = vars;
+    for p in patterns {
+        all = with_variables(p, all)?;
+    }
+    Ok(all)
+}
+
+// The variables of the patterns of two lists, each once.
+pub(crate) fn variables(
+    alloc: Global,
+    patterns: &[Flat],
+    others: &[Flat],
+) -> Result<Vec<Var>, NoMemory>
+    ensures { IfOk result (λ all. AreVariablesOf (patterns.now ++ others.now) all.items) }
+{
+    let none = Vec::new(alloc);
+    let some = with_all_variables(none, patterns)?;
+    let all = with_all_variables(some, others)?;
+    Ok(all)
+}

@@ -1,0 +1,140 @@
+//! Sums of chosen pieces, and how many pieces a pattern may have.
+ghost use Rattle.std.specs.Prelude.{◌≡◌, ◌↔◌, ◌++◌, ◌≤◌, length, replicate, sum, IsTrue, IfOk};
+ghost use Rattle.fvn_flat.specs.Fits.{Fits};
+ghost use Rattle.fvn_match.specs.inner.Tallies.{repeated};
+ghost use Rattle.fvn_match.specs.inner.Summands.{references};
+ghost use Rattle.fvn_match.specs.inner.Goals.{SumFits};
+ghost use Rattle.fvn_match.specs.inner.Searching.{IsGroup, IsOnePiece, IsRoom, IsEmptySum, IsWhole, IsShort};
+
+use crate::choices::total;
+use crate::goals::SumGoal;
+use crate::summands::is_headed;
+use fvn_flat::Flat;
+use fvn_sorts::Signature;
+use fvn_terms::{Axioms, NoMemory, OpId};
+use std::alloc::Global;
+
+// Whether all numbers are zero.
+pub(crate) fn are_zero(ns: &[usize]) -> bool
+    ensures { IsTrue result ↔ (sum ns.now ≡ 0) }
+{
+    for n in ns {
+        if *n != 0 {
+            return false;
+        }
+    }
+    true
+}
+
+// The terms with a number of copies of one more.
+fn with_copies(alloc: Global, terms: Vec<Flat>, t: &Flat, n: usize) -> Result<Vec<Flat>, NoMemory>
+    ensures { IfOk result (λ all. all.items ≡ terms.items ++ replicate n t.now) }
+{
+    let mut all = terms;
+    for _ in 0..n {
+        all.push(t.copy(alloc)?)?;
+    }
+    Ok(all)
+}
+
+// Copies of the pieces, each as often as its number says.
+fn copies(alloc: Global, pieces: &[&Flat], chosen: &[usize]) -> Result<Vec<Flat>, NoMemory>
+    requires { length chosen.now ≡ length pieces.now }
+    ensures { IfOk result (λ all. all.items ≡ repeated (references pieces.now) chosen.now) }
+{
+    let mut all = Vec::new(alloc);
+    for i in 0..chosen.len() {
+        all = with_copies(alloc, all, pieces[i], chosen[i])?;
+    }
+    Ok(all)
+}
+
+// The sum without pieces: the identity, if there is one.
+fn empty_sum(alloc: Global, sig: &Signature, goal: &SumGoal<'_>) -> Result<Option<Flat>, NoMemory>
+    requires { SumFits sig.now goal.now }
+    ensures { IfOk result (IsEmptySum sig.now goal.now.op) }
+{
+    sig.recall_good();
+    match sig.identity(goal.op) {
+        None => Ok(None),
+        Some(e) => {
+            let t = Flat::app(alloc, sig, e, Vec::new(alloc))?;
+            Ok(Some(t))
+        }
+    }
+}
+
+// The sum of the chosen pieces; without pieces the identity, if there is one.
+pub(crate) fn whole(
+    alloc: Global,
+    sig: &Signature,
+    goal: &SumGoal<'_>,
+    chosen: &[usize],
+) -> Result<Option<Flat>, NoMemory>
+    requires fits { SumFits sig.now goal.now }
+    requires long { length chosen.now ≡ length goal.now.left.now }
+    ensures { IfOk result (IsWhole sig.now goal.now chosen.now) }
+{
+    sig.recall_good();
+    let mut terms = copies(alloc, goal.pieces, chosen)?;
+    let last = match terms.pop() {
+        None => {
+            let none = empty_sum(alloc, sig, goal)?;
+            return Ok(none);
+        }
+        Some(last) => last,
+    };
+    if terms.is_empty() {
+        return Ok(Some(last));
+    }
+    terms.push(last)?;
+    let t = Flat::app(alloc, sig, goal.op, terms)?;
+    Ok(Some(t))
+}
+
+// Whether there are too few pieces for the patterns.
+pub(crate) fn is_short(sig: &Signature, goal: &SumGoal<'_>) -> bool
+    requires { SumFits sig.now goal.now }
+    ensures { IsTrue result → IsShort sig.now goal.now }
+{
+    match sig.identity(goal.op) {
+        Some(_) => false,
+        None => total(goal.left) < goal.patterns.len(),
+    }
+}
+
+// Whether no instance of the pattern has more than one summand.
+fn is_one_piece(sig: &Signature, f: OpId, p: &Flat) -> bool
+    requires { Fits sig.now p.now }
+    ensures { IsTrue result → IsOnePiece sig.now f p.now }
+{
+    sig.recall_good();
+    let g = match p.head() {
+        None => return false,
+        Some(g) => g,
+    };
+    match sig.axioms(g) {
+        Axioms::Free => true,
+        Axioms::Comm => true,
+        Axioms::AssocComm => !is_headed(p, f),
+        Axioms::AssocCommId(_) => false,
+    }
+}
+
+// How many of the pieces the first pattern may have at most.
+pub(crate) fn room(sig: &Signature, goal: &SumGoal<'_>, p: &Flat, k: usize) -> usize
+    requires fits { SumFits sig.now goal.now }
+    requires group { IsGroup sig.now goal.now p.now k }
+    requires some { 1 ≤ k }
+    requires within { k ≤ length goal.now.patterns.now }
+    ensures { IsRoom sig.now goal.now p.now result }
+{
+    if is_one_piece(sig, goal.op, p) {
+        return 1;
+    }
+    let all = total(goal.left);
+    match sig.identity(goal.op) {
+        Some(_) => all / k,
+        None => all.saturating_sub(goal.patterns.len() - k) / k,
+    }
+}

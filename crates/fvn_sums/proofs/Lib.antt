@@ -1,0 +1,10 @@
+-- Lemmas on sum systems over nodes, and on values of classes.
+mod Terms
+mod Weighing
+mod Zeroes
+mod Members
+mod Counting
+mod Collected
+mod OfProblems
+mod Sizes
+mod Substituted

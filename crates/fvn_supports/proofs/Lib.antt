@@ -1,0 +1,5 @@
+-- Lemmas on combinations of vectors, on pieces, and on the choice that they make.
+mod Combining
+mod Placing
+mod Picking
+mod Choosing
