@@ -12,8 +12,9 @@ use Rattle.fvn_nodes.specs.Table.{NodeTable, IsOver}
 use Rattle.fvn_nodes.specs.declared.table.Node.{Node}
 use Rattle.fvn_nodes.specs.declared.table.Node.TheVariants.{Var, App}
 use Rattle.fvn_purify.specs.Parts.{Outline}
-use Rattle.fvn_purify.specs.Heads.{head_by, head_of, IsTheory, IsUnitNode}
-use Rattle.fvn_purify.specs.Obeying.{operator_of, IsUnitName, AsksTheory, AsksFor}
+use Rattle.fvn_purify.specs.Heads.{head_by, operator_head, IsTheory, IsUnitNode}
+use Rattle.fvn_flat.specs.Forms.{head_of}
+use Rattle.fvn_purify.specs.Obeying.{IsUnitName, AsksTheory, AsksFor}
 use Rattle.fvn_purify.specs.declared.classes.Head.{Head}
 use Rattle.fvn_purify.specs.declared.classes.Head.TheVariants.{Free, Pair, Sum, Identity}
 
@@ -65,7 +66,7 @@ module _ (d : Declarations) (c : Outline) where
     | inr n ↦ inr (λ u. n u.1.0 u.1.1 (subst (λ k. IsOver c.table.nodes k e []) (sym u.1.2) u.1.3))
   ]
 
-  theory_asks : (v : FlatTerm) (f : OpId) → AsksTheory d c v (head_of d f) → AsksFor d c v (head_of d f)
+  theory_asks : (v : FlatTerm) (f : OpId) → AsksTheory d c v (operator_head d f) → AsksFor d c v (operator_head d f)
   theory_asks v f h = go (axioms d f) h
     where
       go : (a : Axioms) → AsksTheory d c v (head_by a f) → AsksFor d c v (head_by a f)
@@ -79,14 +80,14 @@ module _ (d : Declarations) (c : Outline) where
     pub head : Head
     pub asks : AsksFor d c v head
 
-  of_theory : (v : FlatTerm) (g : OpId) → operator_of v ≡ Some g → ((e : OpId) → IsUnitName d c e → v ≢ fconstant e) → Choice v
+  of_theory : (v : FlatTerm) (g : OpId) → head_of v ≡ Some g → ((e : OpId) → IsUnitName d c e → v ≢ fconstant e) → Choice v
   of_theory v g is no_unit = elim (listed c.ops g) [
     | inl h ↦ record {
-      head = head_of d g;
+      head = operator_head d g;
       asks = theory_asks v g (record {
         no_unit = no_unit;
         theory = inr (g, h, refl);
-        listed = λ f at k. let e : Some g ≡ Some f = sym is ∙ at in ap (head_of d) (let s : g ≡ f = cc in s);
+        listed = λ f at k. let e : Some g ≡ Some f = sym is ∙ at in ap (operator_head d) (let s : g ≡ f = cc in s);
         free = λ f at k. absurd (k (let e : Some g ≡ Some f = sym is ∙ at in subst (Contains c.ops) (let s : g ≡ f = cc in s) h));
       });
     }

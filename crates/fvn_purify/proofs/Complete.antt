@@ -33,11 +33,12 @@ use Rattle.fvn_nodes.specs.declared.table.Node.{Node}
 use Rattle.fvn_nodes.specs.declared.table.Node.TheVariants.{Var, App}
 use Rattle.fvn_nodes.proofs.Nodes.{arguments_within}
 use Rattle.fvn_purify.specs.Parts.{Outline, ArePair, HasAxioms}
-use Rattle.fvn_purify.specs.Heads.{head_by, head_of, IsTheory, IsUnitNode}
-use Rattle.fvn_purify.specs.Splits.{number_in, IsInUnit, HasTheory, CanHead, AreHeads, IsWay, AreWays, IsSplitBy, IsSplit, HasOneFree}
-use Rattle.fvn_purify.specs.Obeying.{operator_of, IsUnitName, AsksTheory, AsksFor, MakesEqual, MeetsWay, Obeys}
+use Rattle.fvn_purify.specs.Heads.{head_by, operator_head, IsTheory, IsUnitNode}
+use Rattle.fvn_purify.specs.Splits.{number_in, IsInUnit, HasTheory, CanHead, AreHeadsOfParts, IsWayOfPair, AreWaysOfPairs, IsSplitBy, IsSplit, HasOneFree}
+use Rattle.fvn_flat.specs.Forms.{head_of}
+use Rattle.fvn_purify.specs.Obeying.{IsUnitName, AsksTheory, AsksFor, MakesEqual, MeetsWay, ObeysSplit}
 use Rattle.fvn_purify.specs.Cursor.{IsAhead, IsAheadOf, Pending}
-use Rattle.fvn_purify.specs.inner.Choices.{asking, AreStepped, IsSound, AreApart, IsKept}
+use Rattle.fvn_purify.specs.inner.Choices.{asking, AreStepped, IsSound, ShareNoSplit, IsKept}
 use Rattle.fvn_purify.specs.inner.Founds.{cursor}
 use Rattle.fvn_purify.specs.declared.classes.Head.{Head}
 use Rattle.fvn_purify.specs.declared.classes.Head.TheVariants.{Free, Pair, Sum, Identity}
@@ -73,22 +74,22 @@ module _ (d : Declarations) (c : Outline) where
 
   -- a class has one free operator
   pub one_free : (split : Split) → IsSplit d c split → HasOneFree d c split
-  one_free split s k l i j n f g ks ls at there number same left right own other =
+  one_free split s k l i j n f g at there left right =
       let class = s.0 in
-      let a = number_at class split s.2 k i n at number in
-      let b = number_at class split s.2 l j n there same in
-      let e = number_tells class c.places.parts i j (contains_at c.places.parts k i at) (sym a ∙ b) in
-      let alike = (s.1.nodes i j f g ks ls left right).alike e in
-      alike.one_head (bare_free f own) (bare_free g other)
+      let a = number_at class split s.2 k i n at.0 at.1 in
+      let b = number_at class split s.2 l j n there.0 there.1 in
+      let e = number_tells class c.places.parts i j (contains_at c.places.parts k i at.0) (sym a ∙ b) in
+      let alike = (s.1.nodes i j f g left.1.0 right.1.0 left.1.1 right.1.1).alike e in
+      alike.one_head (bare_free f left.0) (bare_free g right.0)
 
 module _ (d : Declarations) (c : Outline) (fit : AreStepped d c) where
   -- how a cursor begins
   pub begun_kept : (r : Option State) → IsStart d c.table r → IsKept (cursor d c (asking r))
-  begun_kept None h = record { fit = fit; sound = all_from (IsSound d c) [] (λ p k. absurd (contains_none p k)); apart = all_pairs_none (AreApart d c) }
+  begun_kept None h = record { fit = fit; sound = all_from (IsSound d c) [] (λ p k. absurd (contains_none p k)); apart = all_pairs_none (ShareNoSplit d c) }
   begun_kept (Some s) h = record {
     fit = fit;
     sound = all_from (IsSound d c) (Asking s ∷ []) (λ p k. elim (contains_cases (Asking s) [] p k) [ inl e ↦ subst (IsSound d c) e h.0 | inr z ↦ absurd (contains_none p z) ]);
-    apart = all_pairs_one (AreApart d c) (Asking s);
+    apart = all_pairs_one (ShareNoSplit d c) (Asking s);
   }
 
   pub begun_exact : (r : Option State) → IsStart d c.table r → (split : Split) → Pending (cursor d c (asking r)) split ↔ IsSplit d c split
@@ -126,16 +127,16 @@ module _ (d : Declarations) (c : Outline) (fit : AreStepped d c) where
     theory_can i h l asks = record {
       no_unit = λ e k. asks.no_unit e (k.0, k.1) (same_value i k.0 l (over_within k.0 e [] k.1.3) k.2 ∙ value_constant d u c.table fit.made k.0 e k.1.3);
       theory = asks.theory;
-      solid = λ j f ks is bare same. solid j f ks is bare (ap operator_of (sym (same_value j i (over_within j f ks is) l same)) ∙ value_headed d fits problem is_problem c.table fit.made table u j f ks is bare);
+      solid = λ j f m. solid j f m.arguments m.is m.solid (ap head_of (sym (same_value j i (over_within j f m.arguments m.is) l m.same)) ∙ value_headed d fits problem is_problem c.table fit.made table u j f m.arguments m.is m.solid);
     }
       where
-        solid : (j : ℕ) (f : OpId) (ks : List ℕ) → IsOver c.table.nodes j f ks → HasNoIdentity (axioms d f) → operator_of (value i) ≡ Some f → h ≡ head_of d f
+        solid : (j : ℕ) (f : OpId) (ks : List ℕ) → IsOver c.table.nodes j f ks → HasNoIdentity (axioms d f) → head_of (value i) ≡ Some f → h ≡ operator_head d f
         solid j f ks is bare at = go (axioms d f) refl
           where
-            own : (a : Axioms) → axioms d f ≡ a → NoAxioms ≢ a → h ≡ head_of d f
+            own : (a : Axioms) → axioms d f ≡ a → NoAxioms ≢ a → h ≡ operator_head d f
             own a e n = asks.listed f at ((fit.are.ops.all f).1 ((λ z. n (sym z ∙ e)), (j, ks, is)))
 
-            go : (a : Axioms) → axioms d f ≡ a → h ≡ head_of d f
+            go : (a : Axioms) → axioms d f ≡ a → h ≡ operator_head d f
             go NoAxioms e = asks.free f at (λ k. ((fit.are.ops.all f).0 k).0 e) ∙ sym (ap (λ a. head_by a f) e)
             go Comm e = own Comm e (λ z. cc)
             go AssocComm e = own AssocComm e (λ z. cc)
@@ -199,11 +200,11 @@ module _ (d : Declarations) (c : Outline) (fit : AreStepped d c) where
     its_split_by = record {
       numbers = refl;
       heads = record {
-        can = λ k i h at there. subst (CanHead d c class i) (head_is k i h at there) (asks_can i (head_at i) (headed_within k i at) (asked i));
-        one = λ k l i j h g at there p q e. sym (head_is k i h at p) ∙ same_head i j (same_value i j (headed_within k i at) (headed_within l j there) e) ∙ head_is l j g there q;
+        can = λ k i h at. subst (CanHead d c class i) (head_is k i h at.0 at.1) (asks_can i (head_at i) (headed_within k i at.0) (asked i));
+        one = λ k l i j h g at there e. sym (head_is k i h at.0 at.1) ∙ same_head i j (same_value i j (headed_within k i at.0) (headed_within l j there.0) e) ∙ head_is l j g there.0 there.1;
       };
       all_heads = length-map c.places.headed head_at;
-      swaps = λ k p w at there f g a v ks ls l m same. way_is k p w at there ∙ way_over p f g a v ks ls l m;
+      swaps = λ k p w at f g a v ks ls l m same. way_is k p w at.0 at.1 ∙ way_over p f g a v ks ls l m;
       all_swaps = length-map c.places.pairs way_at;
     }
 
@@ -253,23 +254,23 @@ module _ (d : Declarations) (c : Outline) (fit : AreStepped d c) where
             from_not false e = cc
 
     -- the unifier obeys it
-    pub its_obeyed : Obeys d c u its_split
+    pub its_obeyed : ObeysSplit d c u its_split
     unfolding its_split
     its_obeyed = record {
-      numbers = λ k l i j n m at there number same.
-          let a = number_at d c class its_split its_split_by k i n at number in
-          let b = number_at d c class its_split its_split_by l j m there same in
-          let p = parts_within k i at in
-          let q = parts_within l j there in (
-            λ e. made_equal i j p q (number_tells class c.places.parts i j (contains_at c.places.parts k i at) (sym a ∙ e ∙ b)),
+      numbers = λ k l i j n m at there.
+          let a = number_at d c class its_split its_split_by k i n at.0 at.1 in
+          let b = number_at d c class its_split its_split_by l j m there.0 there.1 in
+          let p = parts_within k i at.0 in
+          let q = parts_within l j there.0 in (
+            λ e. made_equal i j p q (number_tells class c.places.parts i j (contains_at c.places.parts k i at.0) (sym a ∙ e ∙ b)),
             λ e. a ∙ number_same class c.places.parts i j ((parts.exact i j p q).1 e) ∙ sym b,
           );
       all_numbers = length-map c.places.parts (number_in class c.places.parts);
-      heads = λ k i h at there. subst (AsksFor d c (value i)) (head_is k i h at there) (asked i);
+      heads = λ k i h at. subst (AsksFor d c (value i)) (head_is k i h at.0 at.1) (asked i);
       all_heads = length-map c.places.headed head_at;
-      swaps = λ k p t f a b v w at there l m equal. meets p f a b v w (contains_at c.places.pairs k p at) l m equal t (way_is k p t at there ∙ way_over p f f a v (b ∷ []) (w ∷ []) l m);
+      swaps = λ k p t at f a b v w l m equal. meets p f a b v w (contains_at c.places.pairs k p at.0) l m equal t (way_is k p t at.0 at.1 ∙ way_over p f f a v (b ∷ []) (w ∷ []) l m);
       all_swaps = length-map c.places.pairs way_at;
     }
 
-    pub obeyed_split : (split : Split) × (Obeys d c u split × IsSplit d c split)
+    pub obeyed_split : (split : Split) × (ObeysSplit d c u split × IsSplit d c split)
     obeyed_split = (its_split, (its_obeyed, (class, parts.partition, its_split_by)))

@@ -8,8 +8,8 @@ use Rattle.fvn_base.proofs.Membership.{contains_here}
 use Rattle.fvn_terms.specs.declared.declarations.Declarations.{Declarations}
 use Rattle.fvn_nodes.specs.States.{open_pairs}
 use Rattle.fvn_purify.specs.Parts.{Outline}
-use Rattle.fvn_purify.specs.Cursor.{IsAheadOf, Pending, HasSamePending, IsGivenFrom}
-use Rattle.fvn_purify.specs.inner.Choices.{base, places_count, weight, weights, IsSound, AreApart, IsExpansion, IsKept}
+use Rattle.fvn_purify.specs.Cursor.{IsAheadOf, Pending, HasSamePending, IsAtEnd, IsTakenFrom, IsGivenFrom}
+use Rattle.fvn_purify.specs.inner.Choices.{base, places_count, weight, weights, IsSound, ShareNoSplit, IsExpansion, IsKept}
 use Rattle.fvn_purify.specs.inner.Founds.{cursor, cursor_weight}
 use Rattle.fvn_purify.specs.declared.split.Split.{Split}
 use Rattle.fvn_purify.specs.declared.choosing.Partial.{Partial}
@@ -35,8 +35,8 @@ module _ (d : Declarations) (c : Outline) (below : List Partial) (top : Partial)
         | inl l ↦ All-contains (IsSound d c) (below ++ top ∷ []) p kept.sound (contains_left below (top ∷ []) p l)
         | inr r ↦ All-contains (IsSound d c) after p expansion.sound r
       ]);
-      apart = all_pairs_append (AreApart d c) below after (all_pairs_front (AreApart d c) below (top ∷ []) kept.apart) expansion.apart (λ p q h k split a b.
-          all_pairs_cross (AreApart d c) below (top ∷ []) kept.apart p top h (contains_here top []) split a ((expansion.same split).1 (any_from (Ahead split) after q k b)));
+      apart = all_pairs_append (ShareNoSplit d c) below after (all_pairs_front (ShareNoSplit d c) below (top ∷ []) kept.apart) expansion.apart (λ p q h k split a b.
+          all_pairs_cross (ShareNoSplit d c) below (top ∷ []) kept.apart p top h (contains_here top []) split a ((expansion.same split).1 (any_from (Ahead split) after q k b)));
     }
 
     pub more_same : HasSamePending (cursor d c (below ++ top ∷ [])) (cursor d c (below ++ after))
@@ -65,25 +65,25 @@ module _ (d : Declarations) (c : Outline) (below : List Partial) (top : Partial)
     given_kept = record {
       fit = kept.fit;
       sound = all_from (IsSound d c) below (λ p h. All-contains (IsSound d c) (below ++ top ∷ []) p kept.sound (contains_left below (top ∷ []) p h));
-      apart = all_pairs_front (AreApart d c) below (top ∷ []) kept.apart;
+      apart = all_pairs_front (ShareNoSplit d c) below (top ∷ []) kept.apart;
     }
 
     pub given_from : IsGivenFrom (cursor d c (below ++ top ∷ [])) (cursor d c below) (Some given)
-    given_from = (
-      any_right (Ahead given) below (top ∷ []) (any_here (Ahead given) top [] ((only given).1 refl)),
-      λ split. (
+    given_from = record {
+      was = any_right (Ahead given) below (top ∷ []) (any_here (Ahead given) top [] ((only given).1 refl));
+      others = λ split. (
         λ h. (
           any_left (Ahead split) below (top ∷ []) h,
           λ e.
               let r = any_contains (Ahead split) below h in
-              all_pairs_cross (AreApart d c) below (top ∷ []) kept.apart r.0 top r.1 (contains_here top []) split r.2 ((only split).1 e),
+              all_pairs_cross (ShareNoSplit d c) below (top ∷ []) kept.apart r.0 top r.1 (contains_here top []) split r.2 ((only split).1 e),
         ),
         λ h. elim (any_append (Ahead split) below (top ∷ []) h.0) [
           | inl l ↦ l
           | inr r ↦ absurd (h.1 ((only split).0 (any_one (Ahead split) top r)))
         ],
-      ),
-    )
+      );
+    }
 
 -- a partial is not weightless
 some_weight : (d : Declarations) (c : Outline) (p : Partial) → 1 ≤ weight d c p
@@ -102,15 +102,18 @@ top_falls d c below top =
 
 -- nothing is ahead of nothing
 pub none_from : (d : Declarations) (c : Outline) (partials : List Partial) → partials ≡ [] → IsGivenFrom (cursor d c partials) (cursor d c partials) None
-none_from d c partials e split h = any_none (λ p. IsAheadOf d c p split) (subst (Any (λ p. IsAheadOf d c p split)) e h)
+none_from d c partials e = (nothing, nothing)
+  where
+    nothing : IsAtEnd (cursor d c partials)
+    nothing split h = any_none (λ p. IsAheadOf d c p split) (subst (Any (λ p. IsAheadOf d c p split)) e h)
 
 -- a step from what has the same to come
 pub same_then_given : (d : Declarations) (c : Outline) (first before after : List Partial) (r : Option Split) → HasSamePending (cursor d c first) (cursor d c before) → IsGivenFrom (cursor d c before) (cursor d c after) r → IsGivenFrom (cursor d c first) (cursor d c after) r
-same_then_given d c first before after None same h = λ split k. h split ((same split).1 k)
-same_then_given d c first before after (Some given) same h = (
-  (same given).0 h.0,
-  λ split. (λ k. let r = (h.1 split).0 k in ((same split).0 r.0, r.1), λ k. (h.1 split).1 ((same split).1 k.0, k.1)),
-)
+same_then_given d c first before after None same h = (λ split k. h.0 split ((same split).1 k), h.1)
+same_then_given d c first before after (Some given) same h = record {
+  was = (same given).0 h.was;
+  others = λ split. (λ k. let r = (h.others split).0 k in ((same split).0 r.0, r.1), λ k. (h.others split).1 ((same split).1 k.0, k.1));
+}
 
 pub same_then_same : (d : Declarations) (c : Outline) (first before after : List Partial) → HasSamePending (cursor d c first) (cursor d c before) → HasSamePending (cursor d c before) (cursor d c after) → HasSamePending (cursor d c first) (cursor d c after)
 same_then_same d c first before after f g split = (λ k. (f split).0 ((g split).0 k), λ k. (g split).1 ((f split).1 k))

@@ -20,7 +20,7 @@ use Rattle.fvn_nodes.proofs.Admitting.{admits_same, admits_apart, decided}
 use Rattle.fvn_purify.specs.Parts.{Outline}
 use Rattle.fvn_purify.specs.Heads.{IsUnitNode}
 use Rattle.fvn_purify.specs.inner.Options.{AreFirst}
-use Rattle.fvn_purify.specs.inner.Choices.{AreStepped, ArePlacesWithin, IsQuestion, IsDecided}
+use Rattle.fvn_purify.specs.inner.Choices.{AreStepped, ArePlacesWithin, IsSplitQuestion, IsDecided}
 use Rattle.fvn_purify.proofs.Numbers.{same_tests}
 
 module _ (d : Declarations) (c : Outline) (fit : AreStepped d c) where
@@ -39,7 +39,7 @@ module _ (d : Declarations) (c : Outline) (fit : AreStepped d c) where
   one_operator i f g ks ls a b = let e : Some (App f ks) ≡ Some (App g ls) = sym a ∙ b in (cc, cc)
 
   -- the nodes of a question are nodes of the table
-  pub question_within : (s : State) (x y : ℕ) → IsQuestion c s x y → (x < nodes) × (y < nodes)
+  pub question_within : (s : State) (x y : ℕ) → IsSplitQuestion c s x y → (x < nodes) × (y < nodes)
   question_within s x y (inl h) = (All-contains (λ k. k < nodes) c.places.parts x fit.within.parts h.0, All-contains (λ k. k < nodes) c.places.parts y fit.within.parts h.1)
   question_within s x y (inr (inl h)) =
       (All-contains (λ k. k < nodes) c.places.headed x fit.within.headed h.0, subst (λ k. k < nodes) h.1.2 (All-contains (λ (p : OpId × ℕ). p.1 < nodes) c.table.units h.1.0 fit.made.units h.1.1))
@@ -70,7 +70,7 @@ module _ (d : Declarations) (c : Outline) (fit : AreStepped d c) where
 
     module _ (none : IsDecided c s) where
       -- what is answered is in one class just where it is so far
-      pub decided_same : (class : ℕ → ℕ) → Admits s class → (x y : ℕ) → IsQuestion c s x y → class x ≡ class y → class_of s x ≡ class_of s y
+      pub decided_same : (class : ℕ → ℕ) → Admits s class → (x y : ℕ) → IsSplitQuestion c s x y → class x ≡ class y → class_of s x ≡ class_of s y
       decided_same class admits x y q e =
           let w = question_within s x y q in
           elim (decided s x y) [
@@ -81,7 +81,7 @@ module _ (d : Declarations) (c : Outline) (fit : AreStepped d c) where
             ]
           ]
 
-      pub decided_tests : (class : ℕ → ℕ) → Admits s class → (x y : ℕ) → IsQuestion c s x y → nat_eq (class x) (class y) ≡ nat_eq (class_of s x) (class_of s y)
+      pub decided_tests : (class : ℕ → ℕ) → Admits s class → (x y : ℕ) → IsSplitQuestion c s x y → nat_eq (class x) (class y) ≡ nat_eq (class_of s x) (class_of s y)
       decided_tests class admits x y q =
           let w = question_within s x y q in
           same_tests (class x) (class y) (class_of s x) (class_of s y) (decided_same class admits x y q) (admitted_same class admits x y w.0 w.1)

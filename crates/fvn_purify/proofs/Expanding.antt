@@ -15,9 +15,9 @@ use Rattle.fvn_nodes.specs.Questions.{IsAnswer, AreAnswers}
 use Rattle.fvn_nodes.specs.declared.state.State.{State}
 use Rattle.fvn_nodes.specs.declared.asking.Answers.{Answers}
 use Rattle.fvn_purify.specs.Parts.{Outline}
-use Rattle.fvn_purify.specs.Splits.{AreHeads, AreWays, IsSplitBy}
+use Rattle.fvn_purify.specs.Splits.{AreHeadsOfParts, AreWaysOfPairs, IsSplitBy}
 use Rattle.fvn_purify.specs.Cursor.{BeginsWith, IsAhead, IsAheadOf}
-use Rattle.fvn_purify.specs.inner.Choices.{asking, chosen, base, places_count, weight, weights, AreStepped, AreOptions, IsQuestion, IsDecided, IsLeaf, IsSound, AreApart, IsExpansion}
+use Rattle.fvn_purify.specs.inner.Choices.{asking, chosen, base, places_count, weight, weights, AreStepped, AreOptions, IsSplitQuestion, IsDecided, IsLeaf, IsSound, ShareNoSplit, IsExpansion}
 use Rattle.fvn_purify.specs.declared.classes.Head.{Head}
 use Rattle.fvn_purify.specs.declared.split.Split.{Split}
 use Rattle.fvn_purify.specs.declared.choosing.Leaf.{Leaf}
@@ -63,7 +63,7 @@ module _ {A : Type 0} where
 
 module _ (d : Declarations) (c : Outline) (fit : AreStepped d c) where
   -- what is ahead of a state is ahead of what is left of it
-  module _ (s : State) (closed : IsClosed d c.table s) (x y : ℕ) (question : IsQuestion c s x y) (a : Answers) (are : AreAnswers d c.table s x y a) where
+  module _ (s : State) (closed : IsClosed d c.table s) (x y : ℕ) (question : IsSplitQuestion c s x y) (a : Answers) (are : AreAnswers d c.table s x y a) where
     left : (Holds : (ℕ → ℕ) → Type 0) (r : Option State) → IsAnswer d c.table s Holds r → (split : Split) (h : IsAhead d c s [] [] split) → Holds h.class → Any (λ p. IsAheadOf d c p split) (asking r)
     left Holds None k split h holds = absurd (k h.class h.partition h.admits holds)
     left Holds (Some r) k split h holds =
@@ -82,17 +82,17 @@ module _ (d : Declarations) (c : Outline) (fit : AreStepped d c) where
       | inr z ↦ absurd (contains_none p z)
     ]
 
-    asked_apart : (r q : State) → IsAnswer d c.table s (λ class. class x ≢ class y) (Some r) → IsAnswer d c.table s (λ class. class x ≡ class y) (Some q) → AreApart d c (Asking r) (Asking q)
+    asked_apart : (r q : State) → IsAnswer d c.table s (λ class. class x ≢ class y) (Some r) → IsAnswer d c.table s (λ class. class x ≡ class y) (Some q) → ShareNoSplit d c (Asking r) (Asking q)
     asked_apart r q k l split g h =
         let one = k.holds g.class g.admits in
         let other = l.holds h.class h.admits in
         one.1 (questions_agree d c fit s closed g.class h.class one.0 other.0 h.partition split g.split_by h.split_by x y question other.1)
 
-    apart_lists : (r q : Option State) → IsAnswer d c.table s (λ class. class x ≢ class y) r → IsAnswer d c.table s (λ class. class x ≡ class y) q → AllPairs (AreApart d c) (asking r ++ asking q)
-    apart_lists None None k l = all_pairs_none (AreApart d c)
-    apart_lists None (Some q) k l = all_pairs_one (AreApart d c) (Asking q)
-    apart_lists (Some r) None k l = all_pairs_one (AreApart d c) (Asking r)
-    apart_lists (Some r) (Some q) k l = all_pairs_two (AreApart d c) (Asking r) (Asking q) (asked_apart r q k l)
+    apart_lists : (r q : Option State) → IsAnswer d c.table s (λ class. class x ≢ class y) r → IsAnswer d c.table s (λ class. class x ≡ class y) q → AllPairs (ShareNoSplit d c) (asking r ++ asking q)
+    apart_lists None None k l = all_pairs_none (ShareNoSplit d c)
+    apart_lists None (Some q) k l = all_pairs_one (ShareNoSplit d c) (Asking q)
+    apart_lists (Some r) None k l = all_pairs_one (ShareNoSplit d c) (Asking r)
+    apart_lists (Some r) (Some q) k l = all_pairs_two (ShareNoSplit d c) (Asking r) (Asking q) (asked_apart r q k l)
 
     some_weight : 1 ≤ base d c ^ suc (places_count d c)
     some_weight = one-le-pow (suc (places_count d c)) (base d c) (omega arith)
@@ -144,7 +144,7 @@ module _ (d : Declarations) (c : Outline) (fit : AreStepped d c) where
       λ h. any_here (λ p. IsAheadOf d c p split) (chosen s [] []) [] h,
       λ h. any_one (λ p. IsAheadOf d c p split) (chosen s [] []) h,
     );
-    apart = all_pairs_one (AreApart d c) (chosen s [] []);
+    apart = all_pairs_one (ShareNoSplit d c) (chosen s [] []);
     sound = all_from (IsSound d c) (chosen s [] [] ∷ []) (λ p h. elim (contains_cases (chosen s [] []) [] p h) [
       | inl e ↦ subst (IsSound d c) e (record {
         closed = closed;
@@ -165,14 +165,14 @@ module _ (d : Declarations) (c : Outline) (fit : AreStepped d c) where
 
   module _ (l : Leaf) (leaf : IsLeaf d c l) where
     -- one more head
-    pub heads_expand : (options : List Head) → AreOptions d c (λ class h. AreHeads d c class c.places.headed (l.heads ++ h ∷ [])) l.state options → length l.heads < length c.places.headed → length options < base d c → IsExpansion d c (Choosing l) (map (λ h. chosen l.state (l.heads ++ h ∷ []) l.swaps) options)
+    pub heads_expand : (options : List Head) → AreOptions d c (λ class h. AreHeadsOfParts d c class c.places.headed (l.heads ++ h ∷ [])) l.state options → length l.heads < length c.places.headed → length options < base d c → IsExpansion d c (Choosing l) (map (λ h. chosen l.state (l.heads ++ h ∷ []) l.swaps) options)
     heads_expand options are more few = record {
       same = λ split. (λ h. to split h, λ h. from split (any_contains (λ p. IsAheadOf d c p split) (map next options) h));
-      apart = all_pairs_map ◌≢◌ (AreApart d c) next (λ h g differ split k m. differ (one_next l.heads split.heads h g k.heads_begin m.heads_begin)) options are.once;
+      apart = all_pairs_map ◌≢◌ (ShareNoSplit d c) next (λ h g differ split k m. differ (one_next l.heads split.heads h g k.heads_begin m.heads_begin)) options are.once;
       sound = all_from (IsSound d c) (map next options) (λ p h. let m = map_contains next options p h in subst (IsSound d c) m.1.1 (record {
         closed = leaf.closed;
         decided = leaf.decided;
-        heads = All-contains (λ h. AreHeads d c (class_of l.state) c.places.headed (l.heads ++ h ∷ [])) options m.0 are.fit m.1.0;
+        heads = All-contains (λ h. AreHeadsOfParts d c (class_of l.state) c.places.headed (l.heads ++ h ∷ [])) options m.0 are.fit m.1.0;
         few_heads = let n = length-append l.heads (m.0 ∷ []) in omega arith;
         swaps = leaf.swaps;
         few_swaps = leaf.few_swaps;
@@ -190,7 +190,7 @@ module _ (d : Declarations) (c : Outline) (fit : AreStepped d c) where
         to : (split : Split) → IsAhead d c l.state l.heads l.swaps split → Any (λ p. IsAheadOf d c p split) (map next options)
         to split h =
             let on = goes_on l.heads split.heads (let n = h.split_by.all_heads in omega arith) h.heads_begin in
-            let fits : AreHeads d c h.class c.places.headed (l.heads ++ on.0 ∷ []) = heads_front d c h.class c.places.headed (l.heads ++ on.0 ∷ []) split.heads on.1 h.split_by.heads in
+            let fits : AreHeadsOfParts d c h.class c.places.headed (l.heads ++ on.0 ∷ []) = heads_front d c h.class c.places.headed (l.heads ++ on.0 ∷ []) split.heads on.1 h.split_by.heads in
             any_from (λ p. IsAheadOf d c p split) (map next options) (next on.0) (contains_map next options on.0 (are.all h.class h.partition h.admits on.0 fits))
             (record { class = h.class; partition = h.partition; admits = h.admits; split_by = h.split_by; heads_begin = on.1; swaps_begin = h.swaps_begin })
 
@@ -201,16 +201,16 @@ module _ (d : Declarations) (c : Outline) (fit : AreStepped d c) where
             record { class = k.class; partition = k.partition; admits = k.admits; split_by = k.split_by; heads_begin = front_of l.heads m.0 split.heads k.heads_begin; swaps_begin = k.swaps_begin }
 
     -- one more way
-    pub ways_expand : (options : List Bool) → AreOptions d c (λ class w. AreWays d c class c.places.pairs (l.swaps ++ w ∷ [])) l.state options → length l.swaps < length c.places.pairs → length options < base d c → IsExpansion d c (Choosing l) (map (λ w. chosen l.state l.heads (l.swaps ++ w ∷ [])) options)
+    pub ways_expand : (options : List Bool) → AreOptions d c (λ class w. AreWaysOfPairs d c class c.places.pairs (l.swaps ++ w ∷ [])) l.state options → length l.swaps < length c.places.pairs → length options < base d c → IsExpansion d c (Choosing l) (map (λ w. chosen l.state l.heads (l.swaps ++ w ∷ [])) options)
     ways_expand options are more few = record {
       same = λ split. (λ h. to split h, λ h. from split (any_contains (λ p. IsAheadOf d c p split) (map next options) h));
-      apart = all_pairs_map ◌≢◌ (AreApart d c) next (λ h g differ split k m. differ (one_next l.swaps split.swaps h g k.swaps_begin m.swaps_begin)) options are.once;
+      apart = all_pairs_map ◌≢◌ (ShareNoSplit d c) next (λ h g differ split k m. differ (one_next l.swaps split.swaps h g k.swaps_begin m.swaps_begin)) options are.once;
       sound = all_from (IsSound d c) (map next options) (λ p h. let m = map_contains next options p h in subst (IsSound d c) m.1.1 (record {
         closed = leaf.closed;
         decided = leaf.decided;
         heads = leaf.heads;
         few_heads = leaf.few_heads;
-        swaps = All-contains (λ w. AreWays d c (class_of l.state) c.places.pairs (l.swaps ++ w ∷ [])) options m.0 are.fit m.1.0;
+        swaps = All-contains (λ w. AreWaysOfPairs d c (class_of l.state) c.places.pairs (l.swaps ++ w ∷ [])) options m.0 are.fit m.1.0;
         few_swaps = let n = length-append l.swaps (m.0 ∷ []) in omega arith;
       }));
       falls =
@@ -226,7 +226,7 @@ module _ (d : Declarations) (c : Outline) (fit : AreStepped d c) where
         to : (split : Split) → IsAhead d c l.state l.heads l.swaps split → Any (λ p. IsAheadOf d c p split) (map next options)
         to split h =
             let on = goes_on l.swaps split.swaps (let n = h.split_by.all_swaps in omega arith) h.swaps_begin in
-            let fits : AreWays d c h.class c.places.pairs (l.swaps ++ on.0 ∷ []) = ways_front d c h.class c.places.pairs (l.swaps ++ on.0 ∷ []) split.swaps on.1 h.split_by.swaps in
+            let fits : AreWaysOfPairs d c h.class c.places.pairs (l.swaps ++ on.0 ∷ []) = ways_front d c h.class c.places.pairs (l.swaps ++ on.0 ∷ []) split.swaps on.1 h.split_by.swaps in
             any_from (λ p. IsAheadOf d c p split) (map next options) (next on.0) (contains_map next options on.0 (are.all h.class h.partition h.admits on.0 fits))
             (record { class = h.class; partition = h.partition; admits = h.admits; split_by = h.split_by; heads_begin = h.heads_begin; swaps_begin = on.1 })
 

@@ -2,7 +2,7 @@
 use Rattle.std.proofs.Common.{◌≡◌, ℕ, Bool, List, ◌++◌, sym, ap, ◌∙◌, Some, slice_get}
 use Rattle.fvn_terms.specs.declared.declarations.Declarations.{Declarations}
 use Rattle.fvn_purify.specs.Parts.{Outline}
-use Rattle.fvn_purify.specs.Splits.{AreHeads, AreWays}
+use Rattle.fvn_purify.specs.Splits.{AreHeadsOfParts, AreWaysOfPairs}
 use Rattle.fvn_purify.specs.Cursor.{BeginsWith}
 use Rattle.fvn_purify.specs.declared.classes.Head.{Head}
 use Rattle.fvn_purify.proofs.Elements.{slice_get-left}
@@ -11,11 +11,11 @@ longer : {A : Type 0} (front list : List A) → BeginsWith front list → (k : �
 longer front list b k x e = ap (λ l. slice_get l k) b.1 ∙ slice_get-left front b.0 k x e
 
 module _ (d : Declarations) (c : Outline) (class : ℕ → ℕ) where
-  pub heads_front : (nodes : List ℕ) (front list : List Head) → BeginsWith front list → AreHeads d c class nodes list → AreHeads d c class nodes front
+  pub heads_front : (nodes : List ℕ) (front list : List Head) → BeginsWith front list → AreHeadsOfParts d c class nodes list → AreHeadsOfParts d c class nodes front
   heads_front nodes front list b are = record {
-    can = λ k i h at e. are.can k i h at (longer front list b k h e);
-    one = λ k l i j h g at there p q e. are.one k l i j h g at there (longer front list b k h p) (longer front list b l g q) e;
+    can = λ k i h at. are.can k i h (at.0, longer front list b k h at.1);
+    one = λ k l i j h g at there e. are.one k l i j h g (at.0, longer front list b k h at.1) (there.0, longer front list b l g there.1) e;
   }
 
-  pub ways_front : (pairs : List (ℕ × ℕ)) (front list : List Bool) → BeginsWith front list → AreWays d c class pairs list → AreWays d c class pairs front
-  ways_front pairs front list b are k p w at e = are k p w at (longer front list b k w e)
+  pub ways_front : (pairs : List (ℕ × ℕ)) (front list : List Bool) → BeginsWith front list → AreWaysOfPairs d c class pairs list → AreWaysOfPairs d c class pairs front
+  ways_front pairs front list b are k p w at = are k p w (at.0, longer front list b k w at.1)

@@ -18,8 +18,8 @@ use Rattle.fvn_nodes.specs.States.{Admits, IsClosed, class_of}
 use Rattle.fvn_nodes.specs.declared.state.State.{State}
 use Rattle.fvn_nodes.specs.declared.table.Node.TheVariants.{App}
 use Rattle.fvn_purify.specs.Parts.{Outline, HasAxioms}
-use Rattle.fvn_purify.specs.Heads.{head_by, head_of, IsTheory, IsUnitNode}
-use Rattle.fvn_purify.specs.Splits.{IsInUnit, HasTheory, CanHead, AreHeads}
+use Rattle.fvn_purify.specs.Heads.{head_by, operator_head, IsTheory, IsUnitNode}
+use Rattle.fvn_purify.specs.Splits.{IsInUnit, HasTheory, CanHead, AreHeadsOfParts}
 use Rattle.fvn_purify.specs.inner.Options.{IsEarlier, IsUnitIn, IsSolidAt, Forces, by_earlier, by_unit, by_solid, IsUnforced, IsHeadOptions}
 use Rattle.fvn_purify.specs.inner.Choices.{AreStepped, AreOptions, IsDecided}
 use Rattle.fvn_purify.specs.declared.classes.Head.{Head}
@@ -29,7 +29,7 @@ use Rattle.fvn_purify.proofs.Decided.{one_operator, unit_bare, one_unit, admitte
 
 module _ (d : Declarations) (c : Outline) (class : ℕ → ℕ) where
   -- a head of a theory
-  pub theory_can : (i : ℕ) (f : OpId) → HasTheory d c class i (head_of d f) → CanHead d c class i (head_of d f)
+  pub theory_can : (i : ℕ) (f : OpId) → HasTheory d c class i (operator_head d f) → CanHead d c class i (operator_head d f)
   theory_can i f h = go (axioms d f) h
     where
       go : (a : Axioms) → HasTheory d c class i (head_by a f) → CanHead d c class i (head_by a f)
@@ -53,7 +53,7 @@ module _ (d : Declarations) (c : Outline) (class : ℕ → ℕ) where
       theory_same h k = record {
         no_unit = λ f u. k.no_unit f (u.0, u.1, e ∙ u.2);
         theory = k.theory;
-        solid = λ n f ks is bare same. k.solid n f ks is bare (same ∙ sym e);
+        solid = λ n f m. k.solid n f (record { arguments = m.arguments; is = m.is; solid = m.solid; same = m.same ∙ sym e });
       }
 
       go : (h : Head) → CanHead d c class i h → CanHead d c class j h
@@ -63,42 +63,42 @@ module _ (d : Declarations) (c : Outline) (class : ℕ → ℕ) where
       go (Identity f) k = (k.0, k.1, sym e ∙ k.2)
 
   -- one more head that fits, and that is the one of earlier nodes in its class
-  pub more_heads : (list : List ℕ) (heads : List Head) (i : ℕ) (h : Head) → AreHeads d c class list heads → slice_get list (length heads) ≡ Some i → CanHead d c class i h → ((g : Head) → IsEarlier class list heads i g → h ≡ g) → AreHeads d c class list (heads ++ h ∷ [])
+  pub more_heads : (list : List ℕ) (heads : List Head) (i : ℕ) (h : Head) → AreHeadsOfParts d c class list heads → slice_get list (length heads) ≡ Some i → CanHead d c class i h → ((g : Head) → IsEarlier class list heads i g → h ≡ g) → AreHeadsOfParts d c class list (heads ++ h ∷ [])
   more_heads list heads i h are at can same = record {
-    can = λ k j g a b. elim (slice_get-push heads h g k b) [
-      | inl l ↦ are.can k j g a l
-      | inr r ↦ let e : Some i ≡ Some j = sym at ∙ ap (slice_get list) (sym r.0) ∙ a in let s : i ≡ j = cc in subst (CanHead d c class j) r.1 (subst (λ n. CanHead d c class n h) s can)
+    can = λ k j g a. elim (slice_get-push heads h g k a.1) [
+      | inl l ↦ are.can k j g (a.0, l)
+      | inr r ↦ let e : Some i ≡ Some j = sym at ∙ ap (slice_get list) (sym r.0) ∙ a.0 in let s : i ≡ j = cc in subst (CanHead d c class j) r.1 (subst (λ n. CanHead d c class n h) s can)
     ];
-    one = λ k l j n g o a b p q e. elim (slice_get-push heads h g k p) [
-      | inl x ↦ elim (slice_get-push heads h o l q) [
-        | inl y ↦ are.one k l j n g o a b x y e
+    one = λ k l j n g o a b e. elim (slice_get-push heads h g k a.1) [
+      | inl x ↦ elim (slice_get-push heads h o l b.1) [
+        | inl y ↦ are.one k l j n g o (a.0, x) (b.0, y) e
         | inr r ↦
-            let t : Some i ≡ Some n = sym at ∙ ap (slice_get list) (sym r.0) ∙ b in
+            let t : Some i ≡ Some n = sym at ∙ ap (slice_get list) (sym r.0) ∙ b.0 in
             let s : i ≡ n = cc in
-            sym (same g (k, j, a, x, e ∙ ap class (sym s))) ∙ r.1
+            sym (same g (k, j, a.0, x, e ∙ ap class (sym s))) ∙ r.1
       ]
-      | inr u ↦ elim (slice_get-push heads h o l q) [
+      | inr u ↦ elim (slice_get-push heads h o l b.1) [
         | inl y ↦
-            let t : Some i ≡ Some j = sym at ∙ ap (slice_get list) (sym u.0) ∙ a in
+            let t : Some i ≡ Some j = sym at ∙ ap (slice_get list) (sym u.0) ∙ a.0 in
             let s : i ≡ j = cc in
-            sym u.1 ∙ same o (l, n, b, y, sym e ∙ ap class (sym s))
+            sym u.1 ∙ same o (l, n, b.0, y, sym e ∙ ap class (sym s))
         | inr r ↦ sym u.1 ∙ r.1
       ]
     ];
   }
 
   -- the last of these heads
-  pub last_head : (list : List ℕ) (heads : List Head) (i : ℕ) (h : Head) → AreHeads d c class list (heads ++ h ∷ []) → slice_get list (length heads) ≡ Some i → CanHead d c class i h × ((g : Head) → IsEarlier class list heads i g → h ≡ g)
+  pub last_head : (list : List ℕ) (heads : List Head) (i : ℕ) (h : Head) → AreHeadsOfParts d c class list (heads ++ h ∷ []) → slice_get list (length heads) ≡ Some i → CanHead d c class i h × ((g : Head) → IsEarlier class list heads i g → h ≡ g)
   last_head list heads i h are at = (
-    are.can (length heads) i h at (slice_get-middle heads [] h),
-    λ g k. are.one (length heads) k.0 i k.1 h g at k.2 (slice_get-middle heads [] h) (slice_get-left heads (h ∷ []) k.0 g k.3) (sym k.4),
+    are.can (length heads) i h (at, slice_get-middle heads [] h),
+    λ g k. are.one (length heads) k.0 i k.1 h g (at, slice_get-middle heads [] h) (k.2, slice_get-left heads (h ∷ []) k.0 g k.3) (sym k.4),
   )
 
   -- no heads
-  pub no_heads : (list : List ℕ) → AreHeads d c class list []
+  pub no_heads : (list : List ℕ) → AreHeadsOfParts d c class list []
   no_heads list = record {
-    can = λ k i h a b. absurd (none k h b);
-    one = λ k l i j h g a b p q e. absurd (none k h p);
+    can = λ k i h a. absurd (none k h a.1);
+    one = λ k l i j h g a b e. absurd (none k h a.1);
   }
     where
       none : (k : ℕ) (h : Head) → slice_get [] k ≡ Some h → ⊥
@@ -106,7 +106,7 @@ module _ (d : Declarations) (c : Outline) (class : ℕ → ℕ) where
 
 module _ (d : Declarations) (f g : OpId) where
   -- operators with axioms have heads of their own
-  pub heads_apart : f ≢ g → axioms d f ≢ NoAxioms → axioms d g ≢ NoAxioms → head_of d f ≢ head_of d g
+  pub heads_apart : f ≢ g → axioms d f ≢ NoAxioms → axioms d g ≢ NoAxioms → operator_head d f ≢ operator_head d g
   heads_apart apart own other e = apart (go (axioms d f) (axioms d g) refl refl e)
     where
       go : (a b : Axioms) → axioms d f ≡ a → axioms d g ≡ b → head_by a f ≡ head_by b g → f ≡ g
@@ -124,7 +124,7 @@ module _ (d : Declarations) (f g : OpId) where
       go (AssocCommId n) AssocComm p q e = cc
       go (AssocCommId n) (AssocCommId o) p q e = cc
 
-  pub head_not_free : axioms d f ≢ NoAxioms → Free ≢ head_of d f
+  pub head_not_free : axioms d f ≢ NoAxioms → Free ≢ operator_head d f
   head_not_free own e = go (axioms d f) refl e
     where
       go : (a : Axioms) → axioms d f ≡ a → Free ≡ head_by a f → ⊥
@@ -135,36 +135,36 @@ module _ (d : Declarations) (f g : OpId) where
 
 module _ (d : Declarations) (c : Outline) (fit : AreStepped d c) where
   -- an operator of a node heads a theory
-  pub node_theory : (j : ℕ) (f : OpId) (ks : List ℕ) → IsOver c.table.nodes j f ks → IsTheory d c.ops (head_of d f)
+  pub node_theory : (j : ℕ) (f : OpId) (ks : List ℕ) → IsOver c.table.nodes j f ks → IsTheory d c.ops (operator_head d f)
   node_theory j f ks is = go (axioms d f) refl
     where
       listed : axioms d f ≢ NoAxioms → Contains c.ops f
       listed own = (fit.are.ops.all f).1 (own, (j, ks, is))
 
-      go : (a : Axioms) → axioms d f ≡ a → IsTheory d c.ops (head_of d f)
+      go : (a : Axioms) → axioms d f ≡ a → IsTheory d c.ops (operator_head d f)
       go NoAxioms e = inl (ap (λ a. head_by a f) e)
       go Comm e = inr (f, listed (λ z. let q : NoAxioms ≡ Comm = sym z ∙ e in cc), refl)
       go AssocComm e = inr (f, listed (λ z. let q : NoAxioms ≡ AssocComm = sym z ∙ e in cc), refl)
       go (AssocCommId o) e = inr (f, listed (λ z. let q : NoAxioms ≡ AssocCommId o = sym z ∙ e in cc), refl)
 
   -- the heads of all theories, each once
-  pub theories_once : AllPairs ◌≢◌ (Free ∷ map (head_of d) c.ops)
+  pub theories_once : AllPairs ◌≢◌ (Free ∷ map (operator_head d) c.ops)
   theories_once =
-      AllPairs-cons ◌≢◌ Free (map (head_of d) c.ops)
-      (all_from (λ h. Free ≢ h) (map (head_of d) c.ops) (λ h k. let m = map_contains (head_of d) c.ops h k in subst (λ g. Free ≢ g) m.1.1 (head_not_free d m.0 m.0 (own m.0 m.1.0))))
+      AllPairs-cons ◌≢◌ Free (map (operator_head d) c.ops)
+      (all_from (λ h. Free ≢ h) (map (operator_head d) c.ops) (λ h k. let m = map_contains (operator_head d) c.ops h k in subst (λ g. Free ≢ g) m.1.1 (head_not_free d m.0 m.0 (own m.0 m.1.0))))
       (pairs c.ops (λ f k. k) fit.are.ops.once)
     where
       own : (f : OpId) → Contains c.ops f → axioms d f ≢ NoAxioms
       own f k = ((fit.are.ops.all f).0 k).0
 
-      pairs : (ops : List OpId) → ((f : OpId) → Contains ops f → Contains c.ops f) → AllPairs ◌≢◌ ops → AllPairs ◌≢◌ (map (head_of d) ops)
+      pairs : (ops : List OpId) → ((f : OpId) → Contains ops f → Contains c.ops f) → AllPairs ◌≢◌ ops → AllPairs ◌≢◌ (map (operator_head d) ops)
       pairs [] within once = λ i j e a b. absurd (omega (arith, b))
       pairs (f ∷ ops) within once =
-          AllPairs-cons ◌≢◌ (head_of d f) (map (head_of d) ops)
-          (all_from (λ h. head_of d f ≢ h) (map (head_of d) ops) (λ h k. let m = map_contains (head_of d) ops h k in subst (λ g. head_of d f ≢ g) m.1.1 (heads_apart d f m.0 (AllPairs-first ◌≢◌ f ops m.0 once m.1.0) (own f (within f (contains_here f ops))) (own m.0 (within m.0 (contains_later f ops m.0 m.1.0))))))
+          AllPairs-cons ◌≢◌ (operator_head d f) (map (operator_head d) ops)
+          (all_from (λ h. operator_head d f ≢ h) (map (operator_head d) ops) (λ h k. let m = map_contains (operator_head d) ops h k in subst (λ g. operator_head d f ≢ g) m.1.1 (heads_apart d f m.0 (AllPairs-first ◌≢◌ f ops m.0 once m.1.0) (own f (within f (contains_here f ops))) (own m.0 (within m.0 (contains_later f ops m.0 m.1.0))))))
           (pairs ops (λ g k. within g (contains_later f ops g k)) (AllPairs-tail ◌≢◌ f ops once))
 
-  module _ (s : State) (closed : IsClosed d c.table s) (none : IsDecided c s) (heads : List Head) (are : AreHeads d c (class_of s) c.places.headed heads) (i : ℕ) (at : slice_get c.places.headed (length heads) ≡ Some i) where
+  module _ (s : State) (closed : IsClosed d c.table s) (none : IsDecided c s) (heads : List Head) (are : AreHeadsOfParts d c (class_of s) c.places.headed heads) (i : ℕ) (at : slice_get c.places.headed (length heads) ≡ Some i) where
     here : Contains c.places.headed i
     here = contains_at c.places.headed (length heads) i at
 
@@ -195,8 +195,8 @@ module _ (d : Declarations) (c : Outline) (fit : AreStepped d c) where
     -- what is forced fits
     forced_can : (h : Head) → Forces d c (class_of s) heads i h → CanHead d c (class_of s) i h × ((g : Head) → IsEarlier (class_of s) c.places.headed heads i g → h ≡ g)
     forced_can h (by_earlier k) = (
-      can_same d c (class_of s) k.1 i h k.4 (are.can k.0 k.1 h k.2 k.3),
-      λ g l. are.one k.0 l.0 k.1 l.1 h g k.2 l.2 k.3 l.3 (k.4 ∙ sym l.4),
+      can_same d c (class_of s) k.1 i h k.4 (are.can k.0 k.1 h (k.2, k.3)),
+      λ g l. are.one k.0 l.0 k.1 l.1 h g (k.2, k.3) (l.2, l.3) (k.4 ∙ sym l.4),
     )
     forced_can h (by_unit e is earlier u) = (subst (CanHead d c (class_of s) i) (sym is) (unit_in e u), λ g l. absurd (earlier g l))
     forced_can h (by_solid j earlier unit k) =
@@ -204,7 +204,7 @@ module _ (d : Declarations) (c : Outline) (fit : AreStepped d c) where
           subst (CanHead d c (class_of s) i) (sym k.5) (theory_can d c (class_of s) i f (record {
             no_unit = λ e u. unit e (unit_within e u);
             theory = node_theory j f k.1 k.2;
-            solid = λ n g ls is bare same. ap (head_of d) (one_solid _ (class_of s) closed.partition j n f g k.1 ls k.2 is k.3 bare (k.4 ∙ sym same));
+            solid = λ n g m. ap (operator_head d) (one_solid _ (class_of s) closed.partition j n f g k.1 m.arguments k.2 m.is k.3 m.solid (k.4 ∙ sym m.same));
           })),
           λ g l. absurd (earlier g l),
         )
@@ -213,25 +213,25 @@ module _ (d : Declarations) (c : Outline) (fit : AreStepped d c) where
     unforced_can free h theory = record {
       no_unit = λ e u. free.unit e (unit_within e u);
       theory = theory;
-      solid = λ n g ls is bare same. absurd (free.solid n (head_of d g) (g, ls, is, bare, same, refl));
+      solid = λ n g m. absurd (free.solid n (operator_head d g) (g, m.arguments, m.is, m.solid, m.same, refl));
     }
 
     theory_fits : (h : Head) → IsTheory d c.ops h → HasTheory d c (class_of s) i h → CanHead d c (class_of s) i h
     theory_fits h (inl e) k = subst (CanHead d c (class_of s) i) (sym e) (subst (HasTheory d c (class_of s) i) e k)
     theory_fits h (inr t) k = subst (CanHead d c (class_of s) i) (sym t.2) (theory_can d c (class_of s) i t.0 (subst (HasTheory d c (class_of s) i) t.2 k))
 
-    theory_listed : (h : Head) → Contains (Free ∷ map (head_of d) c.ops) h → IsTheory d c.ops h
-    theory_listed h k = elim (contains_cases Free (map (head_of d) c.ops) h k) [
+    theory_listed : (h : Head) → Contains (Free ∷ map (operator_head d) c.ops) h → IsTheory d c.ops h
+    theory_listed h k = elim (contains_cases Free (map (operator_head d) c.ops) h k) [
       | inl e ↦ inl (sym e)
-      | inr r ↦ let m = map_contains (head_of d) c.ops h r in inr (m.0, m.1.0, sym m.1.1)
+      | inr r ↦ let m = map_contains (operator_head d) c.ops h r in inr (m.0, m.1.0, sym m.1.1)
     ]
 
-    listed_theory : (h : Head) → IsTheory d c.ops h → Contains (Free ∷ map (head_of d) c.ops) h
-    listed_theory h (inl e) = subst (Contains (Free ∷ map (head_of d) c.ops)) (sym e) (contains_here Free (map (head_of d) c.ops))
-    listed_theory h (inr t) = subst (Contains (Free ∷ map (head_of d) c.ops)) (sym t.2) (contains_later Free (map (head_of d) c.ops) (head_of d t.0) (contains_map (head_of d) c.ops t.0 t.1))
+    listed_theory : (h : Head) → IsTheory d c.ops h → Contains (Free ∷ map (operator_head d) c.ops) h
+    listed_theory h (inl e) = subst (Contains (Free ∷ map (operator_head d) c.ops)) (sym e) (contains_here Free (map (operator_head d) c.ops))
+    listed_theory h (inr t) = subst (Contains (Free ∷ map (operator_head d) c.ops)) (sym t.2) (contains_later Free (map (operator_head d) c.ops) (operator_head d t.0) (contains_map (operator_head d) c.ops t.0 t.1))
 
     -- what fits classes that the state admits is what is forced
-    forced_only : (h : Head) → Forces d c (class_of s) heads i h → (class : ℕ → ℕ) → IsNodePartition d c.table class → Admits s class → (x : Head) → AreHeads d c class c.places.headed (heads ++ x ∷ []) → h ≡ x
+    forced_only : (h : Head) → Forces d c (class_of s) heads i h → (class : ℕ → ℕ) → IsNodePartition d c.table class → Admits s class → (x : Head) → AreHeadsOfParts d c class c.places.headed (heads ++ x ∷ []) → h ≡ x
     forced_only h (by_earlier k) class partition admits x fits =
         let j_here = contains_at c.places.headed k.0 k.1 k.2 in
         let j_within = All-contains (λ n. n < nodes d c fit) c.places.headed k.1 fit.within.headed j_here in
@@ -247,11 +247,11 @@ module _ (d : Declarations) (c : Outline) (fit : AreStepped d c) where
     forced_only h (by_solid j earlier unit k) class partition admits x fits =
         let last = last_head d c class c.places.headed heads i x fits at in
         elim (head_cases d c class i x last.0) [
-          | inl theory ↦ k.5 ∙ sym (theory.solid j k.0 k.1 k.2 k.3 (admitted_same d c fit s closed class admits j i (node_within j k.0 k.1 k.2) within k.4))
+          | inl theory ↦ k.5 ∙ sym (theory.solid j k.0 (record { arguments = k.1; is = k.2; solid = k.3; same = admitted_same d c fit s closed class admits j i (node_within j k.0 k.1 k.2) within k.4 }))
           | inr w ↦ absurd (unit w.0 (unit_before class admits w.0 w.1.1))
         ]
 
-    unforced_only : IsUnforced d c (class_of s) heads i → (class : ℕ → ℕ) → Admits s class → (x : Head) → AreHeads d c class c.places.headed (heads ++ x ∷ []) → IsTheory d c.ops x
+    unforced_only : IsUnforced d c (class_of s) heads i → (class : ℕ → ℕ) → Admits s class → (x : Head) → AreHeadsOfParts d c class c.places.headed (heads ++ x ∷ []) → IsTheory d c.ops x
     unforced_only free class admits x fits =
         let last = last_head d c class c.places.headed heads i x fits at in
         elim (head_cases d c class i x last.0) [
@@ -260,20 +260,20 @@ module _ (d : Declarations) (c : Outline) (fit : AreStepped d c) where
         ]
 
     -- the options for one more head
-    pub head_options : (options : List Head) → IsHeadOptions d c (class_of s) heads i options → AreOptions d c (λ class h. AreHeads d c class c.places.headed (heads ++ h ∷ [])) s options
+    pub head_options : (options : List Head) → IsHeadOptions d c (class_of s) heads i options → AreOptions d c (λ class h. AreHeadsOfParts d c class c.places.headed (heads ++ h ∷ [])) s options
     head_options options (inl o) =
         let h = o.0 in
         let can = forced_can h o.1 in
-        let Fits = λ (g : Head). AreHeads d c (class_of s) c.places.headed (heads ++ g ∷ []) in
-        subst (AreOptions d c (λ class h. AreHeads d c class c.places.headed (heads ++ h ∷ [])) s) (sym o.2) (record {
+        let Fits = λ (g : Head). AreHeadsOfParts d c (class_of s) c.places.headed (heads ++ g ∷ []) in
+        subst (AreOptions d c (λ class h. AreHeadsOfParts d c class c.places.headed (heads ++ h ∷ [])) s) (sym o.2) (record {
           fit = all_from Fits (h ∷ []) (λ g k. elim (contains_cases h [] g k) [ inl e ↦ subst Fits e (more_heads d c (class_of s) c.places.headed heads i h are at can.0 can.1) | inr r ↦ absurd (contains_none g r) ]);
           once = all_pairs_one ◌≢◌ h;
           all = λ class partition admits x fits. subst (Contains (h ∷ [])) (forced_only h o.1 class partition admits x fits) (contains_here h []);
         })
     head_options options (inr o) =
-        let Fits = λ (g : Head). AreHeads d c (class_of s) c.places.headed (heads ++ g ∷ []) in
-        subst (AreOptions d c (λ class h. AreHeads d c class c.places.headed (heads ++ h ∷ [])) s) (sym o.1) (record {
-          fit = all_from Fits (Free ∷ map (head_of d) c.ops) (λ g k. let t = theory_listed g k in more_heads d c (class_of s) c.places.headed heads i g are at (theory_fits g t (unforced_can o.0 g t)) (λ f l. absurd (o.0.earlier f l)));
+        let Fits = λ (g : Head). AreHeadsOfParts d c (class_of s) c.places.headed (heads ++ g ∷ []) in
+        subst (AreOptions d c (λ class h. AreHeadsOfParts d c class c.places.headed (heads ++ h ∷ [])) s) (sym o.1) (record {
+          fit = all_from Fits (Free ∷ map (operator_head d) c.ops) (λ g k. let t = theory_listed g k in more_heads d c (class_of s) c.places.headed heads i g are at (theory_fits g t (unforced_can o.0 g t)) (λ f l. absurd (o.0.earlier f l)));
           once = theories_once;
           all = λ class partition admits x fits. listed_theory x (unforced_only o.0 class admits x fits);
         })
@@ -281,4 +281,4 @@ module _ (d : Declarations) (c : Outline) (fit : AreStepped d c) where
     -- there are no more than the weight allows
     pub few_options : (options : List Head) → IsHeadOptions d c (class_of s) heads i options → length options < 3 + length c.ops
     few_options options (inl o) = let n = ap length o.2 in omega arith
-    few_options options (inr o) = let n = ap length o.1 in let m = length-map c.ops (head_of d) in omega arith
+    few_options options (inr o) = let n = ap length o.1 in let m = length-map c.ops (operator_head d) in omega arith

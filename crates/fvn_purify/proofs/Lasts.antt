@@ -60,7 +60,7 @@ without_last_falls d c before below top is after now =
 -- what is given has one free operator in a class
 pub given_free : (d : Declarations) (c : Outline) (before after : List Partial) (r : Option Split) → IsGivenFrom (cursor d c before) (cursor d c after) r → IfSome r (HasOneFree d c)
 given_free d c before after None h = tt
-given_free d c before after (Some split) h = one_free d c split (ahead_split d c before split h.0)
+given_free d c before after (Some split) h = one_free d c split (ahead_split d c before split h.was)
 
 -- a fact that holds whatever the result
 pub on_err : {T E P : Type 0} (r : Result T E) → P → OnErr r P

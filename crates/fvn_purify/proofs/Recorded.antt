@@ -13,7 +13,7 @@ use Rattle.fvn_nodes.specs.declared.table.Node.TheVariants.{App}
 use Rattle.fvn_purify.specs.Parts.{Outline}
 use Rattle.fvn_purify.specs.Heads.{IsUnitNode}
 use Rattle.fvn_purify.specs.Splits.{number_in, IsInUnit, HasTheory, CanHead, IsSplitBy}
-use Rattle.fvn_purify.specs.inner.Choices.{AreStepped, IsQuestion}
+use Rattle.fvn_purify.specs.inner.Choices.{AreStepped, IsSplitQuestion}
 use Rattle.fvn_purify.specs.declared.classes.Head.{Head}
 use Rattle.fvn_purify.specs.declared.classes.Head.TheVariants.{Free, Pair, Sum, Identity}
 use Rattle.fvn_purify.specs.declared.split.Split.{Split}
@@ -45,10 +45,10 @@ module _ (d : Declarations) (c : Outline) (fit : AreStepped d c) where
         let place = place_of c.places.headed x hx in
         let head = slice_get-some split.heads place.0 (let n = slice_get_within c.places.headed place.0 x place.1 in let m = by.all_heads in omega arith) in
         let u = listed_unit p hp in
-        let k = head_is_unit other x head.0 u.0 (p.1, u.1, e) (by_other.heads.can place.0 x head.0 place.1 head.1) in
+        let k = head_is_unit other x head.0 u.0 (p.1, u.1, e) (by_other.heads.can place.0 x head.0 (place.1, head.1)) in
         let there = k.1.1 in
         let one : there.0 ≡ p.1 = one_node d c fit there.0 p.1 k.0 u.0 [] there.1.3 u.1.3 (one_unit d c fit (λ a v. ⊥) other partition there.0 p.1 k.0 u.0 there.1 u.1 (sym there.2 ∙ e)) in
-        let mine : IsInUnit d c class x k.0 = subst (CanHead d c class x) k.1.0 (by.heads.can place.0 x head.0 place.1 head.1) in
+        let mine : IsInUnit d c class x k.0 = subst (CanHead d c class x) k.1.0 (by.heads.can place.0 x head.0 (place.1, head.1)) in
         let again : mine.0 ≡ there.0 = one_node d c fit mine.0 there.0 k.0 k.0 [] mine.1.3 there.1.3 refl in
         mine.2 ∙ ap class (again ∙ one)
 
@@ -58,8 +58,8 @@ module _ (d : Declarations) (c : Outline) (fit : AreStepped d c) where
         let way = slice_get-some split.swaps place.0 (let n = slice_get_within c.places.pairs place.0 p place.1 in let m = by.all_swaps in omega arith) in
         let l = slice_get_within c.table.nodes p.0 (App f (x ∷ ks)) a in
         let m = slice_get_within c.table.nodes p.1 (App g (y ∷ ls)) b in
-        let mine = by.swaps place.0 p way.0 place.1 way.1 f g x y ks ls a b (admitted_same d c fit s closed class admits p.0 p.1 l m same) in
-        let its = by_other.swaps place.0 p way.0 place.1 way.1 f g x y ks ls a b (admitted_same d c fit s closed other admitted p.0 p.1 l m same) in
+        let mine = by.swaps place.0 p way.0 (place.1, way.1) f g x y ks ls a b (admitted_same d c fit s closed class admits p.0 p.1 l m same) in
+        let its = by_other.swaps place.0 p way.0 (place.1, way.1) f g x y ks ls a b (admitted_same d c fit s closed other admitted p.0 p.1 l m same) in
         let t : not (nat_eq (class x) (class y)) ≡ false = sym mine ∙ its ∙ ap not (nat_eq-same (other x) (other y) e) in
         eqb-true (class x) (class y) (from_not (nat_eq (class x) (class y)) t)
       where
@@ -68,7 +68,7 @@ module _ (d : Declarations) (c : Outline) (fit : AreStepped d c) where
         from_not false e = cc
 
     -- what one partition that the split tells of has in one class, the other has too
-    pub questions_agree : (x y : ℕ) → IsQuestion c s x y → other x ≡ other y → class x ≡ class y
+    pub questions_agree : (x y : ℕ) → IsSplitQuestion c s x y → other x ≡ other y → class x ≡ class y
     questions_agree x y (inl h) e = parts_agree x y h.0 h.1 e
     questions_agree x y (inr (inl h)) e =
         subst (λ k. class x ≡ class k) h.1.2 (units_agree x h.1.0 h.0 h.1.1 (e ∙ ap other (sym h.1.2)))

@@ -28,7 +28,7 @@ use Rattle.fvn_nodes.specs.Unifiers.{value_at}
 use Rattle.fvn_nodes.specs.declared.table.Node.{Node}
 use Rattle.fvn_nodes.specs.declared.table.Node.TheVariants.{App}
 use Rattle.fvn_nodes.proofs.Nodes.{term_at-over}
-use Rattle.fvn_purify.specs.Obeying.{operator_of}
+use Rattle.fvn_flat.specs.Forms.{head_of}
 use Rattle.fvn_purify.proofs.Kinded.{node_kinded}
 
 module _ (d : Declarations) (f : OpId) where
@@ -42,7 +42,7 @@ module _ (d : Declarations) (f : OpId) where
   build_commutative e (v ∷ vs) = ap (λ a. built d a f (v ∷ vs)) e
 
   -- what joins two members or more is a sum of them
-  head_joined : (l : List FlatTerm) → 2 ≤ length l → operator_of (joined d f l) ≡ Some f
+  head_joined : (l : List FlatTerm) → 2 ≤ length l → head_of (joined d f l) ≡ Some f
   head_joined [] h = absurd (omega arith)
   head_joined (t ∷ []) h = absurd (omega arith)
   head_joined (t ∷ u ∷ us) h = refl
@@ -54,9 +54,9 @@ module _ (d : Declarations) (f : OpId) where
       go [] is = absurd (let p = parts_none d f t h is in let q : None ≡ Some p.0 = sym (ap identity e) ∙ p.1 in cc)
       go (u ∷ us) is = let n = ap length is in omega arith
 
-  head_sum : axioms d f ≡ AssocComm → (a b : FlatTerm) → Settled d a → Settled d b → operator_of (build d f (a ∷ b ∷ [])) ≡ Some f
+  head_sum : axioms d f ≡ AssocComm → (a b : FlatTerm) → Settled d a → Settled d b → head_of (build d f (a ∷ b ∷ [])) ≡ Some f
   head_sum e a b ha hb =
-      ap operator_of (build_sum d f (subst IsAssociative (sym e) tt) a (b ∷ []))
+      ap head_of (build_sum d f (subst IsAssociative (sym e) tt) a (b ∷ []))
       ∙ head_joined (sort (all_parts d f (a ∷ b ∷ []))) (
       let l = length_sort (all_parts d f (a ∷ b ∷ [])) in
       let m = length-append (parts d f a) (parts d f b ++ []) in
@@ -67,18 +67,18 @@ module _ (d : Declarations) (f : OpId) where
       )
 
   -- an operator without an identity heads what it builds, if an associative one stands over two
-  pub build_head : HasNoIdentity (axioms d f) → (vs : List FlatTerm) → AllByRecursion (Settled d) vs → (IsAssociative (axioms d f) → length vs ≡ 2) → operator_of (build d f vs) ≡ Some f
+  pub build_head : HasNoIdentity (axioms d f) → (vs : List FlatTerm) → AllByRecursion (Settled d) vs → (IsAssociative (axioms d f) → length vs ≡ 2) → head_of (build d f vs) ≡ Some f
   build_head bare vs settled two = go (axioms d f) refl
     where
-      pair : (vs : List FlatTerm) → AllByRecursion (Settled d) vs → length vs ≡ 2 → axioms d f ≡ AssocComm → operator_of (build d f vs) ≡ Some f
+      pair : (vs : List FlatTerm) → AllByRecursion (Settled d) vs → length vs ≡ 2 → axioms d f ≡ AssocComm → head_of (build d f vs) ≡ Some f
       pair [] h n e = absurd (omega arith)
       pair (a ∷ []) h n e = absurd (omega arith)
       pair (a ∷ b ∷ []) h n e = head_sum e a b h.0 h.1.0
       pair (a ∷ b ∷ v ∷ vs) h n e = absurd (omega arith)
 
-      go : (a : Axioms) → axioms d f ≡ a → operator_of (build d f vs) ≡ Some f
-      go Free e = ap operator_of (build_free e vs)
-      go Comm e = ap operator_of (build_commutative e vs)
+      go : (a : Axioms) → axioms d f ≡ a → head_of (build d f vs) ≡ Some f
+      go Free e = ap head_of (build_free e vs)
+      go Comm e = ap head_of (build_commutative e vs)
       go AssocComm e = pair vs settled (two (subst IsAssociative (sym e) tt)) e
       go (AssocCommId o) e = absurd (subst HasNoIdentity e bare)
 
@@ -111,9 +111,9 @@ module _ (d : Declarations) (s : Substitution) (nodes : List Node) where
   values_settled (k ∷ ks) = (canon_settled d (apply s (term_at nodes k)), values_settled ks)
 
 -- the value of a node whose operator has no identity is headed by it
-pub value_headed : (d : Declarations) → FitsKinds d → (problem : Problem) → IsProblem d problem → (t : NodeTable) → IsWellMade t → IsTableOf d problem t → (s : Substitution) → (i : ℕ) (f : OpId) (ks : List ℕ) → IsOver t.nodes i f ks → HasNoIdentity (axioms d f) → operator_of (value_at d s t.nodes i) ≡ Some f
+pub value_headed : (d : Declarations) → FitsKinds d → (problem : Problem) → IsProblem d problem → (t : NodeTable) → IsWellMade t → IsTableOf d problem t → (s : Substitution) → (i : ℕ) (f : OpId) (ks : List ℕ) → IsOver t.nodes i f ks → HasNoIdentity (axioms d f) → head_of (value_at d s t.nodes i) ≡ Some f
 value_headed d fits problem is_problem t made table s i f ks is bare =
-    ap operator_of (value_over d s t.nodes made.ordered i f ks is) ∙ build_head d f bare (map (value_at d s t.nodes) ks) (values_settled d s t.nodes ks) (λ assoc.
+    ap head_of (value_over d s t.nodes made.ordered i f ks is) ∙ build_head d f bare (map (value_at d s t.nodes) ks) (values_settled d s t.nodes ks) (λ assoc.
     let kinded = node_kinded d fits problem is_problem t table i (slice_get_within t.nodes i (App f ks) is) in
     let two = two_arguments d fits f (map (term_at t.nodes) ks) (subst (IsTerm d) (term_at-over t.nodes made.ordered i f ks is) kinded) assoc in
     length-map ks (value_at d s t.nodes) ∙ sym (length-map ks (term_at t.nodes)) ∙ two)

@@ -44,7 +44,16 @@ Pending cursor split = Any (λ p. IsAheadOf cursor.declarations cursor.outline p
 abbrev pub HasSamePending : Cursor → Cursor → Type 0
 HasSamePending before after = (split : Split) → Pending after split ↔ Pending before split
 
--- the split given was to come, and the others are still; where none is given, none was
+-- no split is to come
+abbrev pub IsAtEnd : Cursor → Type 0
+IsAtEnd cursor = (split : Split) → Pending cursor split → ⊥
+
+-- the split was to come and is not any more, and the others are still
+pub record IsTakenFrom (before after : Cursor) (given : Split) : Type 0 where
+  pub was : Pending before given
+  pub others : (split : Split) → Pending after split ↔ (Pending before split × (split ≢ given))
+
+-- the split given is taken from what was to come; where none is given, none was and none is
 abbrev pub IsGivenFrom : Cursor → Cursor → Option Split → Type 0
-IsGivenFrom before after None = (split : Split) → Pending before split → ⊥
-IsGivenFrom before after (Some given) = Pending before given × ((split : Split) → Pending after split ↔ (Pending before split × (split ≢ given)))
+IsGivenFrom before after None = IsAtEnd before × IsAtEnd after
+IsGivenFrom before after (Some given) = IsTakenFrom before after given

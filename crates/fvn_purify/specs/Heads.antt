@@ -17,12 +17,12 @@ head_by AssocComm f = Sum f
 head_by (AssocCommId e) f = Sum f
 
 -- the head of what the operator heads
-abbrev pub head_of : Declarations → OpId → Head
-head_of d f = head_by (axioms d f) f
+abbrev pub operator_head : Declarations → OpId → Head
+operator_head d f = head_by (axioms d f) f
 
 -- the head of a theory: the one of all free operators, or that of an operator with axioms
 abbrev pub IsTheory : Declarations → List OpId → Head → Type 0
-IsTheory d ops h = (h ≡ Free) ⊎ ((f : OpId) × Contains ops f × (h ≡ head_of d f))
+IsTheory d ops h = (h ≡ Free) ⊎ ((f : OpId) × Contains ops f × (h ≡ operator_head d f))
 
 -- node i is the constant e, which is an identity
 abbrev pub IsUnitNode : NodeTable → OpId → ℕ → Type 0

@@ -10,7 +10,7 @@ use Rattle.fvn_forms.specs.Canon.{identity, canon}
 use Rattle.fvn_nodes.specs.Table.{NodeTable, IsTableOf, IsOver, term_at}
 use Rattle.fvn_nodes.specs.declared.table.Node.{Node}
 use Rattle.fvn_nodes.specs.declared.table.Node.TheVariants.{Var, App}
-use Rattle.fvn_purify.specs.Theories.{IsAbstracted, IsShared}
+use Rattle.fvn_purify.specs.Theories.{IsAbstracted, IsSharedVariable}
 use Rattle.fvn_purify.specs.declared.classes.Places.{Places}
 use Rattle.fvn_purify.specs.declared.classes.Classes.{Classes}
 
@@ -18,6 +18,10 @@ use Rattle.fvn_purify.specs.declared.classes.Classes.{Classes}
 pub record IsEach {A : Type 0} (Has : A → Type 0) (list : List A) : Type 0 where
   pub all : (x : A) → Contains list x ↔ Has x
   pub once : AllPairs ◌≢◌ list
+
+-- x in the one list and y in the other stand at place k
+abbrev pub StandBeside : {A B : Type 0} → List A → List B → ℕ → A → B → Type 0
+StandBeside xs ys k x y = (slice_get xs k ≡ Some x) × (slice_get ys k ≡ Some y)
 
 -- whether an operator with an identity heads the node
 abbrev pub may_collapse : Declarations → Option Node → Bool
@@ -60,20 +64,20 @@ module _ (d : Declarations) where
     pub abstracted : List ℕ
     pub shared : List ℕ
     pub each_abstracted : IsEach (IsAbstracted d t) abstracted
-    pub each_shared : IsEach (IsShared d t) shared
+    pub each_shared : IsEach (IsSharedVariable d t) shared
     pub parts : places.parts ≡ abstracted ++ shared
     -- those that have a head are the ones that may collapse, and then the shared variables
     pub headed : places.headed ≡ filter (λ i. may_collapse d (slice_get t.nodes i)) abstracted ++ shared
     pub pairs : IsEach (ArePair d t) places.pairs
 
   -- parts, pairs and operators with axioms are those of the table
-  pub record AreParts (c : Outline) : Type 0 where
+  pub record IsOutline (c : Outline) : Type 0 where
     pub places : ArePlaces c.table c.places
     pub ops : IsEach (HasAxioms d c.table) c.ops
 
   -- the table is that of the problem, and parts and pairs stand there as flat forms too
   pub record AreClassesOf (problem : Problem) (c : Classes) : Type 0 where
     pub table : IsTableOf d problem c.table
-    pub are : AreParts (outline c)
+    pub are : IsOutline (outline c)
     pub parts : c.parts ≡ map (form_at d c.table) c.places.parts
     pub pairs : c.pairs ≡ map (λ p. (form_at d c.table p.0, form_at d c.table p.1)) c.places.pairs

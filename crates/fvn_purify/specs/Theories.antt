@@ -61,5 +61,5 @@ module _ (d : Declarations) (t : NodeTable) where
     pub outside : StandsOutside i (theory d operator)
 
   -- node i is a variable of two theories, or one that is to equal a variable
-  abbrev pub IsShared : ℕ → Type 0
-  IsShared i = IsVariable t i × (StandsInTwo i ⊎ FacesVariable t i)
+  abbrev pub IsSharedVariable : ℕ → Type 0
+  IsSharedVariable i = IsVariable t i × (StandsInTwo i ⊎ FacesVariable t i)

@@ -4,8 +4,8 @@ use fvn_flat::Flat;
 use fvn_nodes::Table;
 use fvn_terms::OpId;
 
-/// What heads the value of a part: the theory of the free operators, that of a commutative operator,
-/// that of an associative one, or nothing but an identity.
+/// What heads the value of a part: the theory of the free operators, that of a commutative
+/// operator, that of an associative one, or nothing but an identity.
 #[derive(Clone, Copy, PartialEq, Eq)]
 pub enum Head {
     Free,
@@ -22,8 +22,8 @@ pub struct Places {
     pub pairs: Seq<(usize, usize)>,
 }
 
-/// The parts of a problem, its operators with axioms, and its pairs of subterms that one commutative
-/// operator heads; the table of its nodes, and the numbers of parts and pairs in it.
+/// The parts of a problem, its operators with axioms, and its pairs of subterms that one
+/// commutative operator heads; the table of its nodes, and the numbers of parts and pairs in it.
 #[derive(Drop)]
 pub struct Classes {
     pub parts: Seq<Flat>,

@@ -51,7 +51,8 @@ pub(crate) fn forms(
     list: &[usize],
 ) -> Result<Vec<Flat>, NoMemory>
     requires within { All (λ i. i < length table.now.nodes) list.now }
-    requires kinded { (i : ℕ) → i < length table.now.nodes → IsTerm sig.now (term_at table.now.nodes i) }
+    requires kinded { (i : ℕ) → i < length table.now.nodes →
+        IsTerm sig.now (term_at table.now.nodes i) }
     ensures { IfOk result (λ forms. forms.items ≡ map (form_at sig.now table.now) list.now) }
 {
     let mut forms = Vec::new(alloc);
@@ -69,8 +70,10 @@ pub(crate) fn pair_forms(
     table: &Table,
     list: &[(usize, usize)],
 ) -> Result<Vec<(Flat, Flat)>, NoMemory>
-    requires within { All (λ p. (p.0 < length table.now.nodes) × (p.1 < length table.now.nodes)) list.now }
-    requires kinded { (i : ℕ) → i < length table.now.nodes → IsTerm sig.now (term_at table.now.nodes i) }
+    requires within { All (λ p.
+        (p.0 < length table.now.nodes) × (p.1 < length table.now.nodes)) list.now }
+    requires kinded { (i : ℕ) → i < length table.now.nodes →
+        IsTerm sig.now (term_at table.now.nodes i) }
     ensures { IfOk result (λ forms. forms.items
         ≡ map (λ p. (form_at sig.now table.now p.0, form_at sig.now table.now p.1)) list.now) }
 {

@@ -5,7 +5,7 @@ ghost use Rattle.fvn_flat.specs.Partitions.{HasNoIdentity};
 ghost use Rattle.fvn_nodes.specs.Table.{IsOver};
 ghost use Rattle.fvn_nodes.specs.States.{IsClosed, class_of};
 ghost use Rattle.fvn_purify.specs.Parts.{outline};
-ghost use Rattle.fvn_purify.specs.Heads.{head_by, head_of};
+ghost use Rattle.fvn_purify.specs.Heads.{head_by, operator_head};
 ghost use Rattle.fvn_purify.specs.inner.Choices.{ArePlacesWithin};
 ghost use Rattle.fvn_purify.specs.inner.Options.{IsEarlier, IsUnitIn, IsSolidAt, IsForcedHead, IsHeadOptions};
 
@@ -20,7 +20,8 @@ fn earlier(state: &State, headed: &[usize], heads: &[Head], i: usize) -> Option<
     requires within { All (λ j. j < length state.now.names) headed.now }
     requires node { i < length state.now.names }
     requires few { length heads.now ≤ length headed.now }
-    ensures { MatchOption result ((h : Head) → IsEarlier (class_of state.now) headed.now heads.now i h → ⊥)
+    ensures { MatchOption result
+        ((h : Head) → IsEarlier (class_of state.now) headed.now heads.now i h → ⊥)
         (IsEarlier (class_of state.now) headed.now heads.now i) }
 {
     for k in 0..heads.len() {
@@ -34,7 +35,9 @@ fn earlier(state: &State, headed: &[usize], heads: &[Head], i: usize) -> Option<
 // The constant that is node j.
 fn constant_at(table: &Table, j: usize) -> Option<OpId>
     requires { j < length table.now.nodes }
-    ensures { MatchOption result ((e : OpId) → IsOver table.now.nodes j e [] → ⊥) (λ e. IsOver table.now.nodes j e []) }
+    ensures { MatchOption result
+        ((e : OpId) → IsOver table.now.nodes j e [] → ⊥)
+        (λ e. IsOver table.now.nodes j e []) }
 {
     match table.node(j) {
         Node::Var(_) => None,
@@ -47,7 +50,8 @@ fn unit_at(table: &Table, state: &State, i: usize, j: usize) -> Option<OpId>
     requires node { i < length state.now.names }
     requires unit { j < length state.now.names }
     requires whole { length state.now.names ≡ length table.now.nodes }
-    ensures { MatchOption result ((e : OpId) → class_of state.now i ≡ class_of state.now j → IsOver table.now.nodes j e [] → ⊥)
+    ensures { MatchOption result
+        ((e : OpId) → class_of state.now i ≡ class_of state.now j → IsOver table.now.nodes j e [] → ⊥)
         (λ e. (class_of state.now i ≡ class_of state.now j) × IsOver table.now.nodes j e []) }
 {
     if !state.is_same(i, j) {
@@ -75,7 +79,9 @@ fn unit_in(table: &Table, state: &State, i: usize) -> Option<OpId>
 
 /// The head of an operator without an identity.
 fn solid_head(f: OpId, axioms: Axioms) -> Option<Head>
-    ensures { MatchOption result (HasNoIdentity axioms → ⊥) (λ h. HasNoIdentity axioms × (h ≡ head_by axioms f)) }
+    ensures { MatchOption result
+        (HasNoIdentity axioms → ⊥)
+        (λ h. HasNoIdentity axioms × (h ≡ head_by axioms f)) }
 {
     match axioms {
         Axioms::Free => Some(Head::Free),
@@ -85,12 +91,13 @@ fn solid_head(f: OpId, axioms: Axioms) -> Option<Head>
     }
 }
 
-// The head of node j, if it is in the class of node i and headed by an operator without an identity.
+// The head of node j, if it is in the class of node i and an operator without an identity heads it.
 fn solid_at(sig: &Signature, table: &Table, state: &State, i: usize, j: usize) -> Option<Head>
     requires node { i < length state.now.names }
     requires other { j < length state.now.names }
     requires whole { length state.now.names ≡ length table.now.nodes }
-    ensures { MatchOption result ((h : Head) → IsSolidAt sig.now table.now (class_of state.now) i j h → ⊥)
+    ensures { MatchOption result
+        ((h : Head) → IsSolidAt sig.now table.now (class_of state.now) i j h → ⊥)
         (IsSolidAt sig.now table.now (class_of state.now) i j) }
 {
     if !state.is_same(j, i) {
@@ -102,11 +109,12 @@ fn solid_at(sig: &Signature, table: &Table, state: &State, i: usize, j: usize) -
     }
 }
 
-// The head of the members of the class of node i that are headed by an operator without an identity.
+// The head of the members of the class of node i that an operator without an identity heads.
 fn solid_in(sig: &Signature, table: &Table, state: &State, i: usize) -> Option<Head>
     requires node { i < length state.now.names }
     requires whole { length state.now.names ≡ length table.now.nodes }
-    ensures { MatchOption result ((j : ℕ) (h : Head) → IsSolidAt sig.now table.now (class_of state.now) i j h → ⊥)
+    ensures { MatchOption result
+        ((j : ℕ) (h : Head) → IsSolidAt sig.now table.now (class_of state.now) i j h → ⊥)
         (λ h. (j : ℕ) × IsSolidAt sig.now table.now (class_of state.now) i j h) }
 {
     for j in 0..table.nodes().len() {
@@ -142,8 +150,8 @@ fn forced_head(
 }
 
 // The head of the operator.
-fn head_of(sig: &Signature, f: OpId) -> Head
-    ensures { result ≡ head_of sig.now f }
+fn operator_head(sig: &Signature, f: OpId) -> Head
+    ensures { result ≡ operator_head sig.now f }
 {
     match sig.axioms(f) {
         Axioms::Free => Head::Free,
@@ -155,12 +163,12 @@ fn head_of(sig: &Signature, f: OpId) -> Head
 
 // The heads of all theories.
 fn all_theories(alloc: Global, sig: &Signature, ops: &[OpId]) -> Result<Vec<Head>, NoMemory>
-    ensures { IfOk result (λ heads. heads.items ≡ Head.Free ∷ map (head_of sig.now) ops.now) }
+    ensures { IfOk result (λ heads. heads.items ≡ Head.Free ∷ map (operator_head sig.now) ops.now) }
 {
     let mut heads = Vec::new(alloc);
     heads.push(Head::Free)?;
     for f in ops {
-        let head = head_of(sig, *f);
+        let head = operator_head(sig, *f);
         heads.push(head)?;
     }
     Ok(heads)
@@ -179,7 +187,8 @@ pub(crate) fn head_options(
     requires within { ArePlacesWithin (outline classes.now) }
     requires node { slice_get classes.now.places.headed (length heads.now) ≡ Some i }
     requires few { length heads.now ≤ length classes.now.places.headed }
-    ensures { IfOk result (λ options. IsHeadOptions sig.now (outline classes.now) (class_of state.now) heads.now i options.items) }
+    ensures { IfOk result (λ options. IsHeadOptions sig.now (outline classes.now)
+        (class_of state.now) heads.now i options.items) }
 {
     match forced_head(sig, classes, state, heads, i) {
         Some(h) => {

@@ -1,6 +1,6 @@
 //! The parts of a table, those with a head, the operators with axioms and the pairs.
 ghost use Rattle.std.specs.Prelude.{◌≡◌, ◌↔◌, ◌<◌, length, filter, slice_get, IfOk, OnOk, IsTrue, MatchOption, All, Contains};
-ghost use Rattle.fvn_purify.specs.Theories.{IsAbstracted, IsShared};
+ghost use Rattle.fvn_purify.specs.Theories.{IsAbstracted, IsSharedVariable};
 ghost use Rattle.fvn_purify.specs.Parts.{IsEach, may_collapse, ArePair, HasAxioms};
 ghost use Rattle.fvn_purify.specs.inner.Standing.{IsPairBelow, HeadsWithAxioms};
 
@@ -53,7 +53,7 @@ pub(crate) fn abstracted(
 
 /// The shared variables.
 pub(crate) fn shared(alloc: Global, sig: &Signature, table: &Table) -> Result<Vec<usize>, NoMemory>
-    ensures { IfOk result (λ list. IsEach (IsShared sig.now table.now) list.items) }
+    ensures { IfOk result (λ list. IsEach (IsSharedVariable sig.now table.now) list.items) }
 {
     let mut list = Vec::new(alloc);
     for i in 0..table.nodes().len() {
@@ -88,7 +88,8 @@ pub(crate) fn collapsing(
     list: &[usize],
 ) -> Result<Vec<usize>, NoMemory>
     requires { All (λ i. i < length table.now.nodes) list.now }
-    ensures { IfOk result (λ r. r.items ≡ filter (λ i. may_collapse sig.now (slice_get table.now.nodes i)) list.now) }
+    ensures { IfOk result (λ r. r.items
+        ≡ filter (λ i. may_collapse sig.now (slice_get table.now.nodes i)) list.now) }
 {
     let mut rest = Vec::new(alloc);
     for i in list {
@@ -156,7 +157,8 @@ pub(crate) fn pairs(
 // The operator of node i, where it has axioms and is not listed.
 fn new_operator(sig: &Signature, table: &Table, list: &[OpId], i: usize) -> Option<OpId>
     requires { i < length table.now.nodes }
-    ensures { MatchOption result ((f : OpId) → HeadsWithAxioms sig.now table.now i f → Contains list.now f)
+    ensures { MatchOption result
+        ((f : OpId) → HeadsWithAxioms sig.now table.now i f → Contains list.now f)
         (λ f. HeadsWithAxioms sig.now table.now i f × (Contains list.now f → ⊥)) }
 {
     match table.node(i) {

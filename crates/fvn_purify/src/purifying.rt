@@ -41,12 +41,11 @@ fn places(alloc: Global, sig: &Signature, table: &Table) -> Result<Places, NoMem
     })
 }
 
-/// The parts of a problem, its operators with axioms, and its pairs of subterms that one commutative
-/// operator heads.
+/// The parts of a problem, its operators with axioms, and its pairs of subterms that one
+/// commutative operator heads.
 ///
-/// A part is a subterm at which two theories meet, or a variable that two theories share. The parts stand
-/// in the order of their nodes, first the subterms and then the variables; of a pair the lower node comes
-/// first.
+/// A part is a subterm at which two theories meet, or a variable that two theories share. First
+/// stand the subterms and then the variables; of a pair the lower node comes first.
 pub fn purify(alloc: Global, sig: &Signature, problem: &Pairs) -> Result<Classes, NoMemory>
     requires kinds { IsProblem sig.now (problem_of problem.now) }
     ensures { IfOk result (AreClassesOf sig.now (problem_of problem.now)) }

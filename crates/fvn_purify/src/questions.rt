@@ -31,7 +31,8 @@ fn open_among(state: &State, x: usize, nodes: &[usize]) -> Option<usize>
 fn open_parts(state: &State, parts: &[usize]) -> Option<(usize, usize)>
     requires naming { IsNaming state.now }
     requires all { All (λ y. y < length state.now.names) parts.now }
-    ensures { MatchOption result ((x y : ℕ) → Contains parts.now x → Contains parts.now y → IsOpen state.now x y → ⊥)
+    ensures { MatchOption result
+        ((x y : ℕ) → Contains parts.now x → Contains parts.now y → IsOpen state.now x y → ⊥)
         (λ p. Contains parts.now p.0 × Contains parts.now p.1 × IsOpen state.now p.0 p.1) }
 {
     for x in parts {
@@ -48,7 +49,8 @@ fn open_unit(state: &State, x: usize, units: &[(OpId, usize)]) -> Option<usize>
     requires naming { IsNaming state.now }
     requires within { x < length state.now.names }
     requires all { All (λ p. p.1 < length state.now.names) units.now }
-    ensures { MatchOption result ((p : OpId × ℕ) → Contains units.now p → IsOpen state.now x p.1 → ⊥)
+    ensures { MatchOption result
+        ((p : OpId × ℕ) → Contains units.now p → IsOpen state.now x p.1 → ⊥)
         (λ y. ((p : OpId × ℕ) × Contains units.now p × (p.1 ≡ y)) × IsOpen state.now x y) }
 {
     for (_, y) in units {
@@ -65,8 +67,11 @@ fn open_units(state: &State, headed: &[usize], units: &[(OpId, usize)]) -> Optio
     requires within { All (λ x. x < length state.now.names) headed.now }
     requires all { All (λ p. p.1 < length state.now.names) units.now }
     ensures { MatchOption result
-        ((x : ℕ) → Contains headed.now x → (p : OpId × ℕ) → Contains units.now p → IsOpen state.now x p.1 → ⊥)
-        (λ q. Contains headed.now q.0 × ((p : OpId × ℕ) × Contains units.now p × (p.1 ≡ q.1)) × IsOpen state.now q.0 q.1) }
+        ((x : ℕ) → Contains headed.now x → (p : OpId × ℕ) → Contains units.now p →
+            IsOpen state.now x p.1 → ⊥)
+        (λ q. Contains headed.now q.0
+            × ((p : OpId × ℕ) × Contains units.now p × (p.1 ≡ q.1))
+            × IsOpen state.now q.0 q.1) }
 {
     for x in headed {
         match open_unit(state, *x, units) {
@@ -99,7 +104,9 @@ pub(crate) fn first_argument(table: &Table, i: usize) -> Option<usize>
 pub(crate) fn first_arguments(table: &Table, i: usize, j: usize) -> Option<(usize, usize)>
     requires left { i < length table.now.nodes }
     requires right { j < length table.now.nodes }
-    ensures { MatchOption result ((x y : ℕ) → AreFirst table.now (i, j) x y → ⊥) (λ q. AreFirst table.now (i, j) q.0 q.1) }
+    ensures { MatchOption result
+        ((x y : ℕ) → AreFirst table.now (i, j) x y → ⊥)
+        (λ q. AreFirst table.now (i, j) q.0 q.1) }
 {
     match first_argument(table, i) {
         None => None,
@@ -117,8 +124,10 @@ fn open_first(table: &Table, state: &State, i: usize, j: usize) -> Option<(usize
     requires left { i < length table.now.nodes }
     requires right { j < length table.now.nodes }
     ensures { MatchOption result
-        ((x y : ℕ) → class_of state.now i ≡ class_of state.now j → AreFirst table.now (i, j) x y → IsOpen state.now x y → ⊥)
-        (λ q. (class_of state.now i ≡ class_of state.now j) × AreFirst table.now (i, j) q.0 q.1 × IsOpen state.now q.0 q.1) }
+        ((x y : ℕ) → class_of state.now i ≡ class_of state.now j →
+            AreFirst table.now (i, j) x y → IsOpen state.now x y → ⊥)
+        (λ q. (class_of state.now i ≡ class_of state.now j)
+            × AreFirst table.now (i, j) q.0 q.1 × IsOpen state.now q.0 q.1) }
 {
     table.recall_well_made();
     if !state.is_same(i, j) {
@@ -140,12 +149,16 @@ fn open_first(table: &Table, state: &State, i: usize, j: usize) -> Option<(usize
 fn open_ways(table: &Table, state: &State, pairs: &[(usize, usize)]) -> Option<(usize, usize)>
     requires naming { IsNaming state.now }
     requires whole { length state.now.names ≡ length table.now.nodes }
-    requires all { All (λ p. (p.0 < length table.now.nodes) × (p.1 < length table.now.nodes)) pairs.now }
+    requires all { All (λ p.
+        (p.0 < length table.now.nodes) × (p.1 < length table.now.nodes)) pairs.now }
     ensures { MatchOption result
-        ((p : ℕ × ℕ) (x y : ℕ) → Contains pairs.now p → class_of state.now p.0 ≡ class_of state.now p.1
-        → AreFirst table.now p x y → IsOpen state.now x y → ⊥)
-        (λ q. ((p : ℕ × ℕ) × Contains pairs.now p × (class_of state.now p.0 ≡ class_of state.now p.1)
-        × AreFirst table.now p q.0 q.1) × IsOpen state.now q.0 q.1) }
+        ((p : ℕ × ℕ) (x y : ℕ) → Contains pairs.now p →
+            class_of state.now p.0 ≡ class_of state.now p.1 →
+            AreFirst table.now p x y → IsOpen state.now x y → ⊥)
+        (λ q. ((p : ℕ × ℕ) × Contains pairs.now p
+            × (class_of state.now p.0 ≡ class_of state.now p.1)
+            × AreFirst table.now p q.0 q.1)
+            × IsOpen state.now q.0 q.1) }
 {
     for (i, j) in pairs {
         match open_first(table, state, *i, *j) {
@@ -156,8 +169,8 @@ fn open_ways(table: &Table, state: &State, pairs: &[(usize, usize)]) -> Option<(
     None
 }
 
-/// Two nodes that are open, and which a split tells apart: parts, a part and an identity, or the first
-/// arguments of a pair of one class.
+/// Two nodes that are open, and which a split tells apart: parts, a part and an identity, or the
+/// first arguments of a pair of one class.
 pub(crate) fn question(classes: &Classes, state: &State) -> Option<(usize, usize)>
     requires naming { IsNaming state.now }
     requires whole { length state.now.names ≡ length classes.now.table.nodes }

@@ -2,7 +2,8 @@
 use crate::classes::Head;
 use fvn_base::Seq;
 
-/// The number of each part's class, the head of each part that has one, and whether each pair is crossed.
+/// The number of each part's class, the head of each part that has one, and whether each pair is
+/// crossed.
 ///
 /// A class has the place of its first part as its number.
 #[derive(Drop)]

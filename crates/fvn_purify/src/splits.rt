@@ -5,7 +5,7 @@ ghost use Rattle.fvn_terms.specs.Unifiers.{Problem};
 ghost use Rattle.fvn_flat.specs.Problems.{IsProblem};
 ghost use Rattle.fvn_flat.specs.SolvedLists.{IsKindUnifier};
 ghost use Rattle.fvn_purify.specs.Parts.{AreClassesOf, outline};
-ghost use Rattle.fvn_purify.specs.Obeying.{Obeys};
+ghost use Rattle.fvn_purify.specs.Obeying.{ObeysSplit};
 ghost use Rattle.fvn_purify.specs.Splits.{IsSplit, HasOneFree};
 ghost use Rattle.fvn_purify.specs.Cursor.{Pending, HasSamePending, IsGivenFrom};
 ghost use Rattle.fvn_nodes.specs.Questions.{IsStart};
@@ -49,15 +49,24 @@ impl<'a> Model for Splits<'a> {
 
     ghost Value = { Cursor };
 
-    ghost view = { λ s. record { declarations = s.sig.now; outline = outline s.classes.now; partials = s.partials.items } };
+    ghost view = { λ s. record {
+        declarations = s.sig.now;
+        outline = outline s.classes.now;
+        partials = s.partials.items;
+    } };
 
-    ghost invariant = { λ s. IsKept (record { declarations = s.sig.now; outline = outline s.classes.now; partials = s.partials.items }) };
+    ghost invariant = { λ s. IsKept (record {
+        declarations = s.sig.now;
+        outline = outline s.classes.now;
+        partials = s.partials.items;
+    }) };
 }
 
 // Puts these in place of the last one.
 fn replace_last(partials: &mut Vec<Partial>, parts: Seq<Partial>) -> Result<(), NoMemory>
     requires { 0 < length partials.old.items }
-    ensures ok { OnOk result (partials.new.items ≡ take (length partials.old.items - 1) partials.old.items ++ parts) }
+    ensures ok { OnOk result
+        (partials.new.items ≡ take (length partials.old.items - 1) partials.old.items ++ parts) }
     ensures no_memory { OnErr result (partials.new.items ≡ partials.old.items) }
 {
     let last = partials.len() - 1;
@@ -76,7 +85,9 @@ fn advance_once(
 ) -> Result<Found, NoMemory>
     requires kept { IsKept (cursor sig.now (outline classes.now) partials.old.items) }
     ensures kept { IsKept (cursor sig.now (outline classes.now) partials.new.items) }
-    ensures found { IfOk result (IsFoundFrom (cursor sig.now (outline classes.now) partials.old.items) (cursor sig.now (outline classes.now) partials.new.items)) }
+    ensures found { IfOk result (IsFoundFrom
+        (cursor sig.now (outline classes.now) partials.old.items)
+        (cursor sig.now (outline classes.now) partials.new.items)) }
     ensures no_memory { OnErr result (partials.new.items ≡ partials.old.items) }
 {
     let given = match partials.as_slice().last() {
@@ -104,11 +115,14 @@ fn next_split(
 ) -> Result<Option<Split>, NoMemory>
     requires kept { IsKept (cursor sig.now (outline classes.now) partials.old.items) }
     ensures kept { IsKept (cursor sig.now (outline classes.now) partials.new.items) }
-    ensures given { IfOk result (IsGivenFrom (cursor sig.now (outline classes.now) partials.old.items)
+    ensures given { IfOk result (IsGivenFrom
+        (cursor sig.now (outline classes.now) partials.old.items)
         (cursor sig.now (outline classes.now) partials.new.items)) }
-    ensures falls { IfOk result (λ r. IfSome r (λ s. cursor_weight (cursor sig.now (outline classes.now) partials.new.items)
+    ensures falls { IfOk result (λ r. IfSome r (λ s.
+        cursor_weight (cursor sig.now (outline classes.now) partials.new.items)
         < cursor_weight (cursor sig.now (outline classes.now) partials.old.items))) }
-    ensures no_memory { OnErr result (HasSamePending (cursor sig.now (outline classes.now) partials.old.items)
+    ensures no_memory { OnErr result (HasSamePending
+        (cursor sig.now (outline classes.now) partials.old.items)
         (cursor sig.now (outline classes.now) partials.new.items)) }
 {
     'steps: loop {
@@ -122,7 +136,8 @@ fn next_split(
 
 // The state that every partition has, if there is a partition.
 fn begun(alloc: Global, sig: &Signature, classes: &Classes) -> Result<Vec<Partial>, NoMemory>
-    ensures { IfOk result (λ partials. (r : Option State) × IsStart sig.now classes.now.table r × (partials.items ≡ asking r)) }
+    ensures { IfOk result (λ partials.
+        (r : Option State) × IsStart sig.now classes.now.table r × (partials.items ≡ asking r)) }
 {
     let mut partials = Vec::new(alloc);
     match start(alloc, sig, &classes.table)? {
@@ -141,14 +156,18 @@ impl<'a> Splits<'a> {
         sig: &'a Signature,
         classes: &'a Classes,
     ) -> Result<Splits<'a>, NoMemory>
-        requires classes { (problem : Problem) × IsProblem sig.now problem × AreClassesOf sig.now problem classes.now }
-        ensures of { IfOk result (λ s. (s.declarations ≡ sig.now) × (s.outline ≡ outline classes.now)) }
+        requires classes { (problem : Problem) ×
+            IsProblem sig.now problem × AreClassesOf sig.now problem classes.now }
+        ensures of { IfOk result (λ s.
+            (s.declarations ≡ sig.now) × (s.outline ≡ outline classes.now)) }
         // All splits are to come, and nothing else.
-        ensures exact { IfOk result (λ s. (split : InSplit) → Pending s split ↔ IsSplit sig.now (outline classes.now) split) }
+        ensures exact { IfOk result (λ s. (split : InSplit) →
+            Pending s split ↔ IsSplit sig.now (outline classes.now) split) }
         // Every unifier on kinds obeys one of them.
-        ensures complete { IfOk result (λ s. (problem : Problem) (u : Substitution) → IsProblem sig.now problem →
-            AreClassesOf sig.now problem classes.now → IsKindUnifier sig.now problem u →
-            (split : InSplit) × Obeys sig.now (outline classes.now) u split × Pending s split) }
+        ensures complete { IfOk result (λ s. (problem : Problem) (u : Substitution) →
+            IsProblem sig.now problem → AreClassesOf sig.now problem classes.now →
+            IsKindUnifier sig.now problem u → (split : InSplit) ×
+            ObeysSplit sig.now (outline classes.now) u split × Pending s split) }
     {
         sig.recall_good();
         classes.table.recall_well_made();
@@ -162,12 +181,16 @@ impl<'a> Splits<'a> {
         })
     }
 
-    /// The next split, or none where all are given. At want of memory the same are to come as before.
+    /// The next split, or none where all are given. At want of memory the same are to come as
+    /// before.
     pub fn advance(&mut self) -> Result<Option<Split>, NoMemory>
-        ensures of { (self.new.declarations ≡ self.old.declarations) × (self.new.outline ≡ self.old.outline) }
+        ensures of { (self.new.declarations ≡ self.old.declarations)
+            × (self.new.outline ≡ self.old.outline) }
         ensures given { IfOk result (IsGivenFrom self.old self.new) }
-        ensures one_free { IfOk result (λ r. IfSome r (HasOneFree self.old.declarations self.old.outline)) }
-        ensures falls { IfOk result (λ r. IfSome r (λ s. cursor_weight self.new < cursor_weight self.old)) }
+        ensures one_free { IfOk result (λ r.
+            IfSome r (HasOneFree self.old.declarations self.old.outline)) }
+        ensures falls { IfOk result (λ r.
+            IfSome r (λ s. cursor_weight self.new < cursor_weight self.old)) }
         ensures no_memory { OnErr result (HasSamePending self.old self.new) }
     {
         let found = next_split(self.alloc, self.sig, self.classes, &mut self.partials)?;

@@ -10,7 +10,7 @@ ghost use Rattle.fvn_purify.specs.Theories.{
   StandsInTwo,
   FacesVariable,
   IsAbstracted,
-  IsShared,
+  IsSharedVariable,
 };
 ghost use Rattle.fvn_purify.specs.inner.Standing.{StandsUnderAt, StandsOutsideAt};
 
@@ -66,7 +66,9 @@ fn stands(table: &Table, i: usize, j: usize, arguments: &[usize]) -> bool
 // The operator of node j, where node i stands under it there.
 fn standing_at(table: &Table, i: usize, j: usize) -> Option<OpId>
     requires { j < length table.now.nodes }
-    ensures { MatchOption result ((f : OpId) → StandsUnderAt table.now i j f → ⊥) (StandsUnderAt table.now i j) }
+    ensures { MatchOption result
+        ((f : OpId) → StandsUnderAt table.now i j f → ⊥)
+        (StandsUnderAt table.now i j) }
 {
     match table.node(j) {
         Node::Var(_) => None,
@@ -82,7 +84,9 @@ fn standing_at(table: &Table, i: usize, j: usize) -> Option<OpId>
 
 // An operator that node i stands under.
 fn standing(table: &Table, i: usize) -> Option<OpId>
-    ensures { MatchOption result ((f : OpId) → StandsUnder table.now i f → ⊥) (StandsUnder table.now i) }
+    ensures { MatchOption result
+        ((f : OpId) → StandsUnder table.now i f → ⊥)
+        (StandsUnder table.now i) }
 {
     for j in 0..table.nodes().len() {
         match standing_at(table, i, j) {
@@ -165,7 +169,7 @@ pub(crate) fn is_abstracted(sig: &Signature, table: &Table, i: usize) -> bool
 /// Whether node `i` is a shared variable.
 pub(crate) fn is_shared(sig: &Signature, table: &Table, i: usize) -> bool
     requires { i < length table.now.nodes }
-    ensures { IsTrue result ↔ IsShared sig.now table.now i }
+    ensures { IsTrue result ↔ IsSharedVariable sig.now table.now i }
 {
     if !is_variable(table, i) {
         return false;

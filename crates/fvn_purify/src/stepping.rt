@@ -84,7 +84,9 @@ fn asked(
     requires left { i < length classes.now.table.nodes }
     requires right { j < length classes.now.table.nodes }
     requires open { IsOpen state.now i j }
-    ensures { IfOk result (λ list. (a : Answers) × AreAnswers sig.now classes.now.table state.now i j a × (list ≡ asking a.apart ++ asking a.same)) }
+    ensures { IfOk result (λ list.
+        (a : Answers) × AreAnswers sig.now classes.now.table state.now i j a
+        × (list ≡ asking a.apart ++ asking a.same)) }
 {
     let Answers { same, apart } = ask(alloc, sig, &classes.table, state, i, j)?;
     let mut list = Vec::new(alloc);
@@ -110,7 +112,8 @@ fn settled(alloc: Global, state: &State) -> Result<Seq<Partial>, NoMemory>
 
 // The leaf with one more head.
 fn with_head(alloc: Global, leaf: &Leaf, head: Head) -> Result<Partial, NoMemory>
-    ensures { IfOk result (λ p. p ≡ chosen leaf.now.state (leaf.now.heads ++ head ∷ []) leaf.now.swaps) }
+    ensures { IfOk result (λ p.
+        p ≡ chosen leaf.now.state (leaf.now.heads ++ head ∷ []) leaf.now.swaps) }
 {
     let state = same_state(alloc, &leaf.state)?;
     let heads = with_one(alloc, leaf.heads.as_slice(), head)?;
@@ -124,7 +127,8 @@ fn with_head(alloc: Global, leaf: &Leaf, head: Head) -> Result<Partial, NoMemory
 
 // The leaf with each of the heads as one more.
 fn with_heads(alloc: Global, leaf: &Leaf, options: &[Head]) -> Result<Seq<Partial>, NoMemory>
-    ensures { IfOk result (λ list. list ≡ map (λ h. chosen leaf.now.state (leaf.now.heads ++ h ∷ []) leaf.now.swaps) options.now) }
+    ensures { IfOk result (λ list. list
+        ≡ map (λ h. chosen leaf.now.state (leaf.now.heads ++ h ∷ []) leaf.now.swaps) options.now) }
 {
     let mut list = Vec::new(alloc);
     for head in options {
@@ -136,7 +140,8 @@ fn with_heads(alloc: Global, leaf: &Leaf, options: &[Head]) -> Result<Seq<Partia
 
 // The leaf with one more way.
 fn with_way(alloc: Global, leaf: &Leaf, crossed: bool) -> Result<Partial, NoMemory>
-    ensures { IfOk result (λ p. p ≡ chosen leaf.now.state leaf.now.heads (leaf.now.swaps ++ crossed ∷ [])) }
+    ensures { IfOk result (λ p.
+        p ≡ chosen leaf.now.state leaf.now.heads (leaf.now.swaps ++ crossed ∷ [])) }
 {
     let state = same_state(alloc, &leaf.state)?;
     let heads = copied(alloc, leaf.heads.as_slice())?;
@@ -150,7 +155,8 @@ fn with_way(alloc: Global, leaf: &Leaf, crossed: bool) -> Result<Partial, NoMemo
 
 // The leaf with each of the ways as one more.
 fn with_ways(alloc: Global, leaf: &Leaf, options: &[bool]) -> Result<Seq<Partial>, NoMemory>
-    ensures { IfOk result (λ list. list ≡ map (λ w. chosen leaf.now.state leaf.now.heads (leaf.now.swaps ++ w ∷ [])) options.now) }
+    ensures { IfOk result (λ list. list
+        ≡ map (λ w. chosen leaf.now.state leaf.now.heads (leaf.now.swaps ++ w ∷ [])) options.now) }
 {
     let mut list = Vec::new(alloc);
     for crossed in options {
@@ -160,8 +166,8 @@ fn with_ways(alloc: Global, leaf: &Leaf, options: &[bool]) -> Result<Seq<Partial
     Ok(Seq::from_vec(list))
 }
 
-// The one way in which nodes i and j can meet, if they are in one class: crosswise, unless their first
-// arguments are in one class.
+// The one way in which nodes i and j can meet, if they are in one class: crosswise, unless their
+// first arguments are in one class.
 fn forced_way(classes: &Classes, state: &State, i: usize, j: usize) -> Option<bool>
     requires left { i < length classes.now.table.nodes }
     requires right { j < length classes.now.table.nodes }
@@ -189,7 +195,8 @@ fn way_options(
     requires left { i < length classes.now.table.nodes }
     requires right { j < length classes.now.table.nodes }
     requires whole { length state.now.names ≡ length classes.now.table.nodes }
-    ensures { IfOk result (λ options. IsWayOptions (outline classes.now) (class_of state.now) (i, j) options.items) }
+    ensures { IfOk result (λ options.
+        IsWayOptions (outline classes.now) (class_of state.now) (i, j) options.items) }
 {
     let mut options = Vec::new(alloc);
     match forced_way(classes, state, i, j) {
@@ -222,7 +229,8 @@ fn number_in(state: &State, parts: &[usize], i: usize) -> usize
 // The numbers of the classes of the parts.
 fn numbers(alloc: Global, state: &State, parts: &[usize]) -> Result<Seq<usize>, NoMemory>
     requires all { All (λ p. p < length state.now.names) parts.now }
-    ensures { IfOk result (λ list. list ≡ map (number_in (class_of state.now) parts.now) parts.now) }
+    ensures { IfOk result (λ list.
+        list ≡ map (number_in (class_of state.now) parts.now) parts.now) }
 {
     let mut list = Vec::new(alloc);
     for p in parts {

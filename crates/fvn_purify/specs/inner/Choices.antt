@@ -8,8 +8,8 @@ use Rattle.fvn_nodes.specs.Table.{NodeTable, IsOver, IsWellMade}
 use Rattle.fvn_nodes.specs.Classes.{IsNodePartition}
 use Rattle.fvn_nodes.specs.States.{Admits, IsClosed, IsOpen, class_of, open_pairs}
 use Rattle.fvn_nodes.specs.declared.state.State.{State}
-use Rattle.fvn_purify.specs.Parts.{Outline, AreParts}
-use Rattle.fvn_purify.specs.Splits.{number_in, AreHeads, AreWays}
+use Rattle.fvn_purify.specs.Parts.{Outline, IsOutline}
+use Rattle.fvn_purify.specs.Splits.{number_in, AreHeadsOfParts, AreWaysOfPairs}
 use Rattle.fvn_purify.specs.inner.Options.{AreFirst}
 use Rattle.fvn_purify.specs.Cursor.{IsAheadOf, Cursor}
 use Rattle.fvn_purify.specs.declared.classes.Head.{Head}
@@ -41,24 +41,28 @@ chosen s heads swaps = Choosing (record { state = s; heads = heads; swaps = swap
 
 -- the split that a leaf with all heads and ways is
 abbrev pub split_of : Outline → Leaf → Split
-split_of c l = record { class_of = map (number_in (class_of l.state) c.places.parts) c.places.parts; heads = l.heads; swaps = l.swaps }
+split_of c l = record {
+  class_of = map (number_in (class_of l.state) c.places.parts) c.places.parts;
+  heads = l.heads;
+  swaps = l.swaps;
+}
 
 module _ (c : Outline) (s : State) where
   -- two parts, a part with a head and an identity, or the first arguments of a pair of one class
-  abbrev pub IsQuestion : (x y : ℕ) → Type 0
-  IsQuestion x y =
+  abbrev pub IsSplitQuestion : (x y : ℕ) → Type 0
+  IsSplitQuestion x y =
       (Contains c.places.parts x × Contains c.places.parts y)
       ⊎ ((Contains c.places.headed x × ((p : OpId × ℕ) × Contains c.table.units p × (p.1 ≡ y)))
       ⊎ ((p : ℕ × ℕ) × Contains c.places.pairs p × (class_of s p.0 ≡ class_of s p.1) × AreFirst c.table p x y))
 
   -- no question is open
   abbrev pub IsDecided : Type 0
-  IsDecided = (x y : ℕ) → IsQuestion x y → IsOpen s x y → ⊥
+  IsDecided = (x y : ℕ) → IsSplitQuestion x y → IsOpen s x y → ⊥
 
   -- an open question, or none where none is open
   abbrev pub IsNextQuestion : Option (ℕ × ℕ) → Type 0
   IsNextQuestion None = IsDecided
-  IsNextQuestion (Some p) = IsQuestion p.0 p.1 × IsOpen s p.0 p.1
+  IsNextQuestion (Some p) = IsSplitQuestion p.0 p.1 × IsOpen s p.0 p.1
 
 module _ (d : Declarations) (c : Outline) where
   -- what steps need: parts, pairs and operators are those of the table, and identities are constants
@@ -66,21 +70,23 @@ module _ (d : Declarations) (c : Outline) where
     pub made : IsWellMade c.table
     pub within : ArePlacesWithin c
     pub units : HasUnits d c.table
-    pub are : AreParts d c
+    pub are : IsOutline d c
 
-  -- these are the options for one more head or way: they fit the state, and whatever fits classes that the state admits is one of them
+  -- the options for one more head or way: they fit the state, and whatever fits classes that the state admits is one of them
   pub record AreOptions {A : Type 0} (Fits : (ℕ → ℕ) → A → Type 0) (s : State) (options : List A) : Type 0 where
     pub fit : All (Fits (class_of s)) options
     pub once : AllPairs ◌≢◌ options
-    pub all : (class : ℕ → ℕ) → IsNodePartition d c.table class → Admits s class → (x : A) → Fits class x → Contains options x
+    pub all :
+        (class : ℕ → ℕ) → IsNodePartition d c.table class → Admits s class →
+        (x : A) → Fits class x → Contains options x
 
   -- heads and ways fit the classes of a state without open questions
   pub record IsLeaf (l : Leaf) : Type 0 where
     pub closed : IsClosed d c.table l.state
     pub decided : IsDecided c l.state
-    pub heads : AreHeads d c (class_of l.state) c.places.headed l.heads
+    pub heads : AreHeadsOfParts d c (class_of l.state) c.places.headed l.heads
     pub few_heads : length l.heads ≤ length c.places.headed
-    pub swaps : AreWays d c (class_of l.state) c.places.pairs l.swaps
+    pub swaps : AreWaysOfPairs d c (class_of l.state) c.places.pairs l.swaps
     pub few_swaps : length l.swaps ≤ length c.places.pairs
 
   -- what is decided so far fits together
@@ -106,13 +112,13 @@ module _ (d : Declarations) (c : Outline) where
   weights partials = sum_by weight partials
 
   -- no split is ahead of both
-  abbrev pub AreApart : Partial → Partial → Type 0
-  AreApart p q = (split : Split) → IsAheadOf d c p split → IsAheadOf d c q split → ⊥
+  abbrev pub ShareNoSplit : Partial → Partial → Type 0
+  ShareNoSplit p q = (split : Split) → IsAheadOf d c p split → IsAheadOf d c q split → ⊥
 
   -- these are ahead of one of the partials just where they are ahead of this one
   pub record IsExpansion (before : Partial) (after : List Partial) : Type 0 where
     pub same : (split : Split) → IsAheadOf d c before split ↔ Any (λ p. IsAheadOf d c p split) after
-    pub apart : AllPairs AreApart after
+    pub apart : AllPairs ShareNoSplit after
     pub sound : All IsSound after
     pub falls : weights after < weight before
 
@@ -125,4 +131,4 @@ module _ (d : Declarations) (c : Outline) where
 pub record IsKept (cursor : Cursor) : Type 0 where
   pub fit : AreStepped cursor.declarations cursor.outline
   pub sound : All (IsSound cursor.declarations cursor.outline) cursor.partials
-  pub apart : AllPairs (AreApart cursor.declarations cursor.outline) cursor.partials
+  pub apart : AllPairs (ShareNoSplit cursor.declarations cursor.outline) cursor.partials

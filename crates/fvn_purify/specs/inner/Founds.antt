@@ -16,7 +16,7 @@ cursor d c partials = record { declarations = d; outline = c; partials = partial
 abbrev pub cursor_weight : Cursor → ℕ
 cursor_weight c = weights c.declarations c.outline c.partials
 
--- nothing was to come; or the same is to come, with less left to do; or the split that was found is not to come any more, and less is left to do
+-- nothing was to come; or the same is to come, or the split that was found is not any more, and less is left to do
 abbrev pub IsFoundFrom : Cursor → Cursor → Found → Type 0
 IsFoundFrom before after Nothing = IsGivenFrom before after None
 IsFoundFrom before after More = HasSamePending before after × (cursor_weight after < cursor_weight before)

@@ -2,7 +2,7 @@
 use Rattle.std.proofs.Common.{◌≡◌, ℕ, ◌+◌, ◌<◌, ◌∙◌, true, false, length, sym, ap, subst, arith, List}
 use Rattle.std.proofs.lemmas.Option.{slice_get_within}
 use Rattle.fvn_nodes.specs.declared.table.Node.TheVariants.{Var}
-use Rattle.fvn_purify.specs.Theories.{IsShared}
+use Rattle.fvn_purify.specs.Theories.{IsSharedVariable}
 use Rattle.fvn_purify.specs.Parts.{IsEach}
 use Rattle.fvn_purify.proofs.Listed.{each_next, each_skip, each_end}
 use Rattle.fvn_purify.proofs.listing.shared.Goals.{then-is_shared+in_ok-push, else-is_shared}
@@ -10,7 +10,7 @@ use Rattle.fvn_purify.proofs.listing.shared.Goals as goal
 
 pub loop-i-preserved : goal.loop-i-preserved
 loop-i-preserved c =
-    let Has = λ (k : ℕ). IsShared c.args.sig.now c.args.table.now k in
+    let Has = λ (k : ℕ). IsSharedVariable c.args.sig.now c.args.table.now k in
     let i = c.loop-i.i in
     let items = c.loop-i.list.items in
     let each = c.loop-i.invariant in
@@ -25,4 +25,4 @@ pub returns : goal.returns
 returns c =
     let end = c.loop-i-test.false in
     let n = ap length c.nodes-i-end.ensures in
-    each_end (λ (k : ℕ). IsShared c.args.sig.now c.args.table.now k) c.loop-i.list.items c.loop-i.i c.loop-i.invariant (λ k h. let l = slice_get_within c.args.table.now.nodes k (Var h.0.0) h.0.1 in omega arith)
+    each_end (λ (k : ℕ). IsSharedVariable c.args.sig.now c.args.table.now k) c.loop-i.list.items c.loop-i.i c.loop-i.invariant (λ k h. let l = slice_get_within c.args.table.now.nodes k (Var h.0.0) h.0.1 in omega arith)

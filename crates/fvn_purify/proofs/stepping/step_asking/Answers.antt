@@ -2,14 +2,14 @@
 use Rattle.std.proofs.Common.{sym, subst}
 use Rattle.fvn_nodes.specs.States.{IsOpen}
 use Rattle.fvn_purify.specs.Parts.{outline}
-use Rattle.fvn_purify.specs.inner.Choices.{IsQuestion, IsExpansion}
+use Rattle.fvn_purify.specs.inner.Choices.{IsSplitQuestion, IsExpansion}
 use Rattle.fvn_purify.specs.declared.choosing.Partial.TheVariants.{Asking}
 use Rattle.fvn_purify.proofs.Decided.{question_within}
 use Rattle.fvn_purify.proofs.Expanding.{asked_expands, settled_expands}
 use Rattle.fvn_purify.proofs.stepping.step_asking.Goals.{In-Some}
 use Rattle.fvn_purify.proofs.stepping.step_asking.Goals as goal
 
-asked : (c : goal.In-Some) → IsQuestion (outline c.args.classes.now) c.args.state.now c.in-Some.i c.in-Some.j × IsOpen c.args.state.now c.in-Some.i c.in-Some.j
+asked : (c : goal.In-Some) → IsSplitQuestion (outline c.args.classes.now) c.args.state.now c.in-Some.i c.in-Some.j × IsOpen c.args.state.now c.in-Some.i c.in-Some.j
 asked c = c.in-Some.ensures
 
 pub asked-requires-clause-left : goal.asked-requires-clause-left
