@@ -1,14 +1,14 @@
 //! Parts of problems, and all their splits.
+mod deep;
 mod driving;
 mod showing;
 mod signatures;
 mod terms;
 
-use self::driving::push_splits;
-use self::showing::push_classes;
+use self::deep::assert_deep;
+use self::driving::push_problem;
 use self::signatures::collected;
-use self::terms::{are_sides, read_problem};
-use fvn_purify::purify;
+use self::terms::read_problem;
 use fvn_sorts::Signature;
 use fvn_terms::NoMemory;
 use std::alloc::{AllocError, Global};
@@ -59,17 +59,19 @@ A0 A1 l = A2 h => 24 | 2 |  | l => 00:F:
 A1 A0 h k = A2 f j => 2356 |  |  | kj =>
 A0 f l = A1 f j => 124 | 2 |  | lj => 011:Pj:
 f A0 h l = A1 h => 0235 | 3 |  | l => 0111:F: 0122:F:
-A0 h = A1 h; A0 A2 k = f => 560 | 0 |  | k =>";
+A0 h = A1 h; A0 A2 k = f => 560 | 0 |  | k =>
+A0 A0 k = A1 A2 k =>  |  |  | k => ::
+A0 A1 h k = f A2 h k => 246 |  |  | k => 010:: 012::
+A0 = A0 f k => 1 |  |  | k => 0::
+A0 = A0 A1 l =>  |  |  | l => ::
+A0 = A1 A2 l =>  |  |  | l => ::
+A0 h A0 h j = f h f h j => 14 |  | 25 | j => 00::-";
 
 /// The parts of the problem, and its splits as they are given.
 fn shown(rt: &impl Abort, alloc: Global, sig: &Signature, text: &str) -> Result<String, NoMemory> {
     let mut out = String::new(alloc);
     let problem = read_problem(rt, alloc, sig, text)?;
-    assert!(rt; are_sides(alloc, sig, &problem)?);
-    let classes = purify(alloc, sig, &problem)?;
-    push_classes(&mut out, &classes)?;
-    out.push_str(" =>")?;
-    push_splits(alloc, sig, &classes, &mut out)?;
+    push_problem(rt, alloc, sig, &problem, &mut out)?;
     Ok(out)
 }
 
@@ -113,6 +115,16 @@ fn all_splits_are_given(rt: HostRuntime) -> Result<(), NoMemory> {
     let alloc = rt.alloc();
     match collected(alloc)?.finish(alloc) {
         Ok(sig) => assert_splits(&rt, alloc, &sig, SPLITS)?,
+        Err(_) => assert!(rt; false),
+    }
+    Ok(())
+}
+
+#[test]
+fn deep_terms_have_one_split_or_none(rt: HostRuntime) -> Result<(), NoMemory> {
+    let alloc = rt.alloc();
+    match collected(alloc)?.finish(alloc) {
+        Ok(sig) => assert_deep(&rt, alloc, &sig)?,
         Err(_) => assert!(rt; false),
     }
     Ok(())

@@ -3,20 +3,24 @@ ghost use Rattle.fvn_terms.specs.Unifiers.{Problem};
 ghost use Rattle.fvn_flat.specs.Problems.{IsProblem};
 ghost use Rattle.fvn_purify.specs.Parts.{AreClassesOf};
 
-use super::showing::push_split;
-use fvn_purify::{Classes, Splits};
+use super::showing::{push_classes, push_split};
+use super::terms::are_sides;
+use fvn_flat::Pairs;
+use fvn_purify::{Classes, Splits, purify};
 use fvn_sorts::Signature;
 use fvn_terms::NoMemory;
-use std::alloc::Global;
+use std::alloc::{AllocError, Global};
+use std::process::Abort;
 
 /// Writes the splits that are given, each behind a space.
-pub fn push_splits(
+fn push_splits(
     alloc: Global,
     sig: &Signature,
     classes: &Classes,
     out: &mut String,
 ) -> Result<(), NoMemory>
-    requires classes { (problem : Problem) × IsProblem sig.now problem × AreClassesOf sig.now problem classes.now }
+    requires classes { (problem : Problem) ×
+        IsProblem sig.now problem × AreClassesOf sig.now problem classes.now }
 {
     let mut splits = Splits::new(alloc, sig, classes)?;
     'given: loop {
@@ -25,4 +29,19 @@ pub fn push_splits(
             Some(split) => push_split(out, &split)?,
         }
     }
+}
+
+/// Writes the parts of the problem, and its splits as they are given.
+pub fn push_problem(
+    rt: &impl Abort,
+    alloc: Global,
+    sig: &Signature,
+    problem: &Pairs,
+    out: &mut String,
+) -> Result<(), NoMemory> {
+    assert!(rt; are_sides(alloc, sig, problem)?);
+    let classes = purify(alloc, sig, problem)?;
+    push_classes(out, &classes)?;
+    out.push_str(" =>")?;
+    push_splits(alloc, sig, &classes, out)
 }

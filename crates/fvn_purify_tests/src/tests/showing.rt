@@ -4,7 +4,7 @@ use fvn_terms::{NoMemory, OpId};
 use std::alloc::AllocError;
 
 fn push_after(out: &mut String, first: u8, number: usize) -> Result<(), NoMemory> {
-    out.push(char::from(first.wrapping_add((number % 40) as u8)))?;
+    out.push(char::from(first.wrapping_add(u8::try_from(number % 40).unwrap_or(0))))?;
     Ok(())
 }
 

@@ -125,6 +125,20 @@ fn var_of(word: &str) -> Var {
     }
 }
 
+/// A variable with this number.
+pub fn variable(number: u32) -> Plain {
+    Plain::Var(Var {
+        name: number,
+        sort: SortId(0),
+        fresh: false,
+    })
+}
+
+/// The constant.
+pub fn constant(alloc: Global, op: OpId) -> Plain {
+    Plain::App(op, Args::from_vec(Vec::new(alloc)))
+}
+
 /// The term that is written with each operator after its arguments.
 fn term_of(alloc: Global, sig: &Signature, text: &str) -> Result<Option<Plain>, NoMemory> {
     let mut terms = Vec::new(alloc);
