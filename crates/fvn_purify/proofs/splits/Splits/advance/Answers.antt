@@ -3,7 +3,7 @@ use Rattle.std.proofs.Common.{◌<◌, subst}
 use Rattle.std.specs.Prelude.{IfSome}
 use Rattle.fvn_purify.specs.Parts.{outline}
 use Rattle.fvn_purify.specs.Splits.{HasOneFree}
-use Rattle.fvn_purify.specs.Cursor.{HasSamePending}
+use Rattle.fvn_purify.specs.Cursor.{HasSamePending, IsGivenFrom}
 use Rattle.fvn_purify.specs.inner.Founds.{cursor, cursor_weight}
 use Rattle.fvn_purify.proofs.Lasts.{given_free, on_err}
 use Rattle.fvn_purify.proofs.splits.Splits.advance.Goals as goal
@@ -11,6 +11,10 @@ use Rattle.fvn_purify.proofs.splits.Splits.advance.Goals as goal
 pub returns-in_err-found-clause-no_memory : goal.returns-in_err-found-clause-no_memory
 returns-in_err-found-clause-no_memory c =
     on_err c.from_residual.result (subst (λ k. HasSamePending k (cursor c.self.inside.sig.now (outline c.self.inside.classes.now) c.next_split.new.partials.items)) c.self.view_is c.in_err-found.ensures.no_memory)
+
+pub returns-clause-given : goal.returns-clause-given
+returns-clause-given c =
+    subst (λ k. IsGivenFrom k (cursor c.self.inside.sig.now (outline c.self.inside.classes.now) c.next_split.new.partials.items) c.in_ok-found.found) c.self.view_is c.in_ok-found.ensures.given
 
 pub returns-clause-one_free : goal.returns-clause-one_free
 returns-clause-one_free c =
