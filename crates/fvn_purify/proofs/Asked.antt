@@ -1,5 +1,5 @@
 -- The head that a value asks for.
-use Rattle.std.proofs.Common.{◌≡◌, ◌≢◌, ◌⊎◌, ℕ, zero, suc, Bool, true, false, List, [], ◌∷◌, length, refl, sym, ap, ◌∙◌, subst, inl, inr, Option, Some, None, slice_get, Contains}
+use Rattle.std.proofs.Common.{◌≡◌, ◌≢◌, ◌⊎◌, ℕ, true, false, List, [], ◌∷◌, refl, sym, ap, ◌∙◌, subst, inl, inr, Option, Some, None, slice_get, Contains}
 use Rattle.std.proofs.lemmas.Bool.{cases_eq}
 use Rattle.fvn_base.proofs.Membership.{contains_here, contains_later, contains_cases, contains_none}
 use Rattle.fvn_terms.specs.declared.plain.OpId.{OpId}
@@ -7,16 +7,16 @@ use Rattle.fvn_terms.specs.declared.declarations.Axioms.{Axioms}
 use Rattle.fvn_terms.specs.declared.declarations.Axioms.TheVariants.{Free as NoAxioms, Comm, AssocComm, AssocCommId}
 use Rattle.fvn_terms.specs.declared.declarations.Declarations.{Declarations}
 use Rattle.fvn_terms.specs.Signature.{axioms}
-use Rattle.fvn_forms.specs.Flat.{FlatTerm, FlatTerms, fvar, fapp, fnone, fmore, fconstant}
+use Rattle.fvn_forms.specs.Flat.{FlatTerm, fvar, fapp, fnone, fmore, fconstant}
 use Rattle.fvn_nodes.specs.Table.{NodeTable, IsOver}
 use Rattle.fvn_nodes.specs.declared.table.Node.{Node}
 use Rattle.fvn_nodes.specs.declared.table.Node.TheVariants.{Var, App}
 use Rattle.fvn_purify.specs.Parts.{Outline}
-use Rattle.fvn_purify.specs.Heads.{head_by, operator_head, IsTheory, IsUnitNode}
+use Rattle.fvn_purify.specs.Heads.{head_by, operator_head}
 use Rattle.fvn_flat.specs.Forms.{head_of}
 use Rattle.fvn_purify.specs.Obeying.{IsUnitName, AsksTheory, AsksFor}
 use Rattle.fvn_purify.specs.declared.classes.Head.{Head}
-use Rattle.fvn_purify.specs.declared.classes.Head.TheVariants.{Free, Pair, Sum, Identity}
+use Rattle.fvn_purify.specs.declared.classes.Head.TheVariants.{Free, Identity}
 
 pub same_operator : (f g : OpId) → (f ≡ g) ⊎ (f ≢ g)
 same_operator f g = elim (cases_eq f.0 g.0) [

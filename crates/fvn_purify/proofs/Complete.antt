@@ -1,8 +1,8 @@
 -- Every unifier on kinds obeys a split of its partition.
-use Rattle.std.proofs.Common.{◌≡◌, ◌≢◌, ◌⊎◌, ℕ, ◌<◌, Bool, true, false, not, List, [], ◌∷◌, ◌++◌, map, length, refl, sym, ap, ◌∙◌, subst, inl, inr, arith, Option, Some, None, slice_get, All, Any, Contains}
+use Rattle.std.proofs.Common.{◌≡◌, ◌≢◌, ℕ, ◌<◌, Bool, true, false, not, List, [], ◌∷◌, map, refl, sym, ap, ◌∙◌, subst, inl, inr, Option, Some, None, slice_get, All, Contains}
 use Rattle.std.specs.Prelude.{nat_eq, ◌↔◌}
 use Rattle.std.specs.Option.{option_map}
-use Rattle.std.proofs.lemmas.Bool.{eqb-true, cases_Bool, true≢false}
+use Rattle.std.proofs.lemmas.Bool.{eqb-true, true≢false}
 use Rattle.std.proofs.lemmas.Option.{slice_get_within, slice_get-map}
 use Rattle.std.proofs.lemmas.List.{length-map}
 use Rattle.std.proofs.lemmas.List.Elements.{All-contains}
@@ -13,30 +13,27 @@ use Rattle.fvn_terms.specs.declared.declarations.Axioms.TheVariants.{Free as NoA
 use Rattle.fvn_terms.specs.declared.declarations.Declarations.{Declarations}
 use Rattle.fvn_terms.specs.Substitution.{Substitution, apply}
 use Rattle.fvn_terms.specs.Signature.{axioms, IsTerm}
-use Rattle.fvn_terms.specs.Equality.{BEqual}
 use Rattle.fvn_terms.specs.Unifiers.{Problem}
 use Rattle.fvn_terms.proofs.Equal.{HasKind-apply}
-use Rattle.fvn_forms.specs.Flat.{FlatTerm, fconstant}
+use Rattle.fvn_forms.specs.Flat.{FlatTerm}
 use Rattle.fvn_forms.specs.FitsKinds.{FitsKinds}
 use Rattle.fvn_forms.proofs.Eval.{canon_respects}
 use Rattle.fvn_forms.proofs.ToCanon.{b_equal_iff_canon}
 use Rattle.fvn_flat.specs.Problems.{IsProblem}
 use Rattle.fvn_flat.specs.Partitions.{HasNoIdentity}
 use Rattle.fvn_flat.specs.SolvedLists.{IsKindUnifier}
-use Rattle.fvn_nodes.specs.Table.{NodeTable, IsOver, IsTableOf, term_at}
-use Rattle.fvn_nodes.specs.Classes.{MeetEitherWay, IsNodePartition}
-use Rattle.fvn_nodes.specs.States.{Admits}
+use Rattle.fvn_nodes.specs.Table.{IsOver, IsTableOf, term_at}
 use Rattle.fvn_nodes.specs.Questions.{IsStart}
 use Rattle.fvn_nodes.specs.Unifiers.{value_at, kernel, Partitions}
 use Rattle.fvn_nodes.specs.declared.state.State.{State}
 use Rattle.fvn_nodes.specs.declared.table.Node.{Node}
 use Rattle.fvn_nodes.specs.declared.table.Node.TheVariants.{Var, App}
 use Rattle.fvn_nodes.proofs.Nodes.{arguments_within}
-use Rattle.fvn_purify.specs.Parts.{Outline, ArePair, HasAxioms}
-use Rattle.fvn_purify.specs.Heads.{head_by, operator_head, IsTheory, IsUnitNode}
-use Rattle.fvn_purify.specs.Splits.{number_in, IsInUnit, HasTheory, CanHead, AreHeadsOfParts, IsWayOfPair, AreWaysOfPairs, IsSplitBy, IsSplit, HasOneFree}
+use Rattle.fvn_purify.specs.Parts.{Outline}
+use Rattle.fvn_purify.specs.Heads.{head_by, operator_head}
+use Rattle.fvn_purify.specs.Splits.{number_in, HasTheory, CanHead, IsSplitBy, IsSplit, HasOneFree}
 use Rattle.fvn_flat.specs.Forms.{head_of}
-use Rattle.fvn_purify.specs.Obeying.{IsUnitName, AsksTheory, AsksFor, MakesEqual, MeetsWay, ObeysSplit}
+use Rattle.fvn_purify.specs.Obeying.{AsksTheory, AsksFor, MakesEqual, MeetsWay, ObeysSplit}
 use Rattle.fvn_purify.specs.Cursor.{IsAhead, IsAheadOf, Pending}
 use Rattle.fvn_purify.specs.inner.Choices.{asking, AreStepped, IsSound, ShareNoSplit, IsKept}
 use Rattle.fvn_purify.specs.inner.Founds.{cursor}
@@ -50,7 +47,7 @@ use Rattle.fvn_purify.proofs.Numbers.{number_same, number_tells, nat_eq-same}
 use Rattle.fvn_purify.proofs.Decided.{one_operator, nodes}
 use Rattle.fvn_purify.proofs.Kinded.{node_kinded}
 use Rattle.fvn_purify.proofs.Solid.{value_headed, value_constant}
-use Rattle.fvn_purify.proofs.Asked.{Choice, choice}
+use Rattle.fvn_purify.proofs.Asked.{choice}
 
 module _ (d : Declarations) (c : Outline) where
   -- what is still to come is a split

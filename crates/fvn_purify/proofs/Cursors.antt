@@ -1,5 +1,5 @@
 -- How a cursor changes with a step.
-use Rattle.std.proofs.Common.{◌≡◌, ◌≢◌, ◌⊎◌, ℕ, suc, ◌+◌, ◌-◌, ◌*◌, ◌^◌, ◌<◌, ◌≤◌, List, [], ◌∷◌, ◌++◌, length, sum_by, refl, sym, ap, ◌∙◌, subst, inl, inr, arith, Option, Some, None, All, Any, AllPairs, Contains}
+use Rattle.std.proofs.Common.{◌≡◌, ℕ, suc, ◌+◌, ◌-◌, ◌*◌, ◌^◌, ◌<◌, ◌≤◌, List, [], ◌∷◌, ◌++◌, length, refl, subst, inl, inr, arith, Option, Some, None, Any, Contains}
 use Rattle.std.specs.Prelude.{◌↔◌}
 use Rattle.std.proofs.Math.Nat.{one-le-pow}
 use Rattle.std.proofs.lemmas.List.Sums.{sum_by-append, sum_by-cons}
@@ -8,8 +8,8 @@ use Rattle.fvn_base.proofs.Membership.{contains_here}
 use Rattle.fvn_terms.specs.declared.declarations.Declarations.{Declarations}
 use Rattle.fvn_nodes.specs.States.{open_pairs}
 use Rattle.fvn_purify.specs.Parts.{Outline}
-use Rattle.fvn_purify.specs.Cursor.{IsAheadOf, Pending, HasSamePending, IsAtEnd, IsTakenFrom, IsGivenFrom}
-use Rattle.fvn_purify.specs.inner.Choices.{base, places_count, weight, weights, IsSound, ShareNoSplit, IsExpansion, IsKept}
+use Rattle.fvn_purify.specs.Cursor.{IsAheadOf, HasSamePending, IsAtEnd, IsGivenFrom}
+use Rattle.fvn_purify.specs.inner.Choices.{base, places_count, weight, IsSound, ShareNoSplit, IsExpansion, IsKept}
 use Rattle.fvn_purify.specs.inner.Founds.{cursor, cursor_weight}
 use Rattle.fvn_purify.specs.declared.split.Split.{Split}
 use Rattle.fvn_purify.specs.declared.choosing.Partial.{Partial}

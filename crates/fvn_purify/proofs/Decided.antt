@@ -1,8 +1,6 @@
 -- What a state without open questions tells of the classes that it admits.
-use Rattle.std.proofs.Common.{◌≡◌, ◌≢◌, ◌⊎◌, ℕ, ◌<◌, true, false, Bool, ◌&&◌, ◌||◌, not, List, [], ◌∷◌, map, length, refl, sym, ap, ◌∙◌, subst, inl, inr, arith, Some, slice_get, Contains}
+use Rattle.std.proofs.Common.{◌≡◌, ℕ, ◌<◌, List, [], ◌∷◌, map, length, sym, ap, ◌∙◌, subst, inl, inr, arith, Some}
 use Rattle.std.specs.Prelude.{nat_eq}
-use Rattle.std.specs.List.{list_any}
-use Rattle.std.proofs.lemmas.Bool.{eqb-true}
 use Rattle.std.proofs.lemmas.Option.{slice_get_within}
 use Rattle.std.proofs.lemmas.List.Elements.{All-contains, All-head}
 use Rattle.fvn_terms.specs.declared.plain.OpId.{OpId}
@@ -10,17 +8,16 @@ use Rattle.fvn_terms.specs.declared.declarations.Declarations.{Declarations}
 use Rattle.fvn_terms.specs.Term.{app, pack}
 use Rattle.fvn_terms.specs.Signature.{axioms}
 use Rattle.fvn_flat.specs.Partitions.{HasNoIdentity}
-use Rattle.fvn_nodes.specs.Table.{NodeTable, IsOver, IsWellMade, term_at}
-use Rattle.fvn_nodes.specs.Classes.{IsNodePartition, IsPartitionBut}
-use Rattle.fvn_nodes.specs.States.{Admits, IsClosed, IsOpen, class_of, is_same, is_apart}
+use Rattle.fvn_nodes.specs.Table.{IsOver, term_at}
+use Rattle.fvn_nodes.specs.Classes.{IsPartitionBut}
+use Rattle.fvn_nodes.specs.States.{Admits, IsClosed, class_of}
 use Rattle.fvn_nodes.specs.declared.state.State.{State}
 use Rattle.fvn_nodes.specs.declared.table.Node.TheVariants.{App}
 use Rattle.fvn_nodes.proofs.Nodes.{arguments_within, term_at-over, term_at-injective}
 use Rattle.fvn_nodes.proofs.Admitting.{admits_same, admits_apart, decided}
 use Rattle.fvn_purify.specs.Parts.{Outline}
 use Rattle.fvn_purify.specs.Heads.{IsUnitNode}
-use Rattle.fvn_purify.specs.inner.Options.{AreFirst}
-use Rattle.fvn_purify.specs.inner.Choices.{AreStepped, ArePlacesWithin, IsSplitQuestion, IsDecided}
+use Rattle.fvn_purify.specs.inner.Choices.{AreStepped, IsSplitQuestion, IsDecided}
 use Rattle.fvn_purify.proofs.Numbers.{same_tests}
 
 module _ (d : Declarations) (c : Outline) (fit : AreStepped d c) where

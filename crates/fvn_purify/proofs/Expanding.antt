@@ -1,21 +1,18 @@
 -- What a step makes of what is decided so far.
-use Rattle.std.proofs.Common.{◌≡◌, ◌≢◌, ◌⊎◌, ℕ, suc, ◌+◌, ◌-◌, ◌*◌, ◌^◌, ◌<◌, ◌≤◌, Bool, List, [], ◌∷◌, ◌++◌, map, length, sum_by, refl, sym, ap, ◌∙◌, subst, inl, inr, arith, Option, Some, None, slice_get, All, Any, AllPairs, Contains}
-use Rattle.std.specs.Prelude.{nat_eq}
+use Rattle.std.proofs.Common.{◌≡◌, ◌≢◌, ℕ, suc, ◌+◌, ◌-◌, ◌*◌, ◌^◌, ◌<◌, ◌≤◌, Bool, List, [], ◌∷◌, ◌++◌, map, length, sym, ap, ◌∙◌, subst, inl, inr, arith, Option, Some, None, slice_get, Any, AllPairs, Contains}
 use Rattle.std.proofs.Math.Nat.{one-le-pow}
 use Rattle.std.proofs.lemmas.Bool.{cases_eq}
-use Rattle.std.proofs.lemmas.Option.{slice_get_within}
 use Rattle.std.proofs.lemmas.List.{length-append, append_assoc, append-nil}
-use Rattle.std.proofs.lemmas.List.Sums.{sum_by-append, sum_by-cons}
+use Rattle.std.proofs.lemmas.List.Sums.{sum_by-cons}
 use Rattle.std.proofs.lemmas.List.Elements.{All-contains, Contains-append_cases}
 use Rattle.fvn_base.proofs.Membership.{contains_none, contains_cases, contains_map, map_contains}
 use Rattle.fvn_terms.specs.declared.declarations.Declarations.{Declarations}
-use Rattle.fvn_nodes.specs.Classes.{IsNodePartition}
-use Rattle.fvn_nodes.specs.States.{Admits, IsClosed, IsOpen, class_of, open_pairs}
+use Rattle.fvn_nodes.specs.States.{IsClosed, class_of, open_pairs}
 use Rattle.fvn_nodes.specs.Questions.{IsAnswer, AreAnswers}
 use Rattle.fvn_nodes.specs.declared.state.State.{State}
 use Rattle.fvn_nodes.specs.declared.asking.Answers.{Answers}
 use Rattle.fvn_purify.specs.Parts.{Outline}
-use Rattle.fvn_purify.specs.Splits.{AreHeadsOfParts, AreWaysOfPairs, IsSplitBy}
+use Rattle.fvn_purify.specs.Splits.{AreHeadsOfParts, AreWaysOfPairs}
 use Rattle.fvn_purify.specs.Cursor.{BeginsWith, IsAhead, IsAheadOf}
 use Rattle.fvn_purify.specs.inner.Choices.{asking, chosen, base, places_count, weight, weights, AreStepped, AreOptions, IsSplitQuestion, IsDecided, IsLeaf, IsSound, ShareNoSplit, IsExpansion}
 use Rattle.fvn_purify.specs.declared.classes.Head.{Head}
@@ -23,7 +20,7 @@ use Rattle.fvn_purify.specs.declared.split.Split.{Split}
 use Rattle.fvn_purify.specs.declared.choosing.Leaf.{Leaf}
 use Rattle.fvn_purify.specs.declared.choosing.Partial.{Partial}
 use Rattle.fvn_purify.specs.declared.choosing.Partial.TheVariants.{Asking, Choosing}
-use Rattle.fvn_purify.proofs.Elements.{slice_get-left, slice_get-middle, all_from, any_here, any_none, any_one, any_from, any_contains, any_left, any_right, any_append, all_pairs_none, all_pairs_one, all_pairs_two, all_pairs_map}
+use Rattle.fvn_purify.proofs.Elements.{slice_get-middle, all_from, any_here, any_none, any_one, any_from, any_contains, any_left, any_right, any_append, all_pairs_none, all_pairs_one, all_pairs_two, all_pairs_map}
 use Rattle.fvn_purify.proofs.Fronts.{heads_front, ways_front}
 use Rattle.fvn_purify.proofs.Recorded.{questions_agree}
 use Rattle.fvn_purify.proofs.Heads.{no_heads}

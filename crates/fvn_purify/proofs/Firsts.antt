@@ -1,5 +1,5 @@
 -- First arguments, and the last of several questions.
-use Rattle.std.proofs.Common.{◌≡◌, ◌⊎◌, ℕ, ◌<◌, true, false, List, [], ◌∷◌, length, get_or, refl, sym, ap, ◌∙◌, subst, inl, inr, Option, Some, None, Contains}
+use Rattle.std.proofs.Common.{◌≡◌, ◌⊎◌, ℕ, ◌<◌, false, List, [], ◌∷◌, length, get_or, refl, sym, ap, ◌∙◌, subst, inl, inr, Option, Some, None, Contains}
 use Rattle.std.specs.Prelude.{nat_eq, MatchOption}
 use Rattle.std.proofs.lemmas.List.Elements.{All-head}
 use Rattle.fvn_terms.specs.declared.plain.OpId.{OpId}
@@ -9,8 +9,8 @@ use Rattle.fvn_nodes.specs.States.{IsOpen, class_of}
 use Rattle.fvn_nodes.specs.declared.state.State.{State}
 use Rattle.fvn_nodes.proofs.Nodes.{arguments_within}
 use Rattle.fvn_purify.specs.Parts.{Outline}
-use Rattle.fvn_purify.specs.Theories.{theory, StandsUnder, StandsOutside, StandsInTwo}
-use Rattle.fvn_purify.specs.inner.Options.{AreFirst, IsEarlier, IsUnitIn, IsSolidAt, Forces, by_solid, IsUnforced, IsForcedHead}
+use Rattle.fvn_purify.specs.Theories.{theory, StandsOutside, StandsInTwo}
+use Rattle.fvn_purify.specs.inner.Options.{AreFirst, IsEarlier, IsUnitIn, IsSolidAt, by_solid, IsForcedHead}
 use Rattle.fvn_purify.specs.inner.Choices.{IsNextQuestion}
 use Rattle.fvn_purify.specs.declared.classes.Head.{Head}
 use Rattle.fvn_purify.proofs.Asked.{same_operator}

@@ -1,5 +1,5 @@
 -- What steps need holds of the classes of a problem.
-use Rattle.std.proofs.Common.{◌≡◌, ◌⊎◌, ℕ, ◌<◌, Bool, List, [], ◌∷◌, ◌++◌, map, length, refl, sym, ap, ◌∙◌, subst, inl, inr, Some, slice_get, All, Contains}
+use Rattle.std.proofs.Common.{◌≡◌, ℕ, ◌<◌, List, [], ◌∷◌, ◌++◌, map, length, refl, sym, subst, inl, inr, slice_get, All, Contains}
 use Rattle.std.specs.List.{filter}
 use Rattle.std.proofs.lemmas.Option.{slice_get_within}
 use Rattle.std.proofs.lemmas.List.Elements.{All-contains, Contains-append_cases}
@@ -9,8 +9,8 @@ use Rattle.fvn_terms.specs.declared.plain.SortId.{SortId}
 use Rattle.fvn_terms.specs.declared.declarations.Axioms.{Axioms}
 use Rattle.fvn_terms.specs.declared.declarations.Axioms.TheVariants.{Free, Comm, AssocComm, AssocCommId}
 use Rattle.fvn_terms.specs.declared.declarations.Declarations.{Declarations}
-use Rattle.fvn_terms.specs.Term.{Term, Terms, app, none, more, pack}
-use Rattle.fvn_terms.specs.Signature.{kind, axioms, HaveKinds, IsTerm}
+use Rattle.fvn_terms.specs.Term.{none, pack}
+use Rattle.fvn_terms.specs.Signature.{axioms, HaveKinds, IsTerm}
 use Rattle.fvn_terms.specs.Equality.{constant, IsCommutative}
 use Rattle.fvn_terms.specs.Unifiers.{Problem}
 use Rattle.fvn_forms.specs.FitsKinds.{FitsKinds}
@@ -19,8 +19,8 @@ use Rattle.fvn_flat.specs.Partitions.{HasNoIdentity}
 use Rattle.fvn_nodes.specs.Table.{NodeTable, IsOver, IsWellMade, IsTableOf, IsUnitOf, term_at}
 use Rattle.fvn_nodes.specs.declared.table.Node.TheVariants.{Var, App}
 use Rattle.fvn_nodes.proofs.Nodes.{application_at}
-use Rattle.fvn_purify.specs.Parts.{Outline, outline, ArePlaces, AreClassesOf, may_collapse}
-use Rattle.fvn_purify.specs.inner.Choices.{AreStepped, ArePlacesWithin, HasUnits}
+use Rattle.fvn_purify.specs.Parts.{outline, ArePlaces, AreClassesOf, may_collapse}
+use Rattle.fvn_purify.specs.inner.Choices.{AreStepped, HasUnits}
 use Rattle.fvn_purify.specs.declared.classes.Classes.{Classes}
 use Rattle.fvn_purify.specs.declared.classes.Places.{Places}
 use Rattle.fvn_purify.proofs.Elements.{all_from}

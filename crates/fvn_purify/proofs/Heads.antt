@@ -1,5 +1,5 @@
 -- The heads that are chosen among fit, and none that fits is left out.
-use Rattle.std.proofs.Common.{◌≡◌, ◌≢◌, ◌⊎◌, ℕ, ◌+◌, ◌<◌, List, [], ◌∷◌, ◌++◌, map, length, refl, sym, ap, ◌∙◌, subst, inl, inr, arith, Option, Some, None, slice_get, All, AllPairs, Contains}
+use Rattle.std.proofs.Common.{◌≡◌, ◌≢◌, ◌⊎◌, ℕ, ◌+◌, ◌<◌, List, [], ◌∷◌, ◌++◌, map, length, refl, sym, ap, ◌∙◌, subst, inl, inr, arith, Some, slice_get, AllPairs, Contains}
 use Rattle.std.proofs.lemmas.Option.{slice_get_within}
 use Rattle.std.proofs.lemmas.List.{length-map}
 use Rattle.std.proofs.lemmas.List.Kept.{AllPairs-cons}
@@ -17,15 +17,15 @@ use Rattle.fvn_nodes.specs.Classes.{IsNodePartition, IsPartitionBut}
 use Rattle.fvn_nodes.specs.States.{Admits, IsClosed, class_of}
 use Rattle.fvn_nodes.specs.declared.state.State.{State}
 use Rattle.fvn_nodes.specs.declared.table.Node.TheVariants.{App}
-use Rattle.fvn_purify.specs.Parts.{Outline, HasAxioms}
-use Rattle.fvn_purify.specs.Heads.{head_by, operator_head, IsTheory, IsUnitNode}
+use Rattle.fvn_purify.specs.Parts.{Outline}
+use Rattle.fvn_purify.specs.Heads.{head_by, operator_head, IsTheory}
 use Rattle.fvn_purify.specs.Splits.{IsInUnit, HasTheory, CanHead, AreHeadsOfParts}
-use Rattle.fvn_purify.specs.inner.Options.{IsEarlier, IsUnitIn, IsSolidAt, Forces, by_earlier, by_unit, by_solid, IsUnforced, IsHeadOptions}
+use Rattle.fvn_purify.specs.inner.Options.{IsEarlier, IsUnitIn, Forces, by_earlier, by_unit, by_solid, IsUnforced, IsHeadOptions}
 use Rattle.fvn_purify.specs.inner.Choices.{AreStepped, AreOptions, IsDecided}
 use Rattle.fvn_purify.specs.declared.classes.Head.{Head}
 use Rattle.fvn_purify.specs.declared.classes.Head.TheVariants.{Free, Pair, Sum, Identity}
-use Rattle.fvn_purify.proofs.Elements.{contains_at, slice_get-left, slice_get-middle, slice_get-push, all_from, all_pairs_one, all_pairs_map}
-use Rattle.fvn_purify.proofs.Decided.{one_operator, unit_bare, one_unit, admitted_same, decided_same, nodes}
+use Rattle.fvn_purify.proofs.Elements.{contains_at, slice_get-left, slice_get-middle, slice_get-push, all_from, all_pairs_one}
+use Rattle.fvn_purify.proofs.Decided.{one_unit, admitted_same, decided_same, nodes}
 
 module _ (d : Declarations) (c : Outline) (class : ℕ → ℕ) where
   -- a head of a theory

@@ -1,26 +1,24 @@
 -- A leaf with all heads and ways is one split.
-use Rattle.std.proofs.Common.{◌≡◌, ◌≢◌, ◌⊎◌, ℕ, ◌<◌, ◌≤◌, Bool, true, false, not, ◌&&◌, ◌||◌, List, [], ◌∷◌, ◌++◌, map, length, refl, sym, ap, ◌∙◌, subst, inl, inr, arith, Some, slice_get, Contains}
-use Rattle.std.specs.Prelude.{nat_eq}
+use Rattle.std.proofs.Common.{◌≡◌, ◌⊎◌, ℕ, ◌<◌, ◌≤◌, Bool, true, false, not, ◌&&◌, ◌||◌, List, [], ◌∷◌, map, length, refl, sym, ap, ◌∙◌, subst, inl, inr, arith, Contains}
 use Rattle.std.specs.List.{list_any}
-use Rattle.std.proofs.lemmas.Bool.{cases_order, cases_Bool}
-use Rattle.std.proofs.lemmas.Option.{slice_get_within}
+use Rattle.std.proofs.lemmas.Bool.{cases_order}
 use Rattle.fvn_terms.specs.declared.plain.OpId.{OpId}
 use Rattle.fvn_terms.specs.declared.declarations.Axioms.TheVariants.{Comm}
 use Rattle.fvn_terms.specs.declared.declarations.Declarations.{Declarations}
 use Rattle.fvn_terms.specs.Signature.{axioms}
 use Rattle.fvn_nodes.specs.Table.{IsOver}
-use Rattle.fvn_nodes.specs.Classes.{MeetEitherWay, AreAlike, FitTogether, IsNodePartition}
-use Rattle.fvn_nodes.specs.States.{Admits, IsClosed, IsOpen, class_of, is_same, is_apart, is_open}
+use Rattle.fvn_nodes.specs.Classes.{MeetEitherWay, IsNodePartition}
+use Rattle.fvn_nodes.specs.States.{IsClosed, IsOpen, class_of, is_same, is_apart, is_open}
 use Rattle.fvn_nodes.specs.declared.state.State.{State}
 use Rattle.fvn_nodes.proofs.Admitting.{admits_itself}
-use Rattle.fvn_purify.specs.Parts.{Outline, ArePair}
-use Rattle.fvn_purify.specs.Splits.{number_in, IsSplitBy}
-use Rattle.fvn_purify.specs.Cursor.{IsAhead, IsAheadOf}
+use Rattle.fvn_purify.specs.Parts.{Outline}
+use Rattle.fvn_purify.specs.Splits.{number_in}
+use Rattle.fvn_purify.specs.Cursor.{IsAheadOf}
 use Rattle.fvn_purify.specs.inner.Choices.{split_of, AreStepped, IsDecided, IsLeaf}
 use Rattle.fvn_purify.specs.declared.split.Split.{Split}
 use Rattle.fvn_purify.specs.declared.choosing.Leaf.{Leaf}
 use Rattle.fvn_purify.specs.declared.choosing.Partial.TheVariants.{Choosing}
-use Rattle.fvn_purify.proofs.Numbers.{nat_eq-same, numbers_agree, same_tests}
+use Rattle.fvn_purify.proofs.Numbers.{numbers_agree, same_tests}
 use Rattle.fvn_purify.proofs.Decided.{one_operator, decided_tests}
 use Rattle.fvn_purify.proofs.Expanding.{front_whole, whole_front}
 

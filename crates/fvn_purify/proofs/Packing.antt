@@ -1,12 +1,11 @@
 -- Terms of nodes, one after another.
-use Rattle.std.proofs.Common.{◌≡◌, ℕ, ◌+◌, ◌<◌, List, [], ◌∷◌, ◌++◌, map, length, take, get_or, refl, sym, ap, ◌∙◌, subst, All}
+use Rattle.std.proofs.Common.{◌≡◌, ℕ, ◌+◌, ◌<◌, List, [], ◌∷◌, ◌++◌, map, length, take, get_or, refl, sym, ap, ◌∙◌}
 use Rattle.std.proofs.lemmas.List.{take_more}
-use Rattle.fvn_terms.specs.declared.plain.OpId.{OpId}
 use Rattle.fvn_terms.specs.declared.plain.Plain.{Plain}
-use Rattle.fvn_terms.specs.Term.{Term, Terms, more, none, pack}
+use Rattle.fvn_terms.specs.Term.{Term, more, pack}
 use Rattle.fvn_terms.specs.Plain.{term, terms}
 use Rattle.fvn_terms.proofs.Plains.{push, terms-push}
-use Rattle.fvn_nodes.specs.Table.{term_at, IsOver, IsOrdered}
+use Rattle.fvn_nodes.specs.Table.{term_at}
 use Rattle.fvn_nodes.specs.declared.table.Node.{Node}
 
 pack_push : (ts : List Term) (t : Term) → pack (ts ++ t ∷ []) ≡ push (pack ts) t

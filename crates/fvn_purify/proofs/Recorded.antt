@@ -1,5 +1,5 @@
 -- A split tells the answer to each question.
-use Rattle.std.proofs.Common.{◌≡◌, ◌≢◌, ◌⊎◌, ℕ, ◌<◌, true, false, Bool, not, List, [], ◌∷◌, map, length, refl, sym, ap, ◌∙◌, subst, inl, inr, arith, Some, slice_get, Contains}
+use Rattle.std.proofs.Common.{◌≡◌, ℕ, true, false, Bool, not, List, [], ◌∷◌, refl, sym, ap, ◌∙◌, subst, inl, inr, arith, Contains}
 use Rattle.std.specs.Prelude.{nat_eq}
 use Rattle.std.proofs.lemmas.Bool.{eqb-true}
 use Rattle.std.proofs.lemmas.Option.{slice_get_within}
@@ -12,12 +12,12 @@ use Rattle.fvn_nodes.specs.declared.state.State.{State}
 use Rattle.fvn_nodes.specs.declared.table.Node.TheVariants.{App}
 use Rattle.fvn_purify.specs.Parts.{Outline}
 use Rattle.fvn_purify.specs.Heads.{IsUnitNode}
-use Rattle.fvn_purify.specs.Splits.{number_in, IsInUnit, HasTheory, CanHead, IsSplitBy}
+use Rattle.fvn_purify.specs.Splits.{number_in, IsInUnit, CanHead, IsSplitBy}
 use Rattle.fvn_purify.specs.inner.Choices.{AreStepped, IsSplitQuestion}
 use Rattle.fvn_purify.specs.declared.classes.Head.{Head}
 use Rattle.fvn_purify.specs.declared.classes.Head.TheVariants.{Free, Pair, Sum, Identity}
 use Rattle.fvn_purify.specs.declared.split.Split.{Split}
-use Rattle.fvn_purify.proofs.Elements.{map_same, place_of, slice_get-some, contains_at}
+use Rattle.fvn_purify.proofs.Elements.{map_same, place_of, slice_get-some}
 use Rattle.fvn_purify.proofs.Numbers.{number_same, number_tells, nat_eq-same}
 use Rattle.fvn_purify.proofs.Decided.{one_node, one_unit, admitted_same}
 

@@ -1,12 +1,11 @@
 -- The ways that are chosen among fit, and none that fits is left out.
-use Rattle.std.proofs.Common.{◌≡◌, ◌≢◌, ◌⊎◌, ℕ, ◌+◌, ◌<◌, Bool, true, false, not, List, [], ◌∷◌, ◌++◌, length, refl, sym, ap, ◌∙◌, subst, inl, inr, arith, Some, None, slice_get, All, AllPairs, Contains}
+use Rattle.std.proofs.Common.{◌≡◌, ◌≢◌, ℕ, ◌+◌, ◌<◌, Bool, true, false, not, List, [], ◌∷◌, ◌++◌, length, sym, ap, ◌∙◌, subst, inl, inr, arith, Some, None, slice_get, Contains}
 use Rattle.std.specs.Prelude.{nat_eq}
 use Rattle.std.proofs.lemmas.Option.{slice_get_within}
 use Rattle.fvn_base.proofs.Membership.{contains_here, contains_later, contains_cases, contains_none}
 use Rattle.fvn_terms.specs.declared.plain.OpId.{OpId}
 use Rattle.fvn_terms.specs.declared.declarations.Declarations.{Declarations}
 use Rattle.fvn_nodes.specs.Table.{IsOver}
-use Rattle.fvn_nodes.specs.Classes.{IsNodePartition}
 use Rattle.fvn_nodes.specs.States.{Admits, IsClosed, class_of}
 use Rattle.fvn_nodes.specs.declared.state.State.{State}
 use Rattle.fvn_nodes.specs.declared.table.Node.TheVariants.{App}
@@ -14,7 +13,7 @@ use Rattle.fvn_purify.specs.Parts.{Outline}
 use Rattle.fvn_purify.specs.Splits.{IsWayOfPair, AreWaysOfPairs}
 use Rattle.fvn_purify.specs.inner.Options.{AreFirst, IsForcedWay, IsWayOptions}
 use Rattle.fvn_purify.specs.inner.Choices.{AreStepped, AreOptions, IsDecided}
-use Rattle.fvn_purify.proofs.Elements.{contains_at, slice_get-left, slice_get-middle, slice_get-push, all_from, all_pairs_one, all_pairs_two}
+use Rattle.fvn_purify.proofs.Elements.{contains_at, slice_get-middle, slice_get-push, all_from, all_pairs_one, all_pairs_two}
 use Rattle.fvn_purify.proofs.Decided.{one_operator, admitted_same, decided_tests}
 
 module _ (d : Declarations) (c : Outline) (class : ℕ → ℕ) where

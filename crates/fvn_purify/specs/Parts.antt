@@ -1,5 +1,5 @@
 -- The parts of a problem: the nodes that splits put into classes.
-use Rattle.std.specs.Prelude.{◌≡◌, ◌≢◌, ◌↔◌, ℕ, ◌<◌, Bool, false, is_some, List, [], ◌∷◌, ◌++◌, map, filter, slice_get, Option, Some, None, AllPairs, Contains}
+use Rattle.std.specs.Prelude.{◌≡◌, ◌≢◌, ◌↔◌, ℕ, ◌<◌, Bool, false, is_some, List, ◌++◌, map, filter, slice_get, Option, Some, None, AllPairs, Contains}
 use Rattle.fvn_terms.specs.declared.plain.OpId.{OpId}
 use Rattle.fvn_terms.specs.declared.declarations.Axioms.TheVariants.{Free, Comm}
 use Rattle.fvn_terms.specs.declared.declarations.Declarations.{Declarations}

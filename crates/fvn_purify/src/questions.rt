@@ -68,10 +68,10 @@ fn open_units(state: &State, headed: &[usize], units: &[(OpId, usize)]) -> Optio
     requires all { All (λ p. p.1 < length state.now.names) units.now }
     ensures { MatchOption result
         ((x : ℕ) → Contains headed.now x → (p : OpId × ℕ) → Contains units.now p →
-            IsOpen state.now x p.1 → ⊥)
+        IsOpen state.now x p.1 → ⊥)
         (λ q. Contains headed.now q.0
-            × ((p : OpId × ℕ) × Contains units.now p × (p.1 ≡ q.1))
-            × IsOpen state.now q.0 q.1) }
+        × ((p : OpId × ℕ) × Contains units.now p × (p.1 ≡ q.1))
+        × IsOpen state.now q.0 q.1) }
 {
     for x in headed {
         match open_unit(state, *x, units) {
@@ -125,9 +125,9 @@ fn open_first(table: &Table, state: &State, i: usize, j: usize) -> Option<(usize
     requires right { j < length table.now.nodes }
     ensures { MatchOption result
         ((x y : ℕ) → class_of state.now i ≡ class_of state.now j →
-            AreFirst table.now (i, j) x y → IsOpen state.now x y → ⊥)
+        AreFirst table.now (i, j) x y → IsOpen state.now x y → ⊥)
         (λ q. (class_of state.now i ≡ class_of state.now j)
-            × AreFirst table.now (i, j) q.0 q.1 × IsOpen state.now q.0 q.1) }
+        × AreFirst table.now (i, j) q.0 q.1 × IsOpen state.now q.0 q.1) }
 {
     table.recall_well_made();
     if !state.is_same(i, j) {
@@ -153,12 +153,12 @@ fn open_ways(table: &Table, state: &State, pairs: &[(usize, usize)]) -> Option<(
         (p.0 < length table.now.nodes) × (p.1 < length table.now.nodes)) pairs.now }
     ensures { MatchOption result
         ((p : ℕ × ℕ) (x y : ℕ) → Contains pairs.now p →
-            class_of state.now p.0 ≡ class_of state.now p.1 →
-            AreFirst table.now p x y → IsOpen state.now x y → ⊥)
+        class_of state.now p.0 ≡ class_of state.now p.1 →
+        AreFirst table.now p x y → IsOpen state.now x y → ⊥)
         (λ q. ((p : ℕ × ℕ) × Contains pairs.now p
-            × (class_of state.now p.0 ≡ class_of state.now p.1)
-            × AreFirst table.now p q.0 q.1)
-            × IsOpen state.now q.0 q.1) }
+        × (class_of state.now p.0 ≡ class_of state.now p.1)
+        × AreFirst table.now p q.0 q.1)
+        × IsOpen state.now q.0 q.1) }
 {
     for (i, j) in pairs {
         match open_first(table, state, *i, *j) {

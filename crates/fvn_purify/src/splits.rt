@@ -50,15 +50,15 @@ impl<'a> Model for Splits<'a> {
     ghost Value = { Cursor };
 
     ghost view = { λ s. record {
-        declarations = s.sig.now;
-        outline = outline s.classes.now;
-        partials = s.partials.items;
+      declarations = s.sig.now;
+      outline = outline s.classes.now;
+      partials = s.partials.items;
     } };
 
     ghost invariant = { λ s. IsKept (record {
-        declarations = s.sig.now;
-        outline = outline s.classes.now;
-        partials = s.partials.items;
+      declarations = s.sig.now;
+      outline = outline s.classes.now;
+      partials = s.partials.items;
     }) };
 }
 

@@ -1,10 +1,9 @@
 -- The terms of the arguments, one after another.
-use Rattle.std.proofs.Common.{◌≡◌, ◌<◌, ◌≤◌, ℕ, length, map, ◌∙◌, sym, ap, subst, arith, take, get_or, Some, slice_get}
+use Rattle.std.proofs.Common.{◌<◌, ◌≤◌, length, map, ◌∙◌, sym, ap, arith, get_or, Some}
 use Rattle.std.proofs.lemmas.List.{take_all}
 use Rattle.fvn_terms.specs.Term.{app, pack}
 use Rattle.fvn_terms.specs.Plain.{terms}
-use Rattle.fvn_nodes.specs.Table.{term_at, IsOver}
-use Rattle.fvn_nodes.specs.declared.table.Node.TheVariants.{Var, App}
+use Rattle.fvn_nodes.specs.Table.{term_at}
 use Rattle.fvn_nodes.proofs.Nodes.{term_at-variable, term_at-over}
 use Rattle.fvn_purify.proofs.Packing.{next_terms}
 use Rattle.fvn_purify.proofs.forming.+plain_at.Goals as goal
@@ -16,7 +15,7 @@ loop-n-preserved t c =
     let within : n < length c.in-App.arguments = let a = c.loop-n-test.true in let b = c.len-n-end.ensures in omega arith in
     ap terms c.in_ok-push-in-App.ensures.items
     ∙ next_terms nodes c.in-App.arguments n c.loop-n.items.items c.in_ok-t-in-App.t c.loop-n.invariant within
-      (c.in_ok-t-in-App.ensures ∙ ap (λ l. term_at nodes (get_or l n 0)) c.as_slice.ensures)
+    (c.in_ok-t-in-App.ensures ∙ ap (λ l. term_at nodes (get_or l n 0)) c.as_slice.ensures)
 
 pub returns-in-Var : goal.returns-in-Var
 returns-in-Var t c =

@@ -1,5 +1,5 @@
 -- One more operator.
-use Rattle.std.proofs.Common.{◌≡◌, ℕ, ◌+◌, ◌<◌, ◌∙◌, List, length, sym, ap, subst, arith, Option, Contains}
+use Rattle.std.proofs.Common.{ℕ, ◌+◌, ◌<◌, ◌∙◌, List, length, sym, ap, subst, arith, Option, Contains}
 use Rattle.std.specs.Prelude.{MatchOption}
 use Rattle.fvn_terms.specs.declared.plain.OpId.{OpId}
 use Rattle.fvn_purify.specs.Parts.{IsEach}

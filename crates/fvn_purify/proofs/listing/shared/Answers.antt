@@ -1,5 +1,5 @@
 -- One more node.
-use Rattle.std.proofs.Common.{◌≡◌, ℕ, ◌+◌, ◌<◌, ◌∙◌, true, false, length, sym, ap, subst, arith, List}
+use Rattle.std.proofs.Common.{◌≡◌, ℕ, ◌+◌, ◌<◌, ◌∙◌, true, false, length, sym, ap, subst, arith}
 use Rattle.std.proofs.lemmas.Option.{slice_get_within}
 use Rattle.fvn_nodes.specs.declared.table.Node.TheVariants.{Var}
 use Rattle.fvn_purify.specs.Theories.{IsSharedVariable}

@@ -1,5 +1,5 @@
 -- First arguments are nodes.
-use Rattle.std.proofs.Common.{◌<◌, length, sym, subst, arith}
+use Rattle.std.proofs.Common.{◌<◌, sym, subst}
 use Rattle.fvn_purify.specs.inner.Options.{AreFirst}
 use Rattle.fvn_purify.proofs.Firsts.{first_within}
 use Rattle.fvn_purify.proofs.questions.open_first.Goals as goal

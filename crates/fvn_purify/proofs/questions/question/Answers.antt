@@ -1,5 +1,5 @@
 -- Parts, then identities, then pairs.
-use Rattle.std.proofs.Common.{◌≡◌, ◌<◌, ℕ, subst, inl, inr, Contains}
+use Rattle.std.proofs.Common.{◌≡◌, ℕ, subst, inl, inr, Contains}
 use Rattle.fvn_terms.specs.declared.plain.OpId.{OpId}
 use Rattle.fvn_nodes.specs.States.{IsOpen, class_of}
 use Rattle.std.specs.Prelude.{MatchOption}
@@ -20,6 +20,6 @@ returns-in-None-open_units c =
     let s = c.args.state.now in
     let parts = subst (λ l. (x y : ℕ) → Contains l x → Contains l y → IsOpen s x y → ⊥) c.as_slice.ensures c.in-None.ensures in
     let units = subst (λ l. (x : ℕ) → Contains l x → (p : OpId × ℕ) → Contains o.table.units p → IsOpen s x p.1 → ⊥) c.as_slice-in-None.ensures
-        (subst (λ us. (x : ℕ) → Contains c.as_slice-in-None.result.now x → (p : OpId × ℕ) → Contains us p → IsOpen s x p.1 → ⊥) c.units.ensures c.in-None-open_units.ensures) in
+    (subst (λ us. (x : ℕ) → Contains c.as_slice-in-None.result.now x → (p : OpId × ℕ) → Contains us p → IsOpen s x p.1 → ⊥) c.units.ensures c.in-None-open_units.ensures) in
     ways_last o s parts units c.open_ways.result (subst (λ l. MatchOption c.open_ways.result ((p : ℕ × ℕ) (x y : ℕ) → Contains l p → class_of s p.0 ≡ class_of s p.1 → AreFirst o.table p x y → IsOpen s x y → ⊥)
-        (λ q. ((p : ℕ × ℕ) × Contains l p × (class_of s p.0 ≡ class_of s p.1) × AreFirst o.table p q.0 q.1) × IsOpen s q.0 q.1)) c.as_slice-in-None-open_units.ensures c.open_ways.ensures)
+    (λ q. ((p : ℕ × ℕ) × Contains l p × (class_of s p.0 ≡ class_of s p.1) × AreFirst o.table p q.0 q.1) × IsOpen s q.0 q.1)) c.as_slice-in-None-open_units.ensures c.open_ways.ensures)

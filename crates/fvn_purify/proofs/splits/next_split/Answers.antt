@@ -1,5 +1,5 @@
 -- The same splits are to come until one is found.
-use Rattle.std.proofs.Common.{◌<◌, ◌≤◌, sym, subst, arith, Some, None}
+use Rattle.std.proofs.Common.{sym, subst, arith, Some, None}
 use Rattle.fvn_purify.specs.Parts.{outline}
 use Rattle.fvn_purify.specs.Cursor.{HasSamePending}
 use Rattle.fvn_purify.specs.inner.Founds.{cursor, IsFoundFrom}

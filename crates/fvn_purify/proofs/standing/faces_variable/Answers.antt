@@ -1,5 +1,5 @@
 -- One more node.
-use Rattle.std.proofs.Common.{◌≡◌, ◌<◌, ◌∙◌, true, false, length, sym, ap, arith, below_more}
+use Rattle.std.proofs.Common.{◌≡◌, ◌∙◌, true, false, length, sym, ap, arith, below_more}
 use Rattle.std.proofs.lemmas.Option.{slice_get_within}
 use Rattle.fvn_nodes.specs.declared.table.Node.TheVariants.{Var}
 use Rattle.fvn_purify.specs.Theories.{IsVariable, AreOpposite}
@@ -15,8 +15,11 @@ loop-j-preserved c =
     below_more (λ j. IsVariable c.args.table.now j → AreOpposite c.args.table.now c.args.i j → ⊥) c.loop-j.j c.loop-j.invariant now
 
 pub returns : goal.returns
-returns c = (λ z. cc, λ h.
-    let end = c.loop-j-test.false in
-    let n = ap length c.nodes-j-end.ensures in
-    let l = slice_get_within c.args.table.now.nodes h.0 (Var h.2.0) h.2.1 in
-    absurd (c.loop-j.invariant h.0 (omega arith) h.2 h.1))
+returns c = (
+  λ z. cc,
+  λ h.
+      let end = c.loop-j-test.false in
+      let n = ap length c.nodes-j-end.ensures in
+      let l = slice_get_within c.args.table.now.nodes h.0 (Var h.2.0) h.2.1 in
+      absurd (c.loop-j.invariant h.0 (omega arith) h.2 h.1),
+)

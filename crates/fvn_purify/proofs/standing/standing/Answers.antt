@@ -1,5 +1,5 @@
 -- One more node.
-use Rattle.std.proofs.Common.{◌≡◌, ◌<◌, length, ap, arith, below_more}
+use Rattle.std.proofs.Common.{length, ap, arith, below_more}
 use Rattle.std.proofs.lemmas.Option.{slice_get_within}
 use Rattle.fvn_terms.specs.declared.plain.OpId.{OpId}
 use Rattle.fvn_nodes.specs.declared.table.Node.TheVariants.{App}

@@ -14,8 +14,7 @@ returns-in_ok-split-in-Choosing c split =
     let sound : IsLeaf d o l = subst (IsSound d o) c.in-Choosing.is c.requires.sound in
     let heads : length o.places.headed ≤ length l.heads = let a = c.if-len.false in let e = c.len.ensures in let f = c.len-in-Choosing.ensures in omega arith in
     let swaps : length o.places.pairs ≤ length l.swaps = let a = c.if-len-2.false in let e = c.len-in-Choosing-2.ensures in let f = c.len-in-Choosing-3.ensures in omega arith in
-    let h = leaf_whole d o c.requires.fit l sound heads swaps split in
-    (
+    let h = leaf_whole d o c.requires.fit l sound heads swaps split in (
       λ k. h.0 (subst (λ p. IsAheadOf d o p split) c.in-Choosing.is k) ∙ sym c.in_ok-split-in-Choosing.ensures,
       λ e. subst (λ p. IsAheadOf d o p split) (sym c.in-Choosing.is) (h.1 (e ∙ c.in_ok-split-in-Choosing.ensures)),
     )

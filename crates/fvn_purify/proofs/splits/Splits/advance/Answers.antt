@@ -21,7 +21,7 @@ returns-clause-one_free c =
     let d = c.self.inside.sig.now in
     let o = outline c.self.inside.classes.now in
     subst (λ k. IfSome c.in_ok-found.found (HasOneFree k.declarations k.outline)) c.self.view_is
-        (given_free d o c.self.inside.partials.items c.next_split.new.partials.items c.in_ok-found.found c.in_ok-found.ensures.given)
+    (given_free d o c.self.inside.partials.items c.next_split.new.partials.items c.in_ok-found.found c.in_ok-found.ensures.given)
 
 pub returns-clause-falls : goal.returns-clause-falls
 returns-clause-falls c =
