@@ -1,6 +1,7 @@
 //! Goes through all splits of a problem's parts.
 ghost use Rattle.fvn_terms.specs.Unifiers.{Problem};
 ghost use Rattle.fvn_flat.specs.Problems.{IsProblem};
+ghost use Rattle.fvn_flat.specs.Solving.{problem_of};
 ghost use Rattle.fvn_purify.specs.Parts.{AreClassesOf};
 
 use super::showing::{push_classes, push_split};
@@ -31,7 +32,22 @@ fn push_splits(
     }
 }
 
-/// Writes the parts of the problem, and its splits as they are given.
+// Writes the parts of a problem, and its splits as they are given.
+fn push_parts(
+    alloc: Global,
+    sig: &Signature,
+    problem: &Pairs,
+    out: &mut String,
+) -> Result<(), NoMemory>
+    requires kinds { IsProblem sig.now (problem_of problem.now) }
+{
+    let classes = purify(alloc, sig, problem)?;
+    push_classes(out, &classes)?;
+    out.push_str(" =>")?;
+    push_splits(alloc, sig, &classes, out)
+}
+
+/// Writes the parts of the pairs, which are to be a problem, and its splits as they are given.
 pub fn push_problem(
     rt: &impl Abort,
     alloc: Global,
@@ -40,8 +56,5 @@ pub fn push_problem(
     out: &mut String,
 ) -> Result<(), NoMemory> {
     assert!(rt; are_sides(alloc, sig, problem)?);
-    let classes = purify(alloc, sig, problem)?;
-    push_classes(out, &classes)?;
-    out.push_str(" =>")?;
-    push_splits(alloc, sig, &classes, out)
+    push_parts(alloc, sig, problem, out)
 }
