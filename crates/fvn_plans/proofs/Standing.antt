@@ -12,7 +12,7 @@ use Rattle.fvn_flat.specs.Bindings.{Bindings}
 use Rattle.fvn_flat.specs.Partitions.{HasNoIdentity, IsNode}
 use Rattle.fvn_flat.specs.SumSystems.{IsSumSystem}
 use Rattle.fvn_flat.specs.Solving.{problem_of}
-use Rattle.fvn_flat.specs.SolvedLists.{Form, unbound, as_member, as_sum, Part, Plan, component, members, IsClass, IsFormOf, IsNew, StandsForClass, StandsForNone, RestsOn, members_of}
+use Rattle.fvn_flat.specs.SolvedLists.{Form, unbound, as_member, as_sum, Part, Plan, component, IsClass, IsFormOf, IsNew, StandsForClass, StandsForNone, RestsOn, members_of}
 use Rattle.fvn_flat.specs.declared.solver.Pairs.{Pairs}
 use Rattle.fvn_nodes.specs.Table.{NodeTable, term_at}
 use Rattle.fvn_nodes.specs.Laws.{class_at}
