@@ -123,5 +123,5 @@ fn times(rt: HostRuntime) -> Result<(), NoMemory> {
 ''' % rows
 open('src/tests.rt', 'w').write(tests)
 PROGRAM
-rt try --test 2>&1 | tee times.txt | grep -aE 'error|panicked|fails|at [0-9]+ |test result|^ *answer:' | sed 's/^ *//'
+rt try --test --seconds 3000 2>&1 | tee times.txt | grep -aE 'error|panicked|fails|at [0-9]+ |test result|^ *answer:' | sed 's/^ *//'
 python3 "$here/bench/lines.py" told < times.txt
