@@ -24,7 +24,8 @@ use Rattle.fvn_sums.specs.NodeSystems.{addends, sums, coefficient, IsNodeColumn}
 use Rattle.fvn_frames.specs.Frames.{IsSumOperator, IsSolid, Uses, IsShared, IsFrame}
 use Rattle.fvn_plans.specs.Binding.{IsBound, solid, alone, tagged, IsConstant, IsRequired, AreAsked}
 use Rattle.fvn_plans.specs.Choosing.{Systems, AreSystems}
-use Rattle.fvn_obeying.specs.Obeying.{HasSums, IsTold, GoWith, ObeyTags}
+use Rattle.fvn_plans.specs.Tables.{HasSums}
+use Rattle.fvn_obeying.specs.Obeying.{IsTold, GoWith, ObeyTags}
 use Rattle.fvn_obeying.proofs.Values.{zero_told, head_of_solid, bound_used}
 
 -- the places at which a list has a property, from a number on

@@ -24,7 +24,8 @@ use Rattle.fvn_plans.specs.Binding.{IsBound, IsConstant, IsRequired, AreAsked}
 use Rattle.fvn_plans.specs.Choosing.{Systems, Choice, AreSystems, AreTakenTogether, IsAcceptable, taken, member_count}
 use Rattle.fvn_obeying.specs.Laws.{IsChosen, NoAliases}
 use Rattle.fvn_obeying.specs.LaidOut.{laid_for}
-use Rattle.fvn_obeying.specs.Obeying.{HasSums, IsTold, GoWith, ObeyTags}
+use Rattle.fvn_plans.specs.Tables.{HasSums}
+use Rattle.fvn_obeying.specs.Obeying.{IsTold, GoWith, ObeyTags}
 use Rattle.fvn_obeying.specs.Obeyed.{IsSummand, AreMadeOf}
 use Rattle.fvn_obeying.proofs.Aliases.{laid_out_are}
 use Rattle.fvn_obeying.proofs.Asked.{uses_told}

@@ -18,7 +18,7 @@ use Rattle.fvn_plans.specs.Choosing.{Systems, Choice}
 use Rattle.fvn_plans.specs.Covering.{CoversOnKinds}
 use Rattle.fvn_plans.specs.Plans.{AreBindingsBy, unfolds_to}
 use Rattle.fvn_obeying.specs.Laws.{UnifiersGoWith, TablesHaveSums, ValuesObeyChoices, ObeyedChoicesFall, ObeyedChoicesCover, FramesCover}
-use Rattle.fvn_obeying.proofs.Kinded.{node_kinded}
+use Rattle.fvn_plans.proofs.Kinded.{node_kinded}
 use Rattle.fvn_obeying.proofs.Later.{later, later_flat, value_of_variable}
 use Rattle.fvn_obeying.proofs.NodesOf.{variable_node}
 use Rattle.fvn_obeying.proofs.Rightly.{binding_right}

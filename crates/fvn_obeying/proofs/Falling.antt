@@ -21,7 +21,8 @@ use Rattle.fvn_nodes.specs.declared.state.State.{State}
 use Rattle.fvn_frames.specs.Frames.{IsFrame, IsSumOperator, IsSolid, Uses}
 use Rattle.fvn_plans.specs.Binding.{IsBound, solid, alone, tagged, IsConstant}
 use Rattle.fvn_plans.specs.Choosing.{Systems, Choice, AreTakenTogether, argument, summand, Falls, taken}
-use Rattle.fvn_obeying.specs.Obeying.{HasSums, IsTold, GoWith}
+use Rattle.fvn_plans.specs.Tables.{HasSums}
+use Rattle.fvn_obeying.specs.Obeying.{IsTold, GoWith}
 use Rattle.fvn_obeying.specs.Obeyed.{AreObeying}
 use Rattle.fvn_obeying.proofs.Heads.{build_free, build_commutative}
 use Rattle.fvn_obeying.proofs.Taken.{laid_counts, contains_counted}

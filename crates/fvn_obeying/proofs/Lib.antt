@@ -4,9 +4,7 @@ mod Values
 mod Meeting
 mod Supporting
 mod Telling
-mod Kinded
 mod Tagging
-mod Combined
 mod Laying
 mod Aliases
 mod Asked

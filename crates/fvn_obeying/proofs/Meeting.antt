@@ -24,7 +24,8 @@ use Rattle.fvn_sums.specs.Values.{AddUp, AddsNothing}
 use Rattle.fvn_sums.specs.Laws.{CountsSolve}
 use Rattle.fvn_frames.specs.Frames.{IsFrame, IsSumOperator, Uses}
 use Rattle.fvn_plans.specs.Binding.{AreAsked}
-use Rattle.fvn_obeying.specs.Obeying.{HasSums, IsTold, GoWith, ObeyTags}
+use Rattle.fvn_plans.specs.Tables.{HasSums}
+use Rattle.fvn_obeying.specs.Obeying.{IsTold, GoWith, ObeyTags}
 use Rattle.fvn_obeying.specs.Laws.{CountsMeet}
 use Rattle.fvn_obeying.proofs.Values.{constant_alone, constants_differ, may_be, bound_used, required_some}
 

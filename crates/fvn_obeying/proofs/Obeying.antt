@@ -14,7 +14,8 @@ use Rattle.fvn_supports.specs.Pieces.{number_of, some_of}
 use Rattle.fvn_frames.specs.Frames.{IsFrame, IsSumOperator, Uses, IsShared}
 use Rattle.fvn_plans.specs.Choosing.{Systems, Choice, AreSystems, IsAcceptable, IsPossible}
 use Rattle.fvn_obeying.specs.Laws.{ValuesChoose, NoAliases, IsChosen}
-use Rattle.fvn_obeying.specs.Obeying.{HasSums, IsTold, GoWith, IsSumOf, ObeyTags}
+use Rattle.fvn_plans.specs.Tables.{HasSums}
+use Rattle.fvn_obeying.specs.Obeying.{IsTold, GoWith, IsSumOf, ObeyTags}
 use Rattle.fvn_obeying.specs.Obeyed.{AreMadeOf, AreObeying}
 use Rattle.fvn_obeying.proofs.Asked.{sum_told, user_told, shared_told, Asked, asked}
 use Rattle.fvn_obeying.proofs.Chosen.{made_of, acceptable}

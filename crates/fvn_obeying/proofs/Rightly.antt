@@ -45,7 +45,7 @@ use Rattle.fvn_plans.specs.Choosing.{Systems, Choice}
 use Rattle.fvn_plans.specs.Plans.{IsFormBy}
 use Rattle.fvn_obeying.specs.LaidOut.{laid_for}
 use Rattle.fvn_obeying.proofs.Entries.{entries, members_are, spread_are, each_entry}
-use Rattle.fvn_obeying.proofs.Kinded.{node_kinded}
+use Rattle.fvn_plans.proofs.Kinded.{node_kinded}
 use Rattle.fvn_obeying.proofs.Later.{later, later_flat, value_of_name, value_of_part, value_of_variable}
 use Rattle.fvn_obeying.proofs.NodesOf.{node_of, variable_node, class_of_node}
 use Rattle.fvn_obeying.proofs.Setting.{Setting, value_kinded, class_within, same_value, column_rank, column_within, name_kinded, name_of_kind, column_name}

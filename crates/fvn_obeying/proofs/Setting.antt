@@ -31,8 +31,9 @@ use Rattle.fvn_plans.specs.Choosing.{Systems, Choice, AreSystems}
 use Rattle.fvn_plans.specs.Plans.{IsPlanBy}
 use Rattle.fvn_obeying.specs.CoveringChoices.{IsAfterNumbersOf}
 use Rattle.fvn_obeying.specs.Obeyed.{AreObeying}
-use Rattle.fvn_obeying.specs.Obeying.{HasSums, IsTold, GoWith}
-use Rattle.fvn_obeying.proofs.Kinded.{node_kinded}
+use Rattle.fvn_plans.specs.Tables.{HasSums}
+use Rattle.fvn_obeying.specs.Obeying.{IsTold, GoWith}
+use Rattle.fvn_plans.proofs.Kinded.{node_kinded}
 use Rattle.fvn_obeying.proofs.Values.{own_name}
 
 -- a frame that admits a unifier's partition, a choice that the unifier's values obey, and a plan of the choice

@@ -19,7 +19,7 @@ use Rattle.fvn_nodes.specs.Laws.{UnifiersPartition}
 use Rattle.fvn_nodes.proofs.Admitting.{admits_apart, named_within}
 use Rattle.fvn_sums.specs.Laws.{UnifiersHaveValues}
 use Rattle.fvn_obeying.specs.Obeying.{GoWith, IsSumOf, ObeyTags}
-use Rattle.fvn_obeying.proofs.Kinded.{node_kinded}
+use Rattle.fvn_plans.proofs.Kinded.{node_kinded}
 
 -- the operator of a form that is a sum
 abbrev pub sum_head : FlatTerm → Option OpId

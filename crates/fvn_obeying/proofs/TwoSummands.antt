@@ -17,7 +17,8 @@ use Rattle.fvn_nodes.specs.States.{class_of}
 use Rattle.fvn_nodes.specs.declared.state.State.{State}
 use Rattle.fvn_frames.specs.Frames.{IsFrame, IsSolid, IsShared}
 use Rattle.fvn_plans.specs.Binding.{IsBound, solid, alone, tagged}
-use Rattle.fvn_obeying.specs.Obeying.{HasSums, IsTold, GoWith, ObeyTags}
+use Rattle.fvn_plans.specs.Tables.{HasSums}
+use Rattle.fvn_obeying.specs.Obeying.{IsTold, GoWith, ObeyTags}
 use Rattle.fvn_obeying.proofs.Heads.{some_part}
 
 -- a form that is a sum of f has two summands

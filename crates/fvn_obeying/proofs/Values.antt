@@ -30,7 +30,8 @@ use Rattle.fvn_nodes.proofs.Admitting.{decided, named_within}
 use Rattle.fvn_sums.specs.NodeSystems.{is_headed, addends, stands_in, coefficient, IsNodeColumn}
 use Rattle.fvn_frames.specs.Frames.{IsSolid, Uses, IsShared, MayBeConstant, HaveTwoHeads, IsFrame}
 use Rattle.fvn_plans.specs.Binding.{IsBound, solid, alone, tagged, IsConstant, IsRequired}
-use Rattle.fvn_obeying.specs.Obeying.{HasSums, IsTold, GoWith, IsSumOf, ObeyTags}
+use Rattle.fvn_plans.specs.Tables.{HasSums}
+use Rattle.fvn_obeying.specs.Obeying.{IsTold, GoWith, IsSumOf, ObeyTags}
 use Rattle.fvn_obeying.proofs.Heads.{head, build_head, build_constant, single_part, some_part}
 
 -- a difference is above zero or below by what its parts differ

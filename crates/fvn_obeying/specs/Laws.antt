@@ -33,7 +33,8 @@ use Rattle.fvn_plans.specs.Plans.{IsPlanBy, AreBindingsBy, unfolds_to}
 use Rattle.fvn_obeying.specs.CoveringChoices.{IsAfterNumbersOf, IsCovering}
 use Rattle.fvn_obeying.specs.LaidOut.{laid_out}
 use Rattle.fvn_obeying.specs.Obeyed.{AreObeying}
-use Rattle.fvn_obeying.specs.Obeying.{HasSums, IsTold, GoWith, ObeyTags}
+use Rattle.fvn_plans.specs.Tables.{HasSums}
+use Rattle.fvn_obeying.specs.Obeying.{IsTold, GoWith, ObeyTags}
 
 -- what is counted of each flat form in the columns of f solves f's system, and meets what is asked of the choice
 pub record CountsMeet (d : Declarations) (f : OpId) (values : ℕ → FlatTerm) (columns : List ℕ) (system : System) (basis : List (List ℕ)) (constants : List ℕ) (may_be_zero : List Bool) : Type 0 where

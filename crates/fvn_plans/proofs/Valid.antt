@@ -13,7 +13,8 @@ use Rattle.fvn_plans.specs.Binding.{IsBound, solid, alone, tagged, IsConstant, I
 use Rattle.fvn_plans.specs.Choosing.{Systems, Choice, taken, AreSystems, AreTakenTogether, IsAcceptable, member_count}
 use Rattle.fvn_plans.specs.Laws.{ValidChoicesAreAcceptable}
 use Rattle.fvn_plans.proofs.Columns.{all_from, component_at, column_is, column_sum_is, few_pass, one_passes}
-use Rattle.fvn_plans.proofs.Kinded.{HasSums, tables_have_sums}
+use Rattle.fvn_plans.specs.Tables.{HasSums}
+use Rattle.fvn_plans.proofs.Kinded.{tables_have_sums}
 use Rattle.fvn_plans.proofs.Solids.{solid_column}
 
 module _ {d : Declarations} {t : NodeTable} (has : HasSums d t) (class : ℕ → ℕ) (y : Systems) (systems : AreSystems d t class y) (c : Choice) (f : OpId) (sum : IsSumOperator d t f) where
