@@ -1,0 +1,6 @@
+-- The lemmas of the crate.
+mod Steps
+mod Values
+mod Measuring
+mod Noting
+mod Sizing
