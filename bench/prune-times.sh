@@ -150,7 +150,7 @@ fn times(rt: HostRuntime) -> Result<(), NoMemory> {
 }
 PROGRAM
 case "$1" in
-try) rt try --test --seconds 240 ;;
+try) rt try --test --seconds 900 ;;
 *) rt test ;;
 esac > "$there/log" 2>&1 || true
 grep -aE "^ *prune: |not proved|no proof|error\[|error:|panicked|fault|at src|test result" "$there/log" | sed "s/^ *//"
