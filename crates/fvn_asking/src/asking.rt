@@ -25,7 +25,7 @@ use std::alloc::Global;
 
 /// What is asked of the minimal solutions that are taken for a sum operator.
 #[derive(Drop)]
-pub struct Asked {
+pub struct Requirements {
     /// The columns of its constants: together the solutions have each once, and none has two.
     pub constants: Seq<usize>,
     /// For each column whether all solutions that are taken may be zero there.
@@ -139,7 +139,7 @@ pub fn asked(
     reading: &Reading,
     tags: &[Option<OpId>],
     sums: &Sums,
-) -> Result<Asked, NoMemory>
+) -> Result<Requirements, NoMemory>
     requires closed { IsClosed sig.now table.now state.now }
     requires reading { IsReading sig.now table.now (class_of state.now) reading.now }
     requires sums { AreSums sig.now table.now (class_of state.now) sums.now }
@@ -151,7 +151,7 @@ pub fn asked(
     let n = table.nodes().len();
     let constants = constants_of(alloc, reading, n, tags, sums)?;
     let marks = marks_of(alloc, sig, reading, n, tags, sums)?;
-    Ok(Asked {
+    Ok(Requirements {
         constants: Seq::from_vec(constants),
         may_be_zero: Seq::from_vec(marks),
     })

@@ -8,6 +8,6 @@ mod taken;
 mod users;
 
 pub use aliases::has_no_alias;
-pub use asking::{Asked, asked};
+pub use asking::{Requirements, asked};
 pub use bound::is_bound;
 pub use taken::taken;
