@@ -1,9 +1,9 @@
 //! Whether a shared class is a sum of a constant alone.
-ghost use Rattle.std.specs.Prelude.{◌≡◌, ◌↔◌, ◌<◌, ◌-◌, ◌^◌, min, length, slice_index, All, IfOk, IsTrue};
+ghost use Rattle.std.specs.Prelude.{◌≡◌, ◌↔◌, ◌<◌, ◌-◌, ◌^◌, min, length, slice_index, All, Contains, IfOk, IsTrue};
 ghost use Rattle.fvn_lindio.specs.Systems.{vectors_of};
 ghost use Rattle.fvn_acunify.specs.ValidChoice.{chosen, column_sum};
 ghost use Rattle.fvn_nodes.specs.States.{IsClosed, class_of};
-ghost use Rattle.fvn_frames.specs.Readings.{AreSums, IsReading};
+ghost use Rattle.fvn_frames.specs.Readings.{IsReading};
 ghost use Rattle.fvn_frames.specs.inner.Users.{IsWholeSums, IsWhole, IsSharedIn};
 ghost use Rattle.fvn_asking.specs.Listed.{tag_in};
 ghost use Rattle.fvn_asking.specs.Aliases.{HasNoAlias};
@@ -123,7 +123,7 @@ pub fn has_no_alias(
 ) -> Result<bool, NoMemory>
     requires closed { IsClosed sig.now table.now state.now }
     requires reading { IsReading sig.now table.now (class_of state.now) reading.now }
-    requires sums { AreSums sig.now table.now (class_of state.now) sums.now }
+    requires listed { Contains reading.now.sums sums.now }
     requires sized { All (λ v. length v ≡ length sums.now.columns) (vectors_of basis.now) }
     ensures { IfOk result (λ b. IsTrue b
         ↔ HasNoAlias sig.now table.now (class_of state.now) (tag_in tags.now)

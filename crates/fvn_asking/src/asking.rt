@@ -1,9 +1,9 @@
 //! What is asked of the minimal solutions that are taken for a sum operator.
-ghost use Rattle.std.specs.Prelude.{◌≡◌, ◌↔◌, ◌<◌, length, IfOk, IsTrue};
+ghost use Rattle.std.specs.Prelude.{◌≡◌, ◌↔◌, ◌<◌, length, Contains, IfOk, IsTrue};
 ghost use Rattle.fvn_terms.specs.Signature.{axioms};
 ghost use Rattle.fvn_flat.specs.Partitions.{HasNoIdentity};
 ghost use Rattle.fvn_nodes.specs.States.{IsClosed, class_of};
-ghost use Rattle.fvn_frames.specs.Readings.{AreSums, IsReading};
+ghost use Rattle.fvn_frames.specs.Readings.{IsReading};
 ghost use Rattle.fvn_frames.specs.inner.Users.{IsWholeSums, IsWhole};
 ghost use Rattle.fvn_plans.specs.Binding.{AreAsked};
 ghost use Rattle.fvn_asking.specs.Listed.{tag_in};
@@ -142,7 +142,7 @@ pub fn asked(
 ) -> Result<Requirements, NoMemory>
     requires closed { IsClosed sig.now table.now state.now }
     requires reading { IsReading sig.now table.now (class_of state.now) reading.now }
-    requires sums { AreSums sig.now table.now (class_of state.now) sums.now }
+    requires listed { Contains reading.now.sums sums.now }
     ensures { IfOk result (λ a. AreAsked sig.now table.now (class_of state.now) (tag_in tags.now)
         sums.now.operator sums.now.columns a.constants a.may_be_zero) }
 {

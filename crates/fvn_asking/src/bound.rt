@@ -1,7 +1,7 @@
 //! Which classes are bound to a sum of an operator.
-ghost use Rattle.std.specs.Prelude.{◌≡◌, ◌↔◌, ◌<◌, length, Some, IsTrue};
+ghost use Rattle.std.specs.Prelude.{◌≡◌, ◌↔◌, ◌<◌, length, Some, Contains, IsTrue};
 ghost use Rattle.fvn_nodes.specs.States.{IsClosed, class_of};
-ghost use Rattle.fvn_frames.specs.Readings.{AreSums, IsReading};
+ghost use Rattle.fvn_frames.specs.Readings.{IsReading};
 ghost use Rattle.fvn_frames.specs.inner.Users.{IsWholeSums, IsWhole};
 ghost use Rattle.fvn_plans.specs.Binding.{IsBound};
 ghost use Rattle.fvn_asking.specs.Listed.{tag_in};
@@ -65,7 +65,7 @@ pub fn is_bound(
 ) -> bool
     requires closed { IsClosed sig.now table.now state.now }
     requires reading { IsReading sig.now table.now (class_of state.now) reading.now }
-    requires sums { AreSums sig.now table.now (class_of state.now) sums.now }
+    requires listed { Contains reading.now.sums sums.now }
     requires within { k < length table.now.nodes }
     ensures { IsTrue result
         ↔ IsBound sig.now table.now (class_of state.now) (tag_in tags.now) sums.now.operator k }

@@ -1,10 +1,10 @@
 //! What stands for the minimal solutions that are taken.
-ghost use Rattle.std.specs.Prelude.{◌≡◌, ◌+◌, ◌*◌, ◌<◌, ◌≤◌, ◌^◌, ℕ, map, length, All, IfOk};
+ghost use Rattle.std.specs.Prelude.{◌≡◌, ◌+◌, ◌*◌, ◌<◌, ◌≤◌, ◌^◌, ℕ, map, length, All, Contains, IfOk};
 ghost use Rattle.fvn_base.specs.declared.limits.TheConstants.{MINIMAL_SOLUTIONS as most};
 ghost use Rattle.fvn_lindio.specs.Systems.{vectors_of};
 ghost use Rattle.fvn_acunify.specs.ValidChoice.{chosen};
 ghost use Rattle.fvn_nodes.specs.States.{IsClosed, class_of};
-ghost use Rattle.fvn_frames.specs.Readings.{AreSums, IsReading};
+ghost use Rattle.fvn_frames.specs.Readings.{IsReading};
 ghost use Rattle.fvn_binding.specs.inner.Planning.{
   variable_for,
   AreShares,
@@ -66,7 +66,7 @@ fn shares_of(
 ) -> Result<Vec<Share>, NoMemory>
     requires closed { IsClosed sig.now table.now state.now }
     requires reading { IsReading sig.now table.now (class_of state.now) reading.now }
-    requires sums { AreSums sig.now table.now (class_of state.now) sums.now }
+    requires listed { Contains reading.now.sums sums.now }
     requires sized { All (λ v. length v ≡ length sums.now.columns) (vectors_of basis.now) }
     requires few { length basis.now ≤ most }
     requires names { length names.now ≡ length table.now.nodes }

@@ -1,1 +1,6 @@
 -- The lemmas of the crate.
+mod Replacing
+mod Values
+mod Measuring
+mod Noting
+mod Sizing

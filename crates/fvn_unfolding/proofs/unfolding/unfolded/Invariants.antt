@@ -1,0 +1,12 @@
+-- What is left of the bindings decides.
+use Rattle.std.proofs.Common.{◌≡◌, drop}
+use Rattle.fvn_forms.specs.Flat.{fvar}
+use Rattle.fvn_unfolding.specs.Sizes.{IsFitting}
+use Rattle.fvn_unfolding.specs.inner.Replaced.{replaced}
+use Rattle.fvn_unfolding.proofs.unfolding.unfolded.Given as goal
+
+abbrev pub invariant-loop-y : goal.invariant-loop-y
+invariant-loop-y l = record {
+  whole : replaced l.sig (drop l.y-index l.bindings) l.t ≡ replaced l.sig l.bindings (fvar l.x);
+  fits : IsFitting l.sig (l.x, l.t);
+}
