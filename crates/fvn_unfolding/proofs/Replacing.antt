@@ -18,7 +18,7 @@ use Rattle.fvn_forms.proofs.LeastSort.{inst_of_kind}
 use Rattle.fvn_flat.specs.Bindings.{Bindings, form_or, value, BindingsFit}
 use Rattle.fvn_flat.specs.SolvedLists.{only, unfolded}
 use Rattle.fvn_flat.proofs.Composing.{empty_fits, bind_fits}
-use Rattle.fvn_plans.specs.Plans.{unfolding}
+use Rattle.fvn_plans.specs.Plans.{unfolds_to}
 use Rattle.fvn_unfolding.specs.Sizes.{IsFitting}
 use Rattle.fvn_unfolding.specs.inner.Replaced.{step, replaced}
 
@@ -59,7 +59,7 @@ module _ (d : Declarations) where
       ∙ after_one (unfolded bindings) b here t
 
   -- what a variable unfolds to
-  pub unfolding_is : (bindings : Bindings) → All (IsFitting d) bindings → (x : Var) → replaced d bindings (fvar x) ≡ unfolding d bindings x
+  pub unfolding_is : (bindings : Bindings) → All (IsFitting d) bindings → (x : Var) → replaced d bindings (fvar x) ≡ unfolds_to d bindings x
   unfolding_is bindings h x = replaced_is bindings h (fvar x) tt
 
   module _ (good : IsGood d) where
@@ -79,6 +79,6 @@ module _ (d : Declarations) where
     variable_fits x i = record { flat = tt; kinded = (i, refl) }
 
     -- what a variable unfolds to is flat, and of its kind
-    pub unfolding_fits : (bindings : Bindings) → All (IsFitting d) bindings → (x : Var) → IsSort d x.sort → IsFitting d (x, unfolding d bindings x)
+    pub unfolding_fits : (bindings : Bindings) → All (IsFitting d) bindings → (x : Var) → IsSort d x.sort → IsFitting d (x, unfolds_to d bindings x)
     unfolding_fits bindings h x i =
         subst (λ (t : FlatTerm). IsFitting d (x, t)) (unfolding_is bindings h x) (replaced_fits bindings h x (fvar x) (variable_fits x i))

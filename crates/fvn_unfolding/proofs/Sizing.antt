@@ -12,7 +12,7 @@ use Rattle.fvn_forms.specs.Canon.{canon}
 use Rattle.fvn_flat.specs.Bindings.{Bindings, bound}
 use Rattle.fvn_flat.specs.SolvedLists.{IsTriangular, only, unfolded}
 use Rattle.fvn_flat.proofs.Binding.{same_var_is, same_var_itself}
-use Rattle.fvn_plans.specs.Plans.{unfolding, size_in}
+use Rattle.fvn_plans.specs.Plans.{unfolds_to, size_in}
 use Rattle.fvn_unfolding.specs.Sizes.{AddUp}
 use Rattle.fvn_unfolding.specs.inner.Noted.{capped, noted_size, noted_sizes}
 use Rattle.fvn_unfolding.proofs.Measuring.{size_agrees}
@@ -107,7 +107,7 @@ module _ (size : Var → ℕ) where
 
 module _ (d : Declarations) (bindings : Bindings) where
   abbrev pub unfolded_size : Var → ℕ
-  unfolded_size x = symbols (unfolding d bindings x)
+  unfolded_size x = symbols (unfolds_to d bindings x)
 
   size_of_free : (x : Var) → bound bindings x ≡ None → unfolded_size x ≡ 1
   size_of_free x free = ap (λ t. symbols (canon d t)) (unfolded_free bindings x free)

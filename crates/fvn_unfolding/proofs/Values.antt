@@ -11,14 +11,14 @@ use Rattle.fvn_forms.specs.Good.{IsGood}
 use Rattle.fvn_flat.specs.Bindings.{Bindings, bound, form_or, value, BindingsFit}
 use Rattle.fvn_flat.proofs.Binding.{same_var_is, or_else, bound-append, bound_first}
 use Rattle.fvn_flat.proofs.Composing.{empty_fits, bind_fits}
-use Rattle.fvn_plans.specs.Plans.{unfolding}
+use Rattle.fvn_plans.specs.Plans.{unfolds_to}
 use Rattle.fvn_unfolding.specs.Sizes.{IsFitting}
 use Rattle.fvn_unfolding.specs.inner.Replaced.{IsWithValue}
 use Rattle.fvn_unfolding.proofs.Replacing.{unfolding_fits}
 
 -- just these variables are bound, to what they unfold to
 pub record IsUnfoldedFor (d : Declarations) (bindings : Bindings) (vars : List Var) (s : Bindings) : Type 0 where
-  pub values : (x : Var) → Contains vars x → bound s x ≡ Some (unfolding d bindings x)
+  pub values : (x : Var) → Contains vars x → bound s x ≡ Some (unfolds_to d bindings x)
   pub alone : (x : Var) (t : FlatTerm) → bound s x ≡ Some t → Contains vars x
   pub fits : BindingsFit d s
 
@@ -34,7 +34,7 @@ module _ (d : Declarations) (bindings : Bindings) where
   one_more good fit vars s r x i h (inl ((t, e), same)) = subst (IsUnfoldedFor d bindings (vars ++ x ∷ [])) (sym same) record {
     values = λ y m. elim (Contains-push_cases vars x y m) [
       | inl before ↦ h.values y before
-      | inr is ↦ subst (λ z. bound s z ≡ Some (unfolding d bindings z)) is (h.values x (h.alone x t e))
+      | inr is ↦ subst (λ z. bound s z ≡ Some (unfolds_to d bindings z)) is (h.values x (h.alone x t e))
     ];
     alone = λ y u f. Contains-append_left vars (x ∷ []) y (h.alone y u f);
     fits = h.fits;
@@ -42,18 +42,18 @@ module _ (d : Declarations) (bindings : Bindings) where
   one_more good fit vars s r x i h (inr (free, same)) = subst (IsUnfoldedFor d bindings (vars ++ x ∷ [])) (sym same) record {
     values = λ y m. elim (Contains-push_cases vars x y m) [
       | inl before ↦ bound-append s last y ∙ ap (λ o. or_else o (bound last y)) (h.values y before)
-      | inr is ↦ subst (λ z. bound (s ++ last) z ≡ Some (unfolding d bindings z)) is (bound-append s last x ∙ ap (λ o. or_else o (bound last x)) free ∙ bound_first (x, unfolding d bindings x) [])
+      | inr is ↦ subst (λ z. bound (s ++ last) z ≡ Some (unfolds_to d bindings z)) is (bound-append s last x ∙ ap (λ o. or_else o (bound last x)) free ∙ bound_first (x, unfolds_to d bindings x) [])
     ];
     alone = λ y u f. of y u (bound s y) refl (sym (bound-append s last y) ∙ f);
     fits =
         let one = unfolding_fits d good bindings fit x i in
-        bind_fits d s x (unfolding d bindings x) h.fits one.flat (λ j. one.kinded);
+        bind_fits d s x (unfolds_to d bindings x) h.fits one.flat (λ j. one.kinded);
   }
     where
       last : Bindings
-      last = (x, unfolding d bindings x) ∷ []
+      last = (x, unfolds_to d bindings x) ∷ []
 
-      itself : (y : Var) (u : FlatTerm) (b : Bool) → same_var x y ≡ b → (if b then Some (unfolding d bindings x) else None) ≡ Some u → x ≡ y
+      itself : (y : Var) (u : FlatTerm) (b : Bool) → same_var x y ≡ b → (if b then Some (unfolds_to d bindings x) else None) ≡ Some u → x ≡ y
       itself y u true e f = same_var_is x y e
       itself y u false e f = let k : None ≡ Some u = f in cc
 
@@ -64,8 +64,8 @@ module _ (d : Declarations) (bindings : Bindings) where
           subst (Contains (vars ++ x ∷ [])) (itself y u (same_var x y) refl k) (Contains-push vars x)
 
   -- what is promised of it
-  pub value_is : (vars : List Var) (s : Bindings) → IsUnfoldedFor d bindings vars s → (x : Var) → Contains vars x → value s x ≡ unfolding d bindings x
+  pub value_is : (vars : List Var) (s : Bindings) → IsUnfoldedFor d bindings vars s → (x : Var) → Contains vars x → value s x ≡ unfolds_to d bindings x
   value_is vars s h x m = ap (form_or x) (h.values x m)
 
   pub binds_these : (vars : List Var) (s : Bindings) → IsUnfoldedFor d bindings vars s → (x : Var) → Contains vars x ↔ ((t : FlatTerm) × (bound s x ≡ Some t))
-  binds_these vars s h x = (λ m. (unfolding d bindings x, h.values x m), λ k. h.alone x k.0 k.1)
+  binds_these vars s h x = (λ m. (unfolds_to d bindings x, h.values x m), λ k. h.alone x k.0 k.1)

@@ -6,7 +6,7 @@ use Rattle.fvn_terms.specs.Signature.{kind, HasKind}
 use Rattle.fvn_forms.specs.Flat.{FlatTerm, plain, symbols}
 use Rattle.fvn_forms.specs.Settled.{Settled}
 use Rattle.fvn_flat.specs.Bindings.{Bindings}
-use Rattle.fvn_plans.specs.Plans.{unfolding, size_in}
+use Rattle.fvn_plans.specs.Plans.{unfolds_to, size_in}
 
 module _ (d : Declarations) where
   -- the form is flat in the signature, and of the kind of the variable that is bound to it
@@ -16,4 +16,4 @@ module _ (d : Declarations) where
 
   -- the symbols of what a bound variable unfolds to are those of its form over what the variables in it unfold to
   abbrev pub AddUp : Bindings → Type 0
-  AddUp bindings = All (λ b. symbols (unfolding d bindings b.0) ≡ size_in (λ x. symbols (unfolding d bindings x)) b.1) bindings
+  AddUp bindings = All (λ b. symbols (unfolds_to d bindings b.0) ≡ size_in (λ x. symbols (unfolds_to d bindings x)) b.1) bindings

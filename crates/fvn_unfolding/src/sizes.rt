@@ -4,7 +4,7 @@ ghost use Rattle.fvn_forms.specs.Flat.{symbols};
 ghost use Rattle.fvn_forms.specs.Settled.{Settled};
 ghost use Rattle.fvn_terms.specs.Signature.{axioms};
 ghost use Rattle.fvn_flat.specs.SolvedLists.{IsTriangular};
-ghost use Rattle.fvn_plans.specs.Plans.{unfolding, size_in};
+ghost use Rattle.fvn_plans.specs.Plans.{unfolds_to, size_in};
 ghost use Rattle.fvn_unfolding.specs.Sizes.{AddUp};
 ghost use Rattle.fvn_unfolding.specs.inner.Noted.{noted_size, noted_sizes, capped, own_size, joins};
 
@@ -104,7 +104,7 @@ pub fn is_too_large(
     requires add_up { AddUp sig.now list.now.bindings }
     requires limit { limit < 2 ^ 64 - 1 }
     ensures { IfOk result (λ large. IsTrue large
-        ↔ Any (λ x. limit < symbols (unfolding sig.now list.now.bindings x)) vars.now) }
+        ↔ Any (λ x. limit < symbols (unfolds_to sig.now list.now.bindings x)) vars.now) }
 {
     let sizes = sizes_of(alloc, sig, list.bindings.as_slice())?;
     for x in vars {

@@ -5,7 +5,7 @@ ghost use Rattle.fvn_terms.specs.Signature.{IsSort};
 ghost use Rattle.fvn_forms.specs.Flat.{FlatTerm, plain};
 ghost use Rattle.fvn_flat.specs.Fits.{Fits};
 ghost use Rattle.fvn_flat.specs.Bindings.{bound, value, BindingsFit};
-ghost use Rattle.fvn_plans.specs.Plans.{unfolding};
+ghost use Rattle.fvn_plans.specs.Plans.{unfolds_to};
 ghost use Rattle.fvn_unfolding.specs.Sizes.{IsFitting};
 ghost use Rattle.fvn_unfolding.specs.inner.Replaced.{step, IsWithValue};
 
@@ -44,7 +44,7 @@ fn unfolded(
 ) -> Result<Flat, NoMemory>
     requires bindings { All (IsFitting sig.now) bindings.now }
     requires sort { IsSort sig.now x.sort }
-    ensures exact { IfOk result (λ t. t ≡ unfolding sig.now bindings.now x) }
+    ensures exact { IfOk result (λ t. t ≡ unfolds_to sig.now bindings.now x) }
     ensures fits { IfOk result (λ t. IsFitting sig.now (x, t)) }
 {
     let mut t = Flat::var(x);
@@ -84,7 +84,7 @@ pub fn unfold(
     requires bindings { All (IsFitting sig.now) list.now.bindings }
     requires sorts { All (λ x. IsSort sig.now x.sort) vars.now }
     ensures values { IfOk result (λ g. (x : Variable) → Contains vars.now x
-        → value g x ≡ unfolding sig.now list.now.bindings x) }
+        → value g x ≡ unfolds_to sig.now list.now.bindings x) }
     // Just these variables are bound, each to a flat form of its kind.
     ensures binds { IfOk result (λ g. (x : Variable) → Contains vars.now x
         ↔ ((t : FlatTerm) × (bound g x ≡ Some t))) }

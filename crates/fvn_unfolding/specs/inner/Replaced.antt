@@ -5,7 +5,7 @@ use Rattle.fvn_terms.specs.declared.declarations.Declarations.{Declarations}
 use Rattle.fvn_forms.specs.Flat.{FlatTerm}
 use Rattle.fvn_forms.specs.Canon.{inst}
 use Rattle.fvn_flat.specs.Bindings.{Bindings, bound, value}
-use Rattle.fvn_plans.specs.Plans.{unfolding}
+use Rattle.fvn_plans.specs.Plans.{unfolds_to}
 
 module _ (d : Declarations) where
   -- the form with the variable of one binding replaced
@@ -20,4 +20,4 @@ module _ (d : Declarations) where
   -- the second has x bound to what it unfolds to at its end, where the first does not bind it
   abbrev pub IsWithValue : Bindings → Bindings → Var → Bindings → Type 0
   IsWithValue bindings s x r =
-      (((t : FlatTerm) × (bound s x ≡ Some t)) × (r ≡ s)) ⊎ ((bound s x ≡ None) × (r ≡ s ++ (x, unfolding d bindings x) ∷ []))
+      (((t : FlatTerm) × (bound s x ≡ Some t)) × (r ≡ s)) ⊎ ((bound s x ≡ None) × (r ≡ s ++ (x, unfolds_to d bindings x) ∷ []))
