@@ -1,13 +1,14 @@
 -- Laws of choices and their plans.
 use Rattle.std.specs.Prelude.{◌≡◌, ◌↔◌, ℕ, ◌<◌, ◌≤◌, Bool, List, All, Contains}
-use Rattle.fvn_base.specs.declared.limits.TheConstants.{FIRST_FRESH}
-use Rattle.fvn_terms.specs.declared.plain.Var.{Var}
 use Rattle.fvn_terms.specs.declared.plain.OpId.{OpId}
 use Rattle.fvn_terms.specs.declared.declarations.Declarations.{Declarations}
-use Rattle.fvn_forms.specs.Flat.{FlatTerm, symbols}
+use Rattle.fvn_terms.specs.Unifiers.{Problem}
+use Rattle.fvn_forms.specs.Flat.{symbols}
+use Rattle.fvn_forms.specs.FitsKinds.{FitsKinds}
 use Rattle.fvn_forms.specs.Good.{IsGood}
 use Rattle.fvn_acunify.specs.ValidChoice.{IsValid}
 use Rattle.fvn_flat.specs.Bindings.{Bindings}
+use Rattle.fvn_flat.specs.Problems.{IsProblem}
 use Rattle.fvn_flat.specs.Solving.{IsGiven, problem_of}
 use Rattle.fvn_flat.specs.SolvedLists.{Plan, IsSolvedBy}
 use Rattle.fvn_flat.specs.declared.solver.Pairs.{Pairs}
@@ -19,17 +20,18 @@ use Rattle.fvn_nodes.specs.declared.state.State.{State}
 use Rattle.fvn_frames.specs.Frames.{IsSumOperator, IsShared}
 use Rattle.fvn_plans.specs.Binding.{IsBound, IsConstant, AreAsked}
 use Rattle.fvn_plans.specs.Choosing.{Systems, Choice, AreSystems, AreTakenTogether, IsAcceptable, IsPossible, member_count}
-use Rattle.fvn_plans.specs.Plans.{IsPlanBy, AreBindingsBy, UnfoldsToNew, unfolding, size_in}
+use Rattle.fvn_plans.specs.Plans.{AreOfOneKind, IsPlanBy, AreBindingsBy, UnfoldsToNew, unfolding, size_in}
 
--- where a choice is a valid one for what is asked, and no shared class is a sum of a constant alone, it is acceptable; and the other way round
+-- in the table of a well-kinded problem, where a choice is a valid one for what is asked, and no shared class is a sum of a constant alone, it is acceptable; and the other way round
 abbrev pub ValidChoicesAreAcceptable : Type 0
 ValidChoicesAreAcceptable =
-    (d : Declarations) (t : NodeTable) (class : ℕ → ℕ) (y : Systems) → AreSystems d t class y → (c : Choice)
+    (d : Declarations) → FitsKinds d → (problem : Problem) → IsProblem d problem → (t : NodeTable) → IsWellMade t → IsTableOf d problem t
+    → (class : ℕ → ℕ) (y : Systems) → AreSystems d t class y → (c : Choice)
     → (f : OpId) → IsSumOperator d t f → (constants : List ℕ) (may_be_zero : List Bool) → AreAsked d t class c.tag f (y.columns f) constants may_be_zero
     → IsAcceptable d t class y c f ↔ (IsValid constants may_be_zero (y.basis f) (c.number f)
         × ((k l : ℕ) → IsShared d t class k → IsBound d t class c.tag f k → IsConstant d t class c.tag f l → AreTakenTogether d t class y c f k l → 2 ≤ member_count y c f k))
 
--- a state of a given problem's table whose classes are a partition, with its systems, a possible choice, its plan, and bindings by this
+-- a state of a given problem's table whose classes are a partition and have one kind each, with its systems, a possible choice, its plan, and bindings by this
 pub record IsPlanned (d : Declarations) (given : Pairs) (first : ℕ) (t : NodeTable) (s : State) (y : Systems) (c : Choice) (next : ℕ) (plan : Plan) (bindings : Bindings) : Type 0 where
   pub good : IsGood d
   pub is_given : IsGiven d given first
@@ -37,6 +39,7 @@ pub record IsPlanned (d : Declarations) (given : Pairs) (first : ℕ) (t : NodeT
   pub table : IsTableOf d (problem_of given) t
   pub closed : IsClosed d t s
   pub partition : IsNodePartition d t (class_of s)
+  pub kinds : AreOfOneKind d t (class_of s)
   pub systems : AreSystems d t (class_of s) y
   pub possible : IsPossible d t (class_of s) y c
   pub plan_by : IsPlanBy d t (class_of s) y c first next plan

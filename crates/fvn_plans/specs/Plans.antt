@@ -19,6 +19,10 @@ use Rattle.fvn_frames.specs.Frames.{IsSumOperator}
 use Rattle.fvn_plans.specs.Binding.{IsBound, IsConstant}
 use Rattle.fvn_plans.specs.Choosing.{Systems, Choice, taken}
 
+-- nodes of one class have one kind
+abbrev pub AreOfOneKind : Declarations → NodeTable → (ℕ → ℕ) → Type 0
+AreOfOneKind d t class = (i j : ℕ) (k : SortId) → i < length t.nodes → j < length t.nodes → class i ≡ class j → HasKind d (term_at t.nodes i) k → HasKind d (term_at t.nodes j) k
+
 module _ (d : Declarations) (t : NodeTable) where
   -- a new variable with this number
   pub record IsNumber (number : ℕ) (x : Var) : Type 0 where
@@ -67,6 +71,8 @@ module _ (d : Declarations) (t : NodeTable) where
       pub columns : (f : OpId) → IsSumOperator d t f → plan.columns f ≡ y.columns f
       pub solutions : (f : OpId) → IsSumOperator d t f → map (λ q. q.solution) (plan.parts f) ≡ taken y c f
       pub standing : (f : OpId) → IsSumOperator d t f → All (StandsFor first next plan f) (plan.parts f)
+      -- only sum operators have parts
+      pub only : (f : OpId) (q : Part) → Contains (plan.parts f) q → IsSumOperator d t f
       -- no new variable stands for two solutions
       pub distinct : (f : OpId) → IsSumOperator d t f → AllPairs (λ q r. q.variable ≢ r.variable) (plan.parts f)
       pub apart : (f g : OpId) (q r : Part) → f ≢ g → Contains (plan.parts f) q → Contains (plan.parts g) r → first + length t.nodes ≤ q.variable.name → q.variable ≢ r.variable

@@ -6,6 +6,9 @@ ghost use Rattle.fvn_plans.specs.Laws.{
   SizesAddUp,
 };
 
+use fvn_sums::{counts_solve, node_systems_are_sum_systems, values_unify};
+use fvn_supports::combinations_solve;
+
 /// A choice is acceptable where it is valid for what is asked.
 pub fn valid_choices_are_acceptable()
     ensures { ValidChoicesAreAcceptable }
@@ -14,7 +17,12 @@ pub fn valid_choices_are_acceptable()
 /// The bindings of a plan are a solved list.
 pub fn planned_bindings_are_solved()
     ensures { PlannedBindingsAreSolved }
-{}
+{
+    node_systems_are_sum_systems();
+    counts_solve();
+    combinations_solve();
+    values_unify();
+}
 
 /// What they unfold to has new variables alone.
 pub fn planned_bindings_unfold_to_new()
@@ -24,4 +32,7 @@ pub fn planned_bindings_unfold_to_new()
 /// The sizes of what they unfold to add up.
 pub fn sizes_add_up()
     ensures { SizesAddUp }
-{}
+{
+    counts_solve();
+    combinations_solve();
+}
