@@ -2,15 +2,13 @@
 use Rattle.std.specs.Prelude.{◌≡◌, ◌↔◌, ℕ, ◌+◌, ◌*◌, ◌<◌, ◌≤◌, List, length, slice_get, Some, All, AllPairs, Contains, ◌≢◌}
 use Rattle.fvn_base.specs.declared.limits.TheConstants.{MINIMAL_SOLUTIONS, FIRST_FRESH, NEXT_FRESH}
 use Rattle.fvn_terms.specs.declared.plain.Var.{Var}
-use Rattle.fvn_terms.specs.declared.plain.SortId.{SortId}
 use Rattle.fvn_terms.specs.declared.declarations.Declarations.{Declarations}
-use Rattle.fvn_terms.specs.Signature.{HasKind}
 use Rattle.fvn_flat.specs.Bindings.{Bindings}
 use Rattle.fvn_flat.specs.Solving.{IsGiven, problem_of}
 use Rattle.fvn_flat.specs.SolvedLists.{Plan}
 use Rattle.fvn_flat.specs.declared.solver.Pairs.{Pairs}
 use Rattle.fvn_lindio.specs.declared.system.Solution.{Solution}
-use Rattle.fvn_nodes.specs.Table.{NodeTable, IsTableOf, term_at}
+use Rattle.fvn_nodes.specs.Table.{NodeTable, IsTableOf}
 use Rattle.fvn_nodes.specs.Classes.{IsNodePartition}
 use Rattle.fvn_nodes.specs.Laws.{class_at}
 use Rattle.fvn_nodes.specs.States.{IsClosed, class_of}
@@ -18,12 +16,8 @@ use Rattle.fvn_nodes.specs.declared.state.State.{State}
 use Rattle.fvn_nodes.specs.declared.table.Node.TheVariants.{Var as OfVar}
 use Rattle.fvn_frames.specs.declared.reading.Reading.{Reading}
 use Rattle.fvn_plans.specs.Choosing.{Systems, Choice}
-use Rattle.fvn_plans.specs.Plans.{IsPlanBy, AreBindingsBy}
+use Rattle.fvn_plans.specs.Plans.{AreOfOneKind, IsPlanBy, AreBindingsBy}
 use Rattle.fvn_unfolding.specs.Sizes.{IsFitting}
-
--- each class has members of one kind
-abbrev pub HaveOneKind : Declarations → NodeTable → (ℕ → ℕ) → Type 0
-HaveOneKind d t class = (i : ℕ) (q : SortId) → i < length t.nodes → HasKind d (term_at t.nodes i) q → HasKind d (term_at t.nodes (class i)) q
 
 -- a state of a given problem's table, whose classes are a partition, and of one kind each
 pub record IsReady (d : Declarations) (given : Pairs) (first : ℕ) (t : NodeTable) (s : State) : Type 0 where
@@ -31,7 +25,7 @@ pub record IsReady (d : Declarations) (given : Pairs) (first : ℕ) (t : NodeTab
   pub table : IsTableOf d (problem_of given) t
   pub closed : IsClosed d t s
   pub partition : IsNodePartition d t (class_of s)
-  pub kinds : HaveOneKind d t (class_of s)
+  pub kinds : AreOfOneKind d t (class_of s)
 
 -- for each sum operator minimal solutions and a number; there are numbers for names and for new variables
 pub record AreListed (t : NodeTable) (r : Reading) (bases : List (List Solution)) (numbers : List ℕ) : Type 0 where

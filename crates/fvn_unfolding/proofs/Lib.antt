@@ -1,5 +1,5 @@
 -- The lemmas of the crate.
-mod Replacing
+mod Steps
 mod Values
 mod Measuring
 mod Noting

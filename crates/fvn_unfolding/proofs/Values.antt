@@ -14,7 +14,7 @@ use Rattle.fvn_flat.proofs.Composing.{empty_fits, bind_fits}
 use Rattle.fvn_plans.specs.Plans.{unfolds_to}
 use Rattle.fvn_unfolding.specs.Sizes.{IsFitting}
 use Rattle.fvn_unfolding.specs.inner.Replaced.{IsWithValue}
-use Rattle.fvn_unfolding.proofs.Replacing.{unfolding_fits}
+use Rattle.fvn_unfolding.proofs.Steps.{unfolding_fits}
 
 -- just these variables are bound, to what they unfold to
 pub record IsUnfoldedFor (d : Declarations) (bindings : Bindings) (vars : List Var) (s : Bindings) : Type 0 where

@@ -2,7 +2,7 @@
 #![tactic(auto)]
 
 mod sizes;
-mod unfolding;
+mod replacing;
 
 pub use sizes::is_too_large;
-pub use unfolding::unfold;
+pub use replacing::unfold;

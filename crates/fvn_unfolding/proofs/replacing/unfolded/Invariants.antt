@@ -3,7 +3,7 @@ use Rattle.std.proofs.Common.{◌≡◌, drop}
 use Rattle.fvn_forms.specs.Flat.{fvar}
 use Rattle.fvn_unfolding.specs.Sizes.{IsFitting}
 use Rattle.fvn_unfolding.specs.inner.Replaced.{replaced}
-use Rattle.fvn_unfolding.proofs.unfolding.unfolded.Given as goal
+use Rattle.fvn_unfolding.proofs.replacing.unfolded.Given as goal
 
 abbrev pub invariant-loop-y : goal.invariant-loop-y
 invariant-loop-y l = record {
