@@ -19,12 +19,13 @@ fn add_if(
     ensures { OnOk result (vectors_of solutions.new.items
         ≡ vectors_of solutions.old.items ++ taken_if bits solution.now.parts) }
 {
-    if bits % 2 == 1 {
-        let parts = Vec::from_slice(alloc, solution.parts.as_slice())?;
-        solutions.push(Solution {
-            parts: Seq::from_vec(parts),
-        })?;
+    if bits % 2 != 1 {
+        return Ok(());
     }
+    let parts = Vec::from_slice(alloc, solution.parts.as_slice())?;
+    solutions.push(Solution {
+        parts: Seq::from_vec(parts),
+    })?;
     Ok(())
 }
 

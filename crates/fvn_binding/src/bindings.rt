@@ -1,16 +1,21 @@
 //! The bindings that a choice at a frame makes.
-ghost use Rattle.std.specs.Prelude.{◌≡◌, ◌+◌, ◌<◌, ℕ, List, map, length, slice_index_or, Option, Some, None, All, IfOk, IfSome, IfNone, MatchOption};
+ghost use Rattle.std.specs.Prelude.{◌≡◌, ◌<◌, ℕ, map, length, slice_get, slice_index_or, All, IfOk, OnOk, IfSome, IfNone};
 ghost use Rattle.fvn_nodes.specs.States.{IsClosed, class_of};
 ghost use Rattle.fvn_frames.specs.Readings.{IsReading};
 ghost use Rattle.fvn_plans.specs.Choosing.{AreSystems, IsPossible, Falls};
 ghost use Rattle.fvn_asking.specs.Listed.{systems_of, choice_of};
 ghost use Rattle.fvn_binding.specs.Ready.{IsReady, AreListed, ArePlanned};
 ghost use Rattle.fvn_binding.specs.inner.Planning.{
-  plan_of,
+  AreKinded,
+  AreApart,
+  over_names,
+  sum_at,
+  bound_by,
+  IsMakingSum,
   IsMaking,
-  GivesBound,
-  AreClassBindings,
-  AreVariableBindings,
+  HasAdded,
+  AreClassesBelow,
+  AreVariablesBelow,
 };
 
 use crate::binders::{Binder, binders_of};
@@ -36,7 +41,13 @@ fn member_term(
     names: &[Var],
     i: usize,
 ) -> Result<Flat, NoMemory>
+    requires closed { IsClosed sig.now table.now state.now }
+    requires kinded { AreKinded sig.now table.now (class_of state.now) names.now }
+    requires within { i < length table.now.nodes }
+    ensures exact { IfOk result (λ t. t ≡ over_names sig.now table.now (class_of state.now) names.now
+        (slice_get table.now.nodes i)) }
 {
+    table.recall_well_made();
     match table.node(i) {
         Node::Var(x) => Ok(Flat::var(*x)),
         Node::App(f, ks) => {
@@ -56,6 +67,8 @@ fn sum_term(
     i: usize,
     k: usize,
 ) -> Result<Flat, NoMemory>
+    requires { IsMakingSum sig.now reading.now.sums (map (λ w. w.items) shares.now) i k }
+    ensures { IfOk result (λ t. t ≡ sum_at sig.now reading.now.sums (map (λ w. w.items) shares.now) i k) }
 {
     let sums = &reading.sums.as_slice()[i];
     let terms = members_of(alloc, sums.columns.as_slice(), shares[i].as_slice(), k)?;
@@ -75,6 +88,12 @@ fn class_term(
     binder: Binder,
     k: usize,
 ) -> Result<Option<Flat>, NoMemory>
+    requires closed { IsClosed sig.now table.now state.now }
+    requires kinded { AreKinded sig.now table.now (class_of state.now) names.now }
+    requires making { IsMaking sig.now table.now (class_of state.now) names.now
+        reading.now.sums (map (λ w. w.items) shares.now) binder k }
+    ensures { IfOk result (λ o. o ≡ bound_by sig.now table.now (class_of state.now) names.now
+        reading.now.sums (map (λ w. w.items) shares.now) binder k) }
 {
     match binder {
         Binder::Nothing => Ok(None),
@@ -95,6 +114,7 @@ fn add_class(
     name: Var,
     term: Option<Flat>,
 ) -> Result<(), NoMemory>
+    ensures { OnOk result (HasAdded bindings.old.items bindings.new.items name term) }
 {
     match term {
         None => Ok(()),
@@ -116,6 +136,15 @@ fn class_bindings(
     shares: &[Vec<Share>],
     binders: &[Binder],
 ) -> Result<Vec<(Var, Flat)>, NoMemory>
+    requires closed { IsClosed sig.now table.now state.now }
+    requires kinded { AreKinded sig.now table.now (class_of state.now) names.now }
+    requires apart { AreApart names.now }
+    requires binders { length binders.now ≡ length table.now.nodes }
+    requires making { (k : ℕ) → k < length table.now.nodes → class_of state.now k ≡ k
+        → IsMaking sig.now table.now (class_of state.now) names.now reading.now.sums
+            (map (λ w. w.items) shares.now) (slice_index_or binders.now k Binder.Nothing) k }
+    ensures { IfOk result (λ v. AreClassesBelow sig.now table.now (class_of state.now) names.now
+        reading.now.sums (map (λ w. w.items) shares.now) binders.now (length table.now.nodes) v.items) }
 {
     let mut bindings = Vec::new(alloc);
     for k in 0..table.nodes().len() {
@@ -135,7 +164,12 @@ fn variable_bindings(
     state: &State,
     names: &[Var],
 ) -> Result<Vec<(Var, Flat)>, NoMemory>
+    requires whole { length state.now.names ≡ length table.now.nodes }
+    requires named { All (λ k. k < length names.now) state.now.names }
+    ensures { IfOk result (λ v. AreVariablesBelow table.now (class_of state.now) names.now
+        (length table.now.nodes) v.items) }
 {
+    table.recall_well_made();
     let mut bindings = Vec::new(alloc);
     for i in 0..table.nodes().len() {
         match table.node(i) {
