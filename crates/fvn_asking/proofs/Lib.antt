@@ -5,3 +5,4 @@ mod Binding
 mod Asking
 mod Taking
 mod Aliases
+pub mod Listing

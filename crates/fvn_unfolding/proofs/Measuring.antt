@@ -1,5 +1,5 @@
 -- The symbols of a form, from those of its arguments.
-use Rattle.std.proofs.Common.{◌≡◌, ℕ, ◌+◌, ◌<◌, ◌≤◌, Bool, true, false, List, [], ◌∷◌, ◌++◌, length, take, get_or, Some, None, refl, sym, ap, ◌∙◌, subst, inl, inr, arith}
+use Rattle.std.proofs.Common.{◌≡◌, ℕ, ◌+◌, ◌^◌, ◌<◌, ◌≤◌, Bool, true, false, List, [], ◌∷◌, ◌++◌, length, take, get_or, Some, None, refl, sym, ap, ◌∙◌, subst, inl, inr, arith}
 use Rattle.std.specs.List.{AllByRecursion}
 use Rattle.std.proofs.lemmas.List.{take_more}
 use Rattle.fvn_terms.specs.declared.plain.Var.{Var}
@@ -14,6 +14,7 @@ use Rattle.fvn_forms.specs.Flat.{FlatTerm, FlatTerms, fvar, fapp, fnone, fmore, 
 use Rattle.fvn_forms.specs.Settled.{Settled, FitsUnjoined}
 use Rattle.fvn_forms.proofs.Sums.{fpack-funpack, SettledAll-funpack}
 use Rattle.fvn_flat.specs.Forms.{variable_of, head_of, args_of}
+use Rattle.fvn_flat.specs.inner.Own.{own}
 use Rattle.fvn_flat.proofs.Occurrences.{occurs_in_app}
 use Rattle.fvn_plans.specs.Plans.{size_in, sizes_in, joined_in}
 use Rattle.fvn_unfolding.specs.inner.Noted.{joins, capped, between, own_size}
@@ -27,46 +28,42 @@ between_is : (t : FlatTerm) (ts : FlatTerms) → between (fmore t ts) ≡ length
 between_is t fnone = refl
 between_is t (fmore u us) = let e = between_is u us in omega arith
 
-joins_not : (a : Axioms) → IsAssociative a → joins a ≡ false → ⊥
-joins_not Free h e = h
-joins_not Comm h e = h
-joins_not AssocComm h e = cc
-joins_not (AssocCommId i) h e = cc
-
-joins_bare : (d : Declarations) (a : Axioms) (t : FlatTerm) (l : List FlatTerm) → FitsUnjoined d a (t ∷ l) → joins a ≡ true → ⊥
-joins_bare d Free t l h e = cc
-joins_bare d Comm t l h e = cc
-joins_bare d AssocComm t l h e = cc
-joins_bare d (AssocCommId i) t l h e = cc
-
--- without arguments, or with no operator, a form has one symbol of its own
-pub own_of_none : (t : FlatTerm) → length (args_of t) ≡ 0 → own_size t ≡ 1
-own_of_none (fvar x) e = refl
-own_of_none (fapp f false ts) e = refl
-own_of_none (fapp f true fnone) e = refl
-own_of_none (fapp f true (fmore t ts)) e = absurd (omega (arith, e))
-
-pub own_of_variable : (t : FlatTerm) → head_of t ≡ None → own_size t ≡ 1
+-- with no operator a form has one symbol of its own
+pub own_of_variable : (t : FlatTerm) → head_of t ≡ None → 1 ≡ own_size t
 own_of_variable (fvar x) e = refl
 own_of_variable (fapp f joined ts) e = cc
 
-module _ (d : Declarations) where
-  -- an operator that is not associative is one symbol
-  pub own_of_other : (t : FlatTerm) (f : OpId) → Settled d t → head_of t ≡ Some f → joins (axioms d f) ≡ false → own_size t ≡ 1
-  own_of_other (fvar x) f h e n = cc
-  own_of_other (fapp g false ts) f h e n = refl
-  own_of_other (fapp g true ts) f h e n =
-      let same : g ≡ f = cc in
-      absurd (joins_not (axioms d g) h.0.associative (subst (λ k. joins (axioms d k) ≡ false) (sym same) n))
+own_of_nothing : (joined : Bool) → own joined 0 ≡ 1
+own_of_nothing true = refl
+own_of_nothing false = refl
 
-  -- an associative one stands between its arguments
-  pub own_of_sum : (t : FlatTerm) (f : OpId) → Settled d t → head_of t ≡ Some f → joins (axioms d f) ≡ true → 1 ≤ length (args_of t) → own_size t + 1 ≡ length (args_of t)
-  own_of_sum (fvar x) f h e n l = cc
-  own_of_sum (fapp g joined fnone) f h e n l = absurd (omega arith)
-  own_of_sum (fapp g true (fmore t ts)) f h e n l = let b = between_is t ts in omega arith
-  own_of_sum (fapp g false (fmore t ts)) f h e n l =
+joins_if : (a : Axioms) → IsAssociative a → joins a ≡ true
+joins_if Free h = absurd h
+joins_if Comm h = absurd h
+joins_if AssocComm h = refl
+joins_if (AssocCommId i) h = refl
+
+joins_unless : (d : Declarations) (a : Axioms) (t : FlatTerm) (l : List FlatTerm) → FitsUnjoined d a (t ∷ l) → joins a ≡ false
+joins_unless d Free t l h = refl
+joins_unless d Comm t l h = refl
+joins_unless d AssocComm t l h = cc
+joins_unless d (AssocCommId i) t l h = cc
+
+module _ (d : Declarations) where
+  -- an operator has those of its place over the arguments
+  own_of_app : (g : OpId) (joined : Bool) (ts : FlatTerms) → Settled d (fapp g joined ts) → own (joins (axioms d g)) (length (funpack ts)) ≡ own_size (fapp g joined ts)
+  own_of_app g true fnone h = own_of_nothing (joins (axioms d g))
+  own_of_app g false fnone h = own_of_nothing (joins (axioms d g))
+  own_of_app g true (fmore t ts) h =
+      let b = between_is t ts in
+      ap (λ j. own j (length (t ∷ funpack ts))) (joins_if (axioms d g) h.0.associative) ∙ sym b
+  own_of_app g false (fmore t ts) h = ap (λ j. own j (length (t ∷ funpack ts))) (joins_unless d (axioms d g) t (funpack ts) h.0)
+
+  pub own_of_some : (t : FlatTerm) (f : OpId) → Settled d t → head_of t ≡ Some f → own (joins (axioms d f)) (length (args_of t)) ≡ own_size t
+  own_of_some (fvar x) f h e = cc
+  own_of_some (fapp g joined ts) f h e =
       let same : g ≡ f = cc in
-      absurd (joins_bare d (axioms d g) t (funpack ts) h.0 (subst (λ k. joins (axioms d k) ≡ true) (sym same) n))
+      ap (λ k. own (joins (axioms d k)) (length (funpack ts))) (sym same) ∙ own_of_app g joined ts h
 
 module _ (env : Var → ℕ) where
   -- the symbols of the forms of a list together
@@ -117,3 +114,7 @@ module _ (env other : Var → ℕ) where
     joined_agree (fmore t (fmore u us)) h =
         cap_sum (size_in env t) (1 + joined_in env (fmore u us)) (size_in other t) (1 + joined_in other (fmore u us)) (size_agrees t (λ z o. h z (inl o)))
         (cap_sum 1 (joined_in env (fmore u us)) 1 (joined_in other (fmore u us)) refl (joined_agree (fmore u us) (λ z o. h z (inr o))))
+
+-- a number that is no greater than the greatest
+pub capped_itself : (env : Var → ℕ) (x : Var) (t : FlatTerm) → variable_of t ≡ Some x → (n : ℕ) → n ≡ env x → n < 2 ^ 64 → n ≡ capped (size_in env t)
+capped_itself env x t is n e l = let s = size_of_variable env x t is in omega (arith, s, e, l)

@@ -1,7 +1,8 @@
 -- What is noted are the sizes of what variables unfold to.
-use Rattle.std.proofs.Common.{◌≡◌, ◌≢◌, ℕ, suc, ◌+◌, ◌<◌, ◌≤◌, Bool, true, false, List, [], ◌∷◌, ◌++◌, length, get_or, take, drop, Option, Some, None, refl, sym, ap, ◌∙◌, subst, inl, inr, arith, All}
-use Rattle.std.specs.Prelude.{◌↔◌, if◌then◌else◌, AllPairs, Contains}
-use Rattle.std.proofs.lemmas.List.{append-nil}
+use Rattle.std.proofs.Common.{◌≡◌, ◌≢◌, ℕ, suc, ◌+◌, ◌-◌, ◌^◌, ◌<◌, ◌≤◌, Bool, true, false, List, [], ◌∷◌, ◌++◌, length, get_or, take, drop, Option, Some, None, refl, sym, ap, ◌∙◌, subst, inl, inr, arith, All}
+use Rattle.std.specs.Prelude.{◌↔◌, if◌then◌else◌, AllPairs, Any, Contains}
+use Rattle.std.proofs.Math.Seq.{drop-cons}
+use Rattle.std.proofs.lemmas.List.{append-nil, drop_all}
 use Rattle.std.proofs.lemmas.List.Elements.{All-head, All-tail, All-contains}
 use Rattle.fvn_terms.specs.declared.plain.Var.{Var}
 use Rattle.fvn_terms.specs.declared.declarations.Declarations.{Declarations}
@@ -122,3 +123,35 @@ module _ (d : Declarations) (bindings : Bindings) where
           let n = nothing_noted unfolded_size bindings x e in
           let s = size_of_free x e in
           omega arith
+
+-- the notes of one more binding, from the last one on
+pub noted_more : (bindings : Bindings) (i : ℕ) (p : Var × FlatTerm) (old now : List (Var × ℕ)) (size : ℕ) → i < length bindings → p ≡ get_or bindings i p → old ≡ noted_sizes (drop (i + 1) bindings) → size ≡ capped (size_in (noted_size old) p.1) → now ≡ old ++ (p.0, size) ∷ [] → now ≡ noted_sizes (drop i bindings)
+noted_more bindings i p old now size l is before e pushed =
+    let rest = drop (i + 1) bindings in
+    let first : drop i bindings ≡ p ∷ rest = drop-cons bindings i p l ∙ ap (λ (q : Var × FlatTerm). q ∷ rest) (sym is) in
+    pushed
+    ∙ ap (λ (n : ℕ). old ++ (p.0, n) ∷ []) e
+    ∙ ap (λ (o : List (Var × ℕ)). o ++ (p.0, capped (size_in (noted_size o) p.1)) ∷ []) before
+    ∙ ap noted_sizes (sym first)
+
+pub noted_none : (bindings : Bindings) (i : ℕ) → length bindings ≤ i → [] ≡ noted_sizes (drop i bindings)
+noted_none bindings i l = ap noted_sizes (sym (drop_all i bindings l))
+
+-- a capped number is above a limit exactly where the number is
+pub over_limit : (n limit : ℕ) → limit < capped n → limit < n
+over_limit n limit h = omega arith
+
+pub within_limit : (n limit : ℕ) → capped n ≤ limit → limit < 2 ^ 64 - 1 → limit < n → ⊥
+within_limit n limit h l m = omega arith
+
+module _ (d : Declarations) (bindings : Bindings) (triangular : IsTriangular bindings) (add_up : AddUp d bindings) (sizes : List (Var × ℕ)) (noted : sizes ≡ noted_sizes bindings) (limit : ℕ) (small : limit < 2 ^ 64 - 1) where
+  note_is : (x : Var) → noted_size sizes x ≡ capped (unfolded_size d bindings x)
+  note_is x = ap (λ l. noted_size l x) noted ∙ noted_unfolded d bindings triangular add_up x
+
+  pub too_large_at : (vars : List Var) (i : ℕ) (x : Var) → i < length vars → get_or vars i x ≡ x → limit < noted_size sizes x → Any (λ x. limit < unfolded_size d bindings x) vars
+  too_large_at vars i x l is h = (i, x, l, is, over_limit (unfolded_size d bindings x) limit (let e = note_is x in omega (arith, e, h)))
+
+  pub none_too_large : (vars : List Var) → All (λ x. noted_size sizes x ≤ limit) vars → Any (λ x. limit < unfolded_size d bindings x) vars → ⊥
+  none_too_large vars h (i, x, l, is, m) =
+      let here = subst (λ y. noted_size sizes y ≤ limit) is (h i x l) in
+      within_limit (unfolded_size d bindings x) limit (let e = note_is x in omega (arith, e, here)) small m

@@ -1,11 +1,13 @@
 -- Bindings that are replaced one after another give what their variables unfold to.
-use Rattle.std.proofs.Common.{◌≡◌, Bool, true, false, List, [], ◌∷◌, ◌++◌, Option, Some, None, refl, sym, ap, ◌∙◌, subst, All}
+use Rattle.std.proofs.Common.{◌≡◌, ℕ, ◌+◌, ◌<◌, ◌≤◌, Bool, true, false, List, [], ◌∷◌, ◌++◌, length, get_or, drop, Option, Some, None, refl, sym, ap, ◌∙◌, subst, arith, All}
 use Rattle.std.specs.Prelude.{if◌then◌else◌}
+use Rattle.std.proofs.Math.Seq.{drop-cons}
+use Rattle.std.proofs.lemmas.List.{drop_all}
 use Rattle.std.proofs.lemmas.List.Elements.{All-head, All-tail}
 use Rattle.fvn_terms.specs.declared.plain.Var.{Var}
 use Rattle.fvn_terms.specs.declared.declarations.Declarations.{Declarations}
 use Rattle.fvn_terms.specs.Term.{Term, var}
-use Rattle.fvn_terms.specs.Substitution.{Substitution, apply, followed_by, same_var}
+use Rattle.fvn_terms.specs.Substitution.{Substitution, apply, followed_by, Occurs, same_var}
 use Rattle.fvn_terms.specs.Signature.{kind, IsSort, HasKind}
 use Rattle.fvn_terms.proofs.Substitutions.{apply-apply, apply-var, apply-agree}
 use Rattle.fvn_forms.specs.Flat.{FlatTerm, fvar, plain}
@@ -17,6 +19,7 @@ use Rattle.fvn_forms.proofs.Instances.{inst_settled, inst_eval}
 use Rattle.fvn_forms.proofs.LeastSort.{inst_of_kind}
 use Rattle.fvn_flat.specs.Bindings.{Bindings, form_or, value, BindingsFit}
 use Rattle.fvn_flat.specs.SolvedLists.{only, unfolded}
+use Rattle.fvn_flat.proofs.Binding.{same_var_is}
 use Rattle.fvn_flat.proofs.Composing.{empty_fits, bind_fits}
 use Rattle.fvn_plans.specs.Plans.{unfolds_to}
 use Rattle.fvn_unfolding.specs.Sizes.{IsFitting}
@@ -50,6 +53,19 @@ module _ (d : Declarations) where
   step_settled : (b : Var × FlatTerm) → IsFitting d b → (t : FlatTerm) → Settled d (step d b t)
   step_settled b h t = inst_settled d (value (b ∷ [])) (one_fits b h).settled t
 
+  -- a variable that does not occur
+  stays : (b : Var × FlatTerm) (t : FlatTerm) → (Occurs b.0 (plain t) → ⊥) → (x : Var) → Occurs x (plain t) → (c : Bool) → same_var b.0 x ≡ c → plain (form_or x (if c then Some b.1 else None)) ≡ var x
+  stays b t free x occurs true e = absurd (free (subst (λ y. Occurs y (plain t)) (sym (same_var_is b.0 x e)) occurs))
+  stays b t free x occurs false e = refl
+
+  pub step_free : (b : Var × FlatTerm) → IsFitting d b → (t : FlatTerm) → Settled d t → (Occurs b.0 (plain t) → ⊥) → t ≡ step d b t
+  step_free b h t flat free =
+      let s = value (b ∷ []) in
+      sym (canon_plain d t flat)
+      ∙ ap (canon d) (sym (apply-agree (λ x. plain (s x)) var (plain t) (λ x o. stays b t free x o (same_var b.0 x) refl) ∙ apply-var (plain t)))
+      ∙ eval_apply d fvar (λ x. plain (s x)) (plain t)
+      ∙ (λ i. eval d (λ x. canon_plain d (s x) ((one_fits b h).settled x) i) (plain t))
+
   -- all bindings, one after another
   pub replaced_is : (bindings : Bindings) → All (IsFitting d) bindings → (t : FlatTerm) → Settled d t → replaced d bindings t ≡ canon d (apply (unfolded bindings) (plain t))
   replaced_is [] h t flat = sym (ap (canon d) (apply-var (plain t)) ∙ canon_plain d t flat)
@@ -61,6 +77,15 @@ module _ (d : Declarations) where
   -- what a variable unfolds to
   pub unfolding_is : (bindings : Bindings) → All (IsFitting d) bindings → (x : Var) → replaced d bindings (fvar x) ≡ unfolds_to d bindings x
   unfolding_is bindings h x = replaced_is bindings h (fvar x) tt
+
+  -- one more binding, and all
+  pub replaced_more : (bindings : Bindings) (i : ℕ) (p : Var × FlatTerm) (t now : FlatTerm) → i < length bindings → p ≡ get_or bindings i p → now ≡ step d p t → replaced d (drop (i + 1) bindings) now ≡ replaced d (drop i bindings) t
+  replaced_more bindings i p t now l is e =
+      ap (replaced d (drop (i + 1) bindings)) e
+      ∙ ap (λ (bs : Bindings). replaced d bs t) (sym (drop-cons bindings i p l ∙ ap (λ (q : Var × FlatTerm). q ∷ drop (i + 1) bindings) (sym is)))
+
+  pub replaced_all : (bindings : Bindings) (i : ℕ) (x : Var) (t : FlatTerm) → All (IsFitting d) bindings → length bindings ≤ i → replaced d (drop i bindings) t ≡ replaced d bindings (fvar x) → t ≡ unfolds_to d bindings x
+  replaced_all bindings i x t h l e = ap (λ (bs : Bindings). replaced d bs t) (sym (drop_all i bindings l)) ∙ e ∙ unfolding_is bindings h x
 
   module _ (good : IsGood d) where
     -- a step keeps forms flat, and their kinds

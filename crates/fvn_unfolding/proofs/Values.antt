@@ -1,6 +1,6 @@
 -- Substitutions that give variables what they unfold to.
 use Rattle.std.proofs.Common.{◌≡◌, Bool, true, false, List, [], ◌∷◌, ◌++◌, Option, Some, None, refl, sym, ap, ◌∙◌, subst, inl, inr, arith, All}
-use Rattle.std.specs.Prelude.{◌↔◌, ◌⊎◌, if◌then◌else◌, Contains}
+use Rattle.std.specs.Prelude.{◌↔◌, ◌⊎◌, if◌then◌else◌, is_some, Contains}
 use Rattle.std.proofs.lemmas.List.Elements.{Contains-append_left, Contains-push, Contains-push_cases}
 use Rattle.fvn_terms.specs.declared.plain.Var.{Var}
 use Rattle.fvn_terms.specs.declared.declarations.Declarations.{Declarations}
@@ -69,3 +69,16 @@ module _ (d : Declarations) (bindings : Bindings) where
 
   pub binds_these : (vars : List Var) (s : Bindings) → IsUnfoldedFor d bindings vars s → (x : Var) → Contains vars x ↔ ((t : FlatTerm) × (bound s x ≡ Some t))
   binds_these vars s h x = (λ m. (unfolds_to d bindings x, h.values x m), λ k. h.alone x k.0 k.1)
+
+-- an option that is some, and one that is none
+pub some_of : (o : Option FlatTerm) → is_some o ≡ true → (t : FlatTerm) × (o ≡ Some t)
+some_of None e = cc
+some_of (Some t) e = (t, refl)
+
+pub none_of : (o : Option FlatTerm) → is_some o ≡ false → o ≡ None
+none_of None e = refl
+none_of (Some t) e = cc
+
+-- what stands for a variable past the end
+abbrev pub any_variable : Var
+any_variable = record { name = 0; sort = record { 0 = 0 }; fresh = false }

@@ -1,5 +1,5 @@
 //! The substitution that bindings unfold to.
-ghost use Rattle.std.specs.Prelude.{◌≡◌, ◌↔◌, Some, All, Contains, IfOk};
+ghost use Rattle.std.specs.Prelude.{◌≡◌, ◌↔◌, Some, is_some, All, Contains, IfOk};
 ghost use Rattle.fvn_terms.specs.declared.plain.Var.{Var as Variable};
 ghost use Rattle.fvn_terms.specs.Signature.{IsSort};
 ghost use Rattle.fvn_forms.specs.Flat.{FlatTerm, plain};
@@ -27,6 +27,7 @@ fn replaced_one(
     ensures exact { IfOk result (λ r. r ≡ step sig.now (x, u.now) t) }
     ensures fits { IfOk result (Fits sig.now) }
 {
+    sig.recall_good();
     if !t.has_var(x) {
         return Ok(t);
     }
@@ -47,11 +48,19 @@ fn unfolded(
     ensures exact { IfOk result (λ t. t ≡ unfolds_to sig.now bindings.now x) }
     ensures fits { IfOk result (λ t. IsFitting sig.now (x, t)) }
 {
+    sig.recall_good();
     let mut t = Flat::var(x);
     for (y, u) in bindings {
         t = replaced_one(alloc, sig, *y, u, t)?;
     }
     Ok(t)
+}
+
+// Whether the variable is bound.
+fn is_bound(s: &Subst, x: Var) -> bool
+    ensures { result ≡ is_some (bound s.now x) }
+{
+    s.get(x).is_some()
 }
 
 // A substitution with one more variable bound to what it unfolds to, where it is not bound yet.
@@ -66,7 +75,7 @@ fn with_value(
     requires sort { IsSort sig.now x.sort }
     ensures { IfOk result (IsWithValue sig.now bindings.now s x) }
 {
-    if s.get(x).is_some() {
+    if is_bound(&s, x) {
         return Ok(s);
     }
     let t = unfolded(alloc, sig, bindings, x)?;
@@ -90,11 +99,11 @@ pub fn unfold(
         ↔ ((t : FlatTerm) × (bound g x ≡ Some t))) }
     ensures fits { IfOk result (BindingsFit sig.now) }
 {
+    sig.recall_good();
     let bindings = list.bindings.as_slice();
     let mut s = Subst::empty(alloc);
     for x in vars {
         s = with_value(alloc, sig, bindings, s, *x)?;
     }
-    s.recall_bindings();
     Ok(s)
 }

@@ -4,6 +4,7 @@ ghost use Rattle.fvn_forms.specs.Flat.{symbols};
 ghost use Rattle.fvn_forms.specs.Settled.{Settled};
 ghost use Rattle.fvn_terms.specs.Signature.{axioms};
 ghost use Rattle.fvn_flat.specs.SolvedLists.{IsTriangular};
+ghost use Rattle.fvn_flat.specs.inner.Own.{own};
 ghost use Rattle.fvn_plans.specs.Plans.{unfolds_to, size_in};
 ghost use Rattle.fvn_unfolding.specs.Sizes.{AddUp};
 ghost use Rattle.fvn_unfolding.specs.inner.Noted.{noted_size, noted_sizes, capped, own_size, joins};
@@ -25,18 +26,26 @@ fn joins(sig: &Signature, f: OpId) -> bool
     }
 }
 
+// The symbols of an operator over so many arguments, besides those of the arguments.
+fn own_symbols(joined: bool, count: usize) -> u64
+    ensures { result ≡ own joined count }
+{
+    if joined && count != 0 {
+        count as u64 - 1
+    } else {
+        1
+    }
+}
+
 // The symbols of a term besides those of its arguments.
 fn own_size(sig: &Signature, t: &Flat) -> u64
     requires { Settled sig.now t.now }
     ensures { result ≡ own_size t.now }
 {
-    let count = t.args().len();
-    if count == 0 {
-        return 1;
-    }
+    let us = t.args();
     match t.head() {
         None => 1,
-        Some(f) => { if joins(sig, f) { count as u64 - 1 } else { 1 } }
+        Some(f) => own_symbols(joins(sig, f), us.len()),
     }
 }
 
@@ -108,7 +117,8 @@ pub fn is_too_large(
 {
     let sizes = sizes_of(alloc, sig, list.bindings.as_slice())?;
     for x in vars {
-        if noted_size(sizes.as_slice(), *x) > limit {
+        let size = noted_size(sizes.as_slice(), *x);
+        if size > limit {
             return Ok(true);
         }
     }

@@ -4,5 +4,5 @@ use Rattle.fvn_terms.specs.Substitution.{Occurs}
 use Rattle.fvn_forms.specs.Flat.{plain}
 use Rattle.fvn_binding.proofs.order.occurs_nowhere.Given as goal
 
-abbrev pub invariant-loop : goal.invariant-loop
-invariant-loop l = All (λ b. Occurs l.x (plain b.1) → ⊥) (take l.t-index l.bindings)
+abbrev pub invariant-loop-t : goal.invariant-loop-t
+invariant-loop-t l = All (λ b. Occurs l.x (plain b.1) → ⊥) (take l.t-index l.bindings)
