@@ -2,7 +2,7 @@
 mod Using
 mod Reading
 mod Binding
-mod Asking
-mod Taking
-mod Aliases
+mod Demands
+mod Chosen
+mod Alone
 pub mod Listing

@@ -1,7 +1,7 @@
 -- None of the solutions so far.
 use Rattle.std.proofs.Common.{All, take}
 use Rattle.fvn_lindio.specs.Systems.{vectors_of}
-use Rattle.fvn_asking.proofs.Aliases.{HasBoth}
+use Rattle.fvn_asking.proofs.Alone.{HasBoth}
 use Rattle.fvn_asking.proofs.aliases.has_both.Given as goal
 
 abbrev pub invariant-loop-solution : goal.invariant-loop-solution

@@ -125,3 +125,8 @@ module _ (d : Declarations) (r : Reading) (tags : List (Option OpId)) (e : Sums)
 
   pub all_marks : (i : ℕ) (marks : List Bool) → length e.columns ≤ i → i ≤ length e.columns → AreMarksBelow d r tags e i marks → AreMarksOf d r tags e marks
   all_marks i marks l m h = let same : i ≡ length e.columns = omega arith in subst (λ n. AreMarksBelow d r tags e n marks) same h
+
+-- a mark turned round
+pub not_false : (b : Bool) → (not b ≡ false) ↔ (b ≡ true)
+not_false true = (λ e. refl, λ e. refl)
+not_false false = (λ e. cc, λ e. cc)

@@ -21,7 +21,7 @@ use Rattle.fvn_plans.specs.Binding.{IsConstant}
 use Rattle.fvn_asking.specs.inner.Reads.{IsBoundIn, AreConstantsOf, HasOneOf, IsAloneAt, MayBeAliasIn}
 use Rattle.fvn_asking.proofs.Reading.{are_sums, sums_whole, shared_in, shared_from}
 use Rattle.fvn_asking.proofs.Binding.{bound_iff}
-use Rattle.fvn_asking.proofs.Asking.{constant_at}
+use Rattle.fvn_asking.proofs.Demands.{constant_at}
 
 -- the vector is other than zero in column j and in one of the constant columns
 abbrev pub HasBoth : List ℕ → ℕ → List ℕ → Type 0
