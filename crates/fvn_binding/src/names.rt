@@ -63,6 +63,7 @@ pub(crate) fn names_of(
     requires { first + length table.now.nodes < 2 ^ 32 }
     ensures { IfOk result (λ v. AreNames sig.now table.now first v.items) }
 {
+    table.recall_well_made();
     let mut names = Vec::new(alloc);
     let mut number = first;
     for i in 0..table.nodes().len() {

@@ -36,18 +36,18 @@ fn variable_for(
     columns: &[usize],
     names: &[Var],
     parts: &[u32],
-    new: Var,
+    fresh: Var,
 ) -> Var
     requires columns { All (λ c. (c < length columns.now) × (c < length parts.now)) constants.now }
     requires names { All (λ k. k < length names.now) columns.now }
-    ensures { result ≡ variable_for constants.now columns.now names.now parts.now new }
+    ensures { result ≡ variable_for constants.now columns.now names.now parts.now fresh }
 {
     for c in constants {
         if parts[*c] > 0 {
             return names[columns[*c]];
         }
     }
-    new
+    fresh
 }
 
 // What stands for the solutions that are taken for an operator, with new variables from a number on.
@@ -78,10 +78,10 @@ fn shares_of(
     let solutions = taken(alloc, basis, number)?;
     let kind = operator_kind(sig, sums.operator);
     let mut shares = Vec::new(alloc);
-    let mut number = start;
+    let mut next = start;
     for solution in solutions {
-        let new = Var {
-            name: number,
+        let fresh = Var {
+            name: next,
             sort: kind,
             fresh: true,
         };
@@ -90,13 +90,13 @@ fn shares_of(
             sums.columns.as_slice(),
             names,
             solution.parts.as_slice(),
-            new,
+            fresh,
         );
         shares.push(Share {
             solution: solution.parts,
             variable,
         })?;
-        number += 1;
+        next += 1;
     }
     Ok(shares)
 }

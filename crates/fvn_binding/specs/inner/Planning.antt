@@ -23,14 +23,13 @@ use Rattle.fvn_nodes.specs.declared.table.Node.TheVariants.{Var, App}
 use Rattle.fvn_frames.specs.declared.reading.Sums.{Sums}
 use Rattle.fvn_frames.specs.declared.reading.Reading.{Reading}
 use Rattle.fvn_plans.specs.Binding.{IsBound, IsConstant}
-use Rattle.fvn_plans.specs.Plans.{IsNumber}
 use Rattle.fvn_asking.specs.Listed.{tag_in, at_operator}
 use Rattle.fvn_binding.specs.declared.binders.Binder.{Binder}
 use Rattle.fvn_binding.specs.declared.binders.Binder.TheVariants.{Nothing, Member, Sum}
 use Rattle.fvn_binding.specs.declared.shares.Share.{Share}
 
 -- what stands for a name past the end
-abbrev pub no_name : Variableiable
+abbrev pub no_name : Variable
 no_name = record { name = 0; sort = record { 0 = 0 }; fresh = false }
 
 -- the name of class k in a list of names
@@ -42,14 +41,15 @@ abbrev pub part_of : Share → Part
 part_of s = record { solution = s.solution; variable = s.variable }
 
 -- the name of the first of the constants that the vector has, or else the new variable
-abbrev pub variable_for : (constants columns : List ℕ) (names : List Variable) (v : List ℕ) (new : Variable) → Variable
-variable_for [] columns names v new = new
-variable_for (c ∷ constants) columns names v new = if nat_lt 0 (slice_index v c) then name_in names (slice_index columns c) else variable_for constants columns names v new
+abbrev pub variable_for : (constants columns : List ℕ) (names : List Variable) (v : List ℕ) (fresh : Variable) → Variable
+variable_for [] columns names v fresh = fresh
+variable_for (c ∷ constants) columns names v fresh = if nat_lt 0 (slice_index v c) then name_in names (slice_index columns c) else variable_for constants columns names v fresh
 
 module _ (d : Declarations) (t : NodeTable) where
   -- a new variable with this number, and of the node's kind
   pub record IsNameAt (first k : ℕ) (x : Variable) : Type 0 where
-    pub number : IsNumber d t (first + k) x
+    pub fresh : x.fresh ≡ true
+    pub number : x.name ≡ first + k
     pub sort : (q : SortId) → HasKind d (term_at t.nodes k) q → x.sort ≡ q
 
   -- one for each node
@@ -79,7 +79,8 @@ module _ (d : Declarations) (t : NodeTable) where
 
     -- a new variable with this number, of f's kind
     pub record IsNewAt (number : ℕ) (f : OpId) (x : Variable) : Type 0 where
-      pub number : IsNumber d t number x
+      pub fresh : x.fresh ≡ true
+      pub is : x.name ≡ number
       pub sort : (r : Rank) → Contains (declared d f).ranks r → x.sort ≡ kind d r.result
 
     -- the name of a constant that the solution has stands for it, or a new variable where it has none
