@@ -1,5 +1,5 @@
 -- A constant unfolds to a single summand.
-use Rattle.std.proofs.Common.{◌≡◌, ◌≢◌, ℕ, ◌<◌, ◌≤◌, List, [], ◌∷◌, length, map, zero, suc, replicate, refl, sym, ap, ◌∙◌, subst, inl, inr, arith, All, Contains, Some, slice_get}
+use Rattle.std.proofs.Common.{◌≡◌, ◌≢◌, ℕ, ◌<◌, ◌≤◌, List, [], ◌∷◌, length, map, zero, suc, replicate, refl, sym, ap, ◌∙◌, subst, inl, inr, arith, All, Contains, Some}
 use Rattle.std.specs.List.{AllByRecursion}
 use Rattle.std.proofs.lemmas.Bool.{cases_lt}
 use Rattle.std.proofs.lemmas.List.{length-map}
@@ -10,35 +10,34 @@ use Rattle.fvn_terms.specs.declared.plain.OpId.{OpId}
 use Rattle.fvn_terms.specs.declared.declarations.Declarations.{Declarations}
 use Rattle.fvn_terms.specs.Signature.{axioms}
 use Rattle.fvn_terms.specs.Equality.{IsAssociative}
-use Rattle.fvn_terms.specs.Substitution.{Occurs, OccursAmong}
+use Rattle.fvn_terms.specs.Substitution.{Occurs}
 use Rattle.fvn_forms.specs.Flat.{FlatTerm, fvar, plain}
 use Rattle.fvn_forms.specs.Canon.{identity, parts, all_parts, sum, build, inst}
 use Rattle.fvn_forms.specs.Settled.{IsPiece}
 use Rattle.fvn_forms.proofs.InOrder.{length_sort}
-use Rattle.fvn_forms.proofs.Nests.{plain_list}
+use Rattle.fvn_flat.proofs.Occurrences.{OccursIn}
 use Rattle.fvn_forms.proofs.Sums.{all_parts-pieces}
-use Rattle.fvn_forms.proofs.Instances.{inst_sum, parts_inst_sum}
+use Rattle.fvn_forms.proofs.Instances.{parts_inst_sum}
 use Rattle.fvn_flat.specs.Bindings.{Bindings}
 use Rattle.fvn_flat.specs.Problems.{variables_of}
 use Rattle.fvn_flat.specs.Solving.{problem_of}
 use Rattle.fvn_flat.specs.SolvedLists.{Form, unbound, as_member, as_sum, Part, Plan, IsClass, IsBinding, members, members_of, bound_as}
 use Rattle.fvn_flat.specs.declared.solver.Pairs.{Pairs}
-use Rattle.fvn_nodes.specs.Table.{NodeTable, IsOver, term_at}
+use Rattle.fvn_nodes.specs.Table.{NodeTable, IsOver}
 use Rattle.fvn_nodes.specs.Laws.{class_at}
 use Rattle.fvn_nodes.specs.States.{class_of}
 use Rattle.fvn_nodes.specs.declared.state.State.{State}
-use Rattle.fvn_nodes.specs.declared.table.Node.TheVariants.{App}
 use Rattle.fvn_supports.specs.Laws.{CombinationsSolve}
 use Rattle.fvn_sums.specs.Laws.{CountsSolve}
 use Rattle.fvn_frames.specs.Frames.{IsSumOperator, IsSolid, IsShared}
 use Rattle.fvn_plans.specs.Binding.{IsBound, solid, alone, tagged, IsConstant}
 use Rattle.fvn_plans.specs.Choosing.{Systems, Choice, member_count}
-use Rattle.fvn_plans.specs.Plans.{IsForSolution, IsFormBy, unfolding}
+use Rattle.fvn_plans.specs.Plans.{IsForSolution, IsFormBy, unfolds_to}
 use Rattle.fvn_plans.specs.Laws.{IsPlanned}
 use Rattle.fvn_plans.proofs.Triangular.{IsUnbound, triangular_induction, unfolding_unbound, unfolding_settled}
 use Rattle.fvn_plans.proofs.Solids.{pair_of}
-use Rattle.fvn_plans.proofs.Planned.{has_sums, class_below, class_node, column_class, name_not_given, solution_no_name, solution_not_given, bound_operator}
-use Rattle.fvn_plans.proofs.Parts.{HasConstant, HasNone, component_is, part_taken, part_stands}
+use Rattle.fvn_plans.proofs.Planned.{has_sums, class_below, column_class, name_not_given, solution_no_name, solution_not_given, bound_operator}
+use Rattle.fvn_plans.proofs.Parts.{component_is, part_taken, part_stands}
 use Rattle.fvn_plans.proofs.Members.{times_in, each_member}
 use Rattle.fvn_plans.proofs.Standing.{length_sum, names_are}
 use Rattle.fvn_plans.proofs.Values.{value, value_sum, simple_built, members_or_identity, are_values}
@@ -53,12 +52,16 @@ module _ {d : Declarations} {given : Pairs} {first : ℕ} {t : NodeTable} {s : S
     | inr r ↦ solution_not_given h f x new (subst (Contains (variables_of (problem_of given))) e r.0)
   ]
 
-  unbound_piece : (f : OpId) (x : Var) → IsUnbound bindings x → IsPiece d f (unfolding d bindings x)
+  unbound_piece : (f : OpId) (x : Var) → IsUnbound bindings x → IsPiece d f (unfolds_to d bindings x)
   unbound_piece f x u = subst (IsPiece d f) (sym (unfolding_unbound d bindings x u)) refl
+
+  -- a variable that is not bound
+  abbrev IsNewMember : FlatTerm → Type 0
+  IsNewMember u = (x : Var) × ((u ≡ fvar x) × IsUnbound bindings x)
 
   -- x is no name of a constant that is not a single summand
   abbrev IsAlone : Var → Type 0
-  IsAlone x = (f : OpId) (k : ℕ) → IsSumOperator d t f → IsConstant d t (class_of s) c.tag f k → x ≡ plan.name k → IsPiece d f (unfolding d bindings x)
+  IsAlone x = (f : OpId) (k : ℕ) → IsSumOperator d t f → IsConstant d t (class_of s) c.tag f k → x ≡ plan.name k → IsPiece d f (unfolds_to d bindings x)
 
   -- a constant over nothing is not the identity of its operator
   no_identity : (f : OpId) (k : ℕ) → IsConstant d t (class_of s) c.tag f k → (i : ℕ) (e : OpId) → class_of s i ≡ k → IsOver t.nodes i e [] → identity (axioms d f) ≡ Some e → ⊥
@@ -78,16 +81,16 @@ module _ {d : Declarations} {given : Pairs} {first : ℕ} {t : NodeTable} {s : S
 
   -- where the variables in a sum are single summands, so are its members
   module _ (g : OpId) (sum_of : IsSumOperator d t g) where
-    member_piece : (p : Part) → Contains (plan.parts g) p → IsAlone p.variable → IsPiece d g (unfolding d bindings p.variable)
+    member_piece : (p : Part) → Contains (plan.parts g) p → IsAlone p.variable → IsPiece d g (unfolds_to d bindings p.variable)
     member_piece p m single = elim (part_stands h g sum_of p m) [
       | inl r ↦ single g r.number sum_of r.constant r.named
       | inr r ↦ unbound_piece g p.variable (solution_unbound g p.variable r.new)
     ]
 
     -- a sum of two or more has two or more summands
-    long_value : (k : ℕ) → IsClass d (problem_of given) (class_at t (class_of s)) k → IsBound d t (class_of s) c.tag g k → AllByRecursion (IsPiece d g) (map (inst d (unfolding d bindings)) (members_of d (problem_of given) (class_at t (class_of s)) plan g k)) → 2 ≤ member_count y c g k → 2 ≤ length (parts d g (value h k))
+    long_value : (k : ℕ) → IsClass d (problem_of given) (class_at t (class_of s)) k → IsBound d t (class_of s) c.tag g k → AllByRecursion (IsPiece d g) (map (inst d (unfolds_to d bindings)) (members_of d (problem_of given) (class_at t (class_of s)) plan g k)) → 2 ≤ member_count y c g k → 2 ≤ length (parts d g (value h k))
     long_value k is bound pieces two =
-        let U = unfolding d bindings in
+        let U = unfolds_to d bindings in
         let l = members_of d (problem_of given) (class_at t (class_of s)) plan g k in
         let e = ap length (ap (parts d g) (value_sum h g k is bound) ∙ parts_inst_sum d U (unfolding_settled d bindings) g sum_of.associative l (members_or_identity h g k bound)) in
         let a = length_sort (all_parts d g (map (inst d U) l)) in
@@ -97,8 +100,8 @@ module _ {d : Declarations} {given : Pairs} {first : ℕ} {t : NodeTable} {s : S
         omega (arith, e, a, b, m, n, two)
 
   -- the variables of members stand in a sum
-  module _ (g : OpId) (assoc : IsAssociative (axioms d g)) (k : ℕ) where
-    in_list : (l : List FlatTerm) (x : Var) → Contains l (fvar x) → OccursAmong x (plain_list l)
+  module _ (g : OpId) (k : ℕ) where
+    in_list : (l : List FlatTerm) (x : Var) → Contains l (fvar x) → OccursIn x l
     in_list [] x m = absurd (contains_none (fvar x) m)
     in_list (u ∷ l) x m = elim (contains_cases u l (fvar x) m) [
       | inl e ↦ inl (subst (λ w. Occurs x (plain w)) (sym e) refl)
@@ -117,10 +120,10 @@ module _ {d : Declarations} {given : Pairs} {first : ℕ} {t : NodeTable} {s : S
         copied (suc n) l = contains_here (fvar p.variable) (replicate n (fvar p.variable))
 
     pub member_occurs : (p : Part) → Contains (plan.parts g) p → 0 < times_in (plan.columns g) k p → Occurs p.variable (plain (sum d g (members_of d (problem_of given) (class_at t (class_of s)) plan g k)))
-    member_occurs p m some = occurs_sum d g assoc p.variable (members_of d (problem_of given) (class_at t (class_of s)) plan g k) (in_list (members_of d (problem_of given) (class_at t (class_of s)) plan g k) p.variable (member_listed p (plan.parts g) m some))
+    member_occurs p m some = occurs_sum p.variable d g (members_of d (problem_of given) (class_at t (class_of s)) plan g k) (in_list (members_of d (problem_of given) (class_at t (class_of s)) plan g k) p.variable (member_listed p (plan.parts g) m some))
 
   -- the instances of members
-  pub each_instance : (P : FlatTerm → Type 0) (l : List FlatTerm) → AllByRecursion (λ u. P (inst d (unfolding d bindings) u)) l → AllByRecursion P (map (inst d (unfolding d bindings)) l)
+  pub each_instance : (P : FlatTerm → Type 0) (l : List FlatTerm) → AllByRecursion (λ u. P (inst d (unfolds_to d bindings) u)) l → AllByRecursion P (map (inst d (unfolds_to d bindings)) l)
   each_instance P [] all = tt
   each_instance P (u ∷ l) all = (all.0, each_instance P l all.1)
 
@@ -130,7 +133,7 @@ module _ {d : Declarations} {given : Pairs} {first : ℕ} {t : NodeTable} {s : S
       solid_piece : IsAssociative (axioms d g) → IsSolid d t (class_of s) g k → IsPiece d f (value h k)
       solid_piece assoc r =
           let two = (has_sums h).pairs r.member g r.arguments r.over assoc in
-          let p = pair_of (has_sums h) (class_of s) g k r.arguments two.0 in
+          let p = pair_of r.arguments two.0 in
           let at = ap (value h) (sym r.of) ∙ (are_values h solve combine).built r.member g r.arguments r.over ∙ ap (λ l. build d g (map (λ k. value h (class_of s k)) l)) p.are in
           long_piece d f g other (value h k)
           (subst (λ v. 2 ≤ length (parts d g v)) (sym at) (long_sum d g r.no_identity assoc (value h (class_of s p.left)) (value h (class_of s p.right)) (unfolding_settled d bindings (plan.name (class_of s p.left))) (unfolding_settled d bindings (plan.name (class_of s p.right)))))
@@ -146,7 +149,7 @@ module _ {d : Declarations} {given : Pairs} {first : ℕ} {t : NodeTable} {s : S
                 (
                 long_value g sum_of k is bound
                 (each_instance (IsPiece d g) (members_of d (problem_of given) (class_at t (class_of s)) plan g k)
-                (each_member (λ u. IsPiece d g (inst d (unfolding d bindings) u)) (plan.columns g) (plan.parts g) k (λ p m some. member_piece g sum_of p m (smaller p.variable (member_occurs g sum_of.associative k p m some)))))
+                (each_member (λ u. IsPiece d g (inst d (unfolds_to d bindings) u)) (plan.columns g) (plan.parts g) k (λ p m some. member_piece g sum_of p m (smaller p.variable (member_occurs g k p m some)))))
                 two
                 )
           ]
@@ -161,9 +164,6 @@ module _ {d : Declarations} {given : Pairs} {first : ℕ} {t : NodeTable} {s : S
             | inr r ↦ solution_unbound g p.variable r.new
           ]
 
-          abbrev IsNewMember : FlatTerm → Type 0
-          IsNewMember u = (x : Var) × ((u ≡ fvar x) × IsUnbound bindings x)
-
           single : IsSumOperator d t g → member_count y c g k < 2 → IsPiece d f (value h k)
           single sum_of few = go (members_of d (problem_of given) (class_at t (class_of s)) plan g k) refl (each_member IsNewMember (plan.columns g) (plan.parts g) k (λ p m some. (p.variable, (refl, new_member sum_of few p m some))))
             where
@@ -174,7 +174,7 @@ module _ {d : Declarations} {given : Pairs} {first : ℕ} {t : NodeTable} {s : S
               go [] e all = absurd (let n = length_sum h g sum_of k in let z : length (members_of d (problem_of given) (class_at t (class_of s)) plan g k) ≡ 0 = ap length e in omega (arith, n, z, required))
               go (u ∷ []) e all =
                   let x = all.0.0 in
-                  let at = value_sum h g k is bound ∙ ap (λ l. inst d (unfolding d bindings) (sum d g l)) e ∙ ap (inst d (unfolding d bindings)) all.0.1.0 in
+                  let at = value_sum h g k is bound ∙ ap (λ l. inst d (unfolds_to d bindings) (sum d g l)) e ∙ ap (inst d (unfolds_to d bindings)) all.0.1.0 in
                   subst (IsPiece d f) (sym at) (unbound_piece f x all.0.1.1)
               go (u ∷ w ∷ l) e all = absurd (let n = length_sum h g sum_of k in let z : length (members_of d (problem_of given) (class_at t (class_of s)) plan g k) ≡ length (u ∷ w ∷ l) = ap length e in omega (arith, n, z, few))
 
@@ -189,7 +189,7 @@ module _ {d : Declarations} {given : Pairs} {first : ℕ} {t : NodeTable} {s : S
         elim (All-contains (IsBinding d (problem_of given) (class_at t (class_of s)) plan) bindings b h.bindings_by.no_other m) [
           | inl r ↦
               let same = names_are h r.0 k r.1 is (sym r.2 ∙ named) in
-              subst (λ x. IsPiece d f (unfolding d bindings x)) (sym named)
+              subst (λ x. IsPiece d f (unfolds_to d bindings x)) (sym named)
               (at (plan.form k) (h.plan_by.forms k (class_below h k is)) (subst (λ j. bound_as d (problem_of given) (class_at t (class_of s)) plan (plan.form j) j ≡ Some b.1) same r.3))
           | inr r ↦ absurd (name_not_given h k (class_below h k is) (subst (Contains (variables_of (problem_of given))) named r.0))
         ]
@@ -214,7 +214,7 @@ module _ {d : Declarations} {given : Pairs} {first : ℕ} {t : NodeTable} {s : S
     all_alone = triangular_induction bindings h.bindings_by.triangular IsAlone (λ x u f k sum_of constant named. unbound_piece f x u) bound_alone
 
     -- what stands for a solution is a single summand
-    pub part_piece : (f : OpId) → IsSumOperator d t f → (p : Part) → Contains (plan.parts f) p → IsPiece d f (unfolding d bindings p.variable)
+    pub part_piece : (f : OpId) → IsSumOperator d t f → (p : Part) → Contains (plan.parts f) p → IsPiece d f (unfolds_to d bindings p.variable)
     part_piece f sum_of p m = member_piece f sum_of p m (all_alone p.variable)
 
     -- a constant is a single summand

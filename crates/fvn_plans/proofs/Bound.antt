@@ -1,6 +1,5 @@
 -- A class is bound to a sum of one operator at most, and then no free or commutative operator heads a member.
-use Rattle.std.proofs.Common.{◌≡◌, ◌≢◌, ℕ, ◌<◌, true, List, length, refl, sym, ap, ◌∙◌, subst, inl, inr, Option, Some, slice_get}
-use Rattle.std.proofs.lemmas.Bool.{cases_Bool, true≢false}
+use Rattle.std.proofs.Common.{◌≡◌, ℕ, true, List, refl, sym, ap, ◌∙◌, subst, inl, inr, Option, Some}
 use Rattle.fvn_base.specs.Decided.{Decided}
 use Rattle.fvn_base.proofs.Decided.{decided_by}
 use Rattle.fvn_terms.specs.declared.plain.OpId.{OpId}
@@ -69,7 +68,7 @@ module _ {d : Declarations} {t : NodeTable} {class : ℕ → ℕ} (partition : I
     simple_unbound f k i h (alone u soft only) = soft h.operator (simple_solid k i h)
     simple_unbound f k i h (tagged u shared e) = shared.soft h.operator (simple_solid k i h)
 
-  module _ {y : Systems} {c : Choice} (k : ℕ) (form : Form) (by : IsFormBy d t class y c k form) where
+  module _ (y : Systems) (c : Choice) (k : ℕ) (form : Form) (by : IsFormBy d t class y c k form) where
     -- a class that is bound to a sum has its form
     pub form_of_sum : (f : OpId) → IsBound d t class c.tag f k → form ≡ as_sum f
     form_of_sum f h = go form by

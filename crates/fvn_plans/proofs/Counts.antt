@@ -1,5 +1,5 @@
 -- How often a flat form is a summand of what the sum to which a class is bound unfolds to.
-use Rattle.std.proofs.Common.{◌≡◌, ◌≢◌, ℕ, zero, suc, ◌+◌, ◌*◌, ◌<◌, List, [], ◌∷◌, ◌++◌, length, replicate, map, get_or, sum_by, refl, sym, ap, ◌∙◌, subst, inl, inr, arith, Contains}
+use Rattle.std.proofs.Common.{◌≡◌, ℕ, zero, suc, ◌+◌, ◌*◌, ◌<◌, List, [], ◌∷◌, replicate, map, get_or, sum_by, refl, sym, ap, ◌∙◌, inl, inr, arith, Contains}
 use Rattle.std.proofs.Math.Nat.{mul-add}
 use Rattle.std.proofs.lemmas.Bool.{cases_eq}
 use Rattle.std.proofs.lemmas.List.{map-append}
@@ -13,7 +13,7 @@ use Rattle.fvn_forms.specs.InOrder.{count}
 use Rattle.fvn_forms.specs.Canon.{parts, all_parts, inst}
 use Rattle.fvn_forms.proofs.InOrder.{count_append}
 use Rattle.fvn_forms.proofs.Sums.{all_parts-append}
-use Rattle.fvn_flat.specs.SolvedLists.{Part, component, members}
+use Rattle.fvn_flat.specs.SolvedLists.{Part, members}
 use Rattle.fvn_plans.proofs.Combined.{weight}
 use Rattle.fvn_plans.proofs.Members.{times_in}
 

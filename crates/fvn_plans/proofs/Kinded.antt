@@ -30,7 +30,7 @@ only_one : {X : Type 0} (x y : X) → Contains (y ∷ []) x → y ≡ x
 only_one x y (zero, l, e) = e
 only_one x y (suc k, l, e) = absurd (omega (arith, l))
 
-contains_once : (ts : List Term) (u : Term) → Contains (once ts) u → Contains ts u
+pub contains_once : (ts : List Term) (u : Term) → Contains (once ts) u → Contains ts u
 contains_once [] u c = c
 contains_once (t ∷ ts) u c = elim (contains_cases t (filter (λ v. not (same_term t v)) (once ts)) u c) [
   | inl e ↦ subst (Contains (t ∷ ts)) e (contains_here t ts)

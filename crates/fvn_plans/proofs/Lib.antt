@@ -12,7 +12,7 @@ mod Bound
 mod Parts
 mod Members
 mod Standing
-mod Kinds
+mod Kinding
 mod Combined
 mod Counts
 mod Values
@@ -23,3 +23,4 @@ mod Pieces
 mod Alone
 mod Measured
 mod Sizes
+mod OneKind

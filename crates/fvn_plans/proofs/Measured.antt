@@ -1,5 +1,5 @@
 -- The symbols of instances of forms over variables.
-use Rattle.std.proofs.Common.{◌≡◌, ℕ, zero, suc, ◌+◌, false, true, List, [], ◌∷◌, length, map, refl, sym, ap, ◌∙◌, subst, arith, Option, Some, None}
+use Rattle.std.proofs.Common.{◌≡◌, ℕ, ◌+◌, false, List, [], ◌∷◌, length, map, refl, sym, ap, ◌∙◌, subst, arith}
 use Rattle.std.specs.List.{AllByRecursion}
 use Rattle.std.proofs.lemmas.List.{length-map}
 use Rattle.fvn_terms.specs.declared.plain.Var.{Var}
@@ -9,14 +9,13 @@ use Rattle.fvn_terms.specs.declared.declarations.Axioms.TheVariants.{Free, Comm,
 use Rattle.fvn_terms.specs.declared.declarations.Declarations.{Declarations}
 use Rattle.fvn_terms.specs.Signature.{axioms}
 use Rattle.fvn_terms.specs.Equality.{IsAssociative}
-use Rattle.fvn_forms.specs.Flat.{FlatTerm, FlatTerms, fvar, fapp, fnone, fmore, fpack, funpack, fconstant, symbols}
+use Rattle.fvn_forms.specs.Flat.{FlatTerm, fvar, fapp, fpack, funpack, symbols}
 use Rattle.fvn_forms.specs.InOrder.{sort}
-use Rattle.fvn_forms.specs.Canon.{identity, empty_sum, joined, all_parts, sum, inst}
+use Rattle.fvn_forms.specs.Canon.{empty_sum, joined, all_parts, sum, inst}
 use Rattle.fvn_forms.specs.Settled.{SettledValues, IsPiece}
 use Rattle.fvn_forms.proofs.InOrder.{sort_same_counts, each_sort, length_sort}
 use Rattle.fvn_forms.proofs.Sums.{funpack-fpack, all_parts-pieces}
-use Rattle.fvn_forms.proofs.Build.{HasIdentity}
-use Rattle.fvn_forms.proofs.Nests.{insert_some}
+use Rattle.fvn_forms.proofs.Build.{HasIdentity, sort_is_nil}
 use Rattle.fvn_forms.proofs.Instances.{count_map_sort, inst_sum, inst_free, inst_commutative}
 use Rattle.fvn_forms.proofs.Sizes.{all_symbols, all_symbols-sort, symbols_unjoined, symbols_sum}
 use Rattle.fvn_flat.specs.SolvedLists.{IsSimple}
@@ -83,7 +82,7 @@ module _ (d : Declarations) (s : Var → FlatTerm) (settled : SettledValues d s)
       at w (z ∷ m) v = joined_are w (z ∷ m) v
 
       go : (m : List FlatTerm) → sort (u ∷ l) ≡ m → AllByRecursion IsVariable (sort (u ∷ l)) → size_in env (joined d f (sort (u ∷ l))) ≡ all_symbols (map (inst d s) (u ∷ l)) + length l
-      go [] e v = absurd (insert_some u (sort l) e)
+      go [] e v = absurd (let none = sort_is_nil (u ∷ l) e in cc)
       go (w ∷ m) e v =
           let a = ap (λ m. size_in env (joined d f m)) e ∙ at w m (subst (AllByRecursion IsVariable) e v) in
           let b = ap (λ m. all_symbols (map (inst d s) m)) (sym e) ∙ symbols_sorted (u ∷ l) in

@@ -1,22 +1,22 @@
 -- What the bindings of a plan unfold to has new variables alone.
-use Rattle.std.proofs.Common.{◌≡◌, ℕ, ◌+◌, ◌<◌, ◌≤◌, true, List, [], ◌∷◌, length, map, sym, ap, ◌∙◌, subst, inl, inr, arith, All, Contains, Some, slice_get}
+use Rattle.std.proofs.Common.{◌≡◌, ◌≢◌, ℕ, ◌<◌, ◌≤◌, true, List, [], ◌∷◌, length, map, sym, ap, ◌∙◌, subst, inl, inr, arith, All, Contains, Some}
 use Rattle.std.specs.List.{AllByRecursion}
 use Rattle.std.proofs.lemmas.List.Elements.{All-head, All-tail, All-contains}
 use Rattle.std.proofs.lemmas.Option.{slice_get_within}
 use Rattle.fvn_terms.specs.declared.plain.Var.{Var}
 use Rattle.fvn_terms.specs.declared.plain.OpId.{OpId}
 use Rattle.fvn_terms.specs.declared.declarations.Declarations.{Declarations}
-use Rattle.fvn_terms.specs.Term.{Term, Terms, var, app, none, more, pack}
+use Rattle.fvn_terms.specs.Term.{var, app, pack}
 use Rattle.fvn_terms.specs.Substitution.{Occurs, OccursAmong}
-use Rattle.fvn_terms.specs.Signature.{kind, axioms, IsSort, HasKind}
+use Rattle.fvn_terms.specs.Signature.{kind, IsSort, HasKind}
 use Rattle.fvn_forms.specs.Flat.{FlatTerm, fvar, plain}
-use Rattle.fvn_forms.proofs.Nests.{plain_list}
+use Rattle.fvn_flat.proofs.Occurrences.{OccursIn}
 use Rattle.fvn_flat.specs.Bindings.{Bindings}
 use Rattle.fvn_flat.specs.Problems.{variables_of}
 use Rattle.fvn_flat.specs.Solving.{problem_of}
 use Rattle.fvn_flat.specs.SolvedLists.{Form, unbound, as_member, as_sum, Part, Plan, IsClass, IsBinding, names_of, over_classes, members_of, bound_as, unfolded}
 use Rattle.fvn_flat.specs.declared.solver.Pairs.{Pairs}
-use Rattle.fvn_nodes.specs.Table.{NodeTable, IsOver, term_at}
+use Rattle.fvn_nodes.specs.Table.{NodeTable, term_at}
 use Rattle.fvn_nodes.specs.Laws.{class_at}
 use Rattle.fvn_nodes.specs.States.{class_of}
 use Rattle.fvn_nodes.specs.declared.state.State.{State}
@@ -24,14 +24,14 @@ use Rattle.fvn_nodes.specs.declared.table.Node.TheVariants.{App}
 use Rattle.fvn_nodes.proofs.Nodes.{arguments_within}
 use Rattle.fvn_frames.specs.Frames.{IsSumOperator}
 use Rattle.fvn_plans.specs.Choosing.{Systems, Choice}
-use Rattle.fvn_plans.specs.Plans.{IsForSolution, IsFormBy, unfolding}
+use Rattle.fvn_plans.specs.Plans.{IsForSolution, IsFormBy, unfolds_to}
 use Rattle.fvn_plans.specs.Laws.{IsPlanned, PlannedBindingsUnfoldToNew}
 use Rattle.fvn_plans.proofs.Triangular.{unfolded_bound, unfolded_occurs}
 use Rattle.fvn_plans.proofs.Places.{own_class, variable_node}
 use Rattle.fvn_plans.proofs.Planned.{class_within, class_below, column_class, name_not_given, bound_operator}
-use Rattle.fvn_plans.proofs.Parts.{HasConstant, HasNone, part_stands}
+use Rattle.fvn_plans.proofs.Parts.{part_stands}
 use Rattle.fvn_plans.proofs.Members.{each_member}
-use Rattle.fvn_plans.proofs.Kinds.{kind_itself, term_kinded, over_names_kind, over_classes_is, bindings_keep}
+use Rattle.fvn_plans.proofs.Kinding.{kind_itself, term_kinded, over_names_kind, over_classes_is, bindings_keep}
 use Rattle.fvn_plans.proofs.Occurring.{canon_occurs, sum_occurs}
 
 module _ {d : Declarations} {given : Pairs} {first : ℕ} {t : NodeTable} {s : State} {y : Systems} {c : Choice} {next : ℕ} {plan : Plan} {bindings : Bindings} (h : IsPlanned d given first t s y c next plan bindings) where
@@ -77,7 +77,7 @@ module _ {d : Declarations} {given : Pairs} {first : ℕ} {t : NodeTable} {s : S
       subst IsNewOne (sym (e ∙ ap plan.name (own_class h.well_made h.table (class_of s) k within))) (name_new (class_of s k) (class_within h k within))
   names_new z (k ∷ ks) l (inr o) = names_new z ks (All-tail (λ k. k < length t.nodes) k ks l) o
 
-  among_new : (z : Var) (l : List FlatTerm) → AllByRecursion (λ u. Occurs z (plain u) → IsNewOne z) l → OccursAmong z (plain_list l) → IsNewOne z
+  among_new : (z : Var) (l : List FlatTerm) → AllByRecursion (λ u. Occurs z (plain u) → IsNewOne z) l → OccursIn z l → IsNewOne z
   among_new z [] all o = absurd o
   among_new z (u ∷ l) all (inl o) = all.0 o
   among_new z (u ∷ l) all (inr o) = among_new z l all.1 o
@@ -96,13 +96,13 @@ module _ {d : Declarations} {given : Pairs} {first : ℕ} {t : NodeTable} {s : S
           let within = slice_get_within t.nodes by.0 (App m.operator m.arguments) m.over in
           let r = term_kinded h by.0 within in
           let same = sym (some_same _ u e) ∙ ap (over_classes d (problem_of given) (class_at t (class_of s)) plan) (sym by.2) ∙ over_classes_is h by.0 m.operator m.arguments m.over in
-          let there = canon_occurs d h.good.fits z _ r.0 (over_names_kind h by.0 m.operator m.arguments m.over r.0 r.1) (subst (λ w. Occurs z (plain w)) same o) in
+          let there = canon_occurs d h.good.fits z (app m.operator (names_of d (problem_of given) (class_at t (class_of s)) plan (pack (map (term_at t.nodes) m.arguments)))) r.0 (over_names_kind h by.0 m.operator m.arguments m.over r.0 r.1) (subst (λ w. Occurs z (plain w)) same o) in
           names_new z m.arguments (arguments_within t.nodes h.well_made.ordered by.0 m.operator m.arguments m.over) there
       go (as_sum f) by e =
           let sum = bound_operator h f k by in
           let l = members_of d (problem_of given) (class_at t (class_of s)) plan f k in
           let all = each_member (λ u. Occurs z (plain u) → IsNewOne z) (plan.columns f) (plan.parts f) k (λ p m some o. subst IsNewOne (sym o) (part_new f sum p m)) in
-          among_new z l all (sum_occurs d f sum.associative z l (subst (λ w. Occurs z (plain w)) (sym (some_same _ u e)) o))
+          among_new z l all (sum_occurs z d f l (subst (λ w. Occurs z (plain w)) (sym (some_same _ u e)) o))
 
   binding_new : (b : Var × FlatTerm) → IsBinding d (problem_of given) (class_at t (class_of s)) plan b → (z : Var) → Occurs z (plain b.1) → IsNewOne z
   binding_new b (inl r) z o = class_new r.0 r.1 b.1 r.3 z o
@@ -112,7 +112,7 @@ module _ {d : Declarations} {given : Pairs} {first : ℕ} {t : NodeTable} {s : S
       let e : z ≡ plan.name (class_of s n.0) = subst (λ u. Occurs z (plain u)) (r.2 ∙ ap (λ m. fvar (plan.name m)) own) o in
       subst IsNewOne (sym e) (name_new (class_of s n.0) (class_within h n.0 n.1))
 
-  pub unfolding_new : (x : Var) → Contains (variables_of (problem_of given)) x → (z : Var) → Occurs z (plain (unfolding d bindings x)) → IsNewOne z
+  pub unfolding_new : (x : Var) → Contains (variables_of (problem_of given)) x → (z : Var) → Occurs z (plain (unfolds_to d bindings x)) → IsNewOne z
   unfolding_new x m z o =
       let n = variable_node h.well_made h.table x m in
       let own = ap (class_at t (class_of s)) (sym n.2) ∙ own_class h.well_made h.table (class_of s) n.0 n.1 in
@@ -121,7 +121,7 @@ module _ {d : Declarations} {given : Pairs} {first : ℕ} {t : NodeTable} {s : S
       let inside = canon_occurs d h.good.fits z (unfolded bindings x) (kind d x.sort) (bindings_keep h x there.0) o in
       let within = class_within h n.0 n.1 in
       let named = plan.name (class_at t (class_of s) (var x)) in
-      let other = λ same. name_not_given h (class_of s n.0) within (subst (Contains (variables_of (problem_of given))) (sym same ∙ ap plan.name own) m) in
+      let other : named ≢ x = λ same. name_not_given h (class_of s n.0) within (subst (Contains (variables_of (problem_of given))) (sym same ∙ ap plan.name own) m) in
       let at = unfolded_bound bindings h.bindings_by.triangular (x, fvar named) (h.bindings_by.variables x m other) in
       elim (unfolded_occurs bindings named z (subst (Occurs z) at inside)) [
         | inl e ↦ subst IsNewOne (sym (ap plan.name own) ∙ e) (name_new (class_of s n.0) within)
@@ -129,4 +129,4 @@ module _ {d : Declarations} {given : Pairs} {first : ℕ} {t : NodeTable} {s : S
       ]
 
 pub unfold_to_new : PlannedBindingsUnfoldToNew
-unfold_to_new d given first t s y c next plan bindings h x z m o = let n = unfolding_new h x m z o in (n.fresh, n.above, n.below, n.sort, n.kind_is)
+unfold_to_new = λ d given first t s y c next plan bindings h x z m o. let n = unfolding_new h x m z o in (n.fresh, n.above, n.below, n.sort, n.kind_is)

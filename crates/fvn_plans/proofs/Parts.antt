@@ -1,12 +1,10 @@
 -- The parts of a plan: each stands for the one constant that its solution has, or for a new variable.
-use Rattle.std.proofs.Common.{◌≡◌, ◌≢◌, ℕ, ◌+◌, ◌<◌, ◌≤◌, List, [], ◌∷◌, length, map, get_or, sum_by, refl, sym, ap, ◌∙◌, subst, ◌⊎◌, inl, inr, arith, All, AllPairs, Any, Contains}
-use Rattle.std.specs.Prelude.{◌↔◌}
-use Rattle.std.proofs.lemmas.Bool.{cases_eq, cases_lt}
+use Rattle.std.proofs.Common.{◌≡◌, ℕ, ◌<◌, List, sym, ap, subst, ◌⊎◌, inl, inr, arith, All, Contains}
+use Rattle.std.proofs.lemmas.Bool.{cases_eq}
 use Rattle.std.proofs.lemmas.List.Elements.{All-contains}
 use Rattle.fvn_base.specs.Decided.{Decided}
-use Rattle.fvn_base.proofs.Decided.{some_or_none, both_or}
+use Rattle.fvn_base.proofs.Decided.{some_or_none}
 use Rattle.fvn_base.proofs.Membership.{contains_map, map_contains}
-use Rattle.fvn_terms.specs.declared.plain.Var.{Var}
 use Rattle.fvn_terms.specs.declared.plain.OpId.{OpId}
 use Rattle.fvn_terms.specs.declared.declarations.Declarations.{Declarations}
 use Rattle.fvn_lindio.specs.Systems.{IsMinimal, rows_of}
@@ -18,13 +16,13 @@ use Rattle.fvn_nodes.specs.States.{class_of}
 use Rattle.fvn_nodes.specs.declared.state.State.{State}
 use Rattle.fvn_sums.specs.NodeSystems.{IsNodeSystem}
 use Rattle.fvn_frames.specs.Frames.{IsSumOperator, Uses}
-use Rattle.fvn_plans.specs.Binding.{IsBound, IsConstant}
-use Rattle.fvn_plans.specs.Choosing.{Systems, Choice, taken, AreSystems, IsAcceptable, member_count}
-use Rattle.fvn_plans.specs.Plans.{StandsFor, IsPlanBy, IsForSolution}
+use Rattle.fvn_plans.specs.Binding.{IsConstant}
+use Rattle.fvn_plans.specs.Choosing.{Systems, Choice, taken, IsAcceptable}
+use Rattle.fvn_plans.specs.Plans.{StandsFor, IsForSolution}
 use Rattle.fvn_plans.specs.Laws.{IsPlanned}
 use Rattle.fvn_plans.proofs.Planned.{column_below}
-use Rattle.fvn_plans.proofs.Columns.{column_listed, column_is, component_at, chosen_listed, some_above, one_of_sum}
-use Rattle.fvn_plans.proofs.Using.{uses_decided, used_column, solution_uses}
+use Rattle.fvn_plans.proofs.Columns.{column_listed, chosen_listed, some_above, one_of_sum}
+use Rattle.fvn_plans.proofs.Using.{uses_decided, solution_uses}
 use Rattle.fvn_plans.proofs.Bound.{bound_decided}
 
 module _ {d : Declarations} {given : Pairs} {first : ℕ} {t : NodeTable} {s : State} {y : Systems} {c : Choice} {next : ℕ} {plan : Plan} {bindings : Bindings} (h : IsPlanned d given first t s y c next plan bindings) (f : OpId) (sum : IsSumOperator d t f) where
@@ -55,7 +53,7 @@ module _ {d : Declarations} {given : Pairs} {first : ℕ} {t : NodeTable} {s : S
 
   constant_decided : (k : ℕ) → Contains (y.columns f) k → Decided (IsConstant d t (class_of s) c.tag f k)
   constant_decided k m = elim (uses_decided d t (class_of s) f (y.columns f) (y.system f) is_system sum.associative k) [
-    | inl u ↦ elim (bound_decided h.partition k (plan.form k) (h.plan_by.forms k (column_below h f k ((is_system.exact k).0 m))) f) [
+    | inl u ↦ elim (bound_decided h.partition y c k (plan.form k) (h.plan_by.forms k (column_below h f k ((is_system.exact k).0 m))) f) [
       | inl b ↦ inr (λ is. is.not_bound b)
       | inr n ↦ inl record { used = u; not_bound = n }
     ]

@@ -1,9 +1,8 @@
 -- The nodes of the terms of a problem, and their classes.
-use Rattle.std.proofs.Common.{◌≡◌, ℕ, ◌<◌, List, [], ◌∷◌, ◌++◌, true, length, map, get_or, refl, sym, ap, ◌∙◌, subst, inl, inr, arith, Contains, Option, Some, None, slice_get}
-use Rattle.std.proofs.lemmas.List.{length-map, get_or-map, get_or_default}
+use Rattle.std.proofs.Common.{◌≡◌, ℕ, ◌<◌, List, [], ◌∷◌, ◌++◌, true, length, map, sym, ap, ◌∙◌, subst, inl, inr, arith, Contains, Option, Some, None, slice_get}
 use Rattle.std.proofs.lemmas.List.Elements.{All-contains, Contains-append_left, Contains-append_right, Contains-append_cases}
 use Rattle.std.proofs.lemmas.Option.{slice_get_within}
-use Rattle.fvn_base.proofs.Membership.{contains_here, contains_later, contains_cases, contains_map, contains_filter, filter_contains, map_contains}
+use Rattle.fvn_base.proofs.Membership.{contains_later, contains_cases, contains_none, contains_map, contains_filter, filter_contains, map_contains}
 use Rattle.fvn_terms.specs.declared.plain.Var.{Var as Variable}
 use Rattle.fvn_terms.specs.declared.plain.OpId.{OpId}
 use Rattle.fvn_terms.specs.declared.declarations.Declarations.{Declarations}
@@ -15,24 +14,24 @@ use Rattle.fvn_forms.specs.Canon.{identity}
 use Rattle.fvn_forms.proofs.Sums.{same_op_is, same_op_itself}
 use Rattle.fvn_forms.proofs.ToCanon.{identity_is}
 use Rattle.fvn_flat.specs.Problems.{subterms, subterms_among, subterms_of, variables, variables_among, variables_of}
-use Rattle.fvn_flat.specs.Partitions.{Heads, IsUnit, IsNode}
+use Rattle.fvn_flat.specs.Partitions.{Heads, IsNode}
 use Rattle.fvn_nodes.specs.Table.{NodeTable, IsWellMade, IsTableOf, IsUnitOf, IsOver, nothing, terms_of, term_at}
 use Rattle.fvn_nodes.specs.Laws.{class_at}
 use Rattle.fvn_nodes.specs.declared.table.Node.{Node}
 use Rattle.fvn_nodes.specs.declared.table.Node.TheVariants.{Var, App}
 use Rattle.fvn_nodes.proofs.Nodes.{length-terms_of, term_at-over, term_at-variable, application_at, variable_at}
-use Rattle.fvn_sums.specs.NodeSystems.{is_headed, sums}
+use Rattle.fvn_sums.specs.NodeSystems.{is_headed}
 use Rattle.fvn_frames.specs.Frames.{IsSumOperator}
 use Rattle.fvn_plans.proofs.Terms.{once_contains, own_place}
 use Rattle.fvn_plans.proofs.Kinded.{contains_once}
 
+only_one : {X : Type 0} (x y : X) → Contains (y ∷ []) x → y ≡ x
+only_one x y c = elim (contains_cases y [] x c) [ inl e ↦ e | inr z ↦ absurd (contains_none x z) ]
+
 -- a variable of a problem is a subterm
 mutual
   variable_subterm : (t : Term) (x : Variable) → Contains (variables t) x → Contains (subterms t) (var x)
-  variable_subterm (var y) x c = (0, omega arith, ap var (only x y c))
-    where
-      only : (x y : Variable) → Contains (y ∷ []) x → y ≡ x
-      only x y (k, l, e) = sym (get_or_default (y ∷ []) k y x l) ∙ e
+  variable_subterm (var y) x c = (0, omega arith, ap var (only_one x y c))
   variable_subterm (app f ts) x c = contains_later (app f ts) (subterms_among ts) (var x) (variable_among ts x c)
 
   variable_among : (ts : Terms) (x : Variable) → Contains (variables_among ts) x → Contains (subterms_among ts) (var x)
@@ -57,7 +56,7 @@ variable_of_problem (p ∷ problem) x c = elim (Contains-append_cases (variables
 -- and a subterm that is a variable is one of the problem
 mutual
   subterm_variable : (t : Term) (x : Variable) → Contains (subterms t) (var x) → Contains (variables t) x
-  subterm_variable (var y) x (k, l, e) = let same : var y ≡ var x = sym (get_or_default (var y ∷ []) k (var y) (var x) l) ∙ e in (0, omega arith, cc)
+  subterm_variable (var y) x c = let same : var y ≡ var x = only_one (var x) (var y) c in (0, omega arith, cc)
   subterm_variable (app f ts) x c = elim (contains_cases (app f ts) (subterms_among ts) (var x) c) [
     | inl e ↦ absurd (let p : app f ts ≡ var x = e in cc)
     | inr r ↦ among_variable ts x r

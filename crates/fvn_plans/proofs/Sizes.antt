@@ -1,5 +1,5 @@
 -- The sizes of what bindings unfold to add up.
-use Rattle.std.proofs.Common.{◌≡◌, ℕ, ◌<◌, List, [], ◌∷◌, length, map, refl, sym, ap, ◌∙◌, subst, inl, inr, All, Contains, Some}
+use Rattle.std.proofs.Common.{◌≡◌, ℕ, false, List, [], ◌∷◌, map, refl, sym, ap, ◌∙◌, subst, inl, inr, All, Some}
 use Rattle.std.specs.List.{AllByRecursion}
 use Rattle.std.proofs.lemmas.List.Elements.{All-contains}
 use Rattle.fvn_terms.specs.declared.plain.Var.{Var}
@@ -11,12 +11,12 @@ use Rattle.fvn_terms.specs.Term.{Terms, none, more, pack}
 use Rattle.fvn_terms.specs.Signature.{axioms}
 use Rattle.fvn_forms.specs.Flat.{FlatTerm, fvar, fapp, fpack, symbols}
 use Rattle.fvn_forms.specs.InOrder.{sort}
-use Rattle.fvn_forms.specs.Canon.{sum, build, built, eval_all, inst}
+use Rattle.fvn_forms.specs.Canon.{build, built, eval_all, inst}
 use Rattle.fvn_forms.specs.Settled.{Settled, IsPiece}
 use Rattle.fvn_forms.proofs.InOrder.{each_sort}
 use Rattle.fvn_flat.specs.Bindings.{Bindings}
 use Rattle.fvn_flat.specs.Solving.{problem_of}
-use Rattle.fvn_flat.specs.SolvedLists.{Form, unbound, as_member, as_sum, Part, Plan, IsSimple, IsClass, IsBinding, names_of, over_classes, members_of, bound_as}
+use Rattle.fvn_flat.specs.SolvedLists.{Form, unbound, as_member, as_sum, Plan, IsSimple, IsClass, IsBinding, names_of, over_classes, members_of, bound_as}
 use Rattle.fvn_flat.specs.declared.solver.Pairs.{Pairs}
 use Rattle.fvn_nodes.specs.Table.{NodeTable, term_at}
 use Rattle.fvn_nodes.specs.Laws.{class_at}
@@ -25,13 +25,13 @@ use Rattle.fvn_nodes.specs.declared.state.State.{State}
 use Rattle.fvn_supports.specs.Laws.{CombinationsSolve}
 use Rattle.fvn_sums.specs.Laws.{CountsSolve}
 use Rattle.fvn_plans.specs.Choosing.{Systems, Choice}
-use Rattle.fvn_plans.specs.Plans.{IsFormBy, unfolding, size_in}
+use Rattle.fvn_plans.specs.Plans.{IsFormBy, unfolds_to, size_in}
 use Rattle.fvn_plans.specs.Laws.{IsPlanned, SizesAddUp}
 use Rattle.fvn_plans.proofs.Triangular.{unfolding_bound, unfolding_settled}
 use Rattle.fvn_plans.proofs.Columns.{all_from}
 use Rattle.fvn_plans.proofs.Planned.{class_below, bound_operator}
 use Rattle.fvn_plans.proofs.Members.{each_member}
-use Rattle.fvn_plans.proofs.Kinds.{over_classes_is}
+use Rattle.fvn_plans.proofs.Kinding.{over_classes_is}
 use Rattle.fvn_plans.proofs.Values.{members_or_identity}
 use Rattle.fvn_plans.proofs.Measured.{IsVariable, size_unjoined, size_sum}
 use Rattle.fvn_plans.proofs.Alone.{each_instance, part_piece}
@@ -57,7 +57,7 @@ module _ {d : Declarations} {given : Pairs} {first : ℕ} {t : NodeTable} {s : S
 
   module _ (solve : CountsSolve) (combine : CombinationsSolve) where
     abbrev AddsUp : FlatTerm → Type 0
-    AddsUp u = symbols (inst d (unfolding d bindings) u) ≡ size_in (λ x. symbols (unfolding d bindings x)) u
+    AddsUp u = symbols (inst d (unfolds_to d bindings) u) ≡ size_in (λ x. symbols (unfolds_to d bindings x)) u
 
     class_adds : (k : ℕ) → IsClass d (problem_of given) (class_at t (class_of s)) k → (u : FlatTerm) → bound_as d (problem_of given) (class_at t (class_of s)) plan (plan.form k) k ≡ Some u → AddsUp u
     class_adds k is u e = go (plan.form k) (h.plan_by.forms k (class_below h k is)) e
@@ -71,22 +71,22 @@ module _ {d : Declarations} {given : Pairs} {first : ℕ} {t : NodeTable} {s : S
             let m = by.1 in
             let ts = pack (map (term_at t.nodes) m.arguments) in
             let same = sym (over_classes_is h by.0 m.operator m.arguments m.over) ∙ ap (over_classes d (problem_of given) (class_at t (class_of s)) plan) by.2 ∙ some_same _ u e in
-            subst AddsUp same (size_built d (unfolding d bindings) (unfolding_settled d bindings) m.operator m.simple (eval_all d fvar (names_of d (problem_of given) (class_at t (class_of s)) plan ts)) (names_variables ts))
+            subst AddsUp same (size_built d (unfolds_to d bindings) (unfolding_settled d bindings) m.operator m.simple (eval_all d fvar (names_of d (problem_of given) (class_at t (class_of s)) plan ts)) (names_variables ts))
         go (as_sum f) by e =
             let sum_of = bound_operator h f k by in
             let l = members_of d (problem_of given) (class_at t (class_of s)) plan f k in
             subst AddsUp (some_same _ u e)
-            (size_sum d (unfolding d bindings) (unfolding_settled d bindings) f sum_of.associative l (members_or_identity h f k by)
+            (size_sum d (unfolds_to d bindings) (unfolding_settled d bindings) f sum_of.associative l (members_or_identity h f k by)
             (each_member IsVariable (plan.columns f) (plan.parts f) k (λ p m some. (p.variable, refl)))
-            (each_instance h (IsPiece d f) l (each_member (λ w. IsPiece d f (inst d (unfolding d bindings) w)) (plan.columns f) (plan.parts f) k (λ p m some. part_piece h solve combine f sum_of p m))))
+            (each_instance h (IsPiece d f) l (each_member (λ w. IsPiece d f (inst d (unfolds_to d bindings) w)) (plan.columns f) (plan.parts f) k (λ p m some. part_piece h solve combine f sum_of p m))))
 
     binding_adds : (b : Var × FlatTerm) → IsBinding d (problem_of given) (class_at t (class_of s)) plan b → AddsUp b.1
     binding_adds b (inl r) = class_adds r.0 r.1 b.1 r.3
     binding_adds b (inr r) = subst AddsUp (sym r.2) refl
 
-    pub sizes_are_sums : All (λ b. symbols (unfolding d bindings b.0) ≡ size_in (λ x. symbols (unfolding d bindings x)) b.1) bindings
-    sizes_are_sums = all_from (λ b. symbols (unfolding d bindings b.0) ≡ size_in (λ x. symbols (unfolding d bindings x)) b.1) bindings (λ b m.
+    pub sizes_are_sums : All (λ b. symbols (unfolds_to d bindings b.0) ≡ size_in (λ x. symbols (unfolds_to d bindings x)) b.1) bindings
+    sizes_are_sums = all_from (λ b. symbols (unfolds_to d bindings b.0) ≡ size_in (λ x. symbols (unfolds_to d bindings x)) b.1) bindings (λ b m.
         ap symbols (unfolding_bound d bindings h.bindings_by.triangular b m) ∙ binding_adds b (All-contains (IsBinding d (problem_of given) (class_at t (class_of s)) plan) bindings b h.bindings_by.no_other m))
 
 pub sizes_add_up : CountsSolve → CombinationsSolve → SizesAddUp
-sizes_add_up solve combine d given first t s y c next plan bindings h = sizes_are_sums h solve combine
+sizes_add_up solve combine = λ d given first t s y c next plan bindings h. sizes_are_sums h solve combine

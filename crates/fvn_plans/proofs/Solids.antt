@@ -1,5 +1,5 @@
 -- What an associative operator without an identity heads has a column of its sum system.
-use Rattle.std.proofs.Common.{◌≡◌, ℕ, ◌<◌, List, [], ◌∷◌, length, sym, ap, ◌∙◌, subst, arith, Contains, Option, Some}
+use Rattle.std.proofs.Common.{◌≡◌, ℕ, List, [], ◌∷◌, length, refl, sym, ap, ◌∙◌, subst, arith, Some}
 use Rattle.fvn_terms.specs.declared.plain.OpId.{OpId}
 use Rattle.fvn_terms.specs.declared.declarations.Axioms.{Axioms}
 use Rattle.fvn_terms.specs.declared.declarations.Axioms.TheVariants.{Free, Comm, AssocComm, AssocCommId}
@@ -19,22 +19,22 @@ identity_of Comm e b i = cc
 identity_of AssocComm e b i = cc
 identity_of (AssocCommId o) e b i = b
 
+-- two arguments
+pub record IsPair (ks : List ℕ) : Type 0 where
+  pub left : ℕ
+  pub right : ℕ
+  pub are : ks ≡ left ∷ right ∷ []
+
+pub pair_of : (ks : List ℕ) → length ks ≡ 2 → IsPair ks
+pair_of [] n = absurd (omega (arith, n))
+pair_of (a ∷ []) n = absurd (omega (arith, n))
+pair_of (a ∷ b ∷ []) n = record { left = a; right = b; are = refl }
+pair_of (a ∷ b ∷ x ∷ ks) n = absurd (omega (arith, n))
+
 module _ {d : Declarations} {t : NodeTable} (has : HasSums d t) (class : ℕ → ℕ) (f : OpId) (k : ℕ) where
   -- an operator without an identity has no class of it
   pub no_identity_class : HasNoIdentity (axioms d f) → IsIdentityClass t class f k → ⊥
   no_identity_class bare (j, p, l, e, same) = let u = has.units p (j, l, e) in identity_of (axioms d f) u.0 bare (ap (λ o. identity (axioms d o)) (sym same.0) ∙ u.1)
-
-  -- the two arguments of a sum
-  pub record IsPair (ks : List ℕ) : Type 0 where
-    pub left : ℕ
-    pub right : ℕ
-    pub are : ks ≡ left ∷ right ∷ []
-
-  pub pair_of : (ks : List ℕ) → length ks ≡ 2 → IsPair ks
-  pair_of [] n = absurd (omega (arith, n))
-  pair_of (a ∷ []) n = absurd (omega (arith, n))
-  pair_of (a ∷ b ∷ []) n = record { left = a; right = b; are = λ i. a ∷ b ∷ [] }
-  pair_of (a ∷ b ∷ x ∷ ks) n = absurd (omega (arith, n))
 
   pub solid_column : IsAssociative (axioms d f) → IsSolid d t class f k → IsNodeColumn t class f k
   solid_column assoc h =

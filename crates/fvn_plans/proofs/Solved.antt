@@ -1,11 +1,9 @@
 -- The bindings of a plan are a solved list.
-use Rattle.std.proofs.Common.{◌≡◌, ℕ, sym, ap, ◌∙◌, subst, Some, Contains, slice_get}
+use Rattle.std.proofs.Common.{◌≢◌, ℕ, sym, ap, ◌∙◌, subst, Contains}
 use Rattle.std.proofs.lemmas.Option.{slice_get_within}
-use Rattle.fvn_terms.specs.declared.plain.Var.{Var}
 use Rattle.fvn_terms.specs.declared.declarations.Declarations.{Declarations}
 use Rattle.fvn_terms.specs.Term.{var}
 use Rattle.fvn_forms.specs.Flat.{fvar}
-use Rattle.fvn_forms.specs.Canon.{canon}
 use Rattle.fvn_flat.specs.Bindings.{Bindings}
 use Rattle.fvn_flat.specs.Problems.{variables_of}
 use Rattle.fvn_flat.specs.Solving.{problem_of}
@@ -24,9 +22,9 @@ use Rattle.fvn_plans.specs.Choosing.{Systems, Choice}
 use Rattle.fvn_plans.specs.Laws.{IsPlanned, PlannedBindingsAreSolved}
 use Rattle.fvn_plans.proofs.Triangular.{unfolding_bound}
 use Rattle.fvn_plans.proofs.Places.{own_class, node_variable, heads_sum}
-use Rattle.fvn_plans.proofs.Planned.{is_class, class_within, class_below, name_not_given}
+use Rattle.fvn_plans.proofs.Planned.{class_within, class_below, name_not_given}
 use Rattle.fvn_plans.proofs.Standing.{rests_on, parts_apart, forms_are, names_are}
-use Rattle.fvn_plans.proofs.Kinds.{bindings_keep}
+use Rattle.fvn_plans.proofs.Kinding.{bindings_keep}
 use Rattle.fvn_plans.proofs.Values.{value, are_values}
 
 module _ {d : Declarations} {given : Pairs} {first : ℕ} {t : NodeTable} {s : State} {y : Systems} {c : Choice} {next : ℕ} {plan : Plan} {bindings : Bindings} (h : IsPlanned d given first t s y c next plan bindings) where
@@ -37,11 +35,11 @@ module _ {d : Declarations} {given : Pairs} {first : ℕ} {t : NodeTable} {s : S
       let m = node_variable h.well_made h.table i x e in
       let own = ap (class_at t (class_of s)) (sym (term_at-variable t.nodes i x e)) ∙ own_class h.well_made h.table (class_of s) i within in
       let named = fvar (plan.name (class_at t (class_of s) (var x))) in
-      let other = λ same. name_not_given h (class_of s i) (class_within h i within) (subst (Contains (variables_of (problem_of given))) (sym same ∙ ap plan.name own) m) in
+      let other : plan.name (class_at t (class_of s) (var x)) ≢ x = λ same. name_not_given h (class_of s i) (class_within h i within) (subst (Contains (variables_of (problem_of given))) (sym same ∙ ap plan.name own) m) in
       unfolding_bound d bindings h.bindings_by.triangular (x, named) (h.bindings_by.variables x m other) ∙ ap (value h) own
 
 pub planned_bindings_are_solved : NodeSystemsAreSumSystems → CountsSolve → CombinationsSolve → ValuesUnify → PlannedBindingsAreSolved
-planned_bindings_are_solved systems solve combine unify d given first t s y c next plan bindings h = record {
+planned_bindings_are_solved systems solve combine unify = λ d given first t s y c next plan bindings h. record {
   names = names_are h;
   own = λ k is m. absurd (name_not_given h k (class_below h k is) m);
   forms = forms_are h;

@@ -1,21 +1,18 @@
 -- What is asked of a solved list but for its unifier: names, forms, and what sums rest on.
-use Rattle.std.proofs.Common.{◌≡◌, ◌≢◌, ℕ, ◌+◌, ◌<◌, ◌≤◌, List, [], ◌∷◌, length, map, get_or, sum_by, refl, sym, ap, ◌∙◌, subst, ◌⊎◌, inl, inr, arith, All, AllPairs, Any, Contains, slice_index}
+use Rattle.std.proofs.Common.{◌≡◌, ◌≢◌, ℕ, ◌<◌, [], length, map, get_or, sum_by, refl, sym, ap, ◌∙◌, subst, ◌⊎◌, inl, inr, arith, AllPairs, Any, Contains, slice_index}
 use Rattle.std.proofs.lemmas.Bool.{cases_eq}
 use Rattle.std.proofs.lemmas.List.{length-map, get_or-map}
 use Rattle.std.proofs.lemmas.Option.{slice_get_within}
-use Rattle.fvn_terms.specs.declared.plain.Var.{Var}
 use Rattle.fvn_terms.specs.declared.plain.OpId.{OpId}
 use Rattle.fvn_terms.specs.declared.declarations.Declarations.{Declarations}
-use Rattle.fvn_terms.specs.Term.{Term, Terms, var, app, pack}
+use Rattle.fvn_terms.specs.Term.{pack}
 use Rattle.fvn_terms.specs.Signature.{axioms}
-use Rattle.fvn_terms.specs.Equality.{IsAssociative}
-use Rattle.fvn_lindio.specs.declared.system.System.{System}
 use Rattle.fvn_lindio.specs.Systems.{IsMinimal, IsUnused, rows_of}
 use Rattle.fvn_flat.specs.Bindings.{Bindings}
-use Rattle.fvn_flat.specs.Partitions.{HasNoIdentity, Heads, IsNode}
+use Rattle.fvn_flat.specs.Partitions.{HasNoIdentity, IsNode}
 use Rattle.fvn_flat.specs.SumSystems.{IsSumSystem}
 use Rattle.fvn_flat.specs.Solving.{problem_of}
-use Rattle.fvn_flat.specs.SolvedLists.{Form, unbound, as_member, as_sum, Part, Plan, component, members, IsClass, IsSimpleMember, IsSum, IsFormOf, IsNew, StandsForClass, StandsForNone, RestsOn, members_of}
+use Rattle.fvn_flat.specs.SolvedLists.{Form, unbound, as_member, as_sum, Part, Plan, component, members, IsClass, IsFormOf, IsNew, StandsForClass, StandsForNone, RestsOn, members_of}
 use Rattle.fvn_flat.specs.declared.solver.Pairs.{Pairs}
 use Rattle.fvn_nodes.specs.Table.{NodeTable, term_at}
 use Rattle.fvn_nodes.specs.Laws.{class_at}
@@ -25,16 +22,16 @@ use Rattle.fvn_nodes.specs.declared.table.Node.TheVariants.{App}
 use Rattle.fvn_nodes.proofs.Nodes.{term_at-over}
 use Rattle.fvn_sums.specs.Laws.{NodeSystemsAreSumSystems}
 use Rattle.fvn_frames.specs.Frames.{IsSumOperator, Uses}
-use Rattle.fvn_plans.specs.Binding.{IsBound, IsConstant, IsRequired}
-use Rattle.fvn_plans.specs.Choosing.{Systems, Choice, taken, member_count}
+use Rattle.fvn_plans.specs.Binding.{IsBound, IsConstant}
+use Rattle.fvn_plans.specs.Choosing.{Systems, Choice, member_count}
 use Rattle.fvn_plans.specs.Plans.{IsFormBy}
 use Rattle.fvn_plans.specs.Laws.{IsPlanned}
 use Rattle.fvn_plans.proofs.Columns.{all_from, sum_by_map, sum_by_same, chosen_distinct}
 use Rattle.fvn_plans.proofs.Members.{times_in, length_members}
-use Rattle.fvn_plans.proofs.Places.{is_node, own_class, heads_sum, sum_heads}
+use Rattle.fvn_plans.proofs.Places.{is_node, own_class, sum_heads}
 use Rattle.fvn_plans.proofs.Using.{uses_or_unused}
-use Rattle.fvn_plans.proofs.Bound.{bound_decided, form_of_sum, bound_of_form}
-use Rattle.fvn_plans.proofs.Planned.{class_below, column_class, name_not_given, names_apart, solution_no_name, solution_not_given, bound_operator}
+use Rattle.fvn_plans.proofs.Bound.{form_of_sum, bound_of_form}
+use Rattle.fvn_plans.proofs.Planned.{class_below, column_class, names_apart, solution_no_name, solution_not_given, bound_operator}
 use Rattle.fvn_plans.proofs.Parts.{HasConstant, HasNone, component_is, part_minimal, part_stands, part_uses, constant_once, constants_apart, constant_part, part_named}
 
 module _ {d : Declarations} {given : Pairs} {first : ℕ} {t : NodeTable} {s : State} {y : Systems} {c : Choice} {next : ℕ} {plan : Plan} {bindings : Bindings} (h : IsPlanned d given first t s y c next plan bindings) where
@@ -79,11 +76,11 @@ module _ {d : Declarations} {given : Pairs} {first : ℕ} {t : NodeTable} {s : S
     constant_of : (p : Part) → Contains (plan.parts f) p → (k : ℕ) → IsClass d (problem_of given) (class_at t (class_of s)) k → plan.form k ≢ as_sum f → 0 < component (plan.columns f) p.solution k → IsConstant d t (class_of s) c.tag f k
     constant_of p m k is no_sum some = record {
       used = part_uses h f sum p m k (let e = component_is h f sum p k in omega (arith, e, some));
-      not_bound = λ b. no_sum (form_of_sum h.partition k (plan.form k) (h.plan_by.forms k (class_below h k is)) f b);
+      not_bound = λ b. no_sum (form_of_sum h.partition y c k (plan.form k) (h.plan_by.forms k (class_below h k is)) f b);
     }
 
     no_form : (k : ℕ) → IsConstant d t (class_of s) c.tag f k → plan.form k ≢ as_sum f
-    no_form k is e = is.not_bound (bound_of_form h.partition k (plan.form k) (h.plan_by.forms k (class_below h k (column_class h f k is.used.column))) f e)
+    no_form k is e = is.not_bound (bound_of_form h.partition y c k (plan.form k) (h.plan_by.forms k (class_below h k (column_class h f k is.used.column))) f e)
 
     stands : (p : Part) → Contains (plan.parts f) p → StandsForClass d (problem_of given) (class_at t (class_of s)) plan f p ⊎ StandsForNone d (problem_of given) (class_at t (class_of s)) plan f p
     stands p m = elim (part_stands h f sum p m) [
@@ -134,11 +131,11 @@ module _ {d : Declarations} {given : Pairs} {first : ℕ} {t : NodeTable} {s : S
       minimal = all_from (λ p. IsMinimal (y.system f).columns (rows_of (y.system f)) p.solution) (plan.parts f) (part_minimal h f sum);
       distinct = solutions_apart;
       standing = all_from (λ p. StandsForClass d (problem_of given) (class_at t (class_of s)) plan f p ⊎ StandsForNone d (problem_of given) (class_at t (class_of s)) plan f p) (plan.parts f) stands;
-      covered = λ k is used no_sum no_identity. covered k is used.0 used.1 used.2 used.3 no_sum;
+      covered = λ k is used no_sum no_identity. covers_used k is used.0 used.1 used.2 used.3 no_sum;
     }
       where
-        covered : (k : ℕ) → IsClass d (problem_of given) (class_at t (class_of s)) k → (i : ℕ) → i < length (plan.columns f) → slice_index (plan.columns f) i ≡ k → (IsUnused (rows_of (y.system f)) i → ⊥) → plan.form k ≢ as_sum f → Any (λ p. p.variable ≡ plan.name k) (plan.parts f)
-        covered k is i l e used no_sum =
+        covers_used : (k : ℕ) → IsClass d (problem_of given) (class_at t (class_of s)) k → (i : ℕ) → i < length (plan.columns f) → slice_index (plan.columns f) i ≡ k → (IsUnused (rows_of (y.system f)) i → ⊥) → plan.form k ≢ as_sum f → Any (λ p. p.variable ≡ plan.name k) (plan.parts f)
+        covers_used k is i l e used no_sum =
             let same = h.plan_by.columns f sum in
             let within : i < length (y.columns f) = subst (λ l. i < length l) same l in
             let at : get_or (y.columns f) i 0 ≡ k = ap (λ l. get_or l i 0) (sym same) ∙ e in
@@ -146,7 +143,7 @@ module _ {d : Declarations} {given : Pairs} {first : ℕ} {t : NodeTable} {s : S
               | inl u ↦
                   let constant : IsConstant d t (class_of s) c.tag f k = record {
                     used = subst (Uses d t (class_of s) f) at u;
-                    not_bound = λ b. no_sum (form_of_sum h.partition k (plan.form k) (h.plan_by.forms k (class_below h k is)) f b);
+                    not_bound = λ b. no_sum (form_of_sum h.partition y c k (plan.form k) (h.plan_by.forms k (class_below h k is)) f b);
                   }
                   in
                   let p = constant_part h f sum k constant in

@@ -1,5 +1,5 @@
 -- What triangular bindings unfold to: a bound variable to the instance of what it is bound to, any other to itself.
-use Rattle.std.proofs.Common.{◌≡◌, ◌≢◌, Bool, true, List, [], ◌∷◌, refl, sym, ap, ◌∙◌, subst, ◌⊎◌, inl, inr, All, AllPairs, Contains}
+use Rattle.std.proofs.Common.{◌≡◌, ◌≢◌, true, [], ◌∷◌, refl, sym, ap, ◌∙◌, subst, ◌⊎◌, inl, inr, All, AllPairs, Contains}
 use Rattle.std.specs.Prelude.{if◌then◌else◌}
 use Rattle.std.proofs.lemmas.Bool.{false_from_ne_true}
 use Rattle.std.proofs.lemmas.List.Elements.{All-head, All-tail}
@@ -22,7 +22,7 @@ use Rattle.fvn_forms.proofs.Eval.{canon_settled, eval_apply}
 use Rattle.fvn_flat.specs.Bindings.{Bindings}
 use Rattle.fvn_flat.specs.SolvedLists.{only, unfolded, IsTriangular}
 use Rattle.fvn_flat.proofs.Binding.{same_var_is, same_var_itself}
-use Rattle.fvn_plans.specs.Plans.{unfolding}
+use Rattle.fvn_plans.specs.Plans.{unfolds_to}
 
 -- no pair binds x
 abbrev pub IsUnbound : Bindings → Var → Type 0
@@ -131,12 +131,12 @@ module _ (d : Declarations) where
       ]
 
   module _ (bindings : Bindings) where
-    pub unfolding_settled : (x : Var) → Settled d (unfolding d bindings x)
+    pub unfolding_settled : (x : Var) → Settled d (unfolds_to d bindings x)
     unfolding_settled x = canon_settled d (unfolded bindings x)
 
     -- as flat forms
-    pub unfolding_bound : IsTriangular bindings → (b : Var × FlatTerm) → Contains bindings b → unfolding d bindings b.0 ≡ inst d (unfolding d bindings) b.1
+    pub unfolding_bound : IsTriangular bindings → (b : Var × FlatTerm) → Contains bindings b → unfolds_to d bindings b.0 ≡ inst d (unfolds_to d bindings) b.1
     unfolding_bound h b c = ap (canon d) (unfolded_bound bindings h b c) ∙ eval_apply d fvar (unfolded bindings) (plain b.1)
 
-    pub unfolding_unbound : (x : Var) → IsUnbound bindings x → unfolding d bindings x ≡ fvar x
+    pub unfolding_unbound : (x : Var) → IsUnbound bindings x → unfolds_to d bindings x ≡ fvar x
     unfolding_unbound x h = ap (canon d) (unfolded_unbound bindings x h)

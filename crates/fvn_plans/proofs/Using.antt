@@ -1,6 +1,6 @@
 -- Which columns of a sum system its operator uses, and what solutions have in them.
 use Rattle.std.proofs.Common.{◌≡◌, ◌≢◌, ℕ, zero, suc, ◌<◌, List, length, map, get_or, refl, sym, ap, ◌∙◌, subst, ◌⊎◌, inl, inr, arith, All, Contains, slice_get}
-use Rattle.std.specs.Prelude.{ℤ, pos, negsuc, ◌↔◌}
+use Rattle.std.specs.Prelude.{ℤ, pos, negsuc}
 use Rattle.std.proofs.lemmas.Bool.{cases_eq}
 use Rattle.std.proofs.lemmas.List.{get_or-map, get_or_default}
 use Rattle.std.proofs.lemmas.List.Elements.{All-contains, All-map}
@@ -57,7 +57,7 @@ module _ (d : Declarations) (t : NodeTable) (class : ℕ → ℕ) (f : OpId) (co
         let k = get_or columns j 0 in
         elim (uses_or_zero k (j, l, get_or_default columns j k 0 l)) [
           | inl u ↦ inl u
-          | inr z ↦ inr (subst (λ rs. IsUnused rs j) (sym is.rows) (All-map (λ row. get_or row j (pos 0) ≡ pos 0) (row_at t class f columns) (all_from (λ i. get_or (row_at t class f columns i) j (pos 0) ≡ pos 0) (sums t f) (λ i m. get_or-map (entry i) columns j 0 (pos 0) l ∙ z i m))))
+          | inr z ↦ inr (subst (λ rs. IsUnused rs j) (sym is.rows) (All-map (λ row. get_or row j (pos 0) ≡ pos 0) (row_at t class f columns) (sums t f) (all_from (λ i. get_or (row_at t class f columns i) j (pos 0) ≡ pos 0) (sums t f) (λ i m. get_or-map (entry i) columns j 0 (pos 0) l ∙ z i m))))
         ]
 
     pub uses_decided : (k : ℕ) → Decided (Uses d t class f k)

@@ -1,21 +1,14 @@
 -- A choice is acceptable exactly where it is valid for what is asked, and no shared class is a sum of a constant alone.
-use Rattle.std.proofs.Common.{◌≡◌, ◌≢◌, ℕ, ◌<◌, ◌≤◌, true, List, [], ◌∷◌, length, get_or, count_by, refl, sym, ap, ◌∙◌, subst, inl, inr, arith, All, AllPairs, Contains, slice_get}
-use Rattle.std.specs.Prelude.{Bool, ◌↔◌, nat_lt}
+use Rattle.std.proofs.Common.{◌≢◌, ◌≡◌, ℕ, ◌<◌, ◌≤◌, true, List, length, get_or, sym, ap, ◌∙◌, subst, inl, inr, arith, All, AllPairs, Contains}
+use Rattle.std.specs.Prelude.{Bool, nat_lt}
 use Rattle.std.proofs.lemmas.Bool.{cases_order, ltb-true, lt-ltb}
 use Rattle.std.proofs.lemmas.List.Elements.{All-contains}
-use Rattle.fvn_base.proofs.Membership.{contains_filter}
 use Rattle.fvn_terms.specs.declared.plain.OpId.{OpId}
 use Rattle.fvn_terms.specs.declared.declarations.Declarations.{Declarations}
-use Rattle.fvn_terms.specs.Signature.{axioms}
-use Rattle.fvn_terms.specs.Equality.{IsAssociative}
-use Rattle.fvn_terms.specs.Unifiers.{Problem}
-use Rattle.fvn_forms.specs.FitsKinds.{FitsKinds}
-use Rattle.fvn_acunify.specs.ValidChoice.{chosen, touched, column_sum, IsValid}
-use Rattle.fvn_flat.specs.Problems.{IsProblem}
+use Rattle.fvn_acunify.specs.ValidChoice.{touched, column_sum, IsValid}
 use Rattle.fvn_flat.specs.SolvedLists.{component}
-use Rattle.fvn_nodes.specs.Table.{NodeTable, IsWellMade, IsTableOf, IsOver}
-use Rattle.fvn_sums.specs.NodeSystems.{IsIdentityClass, IsNodeColumn}
-use Rattle.fvn_frames.specs.Frames.{IsSumOperator, IsSolid, IsShared}
+use Rattle.fvn_nodes.specs.Table.{NodeTable}
+use Rattle.fvn_frames.specs.Frames.{IsSumOperator, IsShared}
 use Rattle.fvn_plans.specs.Binding.{IsBound, solid, alone, tagged, IsConstant, IsRequired, AreAsked}
 use Rattle.fvn_plans.specs.Choosing.{Systems, Choice, taken, AreSystems, AreTakenTogether, IsAcceptable, member_count}
 use Rattle.fvn_plans.specs.Laws.{ValidChoicesAreAcceptable}
@@ -28,22 +21,18 @@ module _ {d : Declarations} {t : NodeTable} (has : HasSums d t) (class : ℕ →
   columns = y.columns f
 
   apart_columns : AllPairs ◌≢◌ columns
-  unfolding columns
   apart_columns = (systems.is_system f sum).distinct
 
   -- a class that is bound to a sum of f has a column
   pub bound_column : (k : ℕ) → IsBound d t class c.tag f k → Contains columns k
-  unfolding columns
   bound_column k (solid assoc h) = ((systems.is_system f sum).exact k).1 (solid_column has class f k assoc h)
   bound_column k (alone u soft only) = ((systems.is_system f sum).exact k).1 u.column
   bound_column k (tagged u shared e) = ((systems.is_system f sum).exact k).1 u.column
 
   count_is : (j : ℕ) → j < length columns → member_count y c f (get_or columns j 0) ≡ column_sum j (taken y c f)
-  unfolding columns
   count_is j l = column_sum_is columns apart_columns j l (taken y c f)
 
   value_is : (v : List ℕ) (j : ℕ) → j < length columns → component columns v (get_or columns j 0) ≡ get_or v j 0
-  unfolding columns
   value_is v j l = component_at columns v apart_columns j l
 
   module _ (constants : List ℕ) (may_be_zero : List Bool) (asked : AreAsked d t class c.tag f columns constants may_be_zero) where
@@ -116,7 +105,7 @@ module _ {d : Declarations} {t : NodeTable} (has : HasSums d t) (class : ℕ →
     }
 
 pub valid_choices : ValidChoicesAreAcceptable
-valid_choices d fits problem is_problem t made table class y systems c f sum constants may_be_zero asked =
+valid_choices = λ d fits problem is_problem t made table class y systems c f sum constants may_be_zero asked.
     let has = tables_have_sums d fits problem is_problem t made table in (
       λ h. (acceptable_is_valid has class y systems c f sum constants may_be_zero asked h, h.no_alias),
       λ p. valid_is_acceptable has class y systems c f sum constants may_be_zero asked p.0 p.1,

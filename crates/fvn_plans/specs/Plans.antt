@@ -86,13 +86,13 @@ pub record AreBindingsBy (d : Declarations) (problem : Problem) (class : Term �
   pub triangular : IsTriangular bindings
 
 -- what x unfolds to
-abbrev pub unfolding : Declarations → Bindings → Var → FlatTerm
-unfolding d bindings x = canon d (unfolded bindings x)
+abbrev pub unfolds_to : Declarations → Bindings → Var → FlatTerm
+unfolds_to d bindings x = canon d (unfolded bindings x)
 
 -- every variable in what a variable of the problem unfolds to is new, with a number from first up to below next, and has a kind as its sort
 abbrev pub UnfoldsToNew : Declarations → Problem → (first next : ℕ) → Bindings → Type 0
 UnfoldsToNew d problem first next bindings =
-    (x z : Var) → Contains (variables_of problem) x → Occurs z (plain (unfolding d bindings x))
+    (x z : Var) → Contains (variables_of problem) x → Occurs z (plain (unfolds_to d bindings x))
     → (z.fresh ≡ true) × (first ≤ z.name) × (z.name < next) × IsSort d z.sort × (kind d z.sort ≡ z.sort)
 
 -- the symbols of a flat form whose variables count as so many

@@ -1,11 +1,13 @@
 //! Laws of choices and their plans, each the contract of a function that does nothing.
 ghost use Rattle.fvn_plans.specs.Laws.{
   ValidChoicesAreAcceptable,
+  ClassesHaveOneKind,
   PlannedBindingsAreSolved,
   PlannedBindingsUnfoldToNew,
   SizesAddUp,
 };
 
+use fvn_nodes::unifiers_partition;
 use fvn_sums::{counts_solve, node_systems_are_sum_systems, values_unify};
 use fvn_supports::combinations_solve;
 
@@ -13,6 +15,13 @@ use fvn_supports::combinations_solve;
 pub fn valid_choices_are_acceptable()
     ensures { ValidChoicesAreAcceptable }
 {}
+
+/// A unifier is admitted by states alone whose classes have one kind each.
+pub fn classes_have_one_kind()
+    ensures { ClassesHaveOneKind }
+{
+    unifiers_partition();
+}
 
 /// The bindings of a plan are a solved list.
 pub fn planned_bindings_are_solved()

@@ -1,5 +1,5 @@
 -- Bindings by a plan keep kinds.
-use Rattle.std.proofs.Common.{◌≡◌, ◌≢◌, ℕ, ◌<◌, List, [], ◌∷◌, length, map, refl, sym, ap, ◌∙◌, subst, inl, inr, arith, All, Contains, Option, Some, None, slice_get}
+use Rattle.std.proofs.Common.{◌≡◌, ℕ, ◌<◌, List, [], ◌∷◌, length, map, refl, sym, ap, ◌∙◌, subst, inl, inr, arith, All, Contains, Option, Some, None}
 use Rattle.std.specs.List.{AllByRecursion}
 use Rattle.std.proofs.lemmas.List.Elements.{All-head, All-tail, All-contains}
 use Rattle.std.proofs.lemmas.Option.{slice_get_within}
@@ -11,10 +11,10 @@ use Rattle.fvn_terms.specs.declared.declarations.Axioms.{Axioms}
 use Rattle.fvn_terms.specs.declared.declarations.Axioms.TheVariants.{Free, Comm, AssocComm, AssocCommId}
 use Rattle.fvn_terms.specs.declared.declarations.Rank.{Rank}
 use Rattle.fvn_terms.specs.declared.declarations.Declarations.{Declarations}
-use Rattle.fvn_terms.specs.Term.{Term, Terms, var, app, none, more, pack}
+use Rattle.fvn_terms.specs.Term.{Term, var, app, pack}
 use Rattle.fvn_terms.specs.Signature.{kind, declared, axioms, IsSort, HasKind, HaveKinds, IsTerm, KeepsKinds}
 use Rattle.fvn_terms.specs.Equality.{constant, IsAssociative}
-use Rattle.fvn_forms.specs.Flat.{FlatTerm, fvar, fconstant, plain}
+use Rattle.fvn_forms.specs.Flat.{FlatTerm, fvar, plain}
 use Rattle.fvn_forms.specs.Good.{IsGood}
 use Rattle.fvn_forms.specs.Canon.{identity, empty_sum, sum, canon}
 use Rattle.fvn_forms.proofs.KindsKept.{kind_unique, both_of_kind}
@@ -22,7 +22,6 @@ use Rattle.fvn_forms.proofs.KindsOfSums.{sum_of_forms_of_kind}
 use Rattle.fvn_forms.proofs.ToCanon.{identity_is, canon_of_kind}
 use Rattle.fvn_flat.specs.Bindings.{Bindings}
 use Rattle.fvn_flat.specs.Partitions.{HasNoIdentity}
-use Rattle.fvn_flat.specs.Problems.{variables_of}
 use Rattle.fvn_flat.specs.Solving.{problem_of}
 use Rattle.fvn_flat.specs.SolvedLists.{Form, unbound, as_member, as_sum, Part, Plan, IsClass, IsBinding, names_of, over_classes, members_of, bound_as, unfolded}
 use Rattle.fvn_flat.specs.declared.solver.Pairs.{Pairs}
@@ -36,16 +35,22 @@ use Rattle.fvn_sums.specs.NodeSystems.{IsNodeColumn}
 use Rattle.fvn_frames.specs.Frames.{IsSumOperator}
 use Rattle.fvn_plans.specs.Binding.{IsBound}
 use Rattle.fvn_plans.specs.Choosing.{Systems, Choice}
-use Rattle.fvn_plans.specs.Plans.{IsSimpleAt, IsFormBy}
+use Rattle.fvn_plans.specs.Plans.{IsFormBy}
 use Rattle.fvn_plans.specs.Laws.{IsPlanned}
 use Rattle.fvn_plans.proofs.Triangular.{unfolded_keeps}
 use Rattle.fvn_plans.proofs.Kinded.{node_kinded}
 use Rattle.fvn_plans.proofs.Places.{own_class, variable_node}
 use Rattle.fvn_plans.proofs.Valid.{bound_column}
-use Rattle.fvn_plans.proofs.Planned.{has_sums, class_within, class_itself, class_node, class_below, bound_operator}
-use Rattle.fvn_plans.proofs.Parts.{HasConstant, HasNone, part_stands}
+use Rattle.fvn_plans.proofs.Planned.{has_sums, class_within, class_itself, class_below, bound_operator}
+use Rattle.fvn_plans.proofs.Parts.{part_stands}
 use Rattle.fvn_plans.proofs.Members.{each_member}
 use Rattle.fvn_plans.proofs.Standing.{some_members}
+
+bare : (a : Axioms) → identity a ≡ None → HasNoIdentity a
+bare Free e = tt
+bare Comm e = tt
+bare AssocComm e = tt
+bare (AssocCommId o) e = cc
 
 module _ {d : Declarations} (good : IsGood d) where
   -- a kind that a term has is a sort, and its own kind
@@ -103,10 +108,10 @@ module _ {d : Declarations} {given : Pairs} {first : ℕ} {t : NodeTable} {s : S
       (r.0, (named, record { rank = over.rank; listed = over.listed; gives = over.result }))
 
   -- what stands for a solution has the kind of f
-  pub part_kind : (f : OpId) (sum : IsSumOperator d t f) (k : SortId) → IsKindOf h.good f k → (p : Part) → Contains (plan.parts f) p → HasKind d (var p.variable) k
-  part_kind f sum k of p m = elim (part_stands h f sum p m) [
+  pub part_kind : (f : OpId) (sum_of : IsSumOperator d t f) (k : SortId) → IsKindOf h.good f k → (p : Part) → Contains (plan.parts f) p → HasKind d (var p.variable) k
+  part_kind f sum_of k of p m = elim (part_stands h f sum_of p m) [
     | inl r ↦
-        let q = column_kind f sum.associative r.number r.constant.used.column in
+        let q = column_kind f sum_of.associative r.number r.constant.used.column in
         subst (λ x. HasKind d (var x) k) (sym r.named) (subst (HasKind d (var (plan.name r.number))) (kind_of_unique h.good f q.0 k q.1.1 of) q.1.0)
     | inr r ↦
         let new = r.new in
@@ -123,12 +128,6 @@ module _ {d : Declarations} {given : Pairs} {first : ℕ} {t : NodeTable} {s : S
     where
       empty : (i : Option OpId) → identity (axioms d f) ≡ i → (HasNoIdentity (axioms d f) → ⊥) → HasKind d (plain (empty_sum d f i)) q
       empty None e n = absurd (n (bare (axioms d f) e))
-        where
-          bare : (a : Axioms) → identity a ≡ None → HasNoIdentity a
-          bare Free e = tt
-          bare Comm e = tt
-          bare AssocComm e = tt
-          bare (AssocCommId o) e = cc
       empty (Some o) e n = subst (HasKind d (constant o)) of.gives (h.good.fits.identity f o of.rank (identity_is (axioms d f) o e) of.listed)
 
       go : (l : List FlatTerm) → members_of d (problem_of given) (class_at t (class_of s)) plan f k ≡ l → AllByRecursion (λ u. HasKind d (plain u) q) l → HasKind d (plain (sum d f l)) q
@@ -171,13 +170,13 @@ module _ {d : Declarations} {given : Pairs} {first : ℕ} {t : NodeTable} {s : S
           let within = slice_get_within t.nodes i (App m.operator m.arguments) m.over in
           let r = term_kinded i within in
           let named = class_kind i k within m.of r.0 r.1 in
-          let whole = canon_of_kind d h.good.fits _ r.0 (over_names_kind i m.operator m.arguments m.over r.0 r.1) in
+          let whole = canon_of_kind d h.good.fits (app m.operator (names_of d (problem_of given) (class_at t (class_of s)) plan (pack (map (term_at t.nodes) m.arguments)))) r.0 (over_names_kind i m.operator m.arguments m.over r.0 r.1) in
           let same = sym (over_classes_is i m.operator m.arguments m.over) ∙ ap (over_classes d (problem_of given) (class_at t (class_of s)) plan) by.2 ∙ some_same _ u e in
           subst (HasKind d (plain u)) (sym named.1) (subst (λ w. HasKind d (plain w) r.0) same whole)
       go (as_sum f) by e =
-          let sum = bound_operator h f k by in
-          let column = ((h.systems.is_system f sum).exact k).0 (bound_column (has_sums h) (class_of s) y h.systems c f sum k by) in
-          let q = column_kind f sum.associative k column in
+          let sum_of = bound_operator h f k by in
+          let column = ((h.systems.is_system f sum_of).exact k).0 (bound_column (has_sums h) (class_of s) y h.systems c f sum_of k by) in
+          let q = column_kind f sum_of.associative k column in
           subst (HasKind d (plain u)) (sym q.1.0.1) (subst (λ w. HasKind d (plain w) q.0) (some_same _ u e) (sum_kind f k by q.0 q.1.1))
 
   binding_kind : (b : Var × FlatTerm) → IsBinding d (problem_of given) (class_at t (class_of s)) plan b → HasKind d (plain b.1) (kind d b.0.sort)
