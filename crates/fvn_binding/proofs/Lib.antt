@@ -1,3 +1,4 @@
 -- The lemmas of the crate.
 mod Ordering
 mod Naming
+mod Members
