@@ -1,6 +1,8 @@
 -- The symbols of a form, from those of its arguments.
-use Rattle.std.proofs.Common.{◌≡◌, ℕ, ◌+◌, ◌^◌, ◌<◌, ◌≤◌, Bool, true, false, List, [], ◌∷◌, ◌++◌, length, take, get_or, Some, None, refl, sym, ap, ◌∙◌, subst, inl, inr, arith}
+use Rattle.std.proofs.Common.{◌≡◌, ℕ, ◌+◌, ◌-◌, ◌^◌, ◌<◌, ◌≤◌, Bool, true, false, List, [], ◌∷◌, ◌++◌, length, take, get_or, Some, None, refl, sym, ap, ◌∙◌, subst, inl, inr, arith}
+use Rattle.std.specs.Prelude.{nat_eq, if◌then◌else◌}
 use Rattle.std.specs.List.{AllByRecursion}
+use Rattle.std.proofs.lemmas.Bool.{eqb-true}
 use Rattle.std.proofs.lemmas.List.{take_more}
 use Rattle.fvn_terms.specs.declared.plain.Var.{Var}
 use Rattle.fvn_terms.specs.declared.plain.OpId.{OpId}
@@ -37,6 +39,13 @@ own_of_nothing : (joined : Bool) → own joined 0 ≡ 1
 own_of_nothing true = refl
 own_of_nothing false = refl
 
+own_of_some_arguments : (n m : ℕ) → n ≡ m + 1 → own true n ≡ m
+own_of_some_arguments n m e = go (nat_eq n 0) refl
+  where
+    go : (b : Bool) → nat_eq n 0 ≡ b → (if b then 1 else n - 1) ≡ m
+    go true f = let z = eqb-true n 0 f in absurd (omega (arith, z, e))
+    go false f = omega (arith, e)
+
 joins_if : (a : Axioms) → IsAssociative a → joins a ≡ true
 joins_if Free h = absurd h
 joins_if Comm h = absurd h
@@ -56,7 +65,7 @@ module _ (d : Declarations) where
   own_of_app g false fnone h = own_of_nothing (joins (axioms d g))
   own_of_app g true (fmore t ts) h =
       let b = between_is t ts in
-      ap (λ j. own j (length (t ∷ funpack ts))) (joins_if (axioms d g) h.0.associative) ∙ sym b
+      ap (λ j. own j (length (t ∷ funpack ts))) (joins_if (axioms d g) h.0.associative) ∙ own_of_some_arguments (length (t ∷ funpack ts)) (length (funpack ts)) (omega arith) ∙ sym b
   own_of_app g false (fmore t ts) h = ap (λ j. own j (length (t ∷ funpack ts))) (joins_unless d (axioms d g) t (funpack ts) h.0)
 
   pub own_of_some : (t : FlatTerm) (f : OpId) → Settled d t → head_of t ≡ Some f → own (joins (axioms d f)) (length (args_of t)) ≡ own_size t

@@ -32,18 +32,6 @@ triangular_rest b bindings h = record {
   not_later = λ i j d l m. h.not_later (suc i) (suc j) d (omega arith) (omega arith);
 }
 
--- what is bound is in the list
-pub bound_listed : (bindings : Bindings) (x : Var) (u : FlatTerm) → bound bindings x ≡ Some u → Contains bindings (x, u)
-bound_listed [] x u is = cc
-bound_listed (b ∷ bindings) x u is = go (bound_listed bindings x u) (same_var b.0 x) refl is
-  where
-    go : (bound bindings x ≡ Some u → Contains bindings (x, u)) → (c : Bool) → same_var b.0 x ≡ c → (if c then Some b.1 else bound bindings x) ≡ Some u → Contains (b ∷ bindings) (x, u)
-    go ih true e f =
-        let k : b.1 ≡ u = cc in
-        let n : b.0 ≡ x = same_var_is b.0 x e in
-        (0, omega arith, λ i. (n i, k i))
-    go ih false e f = let m = ih f in (suc m.0, (let l = m.1 in omega arith), m.2)
-
 -- a variable that is not bound stays
 pub unfolded_free : (bindings : Bindings) (x : Var) → bound bindings x ≡ None → unfolded bindings x ≡ var x
 unfolded_free [] x free = refl
