@@ -25,9 +25,12 @@ module _ (d : Declarations) (t : NodeTable) (made : IsWellMade t) (s : State) (c
       subst (IsBoundUnder r tags e k) (sym head) refl
   under (alone u soft only) o is =
       let head : o ≡ None = sym is ∙ head_none d t made s closed r reading k within soft in
-      subst (IsBoundUnder r tags e k) (sym head) (marked_to d t made s closed r reading e listed k u, inl (λ two.
-          let p = users_differ d t made s closed r reading k two in
-          p.2 (only p.0 p.3 ∙ sym (only p.1 p.4))))
+      subst (IsBoundUnder r tags e k) (sym head) (
+        marked_to d t made s closed r reading e listed k u,
+        inl (λ two.
+            let p = users_differ d t made s closed r reading k two in
+            p.2 (only p.0 p.3 ∙ sym (only p.1 p.4))),
+      )
   under (tagged u shared tag) o is =
       let head : o ≡ None = sym is ∙ head_none d t made s closed r reading k within shared.soft in
       subst (IsBoundUnder r tags e k) (sym head) (marked_to d t made s closed r reading e listed k u, inr (two_users_of d t made s closed r reading k shared.first shared.second shared.different shared.uses_first shared.uses_second, tag))

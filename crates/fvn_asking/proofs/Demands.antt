@@ -68,8 +68,7 @@ module _ (d : Declarations) (t : NodeTable) (made : IsWellMade t) (s : State) (c
   pub constant_at : (j : ℕ) → j < length e.columns → IsConstantAt r tags e j ↔ IsConstant d t (class_of s) (tag_in tags) e.operator (slice_index e.columns j)
   constant_at j l =
       let b = bound_iff d t made s closed r reading tags e listed (slice_index e.columns j) (column_at j l) in
-      let u = (are_sums d t made s closed r reading e listed).exact j l in
-      (
+      let u = (are_sums d t made s closed r reading e listed).exact j l in (
         λ h. record { used = u.0 h.0; not_bound = λ k. h.1 (b.1 k) },
         λ h. (u.1 h.used, λ k. h.not_bound (b.0 k)),
       )
@@ -77,10 +76,9 @@ module _ (d : Declarations) (t : NodeTable) (made : IsWellMade t) (s : State) (c
   pub required_at : (j : ℕ) → j < length e.columns → IsRequiredIn d r tags e (slice_index e.columns j) ↔ IsRequired d t (class_of s) (tag_in tags) e.operator (slice_index e.columns j)
   required_at j l =
       let k = slice_index e.columns j in
-      let b = bound_iff d t made s closed r reading tags e listed k (column_at j l) in
-      (
-        λ h. record { bound = b.0 h.0; why = elim h.1 [ | inl bare ↦ inr bare | inr shared ↦ inl (shared_from d t made s closed r reading k (column_at j l) shared) ] },
-        λ h. (b.1 h.bound, elim h.why [ | inl shared ↦ inr (shared_in d t made s closed r reading k (column_at j l) shared) | inr bare ↦ inl bare ]),
+      let b = bound_iff d t made s closed r reading tags e listed k (column_at j l) in (
+        λ h. record { bound = b.0 h.0; why = elim h.1 [ inl bare ↦ inr bare | inr shared ↦ inl (shared_from d t made s closed r reading k (column_at j l) shared) ] },
+        λ h. (b.1 h.bound, elim h.why [ inl shared ↦ inr (shared_in d t made s closed r reading k (column_at j l) shared) | inr bare ↦ inl bare ]),
       )
 
   pub are_asked : (constants : List ℕ) (marks : List Bool) → AreConstantsOf r tags e constants → AreMarksOf d r tags e marks → AreAsked d t (class_of s) (tag_in tags) e.operator e.columns constants marks
@@ -115,8 +113,7 @@ module _ (d : Declarations) (r : Reading) (tags : List (Option OpId)) (e : Sums)
           (λ f. (h.exact j below).0 (sym at ∙ f), λ q. at ∙ (h.exact j below).1 q)
       | inr above ↦
           let same : j ≡ i = omega (arith, l, above) in
-          let at : slice_index_or (marks ++ b ∷ []) j true ≡ b = get_or_push marks b true j (h.as_many ∙ sym same) in
-          (
+          let at : slice_index_or (marks ++ b ∷ []) j true ≡ b = get_or_push marks b true j (h.as_many ∙ sym same) in (
             λ f. subst (λ n. IsRequiredIn d r tags e (slice_index e.columns n)) (sym same) (exact.0 (sym at ∙ f)),
             λ q. at ∙ exact.1 (subst (λ n. IsRequiredIn d r tags e (slice_index e.columns n)) same q),
           )

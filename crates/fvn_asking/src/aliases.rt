@@ -64,13 +64,7 @@ fn has_both(solutions: &[Solution], constants: &[usize], j: usize) -> bool
 }
 
 // Whether class k is shared, and bound to a sum of the operator.
-fn may_be_alias(
-    reading: &Reading,
-    n: usize,
-    tags: &[Option<OpId>],
-    sums: &Sums,
-    k: usize,
-) -> bool
+fn may_be_alias(reading: &Reading, n: usize, tags: &[Option<OpId>], sums: &Sums, k: usize) -> bool
     requires whole { IsWhole n reading.now }
     requires sums { IsWholeSums n sums.now }
     requires within { k < n }
@@ -127,7 +121,7 @@ pub fn has_no_alias(
     requires sized { All (λ v. length v ≡ length sums.now.columns) (vectors_of basis.now) }
     ensures { IfOk result (λ b. IsTrue b
         ↔ HasNoAlias sig.now table.now (class_of state.now) (tag_in tags.now)
-            sums.now.operator sums.now.columns (chosen number (vectors_of basis.now))) }
+        sums.now.operator sums.now.columns (chosen number (vectors_of basis.now))) }
 {
     let _sig = sig;
     let _state = state;
@@ -136,7 +130,15 @@ pub fn has_no_alias(
     let solutions = taken(alloc, basis, number)?;
     let constants = constants_of(alloc, reading, n, tags, sums)?;
     for j in 0..sums.columns.len() {
-        if is_alias_at(reading, n, tags, sums, solutions.as_slice(), constants.as_slice(), j) {
+        if is_alias_at(
+            reading,
+            n,
+            tags,
+            sums,
+            solutions.as_slice(),
+            constants.as_slice(),
+            j,
+        ) {
             return Ok(false);
         }
     }

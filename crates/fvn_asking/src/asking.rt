@@ -33,13 +33,7 @@ pub struct Requirements {
 }
 
 // Whether column j is that of a constant.
-fn is_constant_at(
-    reading: &Reading,
-    n: usize,
-    tags: &[Option<OpId>],
-    sums: &Sums,
-    j: usize,
-) -> bool
+fn is_constant_at(reading: &Reading, n: usize, tags: &[Option<OpId>], sums: &Sums, j: usize) -> bool
     requires whole { IsWhole n reading.now }
     requires sums { IsWholeSums n sums.now }
     requires within { j < length sums.now.columns }

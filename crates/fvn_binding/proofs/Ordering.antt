@@ -34,7 +34,7 @@ nothing_placed bindings distinct = record {
   not_later = λ i j d l m. absurd (omega (arith, m));
   before = λ a c m n. let l = m.1 in absurd (omega (arith, l));
   distinct = distinct;
-  from = λ c h. elim h [ | inl m ↦ let l = m.1 in absurd (omega (arith, l)) | inr m ↦ m ];
+  from = λ c h. elim h [ inl m ↦ let l = m.1 in absurd (omega (arith, l)) | inr m ↦ m ];
   all = λ c m. inr m;
 }
 
@@ -120,27 +120,35 @@ all_placed bindings placed rest h none = (
   record { not_itself = h.not_itself; not_later = h.not_later },
   λ b. (
     λ m. h.from b (inl m),
-    λ m. elim (h.all b m) [ | inl p ↦ p | inr q ↦ let l = q.1 in absurd (omega (arith, l, none)) ],
+    λ m. elim (h.all b m) [ inl p ↦ p | inr q ↦ let l = q.1 in absurd (omega (arith, l, none)) ],
   ),
 )
 
 -- some binding of a list has the greatest rank
 greatest : (rank : Var → ℕ) (b : Var × FlatTerm) (rest : Bindings) → (g : Var × FlatTerm) × Contains (b ∷ rest) g × ((c : Var × FlatTerm) → Contains (b ∷ rest) c → rank c.0 ≤ rank g.0)
-greatest rank b [] = (b, contains_here b [], λ c m. elim (contains_cases b [] c m) [ | inl same ↦ le_of rank b c same | inr n ↦ absurd (contains_none c n) ])
+greatest rank b [] = (b, contains_here b [], λ c m. elim (contains_cases b [] c m) [ inl same ↦ le_of rank b c same | inr n ↦ absurd (contains_none c n) ])
   where
     le_of : (rank : Var → ℕ) (b c : Var × FlatTerm) → b ≡ c → rank c.0 ≤ rank b.0
     le_of rank b c e = let n = ap (λ (p : Var × FlatTerm). rank p.0) e in omega (arith, n)
 greatest rank b (c ∷ rest) =
     let g = greatest rank c rest in
     elim (cases_lt (rank b.0) (rank g.0.0)) [
-      | inl below ↦ (g.0, contains_later b (c ∷ rest) g.0 g.1, λ x m. elim (contains_cases b (c ∷ rest) x m) [
-        | inl same ↦ let n = ap (λ (p : Var × FlatTerm). rank p.0) same in omega (arith, n, below)
-        | inr q ↦ g.2 x q
-      ])
-      | inr above ↦ (b, contains_here b (c ∷ rest), λ x m. elim (contains_cases b (c ∷ rest) x m) [
-        | inl same ↦ let n = ap (λ (p : Var × FlatTerm). rank p.0) same in omega (arith, n)
-        | inr q ↦ let l = g.2 x q in omega (arith, l, above)
-      ])
+      | inl below ↦ (
+        g.0,
+        contains_later b (c ∷ rest) g.0 g.1,
+        λ x m. elim (contains_cases b (c ∷ rest) x m) [
+          | inl same ↦ let n = ap (λ (p : Var × FlatTerm). rank p.0) same in omega (arith, n, below)
+          | inr q ↦ g.2 x q
+        ],
+      )
+      | inr above ↦ (
+        b,
+        contains_here b (c ∷ rest),
+        λ x m. elim (contains_cases b (c ∷ rest) x m) [
+          | inl same ↦ let n = ap (λ (p : Var × FlatTerm). rank p.0) same in omega (arith, n)
+          | inr q ↦ let l = g.2 x q in omega (arith, l, above)
+        ],
+      )
     ]
 
 -- where a rank falls, some variable that is bound occurs in no form

@@ -45,7 +45,15 @@ fn sum_binder(
         (λ i. IsBoundAt sig.now table.now (class_of state.now) (tag_in tags.now) reading.now.sums i k) }
 {
     for i in 0..reading.sums.len() {
-        if is_bound(sig, table, state, reading, tags, &reading.sums.as_slice()[i], k) {
+        if is_bound(
+            sig,
+            table,
+            state,
+            reading,
+            tags,
+            &reading.sums.as_slice()[i],
+            k,
+        ) {
             return Some(i);
         }
     }

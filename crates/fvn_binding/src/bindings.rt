@@ -109,11 +109,7 @@ fn class_term(
 }
 
 // Adds the binding of a class, where it is bound.
-fn add_class(
-    bindings: &mut Vec<(Var, Flat)>,
-    name: Var,
-    term: Option<Flat>,
-) -> Result<(), NoMemory>
+fn add_class(bindings: &mut Vec<(Var, Flat)>, name: Var, term: Option<Flat>) -> Result<(), NoMemory>
     ensures { OnOk result (HasAdded bindings.old.items bindings.new.items name term) }
 {
     match term {
@@ -142,7 +138,7 @@ fn class_bindings(
     requires binders { length binders.now ≡ length table.now.nodes }
     requires making { (k : ℕ) → k < length table.now.nodes → class_of state.now k ≡ k
         → IsMaking sig.now table.now (class_of state.now) names.now reading.now.sums
-            (map (λ w. w.items) shares.now) (slice_index_or binders.now k Binder.Nothing) k }
+        (map (λ w. w.items) shares.now) (slice_index_or binders.now k Binder.Nothing) k }
     ensures { IfOk result (λ v. AreClassesBelow sig.now table.now (class_of state.now) names.now
         reading.now.sums (map (λ w. w.items) shares.now) binders.now (length table.now.nodes) v.items) }
 {
@@ -151,7 +147,9 @@ fn class_bindings(
         if state.class_of(k) != k {
             continue;
         }
-        let term = class_term(alloc, sig, table, state, reading, names, shares, binders[k], k)?;
+        let term = class_term(
+            alloc, sig, table, state, reading, names, shares, binders[k], k,
+        )?;
         add_class(&mut bindings, names[k], term)?;
     }
     Ok(bindings)

@@ -1,8 +1,8 @@
 //! What bindings unfold to: the sizes before anything is unfolded, and the substitution.
 #![tactic(auto)]
 
-mod sizes;
 mod replacing;
+mod sizes;
 
-pub use sizes::is_too_large;
 pub use replacing::unfold;
+pub use sizes::is_too_large;

@@ -15,13 +15,7 @@ use fvn_terms::{NoMemory, Var};
 use std::alloc::Global;
 
 // The term with one variable replaced.
-fn replaced_one(
-    alloc: Global,
-    sig: &Signature,
-    x: Var,
-    u: &Flat,
-    t: Flat,
-) -> Result<Flat, NoMemory>
+fn replaced_one(alloc: Global, sig: &Signature, x: Var, u: &Flat, t: Flat) -> Result<Flat, NoMemory>
     requires binding { IsFitting sig.now (x, u.now) }
     requires term { Fits sig.now t }
     ensures exact { IfOk result (λ r. r ≡ step sig.now (x, u.now) t) }

@@ -23,18 +23,16 @@ constants_of-requires c =
 
 pub returns-then-is_alias_at : goal.returns-then-is_alias_at
 returns-then-is_alias_at c =
-    let vectors = vectors_of c.in_ok-solutions.solutions.items in
-    (
+    let vectors = vectors_of c.in_ok-solutions.solutions.items in (
       λ e. absurd (false≢true e),
       λ none. absurd (alias_of_column c.args.sig.now c.args.table.now c.recall_well_made.ensures c.args.state.now c.requires.closed c.args.reading.now c.requires.reading c.args.tags.now c.args.sums.now c.requires.listed c.in_ok-constants.constants.items c.in_ok-constants.ensures vectors c.loop-j.j (omega arith) (c.is_alias_at.ensures.0 c.if-is_alias_at.true)
-      (subst (HasNoAlias c.args.sig.now c.args.table.now (class_of c.args.state.now) (tag_in c.args.tags.now) c.args.sums.now.operator c.args.sums.now.columns) (sym c.in_ok-solutions.ensures) none)),
+          (subst (HasNoAlias c.args.sig.now c.args.table.now (class_of c.args.state.now) (tag_in c.args.tags.now) c.args.sums.now.operator c.args.sums.now.columns) (sym c.in_ok-solutions.ensures) none)),
     )
 
 pub returns : goal.returns
 returns c =
     let vectors = vectors_of c.in_ok-solutions.solutions.items in
-    let all = no_alias_of_columns c.args.sig.now c.args.table.now c.recall_well_made.ensures c.args.state.now c.requires.closed c.args.reading.now c.requires.reading c.args.tags.now c.args.sums.now c.requires.listed c.in_ok-constants.constants.items c.in_ok-constants.ensures vectors (λ j l. c.loop-j.invariant j (omega (arith, l))) in
-    (
+    let all = no_alias_of_columns c.args.sig.now c.args.table.now c.recall_well_made.ensures c.args.state.now c.requires.closed c.args.reading.now c.requires.reading c.args.tags.now c.args.sums.now c.requires.listed c.in_ok-constants.constants.items c.in_ok-constants.ensures vectors (λ j l. c.loop-j.invariant j (omega (arith, l))) in (
       λ e. subst (HasNoAlias c.args.sig.now c.args.table.now (class_of c.args.state.now) (tag_in c.args.tags.now) c.args.sums.now.operator c.args.sums.now.columns) c.in_ok-solutions.ensures all,
       λ none. refl,
     )
