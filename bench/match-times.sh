@@ -1,5 +1,5 @@
 #!/usr/bin/env bash
-# Times of matching a sum of different variables with as many equal pieces and with one fewer, of one variable that stands there several times, and of a sum with an identity, as LLVM builds it. Run at the top of the repository; it works in a copy, which it proves first.
+# Times of matching a sum of different variables with one piece fewer, as many, twice and three times as many, of one variable that stands there several times, and of a sum with an identity; and of commutative operators nested 4 to 16 deep, half of them without a matcher. Code as LLVM builds it: run at the top of the repository; it works in a copy, which it proves first. With `try` it proves nothing, and times code with checks.
 set -e
 here=$(cd "$(dirname "$0")/.." && pwd)
 there=$(mktemp -d)
@@ -10,6 +10,19 @@ for crate in fvn_base fvn_terms fvn_forms fvn_drafts fvn_sorts fvn_lindio fvn_fl
 grep -E '^fvn_(base|terms|forms|drafts|sorts|lindio|flat|match|match_tests):' "$here/crates.txt" > "$there/crates.txt"
 cd "$there/crates/fvn_match_tests"
 rm -rf must-fail
+# Nested commutative operators: all variables different, or the innermost and the outermost one the same, where the target has two constants there.
+towers=
+for depth in 4 8 12 16; do
+  pattern=A0 target=f
+  for ((i = 1; i <= depth; i++)); do
+    letter=$(printf '%b' "\\$(printf '%o' $((48 + i)))")
+    if ((i < depth)); then constant=f; else constant=g; fi
+    target="$target $constant h"
+    last=$pattern
+    pattern="$pattern A$letter h"
+  done
+  towers+="$depth deep | $pattern | $target"$'\n'"$depth deep | $last A0 h | $target"$'\n'
+done
 cat > src/tests.rt <<'PROGRAM'
 //! Times of matching.
 mod counting;
@@ -33,6 +46,10 @@ ghost use Rattle.fvn_flat.specs.Fits.{Fits};
 /// A sum without an identity, and one with.
 const SUM: &str = "A; f : -> A; g : -> A; h : A A -> A [assoc comm]";
 const SUM_WITH_IDENTITY: &str = "A; f : -> A; g : -> A; h : A A -> A [assoc comm id: g]";
+
+/// A commutative operator.
+const COMMUTATIVE: &str = "A; f : -> A; g : -> A; h : A A -> A [comm]";
+const TOWERS: &str = "@TOWERS@";
 
 fn told(rt: &HostRuntime, found: bool, start: Instant) {
     let what = if found { "matched" } else { "not matched" };
@@ -78,9 +95,25 @@ fn rows(rt: &HostRuntime, sig: &Signature) -> Result<(), NoMemory> {
         variables(rt, sig, number, number)?;
         variables(rt, sig, number, number - 1)?;
     }
+    for pieces in [250, 375] {
+        variables(rt, sig, 125, pieces)?;
+    }
     for word in ["A0 A0 A0 h h", "A0 A0 A0 A1 A1 h h h h", "A0 A1 A2 h h", "A0 A0 h A1 A1 h h"] {
         pattern(rt, sig, word, 200)?;
         pattern(rt, sig, word, 201)?;
+    }
+    Ok(())
+}
+
+/// Patterns and targets of nested commutative operators.
+fn towers(rt: &HostRuntime, sig: &Signature) -> Result<(), NoMemory> {
+    for row in TOWERS.lines() {
+        let (name, words) = row.split_once(" | ").unwrap_or((row, ""));
+        let (pattern, target) = words.split_once(" | ").unwrap_or((words, ""));
+        let _ = println!(rt; "match: {name}");
+        if let (Some(p), Some(t)) = (flat_of(rt.alloc(), sig, pattern)?, flat_of(rt.alloc(), sig, target)?) {
+            timed(rt, sig, &p, &t)?;
+        }
     }
     Ok(())
 }
@@ -104,7 +137,17 @@ fn times(rt: HostRuntime) -> Result<(), NoMemory> {
             Err(_) => assert!(rt; false, "no signature"),
         }
     }
+    let _ = println!(rt; "match: {COMMUTATIVE}");
+    match collected(&rt, alloc, COMMUTATIVE)?.finish(alloc) {
+        Ok(sig) => towers(&rt, &sig)?,
+        Err(_) => assert!(rt; false, "no signature"),
+    }
     Ok(())
 }
 PROGRAM
-rt test 2>&1 | grep -aE '^ *match: |not proved|no proof|error\[|test result' | sed 's/^ *//'
+awk -v towers="${towers//$'\n'/\\n}" '{ gsub("@TOWERS@", towers); print }' src/tests.rt > with-towers
+mv with-towers src/tests.rt
+case "$1" in
+try) rt try --test --seconds 900 2>&1 ;;
+*) rt test 2>&1 ;;
+esac | grep -aE '^ *match: |not proved|no proof|error|test result' | sed 's/^ *//'

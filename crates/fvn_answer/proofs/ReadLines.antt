@@ -33,12 +33,14 @@ use Rattle.fvn_answer.specs.Asked.{AreAsked, HaveSorts}
 use Rattle.fvn_answer.specs.Denoting.{as_new, IsFreshRenaming, Bind, OccursInVariant, Reads, ReadsVariant}
 use Rattle.fvn_answer.specs.Numberings.{OccursInForms, IsNumbering, new_name}
 use Rattle.fvn_answer.specs.Writing.{top, written}
-use Rattle.fvn_answer.specs.Lines.{values, variant, forms_of, forms_in, values_of, asked_name, written_pair, laid, text}
+use Rattle.fvn_lex.specs.Join.{IsPiece}
+use Rattle.fvn_answer.specs.Lines.{values, variant, forms_of, forms_in, values_of, asked_name, written_pair, laid, text, HasNoLineFeed}
 use Rattle.fvn_answer.specs.inner.Bytes.{IsPrintable}
 use Rattle.fvn_answer.specs.inner.Readable.{AreReadable}
 use Rattle.fvn_answer.proofs.BoundLines.{renaming-sorted, pairs_of, binds-once, AreBound, all-bound}
 use Rattle.fvn_answer.proofs.NewNames.{new_name-injective, new_name-reserved}
 use Rattle.fvn_answer.proofs.Pieces.{PairTokens, tokens-append, pieces-bindings, pieces-variant, bindings-tokens, joined-read}
+use Rattle.fvn_answer.proofs.LineFeeds.{joined-plain}
 use Rattle.fvn_answer.proofs.Printable.{fits-printable, printable}
 use Rattle.fvn_answer.proofs.ReadBack.{read_as, IsRead, can-read}
 use Rattle.fvn_answer.proofs.TextPlaces.{at-place}
@@ -136,6 +138,11 @@ module _ (d : Declarations) (names : Names) (readable : AreReadable d names) (fi
 
     -- Lines.
 
+    pub values-plain : (line : Text) → line ≡ text d names texts order (values (values_of s vars)) → HasNoLineFeed line
+    values-plain line is =
+        let shown = laid d names texts order (values (values_of s vars)) in
+        subst HasNoLineFeed (sym is) (joined-plain shown (subst (AllByRecursion IsPiece) (sym (pieces-bindings raws)) (bindings-tokens raws (all-tokens vars (λ x h. h)))))
+
     pub values-read : IsNumbering (forms_in (values (values_of s vars))) order → (line : Text) → line ≡ text d names texts order (values (values_of s vars)) →
         Reads d names texts vars line (substitution s)
     values-read numbering line is =
@@ -159,6 +166,12 @@ module _ (d : Declarations) (names : Names) (readable : AreReadable d names) (fi
     module _ (t : FlatTerm) (fitting : Fits d t) where
       term-read : IsRead d names readable fits tops order texts (written d names order t) (plain t) fitting.kinded.0
       term-read = can-read d names readable fits tops order t fitting.flat fitting.kinded.0 fitting.kinded.1 texts
+
+      pub variant-plain : (line : Text) → line ≡ text d names texts order (variant t (values_of s vars)) → HasNoLineFeed line
+      variant-plain line is =
+          let shown = laid d names texts order (variant t (values_of s vars)) in
+          subst HasNoLineFeed (sym is) (joined-plain shown (subst (AllByRecursion IsPiece) (sym (pieces-variant (written d names order t) raws))
+          (tokens-append (spell (written d names order t)) (spell_bindings raws) (written-tokens d names readable tops order few t (fits-printable d t fitting)) (bindings-tokens raws (all-tokens vars (λ x h. h))))))
 
       pub variant-read : IsNumbering (forms_in (variant t (values_of s vars))) order → (line : Text) → line ≡ text d names texts order (variant t (values_of s vars)) →
           ReadsVariant d names texts vars line (plain t) (substitution s)

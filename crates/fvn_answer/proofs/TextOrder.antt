@@ -40,13 +40,13 @@ same_is s t e = (bytes_decides s t).0 (texts_ties s t ∙ e)
 same_itself : (s : Text) → same s s ≡ true
 same_itself s = sym (texts_ties s s) ∙ (bytes_decides s s).1 refl
 
-not_after : (t u : Text) → is_after t u ≡ true → is_after u t ≡ false
+pub not_after : (t u : Text) → is_after t u ≡ true → is_after u t ≡ false
 not_after t u e = rw (nat_list_cmp_total.antisymm u t) (turned (text_cmp t u) e)
 
 neither_after : (t u : Text) → is_after t u ≡ false → is_after u t ≡ false → t ≡ u
 neither_after t u e h = same_is t u (between (text_cmp t u) e (rw (nat_list_cmp_total.antisymm u t) at h))
 
-after_trans : (t u v : Text) → is_after t u ≡ false → is_after u v ≡ false → is_after t v ≡ false
+pub after_trans : (t u v : Text) → is_after t u ≡ false → is_after u v ≡ false → is_after t v ≡ false
 after_trans t u v = upto nat_list_cmp_total t u v
 
 two_turned : (t u : Text) (l : List Text) (c e : Bool) → is_after t u ≡ c → is_after u t ≡ e → (if c then u ∷ t ∷ l else t ∷ u ∷ l) ≡ (if e then t ∷ u ∷ l else u ∷ t ∷ l)
@@ -55,7 +55,7 @@ two_turned t u l true false p q = refl
 two_turned t u l false true p q = refl
 two_turned t u l false false p q = let e = neither_after t u p q in λ i. e i ∷ sym e i ∷ l
 
-put-put : (t u : Text) (l : List Text) → put_text t (put_text u l) ≡ put_text u (put_text t l)
+pub put-put : (t u : Text) (l : List Text) → put_text t (put_text u l) ≡ put_text u (put_text t l)
 put-put t u [] = two_turned t u [] (is_after t u) (is_after u t) refl refl
 put-put t u (v ∷ l) = go (is_after t v) (is_after u v) (is_after t u) (is_after u t) refl refl refl refl (put-put t u l)
   where

@@ -1,5 +1,5 @@
 -- Lines: the values of a problem's variables, for a variant with a term before them.
-use Rattle.std.specs.Prelude.{◌≡◌, ◌≤◌, true, List, [], ◌∷◌, ◌++◌, map, length, slice_index_or}
+use Rattle.std.specs.Prelude.{◌≡◌, ◌≤◌, true, List, [], ◌∷◌, ◌++◌, map, length, Contains, slice_index_or}
 use Rattle.fvn_base.specs.Order.{IsBefore}
 use Rattle.fvn_lex.specs.Join.{Laid, join}
 use Rattle.fvn_terms.specs.declared.plain.Var.{Var}
@@ -19,6 +19,10 @@ pub data Shown : Type 0 where
   alone : FlatTerm → Shown
   values : List (Var × FlatTerm) → Shown
   variant : FlatTerm → List (Var × FlatTerm) → Shown
+
+-- no byte of the line is a line feed
+abbrev pub HasNoLineFeed : Text → Type 0
+HasNoLineFeed line = Contains line 10 → ⊥
 
 -- the forms of the values
 abbrev pub forms_of : List (Var × FlatTerm) → List FlatTerm

@@ -1,4 +1,5 @@
 -- What the steps of printing give, as bytes.
 pub mod Bytes
+pub mod Fronts
 pub mod Readable
 pub mod Shown

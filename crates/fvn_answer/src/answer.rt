@@ -7,8 +7,8 @@ ghost use Rattle.fvn_answer.specs.Answers.{numbered, ended, FitsEnd, IsStepsLine
 ghost use Rattle.fvn_answer.specs.inner.Bytes.{bytes_of};
 
 use crate::end::End;
-use crate::numbering::numbered_text;
 use crate::printed::Printed;
+use crate::search::numbered_text;
 use fvn_flat::Flat;
 use fvn_module::Module;
 use fvn_sorts::Signature;
@@ -61,7 +61,8 @@ fn basis_line(
 ) -> Result<Vec<u8>, NoMemory>
     requires names { AreReadable signature.now names.now }
     requires operator { f.0 < length signature.now.ops }
-    ensures { IfOk result (λ line. line.items ≡ codes "bound basis " ++ op_text signature.now names.now f) }
+    ensures { IfOk result (λ line.
+        line.items ≡ codes "bound basis " ++ op_text signature.now names.now f) }
 {
     let _signature = signature;
     let mut line = Vec::from_slice(alloc, b"bound basis ")?;
@@ -94,7 +95,8 @@ fn end_line(
 
 // The lines in byte order, each once.
 fn in_order(lines: Vec<Line>) -> Result<Vec<Line>, NoMemory>
-    ensures { IfOk result (λ sorted. AreInByteOrder (bytes_of lines.items) (bytes_of sorted.items)) }
+    ensures { IfOk result (λ sorted.
+        AreInByteOrder (bytes_of lines.items) (bytes_of sorted.items)) }
 {
     let mut sorted = lines;
     sorted.sort()?;
@@ -129,7 +131,8 @@ pub fn answer_text(
     end: &End,
 ) -> Result<Vec<u8>, NoMemory>
     requires end { FitsEnd declared.now.signature end.now }
-    ensures { IfOk result (λ text. IsAnswerText declared.now.signature declared.now.names (bytes_of lines.items) end.now text.items) }
+    ensures { IfOk result (λ text. IsAnswerText declared.now.signature declared.now.names
+        (bytes_of lines.items) end.now text.items) }
 {
     declared.recall_readable();
     let sorted = in_order(lines)?;

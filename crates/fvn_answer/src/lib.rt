@@ -3,10 +3,13 @@
 
 mod answer;
 mod end;
+mod front;
 mod laws;
 mod line;
+mod line_front;
 mod numbering;
 mod printed;
+mod search;
 mod texts;
 
 pub use answer::{Line, answer_text};

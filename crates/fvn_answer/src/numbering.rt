@@ -1,15 +1,12 @@
 //! Numberings of the variables of values.
-ghost use Rattle.std.specs.Prelude.{◌≡◌, ◌≤◌, [], ◌∷◌, IfOk, OnOk, length};
+ghost use Rattle.std.specs.Prelude.{◌≡◌, [], ◌∷◌, IfOk, OnOk};
 ghost use Rattle.fvn_flat.specs.Variables.{listed, with_variable, with_variables};
 ghost use Rattle.fvn_answer.specs.Numberings.{IsNumbering};
-ghost use Rattle.fvn_answer.specs.inner.Readable.{AreReadable};
 ghost use Rattle.fvn_answer.specs.Lines.{forms_in};
-ghost use Rattle.fvn_answer.specs.inner.Shown.{shown, lesser, with_values, CanPrint, BeginsAs, IsLeastAmong, IsNumberedText};
+ghost use Rattle.fvn_answer.specs.inner.Shown.{shown, with_values};
 
-use crate::printed::{Printed, text};
+use crate::printed::Printed;
 use fvn_flat::{Flat, Subst};
-use fvn_sorts::Signature;
-use fvn_syntax::{Names, VarNames};
 use fvn_terms::{NoMemory, Var};
 use std::alloc::Global;
 
@@ -73,8 +70,8 @@ fn add_values(vars: &mut Vec<Var>, subst: &Subst, list: &[Var]) -> Result<(), No
     Ok(())
 }
 
-// The variables of what is printed, in order of first occurrence.
-fn variables(alloc: Global, printed: &Printed<'_>) -> Result<Vec<Var>, NoMemory>
+/// The variables of what is printed, in order of first occurrence.
+pub(crate) fn variables(alloc: Global, printed: &Printed<'_>) -> Result<Vec<Var>, NoMemory>
     ensures { IfOk result (λ vars. IsNumbering (forms_in (shown printed.now)) vars.items) }
 {
     let mut vars = Vec::new(alloc);
@@ -93,94 +90,4 @@ fn variables(alloc: Global, printed: &Printed<'_>) -> Result<Vec<Var>, NoMemory>
             Ok(vars)
         }
     }
-}
-
-// The text that stands first in byte order.
-fn lesser(one: Vec<u8>, other: Vec<u8>) -> Vec<u8>
-    ensures { result.items ≡ lesser one.items other.items }
-{
-    if other.cmp(&one).is_lt() { other } else { one }
-}
-
-// The least text under a numbering that begins as the order does, up to k.
-fn least_text(
-    alloc: Global,
-    signature: &Signature,
-    names: &Names,
-    var_names: &VarNames,
-    printed: &Printed<'_>,
-    order: &mut Vec<Var>,
-    k: usize,
-) -> Result<Vec<u8>, NoMemory>
-    requires names { AreReadable signature.now names.now }
-    requires printed { CanPrint signature.now var_names.now.texts printed.now }
-    requires numbering { IsNumbering (forms_in (shown printed.now)) order.old.items }
-    requires within { k ≤ length order.old.items }
-    ensures kept { OnOk result (order.new.items ≡ order.old.items) }
-    ensures least { IfOk result (λ line. IsLeastAmong signature.now var_names.now.texts names.now (shown printed.now)
-        (BeginsAs signature.now var_names.now.texts names.now (shown printed.now) order.old.items k) line.items) }
-{
-    if k == order.len() {
-        let line = text(
-            alloc,
-            signature,
-            names,
-            var_names,
-            order.as_slice(),
-            printed,
-        )?;
-        return Ok(line);
-    }
-    let mut best = least_text(
-        alloc,
-        signature,
-        names,
-        var_names,
-        printed,
-        &mut *order,
-        k + 1,
-    )?;
-    for i in k + 1..order.len() {
-        order.swap(k, i);
-        let other = least_text(
-            alloc,
-            signature,
-            names,
-            var_names,
-            printed,
-            &mut *order,
-            k + 1,
-        )?;
-        order.swap(k, i);
-        best = lesser(best, other);
-    }
-    Ok(best)
-}
-
-/// The text of what is printed, where it has few variables the least one.
-pub(crate) fn numbered_text(
-    alloc: Global,
-    signature: &Signature,
-    names: &Names,
-    var_names: &VarNames,
-    printed: &Printed<'_>,
-) -> Result<Vec<u8>, NoMemory>
-    requires names { AreReadable signature.now names.now }
-    requires printed { CanPrint signature.now var_names.now.texts printed.now }
-    ensures { IfOk result (λ line. IsNumberedText signature.now var_names.now.texts names.now (shown printed.now) line.items) }
-{
-    let mut order = variables(alloc, printed)?;
-    if FEW_VARIABLES < order.len() {
-        let line = text(
-            alloc,
-            signature,
-            names,
-            var_names,
-            order.as_slice(),
-            printed,
-        )?;
-        return Ok(line);
-    }
-    let line = least_text(alloc, signature, names, var_names, printed, &mut order, 0)?;
-    Ok(line)
 }

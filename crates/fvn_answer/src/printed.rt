@@ -23,8 +23,8 @@ pub(crate) enum Printed<'a> {
     Variant(&'a Flat, &'a Subst, &'a [Var]),
 }
 
-// The text goes on with what stands before a binding.
-fn push_between(text: &mut Vec<u8>, first: bool) -> Result<(), NoMemory>
+/// The text goes on with what stands before a binding.
+pub(crate) fn push_between(text: &mut Vec<u8>, first: bool) -> Result<(), NoMemory>
     ensures { OnOk result (text.new.items ≡ between first text.old.items) }
 {
     if first {
@@ -75,7 +75,8 @@ fn push_pair(
     requires named { IsNamed signature.now var_names.now.texts x }
     requires value { IsPrintable signature.now (value subst.now x) }
     ensures { OnOk result (text.new.items ≡ text.old.items
-        ++ pair_text (value_texts signature.now var_names.now.texts names.now order.now subst.now x)) }
+        ++ pair_text
+        (value_texts signature.now var_names.now.texts names.now order.now subst.now x)) }
 {
     push_sorted(signature, names, text, var_names.text(x.name), x.sort)?;
     text.extend_from_slice(b" --> ")?;
@@ -96,7 +97,8 @@ fn values_text(
     requires names { AreReadable signature.now names.now }
     requires values { HavePrintable signature.now var_names.now.texts subst.now vars.now }
     ensures { IfOk result (λ line. line.items ≡
-        text signature.now names.now var_names.now.texts order.now (values (values_of subst.now vars.now))) }
+        text signature.now names.now var_names.now.texts order.now
+        (values (values_of subst.now vars.now))) }
 {
     let mut line = Vec::new(alloc);
     line.push(b'{')?;

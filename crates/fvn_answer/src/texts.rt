@@ -61,7 +61,8 @@ pub(crate) fn push_sorted(
 ) -> Result<(), NoMemory>
     requires names { AreReadable signature.now names.now }
     requires sort { IsSort signature.now s }
-    ensures { OnOk result (text.new.items ≡ text.old.items ++ text_of (sorted signature.now names.now name.now s)) }
+    ensures { OnOk result (text.new.items ≡
+        text.old.items ++ text_of (sorted signature.now names.now name.now s)) }
 {
     text.extend_from_slice(name)?;
     text.push(b':')?;
@@ -76,8 +77,8 @@ pub(crate) fn push_sorted(
     Ok(())
 }
 
-// The number of a variable, counted from 1.
-fn number(order: &[Var], x: Var) -> usize
+/// The number of a variable, counted from 1.
+pub(crate) fn number(order: &[Var], x: Var) -> usize
     ensures { result ≡ number order.now x }
 {
     let mut n: usize = 1;
@@ -111,8 +112,8 @@ pub(crate) fn push_new(
     push_sorted(signature, names, text, name.as_slice(), x.sort)
 }
 
-// Whether the arguments of an operator with these axioms may be exchanged.
-fn may_exchange(axioms: Axioms) -> bool
+/// Whether the arguments of an operator with these axioms may be exchanged.
+pub(crate) fn may_exchange(axioms: Axioms) -> bool
     ensures { result ≡ may_exchange axioms }
 {
     match axioms {
@@ -123,9 +124,10 @@ fn may_exchange(axioms: Axioms) -> bool
     }
 }
 
-// The texts of an operator's arguments, in byte order where they may be exchanged.
-fn arrange(axioms: Axioms, texts: &mut Vec<Vec<u8>>) -> Result<(), NoMemory>
-    ensures { OnOk result (bytes_of texts.new.items ≡ arranged_texts axioms (bytes_of texts.old.items)) }
+/// The texts of an operator's arguments, in byte order where they may be exchanged.
+pub(crate) fn arrange(axioms: Axioms, texts: &mut Vec<Vec<u8>>) -> Result<(), NoMemory>
+    ensures { OnOk result
+        (bytes_of texts.new.items ≡ arranged_texts axioms (bytes_of texts.old.items)) }
 {
     if may_exchange(axioms) {
         texts.sort()?;
@@ -133,8 +135,8 @@ fn arrange(axioms: Axioms, texts: &mut Vec<Vec<u8>>) -> Result<(), NoMemory>
     Ok(())
 }
 
-// A name, and in parentheses the texts of arguments where there are any.
-fn over(alloc: Global, name: &[u8], texts: &[Vec<u8>]) -> Result<Vec<u8>, NoMemory>
+/// A name, and in parentheses the texts of arguments where there are any.
+pub(crate) fn over(alloc: Global, name: &[u8], texts: &[Vec<u8>]) -> Result<Vec<u8>, NoMemory>
     ensures { IfOk result (λ text. text.items ≡ over_texts name.now (bytes_of texts.now)) }
 {
     let mut text = Vec::from_slice(alloc, name)?;
@@ -151,8 +153,8 @@ fn over(alloc: Global, name: &[u8], texts: &[Vec<u8>]) -> Result<Vec<u8>, NoMemo
     Ok(text)
 }
 
-// The operator of a term that is no variable.
-fn operator(t: &Flat) -> OpId
+/// The operator of a term that is no variable.
+pub(crate) fn operator(t: &Flat) -> OpId
     requires { variable_of t.now ≡ None }
     ensures { head_of t.now ≡ Some result }
 {
@@ -172,7 +174,8 @@ pub(crate) fn term_text(
 ) -> Result<Vec<u8>, NoMemory>
     requires names { AreReadable signature.now names.now }
     requires term { IsPrintable signature.now t.now }
-    ensures { IfOk result (λ text. text.items ≡ text_of (written signature.now names.now order.now t.now)) }
+    ensures { IfOk result (λ text.
+        text.items ≡ text_of (written signature.now names.now order.now t.now)) }
 {
     match t.as_var() {
         Some(x) => {

@@ -1,4 +1,2 @@
--- Lemmas of this crate. What is promised of `check` and of `verify` follows from their replies: these are for callers.
-pub mod Checks
-pub mod Verified
+-- Lemmas of this crate.
 mod Replying

@@ -1,24 +1,24 @@
--- What a flat form weighs, from its arguments.
-use Rattle.std.proofs.Common.{◌≡◌, ℕ, ◌+◌, ◌<◌, Bool, true, false, List, [], ◌∷◌, ◌++◌, length, take, get_or, map, Some, None, refl, sym, ap, ◌∙◌, subst, arith}
-use Rattle.std.proofs.lemmas.List.{take_more, map_more, append_assoc}
-use Rattle.fvn_terms.specs.declared.plain.Var.{Var}
+-- How often a symbol stands in a flat form, from its arguments.
+use Rattle.std.proofs.Common.{◌≡◌, ℕ, suc, ◌+◌, ◌*◌, ◌-◌, ◌<◌, ◌≤◌, Bool, true, false, if◌then◌else◌, List, [], ◌∷◌, ◌++◌, length, take, get_or, refl, sym, ap, ◌∙◌, subst, arith}
+use Rattle.std.proofs.lemmas.List.{take_more}
 use Rattle.fvn_terms.specs.declared.plain.OpId.{OpId}
-use Rattle.fvn_terms.specs.Substitution.{same_var}
-use Rattle.fvn_forms.specs.Flat.{FlatTerm, FlatTerms, fvar, fapp, fnone, fmore, fpack, nest, plain, plain_all}
-use Rattle.fvn_forms.proofs.Sums.{fpack-funpack}
-use Rattle.fvn_flat.specs.Forms.{variable_of, args_of}
-use Rattle.fvn_counts.specs.Weights.{Weights, weight, weight_all, one_if, of_variable, occurrences}
-use Rattle.fvn_counts.specs.Profiles.{capped}
+use Rattle.fvn_terms.specs.declared.declarations.Declarations.{Declarations}
+use Rattle.fvn_forms.specs.Flat.{FlatTerm, FlatTerms, fvar, fapp, fnone, fmore, fpack, funpack, nest, plain, plain_all}
+use Rattle.std.specs.List.{AllByRecursion}
+use Rattle.fvn_forms.specs.Settled.{Settled}
+use Rattle.fvn_forms.proofs.Sums.{fpack-funpack, SettledAll-funpack}
+use Rattle.fvn_flat.specs.Forms.{args_of}
+use Rattle.fvn_counts.specs.declared.symbols.Symbol.{Symbol}
+use Rattle.fvn_counts.specs.declared.symbols.Symbol.TheVariants.{Variable, Operator}
+use Rattle.fvn_counts.specs.Weights.{Weights, weight, weight_all, one_if, of_symbol, times, same_symbol}
+use Rattle.fvn_counts.specs.inner.Heads.{symbol_of, further}
+use Rattle.fvn_counts.proofs.SameSymbols.{same_symbol_sym}
 
 module _ (w : Weights) where
-  nested_weight : (f : OpId) → w.operator f ≡ 0 → (t : FlatTerm) (ts : FlatTerms) → weight w (nest f (plain t) (plain_all ts)) ≡ weight_all w (plain_all (fmore t ts))
-  nested_weight f e t fnone = omega arith
-  nested_weight f e t (fmore u us) = let k = nested_weight f e u us in omega arith
-
-  -- an operator that weighs nothing, joined or not, over arguments
-  pub weightless_over : (f : OpId) (joined : Bool) → w.operator f ≡ 0 → (t : FlatTerm) (ts : FlatTerms) → weight w (plain (fapp f joined (fmore t ts))) ≡ weight_all w (plain_all (fmore t ts))
-  weightless_over f true e t ts = nested_weight f e t ts
-  weightless_over f false e t ts = omega arith
+  -- a sum of one more term has one more operator
+  nested_weight : (f : OpId) (t : FlatTerm) (ts : FlatTerms) → weight w (nest f (plain t) (plain_all ts)) ≡ length (funpack ts) * w.operator f + weight_all w (plain_all (fmore t ts))
+  nested_weight f t fnone = omega arith
+  nested_weight f t (fmore u us) = let k = nested_weight f u us in omega arith
 
   -- what the forms weigh
   abbrev pub weight_in : List FlatTerm → ℕ
@@ -31,22 +31,61 @@ module _ (w : Weights) where
   pub weight_in-take_more : (l : List FlatTerm) (i : ℕ) (t : FlatTerm) → i < length l → t ≡ get_or l i t → weight_in (take (i + 1) l) ≡ weight_in (take i l) + weight w (plain t)
   weight_in-take_more l i t within is = ap weight_in (take_more l i t within) ∙ ap (λ u. weight_in (take i l ++ u ∷ [])) (sym is) ∙ weight_in-push (take i l) t
 
--- a variable stands in a form as often as in its arguments
-pub occurrences_in_args : (x : Var) (t : FlatTerm) → variable_of t ≡ None → occurrences x (plain t) ≡ weight_in (of_variable x) (args_of t)
-occurrences_in_args x (fvar y) e = cc
-occurrences_in_args x (fapp f true fnone) e = refl
-occurrences_in_args x (fapp f false fnone) e = refl
-occurrences_in_args x (fapp f joined (fmore t ts)) e = weightless_over (of_variable x) f joined refl t ts ∙ ap (λ us. weight_all (of_variable x) (plain_all us)) (sym (fpack-funpack (fmore t ts)))
+-- how often the symbol stands at the top of the form
+abbrev pub own_times : Symbol → FlatTerm → ℕ
+own_times s t = if same_symbol (symbol_of t) s then further t + 1 else 0
 
--- a variable alone
-one_capped : (b : Bool) → one_if b ≡ capped (one_if b)
-one_capped true = omega arith
-one_capped false = omega arith
+-- n times one or nothing
+alone : (b c : Bool) (n : ℕ) → b ≡ c → n ≡ 0 → one_if b ≡ if c then n + 1 else 0
+alone b c n e z = subst (λ x. one_if b ≡ if x then n + 1 else 0) e (go b)
+  where
+    go : (t : Bool) → one_if t ≡ if t then n + 1 else 0
+    go true = omega (arith, z)
+    go false = refl
 
-pub occurrences_in_variable : (x y : Var) (t : FlatTerm) → variable_of t ≡ Some y → one_if (same_var x y) ≡ capped (occurrences x (plain t))
-occurrences_in_variable x y (fvar z) e = let k : z ≡ y = cc in subst (λ v. one_if (same_var x v) ≡ capped (occurrences x (plain (fvar z)))) k (one_capped (same_var x z))
-occurrences_in_variable x y (fapp f joined ts) e = cc
+over_sum : (b c : Bool) (n : ℕ) → b ≡ c → 1 ≤ n → n * one_if b ≡ if c then (suc n - 2) + 1 else 0
+over_sum b c n e h = subst (λ x. n * one_if b ≡ if x then (suc n - 2) + 1 else 0) e (go b)
+  where
+    go : (t : Bool) → n * one_if t ≡ if t then (suc n - 2) + 1 else 0
+    go true = omega (arith, h)
+    go false = omega arith
 
--- one more count
-pub counted_more : {X : Type 0} (f : X → ℕ) (ns : List ℕ) (l : List X) (i : ℕ) (t : X) → i < length l → t ≡ get_or l i t → (ns ++ map f (take i l)) ++ f t ∷ [] ≡ ns ++ map f (take (i + 1) l)
-counted_more f ns l i t within is = append_assoc ns (map f (take i l)) (f t ∷ []) ∙ ap (λ m. ns ++ m) (ap (λ u. map f (take i l) ++ f u ∷ []) is ∙ sym (map_more f l i t within))
+module _ (d : Declarations) (s : Symbol) where
+  abbrev of_args : FlatTerm → ℕ
+  of_args t = weight_in (of_symbol s) (args_of t)
+
+  same_operator : (f : OpId) → same_symbol s (Operator f) ≡ same_symbol (Operator f) s
+  same_operator f = same_symbol_sym s (Operator f)
+
+  arguments_are : (f : OpId) (joined : Bool) (t : FlatTerm) (ts : FlatTerms) → of_args (fapp f joined (fmore t ts)) ≡ weight_all (of_symbol s) (plain_all (fmore t ts))
+  arguments_are f joined t ts = ap (λ us. weight_all (of_symbol s) (plain_all us)) (fpack-funpack (fmore t ts))
+
+  pub times_are : (t : FlatTerm) → Settled d t → times s (plain t) ≡ own_times s t + of_args t
+  times_are (fvar x) h =
+      let own : times s (plain (fvar x)) ≡ own_times s (fvar x) = alone (same_symbol s (Variable x)) (same_symbol (Variable x) s) 0 (same_symbol_sym s (Variable x)) refl in
+      let none : of_args (fvar x) ≡ 0 = refl in
+      omega (arith, own, none)
+  times_are (fapp f true fnone) h =
+      let own : times s (plain (fapp f true fnone)) ≡ own_times s (fapp f true fnone) = alone (same_symbol s (Operator f)) (same_symbol (Operator f) s) (0 - 2) (same_operator f) (omega arith) in
+      let none : of_args (fapp f true fnone) ≡ 0 = refl in
+      omega (arith, own, none)
+  times_are (fapp f false fnone) h =
+      let own : times s (plain (fapp f false fnone)) ≡ own_times s (fapp f false fnone) = alone (same_symbol s (Operator f)) (same_symbol (Operator f) s) 0 (same_operator f) refl in
+      let none : of_args (fapp f false fnone) ≡ 0 = refl in
+      omega (arith, own, none)
+  times_are (fapp f false (fmore t ts)) h =
+      let whole : times s (plain (fapp f false (fmore t ts))) ≡ one_if (same_symbol s (Operator f)) + weight_all (of_symbol s) (plain_all (fmore t ts)) = refl in
+      let own : one_if (same_symbol s (Operator f)) ≡ own_times s (fapp f false (fmore t ts)) = alone (same_symbol s (Operator f)) (same_symbol (Operator f) s) 0 (same_operator f) refl in
+      let args = arguments_are f false t ts in
+      omega (arith, whole, own, args)
+  times_are (fapp f true (fmore t ts)) h =
+      let many = h.0.two_or_more in
+      let whole : times s (plain (fapp f true (fmore t ts))) ≡ length (funpack ts) * one_if (same_symbol s (Operator f)) + weight_all (of_symbol s) (plain_all (fmore t ts)) = nested_weight (of_symbol s) f t ts in
+      let own : length (funpack ts) * one_if (same_symbol s (Operator f)) ≡ own_times s (fapp f true (fmore t ts)) = over_sum (same_symbol s (Operator f)) (same_symbol (Operator f) s) (length (funpack ts)) (same_operator f) (omega (arith, many)) in
+      let args = arguments_are f true t ts in
+      omega (arith, whole, own, args)
+
+-- the arguments of a settled form are settled
+pub args_settled : (d : Declarations) (t : FlatTerm) → Settled d t → AllByRecursion (Settled d) (args_of t)
+args_settled d (fvar x) h = tt
+args_settled d (fapp f joined ts) h = SettledAll-funpack d ts h.1

@@ -1,7 +1,11 @@
 -- The lemmas of the crate.
 mod Steps
-mod Instances
+mod SameSymbols
 mod Arguments
-mod BracketFacts
-mod Gathered
+mod Noting
+mod Parts
+mod Keeping
+mod Instances
+mod Occurring
+mod Profiling
 mod Refusals

@@ -1,4 +1,5 @@
 -- What contracts of counts speak of.
 pub mod Weights
+pub mod Places
 pub mod Profiles
 pub mod inner

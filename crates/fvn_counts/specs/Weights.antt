@@ -1,13 +1,15 @@
--- How often a variable stands in a term, and how often operators that are not associative stand over arguments.
+-- How often a variable or an operator stands in a term.
 use Rattle.std.specs.Prelude.{◌≡◌, ℕ, ◌+◌, Bool, true, false}
 use Rattle.fvn_terms.specs.declared.plain.Var.{Var}
 use Rattle.fvn_terms.specs.declared.plain.OpId.{OpId}
-use Rattle.fvn_terms.specs.declared.declarations.Axioms.{Axioms}
-use Rattle.fvn_terms.specs.declared.declarations.Axioms.TheVariants.{Free, Comm, AssocComm, AssocCommId}
+use Rattle.fvn_terms.specs.declared.declarations.Axioms.TheVariants.{AssocCommId}
 use Rattle.fvn_terms.specs.declared.declarations.Declarations.{Declarations}
 use Rattle.fvn_terms.specs.Term.{Term, Terms, var, app, none, more}
 use Rattle.fvn_terms.specs.Signature.{axioms}
 use Rattle.fvn_terms.specs.Substitution.{same_var}
+use Rattle.fvn_forms.specs.Canon.{same_op}
+use Rattle.fvn_counts.specs.declared.symbols.Symbol.{Symbol}
+use Rattle.fvn_counts.specs.declared.symbols.Symbol.TheVariants.{Variable, Operator}
 
 -- what each variable, each constant and each operator over arguments weighs
 pub record Weights : Type 0 where
@@ -32,29 +34,30 @@ abbrev pub one_if : Bool → ℕ
 one_if true = 1
 one_if false = 0
 
--- x weighs one, and nothing else weighs anything
-abbrev pub of_variable : Var → Weights
-of_variable x = record { variable = λ y. one_if (same_var x y); constant = λ f. 0; operator = λ f. 0 }
+-- whether the two are one symbol
+abbrev pub same_symbol : Symbol → Symbol → Bool
+same_symbol (Variable x) (Variable y) = same_var x y
+same_symbol (Variable x) (Operator g) = false
+same_symbol (Operator f) (Variable y) = false
+same_symbol (Operator f) (Operator g) = same_op f g
 
--- how often x stands in the term
-abbrev pub occurrences : Var → Term → ℕ
-occurrences x = weight (of_variable x)
+-- the symbol weighs one, over arguments or alone, and nothing else weighs anything
+abbrev pub of_symbol : Symbol → Weights
+of_symbol s = record {
+  variable = λ x. one_if (same_symbol s (Variable x));
+  constant = λ f. one_if (same_symbol s (Operator f));
+  operator = λ f. one_if (same_symbol s (Operator f));
+}
 
--- whether an operator with these axioms keeps the brackets round its arguments
-abbrev pub keeps_brackets : Axioms → Bool
-keeps_brackets Free = true
-keeps_brackets Comm = true
-keeps_brackets AssocComm = false
-keeps_brackets (AssocCommId e) = false
+-- how often the symbol stands in the term; a sum of n terms has n - 1 operators
+abbrev pub times : Symbol → Term → ℕ
+times s = weight (of_symbol s)
 
 module _ (d : Declarations) where
-  -- an operator that is not associative weighs one over arguments, and nothing else weighs anything
-  abbrev pub of_brackets : Weights
-  of_brackets = record { variable = λ x. 0; constant = λ f. 0; operator = λ f. one_if (keeps_brackets (axioms d f)) }
-
-  -- how often operators that are not associative stand over arguments in the term
-  abbrev pub brackets : Term → ℕ
-  brackets = weight of_brackets
+  -- f has no identity and is none: no axiom brings or takes away an f
+  pub record IsKept (f : OpId) : Type 0 where
+    pub without_identity : (e : OpId) → axioms d f ≡ AssocCommId e → ⊥
+    pub no_identity : (g : OpId) → axioms d g ≡ AssocCommId f → ⊥
 
   -- what has an identity weighs nothing, and no identity does: equality modulo the axioms keeps such weights
   abbrev pub AreKept : Weights → Type 0

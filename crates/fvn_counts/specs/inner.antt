@@ -1,3 +1,4 @@
 -- What mirrors the code.
-pub mod Brackets
-pub mod Gathering
+pub mod Heads
+pub mod Rows
+pub mod Comparing

@@ -1,8 +1,11 @@
-//! What is counted of flat terms, by which most coverings are refused before any matching.
+//! What is counted of flat terms, by which coverings are refused before any matching.
 #![tactic(auto)]
 
-mod counting;
+mod comparing;
+mod kept;
 mod profile;
-mod variables;
+mod rows;
+mod symbols;
+mod walking;
 
 pub use profile::Profile;

@@ -65,7 +65,7 @@ impl<'a> Shown<'a> {
         requires that { IsFlatVariant sig.now other.now }
         ensures { IfOk result (λ r. IsTrue r ↔ CoversVariant sig.now self.now other.now) }
     {
-        if !self.profile.may_cover(other.profile) {
+        if !self.profile.may_cover(sig, other.profile) {
             return Ok(false);
         }
         let found = matches_both(

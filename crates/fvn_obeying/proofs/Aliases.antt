@@ -21,7 +21,7 @@ use Rattle.fvn_obeying.proofs.Laying.{laid_is_counted, one_laid}
 same_length : (l m : List FlatTerm) → SameCounts l m → length l ≡ length m
 same_length l m h = sym (length_sort l) ∙ ap length (sort_same_counts l m h) ∙ length_sort m
 
-module _ (d : Declarations) (class : ℕ → ℕ) (f : OpId) (values : ℕ → FlatTerm) (columns : List ℕ) (system : System) (basis : List (List ℕ)) (exact : (v : List ℕ) → Contains basis v ↔ IsMinimal system.columns (rows_of system) v) (constants : List ℕ) (may_be_zero : List Bool) (ch : IsChosen d class f values columns system basis constants may_be_zero) where
+module _ (d : Declarations) (f : OpId) (values : ℕ → FlatTerm) (columns : List ℕ) (system : System) (basis : List (List ℕ)) (exact : (v : List ℕ) → Contains basis v ↔ IsMinimal system.columns (rows_of system) v) (constants : List ℕ) (may_be_zero : List Bool) (ch : IsChosen d f values columns system basis constants may_be_zero) where
   sized : All (λ v. length v ≡ system.columns) basis
   sized = All-weaker (Contains basis) (λ v. length v ≡ system.columns) (λ v c. ((exact v).0 c).solves.sized) basis (All-contains_itself basis)
 

@@ -29,11 +29,11 @@ under (fvar x) = fnone
 under (fapp f joined ts) = ts
 
 module _ (d : Declarations) (f : OpId) where
-  build_free : axioms d f ≡ Free → (vs : List FlatTerm) → build d f vs ≡ fapp f false (fpack vs)
+  pub build_free : axioms d f ≡ Free → (vs : List FlatTerm) → build d f vs ≡ fapp f false (fpack vs)
   build_free e [] = refl
   build_free e (v ∷ vs) = ap (λ a. built d a f (v ∷ vs)) e
 
-  build_commutative : axioms d f ≡ Comm → (vs : List FlatTerm) → build d f vs ≡ fapp f false (fpack (sort vs))
+  pub build_commutative : axioms d f ≡ Comm → (vs : List FlatTerm) → build d f vs ≡ fapp f false (fpack (sort vs))
   build_commutative e [] = refl
   build_commutative e (v ∷ vs) = ap (λ a. built d a f (v ∷ vs)) e
 

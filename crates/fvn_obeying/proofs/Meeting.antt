@@ -24,12 +24,13 @@ use Rattle.fvn_sums.specs.Values.{AddUp, AddsNothing}
 use Rattle.fvn_sums.specs.Laws.{CountsSolve}
 use Rattle.fvn_frames.specs.Frames.{IsFrame, IsSumOperator, Uses}
 use Rattle.fvn_plans.specs.Binding.{AreAsked}
-use Rattle.fvn_obeying.specs.Obeying.{HasSums, IsTold, GoWith, ObeyTags}
+use Rattle.fvn_plans.specs.Tables.{HasSums}
+use Rattle.fvn_obeying.specs.Obeying.{IsTold, GoWith, ObeyTags}
 use Rattle.fvn_obeying.specs.Laws.{CountsMeet}
 use Rattle.fvn_obeying.proofs.Values.{constant_alone, constants_differ, may_be, bound_used, required_some}
 
 -- the component in a column of a list without repetition
-component_at : (columns v : List ℕ) → AllPairs ◌≢◌ columns → (j : ℕ) → j < length columns → component columns v (get_or columns j 0) ≡ get_or v j 0
+pub component_at : (columns v : List ℕ) → AllPairs ◌≢◌ columns → (j : ℕ) → j < length columns → component columns v (get_or columns j 0) ≡ get_or v j 0
 component_at [] v h j l = absurd (omega (arith, l))
 component_at (c ∷ columns) [] h j l = refl
 component_at (c ∷ columns) (n ∷ v) h zero l = ap (λ b. if b then n else component columns v c) (eq-eqb c c refl)
@@ -42,6 +43,14 @@ component_at (c ∷ columns) (n ∷ v) h (suc j) l =
 all_from : {X : Type 0} (P : X → Type 0) (xs : List X) → ((x : X) → Contains xs x → P x) → All P xs
 all_from P xs h = All-weaker (Contains xs) P h xs (All-contains_itself xs)
 
+-- a column that f uses is used by some row
+pub not_unused : (d : Declarations) (t : NodeTable) (class : ℕ → ℕ) (f : OpId) (columns : List ℕ) (system : System) → IsNodeSystem t class f columns system → (j : ℕ) → j < length columns → Uses d t class f (get_or columns j 0) → IsUnused (rows_of system) j → ⊥
+not_unused d t class f columns system is j l u z =
+    let row = row_at t class f columns u.row in
+    let listed : Contains (rows_of system) row = subst (λ rs. Contains rs row) (sym is.rows) (contains_map (row_at t class f columns) (sums t f) u.row u.listed) in
+    let zero = All-contains (λ r. get_or r j (pos 0) ≡ pos 0) (rows_of system) row z listed in
+    u.other (sym (get_or-map (coefficient class u.row (addends f (slice_get t.nodes u.row))) columns j 0 (pos 0) l) ∙ zero)
+
 module _ (law : CountsSolve) (d : Declarations) (t : NodeTable) (made : IsWellMade t) (has : HasSums d t) (s : State) (frame : IsFrame d t s) (told : IsTold d t (class_of s)) (values : ℕ → FlatTerm) (go_with : GoWith d t s values) (tag : ℕ → Option OpId) (obey : ObeyTags d t (class_of s) tag values) (f : OpId) (sum : IsSumOperator d t f) (columns : List ℕ) (system : System) (is : IsNodeSystem t (class_of s) f columns system) where
   add_up : AddUp d t (class_of s) f values
   add_up i a b listed over = go_with.are.built i f (a ∷ b ∷ []) over
@@ -50,14 +59,6 @@ module _ (law : CountsSolve) (d : Declarations) (t : NodeTable) (made : IsWellMa
   adds_nothing = all_from (λ p. p.0 ≡ f → parts d f (values (class_of s p.1)) ≡ []) t.units (λ p c same.
       let u = has.units p c in
       ap (parts d f) (go_with.are.built p.1 u.0 [] u.2) ∙ parts_identity d f u.0 (ap (λ o. identity (axioms d o)) (sym same) ∙ u.1))
-
-  -- a column that f uses is used by some row
-  not_unused : (j : ℕ) → j < length columns → Uses d t (class_of s) f (get_or columns j 0) → IsUnused (rows_of system) j → ⊥
-  not_unused j l u z =
-      let row = row_at t (class_of s) f columns u.row in
-      let listed : Contains (rows_of system) row = subst (λ rs. Contains rs row) (sym is.rows) (contains_map (row_at t (class_of s) f columns) (sums t f) u.row u.listed) in
-      let zero = All-contains (λ r. get_or r j (pos 0) ≡ pos 0) (rows_of system) row z listed in
-      u.other (sym (get_or-map (coefficient (class_of s) u.row (addends f (slice_get t.nodes u.row))) columns j 0 (pos 0) l) ∙ zero)
 
   columns_apart : (c e : ℕ) → c ≢ e → c < length columns → e < length columns → get_or columns c 0 ≢ get_or columns e 0
   columns_apart c e n l m same = elim (cases_order c e) [
@@ -69,7 +70,7 @@ module _ (law : CountsSolve) (d : Declarations) (t : NodeTable) (made : IsWellMa
   ]
 
   module _ (basis : List (List ℕ)) (exact : (v : List ℕ) → Contains basis v ↔ IsMinimal system.columns (rows_of system) v) (constants : List ℕ) (may_be_zero : List Bool) (asked : AreAsked d t (class_of s) tag f columns constants may_be_zero) where
-    pub counts_meet : CountsMeet d (class_of s) f values columns system basis constants may_be_zero
+    pub counts_meet : CountsMeet d f values columns system basis constants may_be_zero
     counts_meet =
         let solve = (law d t (class_of s) f sum.associative columns system is values go_with.are.settled adds_nothing).0 add_up in
         record {
@@ -81,7 +82,7 @@ module _ (law : CountsSolve) (d : Declarations) (t : NodeTable) (made : IsWellMa
             once = λ c m q.
                 let r = (asked.are_constant c).0 m in
                 let k = get_or columns c 0 in
-                let n = (solve q).1.used c r.0 (not_unused c r.0 r.1.used) in
+                let n = (solve q).1.used c r.0 (not_unused d t (class_of s) f columns system is c r.0 r.1.used) in
                 let a = ap (count q) (constant_alone d t made has s frame told values go_with tag obey f k r.1) in
                 omega (arith, n, a);
             different = λ c e m n ne v b p q.
@@ -98,12 +99,12 @@ module _ (law : CountsSolve) (d : Declarations) (t : NodeTable) (made : IsWellMa
                 let r = (asked.required j).0 z in
                 let k = get_or columns j 0 in
                 let some = required_some d t made has s frame told values go_with tag obey f k r.1 in
-                let n = (solve some.0).1.used j r.0 (not_unused j r.0 (bound_used d t made has s frame told values go_with tag obey f k r.1.bound)) in
+                let n = (solve some.0).1.used j r.0 (not_unused d t (class_of s) f columns system is j r.0 (bound_used d t made has s frame told values go_with tag obey f k r.1.bound)) in
                 (some.0, let p = some.1 in omega (arith, n, p));
           };
         }
 
 pub values_meet : (law : CountsSolve) (d : Declarations) (t : NodeTable) → IsWellMade t → HasSums d t → (s : State) → IsFrame d t s → IsTold d t (class_of s) → (values : ℕ → FlatTerm) → GoWith d t s values → (tag : ℕ → Option OpId) → ObeyTags d t (class_of s) tag values →
     (f : OpId) → IsSumOperator d t f → (columns : List ℕ) (system : System) → IsNodeSystem t (class_of s) f columns system → (basis : List (List ℕ)) → ((v : List ℕ) → Contains basis v ↔ IsMinimal system.columns (rows_of system) v) →
-    (constants : List ℕ) (may_be_zero : List Bool) → AreAsked d t (class_of s) tag f columns constants may_be_zero → CountsMeet d (class_of s) f values columns system basis constants may_be_zero
+    (constants : List ℕ) (may_be_zero : List Bool) → AreAsked d t (class_of s) tag f columns constants may_be_zero → CountsMeet d f values columns system basis constants may_be_zero
 values_meet law d t made has s frame told values go_with tag obey f sum columns system is basis exact constants may_be_zero asked = counts_meet law d t made has s frame told values go_with tag obey f sum columns system is basis exact constants may_be_zero asked

@@ -39,7 +39,7 @@ contains_flat_map f (y ∷ xs) x a c h = elim (contains_cases y xs x c) [
   | inr r ↦ Contains-append_right (f y) (flat_map f xs) a (contains_flat_map f xs x a r h)
 ]
 
-module _ (d : Declarations) (class : ℕ → ℕ) (f : OpId) (values : ℕ → FlatTerm) (columns : List ℕ) (system : System) (wide : system.columns ≡ length columns) (basis : List (List ℕ)) (constants : List ℕ) (may_be_zero : List Bool) (meet : CountsMeet d class f values columns system basis constants may_be_zero) where
+module _ (d : Declarations) (f : OpId) (values : ℕ → FlatTerm) (columns : List ℕ) (system : System) (wide : system.columns ≡ length columns) (basis : List (List ℕ)) (constants : List ℕ) (may_be_zero : List Bool) (meet : CountsMeet d f values columns system basis constants may_be_zero) where
   listed : List FlatTerm
   listed = flat_map (λ k. parts d f (values k)) columns
 
@@ -62,7 +62,7 @@ module _ (d : Declarations) (class : ℕ → ℕ) (f : OpId) (values : ℕ → F
             ∙ count_none q (parts d f (values (get_or columns j 0))) (λ c. out (contains_flat_map (λ k. parts d f (values k)) columns (get_or columns j 0) q (Contains-get_or columns j 0 l) c))
       ]
 
-  pub choose : CountsAreMadeUp → PiecesChoose → ((v : List ℕ) → Contains basis v ↔ IsMinimal system.columns (rows_of system) v) → IsChosen d class f values columns system basis constants may_be_zero
+  pub choose : CountsAreMadeUp → PiecesChoose → ((v : List ℕ) → Contains basis v ↔ IsMinimal system.columns (rows_of system) v) → IsChosen d f values columns system basis constants may_be_zero
   choose made_up chooses exact =
       let sized : All (λ v. length v ≡ system.columns) basis = All-weaker (Contains basis) (λ v. length v ≡ system.columns) (λ v c. ((exact v).0 c).solves.sized) basis (All-contains_itself basis) in
       let r = made_up system.columns (rows_of system) basis exact meet.counted meet.solve listed nothing in

@@ -19,15 +19,15 @@ use Rattle.fvn_nodes.specs.Laws.{UnifiersPartition}
 use Rattle.fvn_nodes.proofs.Admitting.{admits_apart, named_within}
 use Rattle.fvn_sums.specs.Laws.{UnifiersHaveValues}
 use Rattle.fvn_obeying.specs.Obeying.{GoWith, IsSumOf, ObeyTags}
-use Rattle.fvn_obeying.proofs.Kinded.{node_kinded}
+use Rattle.fvn_plans.proofs.Kinded.{node_kinded}
 
 -- the operator of a form that is a sum
-abbrev sum_head : FlatTerm → Option OpId
+abbrev pub sum_head : FlatTerm → Option OpId
 sum_head (fvar x) = None
 sum_head (fapp f true ts) = Some f
 sum_head (fapp f false ts) = None
 
-sum_told : (f : OpId) (v : FlatTerm) → (sum_head v ≡ Some f) ↔ IsSumOf f v
+pub sum_told : (f : OpId) (v : FlatTerm) → (sum_head v ≡ Some f) ↔ IsSumOf f v
 sum_told f (fvar x) = (λ e. cc, λ s. let p = s.1 in cc)
 sum_told f (fapp g true ts) = (λ e. let is : g ≡ f = cc in (ts, ap (λ o. fapp o true ts) is), λ s. let e = ap sum_head s.1 in e)
 sum_told f (fapp g false ts) = (λ e. cc, λ s. let e = ap sum_head s.1 in e)

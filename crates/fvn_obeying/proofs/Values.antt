@@ -30,7 +30,8 @@ use Rattle.fvn_nodes.proofs.Admitting.{decided, named_within}
 use Rattle.fvn_sums.specs.NodeSystems.{is_headed, addends, stands_in, coefficient, IsNodeColumn}
 use Rattle.fvn_frames.specs.Frames.{IsSolid, Uses, IsShared, MayBeConstant, HaveTwoHeads, IsFrame}
 use Rattle.fvn_plans.specs.Binding.{IsBound, solid, alone, tagged, IsConstant, IsRequired}
-use Rattle.fvn_obeying.specs.Obeying.{HasSums, IsTold, GoWith, IsSumOf, ObeyTags}
+use Rattle.fvn_plans.specs.Tables.{HasSums}
+use Rattle.fvn_obeying.specs.Obeying.{IsTold, GoWith, IsSumOf, ObeyTags}
 use Rattle.fvn_obeying.proofs.Heads.{head, build_head, build_constant, single_part, some_part}
 
 -- a difference is above zero or below by what its parts differ
@@ -42,7 +43,7 @@ balance m (suc n) = go (nat_lt m (suc n)) refl
     go true e = let l = ltb-true m (suc n) e in omega (arith, l)
     go false e = let l = ltb-false m (suc n) e in omega (arith, l)
 
-zero_told : (z : ℤ) → (z ≡ pos 0) ⊎ (z ≡ pos 0 → ⊥)
+pub zero_told : (z : ℤ) → (z ≡ pos 0) ⊎ (z ≡ pos 0 → ⊥)
 zero_told (pos zero) = inl refl
 zero_told (pos (suc n)) = inr (λ e. let f : above (pos (suc n)) ≡ 0 = ap above e in omega (arith, f))
 zero_told (negsuc n) = inr (λ e. let f : below (negsuc n) ≡ 0 = ap below e in omega (arith, f))
@@ -76,11 +77,11 @@ module _ (d : Declarations) (t : NodeTable) (made : IsWellMade t) (has : HasSums
       (λ assoc. length-map h.arguments (λ k. values (class k)) ∙ (has.pairs h.member f h.arguments h.over assoc).0)
 
   -- the name of a class is a node in it
-  record IsName (k : ℕ) : Type 0 where
-    own : class k ≡ k
-    within : k < length t.nodes
+  pub record IsName (k : ℕ) : Type 0 where
+    pub own : class k ≡ k
+    pub within : k < length t.nodes
 
-  own_name : (f : OpId) (k : ℕ) → IsNodeColumn t class f k → IsName k
+  pub own_name : (f : OpId) (k : ℕ) → IsNodeColumn t class f k → IsName k
   own_name f k h =
       let args = arguments_within t.nodes made.ordered h.sum f (h.left ∷ h.right ∷ []) h.over in
       elim (contains_cases (class h.sum) (class h.left ∷ class h.right ∷ []) k h.among) [

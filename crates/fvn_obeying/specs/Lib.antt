@@ -1,4 +1,6 @@
--- The words of plans: what classes are bound to, what is asked of choices, and values that obey.
+-- The words of covering: values that go with a frame, choices that they obey, and choices that cover a unifier.
 pub mod Obeying
 pub mod LaidOut
+pub mod Obeyed
+pub mod CoveringChoices
 pub mod Laws

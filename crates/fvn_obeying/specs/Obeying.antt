@@ -1,24 +1,16 @@
 -- Values that go with a frame, and tags that they obey.
-use Rattle.std.specs.Prelude.{◌≡◌, ◌≢◌, ◌⊎◌, ◌↔◌, ℕ, ◌<◌, true, List, [], length, Option, Some, Any, Contains}
+use Rattle.std.specs.Prelude.{◌≡◌, ◌≢◌, ◌⊎◌, ◌↔◌, ℕ, ◌<◌, true, length, Option, Some}
 use Rattle.fvn_terms.specs.declared.plain.OpId.{OpId}
 use Rattle.fvn_terms.specs.declared.declarations.Declarations.{Declarations}
-use Rattle.fvn_terms.specs.Signature.{axioms}
-use Rattle.fvn_terms.specs.Equality.{IsAssociative}
 use Rattle.fvn_forms.specs.Flat.{FlatTerm, FlatTerms, fapp}
 use Rattle.fvn_forms.specs.Canon.{identity}
-use Rattle.fvn_nodes.specs.Table.{NodeTable, IsOver}
+use Rattle.fvn_nodes.specs.Table.{NodeTable}
 use Rattle.fvn_nodes.specs.States.{class_of, is_apart}
 use Rattle.fvn_nodes.specs.declared.state.State.{State}
 use Rattle.fvn_sums.specs.Values.{AreValues}
 use Rattle.fvn_frames.specs.Frames.{IsSolid, Uses, IsShared}
 
--- what well-kinded problems give: sums stand over two subterms, and identities are nodes
-pub record HasSums (d : Declarations) (t : NodeTable) : Type 0 where
-  pub pairs : (i : ℕ) (f : OpId) (ks : List ℕ) → IsOver t.nodes i f ks → IsAssociative (axioms d f) → (length ks ≡ 2) × Contains t.subterms i
-  pub units : (p : OpId × ℕ) → Contains t.units p → (e : OpId) × (identity (axioms d p.0) ≡ Some e) × IsOver t.nodes p.1 e []
-  pub all_units : (i : ℕ) (f e : OpId) (ks : List ℕ) → Contains t.subterms i → IsOver t.nodes i f ks → identity (axioms d f) ≡ Some e → Any (λ p. p.0 ≡ f) t.units
-
--- of each class it is told whether an operator without an identity heads a member, and whether another operator uses it
+-- of each class it is told whether an operator without an identity heads a member, and whether an operator other than a given one uses it
 pub record IsTold (d : Declarations) (t : NodeTable) (class : ℕ → ℕ) : Type 0 where
   pub heads : (k : ℕ) → ((g : OpId) × IsSolid d t class g k) ⊎ ((g : OpId) → IsSolid d t class g k → ⊥)
   pub users : (f : OpId) (k : ℕ) → ((g : OpId) × (g ≢ f) × Uses d t class g k) ⊎ ((g : OpId) → Uses d t class g k → g ≡ f)

@@ -8,6 +8,10 @@ ghost use Rattle.fvn_obeying.specs.Laws.{
   TablesHaveSums,
   TagsExist,
   UnifiersGoWith,
+  ValuesObeyChoices,
+  ObeyedChoicesFall,
+  ObeyedChoicesCover,
+  FramesCover,
 };
 
 use fvn_nodes::unifiers_partition;
@@ -63,4 +67,38 @@ pub fn unifiers_go_with()
 {
     unifiers_have_values();
     unifiers_partition();
+}
+
+/// Values that go with a frame obey a possible choice.
+pub fn values_obey_choices()
+    ensures { ValuesObeyChoices }
+{
+    values_choose();
+    no_aliases();
+    made_up_by_taken();
+}
+
+/// Where values obey a choice, a class needs only classes of a lower rank.
+pub fn obeyed_choices_fall()
+    ensures { ObeyedChoicesFall }
+{}
+
+/// Where a unifier's values obey a choice, what the bindings of its plan unfold to covers it.
+pub fn obeyed_choices_cover()
+    ensures { ObeyedChoicesCover }
+{
+    unifiers_partition();
+    unifiers_go_with();
+    tables_have_sums();
+}
+
+/// At a frame that admits its partition, each unifier on kinds is covered by some choice.
+pub fn frames_cover()
+    ensures { FramesCover }
+{
+    unifiers_go_with();
+    tables_have_sums();
+    values_obey_choices();
+    obeyed_choices_fall();
+    obeyed_choices_cover();
 }

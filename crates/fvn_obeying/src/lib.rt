@@ -4,6 +4,7 @@
 mod laws;
 
 pub use laws::{
-    no_aliases, readings_tell, tables_have_sums, tags_exist, unifiers_go_with, values_are_laid_out,
-    values_choose, values_meet_what_is_asked,
+    frames_cover, no_aliases, obeyed_choices_cover, obeyed_choices_fall, readings_tell,
+    tables_have_sums, tags_exist, unifiers_go_with, values_are_laid_out, values_choose,
+    values_meet_what_is_asked, values_obey_choices,
 };

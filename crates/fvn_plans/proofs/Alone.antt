@@ -1,5 +1,5 @@
 -- A constant unfolds to a single summand.
-use Rattle.std.proofs.Common.{◌≡◌, ◌≢◌, ℕ, ◌<◌, ◌≤◌, List, [], ◌∷◌, length, map, zero, suc, replicate, refl, sym, ap, ◌∙◌, subst, inl, inr, arith, All, Contains, Some}
+use Rattle.std.proofs.Common.{◌≡◌, ◌≢◌, ℕ, ◌<◌, ◌≤◌, List, [], ◌∷◌, length, map, zero, suc, replicate, refl, sym, ap, ◌∙◌, subst, inl, inr, arith, Contains, Some}
 use Rattle.std.specs.List.{AllByRecursion}
 use Rattle.std.proofs.lemmas.Bool.{cases_lt}
 use Rattle.std.proofs.lemmas.List.{length-map}

@@ -1,5 +1,5 @@
 -- What the table of a well-kinded problem has: nodes of its terms, sums over two subterms, and the nodes of identities.
-use Rattle.std.proofs.Common.{◌≡◌, ℕ, zero, suc, ◌<◌, not, List, [], ◌∷◌, ◌++◌, length, map, refl, sym, ap, ◌∙◌, subst, inl, inr, arith, Any, Contains, Some, slice_get}
+use Rattle.std.proofs.Common.{◌≡◌, ℕ, zero, suc, ◌<◌, not, List, [], ◌∷◌, ◌++◌, length, map, refl, sym, ap, ◌∙◌, subst, inl, inr, arith, Contains, Some, slice_get}
 use Rattle.std.specs.List.{filter}
 use Rattle.std.proofs.lemmas.List.{length-map}
 use Rattle.std.proofs.lemmas.List.Elements.{All-head, All-tail, All-contains, Contains-append_cases}
@@ -16,15 +16,10 @@ use Rattle.fvn_forms.specs.FitsKinds.{FitsKinds}
 use Rattle.fvn_forms.specs.Canon.{identity}
 use Rattle.fvn_forms.proofs.ToCanon.{identity_is}
 use Rattle.fvn_flat.specs.Problems.{subterms, subterms_among, subterms_of, same_term, once, IsProblem}
+use Rattle.fvn_plans.specs.Tables.{HasSums}
 use Rattle.fvn_nodes.specs.Table.{NodeTable, IsWellMade, IsTableOf, IsUnitOf, IsOver, term_at}
 use Rattle.fvn_nodes.specs.declared.table.Node.TheVariants.{App}
 use Rattle.fvn_nodes.proofs.Nodes.{term_at-over, application_at}
-
--- sums stand over two subterms, and identities are nodes
-pub record HasSums (d : Declarations) (t : NodeTable) : Type 0 where
-  pub pairs : (i : ℕ) (f : OpId) (ks : List ℕ) → IsOver t.nodes i f ks → IsAssociative (axioms d f) → (length ks ≡ 2) × Contains t.subterms i
-  pub units : (p : OpId × ℕ) → Contains t.units p → (e : OpId) × (identity (axioms d p.0) ≡ Some e) × IsOver t.nodes p.1 e []
-  pub all_units : (i : ℕ) (f e : OpId) (ks : List ℕ) → Contains t.subterms i → IsOver t.nodes i f ks → identity (axioms d f) ≡ Some e → Any (λ p. p.0 ≡ f) t.units
 
 only_one : {X : Type 0} (x y : X) → Contains (y ∷ []) x → y ≡ x
 only_one x y (zero, l, e) = e

@@ -1,7 +1,7 @@
 -- Lemmas of choices and of their plans; the public ones are for callers.
 pub mod Triangular
 mod Terms
-mod Kinded
+pub mod Kinded
 mod Places
 mod Columns
 mod Using
@@ -13,7 +13,7 @@ mod Parts
 mod Members
 mod Standing
 mod Kinding
-mod Combined
+pub mod Combined
 mod Counts
 mod Values
 mod Occurring

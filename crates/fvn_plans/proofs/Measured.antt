@@ -11,7 +11,7 @@ use Rattle.fvn_terms.specs.Signature.{axioms}
 use Rattle.fvn_terms.specs.Equality.{IsAssociative}
 use Rattle.fvn_forms.specs.Flat.{FlatTerm, fvar, fapp, fpack, funpack, symbols}
 use Rattle.fvn_forms.specs.InOrder.{sort}
-use Rattle.fvn_forms.specs.Canon.{empty_sum, joined, all_parts, sum, inst}
+use Rattle.fvn_forms.specs.Canon.{empty_sum, joined, sum, inst}
 use Rattle.fvn_forms.specs.Settled.{SettledValues, IsPiece}
 use Rattle.fvn_forms.proofs.InOrder.{sort_same_counts, each_sort, length_sort}
 use Rattle.fvn_forms.proofs.Sums.{funpack-fpack, all_parts-pieces}

@@ -1,5 +1,5 @@
 -- The variables of a sum are those of its members, and those of a flat form are among those of its term.
-use Rattle.std.proofs.Common.{◌≡◌, Bool, true, false, List, [], ◌∷◌, refl, ◌⊎◌, inl, inr, Option, Some, None}
+use Rattle.std.proofs.Common.{Bool, true, false, List, [], ◌∷◌, ◌⊎◌, inl, inr, Option, Some, None}
 use Rattle.std.specs.Prelude.{if◌then◌else◌}
 use Rattle.std.specs.Ordering.{is_gt}
 use Rattle.fvn_terms.specs.declared.plain.Var.{Var}

@@ -1,5 +1,5 @@
 -- The classes of a state that admits a unifier's partition are of one kind.
-use Rattle.std.proofs.Common.{length, sym, subst, arith}
+use Rattle.std.proofs.Common.{subst, arith}
 use Rattle.fvn_terms.specs.Signature.{HasKind}
 use Rattle.fvn_terms.specs.Substitution.{apply}
 use Rattle.fvn_terms.proofs.Equal.{HasKind-apply}

@@ -1,5 +1,5 @@
 -- The parts of a plan: each stands for the one constant that its solution has, or for a new variable.
-use Rattle.std.proofs.Common.{◌≡◌, ℕ, ◌<◌, List, sym, ap, subst, ◌⊎◌, inl, inr, arith, All, Contains}
+use Rattle.std.proofs.Common.{◌≡◌, ℕ, ◌<◌, List, sym, ap, subst, ◌⊎◌, inl, inr, arith, Contains}
 use Rattle.std.proofs.lemmas.Bool.{cases_eq}
 use Rattle.std.proofs.lemmas.List.Elements.{All-contains}
 use Rattle.fvn_base.specs.Decided.{Decided}
@@ -28,6 +28,7 @@ use Rattle.fvn_plans.proofs.Bound.{bound_decided}
 module _ {d : Declarations} {given : Pairs} {first : ℕ} {t : NodeTable} {s : State} {y : Systems} {c : Choice} {next : ℕ} {plan : Plan} {bindings : Bindings} (h : IsPlanned d given first t s y c next plan bindings) (f : OpId) (sum : IsSumOperator d t f) where
   acceptable : IsAcceptable d t (class_of s) y c f
   acceptable = h.possible.acceptable f sum
+
   is_system : IsNodeSystem t (class_of s) f (y.columns f) (y.system f)
   is_system = h.systems.is_system f sum
 

@@ -23,7 +23,8 @@ use Rattle.fvn_plans.specs.Binding.{IsBound, solid, alone, tagged}
 use Rattle.fvn_plans.specs.Choosing.{Systems, Choice}
 use Rattle.fvn_plans.specs.Plans.{IsForSolution}
 use Rattle.fvn_plans.specs.Laws.{IsPlanned}
-use Rattle.fvn_plans.proofs.Kinded.{HasSums, tables_have_sums}
+use Rattle.fvn_plans.specs.Tables.{HasSums}
+use Rattle.fvn_plans.proofs.Kinded.{tables_have_sums}
 use Rattle.fvn_plans.proofs.Places.{node_of, is_node, own_class, sum_operator}
 
 -- the class of a column is that of a node

@@ -11,7 +11,7 @@ use Rattle.fvn_flat.specs.Partitions.{HasNoIdentity}
 use Rattle.fvn_nodes.specs.Table.{NodeTable, IsOver}
 use Rattle.fvn_sums.specs.NodeSystems.{IsIdentityClass, IsNodeColumn}
 use Rattle.fvn_frames.specs.Frames.{IsSolid}
-use Rattle.fvn_plans.proofs.Kinded.{HasSums}
+use Rattle.fvn_plans.specs.Tables.{HasSums}
 
 pub identity_of : (a : Axioms) (e : OpId) → HasNoIdentity a → identity a ≡ Some e → ⊥
 identity_of Free e b i = cc

@@ -12,7 +12,7 @@ use Rattle.fvn_flat.specs.Bindings.{Bindings}
 use Rattle.fvn_flat.specs.Partitions.{HasNoIdentity, IsNode}
 use Rattle.fvn_flat.specs.SumSystems.{IsSumSystem}
 use Rattle.fvn_flat.specs.Solving.{problem_of}
-use Rattle.fvn_flat.specs.SolvedLists.{Form, unbound, as_member, as_sum, Part, Plan, component, members, IsClass, IsFormOf, IsNew, StandsForClass, StandsForNone, RestsOn, members_of}
+use Rattle.fvn_flat.specs.SolvedLists.{Form, unbound, as_member, as_sum, Part, Plan, component, IsClass, IsFormOf, IsNew, StandsForClass, StandsForNone, RestsOn, members_of}
 use Rattle.fvn_flat.specs.declared.solver.Pairs.{Pairs}
 use Rattle.fvn_nodes.specs.Table.{NodeTable, term_at}
 use Rattle.fvn_nodes.specs.Laws.{class_at}
@@ -153,7 +153,7 @@ module _ {d : Declarations} {given : Pairs} {first : ℕ} {t : NodeTable} {s : S
 
   -- a new variable stands for parts of one operator only
   pub parts_apart : (f g : OpId) (p q : Part) → f ≢ g → Contains (plan.parts f) p → Contains (plan.parts g) q → IsNew d (problem_of given) (class_at t (class_of s)) plan p.variable → p.variable ≢ q.variable
-  parts_apart f g p q n m l new = 
+  parts_apart f g p q n m l new =
       let sum = h.plan_by.only f p m in
       elim (part_stands h f sum p m) [
         | inl r ↦ absurd (new.no_name r.number (column_class h f r.number r.constant.used.column) (sym r.named))

@@ -1,5 +1,5 @@
 -- A choice is acceptable exactly where it is valid for what is asked, and no shared class is a sum of a constant alone.
-use Rattle.std.proofs.Common.{◌≢◌, ◌≡◌, ℕ, ◌<◌, ◌≤◌, true, List, length, get_or, sym, ap, ◌∙◌, subst, inl, inr, arith, All, AllPairs, Contains}
+use Rattle.std.proofs.Common.{◌≢◌, ◌≡◌, ℕ, ◌<◌, ◌≤◌, List, length, get_or, sym, ap, ◌∙◌, subst, inl, inr, arith, AllPairs, Contains}
 use Rattle.std.specs.Prelude.{Bool, nat_lt}
 use Rattle.std.proofs.lemmas.Bool.{cases_order, ltb-true, lt-ltb}
 use Rattle.std.proofs.lemmas.List.Elements.{All-contains}
@@ -13,7 +13,8 @@ use Rattle.fvn_plans.specs.Binding.{IsBound, solid, alone, tagged, IsConstant, I
 use Rattle.fvn_plans.specs.Choosing.{Systems, Choice, taken, AreSystems, AreTakenTogether, IsAcceptable, member_count}
 use Rattle.fvn_plans.specs.Laws.{ValidChoicesAreAcceptable}
 use Rattle.fvn_plans.proofs.Columns.{all_from, component_at, column_is, column_sum_is, few_pass, one_passes}
-use Rattle.fvn_plans.proofs.Kinded.{HasSums, tables_have_sums}
+use Rattle.fvn_plans.specs.Tables.{HasSums}
+use Rattle.fvn_plans.proofs.Kinded.{tables_have_sums}
 use Rattle.fvn_plans.proofs.Solids.{solid_column}
 
 module _ {d : Declarations} {t : NodeTable} (has : HasSums d t) (class : ℕ → ℕ) (y : Systems) (systems : AreSystems d t class y) (c : Choice) (f : OpId) (sum : IsSumOperator d t f) where

@@ -4,6 +4,6 @@
 mod laws;
 
 pub use laws::{
-    classes_have_one_kind, planned_bindings_are_solved, planned_bindings_unfold_to_new, sizes_add_up,
-    valid_choices_are_acceptable,
+    classes_have_one_kind, planned_bindings_are_solved, planned_bindings_unfold_to_new,
+    sizes_add_up, valid_choices_are_acceptable,
 };

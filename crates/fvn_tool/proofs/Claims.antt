@@ -1,13 +1,18 @@
 -- What is promised of a run follows from its outcome.
 use Rattle.std.proofs.Common.{◌≡◌, ◌≤◌, ◌<◌, ◌+◌, ◌⊎◌, ℕ, List, [], ◌∷◌, ◌++◌, length, Option, Some, None, refl, sym, ap, ◌∙◌, subst, inl, inr, arith, append-nil, length-append}
+use Rattle.std.specs.Prelude.{AllPairs}
 use Rattle.std.specs.Io.KnownBytes.{IsAtEnd}
+use Rattle.std.proofs.lemmas.List.Elements.{All-nil, All-cons}
 use Rattle.fvn_base.proofs.Options.{Some-injective}
+use Rattle.fvn_base.specs.Order.{IsBefore}
 use Rattle.fvn_base.specs.declared.limits.TheConstants.{MODULE_BYTES}
 use Rattle.fvn_first.specs.declared.first.module_text.FirstModule.{FirstModule}
 use Rattle.fvn_first.specs.declared.first.problem_text.FirstProblem.{FirstProblem}
+use Rattle.fvn_first.specs.ModuleText.{IsModuleText}
 use Rattle.fvn_first.specs.ProblemText.{IsProblemText}
 use Rattle.fvn_first.specs.Laws.{ModulesAreDetermined, ModulesAreFirst, ProblemsAreDetermined}
 use Rattle.fvn_outside.specs.Source.{Takes, TakesCount}
+use Rattle.fvn_answer.specs.Lines.{HasNoLineFeed}
 use Rattle.fvn_commands.specs.declared.status.Status.{Status}
 use Rattle.fvn_commands.specs.declared.status.Status.TheVariants.{Solved, Nothing, Usage, ModuleRefused, ProblemRefused, Ended, ReadFault, WriteFault, NoMemory}
 use Rattle.fvn_commands.specs.Statuses.{IsSilent, IsSpoken, IsAnswering}
@@ -25,8 +30,9 @@ use Rattle.fvn_tool.specs.Replies.{complete, bound_size, line_of, IsReply, IsUni
 use Rattle.fvn_tool.specs.Runs.{Outside, Run, Leaves, HasFailed}
 use Rattle.fvn_tool.specs.Outcomes.{usage_line, too_long_line, IsOutcome, no_command, too_long, replied}
 use Rattle.fvn_tool.specs.Claims.{IsUnifyText, IsCommandText, IsOneText, RefusesText, TellsModule, AnswersCheck, RefusesWords, Asks, RefusesLongText, RefusesModule, RefusesProblem, HasNoProblem, IsAsked, IsRight, Shows, EndsComplete, AnswersRight, AnswersWithoutEvent, AnswersUnify, RefusesToVerify, RefusesToVerifyWords, AnswersVerify, IsReport}
-use Rattle.fvn_commands.proofs.Checks.{check_one_text, check_not_usage, check_refuses, check_no_module, check_tells, check_module}
-use Rattle.fvn_commands.proofs.Verified.{verify_one_text, verify_not_usage, verify_no_module, verify_answers, verify_yes, verify_refuses, verify_later, verify_refuses_words, verify_no_problem, verify_no_bindings, verify_verdict}
+use Rattle.fvn_promises.proofs.Checks.{check_one_text, check_not_usage, check_refuses, check_no_module, check_tells, check_module}
+use Rattle.fvn_promises.proofs.Verified.{verify_one_text, verify_not_usage, verify_no_module, verify_answers, verify_yes, verify_refuses, verify_later, verify_refuses_words, verify_no_problem, verify_no_bindings, verify_verdict}
+use Rattle.fvn_tool.proofs.LineFeeds.{line-plain}
 use Rattle.fvn_tool.proofs.Outcomes.{Leaves-weaker, Leaves-goes, Leaves-without_fault}
 use Rattle.fvn_tool.proofs.Shows.{shows_right, shows_end}
 use Rattle.fvn_free.proofs.Sizes.{same_sizes}
@@ -34,15 +40,34 @@ use Rattle.fvn_free.proofs.FreeSorted.{free_operators}
 
 -- Texts
 
-answer_one_text : (scope : FirstModule) (problem : FirstProblem) (s : Status) (t : List ℕ) → IsAnswer scope problem s t → IsUnifyText s t
-answer_one_text scope problem s t (unified c p is) = record { texts = line_of scope problem c ∷ []; end = complete 1; text_is = is; status_is = refl }
-answer_one_text scope problem s t (not_unified h is) = record { texts = []; end = complete 0; text_is = is; status_is = refl }
-answer_one_text scope problem s t (too_large h is) = record { texts = []; end = bound_size; text_is = is; status_is = refl }
+-- no two members of a short list
+none_apart : AllPairs IsBefore []
+none_apart i j d l m = absurd (omega (arith, l, m))
+
+one_apart : (line : List ℕ) → AllPairs IsBefore (line ∷ [])
+one_apart line i j d l m = absurd (omega (arith, l, m))
+
+answer_one_text : (bytes word : List ℕ) (scope : FirstModule) (problem : FirstProblem) → IsModuleText bytes scope → IsProblemText scope word problem
+    → (s : Status) (t : List ℕ) → IsAnswer scope problem s t → IsUnifyText s t
+answer_one_text bytes word scope problem m p s t (unified c q is) =
+    let plain : HasNoLineFeed (line_of scope problem c) = line-plain bytes word scope problem m p c in
+    record {
+      texts = line_of scope problem c ∷ [];
+      ordered = one_apart (line_of scope problem c);
+      plain = All-cons HasNoLineFeed (line_of scope problem c) [] plain (All-nil HasNoLineFeed);
+      end = complete 1;
+      text_is = is;
+      status_is = refl;
+    }
+answer_one_text bytes word scope problem m p s t (not_unified h is) =
+    record { texts = []; ordered = none_apart; plain = All-nil HasNoLineFeed; end = complete 0; text_is = is; status_is = refl }
+answer_one_text bytes word scope problem m p s t (too_large h is) =
+    record { texts = []; ordered = none_apart; plain = All-nil HasNoLineFeed; end = bound_size; text_is = is; status_is = refl }
 
 unify_one_text : (bytes word : List ℕ) (s : Status) (t : List ℕ) → IsUnifyReply bytes word s t → IsUnifyText s t
 unify_one_text bytes word s t (no_module h is) = is
 unify_one_text bytes word s t (no_problem scope m h is) = is
-unify_one_text bytes word s t (answered scope problem m p a) = answer_one_text scope problem s t a
+unify_one_text bytes word s t (answered scope problem m p a) = answer_one_text bytes word scope problem m p s t a
 
 reply_text : (command : Command) (bytes : List ℕ) (s : Status) (t : List ℕ) → IsReply command bytes s t → IsCommandText command s t
 reply_text check bytes s t r = check_one_text bytes s t r

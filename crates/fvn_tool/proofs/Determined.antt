@@ -26,8 +26,8 @@ use Rattle.fvn_free.proofs.Pairs.{given}
 use Rattle.fvn_free.proofs.Sizes.{same_sizes}
 use Rattle.fvn_free.proofs.FreeSorted.{free_operators}
 use Rattle.fvn_tool.proofs.Shows.{not_exceeded}
-use Rattle.fvn_commands.proofs.Checks.{check_determined}
-use Rattle.fvn_commands.proofs.Verified.{verify_determined}
+use Rattle.fvn_promises.proofs.Checks.{check_determined}
+use Rattle.fvn_promises.proofs.Verified.{verify_determined}
 use Rattle.fvn_tool.proofs.Claims.{outcome_usage, Comes, comes_long, comes_reply, comes, reply_no_module, reply_no_problem, reply_answers}
 
 pack-instance : (vars : List Var) (a b c : Substitution) → All (λ x. a x ≡ apply c (b x)) vars → pack (map a vars) ≡ apply_all c (pack (map b vars))

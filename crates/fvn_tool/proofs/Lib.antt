@@ -1,5 +1,6 @@
 -- Lemmas of this crate; none is for other crates.
 mod Printing
+mod LineFeeds
 mod Outcomes
 mod Claims
 mod Shows

@@ -12,8 +12,8 @@ use Rattle.fvn_commands.specs.Statuses.{IsSilent, IsSpoken}
 use Rattle.fvn_tool.specs.Runs.{Outside, Leaves, WritesWhole}
 use Rattle.fvn_tool.specs.Replies.{IsReply, IsUnifyReply, no_module, no_problem, answered, IsAnswer, unified, not_unified, too_large}
 use Rattle.fvn_tool.specs.Outcomes.{usage_line, too_long_line, IsOutcome, no_command, too_long, replied}
-use Rattle.fvn_commands.proofs.Checks.{check_spoken}
-use Rattle.fvn_commands.proofs.Verified.{verify_spoken}
+use Rattle.fvn_promises.proofs.Checks.{check_spoken}
+use Rattle.fvn_promises.proofs.Verified.{verify_spoken}
 
 module _ (words : List (List ℕ)) (source : Outside) (status : Status) (text : List ℕ) where
   pub usage_outcome : status ≡ Usage → command_of words ≡ None → text ≡ usage_line → IsOutcome words source status text

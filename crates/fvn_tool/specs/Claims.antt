@@ -1,6 +1,7 @@
 -- What is promised of a run.
-use Rattle.std.specs.Prelude.{◌≡◌, ◌≤◌, ◌<◌, ◌⊎◌, ◌↔◌, ℕ, zero, suc, List, [], length, map, All, Option, Some, None}
+use Rattle.std.specs.Prelude.{◌≡◌, ◌≤◌, ◌<◌, ◌⊎◌, ◌↔◌, ℕ, zero, suc, List, [], length, map, All, AllPairs, Option, Some, None}
 use Rattle.fvn_base.specs.declared.limits.TheConstants.{MODULE_BYTES}
+use Rattle.fvn_base.specs.Order.{IsBefore}
 use Rattle.fvn_terms.specs.Substitution.{Substitution}
 use Rattle.fvn_terms.specs.CompleteSets.{IsCompleteSet, IsApart, IsShortest}
 use Rattle.fvn_first.specs.declared.first.module_text.FirstModule.{FirstModule}
@@ -9,6 +10,7 @@ use Rattle.fvn_first.specs.ModuleText.{IsModuleText}
 use Rattle.fvn_first.specs.ProblemText.{IsProblemText}
 use Rattle.fvn_module.specs.Contents.{Contents}
 use Rattle.fvn_module.specs.ModuleText.{IsModule}
+use Rattle.fvn_answer.specs.Lines.{HasNoLineFeed}
 use Rattle.fvn_commands.specs.declared.status.Status.{Status}
 use Rattle.fvn_commands.specs.declared.status.Status.TheVariants.{Solved, Nothing, Usage, ModuleRefused, ProblemRefused, Ended, ReadFault, WriteFault, NoMemory}
 use Rattle.fvn_commands.specs.Statuses.{IsSilent, IsAnswering}
@@ -30,9 +32,11 @@ status_of (complete zero) = Nothing
 status_of (complete (suc n)) = Solved
 status_of bound_size = Ended
 
--- lines and an end line, whose status this is
+-- lines in byte order, each once and none with a line feed inside, and an end line, whose status this is
 pub record IsAnswerText (status : Status) (text : List ℕ) : Type 0 where
   pub texts : List (List ℕ)
+  pub ordered : AllPairs IsBefore texts
+  pub plain : All HasNoLineFeed texts
   pub end : End
   pub text_is : text ≡ answer_text texts end
   pub status_is : status ≡ status_of end

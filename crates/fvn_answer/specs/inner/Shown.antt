@@ -1,7 +1,6 @@
 -- What the program prints, and the order of its variables.
-use Rattle.std.specs.Prelude.{ℕ, ◌≡◌, ◌<◌, ◌≤◌, ◌^◌, if◌then◌else◌, List, length, All, slice_index_or}
-use Rattle.std.specs.Ordering.{is_lt, nat_cmp}
-use Rattle.std.specs.Cmp.Lexicographic.{slice_cmp}
+use Rattle.std.specs.Prelude.{ℕ, ◌≡◌, ◌<◌, ◌≤◌, ◌^◌, List, Option, Some, None, length, All, slice_index_or}
+use Rattle.std.specs.Global.{Vec}
 use Rattle.fvn_base.specs.Order.{IsBefore}
 use Rattle.fvn_terms.specs.declared.plain.Var.{Var}
 use Rattle.fvn_terms.specs.declared.declarations.Declarations.{Declarations}
@@ -17,16 +16,13 @@ use Rattle.fvn_answer.specs.Numberings.{IsNumbering}
 use Rattle.fvn_answer.specs.Writing.{text_of, sorted, written}
 use Rattle.fvn_answer.specs.Lines.{Shown, alone, values, variant, forms_of, forms_in, values_of, asked_name, text, IsTextOf}
 use Rattle.fvn_answer.specs.inner.Bytes.{IsPrintable}
+use Rattle.fvn_answer.specs.inner.Fronts.{IsAtMost}
 
 -- what is printed
 abbrev pub shown : Printed → Shown
 shown (Alone t) = alone t.now
 shown (Values s vars) = values (values_of s.now vars.now)
 shown (Variant t s vars) = variant t.now (values_of s.now vars.now)
-
--- the text that stands first in byte order
-abbrev pub lesser : Text → Text → Text
-lesser one other = if is_lt (slice_cmp nat_cmp other one) then other else one
 
 -- the variables of the values of these variables, after those that are there
 abbrev pub with_values : Bindings → List Var → List Var → List Var
@@ -54,13 +50,6 @@ module _ (d : Declarations) (texts : List Text) where
       pub numbering : IsNumbering (forms_in it) other
       pub alike : (i : ℕ) (x : Var) → i < k → slice_index_or other i x ≡ slice_index_or order i x
 
-    -- w is the text of one of these numberings, and none of them has a text before it
-    pub record IsLeastAmong (it : Shown) (Among : List Var → Type 0) (w : Text) : Type 0 where
-      pub order : List Var
-      pub among : Among order
-      pub text_is : w ≡ text d names texts order it
-      pub least : (other : List Var) → Among other → IsBefore (text d names texts other it) w → ⊥
-
     -- a numbering that begins as the order does, up to k, and has at k one of its variables from k on and before i
     pub record Tried (it : Shown) (order : List Var) (k i : ℕ) (other : List Var) : Type 0 where
       pub begins : BeginsAs it order k other
@@ -68,6 +57,29 @@ module _ (d : Declarations) (texts : List Text) where
       pub from : k ≤ place
       pub upto : place < i
       pub next : (x : Var) → slice_index_or other k x ≡ slice_index_or order place x
+
+    -- w is the text under some numbering
+    pub record IsTextOfSome (it : Shown) (w : Text) : Type 0 where
+      pub order : List Var
+      pub numbering : IsNumbering (forms_in it) order
+      pub text_is : w ≡ text d names texts order it
+
+    -- w is the text under some numbering, and no text under a numbering stands before it
+    pub record IsLeastText (it : Shown) (w : Text) : Type 0 where
+      pub one : IsTextOfSome it w
+      pub least : (other : List Var) → IsNumbering (forms_in it) other → IsBefore (text d names texts other it) w → ⊥
+
+    -- the best text, if there is one, is that under some numbering
+    abbrev pub IsBestText : Shown → Option (Vec ℕ) → Type 0
+    IsBestText it None = Unit {0}
+    IsBestText it (Some line) = IsTextOfSome it line.items
+
+    -- After a search of the numberings that begin as the order does, up to k, none of their texts stands before the
+    -- best one, and no text that did not stand before the best one does so now.
+    pub record IsSearched (it : Shown) (order : List Var) (k : ℕ) (old new : Option (Vec ℕ)) : Type 0 where
+      pub one : IsBestText it new
+      pub keeps : (w : Text) → IsAtMost old w → IsAtMost new w
+      pub most : (other : List Var) → BeginsAs it order k other → IsAtMost new (text d names texts other it)
 
     -- w is the text of what is printed, and there are not more variables than numbers
     pub record IsNumberedText (it : Shown) (w : Text) : Type 0 where

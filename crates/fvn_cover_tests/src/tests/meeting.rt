@@ -15,6 +15,7 @@ pub struct Meeting {
 }
 
 impl Meeting {
+    /// No piece has come yet.
     pub fn new() -> Meeting {
         Meeting {
             first: AtomicBool::new(false),

@@ -14,6 +14,7 @@ fn first_rank<'a>(sig: &'a Signature, op: OpId) -> Option<&'a Rank>
     sig.declarations().declared(op)?.ranks.as_slice().first()
 }
 
+/// Whether the number is that of a sort or a kind.
 pub fn is_sort(sig: &Signature, s: SortId) -> bool
     ensures { IsTrue result → IsSort sig.now s }
 {

@@ -1,5 +1,5 @@
 -- The law, by its lemma.
-use Rattle.fvn_obeying.proofs.Kinded.{tables_have_sums}
+use Rattle.fvn_plans.proofs.Kinded.{tables_have_sums}
 use Rattle.fvn_obeying.proofs.laws.tables_have_sums.Goals as goal
 
 pub returns : goal.returns

@@ -12,9 +12,7 @@ returns-then-not-may_cover c =
     let b = c.args.other.now in
     let p : IsProfile (a.terms ++ values_of a) c.self.inside.profile.now = rw c.self.view_is at c.self.invariant.1 in
     let q : IsProfile (b.terms ++ values_of b) c.other.inside.profile.now = rw c.other.view_is at c.other.invariant.1 in
-    let fit = both_fit d a.terms (values_of a) c.requires.this.terms (values_fit d a c.requires.this) in
-    let other_fit = both_fit d b.terms (values_of b) c.requires.that.terms (values_fit d b c.requires.that) in
-    refused d a b c.requires.alike (c.may_cover.ensures.none c.if-not-may_cover.true d (a.terms ++ values_of a) (b.terms ++ values_of b) p q fit other_fit)
+    refused d a b c.requires.alike (c.may_cover.ensures.none c.if-not-may_cover.true (a.terms ++ values_of a) (b.terms ++ values_of b) p q)
 
 pub matches_both-requires-clause-patterns : goal.matches_both-requires-clause-patterns
 matches_both-requires-clause-patterns c =

@@ -1,0 +1,10 @@
+-- what is left decides
+use Rattle.std.proofs.Common.{◌≡◌, [], ◌∷◌, ◌++◌, drop}
+use Rattle.fvn_answer.specs.inner.Bytes.{bytes_of, with_each}
+use Rattle.fvn_answer.specs.inner.Fronts.{upto}
+use Rattle.fvn_answer.proofs.front.over_least.Given as goal
+
+abbrev pub invariant-loop-t : goal.invariant-loop-t
+invariant-loop-t l =
+    with_each 40 l.fn.name (upto l.exchange l.least (bytes_of l.fn.texts) ++ l.least ∷ [])
+    ≡ with_each l.before l.text.items (upto l.exchange l.least (bytes_of (drop l.t-index l.texts)) ++ l.least ∷ [])

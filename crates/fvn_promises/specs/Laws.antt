@@ -1,0 +1,18 @@
+-- Laws of the replies to `check` and `verify`.
+use Rattle.std.specs.Prelude.{ℕ, List}
+use Rattle.fvn_commands.specs.declared.status.Status.{Status}
+use Rattle.fvn_commands.specs.Texts.{Is}
+use Rattle.fvn_commands.specs.Checks.{IsCheckReply}
+use Rattle.fvn_commands.specs.Verifying.{IsVerifyReply}
+
+-- a text has one reply to `check`
+abbrev pub RepliesToCheckAreDetermined : Type 0
+RepliesToCheckAreDetermined =
+    (bytes : List ℕ) (s : Status) (t : List ℕ) → IsCheckReply bytes s t →
+    (u : Status) (v : List ℕ) → IsCheckReply bytes u v → Is s t u v
+
+-- a text, a problem and bindings have one reply to `verify`
+abbrev pub RepliesToVerifyAreDetermined : Type 0
+RepliesToVerifyAreDetermined =
+    (bytes problem bindings : List ℕ) (s : Status) (t : List ℕ) → IsVerifyReply bytes problem bindings s t →
+    (u : Status) (v : List ℕ) → IsVerifyReply bytes problem bindings u v → Is s t u v

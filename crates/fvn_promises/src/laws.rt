@@ -1,0 +1,18 @@
+//! Laws of replies, each the contract of a function that does nothing.
+ghost use Rattle.fvn_promises.specs.Laws.{RepliesToCheckAreDetermined, RepliesToVerifyAreDetermined};
+
+use fvn_commands::readers_are_lawful;
+
+/// A text has one reply to `check`.
+pub fn replies_to_check_are_determined()
+    ensures { RepliesToCheckAreDetermined }
+{
+    readers_are_lawful();
+}
+
+/// A text, a problem and bindings have one reply to `verify`.
+pub fn replies_to_verify_are_determined()
+    ensures { RepliesToVerifyAreDetermined }
+{
+    readers_are_lawful();
+}

@@ -1,0 +1,23 @@
+-- What one step of a cursor finds.
+use Rattle.std.specs.Prelude.{ℕ, ◌<◌, List, Some, None}
+use Rattle.fvn_terms.specs.declared.declarations.Declarations.{Declarations}
+use Rattle.fvn_purify.specs.Parts.{Outline}
+use Rattle.fvn_purify.specs.Cursor.{Cursor, HasSamePending, IsGivenFrom}
+use Rattle.fvn_purify.specs.inner.Choices.{weights}
+use Rattle.fvn_purify.specs.declared.choosing.Partial.{Partial}
+use Rattle.fvn_purify.specs.declared.splits.Found.{Found}
+use Rattle.fvn_purify.specs.declared.splits.Found.TheVariants.{Nothing, More, Split}
+
+-- the cursor with these parts
+abbrev pub cursor : Declarations → Outline → List Partial → Cursor
+cursor d c partials = record { declarations = d; outline = c; partials = partials }
+
+-- what is left to do; it falls with each step
+abbrev pub cursor_weight : Cursor → ℕ
+cursor_weight c = weights c.declarations c.outline c.partials
+
+-- nothing was to come; or the same is to come, or the split that was found is not any more, and less is left to do
+abbrev pub IsFoundFrom : Cursor → Cursor → Found → Type 0
+IsFoundFrom before after Nothing = IsGivenFrom before after None
+IsFoundFrom before after More = HasSamePending before after × (cursor_weight after < cursor_weight before)
+IsFoundFrom before after (Split given) = IsGivenFrom before after (Some given) × (cursor_weight after < cursor_weight before)

@@ -1,0 +1,5 @@
+-- Lemmas on the steps of odometers and on ranks.
+mod Ranks
+mod Stepping
+mod WheelSteps
+mod Left

@@ -1,0 +1,2 @@
+-- What an odometer's code goes over.
+pub mod Steps
