@@ -92,7 +92,7 @@ module _ (size : Var → ℕ) where
 
   pub noted_is : (bindings : Bindings) → IsTriangular bindings → AddUpIn size bindings → AreNoted bindings
   noted_is [] h a x u is = cc
-  noted_is (b ∷ bindings) h a = one_more b bindings h a (noted_is bindings (triangular_rest b bindings h) (rest_free b bindings h a))
+  noted_is (b ∷ bindings) h a x u is = one_more b bindings h a (noted_is bindings (triangular_rest b bindings h) (rest_free b bindings h a)) x u is
 
 module _ (d : Declarations) (bindings : Bindings) where
   abbrev pub unfolded_size : Var → ℕ
@@ -116,7 +116,9 @@ module _ (d : Declarations) (bindings : Bindings) where
 pub noted_more : (bindings : Bindings) (i : ℕ) (p : Var × FlatTerm) (old now : List (Var × ℕ)) (size : ℕ) → i < length bindings → p ≡ get_or bindings i p → old ≡ noted_sizes (drop (i + 1) bindings) → size ≡ capped (size_in (noted_size old) p.1) → now ≡ old ++ (p.0, size) ∷ [] → now ≡ noted_sizes (drop i bindings)
 noted_more bindings i p old now size l is before e pushed =
     let rest = drop (i + 1) bindings in
-    let first : drop i bindings ≡ p ∷ rest = drop-cons bindings i p l ∙ ap (λ (q : Var × FlatTerm). q ∷ rest) (sym is) in
+    let next : suc i ≡ i + 1 = omega arith in
+    let first : drop i bindings ≡ p ∷ rest =
+    drop-cons bindings i p l ∙ ap (λ (k : ℕ). get_or bindings i p ∷ drop k bindings) next ∙ ap (λ (q : Var × FlatTerm). q ∷ rest) (sym is) in
     pushed
     ∙ ap (λ (n : ℕ). old ++ (p.0, n) ∷ []) e
     ∙ ap (λ (o : List (Var × ℕ)). o ++ (p.0, capped (size_in (noted_size o) p.1)) ∷ []) before

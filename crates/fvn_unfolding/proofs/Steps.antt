@@ -1,5 +1,5 @@
 -- Bindings that are replaced one after another give what their variables unfold to.
-use Rattle.std.proofs.Common.{◌≡◌, ℕ, ◌+◌, ◌<◌, ◌≤◌, Bool, true, false, List, [], ◌∷◌, ◌++◌, length, get_or, drop, Option, Some, None, refl, sym, ap, ◌∙◌, subst, arith, All}
+use Rattle.std.proofs.Common.{◌≡◌, ℕ, suc, ◌+◌, ◌<◌, ◌≤◌, Bool, true, false, List, [], ◌∷◌, ◌++◌, length, get_or, drop, Option, Some, None, refl, sym, ap, ◌∙◌, subst, arith, All}
 use Rattle.std.specs.Prelude.{if◌then◌else◌}
 use Rattle.std.proofs.Math.Seq.{drop-cons}
 use Rattle.std.proofs.lemmas.List.{drop_all}
@@ -81,8 +81,10 @@ module _ (d : Declarations) where
   -- one more binding, and all
   pub replaced_more : (bindings : Bindings) (i : ℕ) (p : Var × FlatTerm) (t now : FlatTerm) → i < length bindings → p ≡ get_or bindings i p → now ≡ step d p t → replaced d (drop (i + 1) bindings) now ≡ replaced d (drop i bindings) t
   replaced_more bindings i p t now l is e =
-      ap (replaced d (drop (i + 1) bindings)) e
-      ∙ ap (λ (bs : Bindings). replaced d bs t) (sym (drop-cons bindings i p l ∙ ap (λ (q : Var × FlatTerm). q ∷ drop (i + 1) bindings) (sym is)))
+      let next : suc i ≡ i + 1 = omega arith in
+      let first : drop i bindings ≡ p ∷ drop (i + 1) bindings =
+      drop-cons bindings i p l ∙ ap (λ (k : ℕ). get_or bindings i p ∷ drop k bindings) next ∙ ap (λ (q : Var × FlatTerm). q ∷ drop (i + 1) bindings) (sym is) in
+      ap (replaced d (drop (i + 1) bindings)) e ∙ ap (λ (bs : Bindings). replaced d bs t) (sym first)
 
   pub replaced_all : (bindings : Bindings) (i : ℕ) (x : Var) (t : FlatTerm) → All (IsFitting d) bindings → length bindings ≤ i → replaced d (drop i bindings) t ≡ replaced d bindings (fvar x) → t ≡ unfolds_to d bindings x
   replaced_all bindings i x t h l e = ap (λ (bs : Bindings). replaced d bs t) (sym (drop_all i bindings l)) ∙ e ∙ unfolding_is bindings h x

@@ -14,6 +14,6 @@ pub apply-requires-clause-subst : goal.apply-requires-clause-subst
 apply-requires-clause-subst c =
     subst (BindingsFit c.args.sig.now) (sym (c.in_ok-one.ensures ∙ ap (λ (s : Bindings). s ++ (c.args.x, c.args.u.now) ∷ []) c.empty.ensures)) (one_fits c.args.sig.now (c.args.x, c.args.u.now) c.requires.binding)
 
-pub returns-in_ok-r-clause-exact : goal.returns-in_ok-r-clause-exact
-returns-in_ok-r-clause-exact c =
+pub returns-clause-exact : goal.returns-clause-exact
+returns-clause-exact c =
     c.in_ok-r.ensures.exact ∙ ap (λ (s : Bindings). inst c.args.sig.now (value s) c.args.t) (c.in_ok-one.ensures ∙ ap (λ (s : Bindings). s ++ (c.args.x, c.args.u.now) ∷ []) c.empty.ensures)

@@ -7,6 +7,6 @@ use Rattle.fvn_unfolding.proofs.replacing.unfolded.Given as goal
 
 abbrev pub invariant-loop-y : goal.invariant-loop-y
 invariant-loop-y l = record {
-  whole : replaced l.sig (drop l.y-index l.bindings) l.t ≡ replaced l.sig l.bindings (fvar l.x);
-  fits : IsFitting l.sig (l.x, l.t);
+  whole : replaced l.sig (drop l.y-index l.bindings) l.t ≡ replaced l.sig l.bindings (fvar l.fn.x);
+  fits : IsFitting l.sig (l.fn.x, l.t);
 }

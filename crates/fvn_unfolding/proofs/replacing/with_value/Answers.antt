@@ -11,6 +11,6 @@ returns-then-is_bound c = inl (some_of (bound c.args.s c.args.x) (sym c.is_bound
 pub bind-requires : goal.bind-requires
 bind-requires c = none_of (bound c.args.s c.args.x) (sym c.is_bound.ensures ∙ c.if-is_bound.false)
 
-pub returns-in_ok-more : goal.returns-in_ok-more
-returns-in_ok-more c =
+pub returns : goal.returns
+returns c =
     inr (none_of (bound c.args.s c.args.x) (sym c.is_bound.ensures ∙ c.if-is_bound.false), c.in_ok-more.ensures ∙ ap (λ (t : FlatTerm). c.args.s ++ (c.args.x, t) ∷ []) c.in_ok-t.ensures.exact)

@@ -11,6 +11,6 @@ returns-in-None c = own_of_variable c.args.t.now (sym c.head.ensures ∙ c.in-No
 pub returns-in-Some : goal.returns-in-Some
 returns-in-Some c =
     c.own_symbols.ensures
-    ∙ ap (λ j. own j c.len.result) c.joins.ensures
-    ∙ ap (own _) (c.len.ensures ∙ ap length c.args-us.ensures.exact)
+    ∙ ap (λ j. own j (length c.args-us.result.now)) c.joins.ensures
+    ∙ ap (own _) (ap length c.args-us.ensures.exact)
     ∙ own_of_some c.args.sig.now c.args.t.now c.in-Some.f c.requires (sym c.head.ensures ∙ c.in-Some.is)
