@@ -1,0 +1,100 @@
+-- Shared classes that are sums of a constant alone, by columns and by classes.
+use Rattle.std.proofs.Common.{◌≡◌, ◌≢◌, ◌⊎◌, ℕ, zero, suc, ◌+◌, ◌<◌, ◌≤◌, Bool, true, false, nat_eq, List, [], ◌∷◌, length, get_or, slice_index, refl, sym, ap, ◌∙◌, subst, inl, inr, arith, All, Contains, Option, Some, None}
+use Rattle.std.specs.Prelude.{◌↔◌, AllPairs, if◌then◌else◌}
+use Rattle.std.specs.List.{sum_by}
+use Rattle.std.proofs.lemmas.Bool.{cases_lt, cases_eq, eq-eqb, ne_eqb}
+use Rattle.std.proofs.lemmas.List.{get_or_default}
+use Rattle.fvn_terms.specs.declared.plain.OpId.{OpId}
+use Rattle.fvn_terms.specs.declared.declarations.Declarations.{Declarations}
+use Rattle.fvn_acunify.specs.ValidChoice.{column_sum}
+use Rattle.fvn_flat.specs.SolvedLists.{component}
+use Rattle.fvn_nodes.specs.Table.{NodeTable, IsWellMade}
+use Rattle.fvn_nodes.specs.States.{IsClosed, class_of}
+use Rattle.fvn_nodes.specs.declared.state.State.{State}
+use Rattle.fvn_frames.specs.Readings.{IsReading}
+use Rattle.fvn_frames.specs.declared.reading.Sums.{Sums}
+use Rattle.fvn_frames.specs.declared.reading.Reading.{Reading}
+use Rattle.fvn_asking.specs.Listed.{tag_in}
+use Rattle.fvn_asking.specs.Aliases.{HasNoAlias}
+use Rattle.fvn_frames.specs.inner.Users.{IsSharedIn}
+use Rattle.fvn_plans.specs.Binding.{IsConstant}
+use Rattle.fvn_asking.specs.inner.Reads.{IsBoundIn, AreConstantsOf, HasOneOf, IsAloneAt, MayBeAliasIn}
+use Rattle.fvn_asking.proofs.Reading.{are_sums, sums_whole, shared_in, shared_from}
+use Rattle.fvn_asking.proofs.Binding.{bound_iff}
+use Rattle.fvn_asking.proofs.Demands.{constant_at}
+
+-- the vector is other than zero in column j and in one of the constant columns
+abbrev pub HasBoth : List ℕ → ℕ → List ℕ → Type 0
+HasBoth constants j v = (0 < slice_index v j) × HasOneOf constants v
+
+-- the component of a column's class is that of the column
+pub component_at : (columns v : List ℕ) → AllPairs ◌≢◌ columns → (j : ℕ) → j < length columns → component columns v (slice_index columns j) ≡ slice_index v j
+component_at [] v distinct j l = absurd (omega (arith, l))
+component_at (c ∷ columns) [] distinct j l = refl
+component_at (c ∷ columns) (n ∷ v) distinct zero l = ap (λ b. if b then n else component columns v c) (eq-eqb c c refl)
+component_at (c ∷ columns) (n ∷ v) distinct (suc j) l =
+    let k = slice_index columns j in
+    let other : c ≢ k = distinct 0 (suc j) 0 (omega arith) l in
+    ap (λ b. if b then n else component columns v k) (ne_eqb c k other)
+    ∙ component_at columns v (λ a b d m o. distinct (suc a) (suc b) d (omega (arith, m)) (omega (arith, o))) j (omega (arith, l))
+
+-- a class with a component has a column
+pub component_column : (columns v : List ℕ) (k : ℕ) → 0 < component columns v k → (j : ℕ) × (j < length columns) × (slice_index columns j ≡ k)
+component_column [] v k h = absurd (omega (arith, h))
+component_column (c ∷ columns) [] k h = absurd (omega (arith, h))
+component_column (c ∷ columns) (n ∷ v) k h = elim (cases_eq c k) [
+  | inl same ↦ (0, omega arith, same)
+  | inr other ↦
+      let r = component_column columns v k (subst (λ b. 0 < (if b then n else component columns v k)) (ne_eqb c k other) h) in
+      (suc r.0, (let l = r.1 in omega (arith, l)), r.2)
+]
+
+-- so are the sums
+pub component_sum : (columns : List ℕ) → AllPairs ◌≢◌ columns → (j : ℕ) → j < length columns → (vectors : List (List ℕ)) → sum_by (λ v. component columns v (slice_index columns j)) vectors ≡ column_sum j vectors
+component_sum columns distinct j l vectors = λ i. sum_by (λ v. component_at columns v distinct j l i) vectors
+
+module _ (d : Declarations) (t : NodeTable) (made : IsWellMade t) (s : State) (closed : IsClosed d t s) (r : Reading) (reading : IsReading d t (class_of s) r) (tags : List (Option OpId)) (e : Sums) (listed : Contains r.sums e) (constants : List ℕ) (are : AreConstantsOf r tags e constants) (vectors : List (List ℕ)) where
+  distinct : AllPairs ◌≢◌ e.columns
+  distinct = (are_sums d t made s closed r reading e listed).is_system.distinct
+
+  within : (j : ℕ) → j < length e.columns → slice_index e.columns j < length t.nodes
+  within j l = (sums_whole d t made s closed r reading e listed).within j 0 l
+
+  -- where no column is that of an alias there is none
+  pub no_alias_of_columns : ((j : ℕ) → j < length e.columns → MayBeAliasIn r tags e constants vectors j → ⊥) → HasNoAlias d t (class_of s) (tag_in tags) e.operator e.columns vectors
+  no_alias_of_columns none k l v shared bound constant among left right =
+      let a = component_column e.columns v k left in
+      let b = component_column e.columns v l right in
+      elim (cases_lt (sum_by (λ v. component e.columns v k) vectors) 2) [
+        | inl few ↦
+            let is : sum_by (λ v. component e.columns v k) vectors ≡ column_sum a.0 vectors = ap (λ n. sum_by (λ v. component e.columns v n) vectors) (sym a.2) ∙ component_sum e.columns distinct a.0 a.1 vectors in
+            let at_k : slice_index v a.0 ≡ component e.columns v k = sym (component_at e.columns v distinct a.0 a.1) ∙ ap (component e.columns v) a.2 in
+            let at_l : slice_index v b.0 ≡ component e.columns v l = sym (component_at e.columns v distinct b.0 b.1) ∙ ap (component e.columns v) b.2 in
+            let small : k < length t.nodes = subst (λ n. n < length t.nodes) a.2 (within a.0 a.1) in
+            let marked = (constant_at d t made s closed r reading tags e listed b.0 b.1).1 (subst (IsConstant d t (class_of s) (tag_in tags) e.operator) (sym b.2) constant) in
+            let one : column_sum a.0 vectors ≤ 1 = omega (arith, few, is) in
+            let up : 0 < slice_index v a.0 = omega (arith, at_k, left) in
+            let down : 0 < slice_index v b.0 = omega (arith, at_l, right) in
+            absurd (none a.0 a.1 (
+              subst (λ n. IsSharedIn r n × IsBoundIn r tags e n) (sym a.2) (shared_in d t made s closed r reading k small shared, (bound_iff d t made s closed r reading tags e listed k small).1 bound),
+              one,
+              v,
+              among,
+              up,
+              b.0,
+              (are.exact b.0).1 (b.1, marked),
+              down,
+            ))
+        | inr many ↦ many
+      ]
+
+  -- the class of such a column is one
+  pub alias_of_column : (j : ℕ) → j < length e.columns → MayBeAliasIn r tags e constants vectors j → HasNoAlias d t (class_of s) (tag_in tags) e.operator e.columns vectors → ⊥
+  alias_of_column j l ((shared, bound), few, v, among, up, c, in_constants, down) none =
+      let k = slice_index e.columns j in
+      let p = (are.exact c).0 in_constants in
+      let left : 0 < component e.columns v k = let e = component_at e.columns v distinct j l in omega (arith, e, up) in
+      let right : 0 < component e.columns v (slice_index e.columns c) = let e = component_at e.columns v distinct c p.0 in omega (arith, e, down) in
+      let many = none k (slice_index e.columns c) v (shared_from d t made s closed r reading k (within j l) shared) ((bound_iff d t made s closed r reading tags e listed k (within j l)).0 bound) ((constant_at d t made s closed r reading tags e listed c p.0).0 p.1) among left right in
+      let is = component_sum e.columns distinct j l vectors in
+      omega (arith, many, is, few)

@@ -1,0 +1,8 @@
+-- The lemmas of the crate.
+mod Using
+mod Reading
+mod Binding
+mod Demands
+mod Chosen
+mod Alone
+pub mod Listing

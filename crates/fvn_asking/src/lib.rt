@@ -1,0 +1,13 @@
+//! What is asked of the minimal solutions that are taken for a sum operator, and what they leave no alias.
+#![tactic(auto)]
+
+mod aliases;
+mod asking;
+mod bound;
+mod taken;
+mod users;
+
+pub use aliases::has_no_alias;
+pub use asking::{Requirements, asked};
+pub use bound::is_bound;
+pub use taken::taken;

@@ -1,0 +1,4 @@
+-- The lemmas of the crate.
+mod Ordering
+mod Naming
+mod Members

@@ -1,0 +1,118 @@
+-- The variables of a table, the kinds of its nodes, and the names of its classes.
+use Rattle.std.proofs.Common.{◌≡◌, ◌≢◌, ℕ, ◌+◌, ◌<◌, ◌≤◌, true, List, [], ◌∷◌, ◌++◌, length, get_or, refl, sym, ap, ◌∙◌, subst, inl, inr, arith, Contains, Some}
+use Rattle.std.specs.Prelude.{◌↔◌, AllPairs, slice_get}
+use Rattle.std.proofs.lemmas.Bool.{cases_lt}
+use Rattle.std.proofs.lemmas.List.{get_or_append_left, get_or_push, length-append}
+use Rattle.std.proofs.lemmas.List.Elements.{Contains-get_or, Contains-append_left, Contains-push, Contains-push_cases}
+use Rattle.std.proofs.lemmas.List.Quantifiers.{all_pairs_push}
+use Rattle.std.proofs.lemmas.Option.{slice_get_within}
+use Rattle.fvn_terms.specs.declared.plain.Var.{Var as Variable}
+use Rattle.fvn_terms.specs.declared.plain.OpId.{OpId}
+use Rattle.fvn_terms.specs.declared.plain.SortId.{SortId}
+use Rattle.fvn_terms.specs.declared.declarations.Rank.{Rank}
+use Rattle.fvn_terms.specs.declared.declarations.Declarations.{Declarations}
+use Rattle.fvn_terms.specs.Signature.{kind, declared, HasKind}
+use Rattle.fvn_nodes.specs.Table.{NodeTable, IsWellMade, IsOver, term_at}
+use Rattle.fvn_nodes.specs.declared.table.Node.{Node}
+use Rattle.fvn_nodes.specs.declared.table.Node.TheVariants.{Var, App}
+use Rattle.fvn_nodes.proofs.Nodes.{term_at-variable, term_at-over, term_at-injective}
+use Rattle.fvn_binding.specs.Ready.{AreVariablesOf}
+use Rattle.fvn_binding.specs.inner.Planning.{name_in, no_name, IsNameAt, AreNames}
+
+module _ (t : NodeTable) (made : IsWellMade t) where
+  -- the variables of the nodes before this one
+  pub record AreVariablesFront (n : ℕ) (vars : List Variable) : Type 0 where
+    pub distinct : AllPairs ◌≢◌ vars
+    pub exact : (x : Variable) → Contains vars x ↔ ((i : ℕ) × (i < n) × (slice_get t.nodes i ≡ Some (Var x)))
+
+  pub no_variables : AreVariablesFront 0 []
+  no_variables = record {
+    distinct = λ i j d l m. absurd (omega (arith, m));
+    exact = λ x. ((λ m. let l = m.1 in absurd (omega (arith, l))), (λ m. let l = m.1 in absurd (omega (arith, l))));
+  }
+
+  one_node : (i j : ℕ) (x : Variable) → slice_get t.nodes i ≡ Some (Var x) → slice_get t.nodes j ≡ Some (Var x) → i ≡ j
+  one_node i j x p q =
+      term_at-injective t.nodes made.distinct i j (slice_get_within t.nodes i (Var x) p) (slice_get_within t.nodes j (Var x) q)
+      (term_at-variable t.nodes i x p ∙ sym (term_at-variable t.nodes j x q))
+
+  pub one_variable : (n : ℕ) (vars : List Variable) (x : Variable) → slice_get t.nodes n ≡ Some (Var x) → AreVariablesFront n vars → AreVariablesFront (n + 1) (vars ++ x ∷ [])
+  one_variable n vars x is h = record {
+    distinct = all_pairs_push ◌≢◌ vars x h.distinct (λ k d l same.
+        let m = (h.exact (get_or vars k d)).0 (Contains-get_or vars k d l) in
+        let e = one_node m.0 n x (subst (λ y. slice_get t.nodes m.0 ≡ Some (Var y)) same m.2) is in
+        let b = m.1 in
+        omega (arith, b, e));
+    exact = λ y. (
+      λ m. elim (Contains-push_cases vars x y m) [
+        | inl old ↦ let p = (h.exact y).0 old in (p.0, (let l = p.1 in omega (arith, l)), p.2)
+        | inr same ↦ (n, omega arith, is ∙ ap (λ z. Some (Var z)) same)
+      ],
+      λ m. elim (cases_lt m.0 n) [
+        | inl below ↦ Contains-append_left vars (x ∷ []) y ((h.exact y).1 (m.0, below, m.2))
+        | inr above ↦
+            let e : m.0 ≡ n = let l = m.1 in omega (arith, above, l) in
+            let k : Some (Var x) ≡ Some (Var y) = sym is ∙ ap (slice_get t.nodes) (sym e) ∙ m.2 in
+            let one : x ≡ y = cc in
+            subst (Contains (vars ++ x ∷ [])) one (Contains-push vars x)
+      ],
+    );
+  }
+
+  pub no_variable : (n : ℕ) (vars : List Variable) (f : OpId) (ks : List ℕ) → IsOver t.nodes n f ks → AreVariablesFront n vars → AreVariablesFront (n + 1) vars
+  no_variable n vars f ks is h = record {
+    distinct = h.distinct;
+    exact = λ y. (
+      λ m. let p = (h.exact y).0 m in (p.0, (let l = p.1 in omega (arith, l)), p.2),
+      λ m. elim (cases_lt m.0 n) [
+        | inl below ↦ (h.exact y).1 (m.0, below, m.2)
+        | inr above ↦
+            let e : m.0 ≡ n = let l = m.1 in omega (arith, above, l) in
+            let k : Some (App f ks) ≡ Some (Var y) = sym is ∙ ap (slice_get t.nodes) (sym e) ∙ m.2 in
+            absurd cc
+      ],
+    );
+  }
+
+  pub all_variables : (n : ℕ) (vars : List Variable) → length t.nodes ≤ n → AreVariablesFront n vars → AreVariablesOf t vars
+  all_variables n vars all h = record {
+    distinct = h.distinct;
+    exact = λ x. (
+      λ m. let p = (h.exact x).0 m in (p.0, p.2),
+      λ m. (h.exact x).1 (m.0, (let l = slice_get_within t.nodes m.0 (Var x) m.1 in omega (arith, l, all)), m.1),
+    );
+  }
+
+  module _ (d : Declarations) where
+    -- the kind of a node that is a variable, and of one with an operator
+    pub kind_of_variable : (i : ℕ) (x : Variable) → slice_get t.nodes i ≡ Some (Var x) → (k : SortId) → HasKind d (term_at t.nodes i) k → kind d x.sort ≡ k
+    kind_of_variable i x is k h = (subst (λ u. HasKind d u k) (term_at-variable t.nodes i x is) h).1
+
+    pub kind_of_operator : (i : ℕ) (f : OpId) (ks : List ℕ) → IsOver t.nodes i f ks → (q : SortId) → ((r : Rank) → Contains (declared d f).ranks r → q ≡ kind d r.result) → (k : SortId) → HasKind d (term_at t.nodes i) k → q ≡ k
+    kind_of_operator i f ks is q known k h =
+        let fits = subst (λ u. HasKind d u k) (term_at-over t.nodes made.ordered i f ks is) h in
+        known fits.rank fits.listed ∙ fits.result
+
+    -- the names of the nodes before this one
+    pub record AreNamesFront (first n : ℕ) (names : List Variable) : Type 0 where
+      pub as_many : length names ≡ n
+      pub each : (k : ℕ) → k < n → IsNameAt d t first k (name_in names k)
+
+    pub no_names : (first : ℕ) → AreNamesFront first 0 []
+    no_names first = record { as_many = refl; each = λ k l. absurd (omega (arith, l)) }
+
+    pub one_name : (first n : ℕ) (names now : List Variable) (x : Variable) → AreNamesFront first n names → now ≡ names ++ x ∷ [] → IsNameAt d t first n x → AreNamesFront first (n + 1) now
+    one_name first n names now x h is at = subst (AreNamesFront first (n + 1)) (sym is) record {
+      as_many = length-append names (x ∷ []) ∙ ap (λ m. m + 1) h.as_many;
+      each = λ k l. elim (cases_lt k n) [
+        | inl below ↦ subst (IsNameAt d t first k) (sym (get_or_append_left names (x ∷ []) no_name k (let m = h.as_many in omega (arith, below, m)))) (h.each k below)
+        | inr above ↦
+            let e : k ≡ n = omega (arith, l, above) in
+            subst (IsNameAt d t first k) (sym (get_or_push names x no_name k (h.as_many ∙ sym e))) (subst (λ m. IsNameAt d t first m x) (sym e) at)
+      ];
+    }
+
+    pub all_names : (first n : ℕ) (names : List Variable) → length t.nodes ≤ n → n ≤ length t.nodes → AreNamesFront first n names → AreNames d t first names
+    all_names first n names l m h =
+        let same : n ≡ length t.nodes = omega arith in
+        record { as_many = h.as_many ∙ same; each = λ k b. h.each k (omega (arith, b, same)) }

@@ -1,0 +1,3 @@
+-- The words of bindings at a frame.
+pub mod Ready
+pub mod inner

@@ -1,0 +1,12 @@
+//! The bindings that a choice at a frame makes, in an order in which no class reaches itself.
+#![tactic(auto)]
+
+mod binders;
+mod bindings;
+mod names;
+mod order;
+mod shares;
+mod terms;
+
+pub use bindings::bindings;
+pub use names::variables;
