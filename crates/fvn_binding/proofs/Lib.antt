@@ -2,3 +2,9 @@
 mod Ordering
 mod Naming
 mod Members
+mod NodesOf
+mod Occurring
+mod Classes
+mod Sources
+mod Summing
+mod Fronts

@@ -2,8 +2,8 @@
 use Rattle.std.proofs.Common.{◌≡◌, ◌≢◌, ℕ, ◌+◌, ◌<◌, ◌≤◌, Bool, true, false, nat_eq, List, [], ◌∷◌, ◌++◌, map, replicate, length, get_or, drop, refl, sym, ap, ◌∙◌, append_assoc, arith}
 use Rattle.std.specs.Prelude.{if◌then◌else◌}
 use Rattle.std.proofs.lemmas.Bool.{eq-eqb, ne_eqb}
-use Rattle.std.proofs.lemmas.List.{append-nil, drop_all}
-use Rattle.std.proofs.Math.Seq.{drop-cons}
+use Rattle.std.proofs.lemmas.List.{append-nil, drop_all, get_or_default}
+use Rattle.fvn_base.proofs.Drops.{drop-at}
 use Rattle.fvn_terms.specs.declared.plain.OpId.{OpId}
 use Rattle.fvn_terms.specs.declared.declarations.Declarations.{Declarations}
 use Rattle.fvn_forms.specs.Flat.{FlatTerm, fvar}
@@ -12,10 +12,11 @@ use Rattle.fvn_binding.specs.inner.Planning.{part_of}
 use Rattle.fvn_binding.specs.declared.shares.Share.{Share}
 
 -- a column of another class
-pub component_other : (columns v : List ℕ) (j k c n : ℕ) → length v ≡ length columns → j < length columns → c ≡ get_or columns j c → (c ≡ k → ⊥) → component (drop j columns) (drop j v) k ≡ component (drop (j + 1) columns) (drop (j + 1) v) k
-component_other columns v j k c n sized l is other =
-    let left : drop j columns ≡ c ∷ drop (j + 1) columns = drop-cons columns j c l ∙ ap (λ (x : ℕ). x ∷ drop (j + 1) columns) (sym is) in
-    let right : drop j v ≡ get_or v j 0 ∷ drop (j + 1) v = drop-cons v j 0 (omega (arith, sized, l)) in
+pub component_other : (columns v : List ℕ) (j k c : ℕ) → length v ≡ length columns → j < length columns → c ≡ get_or columns j c → (c ≡ k → ⊥) → component (drop j columns) (drop j v) k ≡ component (drop (j + 1) columns) (drop (j + 1) v) k
+component_other columns v j k c sized l is other =
+    let left = drop-at columns j c l is in
+    let within : j < length v = omega (arith, sized, l) in
+    let right = drop-at v j (get_or v j 0) within (get_or_default v j 0 (get_or v j 0) within) in
     ap (λ (cs : List ℕ). component cs (drop j v) k) left
     ∙ ap (λ (xs : List ℕ). component (c ∷ drop (j + 1) columns) xs k) right
     ∙ ap (λ (b : Bool). if b then get_or v j 0 else component (drop (j + 1) columns) (drop (j + 1) v) k) (ne_eqb c k other)
@@ -23,8 +24,8 @@ component_other columns v j k c n sized l is other =
 -- the column of the class
 pub component_here : (columns v : List ℕ) (j k c n : ℕ) → length v ≡ length columns → j < length columns → c ≡ get_or columns j c → c ≡ k → n ≡ get_or v j n → component (drop j columns) (drop j v) k ≡ n
 component_here columns v j k c n sized l is same at =
-    let left : drop j columns ≡ c ∷ drop (j + 1) columns = drop-cons columns j c l ∙ ap (λ (x : ℕ). x ∷ drop (j + 1) columns) (sym is) in
-    let right : drop j v ≡ n ∷ drop (j + 1) v = drop-cons v j n (omega (arith, sized, l)) ∙ ap (λ (x : ℕ). x ∷ drop (j + 1) v) (sym at) in
+    let left = drop-at columns j c l is in
+    let right = drop-at v j n (omega (arith, sized, l)) at in
     ap (λ (cs : List ℕ). component cs (drop j v) k) left
     ∙ ap (λ (xs : List ℕ). component (c ∷ drop (j + 1) columns) xs k) right
     ∙ ap (λ (b : Bool). if b then n else component (drop (j + 1) columns) (drop (j + 1) v) k) (eq-eqb c k same)
@@ -34,7 +35,7 @@ pub members_more : (columns : List ℕ) (shares : List Share) (i k count : ℕ) 
     → now ≡ old ++ replicate count (fvar s.variable) → old ++ members columns (map part_of (drop i shares)) k ≡ whole → now ++ members columns (map part_of (drop (i + 1) shares)) k ≡ whole
 members_more columns shares i k count s old now whole l is e pushed h =
     let rest = members columns (map part_of (drop (i + 1) shares)) k in
-    let first : drop i shares ≡ s ∷ drop (i + 1) shares = drop-cons shares i s l ∙ ap (λ (w : Share). w ∷ drop (i + 1) shares) (sym is) in
+    let first = drop-at shares i s l is in
     ap (λ m. m ++ rest) pushed
     ∙ append_assoc old (replicate count (fvar s.variable)) rest
     ∙ ap (λ m. old ++ m) (ap (λ n. replicate n (fvar s.variable) ++ rest) e ∙ ap (λ (ws : List Share). members columns (map part_of ws) k) (sym first))

@@ -5,13 +5,15 @@ use Rattle.std.proofs.lemmas.Bool.{cases_lt}
 use Rattle.std.proofs.lemmas.List.{get_or_append_left, get_or_push, length-append}
 use Rattle.std.proofs.lemmas.List.Elements.{Contains-get_or, Contains-append_left, Contains-push, Contains-push_cases}
 use Rattle.std.proofs.lemmas.List.Quantifiers.{all_pairs_push}
-use Rattle.std.proofs.lemmas.Option.{slice_get_within}
+use Rattle.std.proofs.lemmas.Option.{slice_get_within, slice_get-get_or, get_or_from_slice_get}
 use Rattle.fvn_terms.specs.declared.plain.Var.{Var as Variable}
 use Rattle.fvn_terms.specs.declared.plain.OpId.{OpId}
 use Rattle.fvn_terms.specs.declared.plain.SortId.{SortId}
 use Rattle.fvn_terms.specs.declared.declarations.Rank.{Rank}
+use Rattle.fvn_terms.specs.declared.declarations.OpDecl.{OpDecl}
 use Rattle.fvn_terms.specs.declared.declarations.Declarations.{Declarations}
 use Rattle.fvn_terms.specs.Signature.{kind, declared, HasKind}
+use Rattle.fvn_forms.specs.Good.{IsGood}
 use Rattle.fvn_nodes.specs.Table.{NodeTable, IsWellMade, IsOver, term_at}
 use Rattle.fvn_nodes.specs.declared.table.Node.{Node}
 use Rattle.fvn_nodes.specs.declared.table.Node.TheVariants.{Var, App}
@@ -19,14 +21,27 @@ use Rattle.fvn_nodes.proofs.Nodes.{term_at-variable, term_at-over, term_at-injec
 use Rattle.fvn_binding.specs.Ready.{AreVariablesOf}
 use Rattle.fvn_binding.specs.inner.Planning.{name_in, no_name, IsNameAt, AreNames}
 
+-- the list with the node's variable, where the node is one
+abbrev pub IsNoted : Node → List Variable → List Variable → Type 0
+IsNoted (Var x) before now = now ≡ before ++ x ∷ []
+IsNoted (App f ks) before now = now ≡ before
+
+-- what one declaration of an operator gives has the kind of what each gives
+pub one_kind : {d : Declarations} → IsGood d → (f : OpId) (known : OpDecl) → known ≡ declared d f → (ranks : List Rank) → ranks ≡ known.ranks → (r : Rank) → Some r ≡ slice_get ranks 0 → (p : Rank) → Contains (declared d f).ranks p → kind d r.result ≡ kind d p.result
+one_kind {d} good f known is ranks are r at p m =
+    let e : ranks ≡ (declared d f).ranks = are ∙ ap (λ o. o.ranks) is in
+    let here = slice_get_within ranks 0 r (sym at) in
+    let listed : Contains ranks r = (0, here, get_or_from_slice_get ranks 0 r r (sym at)) in
+    (good.fits.agree f r p (subst (λ l. Contains l r) e listed) m).1
+
 module _ (t : NodeTable) (made : IsWellMade t) where
   -- the variables of the nodes before this one
   pub record AreVariablesFront (n : ℕ) (vars : List Variable) : Type 0 where
     pub distinct : AllPairs ◌≢◌ vars
     pub exact : (x : Variable) → Contains vars x ↔ ((i : ℕ) × (i < n) × (slice_get t.nodes i ≡ Some (Var x)))
 
-  pub no_variables : AreVariablesFront 0 []
-  no_variables = record {
+  pub no_variables : (vars : List Variable) → vars ≡ [] → AreVariablesFront 0 vars
+  no_variables vars none = subst (AreVariablesFront 0) (sym none) record {
     distinct = λ i j d l m. absurd (omega (arith, m));
     exact = λ x. ((λ m. let l = m.1 in absurd (omega (arith, l))), (λ m. let l = m.1 in absurd (omega (arith, l))));
   }
@@ -83,6 +98,17 @@ module _ (t : NodeTable) (made : IsWellMade t) where
     );
   }
 
+  -- one more node
+  pub more_variables : (ns : List Node) → ns ≡ t.nodes → (n : ℕ) (vars now : List Variable) (node : Node) → n < length ns → node ≡ get_or ns n node → AreVariablesFront n vars → IsNoted node vars now → AreVariablesFront (n + 1) now
+  more_variables ns same n vars now node l is h = go node at
+    where
+      at : slice_get t.nodes n ≡ Some node
+      at = ap (λ ns. slice_get ns n) (sym same) ∙ slice_get-get_or ns n node l ∙ ap Some (sym is)
+
+      go : (node : Node) → slice_get t.nodes n ≡ Some node → IsNoted node vars now → AreVariablesFront (n + 1) now
+      go (Var x) at e = subst (AreVariablesFront (n + 1)) (sym e) (one_variable n vars x at h)
+      go (App f ks) at e = subst (AreVariablesFront (n + 1)) (sym e) (no_variable n vars f ks at h)
+
   module _ (d : Declarations) where
     -- the kind of a node that is a variable, and of one with an operator
     pub kind_of_variable : (i : ℕ) (x : Variable) → slice_get t.nodes i ≡ Some (Var x) → (k : SortId) → HasKind d (term_at t.nodes i) k → kind d x.sort ≡ k
@@ -98,8 +124,8 @@ module _ (t : NodeTable) (made : IsWellMade t) where
       pub as_many : length names ≡ n
       pub each : (k : ℕ) → k < n → IsNameAt d t first k (name_in names k)
 
-    pub no_names : (first : ℕ) → AreNamesFront first 0 []
-    no_names first = record { as_many = refl; each = λ k l. absurd (omega (arith, l)) }
+    pub no_names : (first : ℕ) (names : List Variable) → names ≡ [] → AreNamesFront first 0 names
+    no_names first names none = record { as_many = ap length none; each = λ k l. absurd (omega (arith, l)) }
 
     pub one_name : (first n : ℕ) (names now : List Variable) (x : Variable) → AreNamesFront first n names → now ≡ names ++ x ∷ [] → IsNameAt d t first n x → AreNamesFront first (n + 1) now
     one_name first n names now x h is at = subst (AreNamesFront first (n + 1)) (sym is) record {

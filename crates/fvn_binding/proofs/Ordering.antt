@@ -28,8 +28,8 @@ pub record IsPlacing (bindings placed rest : Bindings) : Type 0 where
   pub from : (c : Var × FlatTerm) → Contains placed c ⊎ Contains rest c → Contains bindings c
   pub all : (c : Var × FlatTerm) → Contains bindings c → Contains placed c ⊎ Contains rest c
 
-pub nothing_placed : (bindings : Bindings) → AllPairs (λ a b. a.0 ≢ b.0) bindings → IsPlacing bindings [] bindings
-nothing_placed bindings distinct = record {
+pub nothing_placed : (bindings placed : Bindings) → placed ≡ [] → AllPairs (λ a b. a.0 ≢ b.0) bindings → IsPlacing bindings placed bindings
+nothing_placed bindings placed none distinct = subst (λ l. IsPlacing bindings l bindings) (sym none) record {
   not_itself = λ k d l. absurd (omega (arith, l));
   not_later = λ i j d l m. absurd (omega (arith, m));
   before = λ a c m n. let l = m.1 in absurd (omega (arith, l));
@@ -161,3 +161,17 @@ source_by_rank rank (b ∷ rest) falls some none =
 
 pub no_order : (bindings placed rest : Bindings) → IsPlacing bindings placed rest → 0 < length rest → HasNoSource rest → HasNoOrder bindings
 no_order bindings placed rest h some none rank falls = source_by_rank rank rest (λ b c m n. falls b c (h.from b (inr m)) (h.from c (inr n))) some none
+
+-- a variable that occurs in no form, at its place
+pub source_here : (bindings : Bindings) (i : ℕ) (b : Var × FlatTerm) → i < length bindings → b ≡ get_or bindings i b → OccursNowhere bindings b.0 → IsSourceAt bindings i
+source_here bindings i b l is nowhere = (b, slice_get-get_or bindings i b l ∙ ap Some (sym is), nowhere)
+
+-- one more place at which one occurs in some form
+pub no_source_more : (bindings : Bindings) (i : ℕ) (b : Var × FlatTerm) → 0 < i → i ≤ length bindings → b ≡ get_or bindings (i - 1) b → (OccursNowhere bindings b.0 → ⊥) → ((j : ℕ) → i ≤ j → IsSourceAt bindings j → ⊥) → (j : ℕ) → i - 1 ≤ j → IsSourceAt bindings j → ⊥
+no_source_more bindings i b some within is occurs none j l s = elim (cases_lt j i) [
+  | inl below ↦
+      let e : j ≡ i - 1 = omega (arith, below, l, some) in
+      let same : s.0 ≡ b = sym (get_or_from_slice_get bindings j s.0 b s.1) ∙ ap (λ n. get_or bindings n b) e ∙ sym is in
+      occurs (subst (λ (p : Var × FlatTerm). OccursNowhere bindings p.0) same s.2)
+  | inr above ↦ none j above s
+]

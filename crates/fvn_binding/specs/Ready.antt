@@ -29,8 +29,8 @@ pub record IsReady (d : Declarations) (given : Pairs) (first : ℕ) (t : NodeTab
 
 -- for each sum operator minimal solutions and a number; there are numbers for names and for new variables
 pub record AreListed (t : NodeTable) (r : Reading) (bases : List (List Solution)) (numbers : List ℕ) : Type 0 where
-  pub bases : length bases ≡ length r.sums
-  pub numbers : length numbers ≡ length r.sums
+  pub basis_each : length bases ≡ length r.sums
+  pub number_each : length numbers ≡ length r.sums
   pub few : All (λ basis. length basis ≤ MINIMAL_SOLUTIONS) bases
   pub room : length t.nodes + MINIMAL_SOLUTIONS * length r.sums ≤ FIRST_FRESH
 

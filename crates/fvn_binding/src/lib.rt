@@ -2,11 +2,11 @@
 #![tactic(auto)]
 
 mod binders;
-mod bindings;
+mod choice;
 mod names;
 mod order;
 mod shares;
 mod terms;
 
-pub use bindings::bindings;
+pub use choice::bindings;
 pub use names::variables;

@@ -91,15 +91,11 @@ pub(crate) fn sum_over(
 {
     sig.recall_good();
     if terms.len() == 1 {
-        if let Some(t) = terms.pop() {
-            return Ok(t);
-        }
+        return Ok(terms.remove(0));
     }
     if terms.is_empty() {
-        if let Some(e) = sig.identity(f) {
-            let t = Flat::app(alloc, sig, e, terms)?;
-            return Ok(t);
-        }
+        let t = Flat::app(alloc, sig, sig.identity(f).unwrap_or(f), terms)?;
+        return Ok(t);
     }
     let t = Flat::app(alloc, sig, f, terms)?;
     Ok(t)

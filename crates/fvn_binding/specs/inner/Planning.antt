@@ -189,7 +189,7 @@ module _ (t : NodeTable) (class : ℕ → ℕ) (names : List Variable) where
 
 -- for each operator a number, and few solutions of as many components as it has columns
 pub record AreSized (r : Reading) (bases : List (List Solution)) (numbers : List ℕ) : Type 0 where
-  pub bases : length bases ≡ length r.sums
-  pub numbers : length numbers ≡ length r.sums
+  pub basis_each : length bases ≡ length r.sums
+  pub number_each : length numbers ≡ length r.sums
   pub few : (i : ℕ) → i < length r.sums → length (slice_index_or bases i []) ≤ MINIMAL_SOLUTIONS
   pub sized : (i : ℕ) (s : Sums) → slice_get r.sums i ≡ Some s → All (λ v. length v ≡ length s.columns) (vectors_of (slice_index_or bases i []))

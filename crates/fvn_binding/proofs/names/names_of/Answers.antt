@@ -5,7 +5,7 @@ use Rattle.fvn_binding.proofs.Naming.{no_names, one_name, all_names}
 use Rattle.fvn_binding.proofs.names.names_of.Goals as goal
 
 pub loop-i-init : goal.loop-i-init
-loop-i-init c = record { number = omega arith; names = λ made. no_names c.args.table.now made c.args.sig.now c.args.first }
+loop-i-init c = record { number = omega arith; names = λ made. no_names c.args.table.now made c.args.sig.now c.args.first c.new-names.result.items c.new-names.ensures.items }
 
 pub loop-i-preserved : goal.loop-i-preserved
 loop-i-preserved c =
@@ -21,5 +21,5 @@ loop-i-preserved c =
 
 pub returns : goal.returns
 returns c =
-    let l = ap (λ (ns : List Node). length ns) c.nodes.ensures in
+    let l = ap (λ (ns : List Node). length ns) c.nodes-i-end.ensures in
     all_names c.args.table.now c.recall_well_made.ensures c.args.sig.now c.args.first c.loop-i.i c.loop-i.names.items (omega (arith, l)) (omega (arith, l)) (c.loop-i.invariant.names c.recall_well_made.ensures)
