@@ -1,12 +1,15 @@
 -- Shared classes that are sums of a constant alone, by columns and by classes.
-use Rattle.std.proofs.Common.{◌≡◌, ◌≢◌, ◌⊎◌, ℕ, zero, suc, ◌+◌, ◌<◌, ◌≤◌, Bool, true, false, nat_eq, List, [], ◌∷◌, length, get_or, slice_index, refl, sym, ap, ◌∙◌, subst, inl, inr, arith, All, Contains, Option, Some, None}
+use Rattle.std.proofs.Common.{◌≡◌, ◌≢◌, ◌⊎◌, ℕ, zero, suc, ◌+◌, ◌<◌, ◌≤◌, Bool, true, false, nat_eq, List, [], ◌∷◌, ◌++◌, length, take, get_or, slice_index, refl, sym, ap, ◌∙◌, subst, inl, inr, arith, All, Contains, Option, Some, None}
 use Rattle.std.specs.Prelude.{◌↔◌, AllPairs, if◌then◌else◌}
 use Rattle.std.specs.List.{sum_by}
 use Rattle.std.proofs.lemmas.Bool.{cases_lt, cases_eq, eq-eqb, ne_eqb}
-use Rattle.std.proofs.lemmas.List.{get_or_default}
+use Rattle.std.proofs.lemmas.List.{take_more, take_all, get_or-map, length-map}
+use Rattle.std.proofs.lemmas.List.Elements.{All-get_or, All-push, All-weaker}
 use Rattle.fvn_terms.specs.declared.plain.OpId.{OpId}
 use Rattle.fvn_terms.specs.declared.declarations.Declarations.{Declarations}
-use Rattle.fvn_acunify.specs.ValidChoice.{column_sum}
+use Rattle.fvn_lindio.specs.Systems.{vectors_of}
+use Rattle.fvn_lindio.specs.declared.system.Solution.{Solution}
+use Rattle.fvn_acunify.specs.ValidChoice.{chosen, column_sum}
 use Rattle.fvn_flat.specs.SolvedLists.{component}
 use Rattle.fvn_nodes.specs.Table.{NodeTable, IsWellMade}
 use Rattle.fvn_nodes.specs.States.{IsClosed, class_of}
@@ -19,13 +22,45 @@ use Rattle.fvn_asking.specs.Aliases.{HasNoAlias}
 use Rattle.fvn_frames.specs.inner.Users.{IsSharedIn}
 use Rattle.fvn_plans.specs.Binding.{IsConstant}
 use Rattle.fvn_asking.specs.inner.Reads.{IsBoundIn, AreConstantsOf, HasOneOf, IsAloneAt, MayBeAliasIn}
-use Rattle.fvn_asking.proofs.Reading.{are_sums, sums_whole, shared_in, shared_from}
+use Rattle.fvn_asking.proofs.Chosen.{chosen_all}
+use Rattle.fvn_asking.proofs.Reading.{all_from, are_sums, sums_whole, shared_in, shared_from}
 use Rattle.fvn_asking.proofs.Binding.{bound_iff}
 use Rattle.fvn_asking.proofs.Demands.{constant_at}
 
 -- the vector is other than zero in column j and in one of the constant columns
 abbrev pub HasBoth : List ℕ → ℕ → List ℕ → Type 0
 HasBoth constants j v = (0 < slice_index v j) × HasOneOf constants v
+
+-- a solution of the list as a vector
+vector_at : (solutions : List Solution) (i : ℕ) (x : Solution) → i < length solutions → x ≡ get_or solutions i x → get_or (vectors_of solutions) i x.parts ≡ x.parts
+vector_at solutions i x l is = get_or-map (λ (v : Solution). v.parts) solutions i x x.parts l ∙ ap (λ v. v.parts) (sym is)
+
+-- what all vectors have, each solution has
+pub of_solution : (P : List ℕ → Type 0) (solutions : List Solution) → All P (vectors_of solutions) → (i : ℕ) (x : Solution) → i < length solutions → x ≡ get_or solutions i x → P x.parts
+of_solution P solutions all i x l is = subst P (vector_at solutions i x l is) (All-get_or P (vectors_of solutions) i x.parts (omega (arith, l, length-map solutions (λ (v : Solution). v.parts))) all)
+
+-- one more solution
+pub more_solutions : (P : List ℕ → Type 0) (solutions : List Solution) (i : ℕ) (x : Solution) → i < length solutions → x ≡ get_or solutions i x → All P (take i (vectors_of solutions)) → P x.parts → All P (take (i + 1) (vectors_of solutions))
+more_solutions P solutions i x l is all here =
+    let m : i < length (vectors_of solutions) = omega (arith, l, length-map solutions (λ (v : Solution). v.parts)) in
+    let more : take (i + 1) (vectors_of solutions) ≡ take i (vectors_of solutions) ++ x.parts ∷ [] = take_more (vectors_of solutions) i x.parts m ∙ ap (λ v. take i (vectors_of solutions) ++ v ∷ []) (vector_at solutions i x l is) in
+    subst (All P) (sym more) (All-push P (take i (vectors_of solutions)) x.parts all here)
+
+-- all solutions
+pub all_solutions : (P : List ℕ → Type 0) (solutions : List Solution) (i : ℕ) → length solutions ≤ i → All P (take i (vectors_of solutions)) → All P (vectors_of solutions)
+all_solutions P solutions i l all = subst (All P) (take_all i (vectors_of solutions) (omega (arith, l, length-map solutions (λ (v : Solution). v.parts)))) all
+
+-- the solutions that are taken have as many components as there are columns
+pub taken_long : (n number : ℕ) (basis vectors : List (List ℕ)) → vectors ≡ chosen number basis → All (λ v. length v ≡ n) basis → All (λ v. length v ≡ n) vectors
+taken_long n number basis vectors is all = subst (All (λ v. length v ≡ n)) (sym is) (chosen_all (λ v. length v ≡ n) number basis all)
+
+-- so they have each column
+pub has_column : (n : ℕ) (vectors : List (List ℕ)) → All (λ v. length v ≡ n) vectors → (j : ℕ) → j < n → All (λ v. j < length v) vectors
+has_column n vectors all j l = All-weaker (λ v. length v ≡ n) (λ v. j < length v) (λ v e. omega (arith, e, l)) vectors all
+
+-- and those of all constants
+pub has_constants : (n : ℕ) (vectors : List (List ℕ)) → All (λ v. length v ≡ n) vectors → (constants : List ℕ) → ((j : ℕ) → Contains constants j → j < n) → All (λ v. All (λ c. c < length v) constants) vectors
+has_constants n vectors all constants below = All-weaker (λ v. length v ≡ n) (λ v. All (λ c. c < length v) constants) (λ v e. all_from (λ c. c < length v) constants (λ c m. let b = below c m in omega (arith, e, b))) vectors all
 
 -- the component of a column's class is that of the column
 pub component_at : (columns v : List ℕ) → AllPairs ◌≢◌ columns → (j : ℕ) → j < length columns → component columns v (slice_index columns j) ≡ slice_index v j

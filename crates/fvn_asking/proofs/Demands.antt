@@ -1,5 +1,5 @@
 -- What is asked, by what is read and by what it means.
-use Rattle.std.proofs.Common.{◌≡◌, ◌≢◌, ◌⊎◌, ℕ, ◌+◌, ◌<◌, ◌≤◌, Bool, true, false, List, [], ◌∷◌, ◌++◌, length, get_or, slice_index, slice_index_or, refl, sym, ap, ◌∙◌, subst, inl, inr, arith, Contains, Option, Some, None}
+use Rattle.std.proofs.Common.{◌≡◌, ◌≢◌, ◌⊎◌, ℕ, ◌+◌, ◌<◌, ◌≤◌, Bool, true, false, List, [], ◌∷◌, ◌++◌, length, get_or, slice_index, slice_index_or, refl, sym, ap, ◌∙◌, subst, inl, inr, arith, All, Contains, Option, Some, None}
 use Rattle.std.specs.Prelude.{◌↔◌, AllPairs, not}
 use Rattle.std.proofs.lemmas.Bool.{cases_lt, cases_eq}
 use Rattle.std.proofs.lemmas.List.{get_or_past, get_or_append_left, get_or_push, length-append}
@@ -8,6 +8,9 @@ use Rattle.std.proofs.lemmas.List.Quantifiers.{all_pairs_push}
 use Rattle.fvn_terms.specs.declared.plain.OpId.{OpId}
 use Rattle.fvn_terms.specs.declared.declarations.Declarations.{Declarations}
 use Rattle.fvn_terms.specs.Signature.{axioms}
+use Rattle.fvn_lindio.specs.Systems.{IsSystem}
+use Rattle.fvn_lindio.specs.declared.system.System.{System}
+use Rattle.fvn_acunify.specs.Theory.{IsOneTheory}
 use Rattle.fvn_flat.specs.Partitions.{HasNoIdentity}
 use Rattle.fvn_nodes.specs.Table.{NodeTable, IsWellMade}
 use Rattle.fvn_nodes.specs.States.{IsClosed, class_of}
@@ -18,7 +21,7 @@ use Rattle.fvn_frames.specs.declared.reading.Reading.{Reading}
 use Rattle.fvn_plans.specs.Binding.{IsConstant, IsRequired, AreAsked}
 use Rattle.fvn_asking.specs.Listed.{tag_in}
 use Rattle.fvn_asking.specs.inner.Reads.{IsBoundIn, IsConstantAt, AreConstantsBelow, AreConstantsOf, IsRequiredIn, AreMarksBelow, AreMarksOf}
-use Rattle.fvn_asking.proofs.Reading.{are_sums, sums_whole, shared_in, shared_from}
+use Rattle.fvn_asking.proofs.Reading.{all_from, are_sums, sums_whole, shared_in, shared_from}
 use Rattle.fvn_asking.proofs.Binding.{bound_iff}
 
 module _ (r : Reading) (tags : List (Option OpId)) (e : Sums) where
@@ -99,6 +102,21 @@ module _ (d : Declarations) (t : NodeTable) (made : IsWellMade t) (s : State) (c
     where
       past_end : (j : ℕ) → length e.columns ≤ j → slice_index_or marks j true ≡ false → ⊥
       past_end j past h = let e : true ≡ false = sym (get_or_past marks j true (let n = m.as_many in omega (arith, n, past))) ∙ h in cc
+
+  pub one_theory : (system : System) (constants cs : List ℕ) (marks ms : List Bool) → system ≡ e.system → cs ≡ constants → ms ≡ marks
+      → AreConstantsOf r tags e constants → AreMarksOf d r tags e marks → IsOneTheory (record { system = system; constants = cs; may_be_zero = ms })
+  one_theory system constants cs marks ms is is_constants is_marks c m =
+      let are = are_sums d t made s closed r reading e listed in
+      let w = are.is_system.wide in
+      let same : system.columns ≡ e.system.columns = ap (λ y. y.columns) is in
+      let long : length ms ≡ length marks = ap length is_marks in
+      let n = m.as_many in
+      record {
+        system = subst IsSystem (sym is) are.fits;
+        marked = omega (arith, w, same, long, n);
+        among = subst (All (λ j. j < system.columns)) (sym is_constants) (all_from (λ j. j < system.columns) constants (λ j h. let l = ((c.exact j).0 h).0 in omega (arith, l, w, same)));
+        apart = subst (AllPairs ◌≢◌) (sym is_constants) c.distinct;
+      }
 
 module _ (d : Declarations) (r : Reading) (tags : List (Option OpId)) (e : Sums) where
   pub no_marks : AreMarksBelow d r tags e 0 []

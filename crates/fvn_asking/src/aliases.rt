@@ -11,7 +11,7 @@ ghost use Rattle.fvn_asking.specs.inner.Reads.{IsBoundIn, HasOneOf, IsAloneAt, M
 
 use crate::asking::constants_of;
 use crate::bound::is_bound_in;
-use crate::taken::taken;
+use crate::taking::taken;
 use crate::users::is_shared;
 use fvn_frames::{Reading, Sums};
 use fvn_lindio::Solution;
@@ -20,6 +20,14 @@ use fvn_sorts::Signature;
 use fvn_terms::{NoMemory, OpId};
 use std::alloc::Global;
 
+// What a solution has in column j.
+fn part(solution: &Solution, j: usize) -> u32
+    requires { j < length solution.now.parts }
+    ensures { result ≡ slice_index solution.now.parts j }
+{
+    solution.parts.as_slice()[j]
+}
+
 // What the solutions have in a column, all together, or the greatest number.
 fn total(solutions: &[Solution], j: usize) -> u64
     requires { All (λ v. j < length v) (vectors_of solutions.now) }
@@ -27,7 +35,7 @@ fn total(solutions: &[Solution], j: usize) -> u64
 {
     let mut sum: u64 = 0;
     for solution in solutions {
-        sum = sum.saturating_add(u64::from(solution.parts.as_slice()[j]));
+        sum = sum.saturating_add(u64::from(part(solution, j)));
     }
     sum
 }
@@ -52,11 +60,10 @@ fn has_both(solutions: &[Solution], constants: &[usize], j: usize) -> bool
     ensures { IsTrue result ↔ IsAloneAt constants.now (vectors_of solutions.now) j }
 {
     for solution in solutions {
-        let parts = solution.parts.as_slice();
-        if parts[j] == 0 {
+        if part(solution, j) == 0 {
             continue;
         }
-        if has_one_of(constants, parts) {
+        if has_one_of(constants, solution.parts.as_slice()) {
             return true;
         }
     }

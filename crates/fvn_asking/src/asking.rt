@@ -103,7 +103,7 @@ fn is_required(
 }
 
 // For each column whether all solutions may be zero there.
-fn marks_of(
+pub(crate) fn marks_of(
     alloc: Global,
     sig: &Signature,
     reading: &Reading,

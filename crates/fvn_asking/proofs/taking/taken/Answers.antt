@@ -3,7 +3,7 @@ use Rattle.std.proofs.Common.{sym, ◌∙◌}
 use Rattle.fvn_lindio.specs.Systems.{vectors_of}
 use Rattle.fvn_acunify.specs.ValidChoice.{chosen}
 use Rattle.fvn_asking.proofs.Chosen.{taking_more, taking_all}
-use Rattle.fvn_asking.proofs.taken.taken.Goals as goal
+use Rattle.fvn_asking.proofs.taking.taken.Goals as goal
 
 pub loop-solution-preserved : goal.loop-solution-preserved
 loop-solution-preserved c =

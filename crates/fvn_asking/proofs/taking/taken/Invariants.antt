@@ -2,7 +2,7 @@
 use Rattle.std.proofs.Common.{◌≡◌, ◌++◌, drop}
 use Rattle.fvn_lindio.specs.Systems.{vectors_of}
 use Rattle.fvn_acunify.specs.ValidChoice.{chosen}
-use Rattle.fvn_asking.proofs.taken.taken.Given as goal
+use Rattle.fvn_asking.proofs.taking.taken.Given as goal
 
 abbrev pub invariant-loop-solution : goal.invariant-loop-solution
 invariant-loop-solution l =

@@ -1,0 +1,44 @@
+-- The minimal solutions of the sum operators that are read, and the first operator whose system is refused.
+use Rattle.std.specs.Prelude.{◌≡◌, ◌↔◌, ℕ, ◌<◌, ◌≤◌, List, [], length, slice_get, slice_index_or, Some, AllPairs, Contains}
+use Rattle.fvn_base.specs.declared.limits.TheConstants.{MINIMAL_SOLUTIONS}
+use Rattle.fvn_base.specs.Order.{IsBefore}
+use Rattle.fvn_terms.specs.declared.plain.OpId.{OpId}
+use Rattle.fvn_lindio.specs.declared.system.System.{System}
+use Rattle.fvn_lindio.specs.declared.system.Solution.{Solution}
+use Rattle.fvn_lindio.specs.Systems.{IsMinimal, rows_of, vectors_of}
+use Rattle.fvn_flat.specs.Solving.{IsRefused}
+use Rattle.fvn_frames.specs.declared.reading.Sums.{Sums}
+use Rattle.fvn_openings.specs.declared.opening.OpenFault.{OpenFault}
+use Rattle.fvn_openings.specs.declared.opening.OpenFault.TheVariants.{Basis, NoMemory}
+
+-- exactly the minimal solutions of a system that is not refused, in lexicographic order
+pub record IsBasis (s : System) (basis : List Solution) : Type 0 where
+  pub exact : (v : List ℕ) → Contains (vectors_of basis) v ↔ IsMinimal s.columns (rows_of s) v
+  pub ordered : AllPairs IsBefore (vectors_of basis)
+  pub few : length basis ≤ MINIMAL_SOLUTIONS
+  pub kept : IsRefused s → ⊥
+
+-- those of each of the sum operators
+pub record AreBases (sums : List Sums) (bases : List (List Solution)) : Type 0 where
+  pub as_many : length bases ≡ length sums
+  pub each : (i : ℕ) (e : Sums) → slice_get sums i ≡ Some e → IsBasis e.system (slice_index_or bases i [])
+
+-- f with its system is the first of the sum operators whose system is refused
+pub record IsFirstRefused (sums : List Sums) (f : OpId) (system : System) : Type 0 where
+  pub place : ℕ
+  pub entry : Sums
+  pub at : slice_get sums place ≡ Some entry
+  pub is_operator : entry.operator ≡ f
+  pub is_system : entry.system ≡ system
+  pub refused : IsRefused system
+  pub first : (i : ℕ) (e : Sums) → i < place → slice_get sums i ≡ Some e → IsRefused e.system → ⊥
+
+-- why there is no basis of a sum operator's system
+abbrev pub IsFaultOf : Sums → OpenFault → Type 0
+IsFaultOf e (Basis f system) = (e.operator ≡ f) × (e.system ≡ system) × IsRefused system
+IsFaultOf e NoMemory = Unit {0}
+
+-- why a frame is not opened
+abbrev pub IsOpenFault : List Sums → OpenFault → Type 0
+IsOpenFault sums (Basis f system) = IsFirstRefused sums f system
+IsOpenFault sums NoMemory = Unit {0}

@@ -1,0 +1,59 @@
+-- Laws of frames that are opened.
+use Rattle.std.specs.Prelude.{◌≡◌, ◌↔◌, ℕ, List, length, Option}
+use Rattle.std.specs.List.{AllZip}
+use Rattle.fvn_terms.specs.declared.plain.OpId.{OpId}
+use Rattle.fvn_terms.specs.declared.declarations.Declarations.{Declarations}
+use Rattle.fvn_terms.specs.Substitution.{Substitution}
+use Rattle.fvn_terms.specs.Unifiers.{Problem}
+use Rattle.fvn_forms.specs.FitsKinds.{FitsKinds}
+use Rattle.fvn_lindio.specs.declared.system.System.{System}
+use Rattle.fvn_lindio.specs.declared.system.Solution.{Solution}
+use Rattle.fvn_flat.specs.Problems.{IsProblem}
+use Rattle.fvn_flat.specs.Solving.{IsGiven, IsBasisCause, problem_of}
+use Rattle.fvn_flat.specs.declared.solver.Pairs.{Pairs}
+use Rattle.fvn_nodes.specs.Table.{NodeTable, IsWellMade, IsTableOf}
+use Rattle.fvn_nodes.specs.Classes.{IsNodePartition}
+use Rattle.fvn_nodes.specs.States.{IsClosed, class_of}
+use Rattle.fvn_nodes.specs.declared.state.State.{State}
+use Rattle.fvn_frames.specs.Readings.{IsReading}
+use Rattle.fvn_frames.specs.declared.reading.Reading.{Reading}
+use Rattle.fvn_plans.specs.Choosing.{Systems, Choice, AreSystems, IsPossible}
+use Rattle.fvn_asking.specs.Listed.{systems_of, choice_of, tag_in}
+use Rattle.fvn_obeying.specs.CoveringChoices.{IsCovering}
+use Rattle.fvn_wheels.specs.Tags.{IsOption}
+use Rattle.fvn_wheels.specs.Wheels.{Wheel, IsChoice}
+use Rattle.fvn_openings.specs.declared.sharing.SharedClass.{SharedClass}
+use Rattle.fvn_openings.specs.Bases.{AreBases, IsFirstRefused}
+use Rattle.fvn_openings.specs.Sharing.{AreSharedClasses}
+use Rattle.fvn_openings.specs.Tags.{tag_counts, AreTags}
+use Rattle.fvn_openings.specs.Turning.{AreWheels, LeaveNoAlias}
+
+-- the minimal solutions of all sum operators go with their systems
+abbrev pub BasesMakeSystems : Type 0
+BasesMakeSystems =
+    (d : Declarations) (t : NodeTable) (class : ℕ → ℕ) (r : Reading) → IsReading d t class r
+    → (bases : List (List Solution)) → AreBases r.sums bases → AreSystems d t class (systems_of r bases)
+
+-- a system that is refused at a partition of a given problem's nodes is why a solver ends
+abbrev pub RefusalsAreCauses : Type 0
+RefusalsAreCauses =
+    (d : Declarations) (given : Pairs) (first : ℕ) → IsGiven d given first → (t : NodeTable) → IsWellMade t → IsTableOf d (problem_of given) t
+    → (class : ℕ → ℕ) → IsNodePartition d t class → (r : Reading) → IsReading d t class r
+    → (f : OpId) (system : System) → IsFirstRefused r.sums f system → IsBasisCause d given f system
+
+-- tags by options and a number for each sum operator are a possible choice exactly where each number is valid on its wheel and no class is an alias
+abbrev pub ListedChoicesArePossible : Type 0
+ListedChoicesArePossible =
+    (d : Declarations) → FitsKinds d → (problem : Problem) → IsProblem d problem → (t : NodeTable) → IsWellMade t → IsTableOf d problem t
+    → (class : ℕ → ℕ) (r : Reading) → IsReading d t class r → (bases : List (List Solution)) → AreBases r.sums bases
+    → (shared : List SharedClass) → AreSharedClasses d t class shared → (options : List ℕ) (tags : List (Option OpId)) → AreTags shared options tags
+    → (wheels : List Wheel) → AreWheels d t class (tag_in tags) r.sums bases wheels → (numbers : List ℕ) → length numbers ≡ length r.sums
+    → IsPossible d t class (systems_of r bases) (choice_of r tags numbers) ↔ (AllZip IsChoice wheels numbers × LeaveNoAlias d t class (tag_in tags) r.sums bases numbers)
+
+-- a choice that covers a unifier can be listed: by an option for each shared class, and a number for each sum operator
+abbrev pub CoveringChoicesAreListed : Type 0
+CoveringChoicesAreListed =
+    (d : Declarations) (problem : Problem) (t : NodeTable) → IsWellMade t → (s : State) → IsClosed d t s → (r : Reading) → IsReading d t (class_of s) r
+    → (shared : List SharedClass) → AreSharedClasses d t (class_of s) shared → (y : Systems) (u : Substitution) (c : Choice) → IsCovering d problem t s y u c
+    → (options : List ℕ) × (numbers : List ℕ) × AllZip IsOption (tag_counts shared) options × (length numbers ≡ length r.sums)
+    × ((tags : List (Option OpId)) → AreTags shared options tags → IsCovering d problem t s y u (choice_of r tags numbers))

@@ -1,0 +1,7 @@
+-- The words of frames that are opened: minimal solutions, shared classes with their tags, and wheels.
+pub mod Bases
+pub mod Sharing
+pub mod Tags
+pub mod Turning
+pub mod Laws
+pub mod inner

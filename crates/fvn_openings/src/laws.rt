@@ -1,0 +1,36 @@
+//! Laws of frames that are opened, each the contract of a function that does nothing.
+ghost use Rattle.fvn_openings.specs.Laws.{
+  BasesMakeSystems,
+  RefusalsAreCauses,
+  ListedChoicesArePossible,
+  CoveringChoicesAreListed,
+};
+
+use fvn_nodes::node_partitions_are_partitions;
+use fvn_plans::valid_choices_are_acceptable;
+use fvn_sums::node_systems_are_sum_systems;
+
+/// The minimal solutions of all sum operators go with their systems.
+pub fn bases_make_systems()
+    ensures { BasesMakeSystems }
+{}
+
+/// A system that is refused at a partition is why a solver ends.
+pub fn refusals_are_causes()
+    ensures { RefusalsAreCauses }
+{
+    node_partitions_are_partitions();
+    node_systems_are_sum_systems();
+}
+
+/// Tags and numbers are a possible choice where the numbers are valid and no class is an alias.
+pub fn listed_choices_are_possible()
+    ensures { ListedChoicesArePossible }
+{
+    valid_choices_are_acceptable();
+}
+
+/// A choice that covers a unifier can be listed.
+pub fn covering_choices_are_listed()
+    ensures { CoveringChoicesAreListed }
+{}

@@ -1,0 +1,19 @@
+//! What is held of a frame that is opened: minimal solutions, shared classes with their tags, and wheels.
+#![tactic(auto)]
+
+mod aliases;
+mod laws;
+mod opening;
+mod sharing;
+mod tagging;
+mod turning;
+
+pub use aliases::leave_no_alias;
+pub use laws::{
+    bases_make_systems, covering_choices_are_listed, listed_choices_are_possible,
+    refusals_are_causes,
+};
+pub use opening::{OpenFault, bases};
+pub use sharing::{SharedClass, shared};
+pub use tagging::{option_counts, tags_of};
+pub use turning::wheels;
