@@ -8,3 +8,9 @@ mod Classes
 mod Sources
 mod Summing
 mod Fronts
+mod BoundAt
+mod Standing
+mod Sharing
+mod Bound
+mod Forms
+mod Made

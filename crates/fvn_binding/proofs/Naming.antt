@@ -46,7 +46,7 @@ module _ (t : NodeTable) (made : IsWellMade t) where
     exact = λ x. ((λ m. let l = m.1 in absurd (omega (arith, l))), (λ m. let l = m.1 in absurd (omega (arith, l))));
   }
 
-  one_node : (i j : ℕ) (x : Variable) → slice_get t.nodes i ≡ Some (Var x) → slice_get t.nodes j ≡ Some (Var x) → i ≡ j
+  pub one_node : (i j : ℕ) (x : Variable) → slice_get t.nodes i ≡ Some (Var x) → slice_get t.nodes j ≡ Some (Var x) → i ≡ j
   one_node i j x p q =
       term_at-injective t.nodes made.distinct i j (slice_get_within t.nodes i (Var x) p) (slice_get_within t.nodes j (Var x) q)
       (term_at-variable t.nodes i x p ∙ sym (term_at-variable t.nodes j x q))

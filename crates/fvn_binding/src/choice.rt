@@ -47,6 +47,7 @@ fn member_term(
     ensures exact { IfOk result (λ t. t ≡ over_names sig.now table.now (class_of state.now) names.now
         (slice_get table.now.nodes i)) }
 {
+    sig.recall_good();
     table.recall_well_made();
     match table.node(i) {
         Node::Var(x) => Ok(Flat::var(*x)),

@@ -5,6 +5,7 @@ ghost use Rattle.fvn_lindio.specs.Systems.{vectors_of};
 ghost use Rattle.fvn_acunify.specs.ValidChoice.{chosen};
 ghost use Rattle.fvn_nodes.specs.States.{IsClosed, class_of};
 ghost use Rattle.fvn_frames.specs.Readings.{IsReading};
+ghost use Rattle.fvn_asking.specs.Listed.{tag_in};
 ghost use Rattle.fvn_binding.specs.inner.Planning.{
   variable_for,
   AreShares,
@@ -79,21 +80,23 @@ fn shares_of(
     let kind = operator_kind(sig, sums.operator);
     let mut shares = Vec::new(alloc);
     let mut next = start;
-    for solution in solutions {
+    for solution in solutions.as_slice() {
         let fresh = Var {
             name: next,
             sort: kind,
             fresh: true,
         };
+        let parts = solution.parts.as_slice();
         let variable = variable_for(
             asked.constants.as_slice(),
             sums.columns.as_slice(),
             names,
-            solution.parts.as_slice(),
+            parts,
             fresh,
         );
+        let copy = Vec::from_slice(alloc, parts)?;
         shares.push(Share {
-            solution: solution.parts,
+            solution: Seq::from_vec(copy),
             variable,
         })?;
         next += 1;

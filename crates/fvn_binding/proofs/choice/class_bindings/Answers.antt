@@ -1,0 +1,16 @@
+-- One more class.
+use Rattle.std.proofs.Common.{ℕ, ◌<◌, List, length, map, sym, ap, ◌∙◌, subst, arith}
+use Rattle.fvn_nodes.specs.States.{class_of}
+use Rattle.fvn_binding.proofs.Bound.{no_classes, class_skip, class_more}
+use Rattle.fvn_binding.proofs.choice.class_bindings.Goals as goal
+
+pub loop-k-init : goal.loop-k-init
+loop-k-init c = no_classes c.args.sig.now c.args.table.now (class_of c.args.state.now) c.args.names.now c.args.reading.now.sums (map (λ w. w.items) c.args.shares.now) c.args.binders.now c.new-bindings.result.items c.new-bindings.ensures.items
+
+pub loop-k-preserved-then-class_of-k : goal.loop-k-preserved-then-class_of-k
+loop-k-preserved-then-class_of-k c = class_skip c.args.sig.now c.args.table.now (class_of c.args.state.now) c.args.names.now c.args.reading.now.sums (map (λ w. w.items) c.args.shares.now) c.args.binders.now c.loop-k.k c.loop-k.bindings.items (λ e. c.if-class_of-k.true (c.class_of.ensures ∙ e)) c.loop-k.invariant
+
+pub loop-k-preserved : goal.loop-k-preserved
+loop-k-preserved c =
+    class_more c.args.sig.now c.args.table.now (class_of c.args.state.now) c.args.names.now c.args.reading.now.sums (map (λ w. w.items) c.args.shares.now) c.args.binders.now c.loop-k.k c.loop-k.bindings.items c.add_class.new.bindings.items _ c.in_ok-term.term
+    c.requires.apart ? (sym c.class_of.ensures ∙ c.if-class_of-k.false) ? ? c.in_ok-add_class.ensures c.loop-k.invariant
