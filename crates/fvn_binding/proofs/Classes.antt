@@ -45,7 +45,7 @@ module _ {d : Declarations} (good : IsGood d) where
     ap (kind d) e ∙ good.kinded.own r.result,
   )
 
-module _ {d : Declarations} (good : IsGood d) {t : NodeTable} (made : IsWellMade t) {s : State} (closed : IsClosed d t s) where
+module _ {d : Declarations} {t : NodeTable} (made : IsWellMade t) {s : State} (closed : IsClosed d t s) where
   pub class_within : (i : ℕ) → i < length t.nodes → class_of s i < length t.nodes
   class_within i l =
       let w = closed.whole in
@@ -74,7 +74,7 @@ module _ {d : Declarations} (good : IsGood d) {t : NodeTable} (made : IsWellMade
   pub column_within : (f : OpId) (k : ℕ) → IsNodeColumn t (class_of s) f k → k < length t.nodes
   column_within f k m = let n = column_node f k m in subst (λ k. k < length t.nodes) n.2 (class_within n.0 n.1)
 
-  module _ (kinded : (i : ℕ) → i < length t.nodes → IsTerm d (term_at t.nodes i)) (kinds : AreOfOneKind d t (class_of s)) {first : ℕ} {names : List Variable} (are : AreNames d t first names) where
+  module _ (good : IsGood d) (kinded : (i : ℕ) → i < length t.nodes → IsTerm d (term_at t.nodes i)) (kinds : AreOfOneKind d t (class_of s)) {first : ℕ} {names : List Variable} (are : AreNames d t first names) where
     name_sort : (k : ℕ) → k < length t.nodes → (q : SortId) → HasKind d (term_at t.nodes k) q → HasKind d (var (name_in names k)) q
     name_sort k l q r =
         let e = (are.each k l).sort q r in

@@ -1,7 +1,7 @@
 -- What classes are bound to: operators over names of classes, and sums of what stands for solutions.
 use Rattle.std.proofs.Common.{◌≡◌, ℕ, zero, suc, ◌<◌, List, [], ◌∷◌, length, get_or, map, slice_index_or, refl, sym, ap, ◌∙◌, subst, arith, All, Option, Some, None}
 use Rattle.std.specs.Prelude.{slice_get}
-use Rattle.std.proofs.lemmas.List.{get_or-map}
+use Rattle.std.proofs.lemmas.List.{length-map}
 use Rattle.std.proofs.lemmas.List.Elements.{All-head, All-tail}
 use Rattle.std.proofs.lemmas.Option.{slice_get_within, get_or_from_slice_get}
 use Rattle.fvn_terms.specs.declared.plain.Var.{Var as Variable}
@@ -39,6 +39,10 @@ module _ (d : Declarations) (class : ℕ → ℕ) (names : List Variable) where
   pub forms_of_names : (ks : List ℕ) → eval_all d fvar (name_terms ks) ≡ name_forms ks
   forms_of_names [] = refl
   forms_of_names (k ∷ ks) = ap (λ l. fvar (name_in names (class k)) ∷ l) (forms_of_names ks)
+
+-- a place of a list that was read through a function
+pub place_in_map : {X Y : Type 0} (g : X → Y) (ws : List X) (i : ℕ) {n : ℕ} → length (map g ws) ≡ n → i < n → i < length ws
+place_in_map g ws i {n} e l = let m = length-map ws g in omega (arith, m, e, l)
 
 -- the sum at a place
 pub sum_at_here : {X : Type 0} (d : Declarations) (g : X → List Share) (sums list : List Sums) (ws : List X) (i k : ℕ) (s : Sums) (w : X) → list ≡ sums → i < length list → s ≡ get_or list i s → i < length ws → w ≡ get_or ws i w

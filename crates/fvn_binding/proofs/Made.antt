@@ -85,10 +85,10 @@ module _ {d : Declarations} {given : Pairs} {first : ℕ} {t : NodeTable} {s : S
   node_terms = node_kinded d c.good.fits (problem_of given) c.ready.is_given.kinds t c.made c.ready.table
 
   pub are_kinded : {names : List Variable} → AreNames d t first names → AreKinded d t (class_of s) names
-  are_kinded names = names_kinded c.good c.made c.ready.closed node_terms c.ready.kinds names
+  are_kinded names = names_kinded c.made c.ready.closed c.good node_terms c.ready.kinds names
 
   pub are_apart : {names : List Variable} → AreNames d t first names → AreApart names
-  are_apart names = names_apart c.good c.made c.ready.closed node_terms c.ready.kinds names
+  are_apart names = names_apart c.made c.ready.closed c.good node_terms c.ready.kinds names
 
   -- the place of a sum operator
   pub record Place (f : OpId) : Type 0 where

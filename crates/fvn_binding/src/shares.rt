@@ -75,6 +75,7 @@ fn shares_of(
     ensures { IfOk result (λ v. AreShares sig.now table.now (class_of state.now) (tag_in tags.now) sums.now
         names.now start (chosen number (vectors_of basis.now)) v.items) }
 {
+    table.recall_well_made();
     let asked = asked(alloc, sig, table, state, reading, tags, sums)?;
     let solutions = taken(alloc, basis, number)?;
     let kind = operator_kind(sig, sums.operator);

@@ -1,6 +1,7 @@
 -- One more class.
-use Rattle.std.proofs.Common.{ℕ, ◌<◌, List, length, map, sym, ap, ◌∙◌, subst, arith}
+use Rattle.std.proofs.Common.{List, length, map, refl, sym, ap, ◌∙◌, arith}
 use Rattle.fvn_nodes.specs.States.{class_of}
+use Rattle.fvn_nodes.specs.declared.table.Node.{Node}
 use Rattle.fvn_binding.proofs.Bound.{no_classes, class_skip, class_more}
 use Rattle.fvn_binding.proofs.choice.class_bindings.Goals as goal
 
@@ -13,4 +14,4 @@ loop-k-preserved-then-class_of-k c = class_skip c.args.sig.now c.args.table.now 
 pub loop-k-preserved : goal.loop-k-preserved
 loop-k-preserved c =
     class_more c.args.sig.now c.args.table.now (class_of c.args.state.now) c.args.names.now c.args.reading.now.sums (map (λ w. w.items) c.args.shares.now) c.args.binders.now c.loop-k.k c.loop-k.bindings.items c.add_class.new.bindings.items _ c.in_ok-term.term
-    c.requires.apart ? (sym c.class_of.ensures ∙ c.if-class_of-k.false) ? ? c.in_ok-add_class.ensures c.loop-k.invariant
+    c.requires.apart (let t = c.loop-k-test.true in let n = ap (λ (ns : List Node). length ns) c.nodes-k-end.ensures in let m = c.requires.kinded.as_many in omega (arith, t, n, m)) (sym c.class_of.ensures ∙ c.if-class_of-k.false) refl c.in_ok-term.ensures c.in_ok-add_class.ensures c.loop-k.invariant

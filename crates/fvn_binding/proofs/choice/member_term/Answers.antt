@@ -16,10 +16,10 @@ over : (c : In_ok-args-in-App) → IsOver c.args.table.now.nodes c.args.i c.in-A
 over c = c.node.ensures ∙ ap Some c.in-App.is
 
 pub app-requires-clause-fit : goal.app-requires-clause-fit
-app-requires-clause-fit c = subst (AllFit c.args.sig.now) (sym (forms c)) (names_fit c.recall_good.ensures.fits c.recall_well_made.ensures c.requires.kinded c.args.i c.in-App.f c.in-App.ks (over c))
+app-requires-clause-fit c = subst (AllFit c.args.sig.now) (sym (forms (goal.at.app-requires-clause-fit c).In_ok-args-in-App)) (names_fit c.recall_good.ensures.fits c.recall_well_made.ensures c.requires.kinded c.args.i c.in-App.f c.in-App.ks (over (goal.at.app-requires-clause-fit c).In_ok-args-in-App))
 
 pub app-requires-clause-takes : goal.app-requires-clause-takes
-app-requires-clause-takes c = subst (Takes c.args.sig.now c.in-App.f) (sym (forms c)) (names_taken c.recall_good.ensures.fits c.recall_well_made.ensures c.requires.kinded c.args.i c.in-App.f c.in-App.ks (over c))
+app-requires-clause-takes c = subst (Takes c.args.sig.now c.in-App.f) (sym (forms (goal.at.app-requires-clause-takes c).In_ok-args-in-App)) (names_taken c.recall_good.ensures.fits c.recall_well_made.ensures c.requires.kinded c.args.i c.in-App.f c.in-App.ks (over (goal.at.app-requires-clause-takes c).In_ok-args-in-App))
 
 pub returns-in_ok-t-in-App : goal.returns-in_ok-t-in-App
 returns-in_ok-t-in-App c =

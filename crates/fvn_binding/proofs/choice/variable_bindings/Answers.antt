@@ -1,13 +1,15 @@
 -- One more node.
-use Rattle.std.proofs.Common.{sym, ap, ◌∙◌, subst, Some}
+use Rattle.std.proofs.Common.{[], ◌∷◌, ◌++◌, sym, ap, ◌∙◌, subst}
+use Rattle.fvn_forms.specs.Flat.{FlatTerm, fvar}
 use Rattle.fvn_nodes.specs.States.{class_of}
+use Rattle.fvn_binding.specs.inner.Planning.{name_in}
 use Rattle.fvn_binding.proofs.Bound.{IsBoundTo, no_bound, bound_one}
 use Rattle.fvn_binding.proofs.choice.variable_bindings.Goals as goal
 use Rattle.fvn_binding.proofs.choice.variable_bindings.Goals.{Joined-node, in-Var+in_ok-push-in-Var, in-App}
 
 bound_so : (c : Joined-node) → IsBoundTo c.args.table.now c.recall_well_made.ensures (class_of c.args.state.now) c.args.names.now c.node.result.now c.loop-i.i c.loop-i.bindings.items c.match-node.bindings.items
 bound_so c = elim c.match-node.branch [
-  | in-Var+in_ok-push-in-Var w ↦ subst (λ n. IsBoundTo c.args.table.now c.recall_well_made.ensures (class_of c.args.state.now) c.args.names.now n c.loop-i.i c.loop-i.bindings.items c.match-node.bindings.items) (sym w.in-Var.is) (ap (λ v. v.items) w.bindings-is ∙ w.in_ok-push-in-Var.ensures.items ∙ ?)
+  | in-Var+in_ok-push-in-Var w ↦ subst (λ n. IsBoundTo c.args.table.now c.recall_well_made.ensures (class_of c.args.state.now) c.args.names.now n c.loop-i.i c.loop-i.bindings.items c.match-node.bindings.items) (sym w.in-Var.is) (ap (λ v. v.items) w.bindings-is ∙ w.in_ok-push-in-Var.ensures.items ∙ ap (λ (u : FlatTerm). c.loop-i.bindings.items ++ (w.in-Var.x, u) ∷ []) (w.var.ensures ∙ ap (λ k. fvar (name_in c.args.names.now k)) w.class_of.ensures))
   | in-App w ↦ subst (λ n. IsBoundTo c.args.table.now c.recall_well_made.ensures (class_of c.args.state.now) c.args.names.now n c.loop-i.i c.loop-i.bindings.items c.match-node.bindings.items) (sym w.in-App.is) (ap (λ v. v.items) w.bindings-is)
 ]
 
