@@ -14,3 +14,9 @@ mod Sharing
 mod Bound
 mod Forms
 mod Made
+mod Parts
+mod PlanBy
+mod Reaching
+mod BindingsBy
+mod Fitted
+mod NoOrder

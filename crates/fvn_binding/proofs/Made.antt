@@ -3,7 +3,7 @@ use Rattle.std.proofs.Common.{◌≡◌, ◌≢◌, ℕ, zero, suc, ◌+◌, ◌
 use Rattle.std.specs.Prelude.{slice_get, if◌then◌else◌}
 use Rattle.std.proofs.lemmas.Bool.{cases_Bool}
 use Rattle.std.proofs.lemmas.List.{get_or-map, length-map, get_or_default}
-use Rattle.std.proofs.lemmas.List.Elements.{All-contains}
+use Rattle.std.proofs.lemmas.List.Elements.{All-contains, All-weaker, All-contains_itself}
 use Rattle.std.proofs.lemmas.Option.{slice_get_within, slice_get-get_or, get_or_from_slice_get}
 use Rattle.fvn_base.specs.declared.limits.TheConstants.{MINIMAL_SOLUTIONS}
 use Rattle.fvn_base.proofs.Membership.{contains_none, contains_map, map_contains, filter_contains}
@@ -41,8 +41,11 @@ use Rattle.fvn_asking.proofs.Listing.{at_place}
 use Rattle.fvn_binding.specs.declared.binders.Binder.{Binder}
 use Rattle.fvn_binding.specs.declared.shares.Share.{Share}
 use Rattle.fvn_binding.specs.Ready.{IsReady, AreListed}
-use Rattle.fvn_binding.specs.inner.Planning.{part_of, AreNames, AreBinders, AreShares, AreAllShares, AreKinded, AreApart}
-use Rattle.fvn_binding.proofs.Classes.{names_kinded, names_apart}
+use Rattle.fvn_binding.specs.inner.Planning.{part_of, AreNames, AreBinders, AreShares, AreAllShares, AreKinded, AreApart, AreSized}
+use Rattle.fvn_binding.proofs.Classes.{class_within, names_kinded, names_apart}
+
+pub all_from : {X : Type 0} (P : X → Type 0) (xs : List X) → ((x : X) → Contains xs x → P x) → All P xs
+all_from P xs h = All-weaker (Contains xs) P h xs (All-contains_itself xs)
 
 -- what is listed at an operator's place is listed at the place of one of the operators
 at_some : {A : Type 0} (sums : List Sums) (xs : List (List A)) (f : OpId) (x : A) → Contains (at_operator [] sums xs f) x → (i : ℕ) × (s : Sums) × (slice_get sums i ≡ Some s) × (s.operator ≡ f)
@@ -171,6 +174,26 @@ module _ {d : Declarations} {given : Pairs} {first : ℕ} {t : NodeTable} {s : S
         let l = slice_get_within r.sums i e at in
         at_place [] r.sums (map (map part_of) all) c.reading.operators.distinct i e at (length-map all (map part_of) ∙ n)
         ∙ get_or-map (map part_of) all i [] [] (omega (arith, n, l))
+
+  -- the minimal solutions have as many components as there are columns
+  pub are_sized : AreSized r bases numbers
+  are_sized = record {
+    basis_each = c.listed.basis_each;
+    number_each = c.listed.number_each;
+    few = λ i l. let n = c.listed.basis_each in c.listed.few i [] (omega (arith, n, l));
+    sized = λ i e at. subst (All (λ v. length v ≡ length e.columns)) (basis_at i e at) (
+      all_from (λ v. length v ≡ length e.columns) ((systems_of r bases).basis e.operator) (λ v m.
+          let sum = entry_operator i e at in
+          ((c.systems.exact e.operator sum v).0 m).solves.sized ∙ (c.systems.is_system e.operator sum).wide ∙ ap length (columns_at i e at)));
+  }
+
+  -- a name of a class is a node
+  pub classes_within : (names : List Variable) → length names ≡ length t.nodes → All (λ k. k < length names) s.names
+  classes_within names n j o l =
+      let w = c.ready.closed.whole in
+      let k = class_within c.made c.ready.closed j (omega (arith, l, w)) in
+      let e = get_or_default s.names j o 0 l in
+      omega (arith, k, n, e)
 
   -- the operator that has a part
   pub part_operator : (all : List (List Share)) (f : OpId) (q : Part) → Contains (at_operator [] r.sums (map (map part_of) all) f) q → Place f

@@ -27,7 +27,7 @@ use fvn_base::Seq;
 use fvn_flat::{Flat, Pairs, SolvedList};
 use fvn_frames::Reading;
 use fvn_lindio::Solution;
-use fvn_nodes::{Node, State, Table};
+use fvn_nodes::{Node, State, Table, node_partitions_are_partitions};
 use fvn_sorts::Signature;
 use fvn_terms::{NoMemory, OpId, Var};
 use std::alloc::Global;
@@ -209,6 +209,7 @@ pub fn bindings(
     let _problem = problem;
     sig.recall_good();
     table.recall_well_made();
+    node_partitions_are_partitions();
     let names = names_of(alloc, sig, table, first)?;
     let binders = binders_of(alloc, sig, table, state, reading, tags)?;
     let start = first + table.nodes().len() as u32;
