@@ -8,3 +8,4 @@ mod Alike
 mod Covered
 mod Walked
 mod Ordered
+mod Setting
