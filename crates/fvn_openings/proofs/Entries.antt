@@ -40,3 +40,10 @@ zip_from R (a ∷ xs) (b ∷ ys) l each = (each 0 a refl, zip_from R xs ys (omeg
 -- what all have, each has that is read
 pub of_entry : {A : Type 0} (P : A → Type 0) (xs : List A) (i : ℕ) (x : A) → i < length xs → x ≡ get_or xs i x → All P xs → P x
 of_entry P xs i x l is all = subst P (sym is) (All-get_or P xs i x l all)
+
+-- the same of equal lists
+pub within_other : {A : Type 0} (xs ys : List A) (i : ℕ) → xs ≡ ys → i < length xs → i < length ys
+within_other xs ys i same l = subst (λ zs. i < length zs) same l
+
+pub read_of_other : {A : Type 0} (xs ys : List A) (i : ℕ) (x : A) → xs ≡ ys → x ≡ get_or xs i x → x ≡ get_or ys i x
+read_of_other xs ys i x same is = subst (λ zs. x ≡ get_or zs i x) same is

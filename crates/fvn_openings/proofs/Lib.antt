@@ -1,6 +1,6 @@
 -- The lemmas of the crate.
 mod Entries
-pub mod Systems
+mod Systems
 mod Refused
 mod Possible
 mod Tagged

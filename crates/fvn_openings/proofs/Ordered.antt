@@ -1,11 +1,21 @@
 -- Lists in order with the same members are one.
 use Rattle.std.proofs.Common.{◌≡◌, ◌≢◌, ℕ, zero, suc, ◌+◌, ◌<◌, List, [], ◌∷◌, length, map, get_or, refl, sym, ap, ◌∙◌, subst, inl, inr, arith, Contains}
-use Rattle.std.specs.Prelude.{◌↔◌, ◌⊎◌, AllPairs}
+use Rattle.std.specs.Prelude.{◌↔◌, ◌⊎◌, AllPairs, Option}
 use Rattle.fvn_base.specs.Order.{IsBefore}
 use Rattle.fvn_base.proofs.Order.{before_irrefl, before_trans}
 use Rattle.fvn_base.proofs.Membership.{contains_cases, contains_none}
+use Rattle.fvn_terms.specs.declared.plain.OpId.{OpId}
+use Rattle.fvn_terms.specs.declared.declarations.Declarations.{Declarations}
+use Rattle.fvn_lindio.specs.declared.system.System.{System}
 use Rattle.fvn_lindio.specs.declared.system.Solution.{Solution}
-use Rattle.fvn_lindio.specs.Systems.{vectors_of}
+use Rattle.fvn_lindio.specs.Systems.{IsMinimal, rows_of, vectors_of}
+use Rattle.fvn_acunify.specs.declared.theory.OneTheory.{OneTheory}
+use Rattle.fvn_nodes.specs.Table.{NodeTable}
+use Rattle.fvn_frames.specs.declared.reading.Sums.{Sums}
+use Rattle.fvn_plans.specs.Binding.{AreAsked}
+use Rattle.fvn_wheels.specs.Wheels.{Wheel}
+use Rattle.fvn_openings.specs.Bases.{IsBasis}
+use Rattle.fvn_openings.specs.Turning.{IsWheel}
 
 -- the first comes before every other
 first_before : (x : List ℕ) (xs : List (List ℕ)) → AllPairs IsBefore (x ∷ xs) → (v : List ℕ) → Contains xs v → IsBefore x v
@@ -55,3 +65,13 @@ one_list (x ∷ xs) (y ∷ ys) e =
     let head : x.parts ≡ y.parts = cc in
     let tail : vectors_of xs ≡ vectors_of ys = cc in
     ap (λ v. (record { parts = v }) ∷ xs) head ∙ ap (λ zs. y ∷ zs) (one_list xs ys tail)
+
+-- the choices among all minimal solutions, in order, are a wheel over the basis
+pub wheel_is : (d : Declarations) (t : NodeTable) (class : ℕ → ℕ) (tag : ℕ → Option OpId) (e : Sums) (basis : List Solution) → IsBasis e.system basis → (y : OneTheory) → y.system ≡ e.system → AreAsked d t class tag e.operator e.columns y.constants y.may_be_zero
+    → (w : Wheel) → ((v : List ℕ) → Contains (vectors_of w.basis) v ↔ IsMinimal y.system.columns (rows_of y.system) v) → AllPairs IsBefore (vectors_of w.basis) → w.constants ≡ y.constants → w.may_be_zero ≡ y.may_be_zero → IsWheel d t class tag e basis w
+wheel_is d t class tag e basis is y same asked w exact ordered constants marks =
+    let exact_e : (v : List ℕ) → Contains (vectors_of w.basis) v ↔ IsMinimal e.system.columns (rows_of e.system) v = subst (λ (s : System). (v : List ℕ) → Contains (vectors_of w.basis) v ↔ IsMinimal s.columns (rows_of s) v) same exact in
+    record {
+      over = one_list w.basis basis (one_ordered (vectors_of w.basis) (vectors_of basis) ordered is.ordered (λ v m. (is.exact v).1 ((exact_e v).0 m)) (λ v m. (exact_e v).1 ((is.exact v).0 m)));
+      asked = subst (λ cs. AreAsked d t class tag e.operator e.columns cs w.may_be_zero) (sym constants) (subst (AreAsked d t class tag e.operator e.columns y.constants) (sym marks) asked);
+    }

@@ -89,7 +89,7 @@ module _ (d : Declarations) (t : NodeTable) (class : ℕ → ℕ) (r : Reading) 
         (λ h. let b = iff.0 h in (to b.0, b.1), λ b. iff.1 (from b.0, b.1))
 
     -- the operator at a place
-    here : (i : ℕ) (e : Sums) → slice_get r.sums i ≡ Some e → IsPlaced r e.operator
+    abbrev here : (i : ℕ) (e : Sums) → slice_get r.sums i ≡ Some e → IsPlaced r e.operator
     here i e is = record { place = i; entry = e; is = is; operator = refl }
 
     op_here : (i : ℕ) (e : Sums) → slice_get r.sums i ≡ Some e → IsSumOperator d t e.operator

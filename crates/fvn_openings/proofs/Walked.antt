@@ -1,5 +1,5 @@
 -- What loops over sum operators and nodes gather.
-use Rattle.std.proofs.Common.{◌≡◌, ◌≢◌, ◌⊎◌, ℕ, ◌+◌, ◌<◌, ◌≤◌, List, [], ◌∷◌, ◌++◌, length, map, get_or, slice_index_or, refl, sym, ap, ◌∙◌, subst, inl, inr, arith, All, Contains, Option, Some, None}
+use Rattle.std.proofs.Common.{◌≡◌, ◌≢◌, ◌⊎◌, ℕ, ◌+◌, ◌<◌, ◌≤◌, List, [], ◌∷◌, ◌++◌, length, map, get_or, slice_index, slice_index_or, refl, sym, ap, ◌∙◌, subst, inl, inr, arith, All, Contains, Option, Some, None}
 use Rattle.std.specs.Prelude.{◌↔◌, AllPairs, slice_get}
 use Rattle.std.proofs.lemmas.Bool.{cases_lt}
 use Rattle.std.proofs.lemmas.List.{length_push, get_or_append_left, get_or_push, map_push}
@@ -9,9 +9,17 @@ use Rattle.std.proofs.lemmas.Option.{slice_get_within, slice_get-get_or, get_or_
 use Rattle.fvn_terms.specs.declared.plain.OpId.{OpId}
 use Rattle.fvn_terms.specs.declared.declarations.Declarations.{Declarations}
 use Rattle.fvn_lindio.specs.declared.system.Solution.{Solution}
-use Rattle.fvn_nodes.specs.Table.{NodeTable}
+use Rattle.fvn_lindio.specs.Systems.{vectors_of}
+use Rattle.fvn_acunify.specs.ValidChoice.{chosen}
+use Rattle.fvn_nodes.specs.Table.{NodeTable, IsWellMade}
+use Rattle.fvn_nodes.specs.States.{IsClosed, class_of}
+use Rattle.fvn_nodes.specs.declared.state.State.{State}
 use Rattle.fvn_frames.specs.Frames.{Uses, IsShared}
+use Rattle.fvn_frames.specs.Readings.{IsReading}
 use Rattle.fvn_frames.specs.declared.reading.Sums.{Sums}
+use Rattle.fvn_frames.specs.declared.reading.Reading.{Reading}
+use Rattle.fvn_asking.specs.Aliases.{HasNoAlias}
+use Rattle.fvn_asking.proofs.Reading.{column_within}
 use Rattle.fvn_asking.proofs.Listing.{operators_differ}
 use Rattle.fvn_wheels.specs.Wheels.{Wheel}
 use Rattle.fvn_openings.specs.declared.sharing.SharedClass.{SharedClass}
@@ -20,6 +28,7 @@ use Rattle.fvn_openings.specs.Sharing.{classes_of, IsSharedClass, AreSharedClass
 use Rattle.fvn_openings.specs.Turning.{IsWheel, AreWheels}
 use Rattle.fvn_openings.specs.inner.Walking.{AreBasesBelow, AreWheelsBelow, IsUserBelow, AreUsersBelow, AreSharedBelow}
 use Rattle.fvn_openings.proofs.Entries.{read_at, one_entry}
+use Rattle.fvn_openings.proofs.Systems.{user_placed}
 
 -- one more operator's minimal solutions
 pub more_bases : (sums : List Sums) (n : ℕ) (bases : List (List Solution)) (e : Sums) (b : List Solution) → n < length sums → e ≡ get_or sums n e → AreBasesBelow sums n bases → IsBasis e.system b → AreBasesBelow sums (n + 1) (bases ++ b ∷ [])
@@ -159,3 +168,41 @@ module _ (d : Declarations) (t : NodeTable) (class : ℕ → ℕ) where
           ]);
           few = All-push (λ (c : SharedClass). length c.users ≤ most) list c h.few few;
         }
+
+module _ (d : Declarations) (t : NodeTable) (class : ℕ → ℕ) (r : Reading) (reading : IsReading d t class r) where
+  -- a shared class with its users
+  pub shared_here : (k : ℕ) (users us : List OpId) → us ≡ users → AreUsersBelow d t class r.sums k (length r.sums) users → IsShared d t class k → k < length t.nodes → IsSharedClass d t class (record { class = k; users = us })
+  shared_here k users us same h shared within = record {
+    within = within;
+    shared = shared;
+    distinct = subst (AllPairs ◌≢◌) (sym same) h.distinct;
+    exact = λ f. (
+      λ m. ((h.exact f).0 (subst (λ xs. Contains xs f) same m)).uses,
+      λ u.
+          let p = user_placed d t class r reading f k u in
+          subst (λ xs. Contains xs f) (sym same) ((h.exact f).1 (record { place = p.place; before = slice_get_within r.sums p.place p.entry p.is; entry = p.entry; is = p.is; operator = p.operator; uses = u })),
+    );
+  }
+
+-- all shared classes
+pub all_shared : (d : Declarations) (t : NodeTable) → IsWellMade t → (s : State) → IsClosed d t s → (most n : ℕ) (list : List SharedClass) → length t.nodes ≤ n → AreSharedBelow d t (class_of s) most n list → AreSharedClasses d t (class_of s) list
+all_shared d t made s closed most n list l h = record {
+  each = h.each;
+  distinct = h.distinct;
+  every = λ k shared. h.every k (let b = column_within d t made s closed shared.first k shared.uses_first.column in omega (arith, b, l)) shared;
+}
+
+module _ (d : Declarations) (t : NodeTable) (class : ℕ → ℕ) (tag : ℕ → Option OpId) (sums : List Sums) (bases : List (List Solution)) (numbers : List ℕ) where
+  -- no shared class is an alias by the operator at this place
+  abbrev pub HasNone : ℕ → Sums → Type 0
+  HasNone i e = HasNoAlias d t class tag e.operator e.columns (chosen (slice_index numbers i) (vectors_of (slice_index_or bases i [])))
+
+  pub more_none : (n : ℕ) (e : Sums) → n < length sums → e ≡ get_or sums n e → ((i : ℕ) (x : Sums) → i < n → slice_get sums i ≡ Some x → HasNone i x) → HasNone n e
+      → (i : ℕ) (x : Sums) → i < n + 1 → slice_get sums i ≡ Some x → HasNone i x
+  more_none n e l at before here i x m is = elim (cases_lt i n) [
+    | inl below ↦ before i x below is
+    | inr above ↦
+        let same : i ≡ n = omega (arith, m, above) in
+        let one : e ≡ x = one_entry sums n e x (read_at sums n e l at) (subst (λ k. slice_get sums k ≡ Some x) same is) in
+        subst (λ k. HasNone k x) (sym same) (subst (HasNone n) one here)
+  ]
