@@ -54,6 +54,11 @@ all_solutions P solutions i l all = subst (All P) (take_all i (vectors_of soluti
 pub taken_long : (n number : ℕ) (basis vectors : List (List ℕ)) → vectors ≡ chosen number basis → All (λ v. length v ≡ n) basis → All (λ v. length v ≡ n) vectors
 taken_long n number basis vectors is all = subst (All (λ v. length v ≡ n)) (sym is) (chosen_all (λ v. length v ≡ n) number basis all)
 
+-- the same of equal lists
+pub alias_among : (r : Reading) (tags : List (Option OpId)) (e : Sums) (cs constants : List ℕ) (vs vectors : List (List ℕ)) (j : ℕ) → cs ≡ constants → vs ≡ vectors → MayBeAliasIn r tags e cs vs j → MayBeAliasIn r tags e constants vectors j
+alias_among r tags e cs constants vs vectors j same_constants same_vectors h =
+    subst (λ ws. MayBeAliasIn r tags e constants ws j) same_vectors (subst (λ ks. MayBeAliasIn r tags e ks vs j) same_constants h)
+
 -- so they have each column
 pub has_column : (n : ℕ) (vectors : List (List ℕ)) → All (λ v. length v ≡ n) vectors → (j : ℕ) → j < n → All (λ v. j < length v) vectors
 has_column n vectors all j l = All-weaker (λ v. length v ≡ n) (λ v. j < length v) (λ v e. omega (arith, e, l)) vectors all
@@ -113,19 +118,20 @@ module _ (d : Declarations) (t : NodeTable) (made : IsWellMade t) (s : State) (c
             absurd (none a.0 a.1 (
               subst (λ n. IsSharedIn r n × IsBoundIn r tags e n) (sym a.2) (shared_in d t made s closed r reading k small shared, (bound_iff d t made s closed r reading tags e listed k small).1 bound),
               one,
-              v,
-              among,
-              up,
-              b.0,
-              (are.exact b.0).1 (b.1, marked),
-              down,
+              (v, among, up, (b.0, (are.exact b.0).1 (b.1, marked), down)),
             ))
         | inr many ↦ many
       ]
 
   -- the class of such a column is one
   pub alias_of_column : (j : ℕ) → j < length e.columns → MayBeAliasIn r tags e constants vectors j → HasNoAlias d t (class_of s) (tag_in tags) e.operator e.columns vectors → ⊥
-  alias_of_column j l ((shared, bound), few, v, among, up, c, in_constants, down) none =
+  alias_of_column j l ((shared, bound), few, alone) none =
+      let v = alone.0 in
+      let among = alone.1 in
+      let up = alone.2 in
+      let c = alone.3.0 in
+      let in_constants = alone.3.1 in
+      let down = alone.3.2 in
       let k = slice_index e.columns j in
       let p = (are.exact c).0 in_constants in
       let left : 0 < component e.columns v k = let e = component_at e.columns v distinct j l in omega (arith, e, up) in

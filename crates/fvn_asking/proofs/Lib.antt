@@ -1,6 +1,6 @@
 -- The lemmas of the crate.
 mod Using
-mod Reading
+pub mod Reading
 mod Binding
 mod Demands
 mod Chosen

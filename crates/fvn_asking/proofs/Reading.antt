@@ -4,7 +4,7 @@ use Rattle.std.specs.Prelude.{slice_get}
 use Rattle.std.proofs.lemmas.Bool.{cases_order}
 use Rattle.std.proofs.lemmas.List.{get_or_default, get_or-map, length-map}
 use Rattle.std.proofs.lemmas.List.Elements.{All-contains, All-contains_itself, All-weaker}
-use Rattle.std.proofs.lemmas.Option.{slice_get_within, slice_get-get_or}
+use Rattle.std.proofs.lemmas.Option.{slice_get_within, slice_get-get_or, get_or_from_slice_get}
 use Rattle.fvn_base.proofs.Membership.{contains_cases, contains_none, contains_map, map_contains}
 use Rattle.fvn_terms.specs.declared.plain.OpId.{OpId}
 use Rattle.fvn_terms.specs.declared.declarations.Declarations.{Declarations}
@@ -139,7 +139,7 @@ module _ (d : Declarations) (t : NodeTable) (made : IsWellMade t) (s : State) (c
         let in_b = listed_at two.second b.entry b.is in (
           a.entry.operator,
           b.entry.operator,
-          differ two.first two.second two.before a.entry b.entry in_a.2 in_b.2 in_b.1,
+          differ two.first two.second two.before a.entry b.entry (get_or_from_slice_get r.sums two.first a.entry a.entry a.is) (get_or_from_slice_get r.sums two.second b.entry b.entry b.is) (slice_get_within r.sums two.second b.entry b.is),
           marked_from a.entry in_a k a.uses,
           marked_from b.entry in_b k b.uses,
         )

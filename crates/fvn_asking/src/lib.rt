@@ -4,14 +4,14 @@
 mod aliases;
 mod asking;
 mod bound;
+mod classes;
 mod taking;
 mod theories;
 mod users;
-mod using;
 
 pub use aliases::has_no_alias;
 pub use asking::{Requirements, asked};
 pub use bound::is_bound;
+pub use classes::{is_shared_class, uses};
 pub use taking::taken;
 pub use theories::{copied_system, theory};
-pub use using::{is_shared_class, uses};

@@ -1,7 +1,8 @@
 -- Places of lists.
-use Rattle.std.proofs.Common.{◌≡◌, ℕ, zero, suc, ◌+◌, ◌<◌, List, [], ◌∷◌, ◌++◌, length, get_or, refl, sym, ap, ◌∙◌, subst, inl, inr, arith, Contains, Option, Some, None}
+use Rattle.std.proofs.Common.{◌≡◌, ℕ, zero, suc, ◌+◌, ◌<◌, List, [], ◌∷◌, ◌++◌, length, get_or, refl, sym, ap, ◌∙◌, subst, inl, inr, arith, All, Contains, Option, Some, None}
 use Rattle.std.specs.Prelude.{slice_get}
 use Rattle.std.specs.List.{AllZip}
+use Rattle.std.proofs.lemmas.List.Elements.{All-get_or}
 use Rattle.std.proofs.lemmas.Option.{slice_get_within, slice_get-get_or, get_or_from_slice_get}
 
 -- what stands at a place
@@ -35,3 +36,14 @@ zip_from R [] [] l each = tt
 zip_from R [] (b ∷ ys) l each = absurd (omega (arith, l))
 zip_from R (a ∷ xs) [] l each = absurd (omega (arith, l))
 zip_from R (a ∷ xs) (b ∷ ys) l each = (each 0 a refl, zip_from R xs ys (omega (arith, l)) (λ i x is. each (suc i) x is))
+
+-- what all have, each has that is read
+pub of_entry : {A : Type 0} (P : A → Type 0) (xs : List A) (i : ℕ) (x : A) → i < length xs → x ≡ get_or xs i x → All P xs → P x
+of_entry P xs i x l is all = subst P (sym is) (All-get_or P xs i x l all)
+
+-- the same of equal lists
+pub within_other : {A : Type 0} (xs ys : List A) (i : ℕ) → xs ≡ ys → i < length xs → i < length ys
+within_other xs ys i same l = subst (λ zs. i < length zs) same l
+
+pub read_of_other : {A : Type 0} (xs ys : List A) (i : ℕ) (x : A) → xs ≡ ys → x ≡ get_or xs i x → x ≡ get_or ys i x
+read_of_other xs ys i x same is = subst (λ zs. x ≡ get_or zs i x) same is

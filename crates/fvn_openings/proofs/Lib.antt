@@ -1,6 +1,6 @@
 -- The lemmas of the crate.
 mod Entries
-pub mod Systems
+mod Systems
 mod Refused
 mod Possible
 mod Tagged
@@ -8,3 +8,4 @@ mod Alike
 mod Covered
 mod Walked
 mod Ordered
+mod Setting

@@ -1,9 +1,10 @@
 -- Minimal solutions of sum operators, as systems.
-use Rattle.std.proofs.Common.{◌≡◌, ◌≢◌, ℕ, ◌<◌, List, [], length, get_or, slice_index_or, map, refl, sym, ap, ◌∙◌, subst, arith, All, Contains, Option, Some, None}
+use Rattle.std.proofs.Common.{◌≡◌, ◌≢◌, ℕ, ◌<◌, ◌≤◌, List, [], length, get_or, slice_index_or, map, refl, sym, ap, ◌∙◌, subst, arith, All, Contains, Option, Some, None}
 use Rattle.std.specs.Prelude.{◌↔◌, AllPairs, slice_get}
-use Rattle.std.proofs.lemmas.List.{get_or-map, length-map}
-use Rattle.std.proofs.lemmas.List.Elements.{All-contains}
+use Rattle.std.proofs.lemmas.List.{get_or-map, length-map, get_or_default}
+use Rattle.std.proofs.lemmas.List.Elements.{All-contains, All-weaker, All-contains_itself}
 use Rattle.std.proofs.lemmas.Option.{slice_get_within, get_or_from_slice_get}
+use Rattle.fvn_base.specs.declared.limits.TheConstants.{MINIMAL_SOLUTIONS}
 use Rattle.fvn_base.specs.Order.{IsBefore}
 use Rattle.fvn_base.proofs.Order.{before_irrefl}
 use Rattle.fvn_base.proofs.Membership.{map_contains, contains_map}
@@ -14,7 +15,7 @@ use Rattle.fvn_lindio.specs.declared.system.Solution.{Solution}
 use Rattle.fvn_lindio.specs.Systems.{IsMinimal, rows_of, vectors_of}
 use Rattle.fvn_nodes.specs.Table.{NodeTable}
 use Rattle.fvn_sums.specs.NodeSystems.{IsNodeSystem}
-use Rattle.fvn_frames.specs.Frames.{IsSumOperator}
+use Rattle.fvn_frames.specs.Frames.{IsSumOperator, Uses}
 use Rattle.fvn_frames.specs.Readings.{AreSums, IsReading}
 use Rattle.fvn_frames.specs.declared.reading.Sums.{Sums}
 use Rattle.fvn_frames.specs.declared.reading.Reading.{Reading}
@@ -22,7 +23,7 @@ use Rattle.fvn_plans.specs.Choosing.{AreSystems}
 use Rattle.fvn_asking.specs.Listed.{at_operator, empty_system, systems_of}
 use Rattle.fvn_asking.proofs.Listing.{at_place}
 use Rattle.fvn_openings.specs.Bases.{IsBasis, AreBases}
-use Rattle.fvn_openings.proofs.Entries.{listed_at, placed_at}
+use Rattle.fvn_openings.proofs.Entries.{entry_at, read_at, listed_at, placed_at}
 
 -- where an operator stands in a reading
 pub record IsPlaced (r : Reading) (f : OpId) : Type 0 where
@@ -34,6 +35,24 @@ pub record IsPlaced (r : Reading) (f : OpId) : Type 0 where
 -- what lists in order stands before every later one, so that none comes twice
 pub ordered_distinct : (vs : List (List ℕ)) → AllPairs IsBefore vs → AllPairs ◌≢◌ vs
 ordered_distinct vs ordered i j d l m same = before_irrefl (get_or vs i d) (subst (IsBefore (get_or vs i d)) (sym same) (ordered i j d l m))
+
+-- all vectors of a basis have a component for each column
+pub basis_long : (s : System) (basis : List Solution) → IsBasis s basis → (n : ℕ) → s.columns ≡ n → All (λ v. length v ≡ n) (vectors_of basis)
+basis_long s basis is n wide = All-weaker (Contains (vectors_of basis)) (λ v. length v ≡ n) (λ v m. ((is.exact v).0 m).solves.sized ∙ wide) (vectors_of basis) (All-contains_itself (vectors_of basis))
+
+-- the minimal solutions that are read at a place
+pub basis_is : (bases : List (List Solution)) (i : ℕ) (basis b : List Solution) → i < length bases → b ≡ get_or bases i b → basis ≡ b → basis ≡ slice_index_or bases i []
+basis_is bases i basis b l is same = same ∙ is ∙ get_or_default bases i b [] l
+
+pub basis_at : (sums : List Sums) (bases : List (List Solution)) → AreBases sums bases → (i : ℕ) (e : Sums) (basis : List Solution) → i < length sums → e ≡ get_or sums i e → basis ≡ slice_index_or bases i [] → IsBasis e.system basis
+basis_at sums bases are i e basis l is same = subst (IsBasis e.system) (sym same) (are.each i e (read_at sums i e l is))
+
+-- they are few
+pub few_bases : (sums : List Sums) (bases : List (List Solution)) → AreBases sums bases → All (λ basis. length basis ≤ MINIMAL_SOLUTIONS) bases
+few_bases sums bases are k d l =
+    let as_many = are.as_many in
+    let e = entry_at sums k (omega (arith, l, as_many)) in
+    subst (λ (b : List Solution). length b ≤ MINIMAL_SOLUTIONS) (get_or_default bases k [] d l) (are.each k e.0 e.1).few
 
 module _ (d : Declarations) (t : NodeTable) (class : ℕ → ℕ) (r : Reading) (reading : IsReading d t class r) where
   pub placed : (f : OpId) → IsSumOperator d t f → IsPlaced r f
@@ -47,6 +66,10 @@ module _ (d : Declarations) (t : NodeTable) (class : ℕ → ℕ) (r : Reading) 
 
   pub sums_at : (i : ℕ) (e : Sums) → slice_get r.sums i ≡ Some e → AreSums d t class e
   sums_at i e is = All-contains (AreSums d t class) r.sums e reading.sums (listed_at r.sums i e is)
+
+  -- an operator that uses a class stands in the reading
+  pub user_placed : (f : OpId) (k : ℕ) → Uses d t class f k → IsPlaced r f
+  user_placed f k u = placed f (record { associative = u.associative; sum = u.row; listed = u.listed })
 
   module _ (f : OpId) (p : IsPlaced r f) where
     within : p.place < length r.sums

@@ -39,10 +39,11 @@ fn users_of(
     let mut users = Vec::new(alloc);
     let sums = reading.sums.as_slice();
     for i in 0..sums.len() {
-        if !uses(sig, table, state, reading, &sums[i], k) {
+        let entry = &sums[i];
+        if !uses(sig, table, state, reading, entry, k) {
             continue;
         }
-        users.push(sums[i].operator)?;
+        users.push(entry.operator)?;
     }
     Ok(users)
 }
@@ -60,8 +61,10 @@ pub fn shared(
     ensures exact { IfOk result (λ v. AreSharedClasses sig.now table.now (class_of state.now) v.items) }
     ensures few { IfOk result (λ v. All (λ c. length c.users ≤ length reading.now.sums) v.items) }
 {
+    table.recall_well_made();
+    let n = table.nodes().len();
     let mut list = Vec::new(alloc);
-    for k in 0..table.nodes().len() {
+    for k in 0..n {
         if !is_shared_class(sig, table, state, reading, k) {
             continue;
         }

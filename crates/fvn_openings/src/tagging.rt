@@ -49,7 +49,9 @@ pub fn tags_of(
 {
     let mut tags = vec![in alloc; None; n]?;
     for i in 0..shared.len() {
-        tags[shared[i].class] = user_at(shared[i].users.as_slice(), numbers[i]);
+        let entry = &shared[i];
+        let tag = user_at(entry.users.as_slice(), numbers[i]);
+        tags[entry.class] = tag;
     }
     Ok(tags)
 }

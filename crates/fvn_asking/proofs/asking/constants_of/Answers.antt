@@ -6,7 +6,7 @@ use Rattle.fvn_asking.proofs.Demands.{no_constants, one_constant, no_constant, a
 use Rattle.fvn_asking.proofs.asking.constants_of.Goals as goal
 
 pub loop-j-init : goal.loop-j-init
-loop-j-init c = no_constants c.args.reading.now c.args.tags.now c.args.sums.now
+loop-j-init c = subst (AreConstantsBelow c.args.reading.now c.args.tags.now c.args.sums.now 0) (sym c.new-constants.ensures.items) (no_constants c.args.reading.now c.args.tags.now c.args.sums.now)
 
 pub loop-j-preserved-then-not-is_constant_at : goal.loop-j-preserved-then-not-is_constant_at
 loop-j-preserved-then-not-is_constant_at c =

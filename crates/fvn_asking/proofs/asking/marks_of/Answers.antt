@@ -1,12 +1,12 @@
 -- One more column.
 use Rattle.std.proofs.Common.{ℕ, List, length, slice_index, sym, ap, ◌∙◌, subst, arith}
 use Rattle.std.specs.Prelude.{not}
-use Rattle.fvn_asking.specs.inner.Reads.{IsRequiredIn}
+use Rattle.fvn_asking.specs.inner.Reads.{IsRequiredIn, AreMarksBelow}
 use Rattle.fvn_asking.proofs.Demands.{no_marks, one_mark, all_marks, not_false}
 use Rattle.fvn_asking.proofs.asking.marks_of.Goals as goal
 
 pub loop-j-init : goal.loop-j-init
-loop-j-init c = no_marks c.args.sig.now c.args.reading.now c.args.tags.now c.args.sums.now
+loop-j-init c = subst (AreMarksBelow c.args.sig.now c.args.reading.now c.args.tags.now c.args.sums.now 0) (sym c.new-marks.ensures.items) (no_marks c.args.sig.now c.args.reading.now c.args.tags.now c.args.sums.now)
 
 pub loop-j-preserved : goal.loop-j-preserved
 loop-j-preserved c =

@@ -36,7 +36,7 @@ returns-clause-asked c =
     let s = c.args.state.now in
     let e = c.args.sums.now in
     let Asked = AreAsked d t (class_of s) (tag_in c.args.tags.now) e.operator e.columns in
-    subst (λ (cs : List ℕ). Asked cs _) (sym c.from_vec.ensures)
+    subst (λ (cs : List ℕ). Asked cs c.from_vec-2.result) (sym c.from_vec.ensures)
     (subst (Asked c.in_ok-constants.constants.items) (sym c.from_vec-2.ensures)
     (are_asked d t c.recall_well_made.ensures s c.requires.closed c.args.reading.now c.requires.reading c.args.tags.now e c.requires.listed c.in_ok-constants.constants.items c.in_ok-marks.marks.items c.in_ok-constants.ensures c.in_ok-marks.ensures))
 

@@ -1,6 +1,6 @@
 -- What is read, and what it means.
 use Rattle.fvn_asking.proofs.Reading.{are_sums, marked_to, marked_from}
-use Rattle.fvn_asking.proofs.using.uses.Goals as goal
+use Rattle.fvn_asking.proofs.classes.uses.Goals as goal
 
 pub is_user-requires : goal.is_user-requires
 is_user-requires c = (are_sums c.args.sig.now c.args.table.now c.recall_well_made.ensures c.args.state.now c.requires.closed c.args.reading.now c.requires.reading c.args.sums.now c.requires.listed).marked

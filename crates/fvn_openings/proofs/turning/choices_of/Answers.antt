@@ -1,0 +1,17 @@
+-- The choices go over the basis.
+use Rattle.fvn_nodes.specs.States.{class_of}
+use Rattle.fvn_asking.specs.Listed.{tag_in}
+use Rattle.fvn_wheels.specs.Wheels.{wheel_of}
+use Rattle.fvn_openings.proofs.Ordered.{wheel_is}
+use Rattle.fvn_openings.proofs.Refused.{no_fault}
+use Rattle.fvn_openings.proofs.turning.choices_of.Goals as goal
+
+pub returns-in-Ok : goal.returns-in-Ok
+returns-in-Ok c =
+    let h = c.in-Ok.ensures in
+    wheel_is c.args.sig.now c.args.table.now (class_of c.args.state.now) (tag_in c.args.tags.now) c.args.sums.now c.args.basis.now c.requires.basis c.in_ok-theory.theory c.in_ok-theory.ensures.system c.in_ok-theory.ensures.asked
+    (wheel_of c.in-Ok.choices) h.exact h.ordered h.constants h.may_be_zero
+
+pub unreachable-requires : goal.unreachable-requires
+unreachable-requires c =
+    no_fault c.solve_one.result c.in-Err-Basis.field-0 c.in-Err-Basis.field-0-0 c.in-Err-Basis.is c.in-Err-Basis.field-0-is c.in_ok-theory.theory.system c.args.sums.now.system c.in_ok-theory.ensures.system c.requires.basis.kept c.solve_one.ensures.refused
