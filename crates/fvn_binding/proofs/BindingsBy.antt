@@ -1,12 +1,10 @@
 -- The bindings of variables and of classes, in order, are those of the plan.
-use Rattle.std.proofs.Common.{◌≡◌, ◌≢◌, ℕ, ◌-◌, ◌<◌, ◌≤◌, true, List, [], ◌∷◌, ◌++◌, length, get_or, map, slice_index_or, refl, sym, ap, ◌∙◌, subst, inl, inr, arith, All, AllPairs, Contains, Option, Some, None}
-use Rattle.std.specs.Prelude.{slice_get}
+use Rattle.std.proofs.Common.{◌≡◌, ◌≢◌, ℕ, ◌-◌, ◌<◌, ◌≤◌, true, List, ◌++◌, length, get_or, map, slice_index_or, refl, sym, ap, ◌∙◌, subst, inl, inr, arith, AllPairs, Contains, Option, Some}
 use Rattle.std.proofs.lemmas.Bool.{cases_lt}
 use Rattle.std.proofs.lemmas.List.{get_or-map, length-append, get_or_append_left}
 use Rattle.std.proofs.Math.Seq.{get_or-append_right}
-use Rattle.std.proofs.lemmas.List.Elements.{All-append, All-contains, Contains-get_or, Contains-append_left, Contains-append_right, Contains-append_cases}
-use Rattle.std.proofs.lemmas.Option.{slice_get_within, get_or_from_slice_get}
-use Rattle.fvn_base.proofs.Options.{Some-injective}
+use Rattle.std.proofs.lemmas.List.Elements.{All-append, Contains-get_or, Contains-append_left, Contains-append_right, Contains-append_cases}
+use Rattle.std.proofs.lemmas.Option.{get_or_from_slice_get}
 use Rattle.fvn_terms.specs.declared.plain.Var.{Var as Variable}
 use Rattle.fvn_terms.specs.declared.plain.OpId.{OpId}
 use Rattle.fvn_terms.specs.declared.declarations.Declarations.{Declarations}
@@ -33,7 +31,7 @@ use Rattle.fvn_binding.specs.declared.binders.Binder.{Binder}
 use Rattle.fvn_binding.specs.declared.binders.Binder.TheVariants.{Nothing, Member, Sum}
 use Rattle.fvn_binding.specs.declared.shares.Share.{Share}
 use Rattle.fvn_binding.specs.inner.Ordering.{IsOrderOf}
-use Rattle.fvn_binding.specs.inner.Planning.{name_in, part_of, IsBinderOf, form_of, plan_of, over_names, sum_at, bound_by, AreClassesBelow, AreVariablesBelow}
+use Rattle.fvn_binding.specs.inner.Planning.{name_in, IsBinderOf, form_of, plan_of, over_names, bound_by, AreClassesBelow, AreVariablesBelow}
 use Rattle.fvn_binding.proofs.NodesOf.{node_of, is_node, node_variable, variable_place}
 use Rattle.fvn_binding.proofs.Classes.{class_within, class_itself}
 use Rattle.fvn_binding.proofs.Forms.{over_classes_is, sum_at_place}

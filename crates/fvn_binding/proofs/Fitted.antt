@@ -1,6 +1,5 @@
 -- Each binding is to a flat form of its variable's kind.
-use Rattle.std.proofs.Common.{◌≡◌, ℕ, ◌<◌, List, [], ◌++◌, length, map, slice_index_or, sym, ap, ◌∙◌, subst, inl, inr, arith, All, Contains, Option, Some, None}
-use Rattle.std.specs.Prelude.{slice_get}
+use Rattle.std.proofs.Common.{◌≡◌, ℕ, List, [], ◌++◌, length, map, slice_index_or, sym, ap, ◌∙◌, subst, inl, inr, arith, All, Option, Some}
 use Rattle.std.proofs.lemmas.List.Elements.{Contains-append_cases}
 use Rattle.fvn_base.proofs.Options.{Some-injective}
 use Rattle.fvn_terms.specs.declared.plain.Var.{Var as Variable}
@@ -8,16 +7,15 @@ use Rattle.fvn_terms.specs.declared.plain.OpId.{OpId}
 use Rattle.fvn_terms.specs.declared.declarations.Declarations.{Declarations}
 use Rattle.fvn_terms.specs.Term.{var}
 use Rattle.fvn_terms.specs.Signature.{kind, HasKind}
-use Rattle.fvn_forms.specs.Flat.{FlatTerm, fvar, plain}
+use Rattle.fvn_forms.specs.Flat.{FlatTerm, plain}
 use Rattle.fvn_forms.specs.Canon.{sum, build}
 use Rattle.fvn_lindio.specs.declared.system.Solution.{Solution}
 use Rattle.fvn_flat.specs.Bindings.{Bindings}
 use Rattle.fvn_flat.specs.SolvedLists.{members}
 use Rattle.fvn_flat.specs.declared.solver.Pairs.{Pairs}
-use Rattle.fvn_nodes.specs.Table.{NodeTable, term_at}
+use Rattle.fvn_nodes.specs.Table.{NodeTable}
 use Rattle.fvn_nodes.specs.States.{class_of}
 use Rattle.fvn_nodes.specs.declared.state.State.{State}
-use Rattle.fvn_frames.specs.declared.reading.Sums.{Sums}
 use Rattle.fvn_frames.specs.declared.reading.Reading.{Reading}
 use Rattle.fvn_asking.specs.Listed.{tag_in}
 use Rattle.fvn_unfolding.specs.Sizes.{IsFitting}

@@ -1,14 +1,14 @@
 -- What classes are bound to: operators over names of classes, and sums of what stands for solutions.
-use Rattle.std.proofs.Common.{◌≡◌, ℕ, zero, suc, ◌<◌, List, [], ◌∷◌, length, get_or, map, slice_index_or, refl, sym, ap, ◌∙◌, subst, arith, All, Option, Some, None}
+use Rattle.std.proofs.Common.{◌≡◌, ℕ, zero, suc, ◌<◌, List, [], ◌∷◌, length, get_or, map, slice_index_or, refl, ap, ◌∙◌, subst, arith, All, Some}
 use Rattle.std.specs.Prelude.{slice_get}
 use Rattle.std.proofs.lemmas.List.{length-map}
 use Rattle.std.proofs.lemmas.List.Elements.{All-head, All-tail}
-use Rattle.std.proofs.lemmas.Option.{slice_get_within, get_or_from_slice_get}
+use Rattle.std.proofs.lemmas.Option.{slice_get_within}
 use Rattle.fvn_terms.specs.declared.plain.Var.{Var as Variable}
 use Rattle.fvn_terms.specs.declared.plain.OpId.{OpId}
 use Rattle.fvn_terms.specs.declared.plain.SortId.{SortId}
 use Rattle.fvn_terms.specs.declared.declarations.Declarations.{Declarations}
-use Rattle.fvn_terms.specs.Term.{Term, Terms, var, app, pack}
+use Rattle.fvn_terms.specs.Term.{Terms, var, app, pack}
 use Rattle.fvn_terms.specs.Signature.{HasKind, HaveKinds, kind}
 use Rattle.fvn_terms.specs.Unifiers.{Problem}
 use Rattle.fvn_forms.specs.Flat.{FlatTerm, fvar, plain}
@@ -26,7 +26,7 @@ use Rattle.fvn_nodes.specs.declared.table.Node.TheVariants.{App}
 use Rattle.fvn_nodes.proofs.Nodes.{term_at-over, arguments_within}
 use Rattle.fvn_frames.specs.declared.reading.Sums.{Sums}
 use Rattle.fvn_binding.specs.declared.shares.Share.{Share}
-use Rattle.fvn_binding.specs.inner.Planning.{name_in, part_of, AreKinded, over_names, sum_at}
+use Rattle.fvn_binding.specs.inner.Planning.{name_in, part_of, AreKinded, sum_at}
 
 module _ (d : Declarations) (class : ℕ → ℕ) (names : List Variable) where
   -- the names of the classes of these nodes, as terms and as flat forms

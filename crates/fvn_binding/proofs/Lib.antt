@@ -20,3 +20,4 @@ mod Reaching
 mod BindingsBy
 mod Fitted
 mod NoOrder
+pub mod Planned

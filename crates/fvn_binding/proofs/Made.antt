@@ -1,5 +1,5 @@
 -- Lists of names, binders and shares at a frame, and what stands at the place of an operator.
-use Rattle.std.proofs.Common.{◌≡◌, ◌≢◌, ℕ, zero, suc, ◌+◌, ◌*◌, ◌<◌, ◌≤◌, true, List, [], ◌∷◌, length, get_or, map, slice_index, slice_index_or, refl, sym, ap, ◌∙◌, subst, inl, inr, arith, All, AllPairs, Contains, Option, Some, None}
+use Rattle.std.proofs.Common.{◌≡◌, ◌≢◌, ℕ, suc, ◌+◌, ◌<◌, ◌≤◌, true, List, [], ◌∷◌, length, map, slice_index, slice_index_or, refl, sym, ap, ◌∙◌, subst, inl, inr, arith, All, AllPairs, Contains, Option, Some, None}
 use Rattle.std.specs.Prelude.{slice_get, if◌then◌else◌}
 use Rattle.std.proofs.lemmas.Bool.{cases_Bool}
 use Rattle.std.proofs.lemmas.List.{get_or-map, length-map, get_or_default}
@@ -14,7 +14,7 @@ use Rattle.fvn_terms.specs.declared.declarations.Declarations.{Declarations}
 use Rattle.fvn_terms.specs.Signature.{declared, HasKind, IsTerm}
 use Rattle.fvn_forms.specs.Good.{IsGood}
 use Rattle.fvn_forms.specs.Canon.{same_op}
-use Rattle.fvn_forms.proofs.Sums.{same_op_is, same_op_itself}
+use Rattle.fvn_forms.proofs.Sums.{same_op_is}
 use Rattle.fvn_lindio.specs.declared.system.Solution.{Solution}
 use Rattle.fvn_lindio.specs.Systems.{vectors_of}
 use Rattle.fvn_acunify.specs.ValidChoice.{chosen}
@@ -33,7 +33,7 @@ use Rattle.fvn_frames.specs.Frames.{IsSumOperator}
 use Rattle.fvn_frames.specs.Readings.{AreSums, IsReading}
 use Rattle.fvn_frames.specs.declared.reading.Sums.{Sums}
 use Rattle.fvn_frames.specs.declared.reading.Reading.{Reading}
-use Rattle.fvn_plans.specs.Choosing.{Systems, Choice, taken, AreSystems, IsPossible}
+use Rattle.fvn_plans.specs.Choosing.{taken, AreSystems, IsPossible}
 use Rattle.fvn_plans.specs.Tables.{HasSums}
 use Rattle.fvn_plans.proofs.Kinded.{node_kinded, tables_have_sums}
 use Rattle.fvn_asking.specs.Listed.{tag_in, at_operator, systems_of, choice_of}
@@ -41,7 +41,7 @@ use Rattle.fvn_asking.proofs.Listing.{at_place}
 use Rattle.fvn_binding.specs.declared.binders.Binder.{Binder}
 use Rattle.fvn_binding.specs.declared.shares.Share.{Share}
 use Rattle.fvn_binding.specs.Ready.{IsReady, AreListed}
-use Rattle.fvn_binding.specs.inner.Planning.{part_of, AreNames, AreBinders, AreShares, AreAllShares, AreKinded, AreApart, AreSized}
+use Rattle.fvn_binding.specs.inner.Planning.{part_of, AreNames, AreBinders, AreAllShares, AreKinded, AreApart, AreSized}
 use Rattle.fvn_binding.proofs.Classes.{class_within, names_kinded, names_apart}
 
 pub all_from : {X : Type 0} (P : X → Type 0) (xs : List X) → ((x : X) → Contains xs x → P x) → All P xs
@@ -182,9 +182,9 @@ module _ {d : Declarations} {given : Pairs} {first : ℕ} {t : NodeTable} {s : S
     number_each = c.listed.number_each;
     few = λ i l. let n = c.listed.basis_each in c.listed.few i [] (omega (arith, n, l));
     sized = λ i e at. subst (All (λ v. length v ≡ length e.columns)) (basis_at i e at) (
-      all_from (λ v. length v ≡ length e.columns) ((systems_of r bases).basis e.operator) (λ v m.
-          let sum = entry_operator i e at in
-          ((c.systems.exact e.operator sum v).0 m).solves.sized ∙ (c.systems.is_system e.operator sum).wide ∙ ap length (columns_at i e at)));
+        all_from (λ v. length v ≡ length e.columns) ((systems_of r bases).basis e.operator) (λ v m.
+        let sum = entry_operator i e at in
+        ((c.systems.exact e.operator sum v).0 m).solves.sized ∙ (c.systems.is_system e.operator sum).wide ∙ ap length (columns_at i e at)));
   }
 
   -- a name of a class is a node

@@ -1,11 +1,9 @@
 -- The members of sums.
-use Rattle.std.proofs.Common.{◌≡◌, ◌≢◌, ℕ, ◌+◌, ◌<◌, ◌≤◌, Bool, true, false, nat_eq, List, [], ◌∷◌, ◌++◌, map, replicate, length, get_or, drop, refl, sym, ap, ◌∙◌, append_assoc, arith}
+use Rattle.std.proofs.Common.{◌≡◌, ℕ, ◌+◌, ◌<◌, ◌≤◌, Bool, List, ◌∷◌, ◌++◌, map, replicate, length, get_or, drop, sym, ap, ◌∙◌, append_assoc, arith}
 use Rattle.std.specs.Prelude.{if◌then◌else◌}
 use Rattle.std.proofs.lemmas.Bool.{eq-eqb, ne_eqb}
 use Rattle.std.proofs.lemmas.List.{append-nil, drop_all, get_or_default}
 use Rattle.fvn_base.proofs.Drops.{drop-at}
-use Rattle.fvn_terms.specs.declared.plain.OpId.{OpId}
-use Rattle.fvn_terms.specs.declared.declarations.Declarations.{Declarations}
 use Rattle.fvn_forms.specs.Flat.{FlatTerm, fvar}
 use Rattle.fvn_flat.specs.SolvedLists.{component, members}
 use Rattle.fvn_binding.specs.inner.Planning.{part_of}

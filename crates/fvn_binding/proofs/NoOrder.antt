@@ -1,10 +1,8 @@
 -- Where no rank of variables falls along the bindings of classes, no rank of classes falls along what they need.
-use Rattle.std.proofs.Common.{◌≡◌, ℕ, ◌+◌, ◌-◌, ◌<◌, ◌≤◌, List, length, slice_index_or, sym, ap, ◌∙◌, subst, arith, Contains, Option, Some}
+use Rattle.std.proofs.Common.{◌≡◌, ℕ, ◌-◌, ◌<◌, List, length, slice_index_or, ap, arith, Option}
 use Rattle.fvn_terms.specs.declared.plain.Var.{Var as Variable}
 use Rattle.fvn_terms.specs.declared.plain.OpId.{OpId}
 use Rattle.fvn_terms.specs.declared.declarations.Declarations.{Declarations}
-use Rattle.fvn_terms.specs.Substitution.{Occurs}
-use Rattle.fvn_forms.specs.Flat.{FlatTerm, plain}
 use Rattle.fvn_lindio.specs.declared.system.Solution.{Solution}
 use Rattle.fvn_flat.specs.Bindings.{Bindings}
 use Rattle.fvn_flat.specs.declared.solver.Pairs.{Pairs}
@@ -19,8 +17,8 @@ use Rattle.fvn_binding.specs.declared.binders.Binder.TheVariants.{Nothing}
 use Rattle.fvn_binding.specs.declared.shares.Share.{Share}
 use Rattle.fvn_binding.specs.inner.Ordering.{HasNoOrder}
 use Rattle.fvn_binding.specs.inner.Planning.{name_in, AreClassesBelow}
-use Rattle.fvn_binding.proofs.Made.{start_of, IsMade}
-use Rattle.fvn_binding.proofs.Reaching.{IsReached, by_name, by_new, form_reaches}
+use Rattle.fvn_binding.proofs.Made.{IsMade}
+use Rattle.fvn_binding.proofs.Reaching.{by_name, by_new, form_reaches}
 
 module _ {d : Declarations} {given : Pairs} {first : ℕ} {t : NodeTable} {s : State} {r : Reading} {bases : List (List Solution)} {tags : List (Option OpId)} {numbers : List ℕ} {names : List Variable} {binders : List Binder} {all : List (List Share)} (m : IsMade d given first t s r bases tags numbers names binders all) where
   -- the class that a variable names, by its number

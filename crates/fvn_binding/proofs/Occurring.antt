@@ -1,5 +1,5 @@
 -- The variables of sums, and of free and commutative operators over variables.
-use Rattle.std.proofs.Common.{◌≡◌, ℕ, zero, suc, ◌<◌, List, [], ◌∷◌, ◌++◌, map, replicate, refl, sym, ap, subst, true, false, inl, inr, arith, Contains, Option, Some, None}
+use Rattle.std.proofs.Common.{ℕ, zero, suc, ◌<◌, List, [], ◌∷◌, replicate, true, false, inl, inr, arith, Contains, Option, Some, None}
 use Rattle.std.specs.List.{AllByRecursion}
 use Rattle.fvn_base.proofs.Membership.{contains_here, contains_later}
 use Rattle.fvn_terms.specs.declared.plain.Var.{Var as Variable}

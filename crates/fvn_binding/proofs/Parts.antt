@@ -1,11 +1,11 @@
 -- What stands for the solutions that are taken for an operator, and the sums that it makes.
-use Rattle.std.proofs.Common.{◌≡◌, ◌≢◌, ◌⊎◌, ℕ, zero, suc, ◌+◌, ◌*◌, ◌<◌, ◌≤◌, List, [], ◌∷◌, ◌++◌, length, get_or, map, replicate, sum_by, slice_index, slice_index_or, refl, sym, ap, ◌∙◌, subst, inl, inr, arith, All, AllPairs, Contains, Option, Some}
+use Rattle.std.proofs.Common.{◌≡◌, ◌≢◌, ◌⊎◌, ℕ, zero, suc, ◌+◌, ◌*◌, ◌<◌, ◌≤◌, List, [], ◌∷◌, ◌++◌, length, map, replicate, sum_by, slice_index, slice_index_or, refl, sym, ap, ◌∙◌, subst, inl, inr, arith, All, Contains, Option, Some}
 use Rattle.std.specs.Prelude.{slice_get}
 use Rattle.std.proofs.lemmas.Bool.{cases_eq}
 use Rattle.std.proofs.lemmas.List.{length-map, length-append, length-replicate}
 use Rattle.std.proofs.lemmas.List.Elements.{All-cons}
 use Rattle.std.proofs.lemmas.List.Sums.{sum_by-cons}
-use Rattle.std.proofs.lemmas.Option.{slice_get_within, slice_get-get_or, get_or_from_slice_get}
+use Rattle.std.proofs.lemmas.Option.{slice_get_within, slice_get-get_or}
 use Rattle.fvn_base.specs.declared.limits.TheConstants.{MINIMAL_SOLUTIONS}
 use Rattle.fvn_base.proofs.Membership.{contains_here, contains_later, contains_cases, contains_none, contains_map, map_contains}
 use Rattle.fvn_terms.specs.declared.plain.Var.{Var as Variable}
@@ -32,11 +32,11 @@ use Rattle.fvn_asking.specs.Listed.{tag_in, systems_of, choice_of}
 use Rattle.fvn_binding.specs.declared.binders.Binder.{Binder}
 use Rattle.fvn_binding.specs.declared.binders.Binder.TheVariants.{Nothing, Member, Sum}
 use Rattle.fvn_binding.specs.declared.shares.Share.{Share}
-use Rattle.fvn_binding.specs.inner.Planning.{name_in, part_of, StandsAt, AreShares, IsBinderOf, IsSummable, IsMakingSum, IsMaking}
+use Rattle.fvn_binding.specs.inner.Planning.{name_in, part_of, StandsAt, AreShares, IsBinderOf, IsSummable, IsMaking}
 use Rattle.fvn_binding.proofs.Standing.{chosen_listed, length-chosen}
 use Rattle.fvn_binding.proofs.Classes.{IsKindOf, kind_of_new, column_within, column_kind, names_differ}
 use Rattle.fvn_binding.proofs.Sources.{bound_column}
-use Rattle.fvn_binding.proofs.Made.{all_from, start_of, IsMade, has_sums, node_terms, entry_within, entry_sums, entry_operator, columns_at, basis_at, taken_at, few_at}
+use Rattle.fvn_binding.proofs.Made.{all_from, start_of, IsMade, has_sums, node_terms, entry_within, entry_operator, columns_at, taken_at, few_at}
 
 -- the element at a place
 pub element_at : {X : Type 0} (xs : List X) (i : ℕ) → i < length xs → (x : X) × (slice_get xs i ≡ Some x)
@@ -183,8 +183,8 @@ module _ {d : Declarations} {given : Pairs} {first : ℕ} {t : NodeTable} {s : S
         let of = (column_kind c.made c.ready.closed c.good (node_terms c) c.ready.kinds m.names_are e.operator sum.associative k (bound_column (has_sums c) (class_of s) e.operator k bound)).1.1 in
         let P = λ (x : Variable). IsSort d x.sort × (kind d x.sort ≡ kind d of.rank.result) in
         let vs = member_variables P e.columns (map part_of (slice_index_or all i [])) k (λ q l.
-            let p = map_contains part_of (slice_index_or all i []) q l in
-            subst (λ (q : Part). P q.variable) p.1.1 (variable_kind (kind d of.rank.result) (record { rank = of.rank; listed = of.listed; gives = refl }) p.0 p.1.0))
+        let p = map_contains part_of (slice_index_or all i []) q l in
+        subst (λ (q : Part). P q.variable) p.1.1 (variable_kind (kind d of.rank.result) (record { rank = of.rank; listed = of.listed; gives = refl }) p.0 p.1.0))
         in
         record {
           associative = sum.associative;

@@ -1,17 +1,15 @@
 -- The variables of what a class is bound to: names of classes that it needs, and new variables.
-use Rattle.std.proofs.Common.{◌≡◌, ℕ, ◌+◌, ◌*◌, ◌<◌, ◌≤◌, true, List, [], ◌∷◌, length, map, slice_index_or, refl, sym, ap, ◌∙◌, subst, inl, inr, arith, All, Contains, Option, Some, None}
+use Rattle.std.proofs.Common.{◌≡◌, ℕ, ◌<◌, ◌≤◌, true, List, [], ◌∷◌, length, map, slice_index_or, refl, sym, ap, ◌∙◌, subst, inl, inr, arith, All, Contains, Option, Some}
 use Rattle.std.specs.List.{AllByRecursion}
 use Rattle.std.specs.Prelude.{slice_get}
 use Rattle.std.proofs.lemmas.List.Elements.{All-contains}
-use Rattle.std.proofs.lemmas.Option.{slice_get_within}
 use Rattle.fvn_base.proofs.Membership.{contains_here, contains_later, map_contains}
 use Rattle.fvn_base.proofs.Options.{Some-injective}
 use Rattle.fvn_terms.specs.declared.plain.Var.{Var as Variable}
 use Rattle.fvn_terms.specs.declared.plain.OpId.{OpId}
 use Rattle.fvn_terms.specs.declared.declarations.Declarations.{Declarations}
-use Rattle.fvn_terms.specs.Substitution.{Occurs}
-use Rattle.fvn_forms.specs.Flat.{FlatTerm, fvar, plain}
-use Rattle.fvn_forms.specs.Canon.{sum, build}
+use Rattle.fvn_forms.specs.Flat.{FlatTerm}
+use Rattle.fvn_forms.specs.Canon.{sum}
 use Rattle.fvn_lindio.specs.declared.system.Solution.{Solution}
 use Rattle.fvn_flat.specs.SolvedLists.{Part, component, members}
 use Rattle.fvn_flat.specs.declared.solver.Pairs.{Pairs}
@@ -27,7 +25,7 @@ use Rattle.fvn_asking.specs.Listed.{tag_in, systems_of, choice_of}
 use Rattle.fvn_binding.specs.declared.binders.Binder.{Binder}
 use Rattle.fvn_binding.specs.declared.binders.Binder.TheVariants.{Nothing, Member, Sum}
 use Rattle.fvn_binding.specs.declared.shares.Share.{Share}
-use Rattle.fvn_binding.specs.inner.Planning.{name_in, part_of, IsBinderOf, over_names, sum_at, bound_by}
+use Rattle.fvn_binding.specs.inner.Planning.{name_in, part_of, IsBinderOf, over_names, bound_by}
 use Rattle.fvn_binding.proofs.Classes.{class_within, column_within}
 use Rattle.fvn_binding.proofs.Occurring.{each_member, Holds, holds_sum, holds_build}
 use Rattle.fvn_binding.proofs.Forms.{name_forms, sum_at_place}
@@ -72,8 +70,8 @@ module _ {d : Declarations} {given : Pairs} {first : ℕ} {t : NodeTable} {s : S
   sum_reaches k i e at (o, there, bound) =
       holds_sum (IsReached k) d e.operator (members e.columns (map part_of (slice_index_or all i [])) k)
       (each_member (Holds (IsReached k)) e.columns (map part_of (slice_index_or all i [])) k (λ q listed some x is.
-          let p = map_contains part_of (slice_index_or all i []) q listed in
-          share_reaches p.0 p.1.0 (subst (λ (q : Part). 0 < component e.columns q.solution k) (sym p.1.1) some) x (is ∙ ap (λ (q : Part). q.variable) (sym p.1.1))))
+      let p = map_contains part_of (slice_index_or all i []) q listed in
+      share_reaches p.0 p.1.0 (subst (λ (q : Part). 0 < component e.columns q.solution k) (sym p.1.1) some) x (is ∙ ap (λ (q : Part). q.variable) (sym p.1.1))))
     where
       share_reaches : (p : Share) → Contains (slice_index_or all i []) p → 0 < component e.columns p.solution k → (x : Variable) → x ≡ p.variable → IsReached k x
       share_reaches p listed some x is = elim (share_stands m i e at listed.0 p (place_at (slice_index_or all i []) p listed)) [

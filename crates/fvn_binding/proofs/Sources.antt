@@ -1,5 +1,5 @@
 -- What a class is bound to a sum of: a sum operator, with a column of the class.
-use Rattle.std.proofs.Common.{◌≡◌, ℕ, ◌<◌, true, List, [], ◌∷◌, length, refl, sym, ap, ◌∙◌, subst, arith, Contains, Option, Some}
+use Rattle.std.proofs.Common.{◌≡◌, ℕ, List, [], ◌∷◌, length, refl, sym, ap, ◌∙◌, subst, arith, Option, Some}
 use Rattle.std.specs.Prelude.{slice_get}
 use Rattle.fvn_base.proofs.Membership.{contains_filter}
 use Rattle.fvn_terms.specs.declared.plain.OpId.{OpId}

@@ -1,5 +1,5 @@
 -- What the bindings of a choice are made from, and what they promise.
-use Rattle.std.specs.Prelude.{◌≡◌, ◌↔◌, ℕ, ◌+◌, ◌*◌, ◌<◌, ◌≤◌, List, length, slice_get, Some, All, AllPairs, Contains, ◌≢◌}
+use Rattle.std.specs.Prelude.{◌≡◌, ◌↔◌, ℕ, ◌+◌, ◌*◌, ◌≤◌, List, length, slice_get, Some, All, AllPairs, Contains, ◌≢◌}
 use Rattle.fvn_base.specs.declared.limits.TheConstants.{MINIMAL_SOLUTIONS, FIRST_FRESH, NEXT_FRESH}
 use Rattle.fvn_terms.specs.declared.plain.Var.{Var}
 use Rattle.fvn_terms.specs.declared.declarations.Declarations.{Declarations}

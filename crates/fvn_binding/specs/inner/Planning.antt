@@ -23,7 +23,7 @@ use Rattle.fvn_nodes.specs.declared.table.Node.TheVariants.{Var, App}
 use Rattle.fvn_frames.specs.declared.reading.Sums.{Sums}
 use Rattle.fvn_frames.specs.declared.reading.Reading.{Reading}
 use Rattle.fvn_plans.specs.Binding.{IsBound, IsConstant}
-use Rattle.fvn_asking.specs.Listed.{tag_in, at_operator}
+use Rattle.fvn_asking.specs.Listed.{at_operator}
 use Rattle.fvn_binding.specs.declared.binders.Binder.{Binder}
 use Rattle.fvn_binding.specs.declared.binders.Binder.TheVariants.{Nothing, Member, Sum}
 use Rattle.fvn_binding.specs.declared.shares.Share.{Share}

@@ -3,7 +3,7 @@ use Rattle.std.proofs.Common.{[], ◌∷◌, ◌++◌, sym, ap, ◌∙◌, subst
 use Rattle.fvn_forms.specs.Flat.{FlatTerm, fvar}
 use Rattle.fvn_nodes.specs.States.{class_of}
 use Rattle.fvn_binding.specs.inner.Planning.{name_in}
-use Rattle.fvn_binding.proofs.Bound.{IsBoundTo, no_bound, bound_one}
+use Rattle.fvn_binding.proofs.Bound.{IsBoundTo, bound_one}
 use Rattle.fvn_binding.proofs.choice.variable_bindings.Goals as goal
 use Rattle.fvn_binding.proofs.choice.variable_bindings.Goals.{Joined-node, in-Var+in_ok-push-in-Var, in-App}
 

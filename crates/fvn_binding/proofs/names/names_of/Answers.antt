@@ -1,5 +1,5 @@
 -- One more name.
-use Rattle.std.proofs.Common.{◌+◌, ◌<◌, ◌≤◌, List, length, refl, sym, ap, ◌∙◌, subst, arith}
+use Rattle.std.proofs.Common.{List, length, refl, ap, arith}
 use Rattle.fvn_nodes.specs.declared.table.Node.{Node}
 use Rattle.fvn_binding.proofs.Naming.{no_names, one_name, all_names}
 use Rattle.fvn_binding.proofs.names.names_of.Goals as goal

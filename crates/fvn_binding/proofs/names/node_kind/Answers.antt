@@ -1,5 +1,5 @@
 -- The kind of a variable, and of what an operator gives.
-use Rattle.std.proofs.Common.{sym, ap, ◌∙◌, Some}
+use Rattle.std.proofs.Common.{ap, ◌∙◌, Some}
 use Rattle.fvn_binding.proofs.Naming.{kind_of_variable, kind_of_operator}
 use Rattle.fvn_binding.proofs.names.node_kind.Goals as goal
 

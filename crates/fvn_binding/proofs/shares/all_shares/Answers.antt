@@ -1,5 +1,5 @@
 -- One more operator.
-use Rattle.std.proofs.Common.{◌≡◌, ℕ, ◌<◌, List, [], ◌∷◌, ◌++◌, length, map, refl, sym, ap, ◌∙◌, subst, arith}
+use Rattle.std.proofs.Common.{[], ◌∷◌, length, map, ap, ◌∙◌, arith}
 use Rattle.std.proofs.lemmas.List.{map-append}
 use Rattle.fvn_nodes.specs.States.{class_of}
 use Rattle.fvn_asking.specs.Listed.{tag_in}

@@ -11,5 +11,5 @@ abbrev pub invariant-loop-solution : goal.invariant-loop-solution
 invariant-loop-solution l = record {
   next : l.next ≡ l.fn.start + l.solution-index;
   shares : (are : AreSums l.fn.sig l.fn.table (class_of l.fn.state) l.fn.sums)
-  → AreSharesFront l.fn.sig l.fn.table (class_of l.fn.state) (tag_in l.fn.tags) l.fn.sums are l.fn.names l.fn.start (vectors_of l.solution-items) l.solution-index l.shares.items;
+      → AreSharesFront l.fn.sig l.fn.table (class_of l.fn.state) (tag_in l.fn.tags) l.fn.sums are l.fn.names l.fn.start (vectors_of l.solution-items) l.solution-index l.shares.items;
 }
