@@ -2,7 +2,7 @@
 mod Ordering
 mod Naming
 mod Members
-mod NodesOf
+pub mod NodesOf
 mod Occurring
 mod Classes
 mod Sources

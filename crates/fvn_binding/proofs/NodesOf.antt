@@ -44,7 +44,7 @@ mutual
       let b = same_terms_is ts us p.1 in
       cc
 
-once_contains : (ts : List Term) (u : Term) → Contains ts u → Contains (once ts) u
+pub once_contains : (ts : List Term) (u : Term) → Contains ts u → Contains (once ts) u
 once_contains [] u c = absurd (contains_none u c)
 once_contains (t ∷ ts) u c = elim (contains_cases t ts u c) [
   | inl e ↦ subst (Contains (once (t ∷ ts))) e (contains_here t _)

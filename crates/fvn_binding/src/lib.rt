@@ -9,4 +9,4 @@ mod shares;
 mod terms;
 
 pub use choice::bindings;
-pub use names::variables;
+pub use names::{node_kind, variables};

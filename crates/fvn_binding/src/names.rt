@@ -41,8 +41,8 @@ pub(crate) fn operator_kind(sig: &Signature, f: OpId) -> SortId
     }
 }
 
-// The kind of a node.
-fn node_kind(sig: &Signature, table: &Table, i: usize) -> SortId
+/// The kind of a node.
+pub fn node_kind(sig: &Signature, table: &Table, i: usize) -> SortId
     requires { i < length table.now.nodes }
     ensures { (k : Sort) → HasKind sig.now (term_at table.now.nodes i) k → result ≡ k }
 {

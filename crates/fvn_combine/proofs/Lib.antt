@@ -1,0 +1,6 @@
+-- The lemmas of the crate.
+mod Room
+mod Current
+mod Turned
+mod Walk
+mod Trees

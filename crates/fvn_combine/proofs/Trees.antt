@@ -1,0 +1,138 @@
+-- What the states of a tree admit when a question is asked, and when the last state is taken out.
+use Rattle.std.proofs.Common.{◌≡◌, ℕ, zero, suc, ◌<◌, List, [], ◌∷◌, ◌++◌, length, get_or, refl, sym, ap, ◌∙◌, subst, inl, inr, arith, All, Contains, Option, Some, None}
+use Rattle.std.specs.Prelude.{◌⊎◌, ◌↔◌, MatchOption, IfSome}
+use Rattle.std.proofs.lemmas.List.{length_push, length-append, get_or_append_left}
+use Rattle.std.proofs.lemmas.List.Elements.{Contains-append_cases, Contains-append_left, Contains-append_right}
+use Rattle.fvn_base.proofs.Membership.{contains_here, contains_cases, contains_none}
+use Rattle.fvn_terms.specs.Substitution.{Substitution}
+use Rattle.fvn_flat.specs.Solving.{problem_of}
+use Rattle.fvn_flat.specs.SolvedLists.{IsKindUnifier}
+use Rattle.fvn_nodes.specs.Laws.{UnifiersPartition}
+use Rattle.fvn_nodes.specs.States.{Admits, IsClosed}
+use Rattle.fvn_nodes.specs.Trees.{AreClosed, IsAsked, weight}
+use Rattle.fvn_nodes.specs.Unifiers.{kernel}
+use Rattle.fvn_nodes.specs.declared.state.State.{State}
+use Rattle.fvn_combine.specs.Tasks.{Combining, IsCombining}
+use Rattle.fvn_combine.specs.Frames.{IsOpened, IsCoveredToCome}
+use Rattle.fvn_combine.specs.Search.{IsAdmitted, IsCoveredAt, IsOpenedAt}
+use Rattle.fvn_combine.specs.declared.opened.Frame.{Frame}
+use Rattle.fvn_combine.specs.declared.opened.Opened.{Opened}
+use Rattle.fvn_combine.specs.declared.looking.Looked.{Looked}
+use Rattle.fvn_combine.specs.declared.looking.Looked.TheVariants.{Passed, Framed}
+use Rattle.fvn_combine.specs.inner.Found.{IsLookedAtLast, IsAdmittedBy}
+
+-- lists with a last one are equal in both parts
+pub last_injective : (xs ys : List State) (x y : State) → xs ++ x ∷ [] ≡ ys ++ y ∷ [] → (xs ≡ ys) × (x ≡ y)
+last_injective [] [] x y e = (refl, let f : x ≡ y = cc in f)
+last_injective [] (z ∷ ys) x y e = absurd (let n = ap length e in let m = length_push ys y in omega (arith, n, m))
+last_injective (z ∷ xs) [] x y e = absurd (let n = ap length e in let m = length_push xs x in omega (arith, n, m))
+last_injective (z ∷ xs) (w ∷ ys) x y e =
+    let t : xs ++ x ∷ [] ≡ ys ++ y ∷ [] = cc in
+    let h : z ≡ w = cc in
+    let r = last_injective xs ys x y t in
+    let s = r.0 in
+    (cc, r.1)
+
+module _ (k : Combining) (u : Substitution) where
+  abbrev IsIn : State → Type 0
+  IsIn s = Admits s (kernel k.declarations u k.table.nodes)
+
+  pub admitted_by : (states : List State) (s : State) → Contains states s → IsIn s → IsAdmitted k states u
+  admitted_by states s c p = (c.0, s, c.1, c.2, p)
+
+  pub admitted_cases : (below above : List State) → IsAdmitted k (below ++ above) u → IsAdmitted k below u ⊎ IsAdmitted k above u
+  admitted_cases below above h = elim (Contains-append_cases below above h.1 (h.0, h.2, h.3)) [
+    | inl l ↦ inl (admitted_by below h.1 l h.4)
+    | inr r ↦ inr (admitted_by above h.1 r h.4)
+  ]
+
+  pub admitted_left : (below above : List State) → IsAdmitted k below u → IsAdmitted k (below ++ above) u
+  admitted_left below above h = admitted_by (below ++ above) h.1 (Contains-append_left below above h.1 (h.0, h.2, h.3)) h.4
+
+  pub admitted_right : (below above : List State) → IsAdmitted k above u → IsAdmitted k (below ++ above) u
+  admitted_right below above h = admitted_by (below ++ above) h.1 (Contains-append_right below above h.1 (h.0, h.2, h.3)) h.4
+
+  pub admitted_one : (s : State) → IsAdmitted k (s ∷ []) u → IsIn s
+  admitted_one s h = elim (contains_cases s [] h.1 (h.0, h.2, h.3)) [
+    | inl e ↦ subst IsIn (sym e) h.4
+    | inr n ↦ absurd (contains_none h.1 n)
+  ]
+
+  pub admitted_last : (below : List State) (s : State) → IsIn s → IsAdmitted k (below ++ s ∷ []) u
+  admitted_last below s p = admitted_right below (s ∷ []) (admitted_by (s ∷ []) s (contains_here s []) p)
+
+module _ (k : Combining) (is : IsCombining k) (partitions : UnifiersPartition) where
+  pub after_asking : (before after : List State) → IsAsked k.declarations k.table before after → (u : Substitution) → IsKindUnifier k.declarations (problem_of k.given) u → IsAdmitted k before u ↔ (IsAdmitted k after u ⊎ IsCoveredAt k None u)
+  after_asking before after a u unifies = (
+    λ h. inl (subst (λ l. IsAdmitted k l u) (sym a.is) (forth (admitted_cases k u a.below (a.top ∷ []) (subst (λ l. IsAdmitted k l u) a.was h)))),
+    λ h. elim h [
+      | inl m ↦ subst (λ l. IsAdmitted k l u) (sym a.was) (back (admitted_cases k u a.below a.answers (subst (λ l. IsAdmitted k l u) a.is m)))
+      | inr n ↦ absurd n
+    ],
+  )
+    where
+      forth : IsAdmitted k a.below u ⊎ IsAdmitted k (a.top ∷ []) u → IsAdmitted k (a.below ++ a.answers) u
+      forth (inl b) = admitted_left k u a.below a.answers b
+      forth (inr t) =
+          let p = (partitions k.declarations is.good.fits (problem_of k.given) is.is_given.kinds k.table is.well_made is.table_of u unifies).partition in
+          admitted_right k u a.below a.answers (a.all (kernel k.declarations u k.table.nodes) p (admitted_one k u a.top t))
+
+      back : IsAdmitted k a.below u ⊎ IsAdmitted k a.answers u → IsAdmitted k (a.below ++ a.top ∷ []) u
+      back (inl b) = admitted_left k u a.below (a.top ∷ []) b
+      back (inr w) = admitted_last k u a.below a.top (a.kept (kernel k.declarations u k.table.nodes) w)
+
+-- states before the last are closed
+pub closed_before : (k : Combining) (before after : List State) (s : State) → before ≡ after ++ s ∷ [] → AreClosed k.declarations k.table before → AreClosed k.declarations k.table after
+closed_before k before after s e closed i d l =
+    let all = subst (AreClosed k.declarations k.table) e closed in
+    let n = length_push after s in
+    subst (λ x. IsClosed k.declarations k.table x) (get_or_append_left after (s ∷ []) d i l) (all i d (omega (arith, l, n)))
+
+module _ (k : Combining) (before after : List State) (looked : Looked) (l : IsLookedAtLast k before looked) where
+  -- what is taken out is what was looked at
+  pub is_last : (s : State) → before ≡ after ++ s ∷ [] → s ≡ l.last
+  is_last s e = (last_injective after l.below s l.last (sym e ∙ l.is)).1
+
+  pub taken_out : (r : Option State) → MatchOption r ((before ≡ []) × (after ≡ [])) (λ s. before ≡ after ++ s ∷ []) → before ≡ after ++ l.last ∷ []
+  taken_out None h = absurd (let n = ap length (sym h.0 ∙ l.is) in let m = length_push l.below l.last in omega (arith, n, m))
+  taken_out (Some s) h = h ∙ ap (λ x. after ++ x ∷ []) (is_last s h)
+
+  pub taken_falls : (r : Option State) → MatchOption r ((before ≡ []) × (after ≡ [])) (λ s. before ≡ after ++ s ∷ []) → IfSome r (λ s. weight after < weight before) → weight after < weight before
+  taken_falls None h f = absurd (let n = ap length (sym h.0 ∙ l.is) in let m = length_push l.below l.last in omega (arith, n, m))
+  taken_falls (Some s) h f = f
+
+-- the last state admits no unifier, and is passed over
+pub after_passing : (k : Combining) (before after : List State) (l : IsLookedAtLast k before Passed) → before ≡ after ++ l.last ∷ [] → (u : Substitution) → IsKindUnifier k.declarations (problem_of k.given) u → IsAdmitted k before u ↔ (IsAdmitted k after u ⊎ IsCoveredAt k None u)
+after_passing k before after l e u unifies = (
+  λ h. elim (admitted_cases k u after (l.last ∷ []) (subst (λ x. IsAdmitted k x u) e h)) [
+    | inl b ↦ inl b
+    | inr t ↦ absurd (l.looked u (unifies, admitted_one k u l.last t))
+  ],
+  λ h. elim h [
+    | inl b ↦ subst (λ x. IsAdmitted k x u) (sym e) (admitted_left k u after (l.last ∷ []) b)
+    | inr n ↦ absurd n
+  ],
+)
+
+module _ (k : Combining) (before after : List State) (o : Opened) (l : IsLookedAtLast k before (Framed o)) (s : State) (e : before ≡ after ++ s ∷ []) where
+  same : l.last ≡ s
+  same = sym (is_last k before after (Framed o) l s e)
+
+  pub frame_opened : IsOpenedAt k (Some (record { state = s; opened = o }))
+  frame_opened = subst (λ x. IsOpened k x o) same l.looked.0
+
+  -- the last state is a frame, which is opened
+  pub after_opening : (u : Substitution) → IsKindUnifier k.declarations (problem_of k.given) u → IsAdmitted k before u ↔ (IsAdmitted k after u ⊎ IsCoveredAt k (Some (record { state = s; opened = o })) u)
+  after_opening u unifies = (
+    λ h. elim (admitted_cases k u after (s ∷ []) (subst (λ x. IsAdmitted k x u) e h)) [
+      | inl b ↦ inl b
+      | inr t ↦ inr (at_frame (admitted_one k u s t))
+    ],
+    λ h. elim h [
+      | inl b ↦ subst (λ x. IsAdmitted k x u) (sym e) (admitted_left k u after (s ∷ []) b)
+      | inr c ↦ subst (λ x. IsAdmitted k x u) (sym e) (admitted_last k u after s c.0)
+    ],
+  )
+    where
+      at_frame : Admits s (kernel k.declarations u k.table.nodes) → Admits s (kernel k.declarations u k.table.nodes) × IsCoveredToCome k s o u
+      at_frame a = (a, subst (λ x. IsAdmittedBy k x u → IsCoveredToCome k x o u) same (l.looked.1 u) (unifies, a))

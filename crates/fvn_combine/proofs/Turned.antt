@@ -1,0 +1,90 @@
+-- The next tags are made the current ones.
+use Rattle.std.proofs.Common.{◌≡◌, ℕ, ◌<◌, List, length, refl, sym, ap, ◌∙◌, subst, inl, inr, Option, Some, true}
+use Rattle.std.specs.Prelude.{◌⊎◌, ◌↔◌}
+use Rattle.std.specs.List.{AllZip}
+use Rattle.std.proofs.lemmas.Slice.Zip.{AllZip-long}
+use Rattle.fvn_base.proofs.Options.{Some-injective}
+use Rattle.fvn_terms.specs.declared.plain.OpId.{OpId}
+use Rattle.fvn_terms.specs.Substitution.{Substitution}
+use Rattle.fvn_flat.specs.Solving.{problem_of}
+use Rattle.fvn_nodes.specs.States.{class_of}
+use Rattle.fvn_nodes.specs.declared.state.State.{State}
+use Rattle.fvn_plans.specs.Choosing.{Choice}
+use Rattle.fvn_wheels.specs.Tags.{Tagging, PendingTags, tags_left}
+use Rattle.fvn_wheels.specs.Wheels.{Odometer, IsChoice, PendingChoices}
+use Rattle.fvn_asking.specs.Listed.{tag_in, systems_of, choice_of}
+use Rattle.fvn_obeying.specs.CoveringChoices.{IsCovering}
+use Rattle.fvn_openings.specs.Laws.{ListedChoicesArePossible}
+use Rattle.fvn_openings.specs.Tags.{AreTags}
+use Rattle.fvn_openings.specs.Turning.{AreWheels}
+use Rattle.fvn_combine.specs.Tasks.{Combining, IsCombining}
+use Rattle.fvn_combine.specs.Frames.{IsTurning, IsCoveredBy, IsCoveredLater, IsCoveredToCome, IsOpened}
+use Rattle.fvn_combine.specs.declared.opened.Turning.{Turning}
+use Rattle.fvn_combine.specs.declared.opened.Opened.{Opened}
+use Rattle.fvn_combine.specs.inner.Found.{IsTurned}
+
+module _ (k : Combining) (is : IsCombining k) (possible : ListedChoicesArePossible) (s : State) (o : Opened) (opened : IsOpened k s o) (tags : List (Option OpId)) (options : List ℕ) (are : AreTags o.shared options tags) (wheels : Odometer) (asked : AreWheels k.declarations k.table (class_of s) (tag_in tags) o.reading.sums o.bases wheels.wheels) (all : (numbers : List ℕ) → AllZip IsChoice wheels.wheels numbers → PendingChoices wheels numbers) (after : Tagging) (counts : after.counts ≡ o.tags.counts) (now : o.tags.current ≡ Some options) (taken : (n : List ℕ) → PendingTags o.tags n ↔ ((o.tags.current ≡ Some n) ⊎ PendingTags after n)) (falls : tags_left after < tags_left o.tags) where
+  abbrev current : Turning
+  current = record { tags = tags; wheels = wheels }
+
+  abbrev turned_frame : Opened
+  turned_frame = record { reading = o.reading; bases = o.bases; shared = o.shared; tags = after; turning = Some current }
+
+  is_turning : IsTurning k s o.reading o.bases o.shared current
+  is_turning = record { options = options; are_tags = are; are_wheels = asked }
+
+  still_opened : IsOpened k s turned_frame
+  still_opened = record {
+    ready = opened.ready;
+    frame = opened.frame;
+    reading = opened.reading;
+    bases = opened.bases;
+    shared = opened.shared;
+    counts = counts ∙ opened.counts;
+    turning = λ v e. subst (IsTurning k s o.reading o.bases o.shared) (Some-injective e) is_turning;
+  }
+
+  -- tags by the same options make the same choices
+  same_choice : (others : List (Option OpId)) (numbers : List ℕ) → AreTags o.shared options others → choice_of o.reading others numbers ≡ choice_of o.reading tags numbers
+  same_choice others numbers h = λ i. record { tag = λ x. (h x ∙ sym (are x)) i; number = (choice_of o.reading tags numbers).number }
+
+  to_come : (u : Substitution) → IsCoveredLater k s o u → IsCoveredToCome k s turned_frame u
+  to_come u h = elim ((taken h.options).0 h.pending) [
+    | inl e ↦
+        let same = same_choice h.tags h.numbers (subst (λ n. AreTags o.shared n h.tags) (Some-injective (sym e ∙ now)) h.are_tags) in
+        let covered : IsCoveredBy k s o.reading o.bases tags h.numbers u = subst (λ (c : Choice). IsCovering k.declarations (problem_of k.given) k.table s (systems_of o.reading o.bases) u c) same h.covered in
+        let valid = (possible k.declarations is.good.fits (problem_of k.given) is.is_given.kinds k.table is.well_made is.table_of (class_of s) o.reading opened.reading o.bases opened.bases o.shared opened.shared options tags are wheels.wheels asked h.numbers h.as_many).0 covered.possible in
+        inl (record { numbers = h.numbers; pending = all h.numbers valid.0; covered = covered })
+    | inr p ↦ inr (record {
+      options = h.options;
+      pending = p;
+      tags = h.tags;
+      are_tags = h.are_tags;
+      numbers = h.numbers;
+      as_many = h.as_many;
+      covered = h.covered;
+    })
+  ]
+
+  was_to_come : (u : Substitution) → IsCoveredToCome k s turned_frame u → IsCoveredLater k s o u
+  was_to_come u (inl h) = record {
+    options = options;
+    pending = (taken options).1 (inl now);
+    tags = tags;
+    are_tags = are;
+    numbers = h.numbers;
+    as_many = AllZip-long IsChoice wheels.wheels h.numbers h.pending.0 ∙ asked.as_many;
+    covered = h.covered;
+  }
+  was_to_come u (inr h) = record {
+    options = h.options;
+    pending = (taken h.options).1 (inr h.pending);
+    tags = h.tags;
+    are_tags = h.are_tags;
+    numbers = h.numbers;
+    as_many = h.as_many;
+    covered = h.covered;
+  }
+
+  pub turned : IsTurned k s o turned_frame true
+  turned = (still_opened, falls, to_come, was_to_come)

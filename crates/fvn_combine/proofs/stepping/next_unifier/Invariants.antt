@@ -1,0 +1,15 @@
+-- The states are closed, the frame is open, and what was ahead is ahead, and no more.
+use Rattle.fvn_nodes.specs.Trees.{AreClosed, weight}
+use Rattle.fvn_combine.specs.Search.{IsOpenedAt}
+use Rattle.fvn_combine.specs.inner.Found.{IsAheadAsBefore}
+use Rattle.fvn_combine.proofs.stepping.next_unifier.Given as goal
+
+abbrev pub invariant-steps : goal.invariant-steps
+invariant-steps l = record {
+  closed : AreClosed l.task.declarations l.task.table l.tree;
+  opened : IsOpenedAt l.task l.frame;
+  same : IsAheadAsBefore l.task l.initial.tree l.initial.frame l.tree l.frame;
+}
+
+abbrev pub decreases-steps : goal.decreases-steps
+decreases-steps l = weight l.tree

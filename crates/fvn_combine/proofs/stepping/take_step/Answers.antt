@@ -1,0 +1,38 @@
+-- What is to come when the last state is asked, passed over or opened.
+use Rattle.std.proofs.Common.{subst}
+use Rattle.fvn_combine.proofs.Trees.{after_asking, closed_before, taken_out, taken_falls, after_passing, frame_opened, after_opening}
+use Rattle.fvn_nodes.specs.Trees.{IsAsked}
+use Rattle.fvn_combine.specs.Tasks.{Combining}
+use Rattle.fvn_combine.specs.inner.Found.{IsLooked}
+use Rattle.fvn_combine.specs.declared.looking.Looked.TheVariants.{Passed, Framed}
+use Rattle.fvn_combine.proofs.stepping.take_step.Goals as goal
+
+pub returns-in_ok-ask-in-Open-clause-stepped : goal.returns-in_ok-ask-in-Open-clause-stepped
+returns-in_ok-ask-in-Open-clause-stepped c = (
+  c.in_ok-ask-in-Open.ensures.falls,
+  tt,
+  after_asking c.args.task.now c.recall.ensures c.unifiers_partition.ensures c.args.tree.now c.ask.new.self
+  (subst (λ (k : Combining). IsAsked k.declarations k.table c.args.tree.now c.ask.new.self) c.task.view_is c.in_ok-ask-in-Open.ensures.asked),
+)
+
+pub returns-in-Passed-clause-closed : goal.returns-in-Passed-clause-closed
+returns-in-Passed-clause-closed c =
+    let l = subst (IsLooked c.args.task.now c.args.tree.now) c.in-Passed.is c.in_ok-look.ensures in
+    closed_before c.args.task.now c.args.tree.now c.take_top-last.new.self l.last (taken_out c.args.task.now c.args.tree.now c.take_top-last.new.self Passed l c.take_top-last.result c.take_top-last.ensures.taken) c.requires.closed
+
+pub returns-in-Passed-clause-stepped : goal.returns-in-Passed-clause-stepped
+returns-in-Passed-clause-stepped c =
+    let l = subst (IsLooked c.args.task.now c.args.tree.now) c.in-Passed.is c.in_ok-look.ensures in
+    let e = taken_out c.args.task.now c.args.tree.now c.take_top-last.new.self Passed l c.take_top-last.result c.take_top-last.ensures.taken in
+    (taken_falls c.args.task.now c.args.tree.now c.take_top-last.new.self Passed l c.take_top-last.result c.take_top-last.ensures.taken c.take_top-last.ensures.falls, tt, after_passing c.args.task.now c.args.tree.now c.take_top-last.new.self l e)
+
+pub returns-in-Some-clause-closed : goal.returns-in-Some-clause-closed
+returns-in-Some-clause-closed c = closed_before c.args.task.now c.args.tree.now c.take_top.new.self c.in-Some.state c.in-Some.ensures.taken c.requires.closed
+
+pub returns-in-Some-clause-stepped : goal.returns-in-Some-clause-stepped
+returns-in-Some-clause-stepped c =
+    let l = subst (IsLooked c.args.task.now c.args.tree.now) c.in-Framed.is c.in_ok-look.ensures in (
+      c.in-Some.ensures.falls,
+      frame_opened c.args.task.now c.args.tree.now c.take_top.new.self c.in-Framed.opened l c.in-Some.state c.in-Some.ensures.taken,
+      after_opening c.args.task.now c.args.tree.now c.take_top.new.self c.in-Framed.opened l c.in-Some.state c.in-Some.ensures.taken,
+    )

@@ -1,0 +1,60 @@
+-- The numbers that are passed cover nothing, or only what is given.
+use Rattle.std.proofs.Common.{sym, subst, inl, inr}
+use Rattle.fvn_binding.specs.Ready.{AreListed}
+use Rattle.fvn_drawing.specs.Drawn.{IsDrawn}
+use Rattle.fvn_asking.specs.Listed.{tag_in, systems_of, choice_of}
+use Rattle.fvn_combine.specs.Tasks.{Combining}
+use Rattle.fvn_combine.proofs.Current.{listed, fewer_under, passed_or_to_come, still_turning}
+use Rattle.fvn_combine.proofs.walking.next_of_turning.Goals as goal
+
+pub returns-in-None-clause-drawn : goal.returns-in-None-clause-drawn
+returns-in-None-clause-drawn c = λ u h.
+    let now = c.choices.invariant.kept u h in
+    c.in-None.ensures.exhausted.0 c.in-None.is now.numbers now.pending
+
+pub draw-requires-clause-listed : goal.draw-requires-clause-listed
+draw-requires-clause-listed c =
+    let t = c.choices.invariant.turning in
+    subst (λ (k : Combining). AreListed k.table c.args.reading.now c.args.bases.now c.in-Some.numbers.now) (sym c.task.view_is)
+    (listed c.args.task.now c.args.state.now c.args.reading.now c.args.bases.now c.recall.ensures c.tables_are_small.ensures c.requires.reading c.requires.bases
+    (tag_in c.choices.turning.tags) c.choices.turning.wheels.wheels t.are_wheels c.in-Some.numbers.now c.in-Some.ensures.greatest.0.0)
+
+pub choices-preserved : goal.choices-preserved
+choices-preserved c =
+    let k = c.args.task.now in
+    let s = c.args.state.now in
+    let r = c.args.reading.now in
+    let b = c.args.bases.now in
+    let tags = c.choices.turning.tags in
+    let old = c.choices.turning.wheels in
+    let new = c.advance.new.self in
+    let drawn = subst (λ (k : Combining). IsDrawn k.declarations k.given k.first k.size k.table s (systems_of r b) (choice_of r tags c.in-Some.numbers.now) c.in_ok-drawn.drawn) c.task.view_is c.in_ok-drawn.ensures in
+    let none = subst (IsDrawn k.declarations k.given k.first k.size k.table s (systems_of r b) (choice_of r tags c.in-Some.numbers.now)) c.in-Nothing.is drawn in
+    record {
+      turning = still_turning k s r b tags old new c.advance.ensures.taken c.args.shared.now c.advance.ensures.wheels c.choices.invariant.turning;
+      fewer = λ u h. c.choices.invariant.fewer u (fewer_under k s r b tags old new c.advance.ensures.taken u h);
+      kept = λ u h. elim (passed_or_to_come k s r b tags old new c.advance.ensures.taken c.in-Some.numbers.now c.in-Some.ensures.value u (c.choices.invariant.kept u h)) [
+        | inl e ↦ absurd (none u e)
+        | inr n ↦ n
+      ];
+    }
+
+pub returns-in-Unifier-clause-fewer : goal.returns-in-Unifier-clause-fewer
+returns-in-Unifier-clause-fewer c = λ u h. c.choices.invariant.fewer u (fewer_under c.args.task.now c.args.state.now c.args.reading.now c.args.bases.now c.choices.turning.tags c.choices.turning.wheels c.advance-in-Unifier.new.self c.advance-in-Unifier.ensures.taken u h)
+
+pub returns-in-Unifier-clause-drawn : goal.returns-in-Unifier-clause-drawn
+returns-in-Unifier-clause-drawn c =
+    let k = c.args.task.now in
+    let s = c.args.state.now in
+    let r = c.args.reading.now in
+    let b = c.args.bases.now in
+    let tags = c.choices.turning.tags in
+    let drawn = subst (λ (k : Combining). IsDrawn k.declarations k.given k.first k.size k.table s (systems_of r b) (choice_of r tags c.in-Some.numbers.now) c.in_ok-drawn.drawn) c.task.view_is c.in_ok-drawn.ensures in
+    let given = subst (IsDrawn k.declarations k.given k.first k.size k.table s (systems_of r b) (choice_of r tags c.in-Some.numbers.now)) c.in-Unifier.is drawn in
+    (
+      given.0,
+      λ u h. elim (passed_or_to_come k s r b tags c.choices.turning.wheels c.advance-in-Unifier.new.self c.advance-in-Unifier.ensures.taken c.in-Some.numbers.now c.in-Some.ensures.value u (c.choices.invariant.kept u h)) [
+        | inl e ↦ inl (given.1 u e)
+        | inr n ↦ inr n
+      ],
+    )

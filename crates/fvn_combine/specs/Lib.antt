@@ -1,0 +1,7 @@
+-- The words of the combination: what is to come of a problem's unifiers on kinds, and why none may come.
+pub mod Tasks
+pub mod Frames
+pub mod Endings
+pub mod Search
+pub mod Advancing
+pub mod inner

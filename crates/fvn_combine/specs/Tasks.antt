@@ -1,0 +1,29 @@
+-- What a combination of solvers is asked: a problem, its table of nodes, the first new number, and the most symbols.
+use Rattle.std.specs.Prelude.{ℕ, ◌<◌, ◌-◌, ◌^◌, ◌≤◌, List}
+use Rattle.fvn_base.specs.declared.limits.TheConstants.{TERM_SYMBOLS}
+use Rattle.fvn_terms.specs.declared.plain.Var.{Var}
+use Rattle.fvn_terms.specs.declared.declarations.Declarations.{Declarations}
+use Rattle.fvn_forms.specs.Good.{IsGood}
+use Rattle.fvn_flat.specs.Solving.{IsGiven, problem_of, symbols_of_pairs}
+use Rattle.fvn_flat.specs.declared.solver.Pairs.{Pairs}
+use Rattle.fvn_nodes.specs.Table.{NodeTable, IsWellMade, IsTableOf}
+use Rattle.fvn_binding.specs.Ready.{AreVariablesOf}
+
+-- the problem in its signature, with its table, the variables of this, the first number of a new variable, and the most symbols of a value
+pub record Combining : Type 0 where
+  pub declarations : Declarations
+  pub given : Pairs
+  pub first : ℕ
+  pub size : ℕ
+  pub table : NodeTable
+  pub variables : List Var
+
+-- they belong together, and the problem is small
+pub record IsCombining (k : Combining) : Type 0 where
+  pub good : IsGood k.declarations
+  pub is_given : IsGiven k.declarations k.given k.first
+  pub small : symbols_of_pairs k.given.pairs ≤ TERM_SYMBOLS
+  pub well_made : IsWellMade k.table
+  pub table_of : IsTableOf k.declarations (problem_of k.given) k.table
+  pub variables_of : AreVariablesOf k.table k.variables
+  pub limit : k.size < 2 ^ 64 - 1

@@ -1,0 +1,117 @@
+-- What is found when states are looked at and choices are gone through.
+use Rattle.std.specs.Prelude.{◌≡◌, ◌⊎◌, ◌↔◌, ◌<◌, Bool, true, false, List, [], ◌∷◌, ◌++◌, length, Option, Result, Ok, Err}
+use Rattle.fvn_base.specs.declared.memory.NoMemory.{NoMemory}
+use Rattle.fvn_terms.specs.Substitution.{Substitution}
+use Rattle.fvn_flat.specs.Bindings.{Bindings, value}
+use Rattle.fvn_flat.specs.Problems.{variables_of}
+use Rattle.fvn_flat.specs.Solving.{problem_of, IsBasisCause, IsTooLarge}
+use Rattle.fvn_flat.specs.SolvedLists.{IsKindUnifier}
+use Rattle.fvn_nodes.specs.States.{Admits, IsOpen}
+use Rattle.fvn_nodes.specs.Trees.{weight}
+use Rattle.fvn_nodes.specs.Unifiers.{kernel}
+use Rattle.fvn_nodes.specs.declared.state.State.{State}
+use Rattle.fvn_wheels.specs.Tags.{tags_left}
+use Rattle.fvn_plans.specs.Covering.{CoversOnKinds}
+use Rattle.fvn_drawing.specs.OnKinds.{IsGivenOnKinds}
+use Rattle.fvn_drawing.specs.declared.drawing.Drawn.{Drawn}
+use Rattle.fvn_drawing.specs.declared.drawing.Drawn.TheVariants.{Nothing as NoneDrawn, TooLarge, Unifier}
+use Rattle.fvn_combine.specs.Tasks.{Combining}
+use Rattle.fvn_combine.specs.Frames.{IsOpened, IsCoveredLater, IsCoveredToCome}
+use Rattle.fvn_combine.specs.Search.{IsEnd, IsAdmitted, IsOpenedAt, IsCoveredAt}
+use Rattle.fvn_combine.specs.declared.opened.Opened.{Opened}
+use Rattle.fvn_combine.specs.declared.opened.Frame.{Frame}
+use Rattle.fvn_combine.specs.declared.stepping.Step.{Step}
+use Rattle.fvn_combine.specs.declared.stepping.Step.TheVariants.{Over as NoneLeft, More, End}
+use Rattle.fvn_combine.specs.declared.stepping.Found.{Found}
+use Rattle.fvn_combine.specs.declared.stepping.Found.TheVariants.{Nothing, Ends, Given}
+use Rattle.fvn_combine.specs.declared.looking.Looked.{Looked}
+use Rattle.fvn_combine.specs.declared.looking.Looked.TheVariants.{Over, Open, Passed, Refused, Framed}
+
+-- what is given covers u
+abbrev pub CoversBy : Combining → Bindings → Substitution → Type 0
+CoversBy k g u = CoversOnKinds k.declarations (variables_of (problem_of k.given)) (value g) u
+
+module _ (k : Combining) (Before After : Substitution → Type 0) where
+  -- nothing, where nothing was to come; bindings that are too large, with all still to come; or a unifier that covers what is no longer to come
+  abbrev pub IsDrawnFrom : Drawn → Type 0
+  IsDrawnFrom NoneDrawn = (u : Substitution) → Before u → ⊥
+  IsDrawnFrom (TooLarge list) = IsTooLarge k.declarations k.given k.size list.bindings × ((u : Substitution) → Before u → After u)
+  IsDrawnFrom (Unifier g) = IsGivenOnKinds k.declarations k.given k.first k.size g × ((u : Substitution) → Before u → CoversBy k g u ⊎ After u)
+
+  -- so it is, and at want of memory all is still to come
+  abbrev pub AreDrawnFrom : Result Drawn NoMemory → Type 0
+  AreDrawnFrom (Ok r) = IsDrawnFrom r
+  AreDrawnFrom (Err e) = (u : Substitution) → Before u → After u
+
+-- two open frames are the same but for the current tags
+pub record IsSameButCurrent (before after : Opened) : Type 0 where
+  pub reading : after.reading ≡ before.reading
+  pub bases : after.bases ≡ before.bases
+  pub shared : after.shared ≡ before.shared
+  pub tags : after.tags ≡ before.tags
+
+module _ (k : Combining) (s : State) (before after : Opened) where
+  -- the next tags are the current ones; where there are none, all is as it was
+  abbrev pub IsTurned : Bool → Type 0
+  IsTurned false = (after ≡ before) × ((u : Substitution) → IsCoveredLater k s before u → ⊥)
+  IsTurned true =
+      IsOpened k s after × (tags_left after.tags < tags_left before.tags)
+      × ((u : Substitution) → IsCoveredLater k s before u → IsCoveredToCome k s after u)
+      × ((u : Substitution) → IsCoveredToCome k s after u → IsCoveredLater k s before u)
+
+module _ (k : Combining) where
+  -- the state admits the partition of u, which is a unifier on kinds
+  abbrev pub IsAdmittedBy : State → Substitution → Type 0
+  IsAdmittedBy s u = IsKindUnifier k.declarations (problem_of k.given) u × Admits s (kernel k.declarations u k.table.nodes)
+
+  -- a question is open in the state; it admits no unifier; its systems are refused; or it is a frame, which is opened
+  abbrev pub IsLookedAt : State → Looked → Type 0
+  IsLookedAt s Over = ⊥
+  IsLookedAt s (Open i j) = (i < length k.table.nodes) × (j < length k.table.nodes) × IsOpen s i j
+  IsLookedAt s Passed = (u : Substitution) → IsAdmittedBy s u → ⊥
+  IsLookedAt s (Refused f system) = IsBasisCause k.declarations k.given f system
+  IsLookedAt s (Framed o) = IsOpened k s o × ((u : Substitution) → IsAdmittedBy s u → IsCoveredToCome k s o u)
+
+  -- this is so of the last state
+  pub record IsLookedAtLast (states : List State) (r : Looked) : Type 0 where
+    pub below : List State
+    pub last : State
+    pub is : states ≡ below ++ last ∷ []
+    pub looked : IsLookedAt last r
+
+  -- no state is left, or the last one is looked at
+  abbrev pub IsLooked : List State → Looked → Type 0
+  IsLooked states Over = states ≡ []
+  IsLooked states (Open i j) = IsLookedAtLast states (Open i j)
+  IsLooked states Passed = IsLookedAtLast states Passed
+  IsLooked states (Refused f system) = IsLookedAtLast states (Refused f system)
+  IsLooked states (Framed o) = IsLookedAtLast states (Framed o)
+
+module _ (k : Combining) where
+  -- u, a unifier on kinds, is to come in these states, or at the frame that is open
+  abbrev pub IsAhead : List State → Option Frame → Substitution → Type 0
+  IsAhead states frame u = IsKindUnifier k.declarations (problem_of k.given) u × (IsAdmitted k states u ⊎ IsCoveredAt k frame u)
+
+  module _ (states : List State) (frame : Option Frame) (states_after : List State) (frame_after : Option Frame) where
+    -- no state is left; or the tree falls, and what the states admit is to come, and no more; or the search ends here, and all is as it was
+    abbrev pub IsStep : Step → Type 0
+    IsStep NoneLeft = (states ≡ []) × (frame_after ≡ frame)
+    IsStep More =
+        (weight states_after < weight states) × IsOpenedAt k frame_after
+        × ((u : Substitution) → IsKindUnifier k.declarations (problem_of k.given) u → IsAdmitted k states u ↔ (IsAdmitted k states_after u ⊎ IsCoveredAt k frame_after u))
+    IsStep (End e) = IsEnd k e × (states_after ≡ states) × (frame_after ≡ frame)
+
+    -- all that was to come is so, and no more
+    abbrev pub IsAheadAsBefore : Type 0
+    IsAheadAsBefore = (u : Substitution) → IsAhead states frame u ↔ IsAhead states_after frame_after u
+
+    -- nothing was to come; or the search ends here; or a unifier covers what is no longer to come
+    abbrev pub IsFound : Found → Type 0
+    IsFound Nothing = (u : Substitution) → IsAhead states frame u → ⊥
+    IsFound (Ends e) = IsEnd k e × IsAheadAsBefore
+    IsFound (Given g) = IsGivenOnKinds k.declarations k.given k.first k.size g × ((u : Substitution) → IsAhead states frame u → CoversBy k g u ⊎ IsAhead states_after frame_after u)
+
+    -- so it is, and at want of memory all is to come as before
+    abbrev pub AreFound : Result Found NoMemory → Type 0
+    AreFound (Ok r) = IsFound r
+    AreFound (Err e) = IsAheadAsBefore

@@ -1,0 +1,125 @@
+//! The unifiers of a problem on kinds, one after another.
+ghost use Rattle.std.specs.Prelude.{◌≡◌, ◌≤◌, ◌<◌, ◌-◌, ◌^◌, Some, None, IfOk};
+ghost use Rattle.fvn_base.specs.declared.limits.TheConstants.{TERM_SYMBOLS};
+ghost use Rattle.fvn_terms.specs.Substitution.{Substitution};
+ghost use Rattle.fvn_flat.specs.Solving.{IsGiven, problem_of, symbols_of_pairs};
+ghost use Rattle.fvn_flat.specs.SolvedLists.{IsKindUnifier};
+ghost use Rattle.fvn_combine.specs.Advancing.{IsOf, IsToCome, IsAdvanced, IsAgain};
+ghost use Rattle.fvn_combine.specs.Search.{IsSearch};
+ghost use Rattle.fvn_combine.specs.inner.Parts.{search_of};
+ghost use Rattle.fvn_combine.specs.declared.ending.Ended.{Ended as Cause};
+
+use crate::ending::{CombineEnd, Ended, told};
+use crate::opened::Frame;
+use crate::stepping::{Found, next_unifier};
+use crate::task::Task;
+use fvn_flat::{Pairs, Subst};
+use fvn_nodes::{Tree, unifiers_partition};
+use fvn_sorts::Signature;
+use fvn_terms::NoMemory;
+use std::alloc::Global;
+use std::marker::Model;
+
+/// A search: what is asked, the decision tree, the frame that is open, and why it has ended.
+#[derive(Drop)]
+pub(crate) struct Parts<'a> {
+    task: Task<'a>,
+    tree: Tree,
+    frame: Option<Frame>,
+    ended: Option<Ended>,
+}
+
+/// All unifiers of a problem on kinds, one after another; every variable is read with its kind.
+///
+/// The decision tree of the problem's nodes is asked until nothing is open that decides what a
+/// class is bound to; then the choices of minimal solutions are gone through, one list of them
+/// after another (M. E. Stickel, 1981; F. Baader and K. U. Schulz, 1996).
+#[derive(Drop)]
+pub struct Combiner<'a> {
+    parts: Parts<'a>,
+}
+
+impl<'a> Model for Combiner<'a> {
+    ghost use Rattle.fvn_flat.specs.contracts.flat.Flat as flat;
+    ghost use Rattle.std.specs.Coded.{codes};
+    ghost use Rattle.fvn_combine.specs.Search.{Search, IsSearch};
+    ghost use Rattle.fvn_combine.specs.inner.Parts.{search_of};
+
+    ghost Value = { Search };
+
+    ghost coded = { Prim.hlevel (codes, flat.the_row.coded) };
+
+    ghost view = { λ c. search_of c.parts };
+
+    ghost invariant = { λ c. IsSearch (search_of c.parts) };
+}
+
+// The next unifier of a search that has not ended.
+fn next_of(parts: &mut Parts) -> Result<Option<Subst>, CombineEnd>
+    requires search { IsSearch (search_of parts.old) }
+    requires running { parts.old.ended ≡ None }
+    ensures search { IsSearch (search_of parts.new) }
+    ensures same { parts.new.task ≡ parts.old.task }
+    ensures advanced { IsAdvanced (search_of parts.old) (search_of parts.new) result }
+{
+    match next_unifier(&parts.task, &mut parts.tree, &mut parts.frame)? {
+        Found::Nothing => Ok(None),
+        Found::Ends(ended) => {
+            let end = told(parts.task.alloc, &ended)?;
+            parts.ended = Some(ended);
+            Err(end)
+        }
+        Found::Given(g) => Ok(Some(g)),
+    }
+}
+
+impl<'a> Combiner<'a> {
+    /// All unifiers on kinds of the problem, none of them given yet, with new variables from
+    /// `first_fresh` on, and at most `size` symbols for each variable of the problem.
+    pub fn new(
+        alloc: Global,
+        sig: &'a Signature,
+        problem: &'a Pairs,
+        first_fresh: u32,
+        size: u64,
+    ) -> Result<Combiner<'a>, NoMemory>
+        requires given { IsGiven sig.now problem.now first_fresh }
+        requires small { symbols_of_pairs problem.now.pairs ≤ TERM_SYMBOLS }
+        requires size { size < 2 ^ 64 - 1 }
+        ensures of { IfOk result (IsOf sig.now problem.now first_fresh size) }
+        // Every unifier on kinds is to come.
+        ensures all { IfOk result (λ m. (u : Substitution) →
+            IsKindUnifier sig.now (problem_of problem.now) u → IsToCome m u) }
+    {
+        unifiers_partition();
+        let task = Task::new(alloc, sig, problem, first_fresh, size)?;
+        task.recall();
+        let tree = Tree::new(alloc, task.sig, &task.table)?;
+        Ok(Combiner {
+            parts: Parts {
+                task,
+                tree,
+                frame: None,
+                ended: None,
+            },
+        })
+    }
+
+    /// The next unifier, or none where every unifier on kinds is covered by one that was given.
+    ///
+    /// After an end every later call tells the same end, or want of memory. At want of memory the
+    /// same unifiers are to come as before.
+    pub fn advance(&mut self) -> Result<Option<Subst>, CombineEnd>
+        ensures same { self.new.combining ≡ self.old.combining }
+        ensures advanced { self.old.ended ≡ None → IsAdvanced self.old self.new result }
+        // After an end.
+        ensures again { (e : Cause) → self.old.ended ≡ Some e → IsAgain e result }
+        ensures stays { (e : Cause) → self.old.ended ≡ Some e → self.new ≡ self.old }
+    {
+        if let Some(ended) = &self.parts.ended {
+            let end = told(self.parts.task.alloc, ended)?;
+            return Err(end);
+        }
+        next_of(&mut self.parts)
+    }
+}

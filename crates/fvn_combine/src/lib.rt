@@ -1,0 +1,14 @@
+//! All unifiers of a problem on kinds, one after another, modulo any mix of free, C, AC and ACU operators.
+#![tactic(auto)]
+
+mod combiner;
+mod ending;
+mod kinds;
+mod looking;
+mod opened;
+mod stepping;
+mod task;
+mod walking;
+
+pub use combiner::Combiner;
+pub use ending::CombineEnd;

@@ -1,0 +1,81 @@
+//! What the top of a decision tree asks for.
+ghost use Rattle.std.specs.Prelude.{◌≡◌, IfOk};
+ghost use Rattle.fvn_nodes.specs.Trees.{AreClosed};
+ghost use Rattle.fvn_nodes.specs.States.{class_of};
+ghost use Rattle.fvn_frames.specs.Frames.{IsFrame};
+ghost use Rattle.fvn_frames.specs.Readings.{IsReading};
+ghost use Rattle.fvn_combine.specs.inner.Found.{IsLooked, IsLookedAt};
+
+use crate::kinds::are_of_one_kind;
+use crate::opened::{Opened, open};
+use crate::task::Task;
+use fvn_frames::{Reading, question, read};
+use fvn_lindio::System;
+use fvn_nodes::{State, Tree};
+use fvn_obeying::{frames_cover, readings_tell};
+use fvn_openings::{OpenFault, bases, refusals_are_causes};
+use fvn_plans::classes_have_one_kind;
+use fvn_sums::{tables_are_small, tables_hold_arguments};
+use fvn_terms::{NoMemory, OpId};
+
+/// What the last state of a tree asks for.
+#[derive(Drop)]
+pub(crate) enum Looked {
+    /// There is none.
+    Over,
+    /// The question whether two nodes are in one class.
+    Open(usize, usize),
+    /// To be passed over: its classes are not of one kind each.
+    Passed,
+    /// To end: the sum system of an operator is refused.
+    Refused(OpId, System),
+    /// To go through its choices.
+    Framed(Opened),
+}
+
+// What is asked for by a state in which no question is open.
+fn look_at_frame(task: &Task, state: &State, reading: Reading) -> Result<Looked, NoMemory>
+    requires frame { IsFrame task.now.declarations task.now.table state.now }
+    requires reading { IsReading task.now.declarations task.now.table (class_of state.now) reading }
+    ensures { IfOk result (IsLookedAt task.now state.now) }
+{
+    task.recall();
+    refusals_are_causes();
+    classes_have_one_kind();
+    frames_cover();
+    readings_tell();
+    if !are_of_one_kind(task, state) {
+        return Ok(Looked::Passed);
+    }
+    match bases(task.alloc, task.sig, &task.table, state, &reading) {
+        Err(OpenFault::NoMemory) => Err(NoMemory),
+        Err(OpenFault::Basis(f, system)) => Ok(Looked::Refused(f, system)),
+        Ok(bases) => {
+            let frame = open(task, state, reading, bases)?;
+            Ok(Looked::Framed(frame))
+        }
+    }
+}
+
+// What the last state asks for.
+pub(crate) fn look(task: &Task, tree: &Tree) -> Result<Looked, NoMemory>
+    requires { AreClosed task.now.declarations task.now.table tree.now }
+    ensures { IfOk result (IsLooked task.now tree.now) }
+{
+    task.recall();
+    tables_hold_arguments();
+    tables_are_small();
+    match tree.top() {
+        None => Ok(Looked::Over),
+        Some(state) => {
+            let reading = read(task.alloc, task.sig, &task.table, state)?;
+            match question(task.sig, &task.table, state, &reading) {
+                Some((i, j)) => Ok(Looked::Open(i, j)),
+                None => {
+                    let looked = look_at_frame(task, state, reading)?;
+                    Ok(looked)
+                }
+            }
+        }
+    }
+}

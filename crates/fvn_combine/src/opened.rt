@@ -1,0 +1,76 @@
+//! Frames that are open.
+ghost use Rattle.std.specs.Prelude.{◌≡◌, IfOk, OnOk, OnErr, IsTrue};
+ghost use Rattle.fvn_terms.specs.Substitution.{Substitution};
+ghost use Rattle.fvn_flat.specs.Solving.{problem_of};
+ghost use Rattle.fvn_nodes.specs.States.{class_of};
+ghost use Rattle.fvn_frames.specs.Frames.{IsFrame};
+ghost use Rattle.fvn_frames.specs.Readings.{IsReading};
+ghost use Rattle.fvn_plans.specs.Choosing.{Choice as InChoice};
+ghost use Rattle.fvn_asking.specs.Listed.{systems_of};
+ghost use Rattle.fvn_obeying.specs.CoveringChoices.{IsCovering};
+ghost use Rattle.fvn_openings.specs.Bases.{AreBases};
+ghost use Rattle.fvn_binding.specs.Ready.{IsReady};
+ghost use Rattle.fvn_combine.specs.Frames.{IsOpened, IsCoveredToCome};
+
+use crate::task::Task;
+use fvn_base::Seq;
+use fvn_frames::Reading;
+use fvn_lindio::Solution;
+use fvn_nodes::State;
+use fvn_openings::{SharedClass, covering_choices_are_listed, option_counts, shared};
+use fvn_terms::{NoMemory, OpId};
+use fvn_wheels::{Tags, Wheels};
+
+/// Tags that are current, and the lists of numbers under them that are still to come.
+#[derive(Drop)]
+pub(crate) struct Turning {
+    pub(crate) tags: Seq<Option<OpId>>,
+    pub(crate) wheels: Wheels,
+}
+
+/// What is read of a frame, and its choices that are still to come.
+#[derive(Drop)]
+pub(crate) struct Opened {
+    pub(crate) reading: Reading,
+    pub(crate) bases: Seq<Seq<Solution>>,
+    pub(crate) shared: Seq<SharedClass>,
+    pub(crate) tags: Tags,
+    pub(crate) turning: Option<Turning>,
+}
+
+/// A state that is a frame, with what is read of it.
+#[derive(Drop)]
+pub(crate) struct Frame {
+    pub(crate) state: State,
+    pub(crate) opened: Opened,
+}
+
+// Opens a frame, all of whose choices are to come.
+pub(crate) fn open(
+    task: &Task,
+    state: &State,
+    reading: Reading,
+    bases: Vec<Seq<Solution>>,
+) -> Result<Opened, NoMemory>
+    requires ready { IsReady task.now.declarations task.now.given task.now.first task.now.table state.now }
+    requires frame { IsFrame task.now.declarations task.now.table state.now }
+    requires reading { IsReading task.now.declarations task.now.table (class_of state.now) reading }
+    requires bases { AreBases reading.sums bases.items }
+    ensures opened { IfOk result (IsOpened task.now state.now) }
+    ensures all { IfOk result (λ o. (u : Substitution) (c : InChoice)
+        → IsCovering task.now.declarations (problem_of task.now.given) task.now.table state.now
+        (systems_of o.reading o.bases) u c → IsCoveredToCome task.now state.now o u) }
+{
+    task.recall();
+    covering_choices_are_listed();
+    let classes = shared(task.alloc, task.sig, &task.table, state, &reading)?;
+    let counts = option_counts(task.alloc, classes.as_slice())?;
+    let tags = Tags::new(task.alloc, counts)?;
+    Ok(Opened {
+        reading,
+        bases: Seq::from_vec(bases),
+        shared: Seq::from_vec(classes),
+        tags,
+        turning: None,
+    })
+}

@@ -1,0 +1,95 @@
+//! One step of the search after another.
+ghost use Rattle.std.specs.Prelude.{◌≡◌, IfOk, OnErr};
+ghost use Rattle.fvn_nodes.specs.Trees.{AreClosed};
+ghost use Rattle.fvn_combine.specs.Search.{IsOpenedAt};
+ghost use Rattle.fvn_combine.specs.inner.Found.{IsStep, AreFound};
+
+use crate::ending::Ended;
+use crate::looking::{Looked, look};
+use crate::opened::Frame;
+use crate::task::Task;
+use crate::walking::next_in;
+use fvn_drawing::Drawn;
+use fvn_flat::Subst;
+use fvn_nodes::{Tree, unifiers_partition};
+use fvn_terms::NoMemory;
+
+/// What comes of one look at the last state.
+#[derive(Drop)]
+pub(crate) enum Step {
+    /// There is no state.
+    Over,
+    /// There may be more.
+    More,
+    /// The search ends here.
+    End(Ended),
+}
+
+/// What comes of a search for the next unifier.
+#[derive(Drop)]
+pub(crate) enum Found {
+    /// There is none.
+    Nothing,
+    /// The search ends here.
+    Ends(Ended),
+    /// The next unifier.
+    Given(Subst),
+}
+
+// Looks at the last state: asks its question, passes it over, opens it, or says why the search ends.
+fn take_step(task: &Task, tree: &mut Tree, frame: &mut Option<Frame>) -> Result<Step, NoMemory>
+    requires closed { AreClosed task.now.declarations task.now.table tree.old }
+    ensures closed { AreClosed task.now.declarations task.now.table tree.new }
+    ensures stepped { IfOk result (IsStep task.now tree.old frame.old tree.new frame.new) }
+    ensures no_memory { OnErr result ((tree.new ≡ tree.old) × (frame.new ≡ frame.old)) }
+{
+    task.recall();
+    unifiers_partition();
+    match look(task, tree)? {
+        Looked::Over => Ok(Step::Over),
+        Looked::Open(i, j) => {
+            tree.ask(task.alloc, task.sig, &task.table, i, j)?;
+            *frame = None;
+            Ok(Step::More)
+        }
+        Looked::Passed => {
+            let _last = tree.take_top();
+            *frame = None;
+            Ok(Step::More)
+        }
+        Looked::Refused(f, system) => Ok(Step::End(Ended::Basis(f, system))),
+        Looked::Framed(opened) => match tree.take_top() {
+            None => Ok(Step::Over),
+            Some(state) => {
+                *frame = Some(Frame { state, opened });
+                Ok(Step::More)
+            }
+        },
+    }
+}
+
+// The next unifier, why the search ends, or nothing where nothing is to come.
+pub(crate) fn next_unifier(
+    task: &Task,
+    tree: &mut Tree,
+    frame: &mut Option<Frame>,
+) -> Result<Found, NoMemory>
+    requires closed { AreClosed task.now.declarations task.now.table tree.old }
+    requires opened { IsOpenedAt task.now frame.old }
+    ensures closed { AreClosed task.now.declarations task.now.table tree.new }
+    ensures opened { IsOpenedAt task.now frame.new }
+    ensures found { AreFound task.now tree.old frame.old tree.new frame.new result }
+{
+    'steps: loop {
+        match next_in(task, frame)? {
+            Drawn::Nothing => {}
+            Drawn::TooLarge(list) => return Ok(Found::Ends(Ended::Size(list))),
+            Drawn::Unifier(g) => return Ok(Found::Given(g)),
+        }
+        match take_step(task, tree, frame)? {
+            Step::Over => return Ok(Found::Nothing),
+            Step::More => {}
+            Step::End(ended) => return Ok(Found::Ends(ended)),
+        }
+    }
+}

@@ -1,0 +1,93 @@
+//! What a combination of solvers is asked.
+ghost use Rattle.std.specs.Prelude.{◌≡◌, ◌≤◌, ◌<◌, ◌-◌, ◌^◌, IfOk};
+ghost use Rattle.fvn_base.specs.declared.limits.TheConstants.{TERM_SYMBOLS};
+ghost use Rattle.fvn_flat.specs.Solving.{IsGiven, symbols_of_pairs};
+ghost use Rattle.fvn_combine.specs.Tasks.{IsCombining};
+
+use fvn_binding::variables;
+use fvn_flat::Pairs;
+use fvn_nodes::{Table, table_of};
+use fvn_sorts::Signature;
+use fvn_terms::{NoMemory, Var};
+use std::alloc::Global;
+use std::marker::Model;
+
+/// A problem in its signature, with its table, and the limits on its answers.
+#[derive(Drop)]
+pub(crate) struct Task<'a> {
+    pub(crate) alloc: Global,
+    pub(crate) sig: &'a Signature,
+    pub(crate) problem: &'a Pairs,
+    pub(crate) table: Table,
+    pub(crate) variables: Vec<Var>,
+    pub(crate) first: u32,
+    pub(crate) size: u64,
+}
+
+impl<'a> Model for Task<'a> {
+    ghost use Rattle.fvn_flat.specs.contracts.flat.Flat as flat;
+    ghost use Rattle.std.specs.Coded.{codes};
+    ghost use Rattle.fvn_combine.specs.Tasks.{Combining, IsCombining};
+
+    ghost Value = { Combining };
+
+    ghost coded = { Prim.hlevel (codes, flat.the_row.coded) };
+
+    ghost view = { λ t. record {
+      declarations = t.sig.now;
+      given = t.problem.now;
+      first = t.first;
+      size = t.size;
+      table = t.table;
+      variables = t.variables.items;
+    } };
+
+    ghost invariant = { λ t. IsCombining (record {
+      declarations = t.sig.now;
+      given = t.problem.now;
+      first = t.first;
+      size = t.size;
+      table = t.table;
+      variables = t.variables.items;
+    }) };
+}
+
+impl<'a> Task<'a> {
+    // The task of a problem.
+    pub(crate) fn new(
+        alloc: Global,
+        sig: &'a Signature,
+        problem: &'a Pairs,
+        first: u32,
+        size: u64,
+    ) -> Result<Task<'a>, NoMemory>
+        requires given { IsGiven sig.now problem.now first }
+        requires small { symbols_of_pairs problem.now.pairs ≤ TERM_SYMBOLS }
+        requires limit { size < 2 ^ 64 - 1 }
+        ensures declarations { IfOk result (λ t. t.declarations ≡ sig.now) }
+        ensures given { IfOk result (λ t. t.given ≡ problem.now) }
+        ensures first { IfOk result (λ t. t.first ≡ first) }
+        ensures size { IfOk result (λ t. t.size ≡ size) }
+    {
+        sig.recall_good();
+        let table = table_of(alloc, sig, problem)?;
+        table.recall_well_made();
+        let variables = variables(alloc, &table)?;
+        Ok(Task {
+            alloc,
+            sig,
+            problem,
+            table,
+            variables,
+            first,
+            size,
+        })
+    }
+
+    // What belongs together.
+    pub(crate) fn recall(&self)
+        ensures { IsCombining self.now }
+    {
+        let _ = &self.alloc;
+    }
+}

@@ -1,0 +1,176 @@
+//! The choices of an open frame, one after another.
+ghost use Rattle.std.specs.Prelude.{◌≡◌, IfOk, OnOk, OnErr, IsTrue};
+ghost use Rattle.fvn_terms.specs.Substitution.{Substitution};
+ghost use Rattle.fvn_nodes.specs.States.{class_of};
+ghost use Rattle.fvn_frames.specs.Readings.{IsReading};
+ghost use Rattle.fvn_openings.specs.Bases.{AreBases};
+ghost use Rattle.fvn_openings.specs.Sharing.{AreSharedClasses};
+ghost use Rattle.fvn_binding.specs.Ready.{IsReady};
+ghost use Rattle.fvn_combine.specs.Frames.{IsTurning, IsOpened, IsCoveredUnder, IsCoveredNow, IsCoveredToCome};
+ghost use Rattle.fvn_combine.specs.Search.{IsCoveredAt, IsOpenedAt};
+ghost use Rattle.fvn_combine.specs.inner.Found.{AreDrawnFrom, IsSameButCurrent, IsTurned};
+
+use crate::opened::{Frame, Opened, Turning};
+use crate::task::Task;
+use fvn_base::Seq;
+use fvn_drawing::{Drawn, draw};
+use fvn_frames::Reading;
+use fvn_lindio::Solution;
+use fvn_nodes::State;
+use fvn_openings::{SharedClass, listed_choices_are_possible, tags_of, wheels};
+use fvn_sums::tables_are_small;
+use fvn_terms::NoMemory;
+
+// The next unifier under the current tags.
+fn next_of_turning(
+    task: &Task,
+    state: &State,
+    reading: &Reading,
+    bases: &[Seq<Solution>],
+    shared: &[SharedClass],
+    turning: &mut Turning,
+) -> Result<Drawn, NoMemory>
+    requires ready { IsReady task.now.declarations task.now.given task.now.first task.now.table state.now }
+    requires reading { IsReading task.now.declarations task.now.table (class_of state.now) reading.now }
+    requires bases { AreBases reading.now.sums bases.now }
+    requires shared { AreSharedClasses task.now.declarations task.now.table (class_of state.now) shared.now }
+    requires turning { IsTurning task.now state.now reading.now bases.now shared.now turning.old }
+    ensures turning { IsTurning task.now state.now reading.now bases.now shared.now turning.new }
+    ensures fewer { (u : Substitution)
+        → IsCoveredUnder task.now state.now reading.now bases.now turning.new u
+        → IsCoveredUnder task.now state.now reading.now bases.now turning.old u }
+    ensures drawn { AreDrawnFrom task.now
+        (IsCoveredUnder task.now state.now reading.now bases.now turning.old)
+        (IsCoveredUnder task.now state.now reading.now bases.now turning.new) result }
+{
+    let _shared = shared;
+    task.recall();
+    tables_are_small();
+    'choices: loop {
+        let numbers = match turning.wheels.current() {
+            None => return Ok(Drawn::Nothing),
+            Some(numbers) => numbers,
+        };
+        let drawn = draw(
+            task.alloc,
+            task.sig,
+            task.problem,
+            &task.table,
+            state,
+            reading,
+            bases,
+            turning.tags.as_slice(),
+            numbers,
+            task.variables.as_slice(),
+            task.first,
+            task.size,
+        )?;
+        match drawn {
+            Drawn::Nothing => turning.wheels.advance(),
+            Drawn::TooLarge(list) => return Ok(Drawn::TooLarge(list)),
+            Drawn::Unifier(g) => {
+                turning.wheels.advance();
+                return Ok(Drawn::Unifier(g));
+            }
+        }
+    }
+}
+
+// The next unifier under the current tags, if there are any.
+fn next_of_current(task: &Task, state: &State, opened: &mut Opened) -> Result<Drawn, NoMemory>
+    requires { IsOpened task.now state.now opened.old }
+    ensures opened { IsOpened task.now state.now opened.new }
+    ensures same { IsSameButCurrent opened.old opened.new }
+    ensures fewer { (u : Substitution) → IsCoveredNow task.now state.now opened.new u
+        → IsCoveredNow task.now state.now opened.old u }
+    ensures drawn { AreDrawnFrom task.now (IsCoveredNow task.now state.now opened.old)
+        (IsCoveredNow task.now state.now opened.new) result }
+{
+    match &mut opened.turning {
+        None => Ok(Drawn::Nothing),
+        Some(turning) => {
+            let drawn = next_of_turning(
+                task,
+                state,
+                &opened.reading,
+                opened.bases.as_slice(),
+                opened.shared.as_slice(),
+                turning,
+            )?;
+            Ok(drawn)
+        }
+    }
+}
+
+// Goes on to the next tags, and answers whether there are any.
+fn turn(task: &Task, state: &State, opened: &mut Opened) -> Result<bool, NoMemory>
+    requires opened { IsOpened task.now state.now opened.old }
+    ensures turned { IfOk result (IsTurned task.now state.now opened.old opened.new) }
+    ensures no_memory { OnErr result (opened.new ≡ opened.old) }
+{
+    task.recall();
+    listed_choices_are_possible();
+    let options = match opened.tags.current() {
+        None => return Ok(false),
+        Some(options) => options,
+    };
+    let tags = tags_of(
+        task.alloc,
+        task.table.nodes().len(),
+        opened.shared.as_slice(),
+        options,
+    )?;
+    let wheels = wheels(
+        task.alloc,
+        task.sig,
+        &task.table,
+        state,
+        &opened.reading,
+        opened.bases.as_slice(),
+        tags.as_slice(),
+    )?;
+    opened.tags.advance();
+    opened.turning = Some(Turning {
+        tags: Seq::from_vec(tags),
+        wheels,
+    });
+    Ok(true)
+}
+
+// The next unifier of an open frame.
+fn next_of_frame(task: &Task, state: &State, opened: &mut Opened) -> Result<Drawn, NoMemory>
+    requires opened { IsOpened task.now state.now opened.old }
+    ensures opened { IsOpened task.now state.now opened.new }
+    ensures fewer { (u : Substitution) → IsCoveredToCome task.now state.now opened.new u
+        → IsCoveredToCome task.now state.now opened.old u }
+    ensures drawn { AreDrawnFrom task.now (IsCoveredToCome task.now state.now opened.old)
+        (IsCoveredToCome task.now state.now opened.new) result }
+{
+    'tags: loop {
+        match next_of_current(task, state, opened)? {
+            Drawn::Nothing => {}
+            Drawn::TooLarge(list) => return Ok(Drawn::TooLarge(list)),
+            Drawn::Unifier(g) => return Ok(Drawn::Unifier(g)),
+        }
+        if !turn(task, state, opened)? {
+            return Ok(Drawn::Nothing);
+        }
+    }
+}
+
+// The next unifier of the frame that is open, if one is.
+pub(crate) fn next_in(task: &Task, frame: &mut Option<Frame>) -> Result<Drawn, NoMemory>
+    requires opened { IsOpenedAt task.now frame.old }
+    ensures opened { IsOpenedAt task.now frame.new }
+    ensures fewer { (u : Substitution) → IsCoveredAt task.now frame.new u → IsCoveredAt task.now frame.old u }
+    ensures drawn { AreDrawnFrom task.now (IsCoveredAt task.now frame.old)
+        (IsCoveredAt task.now frame.new) result }
+{
+    match frame {
+        None => Ok(Drawn::Nothing),
+        Some(w) => {
+            let drawn = next_of_frame(task, &w.state, &mut w.opened)?;
+            Ok(drawn)
+        }
+    }
+}

@@ -1,0 +1,4 @@
+-- The lemmas of the crate.
+mod Agreeing
+mod Possible
+mod Given

@@ -1,0 +1,7 @@
+//! What a choice at a frame gives: nothing, bindings that are too large, or a unifier on kinds.
+#![tactic(auto)]
+
+mod drawing;
+mod unfolding;
+
+pub use drawing::{Drawn, draw};
