@@ -4,3 +4,6 @@ mod Current
 mod Turned
 mod Walk
 mod Trees
+mod Ahead
+mod OneKind
+mod Opening

@@ -2,7 +2,7 @@
 use Rattle.std.proofs.Common.{◌≡◌, ℕ, zero, suc, ◌<◌, List, [], ◌∷◌, ◌++◌, length, get_or, refl, sym, ap, ◌∙◌, subst, inl, inr, arith, All, Contains, Option, Some, None}
 use Rattle.std.specs.Prelude.{◌⊎◌, ◌↔◌, MatchOption, IfSome}
 use Rattle.std.proofs.lemmas.List.{length_push, length-append, get_or_append_left}
-use Rattle.std.proofs.lemmas.List.Elements.{Contains-append_cases, Contains-append_left, Contains-append_right}
+use Rattle.std.proofs.lemmas.List.Elements.{All-contains, Contains-push, Contains-append_cases, Contains-append_left, Contains-append_right}
 use Rattle.fvn_base.proofs.Membership.{contains_here, contains_cases, contains_none}
 use Rattle.fvn_terms.specs.Substitution.{Substitution}
 use Rattle.fvn_flat.specs.Solving.{problem_of}
@@ -87,6 +87,10 @@ closed_before k before after s e closed i d l =
     let all = subst (AreClosed k.declarations k.table) e closed in
     let n = length_push after s in
     subst (λ x. IsClosed k.declarations k.table x) (get_or_append_left after (s ∷ []) d i l) (all i d (omega (arith, l, n)))
+
+-- so is the last one
+pub closed_last : (k : Combining) (states below : List State) (s : State) → states ≡ below ++ s ∷ [] → AreClosed k.declarations k.table states → IsClosed k.declarations k.table s
+closed_last k states below s e closed = All-contains (IsClosed k.declarations k.table) (below ++ s ∷ []) s (subst (AreClosed k.declarations k.table) e closed) (Contains-push below s)
 
 module _ (k : Combining) (before after : List State) (looked : Looked) (l : IsLookedAtLast k before looked) where
   -- what is taken out is what was looked at

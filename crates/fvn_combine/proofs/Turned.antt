@@ -51,15 +51,12 @@ module _ (k : Combining) (is : IsCombining k) (possible : ListedChoicesArePossib
   to_come : (u : Substitution) → IsCoveredLater k s o u → IsCoveredToCome k s turned_frame u
   to_come u h = elim ((taken h.options).0 h.pending) [
     | inl e ↦
-        let same = same_choice h.tags h.numbers (subst (λ n. AreTags o.shared n h.tags) (Some-injective (sym e ∙ now)) h.are_tags) in
-        let covered : IsCoveredBy k s o.reading o.bases tags h.numbers u = subst (λ (c : Choice). IsCovering k.declarations (problem_of k.given) k.table s (systems_of o.reading o.bases) u c) same h.covered in
+        let covered = h.covered tags (subst (λ n. AreTags o.shared n tags) (Some-injective (sym now ∙ e)) are) in
         let valid = (possible k.declarations is.good.fits (problem_of k.given) is.is_given.kinds k.table is.well_made is.table_of (class_of s) o.reading opened.reading o.bases opened.bases o.shared opened.shared options tags are wheels.wheels asked h.numbers h.as_many).0 covered.possible in
         inl (record { numbers = h.numbers; pending = all h.numbers valid.0; covered = covered })
     | inr p ↦ inr (record {
       options = h.options;
       pending = p;
-      tags = h.tags;
-      are_tags = h.are_tags;
       numbers = h.numbers;
       as_many = h.as_many;
       covered = h.covered;
@@ -70,17 +67,13 @@ module _ (k : Combining) (is : IsCombining k) (possible : ListedChoicesArePossib
   was_to_come u (inl h) = record {
     options = options;
     pending = (taken options).1 (inl now);
-    tags = tags;
-    are_tags = are;
     numbers = h.numbers;
     as_many = AllZip-long IsChoice wheels.wheels h.numbers h.pending.0 ∙ asked.as_many;
-    covered = h.covered;
+    covered = λ others a. subst (λ (c : Choice). IsCovering k.declarations (problem_of k.given) k.table s (systems_of o.reading o.bases) u c) (sym (same_choice others h.numbers a)) h.covered;
   }
   was_to_come u (inr h) = record {
     options = h.options;
     pending = (taken h.options).1 (inr h.pending);
-    tags = h.tags;
-    are_tags = h.are_tags;
     numbers = h.numbers;
     as_many = h.as_many;
     covered = h.covered;

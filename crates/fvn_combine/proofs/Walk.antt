@@ -17,8 +17,6 @@ module _ (k : Combining) (s : State) where
   later_under o current u h = record {
     options = h.options;
     pending = h.pending;
-    tags = h.tags;
-    are_tags = h.are_tags;
     numbers = h.numbers;
     as_many = h.as_many;
     covered = h.covered;
@@ -58,7 +56,10 @@ module _ (k : Combining) (s : State) where
 pub drawn_beside : (k : Combining) (Before After Beside : Substitution → Type 0) (r : Drawn) → IsDrawnFrom k Before After r → IsDrawnFrom k (λ u. Beside u × Before u) (λ u. Beside u × After u) r
 drawn_beside k Before After Beside Nothing h = λ u b. h u b.1
 drawn_beside k Before After Beside (TooLarge list) h = (h.0, λ u b. (b.0, h.1 u b.1))
-drawn_beside k Before After Beside (Unifier g) h = (h.0, λ u b. elim (h.1 u b.1) [
-  | inl q ↦ inl q
-  | inr a ↦ inr (b.0, a)
-])
+drawn_beside k Before After Beside (Unifier g) h = (
+  h.0,
+  λ u b. elim (h.1 u b.1) [
+    | inl q ↦ inl q
+    | inr a ↦ inr (b.0, a)
+  ],
+)

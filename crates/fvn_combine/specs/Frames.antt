@@ -50,15 +50,13 @@ module _ (k : Combining) (s : State) where
   abbrev pub IsCoveredNow : Opened → Substitution → Type 0
   IsCoveredNow o u = IsCoveredByCurrent o.reading o.bases o.turning u
 
-  -- numbers under tags that are still to come cover u
+  -- numbers under tags whose options are still to come cover u
   pub record IsCoveredLater (o : Opened) (u : Substitution) : Type 0 where
     pub options : List ℕ
     pub pending : PendingTags o.tags options
-    pub tags : List (Option OpId)
-    pub are_tags : AreTags o.shared options tags
     pub numbers : List ℕ
     pub as_many : length numbers ≡ length o.reading.sums
-    pub covered : IsCoveredBy o.reading o.bases tags numbers u
+    pub covered : (tags : List (Option OpId)) → AreTags o.shared options tags → IsCoveredBy o.reading o.bases tags numbers u
 
   -- a choice of the frame that is still to come covers u
   abbrev pub IsCoveredToCome : Opened → Substitution → Type 0

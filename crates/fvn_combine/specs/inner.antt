@@ -1,3 +1,4 @@
 -- What mirrors the code.
 pub mod Found
 pub mod Parts
+pub mod Alike

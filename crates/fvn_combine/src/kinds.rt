@@ -1,23 +1,33 @@
 //! Whether the classes of a state are of one kind each.
 ghost use Rattle.std.specs.Prelude.{◌≡◌, ◌↔◌, ◌<◌, length, IsTrue};
-ghost use Rattle.fvn_nodes.specs.States.{IsNaming, class_of};
+ghost use Rattle.fvn_nodes.specs.States.{IsClosed, class_of};
 ghost use Rattle.fvn_plans.specs.Plans.{AreOfOneKind};
+ghost use Rattle.fvn_combine.specs.inner.Alike.{IsOfItsKind};
 
 use crate::task::Task;
 use fvn_binding::node_kind;
 use fvn_nodes::State;
 
-// Whether nodes of one class have one kind.
+// Whether the node that names the class of node i is of its kind.
+fn is_of_its_kind(task: &Task, state: &State, i: usize) -> bool
+    requires closed { IsClosed task.now.declarations task.now.table state.now }
+    requires within { i < length task.now.table.nodes }
+    ensures { IsTrue result ↔ IsOfItsKind task.now.declarations task.now.table (class_of state.now) i }
+{
+    task.recall();
+    let own = node_kind(task.sig, &task.table, i);
+    let named = node_kind(task.sig, &task.table, state.class_of(i));
+    own == named
+}
+
+// Whether nodes of one class are of one kind.
 pub(crate) fn are_of_one_kind(task: &Task, state: &State) -> bool
-    requires whole { length state.now.names ≡ length task.now.table.nodes }
-    requires naming { IsNaming state.now }
+    requires { IsClosed task.now.declarations task.now.table state.now }
     ensures { IsTrue result ↔ AreOfOneKind task.now.declarations task.now.table (class_of state.now) }
 {
     task.recall();
     for i in 0..task.table.nodes().len() {
-        let own = node_kind(task.sig, &task.table, i);
-        let named = node_kind(task.sig, &task.table, state.class_of(i));
-        if own != named {
+        if !is_of_its_kind(task, state, i) {
             return false;
         }
     }

@@ -13,7 +13,7 @@ use fvn_frames::{Reading, question, read};
 use fvn_lindio::System;
 use fvn_nodes::{State, Tree};
 use fvn_obeying::{frames_cover, readings_tell};
-use fvn_openings::{OpenFault, bases, refusals_are_causes};
+use fvn_openings::{OpenFault, bases, bases_make_systems, refusals_are_causes};
 use fvn_plans::classes_have_one_kind;
 use fvn_sums::{tables_are_small, tables_hold_arguments};
 use fvn_terms::{NoMemory, OpId};
@@ -41,6 +41,7 @@ fn look_at_frame(task: &Task, state: &State, reading: Reading) -> Result<Looked,
 {
     task.recall();
     refusals_are_causes();
+    bases_make_systems();
     classes_have_one_kind();
     frames_cover();
     readings_tell();

@@ -18,6 +18,7 @@ use fvn_frames::Reading;
 use fvn_lindio::Solution;
 use fvn_nodes::State;
 use fvn_openings::{SharedClass, covering_choices_are_listed, option_counts, shared};
+use fvn_sums::tables_are_small;
 use fvn_terms::{NoMemory, OpId};
 use fvn_wheels::{Tags, Wheels};
 
@@ -63,6 +64,7 @@ pub(crate) fn open(
 {
     task.recall();
     covering_choices_are_listed();
+    tables_are_small();
     let classes = shared(task.alloc, task.sig, &task.table, state, &reading)?;
     let counts = option_counts(task.alloc, classes.as_slice())?;
     let tags = Tags::new(task.alloc, counts)?;

@@ -1,6 +1,8 @@
 -- The table holds arguments and is small, and the last state is closed.
 use Rattle.std.proofs.Common.{subst, sym, arith}
-use Rattle.std.proofs.lemmas.List.Elements.{Contains-push}
+use Rattle.fvn_nodes.specs.States.{IsClosed}
+use Rattle.fvn_combine.specs.Tasks.{Combining}
+use Rattle.fvn_combine.proofs.Trees.{closed_last}
 use Rattle.fvn_flat.specs.Solving.{problem_of}
 use Rattle.fvn_combine.proofs.looking.look.Goals as goal
 
@@ -12,3 +14,8 @@ read-requires-clause-few c =
     let n = c.tables_are_small.ensures c.task.inside.sig.now c.task.inside.problem.now.pairs c.task.inside.table c.task.invariant.table_of in
     let m = c.task.invariant.small in
     omega (arith, n, m)
+
+pub question-requires-clause-closed : goal.question-requires-clause-closed
+question-requires-clause-closed c =
+    subst (λ (k : Combining). IsClosed k.declarations k.table c.in-Some.state.now) (sym c.task.view_is)
+    (closed_last c.args.task.now c.args.tree.now c.in-Some.ensures.0 c.in-Some.state.now c.in-Some.ensures.1 c.requires)

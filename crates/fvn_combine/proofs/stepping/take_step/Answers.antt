@@ -12,7 +12,7 @@ returns-in_ok-ask-in-Open-clause-stepped c = (
   c.in_ok-ask-in-Open.ensures.falls,
   tt,
   after_asking c.args.task.now c.recall.ensures c.unifiers_partition.ensures c.args.tree.now c.ask.new.self
-  (subst (λ (k : Combining). IsAsked k.declarations k.table c.args.tree.now c.ask.new.self) c.task.view_is c.in_ok-ask-in-Open.ensures.asked),
+      (subst (λ (k : Combining). IsAsked k.declarations k.table c.args.tree.now c.ask.new.self) c.task.view_is c.in_ok-ask-in-Open.ensures.asked),
 )
 
 pub returns-in-Passed-clause-closed : goal.returns-in-Passed-clause-closed

@@ -50,8 +50,7 @@ returns-in-Unifier-clause-drawn c =
     let b = c.args.bases.now in
     let tags = c.choices.turning.tags in
     let drawn = subst (λ (k : Combining). IsDrawn k.declarations k.given k.first k.size k.table s (systems_of r b) (choice_of r tags c.in-Some.numbers.now) c.in_ok-drawn.drawn) c.task.view_is c.in_ok-drawn.ensures in
-    let given = subst (IsDrawn k.declarations k.given k.first k.size k.table s (systems_of r b) (choice_of r tags c.in-Some.numbers.now)) c.in-Unifier.is drawn in
-    (
+    let given = subst (IsDrawn k.declarations k.given k.first k.size k.table s (systems_of r b) (choice_of r tags c.in-Some.numbers.now)) c.in-Unifier.is drawn in (
       given.0,
       λ u h. elim (passed_or_to_come k s r b tags c.choices.turning.wheels c.advance-in-Unifier.new.self c.advance-in-Unifier.ensures.taken c.in-Some.numbers.now c.in-Some.ensures.value u (c.choices.invariant.kept u h)) [
         | inl e ↦ inl (given.1 u e)

@@ -1,0 +1,82 @@
+-- A frame that is opened: all that its state admits is covered by a choice that is to come.
+use Rattle.std.proofs.Common.{◌≡◌, ℕ, ◌<◌, ◌≤◌, List, length, sym, subst, inr, arith, All, None}
+use Rattle.std.specs.List.{AllZip}
+use Rattle.fvn_terms.specs.declared.plain.OpId.{OpId}
+use Rattle.fvn_terms.specs.Substitution.{Substitution}
+use Rattle.fvn_flat.specs.Solving.{problem_of}
+use Rattle.fvn_lindio.specs.declared.system.Solution.{Solution}
+use Rattle.fvn_nodes.specs.States.{class_of}
+use Rattle.fvn_nodes.specs.declared.state.State.{State}
+use Rattle.fvn_sums.specs.Laws.{TablesAreSmall}
+use Rattle.fvn_frames.specs.Frames.{IsFrame}
+use Rattle.fvn_frames.specs.Readings.{IsReading}
+use Rattle.fvn_frames.specs.declared.reading.Reading.{Reading}
+use Rattle.fvn_wheels.specs.Tags.{Tagging, IsOption, PendingTags}
+use Rattle.fvn_plans.specs.Choosing.{Choice}
+use Rattle.fvn_plans.specs.Plans.{AreOfOneKind}
+use Rattle.fvn_asking.specs.Listed.{systems_of}
+use Rattle.fvn_obeying.specs.CoveringChoices.{IsCovering}
+use Rattle.fvn_obeying.specs.Laws.{FramesCover, ReadingsTell}
+use Rattle.fvn_openings.specs.Bases.{AreBases}
+use Rattle.fvn_openings.specs.Laws.{BasesMakeSystems, CoveringChoicesAreListed}
+use Rattle.fvn_openings.specs.Sharing.{AreSharedClasses}
+use Rattle.fvn_openings.specs.Tags.{tag_counts}
+use Rattle.fvn_openings.specs.declared.sharing.SharedClass.{SharedClass}
+use Rattle.fvn_binding.specs.Ready.{IsReady}
+use Rattle.fvn_combine.specs.Tasks.{Combining, IsCombining}
+use Rattle.fvn_combine.specs.Frames.{IsOpened, IsCoveredToCome}
+use Rattle.fvn_combine.specs.declared.opened.Opened.{Opened}
+use Rattle.fvn_combine.specs.inner.Found.{IsAdmittedBy}
+use Rattle.fvn_combine.proofs.Room.{room}
+
+module _ (k : Combining) (is : IsCombining k) (s : State) where
+  -- operators that use a class are few
+  pub few_users : TablesAreSmall → (r : Reading) → IsReading k.declarations k.table (class_of s) r → (shared : List SharedClass) → All (λ c. length c.users ≤ length r.sums) shared → All (λ c. length c.users < 4294967295) shared
+  few_users small r reading shared few i d l =
+      let a = few i d l in
+      let b = room k is small s r reading in
+      omega (arith, a, b)
+
+  -- what is asked of a state that is a frame of one kind each
+  pub is_ready : IsFrame k.declarations k.table s → AreOfOneKind k.declarations k.table (class_of s) → IsReady k.declarations k.given k.first k.table s
+  is_ready frame kinds = record {
+    is_given = is.is_given;
+    table = is.table_of;
+    closed = frame.closed;
+    partition = frame.partition;
+    kinds = kinds;
+  }
+
+  module _ (r : Reading) (bases : List (List Solution)) (shared : List SharedClass) (tags : Tagging) (ready : IsReady k.declarations k.given k.first k.table s) (reading : IsReading k.declarations k.table (class_of s) r) (are_shared : AreSharedClasses k.declarations k.table (class_of s) shared) where
+    abbrev opened_frame : Opened
+    opened_frame = record { reading = r; bases = bases; shared = shared; tags = tags; turning = None }
+
+    pub is_opened : IsFrame k.declarations k.table s → AreBases r.sums bases → tags.counts ≡ tag_counts shared → IsOpened k s opened_frame
+    is_opened frame are counts = record {
+      ready = ready;
+      frame = frame;
+      reading = reading;
+      bases = are;
+      shared = are_shared;
+      counts = counts;
+      turning = λ v e. cc;
+    }
+
+    pub all_to_come : CoveringChoicesAreListed → tags.counts ≡ tag_counts shared → ((options : List ℕ) → AllZip IsOption tags.counts options → PendingTags tags options) → (u : Substitution) (c : Choice) → IsCovering k.declarations (problem_of k.given) k.table s (systems_of r bases) u c → IsCoveredToCome k s opened_frame u
+    all_to_come law counts pending u c covering =
+        let l = law k.declarations (problem_of k.given) k.table is.well_made s ready.closed r reading shared are_shared (systems_of r bases) u c covering in
+        inr (record {
+          options = l.0;
+          pending = pending l.0 (subst (λ n. AllZip IsOption n l.0) (sym counts) l.2);
+          numbers = l.1;
+          as_many = l.3;
+          covered = l.4;
+        })
+
+  -- each unifier that the state admits is covered by a choice that is to come
+  pub covers_admitted : FramesCover → ReadingsTell → BasesMakeSystems → (o : Opened) → IsOpened k s o → ((u : Substitution) (c : Choice) → IsCovering k.declarations (problem_of k.given) k.table s (systems_of o.reading o.bases) u c → IsCoveredToCome k s o u) → (u : Substitution) → IsAdmittedBy k s u → IsCoveredToCome k s o u
+  covers_admitted cover tell make o opened all u h =
+      let told = tell k.declarations k.table s opened.frame.closed o.reading opened.reading in
+      let systems = make k.declarations k.table (class_of s) o.reading opened.reading o.bases opened.bases in
+      let c = cover k.declarations is.good (problem_of k.given) is.is_given.kinds k.table is.well_made is.table_of s opened.frame told (systems_of o.reading o.bases) systems u h.0 h.1 in
+      all u c.0 c.1

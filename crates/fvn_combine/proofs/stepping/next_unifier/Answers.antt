@@ -1,0 +1,73 @@
+-- What is ahead stays so until a unifier is found.
+use Rattle.std.proofs.Common.{sym, ◌∙◌, subst, inl, inr, arith}
+use Rattle.fvn_combine.specs.Search.{IsCoveredAt, IsOpenedAt}
+use Rattle.fvn_combine.specs.inner.Found.{CoversBy, IsDrawnFrom, IsStep, IsAheadAsBefore}
+use Rattle.fvn_combine.proofs.Ahead.{frame_kept, frame_gives, nothing_ahead, ahead_after}
+use Rattle.fvn_combine.proofs.stepping.next_unifier.Goals as goal
+
+pub returns-in_err-next_in-clause-found : goal.returns-in_err-next_in-clause-found
+returns-in_err-next_in-clause-found c =
+    frame_kept c.args.task.now c.args.tree.now c.args.frame.now c.steps.tree c.steps.frame c.steps.invariant.same c.next_in.new.frame c.in_err-next_in.ensures.drawn c.next_in.ensures.fewer
+
+pub returns-in-TooLarge-clause-found : goal.returns-in-TooLarge-clause-found
+returns-in-TooLarge-clause-found c =
+    let k = c.args.task.now in
+    let h = subst (IsDrawnFrom k (IsCoveredAt k c.steps.frame) (IsCoveredAt k c.next_in.new.frame)) c.in-TooLarge.is c.in_ok-next_in.ensures.drawn in
+    (h.0, frame_kept k c.args.tree.now c.args.frame.now c.steps.tree c.steps.frame c.steps.invariant.same c.next_in.new.frame h.1 c.next_in.ensures.fewer)
+
+pub returns-in-Unifier-clause-found : goal.returns-in-Unifier-clause-found
+returns-in-Unifier-clause-found c =
+    let k = c.args.task.now in
+    let h = subst (IsDrawnFrom k (IsCoveredAt k c.steps.frame) (IsCoveredAt k c.next_in.new.frame)) c.in-Unifier.is c.in_ok-next_in.ensures.drawn in
+    (h.0, frame_gives k c.args.tree.now c.args.frame.now c.steps.tree c.steps.frame c.steps.invariant.same c.next_in.new.frame (CoversBy k c.in-Unifier.g) h.1)
+
+pub returns-in_err-take_step-clause-opened : goal.returns-in_err-take_step-clause-opened
+returns-in_err-take_step-clause-opened c = subst (IsOpenedAt c.args.task.now) (sym c.in_err-take_step.ensures.no_memory.1) c.next_in.ensures.opened
+
+pub returns-in_err-take_step-clause-found : goal.returns-in_err-take_step-clause-found
+returns-in_err-take_step-clause-found c =
+    let k = c.args.task.now in
+    let none = subst (IsDrawnFrom k (IsCoveredAt k c.steps.frame) (IsCoveredAt k c.next_in.new.frame)) c.in-Nothing.is c.in_ok-next_in.ensures.drawn in
+    let e = c.in_err-take_step.ensures.no_memory in
+    subst (λ l. IsAheadAsBefore k c.args.tree.now c.args.frame.now l c.take_step.new.frame) (sym e.0)
+    (subst (IsAheadAsBefore k c.args.tree.now c.args.frame.now c.steps.tree) (sym e.1)
+    (frame_kept k c.args.tree.now c.args.frame.now c.steps.tree c.steps.frame c.steps.invariant.same c.next_in.new.frame (λ u h. absurd (none u h)) c.next_in.ensures.fewer))
+
+pub returns-in-Over-clause-opened : goal.returns-in-Over-clause-opened
+returns-in-Over-clause-opened c =
+    let s = subst (IsStep c.args.task.now c.steps.tree c.next_in.new.frame c.take_step.new.tree c.take_step.new.frame) c.in-Over.is c.in_ok-take_step.ensures.stepped in
+    subst (IsOpenedAt c.args.task.now) (sym s.1) c.next_in.ensures.opened
+
+pub returns-in-Over-clause-found : goal.returns-in-Over-clause-found
+returns-in-Over-clause-found c =
+    let k = c.args.task.now in
+    let none = subst (IsDrawnFrom k (IsCoveredAt k c.steps.frame) (IsCoveredAt k c.next_in.new.frame)) c.in-Nothing.is c.in_ok-next_in.ensures.drawn in
+    let s = subst (IsStep k c.steps.tree c.next_in.new.frame c.take_step.new.tree c.take_step.new.frame) c.in-Over.is c.in_ok-take_step.ensures.stepped in
+    nothing_ahead k c.args.tree.now c.args.frame.now c.steps.tree c.steps.frame c.steps.invariant.same none c.next_in.new.frame c.next_in.ensures.fewer s.0
+
+pub steps-preserved : goal.steps-preserved
+steps-preserved c =
+    let k = c.args.task.now in
+    let none = subst (IsDrawnFrom k (IsCoveredAt k c.steps.frame) (IsCoveredAt k c.next_in.new.frame)) c.in-Nothing.is c.in_ok-next_in.ensures.drawn in
+    let s = subst (IsStep k c.steps.tree c.next_in.new.frame c.take_step.new.tree c.take_step.new.frame) c.in-More.is c.in_ok-take_step.ensures.stepped in
+    record {
+      closed = c.take_step.ensures.closed;
+      opened = s.1;
+      same = ahead_after k c.args.tree.now c.args.frame.now c.steps.tree c.steps.frame c.steps.invariant.same none c.next_in.new.frame c.next_in.ensures.fewer c.take_step.new.tree c.take_step.new.frame s;
+    }
+
+pub returns-in-End-clause-opened : goal.returns-in-End-clause-opened
+returns-in-End-clause-opened c =
+    let s = subst (IsStep c.args.task.now c.steps.tree c.next_in.new.frame c.take_step.new.tree c.take_step.new.frame) c.in-End.is c.in_ok-take_step.ensures.stepped in
+    subst (IsOpenedAt c.args.task.now) (sym s.2) c.next_in.ensures.opened
+
+pub returns-in-End-clause-found : goal.returns-in-End-clause-found
+returns-in-End-clause-found c =
+    let k = c.args.task.now in
+    let none = subst (IsDrawnFrom k (IsCoveredAt k c.steps.frame) (IsCoveredAt k c.next_in.new.frame)) c.in-Nothing.is c.in_ok-next_in.ensures.drawn in
+    let s = subst (IsStep k c.steps.tree c.next_in.new.frame c.take_step.new.tree c.take_step.new.frame) c.in-End.is c.in_ok-take_step.ensures.stepped in (
+      s.0,
+      subst (λ l. IsAheadAsBefore k c.args.tree.now c.args.frame.now l c.take_step.new.frame) (sym s.1)
+          (subst (IsAheadAsBefore k c.args.tree.now c.args.frame.now c.steps.tree) (sym s.2)
+          (frame_kept k c.args.tree.now c.args.frame.now c.steps.tree c.steps.frame c.steps.invariant.same c.next_in.new.frame (λ u h. absurd (none u h)) c.next_in.ensures.fewer)),
+    )

@@ -1,0 +1,12 @@
+-- That the frame's state admits a unifier's partition is kept beside.
+use Rattle.fvn_nodes.specs.States.{Admits}
+use Rattle.fvn_nodes.specs.Unifiers.{kernel}
+use Rattle.fvn_combine.specs.Frames.{IsCoveredToCome}
+use Rattle.fvn_combine.proofs.Walk.{drawn_beside}
+use Rattle.fvn_combine.proofs.walking.next_in.Goals as goal
+
+pub returns-in_ok-drawn-in-Some-clause-drawn : goal.returns-in_ok-drawn-in-Some-clause-drawn
+returns-in_ok-drawn-in-Some-clause-drawn c =
+    let k = c.args.task.now in
+    let w = c.in-Some.w in
+    drawn_beside k (IsCoveredToCome k w.state w.opened) (IsCoveredToCome k w.state c.next_of_frame.new.opened) (λ u. Admits w.state (kernel k.declarations u k.table.nodes)) c.in_ok-drawn-in-Some.drawn c.in_ok-drawn-in-Some.ensures.drawn

@@ -1,0 +1,89 @@
+-- What is to come under the current tags and later, one list of tags after another.
+use Rattle.std.proofs.Common.{ap, sym, ◌∙◌, subst, inl, inr, arith}
+use Rattle.fvn_wheels.specs.Tags.{Tagging, tags_left}
+use Rattle.fvn_combine.specs.Frames.{IsCoveredNow, IsCoveredToCome}
+use Rattle.fvn_combine.specs.inner.Found.{CoversBy, IsDrawnFrom, IsTurned}
+use Rattle.fvn_combine.proofs.Walk.{to_come_was, to_come_kept, to_come_or, later_alone}
+use Rattle.fvn_combine.proofs.walking.next_of_frame.Goals as goal
+
+pub returns-in_err-next_of_current-clause-fewer : goal.returns-in_err-next_of_current-clause-fewer
+returns-in_err-next_of_current-clause-fewer c = λ u h.
+    c.tags.invariant.fewer u (to_come_was c.args.task.now c.args.state.now c.tags.opened c.next_of_current.new.opened c.next_of_current.ensures.same c.next_of_current.ensures.fewer u h)
+
+pub returns-in_err-next_of_current-clause-drawn : goal.returns-in_err-next_of_current-clause-drawn
+returns-in_err-next_of_current-clause-drawn c = λ u h.
+    to_come_kept c.args.task.now c.args.state.now c.tags.opened c.next_of_current.new.opened c.next_of_current.ensures.same c.in_err-next_of_current.ensures.drawn u (c.tags.invariant.kept u h)
+
+pub returns-in-TooLarge-clause-fewer : goal.returns-in-TooLarge-clause-fewer
+returns-in-TooLarge-clause-fewer c = λ u h.
+    c.tags.invariant.fewer u (to_come_was c.args.task.now c.args.state.now c.tags.opened c.next_of_current.new.opened c.next_of_current.ensures.same c.next_of_current.ensures.fewer u h)
+
+pub returns-in-TooLarge-clause-drawn : goal.returns-in-TooLarge-clause-drawn
+returns-in-TooLarge-clause-drawn c =
+    let k = c.args.task.now in
+    let s = c.args.state.now in
+    let old = c.tags.opened in
+    let new = c.next_of_current.new.opened in
+    let h = subst (IsDrawnFrom k (IsCoveredNow k s old) (IsCoveredNow k s new)) c.in-TooLarge.is c.in_ok-next_of_current.ensures.drawn in
+    (h.0, λ u m. to_come_kept k s old new c.next_of_current.ensures.same h.1 u (c.tags.invariant.kept u m))
+
+pub returns-in-Unifier-clause-fewer : goal.returns-in-Unifier-clause-fewer
+returns-in-Unifier-clause-fewer c = λ u h.
+    c.tags.invariant.fewer u (to_come_was c.args.task.now c.args.state.now c.tags.opened c.next_of_current.new.opened c.next_of_current.ensures.same c.next_of_current.ensures.fewer u h)
+
+pub returns-in-Unifier-clause-drawn : goal.returns-in-Unifier-clause-drawn
+returns-in-Unifier-clause-drawn c =
+    let k = c.args.task.now in
+    let s = c.args.state.now in
+    let old = c.tags.opened in
+    let new = c.next_of_current.new.opened in
+    let h = subst (IsDrawnFrom k (IsCoveredNow k s old) (IsCoveredNow k s new)) c.in-Unifier.is c.in_ok-next_of_current.ensures.drawn in
+    (h.0, λ u m. to_come_or k s old new c.next_of_current.ensures.same (CoversBy k c.in-Unifier.g) h.1 u (c.tags.invariant.kept u m))
+
+pub returns-in_err-turn-clause-fewer : goal.returns-in_err-turn-clause-fewer
+returns-in_err-turn-clause-fewer c = λ u h.
+    c.tags.invariant.fewer u (to_come_was c.args.task.now c.args.state.now c.tags.opened c.next_of_current.new.opened c.next_of_current.ensures.same c.next_of_current.ensures.fewer u
+    (subst (λ o. IsCoveredToCome c.args.task.now c.args.state.now o u) c.in_err-turn.ensures.no_memory h))
+
+pub returns-in_err-turn-clause-drawn : goal.returns-in_err-turn-clause-drawn
+returns-in_err-turn-clause-drawn c = λ u h.
+    let k = c.args.task.now in
+    let s = c.args.state.now in
+    let old = c.tags.opened in
+    let new = c.next_of_current.new.opened in
+    let none = subst (IsDrawnFrom k (IsCoveredNow k s old) (IsCoveredNow k s new)) c.in-Nothing.is c.in_ok-next_of_current.ensures.drawn in
+    subst (λ o. IsCoveredToCome k s o u) (sym c.in_err-turn.ensures.no_memory) (inr (later_alone k s old new c.next_of_current.ensures.same none u (c.tags.invariant.kept u h)))
+
+pub returns-then-not-branch-clause-drawn : goal.returns-then-not-branch-clause-drawn
+returns-then-not-branch-clause-drawn c = λ u h.
+    let k = c.args.task.now in
+    let s = c.args.state.now in
+    let old = c.tags.opened in
+    let new = c.next_of_current.new.opened in
+    let none = subst (IsDrawnFrom k (IsCoveredNow k s old) (IsCoveredNow k s new)) c.in-Nothing.is c.in_ok-next_of_current.ensures.drawn in
+    let over = subst (IsTurned k s new c.turn.new.opened) c.if-not-branch.true c.in_ok-turn.ensures.turned in
+    over.1 u (later_alone k s old new c.next_of_current.ensures.same none u (c.tags.invariant.kept u h))
+
+pub tags-preserved : goal.tags-preserved
+tags-preserved c =
+    let k = c.args.task.now in
+    let s = c.args.state.now in
+    let old = c.tags.opened in
+    let new = c.next_of_current.new.opened in
+    let none = subst (IsDrawnFrom k (IsCoveredNow k s old) (IsCoveredNow k s new)) c.in-Nothing.is c.in_ok-next_of_current.ensures.drawn in
+    let turned = subst (IsTurned k s new c.turn.new.opened) c.if-not-branch.false c.in_ok-turn.ensures.turned in
+    record {
+      opened = turned.0;
+      fewer = λ u h. c.tags.invariant.fewer u (to_come_was k s old new c.next_of_current.ensures.same c.next_of_current.ensures.fewer u (inr (turned.3 u h)));
+      kept = λ u h. turned.2 u (later_alone k s old new c.next_of_current.ensures.same none u (c.tags.invariant.kept u h));
+    }
+
+pub tags-smaller : goal.tags-smaller
+tags-smaller c =
+    let k = c.args.task.now in
+    let s = c.args.state.now in
+    let new = c.next_of_current.new.opened in
+    let turned = subst (IsTurned k s new c.turn.new.opened) c.if-not-branch.false c.in_ok-turn.ensures.turned in
+    let l = turned.1 in
+    let e = ap (λ (t : Tagging). tags_left t) c.next_of_current.ensures.same.tags in
+    omega (arith, l, e)
