@@ -17,7 +17,7 @@ fn is_of_its_kind(task: &Task, state: &State, i: usize) -> bool
     task.recall();
     let own = node_kind(task.sig, &task.table, i);
     let named = node_kind(task.sig, &task.table, state.class_of(i));
-    own == named
+    own.0 == named.0
 }
 
 // Whether nodes of one class are of one kind.

@@ -1,0 +1,24 @@
+-- The options are few, and each choice that covers a unifier is listed by options and numbers.
+use Rattle.std.proofs.Common.{◌<◌, length, sym, ap, ◌∙◌, subst, All}
+use Rattle.fvn_nodes.specs.States.{class_of}
+use Rattle.fvn_openings.specs.Sharing.{AreSharedClasses}
+use Rattle.fvn_openings.specs.Tags.{tag_counts}
+use Rattle.fvn_openings.specs.declared.sharing.SharedClass.{SharedClass}
+use Rattle.fvn_combine.specs.Tasks.{Combining}
+use Rattle.fvn_combine.proofs.Opening.{few_users, all_to_come}
+use Rattle.fvn_combine.proofs.opened.open.Goals as goal
+
+pub option_counts-requires : goal.option_counts-requires
+option_counts-requires c = record {
+  few = subst (All (λ (a : SharedClass). length a.users < 4294967295)) (sym c.as_slice.ensures.value)
+      (few_users c.args.task.now c.recall.ensures c.args.state.now c.tables_are_small.ensures c.args.reading c.requires.reading c.in_ok-classes.classes.items c.in_ok-classes.ensures.few);
+}
+
+pub returns-clause-all : goal.returns-clause-all
+returns-clause-all c =
+    let classes = c.in_ok-classes.classes.items in
+    let exact = subst (λ (k : Combining). AreSharedClasses k.declarations k.table (class_of c.args.state.now) classes) c.task.view_is c.in_ok-classes.ensures.exact in
+    let counts = c.in_ok-tags.ensures.counts ∙ c.in_ok-counts.ensures ∙ ap tag_counts (c.as_slice.ensures.value ∙ sym c.from_vec-2.ensures) in
+    all_to_come c.args.task.now c.recall.ensures c.args.state.now c.args.reading c.from_vec.result c.from_vec-2.result c.in_ok-tags.tags c.requires.ready c.requires.reading
+    (subst (AreSharedClasses c.args.task.now.declarations c.args.task.now.table (class_of c.args.state.now)) (sym c.from_vec-2.ensures) exact)
+    c.covering_choices_are_listed.ensures counts c.in_ok-tags.ensures.all_pending
