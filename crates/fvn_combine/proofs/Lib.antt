@@ -7,3 +7,4 @@ mod Trees
 mod Ahead
 mod OneKind
 mod Opening
+mod Ends

@@ -59,7 +59,7 @@ module _ (k : Combining) (is : IsCombining k) (small : TablesAreSmall) where
       placed f m =
           let sum = (reading.operators.exact f).0 m in
           let c = filter_contains (λ i. is_headed f (slice_get t.nodes i)) t.subterms sum.sum sum.listed in
-          (c.0.0, c.0.1, heads_at f sum.sum c.0 c.1)
+          (c.0.0, (c.0.1, heads_at f sum.sum c.0 c.1))
 
   few_units : length t.units ≤ length t.subterms
   few_units = length-le_numbered (λ p j. HeadsAt p.0 j) (length t.subterms) t.units placed (λ i j d l m n a b. is.table_of.units_once i j d l m (one_head (get_or t.units i d).0 (get_or t.units j d).0 (slice_get t.nodes (get_or t.subterms n 0)) a b))
@@ -72,7 +72,7 @@ module _ (k : Combining) (is : IsCombining k) (small : TablesAreSmall) where
           let found = map_contains (term_at t.nodes) t.subterms u listed in
           let within = All-contains (λ i. i < length t.nodes) t.subterms found.0 is.well_made.subterms found.1.0 in
           let over = application_at t.nodes is.well_made.ordered found.0 p.0 unit.heads.arguments within found.1.1 in
-          (found.1.0.0, found.1.0.1, heads_at p.0 found.0 found.1.0 (ap (is_headed p.0) over.is ∙ same_op_itself p.0))
+          (found.1.0.0, (found.1.0.1, heads_at p.0 found.0 found.1.0 (ap (is_headed p.0) over.is ∙ same_op_itself p.0)))
 
   few_nodes : length t.nodes ≤ length t.subterms + length t.units
   few_nodes =

@@ -6,7 +6,7 @@ ghost use Rattle.fvn_flat.specs.Solving.{IsGiven, problem_of, symbols_of_pairs};
 ghost use Rattle.fvn_flat.specs.SolvedLists.{IsKindUnifier};
 ghost use Rattle.fvn_combine.specs.Advancing.{IsOf, IsToCome, IsAdvanced, IsAgain};
 ghost use Rattle.fvn_combine.specs.Search.{IsSearch};
-ghost use Rattle.fvn_combine.specs.inner.Parts.{search_of};
+ghost use Rattle.fvn_combine.specs.inner.Parts.{search_by, search_of};
 ghost use Rattle.fvn_combine.specs.declared.ending.Ended.{Ended as Cause};
 
 use crate::ending::{CombineEnd, Ended, told};
@@ -54,6 +54,30 @@ impl<'a> Model for Combiner<'a> {
     ghost invariant = { λ c. IsSearch (search_of c.parts) };
 }
 
+// The next unifier of a search that has not ended, part by part.
+fn next_of_parts(
+    task: &Task,
+    tree: &mut Tree,
+    frame: &mut Option<Frame>,
+    ended: &mut Option<Ended>,
+) -> Result<Option<Subst>, CombineEnd>
+    requires search { IsSearch (search_by task.now tree.old frame.old ended.old) }
+    requires running { ended.old ≡ None }
+    ensures search { IsSearch (search_by task.now tree.new frame.new ended.new) }
+    ensures advanced { IsAdvanced (search_by task.now tree.old frame.old ended.old)
+        (search_by task.now tree.new frame.new ended.new) result }
+{
+    match next_unifier(task, tree, frame)? {
+        Found::Nothing => Ok(None),
+        Found::Ends(cause) => {
+            let end = told(task.alloc, &cause)?;
+            *ended = Some(cause);
+            Err(end)
+        }
+        Found::Given(g) => Ok(Some(g)),
+    }
+}
+
 // The next unifier of a search that has not ended.
 fn next_of(parts: &mut Parts) -> Result<Option<Subst>, CombineEnd>
     requires search { IsSearch (search_of parts.old) }
@@ -62,15 +86,12 @@ fn next_of(parts: &mut Parts) -> Result<Option<Subst>, CombineEnd>
     ensures same { parts.new.task ≡ parts.old.task }
     ensures advanced { IsAdvanced (search_of parts.old) (search_of parts.new) result }
 {
-    match next_unifier(&parts.task, &mut parts.tree, &mut parts.frame)? {
-        Found::Nothing => Ok(None),
-        Found::Ends(ended) => {
-            let end = told(parts.task.alloc, &ended)?;
-            parts.ended = Some(ended);
-            Err(end)
-        }
-        Found::Given(g) => Ok(Some(g)),
-    }
+    next_of_parts(
+        &parts.task,
+        &mut parts.tree,
+        &mut parts.frame,
+        &mut parts.ended,
+    )
 }
 
 impl<'a> Combiner<'a> {

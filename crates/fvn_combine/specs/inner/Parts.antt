@@ -1,7 +1,16 @@
 -- A search, part by part.
+use Rattle.std.specs.Prelude.{List, Option}
+use Rattle.fvn_nodes.specs.declared.state.State.{State}
+use Rattle.fvn_combine.specs.Tasks.{Combining}
 use Rattle.fvn_combine.specs.Search.{Search}
+use Rattle.fvn_combine.specs.declared.opened.Frame.{Frame}
+use Rattle.fvn_combine.specs.declared.ending.Ended.{Ended}
 use Rattle.fvn_combine.specs.declared.combiner.Parts.{Parts}
+
+-- the search with these states, this frame and this end
+abbrev pub search_by : Combining → List State → Option Frame → Option Ended → Search
+search_by k states frame ended = record { combining = k; states = states; frame = frame; ended = ended }
 
 -- the search that these are the parts of
 abbrev pub search_of : Parts → Search
-search_of p = record { combining = p.task; states = p.tree; frame = p.frame; ended = p.ended }
+search_of p = search_by p.task p.tree p.frame p.ended

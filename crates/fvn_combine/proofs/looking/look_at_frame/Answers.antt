@@ -14,18 +14,18 @@ returns-then-not-are_of_one_kind c = λ u h.
     false≢true (sym c.if-not-are_of_one_kind.true ∙ c.are_of_one_kind.ensures.1
     (c.classes_have_one_kind.ensures k.declarations is.good.fits (problem_of k.given) is.is_given.kinds k.table is.well_made is.table_of u h.0 c.args.state.now c.requires.frame.closed h.1))
 
-pub returns-in-Basis : goal.returns-in-Basis
-returns-in-Basis c =
+pub returns-in-Err-Basis : goal.returns-in-Err-Basis
+returns-in-Err-Basis c =
     let k = c.args.task.now in
     let is = c.recall.ensures in
-    let first = subst (IsOpenFault c.args.reading.sums) c.in-Basis.is c.in-Err.ensures.refused in
-    c.refusals_are_causes.ensures k.declarations k.given k.first is.is_given k.table is.well_made is.table_of (class_of c.args.state.now) c.requires.frame.partition c.args.reading c.requires.reading c.in-Basis.f c.in-Basis.system first
+    let first = subst (IsOpenFault c.args.reading.sums) c.in-Err-Basis.is c.in-Err-Basis.ensures.refused in
+    c.refusals_are_causes.ensures k.declarations k.given k.first is.is_given k.table is.well_made is.table_of (class_of c.args.state.now) c.requires.frame.partition c.args.reading c.requires.reading c.in-Err-Basis.f c.in-Err-Basis.system first
 
 pub open-requires-clause-ready : goal.open-requires-clause-ready
 open-requires-clause-ready c = is_ready c.args.task.now c.recall.ensures c.args.state.now c.requires.frame (c.are_of_one_kind.ensures.0 c.if-not-are_of_one_kind.false)
 
-pub returns-in_ok-frame-in-Ok : goal.returns-in_ok-frame-in-Ok
-returns-in_ok-frame-in-Ok c = (
+pub returns : goal.returns
+returns c = (
   c.in_ok-frame-in-Ok.ensures.opened,
   covers_admitted c.args.task.now c.recall.ensures c.args.state.now c.frames_cover.ensures c.readings_tell.ensures c.bases_make_systems.ensures c.in_ok-frame-in-Ok.frame c.in_ok-frame-in-Ok.ensures.opened c.in_ok-frame-in-Ok.ensures.all,
 )

@@ -1,13 +1,15 @@
 -- What is ahead stays so until a unifier is found.
 use Rattle.std.proofs.Common.{sym, ◌∙◌, subst, inl, inr, arith}
+use Rattle.std.proofs.lemmas.Result.{err_from_is_err_and}
 use Rattle.fvn_combine.specs.Search.{IsCoveredAt, IsOpenedAt}
-use Rattle.fvn_combine.specs.inner.Found.{CoversBy, IsDrawnFrom, IsStep, IsAheadAsBefore}
+use Rattle.fvn_combine.specs.inner.Found.{CoversBy, IsDrawnFrom, IsStep, IsAheadAsBefore, AreFound}
 use Rattle.fvn_combine.proofs.Ahead.{frame_kept, frame_gives, nothing_ahead, ahead_after}
 use Rattle.fvn_combine.proofs.stepping.next_unifier.Goals as goal
 
 pub returns-in_err-next_in-clause-found : goal.returns-in_err-next_in-clause-found
 returns-in_err-next_in-clause-found c =
-    frame_kept c.args.task.now c.args.tree.now c.args.frame.now c.steps.tree c.steps.frame c.steps.invariant.same c.next_in.new.frame c.in_err-next_in.ensures.drawn c.next_in.ensures.fewer
+    let p = err_from_is_err_and c.from_residual.result c.from_residual.ensures.1 in
+    subst (AreFound c.args.task.now c.args.tree.now c.args.frame.now c.steps.tree c.next_in.new.frame) (sym p.1) (frame_kept c.args.task.now c.args.tree.now c.args.frame.now c.steps.tree c.steps.frame c.steps.invariant.same c.next_in.new.frame c.in_err-next_in.ensures.drawn c.next_in.ensures.fewer)
 
 pub returns-in-TooLarge-clause-found : goal.returns-in-TooLarge-clause-found
 returns-in-TooLarge-clause-found c =
@@ -29,9 +31,10 @@ returns-in_err-take_step-clause-found c =
     let k = c.args.task.now in
     let none = subst (IsDrawnFrom k (IsCoveredAt k c.steps.frame) (IsCoveredAt k c.next_in.new.frame)) c.in-Nothing.is c.in_ok-next_in.ensures.drawn in
     let e = c.in_err-take_step.ensures.no_memory in
-    subst (λ l. IsAheadAsBefore k c.args.tree.now c.args.frame.now l c.take_step.new.frame) (sym e.0)
+    let p = err_from_is_err_and c.from_residual-in_err-take_step.result c.from_residual-in_err-take_step.ensures.1 in
+    subst (AreFound k c.args.tree.now c.args.frame.now c.take_step.new.tree c.take_step.new.frame) (sym p.1) (subst (λ l. IsAheadAsBefore k c.args.tree.now c.args.frame.now l c.take_step.new.frame) (sym e.0)
     (subst (IsAheadAsBefore k c.args.tree.now c.args.frame.now c.steps.tree) (sym e.1)
-    (frame_kept k c.args.tree.now c.args.frame.now c.steps.tree c.steps.frame c.steps.invariant.same c.next_in.new.frame (λ u h. absurd (none u h)) c.next_in.ensures.fewer))
+    (frame_kept k c.args.tree.now c.args.frame.now c.steps.tree c.steps.frame c.steps.invariant.same c.next_in.new.frame (λ u h. absurd (none u h)) c.next_in.ensures.fewer)))
 
 pub returns-in-Over-clause-opened : goal.returns-in-Over-clause-opened
 returns-in-Over-clause-opened c =

@@ -1,7 +1,10 @@
 -- That the frame's state admits a unifier's partition is kept beside.
+use Rattle.std.proofs.Common.{sym, subst, Some}
 use Rattle.fvn_nodes.specs.States.{Admits}
 use Rattle.fvn_nodes.specs.Unifiers.{kernel}
 use Rattle.fvn_combine.specs.Frames.{IsCoveredToCome}
+use Rattle.fvn_combine.specs.Search.{IsCoveredAt}
+use Rattle.fvn_combine.specs.inner.Found.{IsDrawnFrom}
 use Rattle.fvn_combine.proofs.Walk.{drawn_beside}
 use Rattle.fvn_combine.proofs.walking.next_in.Goals as goal
 
@@ -9,4 +12,6 @@ pub returns-in_ok-drawn-in-Some-clause-drawn : goal.returns-in_ok-drawn-in-Some-
 returns-in_ok-drawn-in-Some-clause-drawn c =
     let k = c.args.task.now in
     let w = c.in-Some.w in
-    drawn_beside k (IsCoveredToCome k w.state w.opened) (IsCoveredToCome k w.state c.next_of_frame.new.opened) (λ u. Admits w.state (kernel k.declarations u k.table.nodes)) c.in_ok-drawn-in-Some.drawn c.in_ok-drawn-in-Some.ensures.drawn
+    let after = c.next_of_frame.new.opened in
+    subst (λ frame. IsDrawnFrom k (IsCoveredAt k frame) (IsCoveredAt k (Some (record { state = w.state; opened = after }))) c.in_ok-drawn-in-Some.drawn) (sym c.in-Some.is)
+    (drawn_beside k (IsCoveredToCome k w.state w.opened) (IsCoveredToCome k w.state after) (λ u. Admits w.state (kernel k.declarations u k.table.nodes)) c.in_ok-drawn-in-Some.drawn c.in_ok-drawn-in-Some.ensures.drawn)

@@ -1,8 +1,9 @@
 -- What is to come under the current tags and later, one list of tags after another.
 use Rattle.std.proofs.Common.{ap, sym, ◌∙◌, subst, inl, inr, arith}
+use Rattle.std.proofs.lemmas.Result.{err_from_is_err_and}
 use Rattle.fvn_wheels.specs.Tags.{Tagging, tags_left}
 use Rattle.fvn_combine.specs.Frames.{IsCoveredNow, IsCoveredToCome}
-use Rattle.fvn_combine.specs.inner.Found.{CoversBy, IsDrawnFrom, IsTurned}
+use Rattle.fvn_combine.specs.inner.Found.{CoversBy, IsDrawnFrom, AreDrawnFrom, IsTurned}
 use Rattle.fvn_combine.proofs.Walk.{to_come_was, to_come_kept, to_come_or, later_alone}
 use Rattle.fvn_combine.proofs.walking.next_of_frame.Goals as goal
 
@@ -11,8 +12,10 @@ returns-in_err-next_of_current-clause-fewer c = λ u h.
     c.tags.invariant.fewer u (to_come_was c.args.task.now c.args.state.now c.tags.opened c.next_of_current.new.opened c.next_of_current.ensures.same c.next_of_current.ensures.fewer u h)
 
 pub returns-in_err-next_of_current-clause-drawn : goal.returns-in_err-next_of_current-clause-drawn
-returns-in_err-next_of_current-clause-drawn c = λ u h.
-    to_come_kept c.args.task.now c.args.state.now c.tags.opened c.next_of_current.new.opened c.next_of_current.ensures.same c.in_err-next_of_current.ensures.drawn u (c.tags.invariant.kept u h)
+returns-in_err-next_of_current-clause-drawn c =
+    let p = err_from_is_err_and c.from_residual.result c.from_residual.ensures.1 in
+    subst (AreDrawnFrom c.args.task.now (IsCoveredToCome c.args.task.now c.args.state.now c.args.opened.now) (IsCoveredToCome c.args.task.now c.args.state.now c.next_of_current.new.opened)) (sym p.1) (λ u h.
+    to_come_kept c.args.task.now c.args.state.now c.tags.opened c.next_of_current.new.opened c.next_of_current.ensures.same c.in_err-next_of_current.ensures.drawn u (c.tags.invariant.kept u h))
 
 pub returns-in-TooLarge-clause-fewer : goal.returns-in-TooLarge-clause-fewer
 returns-in-TooLarge-clause-fewer c = λ u h.
@@ -46,13 +49,14 @@ returns-in_err-turn-clause-fewer c = λ u h.
     (subst (λ o. IsCoveredToCome c.args.task.now c.args.state.now o u) c.in_err-turn.ensures.no_memory h))
 
 pub returns-in_err-turn-clause-drawn : goal.returns-in_err-turn-clause-drawn
-returns-in_err-turn-clause-drawn c = λ u h.
+returns-in_err-turn-clause-drawn c =
     let k = c.args.task.now in
     let s = c.args.state.now in
     let old = c.tags.opened in
     let new = c.next_of_current.new.opened in
     let none = subst (IsDrawnFrom k (IsCoveredNow k s old) (IsCoveredNow k s new)) c.in-Nothing.is c.in_ok-next_of_current.ensures.drawn in
-    subst (λ o. IsCoveredToCome k s o u) (sym c.in_err-turn.ensures.no_memory) (inr (later_alone k s old new c.next_of_current.ensures.same none u (c.tags.invariant.kept u h)))
+    let p = err_from_is_err_and c.from_residual-in_err-turn.result c.from_residual-in_err-turn.ensures.1 in
+    subst (AreDrawnFrom k (IsCoveredToCome k s c.args.opened.now) (IsCoveredToCome k s c.turn.new.opened)) (sym p.1) (λ u h. subst (λ o. IsCoveredToCome k s o u) (sym c.in_err-turn.ensures.no_memory) (inr (later_alone k s old new c.next_of_current.ensures.same none u (c.tags.invariant.kept u h))))
 
 pub returns-then-not-branch-clause-drawn : goal.returns-then-not-branch-clause-drawn
 returns-then-not-branch-clause-drawn c = λ u h.

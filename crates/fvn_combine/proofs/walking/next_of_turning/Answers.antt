@@ -1,5 +1,5 @@
 -- The numbers that are passed cover nothing, or only what is given.
-use Rattle.std.proofs.Common.{sym, subst, inl, inr}
+use Rattle.std.proofs.Common.{refl, sym, subst, inl, inr}
 use Rattle.fvn_binding.specs.Ready.{AreListed}
 use Rattle.fvn_drawing.specs.Drawn.{IsDrawn}
 use Rattle.fvn_asking.specs.Listed.{tag_in, systems_of, choice_of}
@@ -10,7 +10,7 @@ use Rattle.fvn_combine.proofs.walking.next_of_turning.Goals as goal
 pub returns-in-None-clause-drawn : goal.returns-in-None-clause-drawn
 returns-in-None-clause-drawn c = λ u h.
     let now = c.choices.invariant.kept u h in
-    c.in-None.ensures.exhausted.0 c.in-None.is now.numbers now.pending
+    c.in-None.ensures.exhausted.0 refl now.numbers now.pending
 
 pub draw-requires-clause-listed : goal.draw-requires-clause-listed
 draw-requires-clause-listed c =
@@ -28,7 +28,8 @@ choices-preserved c =
     let tags = c.choices.turning.tags in
     let old = c.choices.turning.wheels in
     let new = c.advance.new.self in
-    let drawn = subst (λ (k : Combining). IsDrawn k.declarations k.given k.first k.size k.table s (systems_of r b) (choice_of r tags c.in-Some.numbers.now) c.in_ok-drawn.drawn) c.task.view_is c.in_ok-drawn.ensures in
+    let drawn = subst (λ (k : Combining). IsDrawn k.declarations k.given k.first k.size k.table s (systems_of r b) (choice_of r tags c.in-Some.numbers.now) c.in_ok-drawn.drawn) c.task.view_is
+    (subst (λ l. IsDrawn c.task.inside.sig.now c.task.inside.problem.now c.task.inside.first c.task.inside.size c.task.inside.table s (systems_of r b) (choice_of r l c.in-Some.numbers.now) c.in_ok-drawn.drawn) c.as_slice.ensures c.in_ok-drawn.ensures) in
     let none = subst (IsDrawn k.declarations k.given k.first k.size k.table s (systems_of r b) (choice_of r tags c.in-Some.numbers.now)) c.in-Nothing.is drawn in
     record {
       turning = still_turning k s r b tags old new c.advance.ensures.taken c.args.shared.now c.advance.ensures.wheels c.choices.invariant.turning;
@@ -49,7 +50,8 @@ returns-in-Unifier-clause-drawn c =
     let r = c.args.reading.now in
     let b = c.args.bases.now in
     let tags = c.choices.turning.tags in
-    let drawn = subst (λ (k : Combining). IsDrawn k.declarations k.given k.first k.size k.table s (systems_of r b) (choice_of r tags c.in-Some.numbers.now) c.in_ok-drawn.drawn) c.task.view_is c.in_ok-drawn.ensures in
+    let drawn = subst (λ (k : Combining). IsDrawn k.declarations k.given k.first k.size k.table s (systems_of r b) (choice_of r tags c.in-Some.numbers.now) c.in_ok-drawn.drawn) c.task.view_is
+    (subst (λ l. IsDrawn c.task.inside.sig.now c.task.inside.problem.now c.task.inside.first c.task.inside.size c.task.inside.table s (systems_of r b) (choice_of r l c.in-Some.numbers.now) c.in_ok-drawn.drawn) c.as_slice.ensures c.in_ok-drawn.ensures) in
     let given = subst (IsDrawn k.declarations k.given k.first k.size k.table s (systems_of r b) (choice_of r tags c.in-Some.numbers.now)) c.in-Unifier.is drawn in (
       given.0,
       λ u h. elim (passed_or_to_come k s r b tags c.choices.turning.wheels c.advance-in-Unifier.new.self c.advance-in-Unifier.ensures.taken c.in-Some.numbers.now c.in-Some.ensures.value u (c.choices.invariant.kept u h)) [

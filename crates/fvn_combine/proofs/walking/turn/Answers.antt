@@ -14,6 +14,7 @@ returns-clause-turned c =
     let wheels = c.in_ok-wheels.wheels in
     let are = subst (AreTags o.shared c.in-Some.options.now) (sym c.from_vec.ensures) (subst (λ shared. AreTags shared c.in-Some.options.now c.in_ok-tags.tags.items) c.as_slice.ensures c.in_ok-tags.ensures.exact) in
     let asked = subst (λ (k : Combining). AreWheels k.declarations k.table (class_of c.args.state.now) (tag_in c.from_vec.result) o.reading.sums o.bases wheels.wheels) c.task.view_is
-    (subst (λ l. AreWheels c.task.inside.sig.now c.task.inside.table (class_of c.args.state.now) (tag_in l) o.reading.sums o.bases wheels.wheels) (c.as_slice-3.ensures.value ∙ sym c.from_vec.ensures) c.in_ok-wheels.ensures.asked) in
+    (subst (λ l. AreWheels c.task.inside.sig.now c.task.inside.table (class_of c.args.state.now) (tag_in l) o.reading.sums o.bases wheels.wheels) (c.as_slice-3.ensures.value ∙ sym c.from_vec.ensures)
+    (subst (λ b. AreWheels c.task.inside.sig.now c.task.inside.table (class_of c.args.state.now) (tag_in c.as_slice-3.result.now) o.reading.sums b wheels.wheels) c.as_slice-2.ensures c.in_ok-wheels.ensures.asked)) in
     turned c.args.task.now c.recall.ensures c.listed_choices_are_possible.ensures c.args.state.now o c.requires.opened c.from_vec.result c.in-Some.options.now are wheels asked c.in_ok-wheels.ensures.all_pending
     c.advance.new.self c.advance.ensures.counts c.in-Some.ensures.value c.advance.ensures.taken (c.advance.ensures.falls c.in-Some.options.now c.in-Some.ensures.value)
