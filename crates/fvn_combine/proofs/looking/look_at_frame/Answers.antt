@@ -18,7 +18,7 @@ pub returns-in-Err-Basis : goal.returns-in-Err-Basis
 returns-in-Err-Basis c =
     let k = c.args.task.now in
     let is = c.recall.ensures in
-    let first = subst (IsOpenFault c.args.reading.sums) c.in-Err-Basis.is c.in-Err-Basis.ensures.refused in
+    let first = subst (IsOpenFault c.args.reading.sums) c.in-Err-Basis.field-0-is c.in-Err-Basis.ensures.refused in
     c.refusals_are_causes.ensures k.declarations k.given k.first is.is_given k.table is.well_made is.table_of (class_of c.args.state.now) c.requires.frame.partition c.args.reading c.requires.reading c.in-Err-Basis.f c.in-Err-Basis.system first
 
 pub open-requires-clause-ready : goal.open-requires-clause-ready
