@@ -1,5 +1,5 @@
 //! Bindings in an order in which no variable comes again once it was replaced.
-ghost use Rattle.std.specs.Prelude.{◌≡◌, ◌≢◌, ◌↔◌, All, AllPairs, IfOk, IsTrue, MatchOption};
+ghost use Rattle.std.specs.Prelude.{◌≢◌, ◌↔◌, All, AllPairs, IfOk, IsTrue, MatchOption};
 ghost use Rattle.fvn_terms.specs.Substitution.{Occurs};
 ghost use Rattle.fvn_forms.specs.Flat.{plain};
 ghost use Rattle.fvn_binding.specs.inner.Ordering.{

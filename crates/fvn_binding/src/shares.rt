@@ -1,5 +1,5 @@
 //! What stands for the minimal solutions that are taken.
-ghost use Rattle.std.specs.Prelude.{◌≡◌, ◌+◌, ◌*◌, ◌<◌, ◌≤◌, ◌^◌, ℕ, map, length, All, Contains, IfOk};
+ghost use Rattle.std.specs.Prelude.{◌≡◌, ◌+◌, ◌*◌, ◌<◌, ◌≤◌, ◌^◌, map, length, All, Contains, IfOk};
 ghost use Rattle.fvn_base.specs.declared.limits.TheConstants.{MINIMAL_SOLUTIONS as most};
 ghost use Rattle.fvn_lindio.specs.Systems.{vectors_of};
 ghost use Rattle.fvn_acunify.specs.ValidChoice.{chosen};
