@@ -40,7 +40,8 @@ fn source_of(bindings: &[(Var, Flat)]) -> Option<usize>
     None
 }
 
-// The bindings in an order in which no variable that was replaced comes again; none where there is no such order.
+// The bindings in an order in which no variable that was replaced comes again; none where there is
+// no such order.
 pub(crate) fn in_order(
     alloc: Global,
     bindings: Vec<(Var, Flat)>,
