@@ -1,6 +1,6 @@
 -- Systems that are refused at a partition.
 use Rattle.std.proofs.Common.{◌≡◌, ◌≢◌, ℕ, ◌<◌, List, length, get_or, sym, ap, ◌∙◌, subst, inl, inr, Ok, Err}
-use Rattle.std.specs.Prelude.{◌↔◌, ◌⊎◌, Result}
+use Rattle.std.specs.Prelude.{◌↔◌, Result}
 use Rattle.fvn_base.specs.declared.limits.TheConstants.{MINIMAL_SOLUTIONS}
 use Rattle.fvn_terms.specs.declared.plain.OpId.{OpId}
 use Rattle.fvn_terms.specs.declared.declarations.Declarations.{Declarations}
@@ -21,7 +21,6 @@ use Rattle.fvn_nodes.specs.Table.{NodeTable, IsWellMade, IsTableOf}
 use Rattle.fvn_nodes.specs.Classes.{IsNodePartition}
 use Rattle.fvn_nodes.specs.Laws.{class_at, NodePartitionsArePartitions}
 use Rattle.fvn_sums.specs.Laws.{NodeSystemsAreSumSystems}
-use Rattle.fvn_sums.specs.NodeSystems.{IsNodeSystem}
 use Rattle.fvn_frames.specs.Readings.{IsReading}
 use Rattle.fvn_frames.specs.declared.reading.Sums.{Sums}
 use Rattle.fvn_frames.specs.declared.reading.Reading.{Reading}
