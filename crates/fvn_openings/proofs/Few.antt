@@ -1,5 +1,5 @@
 -- A reading has no more sum operators than its table has subterms.
-use Rattle.std.proofs.Common.{◌≡◌, ℕ, ◌≤◌, List, true, length, map, sym, subst, arith, Contains, Option, Some, None}
+use Rattle.std.proofs.Common.{◌≡◌, ℕ, ◌≤◌, true, length, map, sym, subst, arith, Contains, Option, Some, None}
 use Rattle.std.specs.Prelude.{slice_get}
 use Rattle.std.proofs.lemmas.List.{length-map}
 use Rattle.fvn_base.proofs.Membership.{contains_map, filter_contains}

@@ -8,7 +8,7 @@ use Rattle.fvn_openings.specs.declared.sharing.SharedClass.{SharedClass}
 use Rattle.fvn_openings_tests.proofs.tests.showing.push_all.Goals as goal
 
 pub option_counts-requires : goal.option_counts-requires
-option_counts-requires c = All-weaker (λ (s : SharedClass). length s.users ≤ 1000) (λ (s : SharedClass). length s.users < 2 ^ 32 - 1) (λ s l. omega (arith, l)) c.args.list.now c.requires.few
+option_counts-requires c = record { few = All-weaker (λ (s : SharedClass). length s.users ≤ 1000) (λ (s : SharedClass). length s.users < 2 ^ 32 - 1) (λ s l. omega (arith, l)) c.args.list.now c.requires.few }
 
 pub push_tagged-requires-clause-numbered : goal.push_tagged-requires-clause-numbered
 push_tagged-requires-clause-numbered c =

@@ -1,5 +1,5 @@
 -- A current list has a number for each wheel.
-use Rattle.std.proofs.Common.{ap, ◌∙◌, length}
+use Rattle.std.proofs.Common.{◌∙◌}
 use Rattle.std.proofs.lemmas.Slice.Zip.{AllZip-long}
 use Rattle.fvn_wheels.specs.Wheels.{IsChoice}
 use Rattle.fvn_openings_tests.proofs.tests.showing.push_choices.Goals as goal

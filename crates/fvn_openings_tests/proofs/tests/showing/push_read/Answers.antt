@@ -7,5 +7,5 @@ use Rattle.fvn_openings_tests.proofs.tests.showing.push_read.Goals as goal
 pub push_all-requires-clause-few : goal.push_all-requires-clause-few
 push_all-requires-clause-few c =
     let few = c.requires.few in
-    subst (λ (list : List SharedClass). All (λ (s : SharedClass). length s.users ≤ 1000) list) (sym c.as_slice-2.ensures.value)
-    (All-weaker (λ (s : SharedClass). length s.users ≤ length c.args.reading.now.sums) (λ (s : SharedClass). length s.users ≤ 1000) (λ s l. omega (arith, l, few)) c.in_ok-list.list.items c.in_ok-list.ensures.few)
+    subst (λ (list : List SharedClass). All (λ (s : SharedClass). length s.users ≤ 1000) list) (sym c.as_slice-in-Ok-3.ensures.value)
+    (All-weaker (λ (s : SharedClass). length s.users ≤ length c.args.reading.now.sums) (λ (s : SharedClass). length s.users ≤ 1000) (λ s l. omega (arith, l, few)) c.in_ok-list-in-Ok.list.items c.in_ok-list-in-Ok.ensures.few)
