@@ -1,6 +1,6 @@
 -- Shared classes that are sums of a constant alone, by columns and by classes.
-use Rattle.std.proofs.Common.{◌≡◌, ◌≢◌, ◌⊎◌, ℕ, zero, suc, ◌+◌, ◌<◌, ◌≤◌, Bool, true, false, nat_eq, List, [], ◌∷◌, ◌++◌, length, take, get_or, slice_index, refl, sym, ap, ◌∙◌, subst, inl, inr, arith, All, Contains, Option, Some, None}
-use Rattle.std.specs.Prelude.{◌↔◌, AllPairs, if◌then◌else◌}
+use Rattle.std.proofs.Common.{◌≡◌, ◌≢◌, ℕ, zero, suc, ◌+◌, ◌<◌, ◌≤◌, List, [], ◌∷◌, ◌++◌, length, take, get_or, slice_index, refl, sym, ap, ◌∙◌, subst, inl, inr, arith, All, Contains, Option}
+use Rattle.std.specs.Prelude.{AllPairs, if◌then◌else◌}
 use Rattle.std.specs.List.{sum_by}
 use Rattle.std.proofs.lemmas.Bool.{cases_lt, cases_eq, eq-eqb, ne_eqb}
 use Rattle.std.proofs.lemmas.List.{take_more, take_all, get_or-map, length-map}
@@ -21,7 +21,7 @@ use Rattle.fvn_asking.specs.Listed.{tag_in}
 use Rattle.fvn_asking.specs.Aliases.{HasNoAlias}
 use Rattle.fvn_frames.specs.inner.Users.{IsSharedIn}
 use Rattle.fvn_plans.specs.Binding.{IsConstant}
-use Rattle.fvn_asking.specs.inner.Reads.{IsBoundIn, AreConstantsOf, HasOneOf, IsAloneAt, MayBeAliasIn}
+use Rattle.fvn_asking.specs.inner.Reads.{IsBoundIn, AreConstantsOf, HasOneOf, MayBeAliasIn}
 use Rattle.fvn_asking.proofs.Chosen.{chosen_all}
 use Rattle.fvn_asking.proofs.Reading.{all_from, are_sums, sums_whole, shared_in, shared_from}
 use Rattle.fvn_asking.proofs.Binding.{bound_iff}

@@ -1,16 +1,13 @@
 -- Which classes are bound to a sum, by what is read and by what it means.
-use Rattle.std.proofs.Common.{◌≡◌, ◌≢◌, ◌⊎◌, ℕ, ◌<◌, List, length, refl, sym, ap, ◌∙◌, subst, inl, inr, Contains, Option, Some, None}
+use Rattle.std.proofs.Common.{◌≡◌, ℕ, ◌<◌, List, length, refl, sym, ap, ◌∙◌, subst, inl, inr, Contains, Option, Some, None}
 use Rattle.std.specs.Prelude.{◌↔◌}
 use Rattle.fvn_terms.specs.declared.plain.OpId.{OpId}
 use Rattle.fvn_terms.specs.declared.declarations.Declarations.{Declarations}
-use Rattle.fvn_terms.specs.Signature.{axioms}
-use Rattle.fvn_terms.specs.Equality.{IsAssociative}
 use Rattle.fvn_nodes.specs.Table.{NodeTable, IsWellMade}
 use Rattle.fvn_nodes.specs.States.{IsClosed, class_of}
 use Rattle.fvn_nodes.specs.declared.state.State.{State}
-use Rattle.fvn_frames.specs.Frames.{IsSolid, Uses, IsShared}
 use Rattle.fvn_frames.specs.Readings.{IsReading}
-use Rattle.fvn_frames.specs.inner.Users.{IsMarked, HasTwoUsers, head_of, IsSharedIn}
+use Rattle.fvn_frames.specs.inner.Users.{head_of}
 use Rattle.fvn_frames.specs.declared.reading.Sums.{Sums}
 use Rattle.fvn_frames.specs.declared.reading.Reading.{Reading}
 use Rattle.fvn_plans.specs.Binding.{IsBound, solid, alone, tagged}

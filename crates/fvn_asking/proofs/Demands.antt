@@ -1,17 +1,15 @@
 -- What is asked, by what is read and by what it means.
-use Rattle.std.proofs.Common.{◌≡◌, ◌≢◌, ◌⊎◌, ℕ, ◌+◌, ◌<◌, ◌≤◌, Bool, true, false, List, [], ◌∷◌, ◌++◌, length, get_or, slice_index, slice_index_or, refl, sym, ap, ◌∙◌, subst, inl, inr, arith, All, Contains, Option, Some, None}
+use Rattle.std.proofs.Common.{◌≡◌, ◌≢◌, ℕ, ◌+◌, ◌<◌, ◌≤◌, Bool, true, false, List, [], ◌∷◌, ◌++◌, length, get_or, slice_index, slice_index_or, refl, sym, ap, ◌∙◌, subst, inl, inr, arith, All, Contains, Option}
 use Rattle.std.specs.Prelude.{◌↔◌, AllPairs, not}
-use Rattle.std.proofs.lemmas.Bool.{cases_lt, cases_eq}
+use Rattle.std.proofs.lemmas.Bool.{cases_lt}
 use Rattle.std.proofs.lemmas.List.{get_or_past, get_or_append_left, get_or_push, length-append}
-use Rattle.std.proofs.lemmas.List.Elements.{All-contains, Contains-append_left, Contains-push, Contains-push_cases, Contains-get_or}
+use Rattle.std.proofs.lemmas.List.Elements.{Contains-append_left, Contains-push, Contains-push_cases, Contains-get_or}
 use Rattle.std.proofs.lemmas.List.Quantifiers.{all_pairs_push}
 use Rattle.fvn_terms.specs.declared.plain.OpId.{OpId}
 use Rattle.fvn_terms.specs.declared.declarations.Declarations.{Declarations}
-use Rattle.fvn_terms.specs.Signature.{axioms}
 use Rattle.fvn_lindio.specs.Systems.{IsSystem}
 use Rattle.fvn_lindio.specs.declared.system.System.{System}
 use Rattle.fvn_acunify.specs.Theory.{IsOneTheory}
-use Rattle.fvn_flat.specs.Partitions.{HasNoIdentity}
 use Rattle.fvn_nodes.specs.Table.{NodeTable, IsWellMade}
 use Rattle.fvn_nodes.specs.States.{IsClosed, class_of}
 use Rattle.fvn_nodes.specs.declared.state.State.{State}
@@ -20,7 +18,7 @@ use Rattle.fvn_frames.specs.declared.reading.Sums.{Sums}
 use Rattle.fvn_frames.specs.declared.reading.Reading.{Reading}
 use Rattle.fvn_plans.specs.Binding.{IsConstant, IsRequired, AreAsked}
 use Rattle.fvn_asking.specs.Listed.{tag_in}
-use Rattle.fvn_asking.specs.inner.Reads.{IsBoundIn, IsConstantAt, AreConstantsBelow, AreConstantsOf, IsRequiredIn, AreMarksBelow, AreMarksOf}
+use Rattle.fvn_asking.specs.inner.Reads.{IsConstantAt, AreConstantsBelow, AreConstantsOf, IsRequiredIn, AreMarksBelow, AreMarksOf}
 use Rattle.fvn_asking.proofs.Reading.{all_from, are_sums, sums_whole, shared_in, shared_from}
 use Rattle.fvn_asking.proofs.Binding.{bound_iff}
 

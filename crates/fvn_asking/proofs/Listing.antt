@@ -1,10 +1,9 @@
 -- What is listed at the place of an operator.
-use Rattle.std.proofs.Common.{◌≡◌, ◌≢◌, ℕ, zero, suc, ◌<◌, Bool, true, false, List, [], ◌∷◌, map, length, get_or, slice_index_or, refl, sym, ap, ◌∙◌, subst, inl, inr, arith, Option, Some, None}
+use Rattle.std.proofs.Common.{◌≡◌, ◌≢◌, ℕ, zero, suc, ◌<◌, List, [], ◌∷◌, map, length, slice_index_or, refl, sym, ap, ◌∙◌, inl, inr, arith, Some}
 use Rattle.std.specs.Prelude.{AllPairs, if◌then◌else◌, slice_get}
 use Rattle.std.proofs.lemmas.Bool.{cases_Bool}
 use Rattle.std.proofs.lemmas.Option.{slice_get_within, get_or_from_slice_get}
 use Rattle.std.proofs.lemmas.List.{get_or-map, length-map}
-use Rattle.fvn_terms.specs.declared.plain.OpId.{OpId}
 use Rattle.fvn_forms.specs.Canon.{same_op}
 use Rattle.fvn_forms.proofs.Sums.{same_op_itself, same_op_is}
 use Rattle.fvn_frames.specs.declared.reading.Sums.{Sums}

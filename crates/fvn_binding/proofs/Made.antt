@@ -63,7 +63,7 @@ abbrev pub start_of : NodeTable → ℕ → ℕ
 start_of t first = first + length t.nodes
 
 -- a frame that was read, with a possible choice
-pub record IsChosen (d : Declarations) (given : Pairs) (first : ℕ) (t : NodeTable) (s : State) (r : Reading) (bases : List (List Solution)) (tags : List (Option OpId)) (numbers : List ℕ) : Type 0 where
+pub record IsFrameWithChoice (d : Declarations) (given : Pairs) (first : ℕ) (t : NodeTable) (s : State) (r : Reading) (bases : List (List Solution)) (tags : List (Option OpId)) (numbers : List ℕ) : Type 0 where
   pub good : IsGood d
   pub made : IsWellMade t
   pub ready : IsReady d given first t s
@@ -75,12 +75,12 @@ pub record IsChosen (d : Declarations) (given : Pairs) (first : ℕ) (t : NodeTa
 
 -- its names, binders and shares
 pub record IsMade (d : Declarations) (given : Pairs) (first : ℕ) (t : NodeTable) (s : State) (r : Reading) (bases : List (List Solution)) (tags : List (Option OpId)) (numbers : List ℕ) (names : List Variable) (binders : List Binder) (all : List (List Share)) : Type 0 where
-  pub chosen_so : IsChosen d given first t s r bases tags numbers
+  pub frame : IsFrameWithChoice d given first t s r bases tags numbers
   pub names_are : AreNames d t first names
   pub binders_are : AreBinders d t (class_of s) (tag_in tags) r.sums binders
   pub shares_are : AreAllShares d t (class_of s) (tag_in tags) r.sums bases numbers names (start_of t first) all
 
-module _ {d : Declarations} {given : Pairs} {first : ℕ} {t : NodeTable} {s : State} {r : Reading} {bases : List (List Solution)} {tags : List (Option OpId)} {numbers : List ℕ} (c : IsChosen d given first t s r bases tags numbers) where
+module _ {d : Declarations} {given : Pairs} {first : ℕ} {t : NodeTable} {s : State} {r : Reading} {bases : List (List Solution)} {tags : List (Option OpId)} {numbers : List ℕ} (c : IsFrameWithChoice d given first t s r bases tags numbers) where
   pub has_sums : HasSums d t
   has_sums = tables_have_sums d c.good.fits (problem_of given) c.ready.is_given.kinds t c.made c.ready.table
 

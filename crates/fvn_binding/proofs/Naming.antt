@@ -2,7 +2,6 @@
 use Rattle.std.proofs.Common.{◌≡◌, ◌≢◌, ℕ, ◌+◌, ◌<◌, ◌≤◌, List, [], ◌∷◌, ◌++◌, length, get_or, sym, ap, ◌∙◌, subst, inl, inr, arith, Contains, Some}
 use Rattle.std.specs.Prelude.{◌↔◌, AllPairs, slice_get}
 use Rattle.std.proofs.lemmas.Bool.{cases_lt}
-use Rattle.std.proofs.lemmas.List.{get_or_append_left, get_or_push, length-append}
 use Rattle.std.proofs.lemmas.List.Elements.{Contains-get_or, Contains-append_left, Contains-push, Contains-push_cases}
 use Rattle.std.proofs.lemmas.List.Quantifiers.{all_pairs_push}
 use Rattle.std.proofs.lemmas.Option.{slice_get_within, slice_get-get_or, get_or_from_slice_get}
@@ -19,7 +18,8 @@ use Rattle.fvn_nodes.specs.declared.table.Node.{Node}
 use Rattle.fvn_nodes.specs.declared.table.Node.TheVariants.{Var, App}
 use Rattle.fvn_nodes.proofs.Nodes.{term_at-variable, term_at-over, term_at-injective}
 use Rattle.fvn_binding.specs.Ready.{AreVariablesOf}
-use Rattle.fvn_binding.specs.inner.Planning.{name_in, no_name, IsNameAt, AreNames}
+use Rattle.fvn_binding.proofs.Fronts.{AreFront}
+use Rattle.fvn_binding.specs.inner.Planning.{no_name, IsNameAt, AreNames}
 
 -- the list with the node's variable, where the node is one
 abbrev pub IsNoted : Node → List Variable → List Variable → Type 0
@@ -119,26 +119,8 @@ module _ (t : NodeTable) (made : IsWellMade t) where
         let fits = subst (λ u. HasKind d u k) (term_at-over t.nodes made.ordered i f ks is) h in
         known fits.rank fits.listed ∙ fits.result
 
-    -- the names of the nodes before this one
-    pub record AreNamesFront (first n : ℕ) (names : List Variable) : Type 0 where
-      pub as_many : length names ≡ n
-      pub each : (k : ℕ) → k < n → IsNameAt d t first k (name_in names k)
-
-    pub no_names : (first : ℕ) (names : List Variable) → names ≡ [] → AreNamesFront first 0 names
-    no_names first names none = record { as_many = ap length none; each = λ k l. absurd (omega (arith, l)) }
-
-    pub one_name : (first n : ℕ) (names now : List Variable) (x : Variable) → AreNamesFront first n names → now ≡ names ++ x ∷ [] → IsNameAt d t first n x → AreNamesFront first (n + 1) now
-    one_name first n names now x h is at = subst (AreNamesFront first (n + 1)) (sym is) record {
-      as_many = length-append names (x ∷ []) ∙ ap (λ m. m + 1) h.as_many;
-      each = λ k l. elim (cases_lt k n) [
-        | inl below ↦ subst (IsNameAt d t first k) (sym (get_or_append_left names (x ∷ []) no_name k (let m = h.as_many in omega (arith, below, m)))) (h.each k below)
-        | inr above ↦
-            let e : k ≡ n = omega (arith, l, above) in
-            subst (IsNameAt d t first k) (sym (get_or_push names x no_name k (h.as_many ∙ sym e))) (subst (λ m. IsNameAt d t first m x) (sym e) at)
-      ];
-    }
-
-    pub all_names : (first n : ℕ) (names : List Variable) → length t.nodes ≤ n → n ≤ length t.nodes → AreNamesFront first n names → AreNames d t first names
+    -- one name for each node
+    pub all_names : (first n : ℕ) (names : List Variable) → length t.nodes ≤ n → n ≤ length t.nodes → AreFront no_name (IsNameAt d t first) n names → AreNames d t first names
     all_names first n names l m h =
         let same : n ≡ length t.nodes = omega arith in
         record { as_many = h.as_many ∙ same; each = λ k b. h.each k (omega (arith, b, same)) }

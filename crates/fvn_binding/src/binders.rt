@@ -41,8 +41,10 @@ fn sum_binder(
     requires reading { IsReading sig.now table.now (class_of state.now) reading.now }
     requires within { k < length table.now.nodes }
     ensures { MatchOption result
-        ((i : ℕ) → IsBoundAt sig.now table.now (class_of state.now) (tag_in tags.now) reading.now.sums i k → ⊥)
-        (λ i. IsBoundAt sig.now table.now (class_of state.now) (tag_in tags.now) reading.now.sums i k) }
+        ((i : ℕ) → IsBoundAt sig.now table.now (class_of state.now) (tag_in tags.now)
+        reading.now.sums i k → ⊥)
+        (λ i. IsBoundAt sig.now table.now (class_of state.now) (tag_in tags.now)
+        reading.now.sums i k) }
 {
     for i in 0..reading.sums.len() {
         if is_bound(
@@ -80,8 +82,10 @@ fn is_simple(sig: &Signature, table: &Table, i: usize) -> bool
 fn member_of(sig: &Signature, table: &Table, state: &State, k: usize) -> Option<usize>
     requires { length state.now.names ≡ length table.now.nodes }
     ensures { MatchOption result
-        ((i : ℕ) → i < length table.now.nodes → class_of state.now i ≡ k → IsSimpleNode sig.now table.now i → ⊥)
-        (λ i. (i < length table.now.nodes) × (class_of state.now i ≡ k) × IsSimpleNode sig.now table.now i) }
+        ((i : ℕ) → i < length table.now.nodes → class_of state.now i ≡ k
+        → IsSimpleNode sig.now table.now i → ⊥)
+        (λ i. (i < length table.now.nodes) × (class_of state.now i ≡ k)
+        × IsSimpleNode sig.now table.now i) }
 {
     for i in 0..table.nodes().len() {
         if state.class_of(i) != k {
@@ -106,7 +110,8 @@ fn binder_of(
     requires closed { IsClosed sig.now table.now state.now }
     requires reading { IsReading sig.now table.now (class_of state.now) reading.now }
     requires within { k < length table.now.nodes }
-    ensures { IsBinderOf sig.now table.now (class_of state.now) (tag_in tags.now) reading.now.sums k result }
+    ensures { IsBinderOf sig.now table.now (class_of state.now) (tag_in tags.now)
+        reading.now.sums k result }
 {
     match sum_binder(sig, table, state, reading, tags, k) {
         Some(i) => Binder::Sum(i),

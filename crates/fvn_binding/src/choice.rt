@@ -44,8 +44,8 @@ fn member_term(
     requires closed { IsClosed sig.now table.now state.now }
     requires kinded { AreKinded sig.now table.now (class_of state.now) names.now }
     requires within { i < length table.now.nodes }
-    ensures exact { IfOk result (λ t. t ≡ over_names sig.now table.now (class_of state.now) names.now
-        (slice_get table.now.nodes i)) }
+    ensures exact { IfOk result (λ t. t ≡ over_names sig.now table.now (class_of state.now)
+        names.now (slice_get table.now.nodes i)) }
 {
     sig.recall_good();
     table.recall_well_made();
@@ -69,7 +69,8 @@ fn sum_term(
     k: usize,
 ) -> Result<Flat, NoMemory>
     requires { IsMakingSum sig.now reading.now.sums (map (λ w. w.items) shares.now) i k }
-    ensures { IfOk result (λ t. t ≡ sum_at sig.now reading.now.sums (map (λ w. w.items) shares.now) i k) }
+    ensures { IfOk result (λ t. t ≡ sum_at sig.now reading.now.sums
+        (map (λ w. w.items) shares.now) i k) }
 {
     let sums = &reading.sums.as_slice()[i];
     let terms = members_of(alloc, sums.columns.as_slice(), shares[i].as_slice(), k)?;
@@ -141,7 +142,8 @@ fn class_bindings(
         → IsMaking sig.now table.now (class_of state.now) names.now reading.now.sums
         (map (λ w. w.items) shares.now) (slice_index_or binders.now k Binder.Nothing) k }
     ensures { IfOk result (λ v. AreClassesBelow sig.now table.now (class_of state.now) names.now
-        reading.now.sums (map (λ w. w.items) shares.now) binders.now (length table.now.nodes) v.items) }
+        reading.now.sums (map (λ w. w.items) shares.now) binders.now
+        (length table.now.nodes) v.items) }
 {
     let mut bindings = Vec::new(alloc);
     for k in 0..table.nodes().len() {
@@ -179,8 +181,9 @@ fn variable_bindings(
     Ok(bindings)
 }
 
-/// The bindings that the choice of these tags and numbers makes: of the problem's variables to the names
-/// of their classes, and of the classes, in an order in which each comes before those that it needs.
+/// The bindings that the choice of these tags and numbers makes: of the problem's variables to the
+/// names of their classes, and of the classes, in an order in which each comes before those that it
+/// needs.
 ///
 /// None where there is no such order: some class reaches itself.
 pub fn bindings(
@@ -198,13 +201,16 @@ pub fn bindings(
     requires ready { IsReady sig.now problem.now first table.now state.now }
     requires reading { IsReading sig.now table.now (class_of state.now) reading.now }
     requires listed { AreListed table.now reading.now bases.now numbers.now }
-    requires systems { AreSystems sig.now table.now (class_of state.now) (systems_of reading.now bases.now) }
+    requires systems { AreSystems sig.now table.now (class_of state.now)
+        (systems_of reading.now bases.now) }
     requires possible { IsPossible sig.now table.now (class_of state.now)
         (systems_of reading.now bases.now) (choice_of reading.now tags.now numbers.now) }
-    ensures planned { IfOk result (λ o. IfSome o (λ list. ArePlanned sig.now problem.now first table.now
-        state.now (systems_of reading.now bases.now) (choice_of reading.now tags.now numbers.now) list.bindings)) }
-    ensures none { IfOk result (λ o. IfNone o ((rank : ℕ → ℕ) → Falls sig.now table.now (class_of state.now)
-        (systems_of reading.now bases.now) (choice_of reading.now tags.now numbers.now) rank → ⊥)) }
+    ensures planned { IfOk result (λ o. IfSome o (λ list. ArePlanned sig.now problem.now first
+        table.now state.now (systems_of reading.now bases.now)
+        (choice_of reading.now tags.now numbers.now) list.bindings)) }
+    ensures none { IfOk result (λ o. IfNone o ((rank : ℕ → ℕ) → Falls sig.now table.now
+        (class_of state.now) (systems_of reading.now bases.now)
+        (choice_of reading.now tags.now numbers.now) rank → ⊥)) }
 {
     let _problem = problem;
     sig.recall_good();

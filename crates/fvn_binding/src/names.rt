@@ -29,7 +29,8 @@ pub fn variables(alloc: Global, table: &Table) -> Result<Vec<Var>, NoMemory>
 
 // The kind of what the operator gives.
 pub(crate) fn operator_kind(sig: &Signature, f: OpId) -> SortId
-    ensures { (r : Declared) → Contains (declared sig.now f).ranks r → result ≡ kind sig.now r.result }
+    ensures { (r : Declared) → Contains (declared sig.now f).ranks r
+        → result ≡ kind sig.now r.result }
 {
     sig.recall_good();
     match sig.declarations().declared(f) {

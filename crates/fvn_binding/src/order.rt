@@ -1,5 +1,5 @@
 //! Bindings in an order in which no variable comes again once it was replaced.
-ghost use Rattle.std.specs.Prelude.{◌≡◌, ◌≢◌, ◌↔◌, All, AllPairs, IfOk, IsTrue, MatchOption};
+ghost use Rattle.std.specs.Prelude.{◌≢◌, ◌↔◌, All, AllPairs, IfOk, IsTrue, MatchOption};
 ghost use Rattle.fvn_terms.specs.Substitution.{Occurs};
 ghost use Rattle.fvn_forms.specs.Flat.{plain};
 ghost use Rattle.fvn_binding.specs.inner.Ordering.{
@@ -40,7 +40,8 @@ fn source_of(bindings: &[(Var, Flat)]) -> Option<usize>
     None
 }
 
-// The bindings in an order in which no variable that was replaced comes again; none where there is no such order.
+// The bindings in an order in which no variable that was replaced comes again; none where there is
+// no such order.
 pub(crate) fn in_order(
     alloc: Global,
     bindings: Vec<(Var, Flat)>,

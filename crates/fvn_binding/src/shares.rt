@@ -1,5 +1,5 @@
 //! What stands for the minimal solutions that are taken.
-ghost use Rattle.std.specs.Prelude.{◌≡◌, ◌+◌, ◌*◌, ◌<◌, ◌≤◌, ◌^◌, ℕ, map, length, All, Contains, IfOk};
+ghost use Rattle.std.specs.Prelude.{◌≡◌, ◌+◌, ◌*◌, ◌<◌, ◌≤◌, ◌^◌, map, length, All, Contains, IfOk};
 ghost use Rattle.fvn_base.specs.declared.limits.TheConstants.{MINIMAL_SOLUTIONS as most};
 ghost use Rattle.fvn_lindio.specs.Systems.{vectors_of};
 ghost use Rattle.fvn_acunify.specs.ValidChoice.{chosen};
@@ -51,7 +51,7 @@ fn variable_for(
     fresh
 }
 
-// What stands for the solutions that are taken for an operator, with new variables from a number on.
+// What stands for the solutions that are taken for an operator, with new variables from a number.
 fn shares_of(
     alloc: Global,
     sig: &Signature,
@@ -72,8 +72,8 @@ fn shares_of(
     requires few { length basis.now ≤ most }
     requires names { length names.now ≡ length table.now.nodes }
     requires room { start + most < 2 ^ 32 }
-    ensures { IfOk result (λ v. AreShares sig.now table.now (class_of state.now) (tag_in tags.now) sums.now
-        names.now start (chosen number (vectors_of basis.now)) v.items) }
+    ensures { IfOk result (λ v. AreShares sig.now table.now (class_of state.now) (tag_in tags.now)
+        sums.now names.now start (chosen number (vectors_of basis.now)) v.items) }
 {
     table.recall_well_made();
     let asked = asked(alloc, sig, table, state, reading, tags, sums)?;
@@ -105,7 +105,7 @@ fn shares_of(
     Ok(shares)
 }
 
-// What stands for the solutions that are taken for each operator, with new variables from a number on.
+// What stands for the solutions that are taken for each operator, with new variables from a number.
 pub(crate) fn all_shares(
     alloc: Global,
     sig: &Signature,
@@ -123,8 +123,8 @@ pub(crate) fn all_shares(
     requires sized { AreSized reading.now bases.now numbers.now }
     requires names { length names.now ≡ length table.now.nodes }
     requires room { start + most * length reading.now.sums < 2 ^ 32 }
-    ensures { IfOk result (λ v. AreAllShares sig.now table.now (class_of state.now) (tag_in tags.now) reading.now.sums
-        bases.now numbers.now names.now start (map (λ w. w.items) v.items)) }
+    ensures { IfOk result (λ v. AreAllShares sig.now table.now (class_of state.now) (tag_in tags.now)
+        reading.now.sums bases.now numbers.now names.now start (map (λ w. w.items) v.items)) }
 {
     let mut all = Vec::new(alloc);
     let mut next = start;

@@ -1,9 +1,7 @@
 //! What a class is bound to.
-ghost use Rattle.std.specs.Prelude.{◌≡◌, ◌++◌, ◌<◌, ℕ, map, replicate, length, slice_index_or, All, IfOk, OnOk};
-ghost use Rattle.fvn_terms.specs.Signature.{axioms};
+ghost use Rattle.std.specs.Prelude.{◌≡◌, ◌++◌, ◌<◌, map, replicate, length, slice_index_or, All, IfOk, OnOk};
 ghost use Rattle.fvn_forms.specs.Flat.{fvar};
-ghost use Rattle.fvn_forms.specs.Canon.{build, sum};
-ghost use Rattle.fvn_flat.specs.Fits.{Fits, AllFit, Takes};
+ghost use Rattle.fvn_forms.specs.Canon.{sum};
 ghost use Rattle.fvn_flat.specs.SolvedLists.{component, members};
 ghost use Rattle.fvn_nodes.specs.States.{class_of};
 ghost use Rattle.fvn_binding.specs.inner.Planning.{

@@ -1,5 +1,5 @@
 -- Choices that cover a unifier, by lists.
-use Rattle.std.proofs.Common.{◌≡◌, ℕ, ◌<◌, List, [], length, map, get_or, refl, sym, ap, ◌∙◌, subst, Option}
+use Rattle.std.proofs.Common.{◌≡◌, ℕ, List, length, map, sym, ap, ◌∙◌, subst, Option}
 use Rattle.std.specs.List.{AllZip}
 use Rattle.std.proofs.lemmas.List.{get_or-map, length-map}
 use Rattle.std.proofs.lemmas.Option.{slice_get_within, get_or_from_slice_get}
@@ -7,8 +7,8 @@ use Rattle.fvn_terms.specs.declared.plain.OpId.{OpId}
 use Rattle.fvn_terms.specs.declared.declarations.Declarations.{Declarations}
 use Rattle.fvn_terms.specs.Substitution.{Substitution}
 use Rattle.fvn_terms.specs.Unifiers.{Problem}
-use Rattle.fvn_nodes.specs.Table.{NodeTable, IsWellMade}
-use Rattle.fvn_nodes.specs.States.{IsClosed, class_of}
+use Rattle.fvn_nodes.specs.Table.{NodeTable}
+use Rattle.fvn_nodes.specs.States.{class_of}
 use Rattle.fvn_nodes.specs.declared.state.State.{State}
 use Rattle.fvn_frames.specs.Frames.{IsSumOperator}
 use Rattle.fvn_frames.specs.Readings.{IsReading}
@@ -20,8 +20,8 @@ use Rattle.fvn_obeying.specs.CoveringChoices.{IsCovering}
 use Rattle.fvn_wheels.specs.Tags.{IsOption}
 use Rattle.fvn_openings.specs.declared.sharing.SharedClass.{SharedClass}
 use Rattle.fvn_openings.specs.Sharing.{AreSharedClasses}
-use Rattle.fvn_openings.specs.Tags.{tag_counts, tag_by, AreTags}
-use Rattle.fvn_openings.proofs.Systems.{IsPlaced, placed, for_operator}
+use Rattle.fvn_openings.specs.Tags.{tag_counts, AreTags}
+use Rattle.fvn_openings.proofs.Systems.{placed, for_operator}
 use Rattle.fvn_openings.proofs.Tagged.{tags_have_numbers}
 use Rattle.fvn_openings.proofs.Alike.{covering_to}
 

@@ -9,3 +9,4 @@ mod Covered
 mod Walked
 mod Ordered
 mod Setting
+mod Few

@@ -1,5 +1,5 @@
 -- Choices by lists that are possible.
-use Rattle.std.proofs.Common.{◌≡◌, ◌≢◌, ℕ, ◌<◌, ◌≤◌, Bool, List, [], length, get_or, slice_index, slice_index_or, refl, sym, ap, ◌∙◌, subst, arith, Contains, Option, Some, None}
+use Rattle.std.proofs.Common.{◌≡◌, ℕ, ◌<◌, ◌≤◌, List, [], length, slice_index, slice_index_or, refl, sym, ap, ◌∙◌, subst, arith, Contains, Option, Some}
 use Rattle.std.specs.Prelude.{◌↔◌, slice_get}
 use Rattle.std.specs.List.{AllZip, sum_by}
 use Rattle.std.proofs.lemmas.Option.{slice_get_within}
@@ -13,7 +13,7 @@ use Rattle.fvn_acunify.specs.ValidChoice.{chosen, IsValid}
 use Rattle.fvn_flat.specs.Problems.{IsProblem}
 use Rattle.fvn_flat.specs.SolvedLists.{component}
 use Rattle.fvn_nodes.specs.Table.{NodeTable, IsWellMade, IsTableOf}
-use Rattle.fvn_frames.specs.Frames.{IsSumOperator, Uses, IsShared}
+use Rattle.fvn_frames.specs.Frames.{IsSumOperator, IsShared}
 use Rattle.fvn_frames.specs.Readings.{IsReading}
 use Rattle.fvn_frames.specs.declared.reading.Sums.{Sums}
 use Rattle.fvn_frames.specs.declared.reading.Reading.{Reading}

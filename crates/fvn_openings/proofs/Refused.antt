@@ -1,6 +1,6 @@
 -- Systems that are refused at a partition.
 use Rattle.std.proofs.Common.{◌≡◌, ◌≢◌, ℕ, ◌<◌, List, length, get_or, sym, ap, ◌∙◌, subst, inl, inr, Ok, Err}
-use Rattle.std.specs.Prelude.{◌↔◌, ◌⊎◌, Result}
+use Rattle.std.specs.Prelude.{◌↔◌, Result}
 use Rattle.fvn_base.specs.declared.limits.TheConstants.{MINIMAL_SOLUTIONS}
 use Rattle.fvn_terms.specs.declared.plain.OpId.{OpId}
 use Rattle.fvn_terms.specs.declared.declarations.Declarations.{Declarations}
@@ -21,14 +21,13 @@ use Rattle.fvn_nodes.specs.Table.{NodeTable, IsWellMade, IsTableOf}
 use Rattle.fvn_nodes.specs.Classes.{IsNodePartition}
 use Rattle.fvn_nodes.specs.Laws.{class_at, NodePartitionsArePartitions}
 use Rattle.fvn_sums.specs.Laws.{NodeSystemsAreSumSystems}
-use Rattle.fvn_sums.specs.NodeSystems.{IsNodeSystem}
 use Rattle.fvn_frames.specs.Readings.{IsReading}
 use Rattle.fvn_frames.specs.declared.reading.Sums.{Sums}
 use Rattle.fvn_frames.specs.declared.reading.Reading.{Reading}
 use Rattle.fvn_openings.specs.declared.opening.OpenFault.{OpenFault}
 use Rattle.fvn_openings.specs.declared.opening.OpenFault.TheVariants.{Basis, NoMemory as OutOfMemory}
-use Rattle.fvn_openings.specs.Bases.{IsFirstRefused, IsFaultOf, IsOpenFault}
-use Rattle.fvn_openings.specs.inner.Walking.{AreBasesBelow}
+use Rattle.fvn_openings.specs.Bases.{IsFirstRefused, IsOpenFault}
+use Rattle.fvn_openings.specs.inner.Walking.{AreBasesBelow, IsFaultOf}
 use Rattle.fvn_openings.proofs.Entries.{read_at, listed_at}
 use Rattle.fvn_openings.proofs.Systems.{operator_at, sums_at}
 

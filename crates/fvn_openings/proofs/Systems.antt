@@ -1,5 +1,5 @@
 -- Minimal solutions of sum operators, as systems.
-use Rattle.std.proofs.Common.{◌≡◌, ◌≢◌, ℕ, ◌<◌, ◌≤◌, List, [], length, get_or, slice_index_or, map, refl, sym, ap, ◌∙◌, subst, arith, All, Contains, Option, Some, None}
+use Rattle.std.proofs.Common.{◌≡◌, ◌≢◌, ℕ, ◌<◌, ◌≤◌, List, [], length, get_or, slice_index_or, map, sym, ap, ◌∙◌, subst, arith, All, Contains, Some}
 use Rattle.std.specs.Prelude.{◌↔◌, AllPairs, slice_get}
 use Rattle.std.proofs.lemmas.List.{get_or-map, length-map, get_or_default}
 use Rattle.std.proofs.lemmas.List.Elements.{All-contains, All-weaker, All-contains_itself}

@@ -1,9 +1,9 @@
 -- What loops over sum operators and nodes gather.
-use Rattle.std.proofs.Common.{◌≡◌, ◌≢◌, ◌⊎◌, ℕ, ◌+◌, ◌<◌, ◌≤◌, List, [], ◌∷◌, ◌++◌, length, map, get_or, slice_index, slice_index_or, refl, sym, ap, ◌∙◌, subst, inl, inr, arith, All, Contains, Option, Some, None}
-use Rattle.std.specs.Prelude.{◌↔◌, AllPairs, slice_get}
-use Rattle.std.proofs.lemmas.Bool.{cases_lt}
-use Rattle.std.proofs.lemmas.List.{length_push, get_or_append_left, get_or_push, map_push}
-use Rattle.std.proofs.lemmas.List.Elements.{All-push, All-weaker, All-contains, Contains-append_left, Contains-push, Contains-push_cases, Contains-get_or}
+use Rattle.std.proofs.Common.{◌≡◌, ◌≢◌, ◌⊎◌, ℕ, ◌+◌, ◌<◌, ◌≤◌, List, [], ◌∷◌, ◌++◌, length, map, get_or, slice_index, slice_index_or, sym, ap, ◌∙◌, subst, inl, inr, arith, All, Contains, Option, Some}
+use Rattle.std.specs.Prelude.{AllPairs, slice_get}
+use Rattle.std.proofs.lemmas.Bool.{cases_lt, cases_order}
+use Rattle.std.proofs.lemmas.List.{get_or_default, length_push, get_or_append_left, get_or_push, map_push}
+use Rattle.std.proofs.lemmas.List.Elements.{All-push, All-weaker, Contains-append_left, Contains-push, Contains-push_cases, Contains-get_or}
 use Rattle.std.proofs.lemmas.List.Quantifiers.{all_pairs_push}
 use Rattle.std.proofs.lemmas.Option.{slice_get_within, slice_get-get_or, get_or_from_slice_get}
 use Rattle.fvn_terms.specs.declared.plain.OpId.{OpId}
@@ -23,7 +23,7 @@ use Rattle.fvn_asking.proofs.Reading.{column_within}
 use Rattle.fvn_asking.proofs.Listing.{operators_differ}
 use Rattle.fvn_wheels.specs.Wheels.{Wheel}
 use Rattle.fvn_openings.specs.declared.sharing.SharedClass.{SharedClass}
-use Rattle.fvn_openings.specs.Bases.{IsBasis, AreBases, IsFirstRefused}
+use Rattle.fvn_openings.specs.Bases.{IsBasis, AreBases}
 use Rattle.fvn_openings.specs.Sharing.{classes_of, IsSharedClass, AreSharedClasses}
 use Rattle.fvn_openings.specs.Turning.{IsWheel, AreWheels}
 use Rattle.fvn_openings.specs.inner.Walking.{AreBasesBelow, AreWheelsBelow, IsUserBelow, AreUsersBelow, AreSharedBelow}
@@ -169,7 +169,23 @@ module _ (d : Declarations) (t : NodeTable) (class : ℕ → ℕ) where
           few = All-push (λ (c : SharedClass). length c.users ≤ most) list c h.few few;
         }
 
+-- a list with two different members has two members or more
+two_listed : (xs : List OpId) (x y : OpId) → Contains xs x → Contains xs y → x ≢ y → 2 ≤ length xs
+two_listed xs x y a b other = elim (cases_order a.0 b.0) [
+  | inl same ↦ absurd (other (sym a.2 ∙ get_or_default xs a.0 x y a.1 ∙ ap (λ n. get_or xs n y) same ∙ b.2))
+  | inr o ↦ elim o [
+    | inl below ↦ let l = b.1 in omega (arith, below, l)
+    | inr above ↦ let l = a.1 in omega (arith, above, l)
+  ]
+]
+
 module _ (d : Declarations) (t : NodeTable) (class : ℕ → ℕ) (r : Reading) (reading : IsReading d t class r) where
+  -- all users are among the list
+  user_listed : (k : ℕ) (users : List OpId) → AreUsersBelow d t class r.sums k (length r.sums) users → (f : OpId) → Uses d t class f k → Contains users f
+  user_listed k users h f u =
+      let p = user_placed d t class r reading f k u in
+      (h.exact f).1 (record { place = p.place; before = slice_get_within r.sums p.place p.entry p.is; entry = p.entry; is = p.is; operator = p.operator; uses = u })
+
   -- a shared class with its users
   pub shared_here : (k : ℕ) (users us : List OpId) → us ≡ users → AreUsersBelow d t class r.sums k (length r.sums) users → IsShared d t class k → k < length t.nodes → IsSharedClass d t class (record { class = k; users = us })
   shared_here k users us same h shared within = record {
@@ -178,10 +194,9 @@ module _ (d : Declarations) (t : NodeTable) (class : ℕ → ℕ) (r : Reading) 
     distinct = subst (AllPairs ◌≢◌) (sym same) h.distinct;
     exact = λ f. (
       λ m. ((h.exact f).0 (subst (λ xs. Contains xs f) same m)).uses,
-      λ u.
-          let p = user_placed d t class r reading f k u in
-          subst (λ xs. Contains xs f) (sym same) ((h.exact f).1 (record { place = p.place; before = slice_get_within r.sums p.place p.entry p.is; entry = p.entry; is = p.is; operator = p.operator; uses = u })),
+      λ u. subst (λ xs. Contains xs f) (sym same) (user_listed k users h f u),
     );
+    several = subst (λ xs. 2 ≤ length xs) (sym same) (two_listed users shared.first shared.second (user_listed k users h shared.first shared.uses_first) (user_listed k users h shared.second shared.uses_second) shared.different);
   }
 
 -- all shared classes

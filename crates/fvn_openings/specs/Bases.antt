@@ -33,11 +33,6 @@ pub record IsFirstRefused (sums : List Sums) (f : OpId) (system : System) : Type
   pub refused : IsRefused system
   pub first : (i : ℕ) (e : Sums) → i < place → slice_get sums i ≡ Some e → IsRefused e.system → ⊥
 
--- why there is no basis of a sum operator's system
-abbrev pub IsFaultOf : Sums → OpenFault → Type 0
-IsFaultOf e (Basis f system) = (e.operator ≡ f) × (e.system ≡ system) × IsRefused system
-IsFaultOf e NoMemory = Unit {0}
-
 -- why a frame is not opened
 abbrev pub IsOpenFault : List Sums → OpenFault → Type 0
 IsOpenFault sums (Basis f system) = IsFirstRefused sums f system

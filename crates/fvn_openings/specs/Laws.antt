@@ -1,20 +1,24 @@
 -- Laws of frames that are opened.
-use Rattle.std.specs.Prelude.{◌≡◌, ◌↔◌, ℕ, List, length, Option}
+use Rattle.std.specs.Prelude.{◌≡◌, ◌↔◌, ℕ, ◌≤◌, List, length, Option}
 use Rattle.std.specs.List.{AllZip}
 use Rattle.fvn_terms.specs.declared.plain.OpId.{OpId}
 use Rattle.fvn_terms.specs.declared.declarations.Declarations.{Declarations}
 use Rattle.fvn_terms.specs.Substitution.{Substitution}
 use Rattle.fvn_terms.specs.Unifiers.{Problem}
 use Rattle.fvn_forms.specs.FitsKinds.{FitsKinds}
+use Rattle.fvn_forms.specs.Good.{IsGood}
 use Rattle.fvn_lindio.specs.declared.system.System.{System}
 use Rattle.fvn_lindio.specs.declared.system.Solution.{Solution}
 use Rattle.fvn_flat.specs.Problems.{IsProblem}
 use Rattle.fvn_flat.specs.Solving.{IsGiven, IsBasisCause, problem_of}
+use Rattle.fvn_flat.specs.SolvedLists.{IsKindUnifier}
 use Rattle.fvn_flat.specs.declared.solver.Pairs.{Pairs}
 use Rattle.fvn_nodes.specs.Table.{NodeTable, IsWellMade, IsTableOf}
 use Rattle.fvn_nodes.specs.Classes.{IsNodePartition}
-use Rattle.fvn_nodes.specs.States.{IsClosed, class_of}
+use Rattle.fvn_nodes.specs.States.{Admits, IsClosed, class_of}
+use Rattle.fvn_nodes.specs.Unifiers.{kernel}
 use Rattle.fvn_nodes.specs.declared.state.State.{State}
+use Rattle.fvn_frames.specs.Frames.{IsFrame}
 use Rattle.fvn_frames.specs.Readings.{IsReading}
 use Rattle.fvn_frames.specs.declared.reading.Reading.{Reading}
 use Rattle.fvn_plans.specs.Choosing.{Systems, Choice, AreSystems, IsPossible}
@@ -27,6 +31,10 @@ use Rattle.fvn_openings.specs.Bases.{AreBases, IsFirstRefused}
 use Rattle.fvn_openings.specs.Sharing.{AreSharedClasses}
 use Rattle.fvn_openings.specs.Tags.{tag_counts, AreTags}
 use Rattle.fvn_openings.specs.Turning.{AreWheels, LeaveNoAlias}
+
+-- there are no more sum operators than subterms
+abbrev pub SumOperatorsAreFew : Type 0
+SumOperatorsAreFew = (d : Declarations) (t : NodeTable) (class : ℕ → ℕ) (r : Reading) → IsReading d t class r → length r.sums ≤ length t.subterms
 
 -- the minimal solutions of all sum operators go with their systems
 abbrev pub BasesMakeSystems : Type 0
@@ -57,3 +65,15 @@ CoveringChoicesAreListed =
     → (shared : List SharedClass) → AreSharedClasses d t (class_of s) shared → (y : Systems) (u : Substitution) (c : Choice) → IsCovering d problem t s y u c
     → (options : List ℕ) × (numbers : List ℕ) × AllZip IsOption (tag_counts shared) options × (length numbers ≡ length r.sums)
     × ((tags : List (Option OpId)) → AreTags shared options tags → IsCovering d problem t s y u (choice_of r tags numbers))
+
+-- at a frame that admits its partition, each unifier on kinds is covered by a choice that can be listed: by an option for each shared class, and,
+-- under their tags, by numbers that are valid on the wheels and make no class an alias
+abbrev pub ListsCover : Type 0
+ListsCover =
+    (d : Declarations) → IsGood d → (problem : Problem) → IsProblem d problem → (t : NodeTable) → IsWellMade t → IsTableOf d problem t
+    → (s : State) → IsFrame d t s → (r : Reading) → IsReading d t (class_of s) r → (bases : List (List Solution)) → AreBases r.sums bases
+    → (shared : List SharedClass) → AreSharedClasses d t (class_of s) shared → (u : Substitution) → IsKindUnifier d problem u → Admits s (kernel d u t.nodes)
+    → (options : List ℕ) × (numbers : List ℕ) × AllZip IsOption (tag_counts shared) options
+    × ((tags : List (Option OpId)) → AreTags shared options tags → IsCovering d problem t s (systems_of r bases) u (choice_of r tags numbers)
+    × ((wheels : List Wheel) → AreWheels d t (class_of s) (tag_in tags) r.sums bases wheels
+    → AllZip IsChoice wheels numbers × LeaveNoAlias d t (class_of s) (tag_in tags) r.sums bases numbers))

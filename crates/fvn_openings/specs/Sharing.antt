@@ -1,5 +1,5 @@
 -- The shared classes of a state.
-use Rattle.std.specs.Prelude.{◌≡◌, ◌≢◌, ◌↔◌, ℕ, ◌<◌, List, length, map, All, AllPairs, Contains}
+use Rattle.std.specs.Prelude.{◌≢◌, ◌↔◌, ℕ, ◌<◌, ◌≤◌, List, length, map, All, AllPairs, Contains}
 use Rattle.fvn_terms.specs.declared.plain.OpId.{OpId}
 use Rattle.fvn_terms.specs.declared.declarations.Declarations.{Declarations}
 use Rattle.fvn_nodes.specs.Table.{NodeTable}
@@ -17,6 +17,7 @@ module _ (d : Declarations) (t : NodeTable) (class : ℕ → ℕ) where
     pub shared : IsShared d t class c.class
     pub distinct : AllPairs ◌≢◌ c.users
     pub exact : (f : OpId) → Contains c.users f ↔ Uses d t class f c.class
+    pub several : 2 ≤ length c.users
 
   -- exactly the shared classes, each once
   pub record AreSharedClasses (list : List SharedClass) : Type 0 where

@@ -1,14 +1,22 @@
 //! Laws of frames that are opened, each the contract of a function that does nothing.
 ghost use Rattle.fvn_openings.specs.Laws.{
+  SumOperatorsAreFew,
   BasesMakeSystems,
   RefusalsAreCauses,
   ListedChoicesArePossible,
   CoveringChoicesAreListed,
+  ListsCover,
 };
 
 use fvn_nodes::node_partitions_are_partitions;
+use fvn_obeying::{frames_cover, readings_tell};
 use fvn_plans::valid_choices_are_acceptable;
 use fvn_sums::node_systems_are_sum_systems;
+
+/// There are no more sum operators than subterms.
+pub fn sum_operators_are_few()
+    ensures { SumOperatorsAreFew }
+{}
 
 /// The minimal solutions of all sum operators go with their systems.
 pub fn bases_make_systems()
@@ -34,3 +42,13 @@ pub fn listed_choices_are_possible()
 pub fn covering_choices_are_listed()
     ensures { CoveringChoicesAreListed }
 {}
+
+/// At a frame each unifier is covered by a choice that can be listed.
+pub fn lists_cover()
+    ensures { ListsCover }
+{
+    frames_cover();
+    readings_tell();
+    covering_choices_are_listed();
+    listed_choices_are_possible();
+}

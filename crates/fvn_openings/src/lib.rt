@@ -10,8 +10,8 @@ mod turning;
 
 pub use aliases::leave_no_alias;
 pub use laws::{
-    bases_make_systems, covering_choices_are_listed, listed_choices_are_possible,
-    refusals_are_causes,
+    bases_make_systems, covering_choices_are_listed, listed_choices_are_possible, lists_cover,
+    refusals_are_causes, sum_operators_are_few,
 };
 pub use opening::{OpenFault, bases};
 pub use sharing::{SharedClass, shared};

@@ -7,7 +7,8 @@ ghost use Rattle.fvn_nodes.specs.States.{class_of};
 ghost use Rattle.fvn_frames.specs.Readings.{IsReading};
 ghost use Rattle.fvn_plans.specs.Choosing.{AreSystems};
 ghost use Rattle.fvn_asking.specs.Listed.{systems_of};
-ghost use Rattle.fvn_openings.specs.Bases.{IsBasis, AreBases, IsFaultOf, IsOpenFault};
+ghost use Rattle.fvn_openings.specs.Bases.{IsBasis, AreBases, IsOpenFault};
+ghost use Rattle.fvn_openings.specs.inner.Walking.{IsFaultOf};
 
 use crate::laws::bases_make_systems;
 use fvn_asking::copied_system;

@@ -1,16 +1,24 @@
--- Minimal solutions, wheels, users and shared classes in the making.
+-- Minimal solutions, faults, wheels, users and shared classes in the making.
 use Rattle.std.specs.Prelude.{◌≡◌, ◌≢◌, ◌↔◌, ℕ, ◌<◌, ◌≤◌, List, [], length, slice_get, slice_index_or, Option, Some, All, AllPairs, Contains}
 use Rattle.fvn_terms.specs.declared.plain.OpId.{OpId}
 use Rattle.fvn_terms.specs.declared.declarations.Declarations.{Declarations}
 use Rattle.fvn_lindio.specs.declared.system.Solution.{Solution}
+use Rattle.fvn_flat.specs.Solving.{IsRefused}
 use Rattle.fvn_nodes.specs.Table.{NodeTable}
 use Rattle.fvn_frames.specs.declared.reading.Sums.{Sums}
 use Rattle.fvn_frames.specs.Frames.{Uses, IsShared}
 use Rattle.fvn_wheels.specs.Wheels.{Wheel}
+use Rattle.fvn_openings.specs.declared.opening.OpenFault.{OpenFault}
+use Rattle.fvn_openings.specs.declared.opening.OpenFault.TheVariants.{Basis, NoMemory}
 use Rattle.fvn_openings.specs.declared.sharing.SharedClass.{SharedClass}
 use Rattle.fvn_openings.specs.Bases.{IsBasis}
 use Rattle.fvn_openings.specs.Sharing.{classes_of, IsSharedClass}
 use Rattle.fvn_openings.specs.Turning.{IsWheel}
+
+-- why there is no basis of a sum operator's system
+abbrev pub IsFaultOf : Sums → OpenFault → Type 0
+IsFaultOf e (Basis f system) = (e.operator ≡ f) × (e.system ≡ system) × IsRefused system
+IsFaultOf e NoMemory = Unit {0}
 
 -- the minimal solutions of the sum operators before this place
 pub record AreBasesBelow (sums : List Sums) (n : ℕ) (bases : List (List Solution)) : Type 0 where

@@ -1,5 +1,5 @@
 -- Each solution has the column.
-use Rattle.std.proofs.Common.{ℕ, ◌<◌, List, length}
+use Rattle.std.proofs.Common.{◌<◌, length}
 use Rattle.fvn_asking.proofs.Alone.{of_solution}
 use Rattle.fvn_asking.proofs.aliases.total.Goals as goal
 

@@ -1,5 +1,5 @@
 -- One more column.
-use Rattle.std.proofs.Common.{◌+◌, [], ◌∷◌, sym, ◌∙◌, subst, arith}
+use Rattle.std.proofs.Common.{◌+◌, sym, ◌∙◌, subst, arith}
 use Rattle.std.proofs.lemmas.Bool.{false≢true}
 use Rattle.fvn_asking.specs.inner.Reads.{AreConstantsBelow}
 use Rattle.fvn_asking.proofs.Demands.{no_constants, one_constant, no_constant, all_constants}

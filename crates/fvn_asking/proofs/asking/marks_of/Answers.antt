@@ -1,5 +1,5 @@
 -- One more column.
-use Rattle.std.proofs.Common.{ℕ, List, length, slice_index, sym, ap, ◌∙◌, subst, arith}
+use Rattle.std.proofs.Common.{ℕ, List, length, slice_index, sym, ap, subst, arith}
 use Rattle.std.specs.Prelude.{not}
 use Rattle.fvn_asking.specs.inner.Reads.{IsRequiredIn, AreMarksBelow}
 use Rattle.fvn_asking.proofs.Demands.{no_marks, one_mark, all_marks, not_false}

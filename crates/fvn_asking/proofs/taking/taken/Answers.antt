@@ -1,5 +1,4 @@
 -- One more solution.
-use Rattle.std.proofs.Common.{sym, ◌∙◌}
 use Rattle.fvn_lindio.specs.Systems.{vectors_of}
 use Rattle.fvn_acunify.specs.ValidChoice.{chosen}
 use Rattle.fvn_asking.proofs.Chosen.{taking_more, taking_all}

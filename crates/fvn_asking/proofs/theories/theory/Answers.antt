@@ -1,5 +1,5 @@
 -- What is read, and what it means.
-use Rattle.std.proofs.Common.{List, Bool, ℕ, length, sym, ◌∙◌, subst}
+use Rattle.std.proofs.Common.{List, ℕ, length, sym, subst}
 use Rattle.fvn_nodes.specs.declared.table.Node.{Node}
 use Rattle.fvn_nodes.specs.States.{class_of}
 use Rattle.fvn_frames.specs.inner.Users.{IsWholeSums, IsWhole}

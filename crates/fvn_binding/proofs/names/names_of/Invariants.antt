@@ -1,11 +1,11 @@
 -- The names of the nodes so far.
 use Rattle.std.proofs.Common.{◌≡◌, ◌+◌}
-use Rattle.fvn_nodes.specs.Table.{IsWellMade}
-use Rattle.fvn_binding.proofs.Naming.{AreNamesFront}
+use Rattle.fvn_binding.specs.inner.Planning.{no_name, IsNameAt}
+use Rattle.fvn_binding.proofs.Fronts.{AreFront}
 use Rattle.fvn_binding.proofs.names.names_of.Given as goal
 
 abbrev pub invariant-loop-i : goal.invariant-loop-i
 invariant-loop-i l = record {
   number : l.number ≡ l.first + l.i;
-  names : (made : IsWellMade l.table) → AreNamesFront l.table made l.sig l.first l.i l.names.items;
+  names : AreFront no_name (IsNameAt l.sig l.table l.first) l.i l.names.items;
 }

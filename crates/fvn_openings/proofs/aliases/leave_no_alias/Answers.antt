@@ -1,6 +1,5 @@
 -- One more operator.
-use Rattle.std.proofs.Common.{◌≡◌, ℕ, List, [], ◌+◌, ◌<◌, ◌≤◌, length, slice_index, slice_index_or, refl, sym, ◌∙◌, subst, arith, All, Some}
-use Rattle.std.specs.Prelude.{slice_get}
+use Rattle.std.proofs.Common.{List, ◌≤◌, length, slice_index, refl, sym, ◌∙◌, subst, arith}
 use Rattle.std.proofs.lemmas.Bool.{false≢true}
 use Rattle.std.proofs.lemmas.Option.{slice_get_within}
 use Rattle.fvn_lindio.specs.declared.system.Solution.{Solution}
@@ -12,7 +11,7 @@ use Rattle.fvn_asking.specs.Aliases.{HasNoAlias}
 use Rattle.fvn_asking.specs.Listed.{tag_in}
 use Rattle.fvn_openings.proofs.Entries.{within_other, read_of_other, read_at}
 use Rattle.fvn_openings.proofs.Systems.{basis_is, basis_at, basis_long, sums_at}
-use Rattle.fvn_openings.proofs.Walked.{HasNone, more_none}
+use Rattle.fvn_openings.proofs.Walked.{more_none}
 use Rattle.fvn_openings.proofs.aliases.leave_no_alias.Goals as goal
 
 pub has_no_alias-requires-clause-sized : goal.has_no_alias-requires-clause-sized

@@ -1,5 +1,5 @@
 -- One more operator, or the first that is refused.
-use Rattle.std.proofs.Common.{◌+◌, ◌≤◌, length, sym, subst, arith}
+use Rattle.std.proofs.Common.{◌+◌, sym, subst, arith}
 use Rattle.std.proofs.lemmas.Result.{err_from_is_err_and}
 use Rattle.fvn_openings.specs.inner.Walking.{AreBasesBelow}
 use Rattle.fvn_openings.proofs.Refused.{fault_at}

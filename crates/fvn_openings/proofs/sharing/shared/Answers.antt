@@ -1,8 +1,9 @@
 -- One more class.
-use Rattle.std.proofs.Common.{List, ◌+◌, ◌<◌, ◌≤◌, length, refl, sym, ◌∙◌, subst, arith}
+use Rattle.std.proofs.Common.{List, ◌+◌, ◌<◌, ◌≤◌, length, refl, sym, ◌∙◌, subst}
 use Rattle.std.proofs.lemmas.Bool.{false≢true}
 use Rattle.fvn_nodes.specs.States.{class_of}
 use Rattle.fvn_nodes.specs.declared.table.Node.{Node}
+use Rattle.fvn_openings.specs.declared.sharing.SharedClass.{SharedClass}
 use Rattle.fvn_openings.specs.inner.Walking.{AreSharedBelow}
 use Rattle.fvn_openings.proofs.Walked.{not_shared, one_shared, shared_here, all_shared}
 use Rattle.fvn_openings.proofs.sharing.shared.Goals as goal
@@ -24,7 +25,7 @@ loop-k-preserved c =
     let within : k < length t.nodes = subst (λ (ns : List Node). k < length ns) c.nodes-n.ensures c.loop-k-test.true in
     let few : length us ≤ length r.sums = subst (λ xs. length xs ≤ length r.sums) (sym c.from_vec.ensures) c.in_ok-users.ensures.few in
     let here = shared_here d t class r c.requires.reading k users us c.from_vec.ensures c.in_ok-users.ensures (c.is_shared_class.ensures.0 c.if-not-is_shared_class.false) within in
-    subst (AreSharedBelow d t class (length r.sums) (k + 1)) (sym c.in_ok-push.ensures.items)
+    subst (AreSharedBelow d t class (length r.sums) (k + 1)) (sym {A = List SharedClass} c.in_ok-push.ensures.items)
     (one_shared d t class (length r.sums) k c.loop-k.list.items (record { class = k; users = us }) refl here few c.loop-k.invariant)
 
 pub returns-clause-exact : goal.returns-clause-exact

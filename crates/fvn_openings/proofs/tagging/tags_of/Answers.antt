@@ -1,5 +1,5 @@
 -- One more class.
-use Rattle.std.proofs.Common.{ℕ, ◌+◌, ◌<◌, length, List, get_or, set, refl, sym, ap, ◌∙◌, subst, arith}
+use Rattle.std.proofs.Common.{◌<◌, get_or, set, ap, ◌∙◌, arith}
 use Rattle.std.proofs.lemmas.List.{length-set}
 use Rattle.fvn_openings.specs.declared.sharing.SharedClass.{SharedClass}
 use Rattle.fvn_openings.specs.Tags.{user_at}

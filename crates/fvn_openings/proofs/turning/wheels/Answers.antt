@@ -1,5 +1,5 @@
 -- One more wheel.
-use Rattle.std.proofs.Common.{◌≡◌, ℕ, List, [], ◌+◌, ◌≤◌, length, map, slice_index_or, sym, ap, ◌∙◌, subst, arith}
+use Rattle.std.proofs.Common.{List, ◌+◌, ◌≤◌, length, map, sym, ap, ◌∙◌, subst, arith}
 use Rattle.std.proofs.lemmas.List.{map_push}
 use Rattle.fvn_nodes.specs.States.{class_of}
 use Rattle.fvn_frames.specs.declared.reading.Sums.{Sums}
