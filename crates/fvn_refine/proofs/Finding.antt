@@ -29,7 +29,7 @@ module _ {A : Type 0} (l : List A) (i : ℕ) (a : A) (within : i < length l) (is
 
 module _ (d : Declarations) (xs : List Var) where
   pub finds_none : (P : Row → Type 0) → ((m : Row) → IsRow d xs m → P m → ⊥) → Finds d xs P []
-  finds_none P no = record { found = λ r c. absurd (contains_none r c); covers = λ m h p. absurd (no m h p); apart = none_apart d }
+  finds_none P never = record { found = λ r c. absurd (contains_none r c); covers = λ m h p. absurd (never m h p); apart = none_apart d }
 
   -- the row itself, where it has the property
   pub finds_here : (P : Row → Type 0) (way : Row) → IsRow d xs way → P way → ((m : Row) → P m → IsRowBelow d m way) → Finds d xs P (way ∷ [])

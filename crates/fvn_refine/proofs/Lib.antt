@@ -3,3 +3,9 @@ mod RowTests
 mod Ways
 mod Finding
 mod Sorts
+mod Tried
+mod InOrder
+mod VariablesListed
+mod Resorted
+mod Refined
+mod Covered

@@ -1,7 +1,7 @@
 -- Rows in lists of them: tests, and what is kept when more are added.
 use Rattle.std.proofs.Common.{◌≡◌, ◌↔◌, ◌⊎◌, Bool, true, false, not, List, [], ◌∷◌, ◌++◌, length, refl, sym, ap, subst, ◌∙◌, inl, inr, arith, IsTrue}
 use Rattle.std.specs.List.{Contains, AllZip, filter, list_any}
-use Rattle.std.specs.Prelude.{if◌then◌else◌, ◌||◌, ◌≢◌}
+use Rattle.std.specs.Prelude.{if◌then◌else◌, ◌||◌, ◌&&◌, ◌≢◌}
 use Rattle.std.proofs.lemmas.Bool.{and_parts, and_from, false≢true, true≢false, not-true}
 use Rattle.std.proofs.lemmas.List.Elements.{Contains-append_left, Contains-push, Contains-push_cases}
 use Rattle.fvn_base.proofs.Membership.{contains_here, contains_later, contains_cases, contains_none, filter_contains, contains_filter}
@@ -21,7 +21,7 @@ pass_together-length test [] (q ∷ qs) n = refl
 pass_together-length test (s ∷ ss) [] n = refl
 pass_together-length test (s ∷ ss) (q ∷ qs) n = go (test s q) (pass_together-length test ss qs (λ e. n (omega (arith, e))))
   where
-    go : (b : Bool) → pass_together test ss qs ≡ false → (if b then pass_together test ss qs else false) ≡ false
+    go : (b : Bool) → pass_together test ss qs ≡ false → (b && pass_together test ss qs) ≡ false
     go true r = r
     go false r = refl
 
@@ -74,7 +74,7 @@ module _ (d : Declarations) where
 
   -- what is below a row that one is above has one above
   pub above-lower : (rows : List Row) (m n : Row) → IsRowBelow d m n → HasAbove d rows n → HasAbove d rows m
-  above-lower rows m n h a = (a.0, (a.1.0, AllBelow-trans d m n a.1.0 h a.1.1))
+  above-lower rows m n h a = (a.0, (a.1.0, AllBelow-trans d m n a.0 h a.1.1))
 
   pub above-member : (rows : List Row) (m : Row) → Contains rows m → HasAbove d rows m
   above-member rows m c = (m, (c, AllBelow-self d m))

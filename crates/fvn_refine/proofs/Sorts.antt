@@ -72,7 +72,7 @@ module _ (d : Declarations) where
   pub is_unjoined : (f : OpId) (t : FlatTerm) → Settled d t → head_of t ≡ Some f → (IsAssociative (axioms d f) → args_of t ≡ []) → t ≡ fapp f false (fpack (args_of t))
   is_unjoined f t h k n = unjoined_form (axioms d f) f refl t h k n
 
-  no_arguments : (a : Axioms) → IsAssociative a → (ts : List FlatTerm) → FitsUnjoined a ts → ts ≡ []
+  no_arguments : (a : Axioms) → IsAssociative a → (ts : List FlatTerm) → FitsUnjoined d a ts → ts ≡ []
   no_arguments Free assoc ts h = absurd assoc
   no_arguments Comm assoc ts h = absurd assoc
   no_arguments AssocComm assoc ts h = h
@@ -103,8 +103,8 @@ module _ (d : Declarations) where
         fit_all k (t ∷ m) s o = (record { flat = s.0; kinded = (k, o.0) }, fit_all k m s.1 o.1)
 
         go : (m : List FlatTerm) → l ≡ m → AreSummands d f l
-        go [] e = let n = ap length e in absurd (omega arith)
-        go (t ∷ []) e = let n = ap length e in absurd (omega arith)
+        go [] e = let n = ap length e in absurd (omega (arith, two))
+        go (t ∷ []) e = let n = ap length e in absurd (omega (arith, two))
         go (t ∷ u ∷ us) e =
             let w : Fits d (fapp f true (fpack (t ∷ u ∷ us))) = subst (λ m. Fits d (fapp f true (fpack m))) e h in
             let k = w.kinded.1 in

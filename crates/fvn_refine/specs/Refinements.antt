@@ -1,6 +1,6 @@
 -- Refinements of a substitution: its variables are given sorts at which the listed variables go to terms of their sorts.
 -- J. Meseguer, J. A. Goguen and G. Smolka, Order-sorted unification, 1989.
-use Rattle.std.specs.Prelude.{◌≡◌, ℕ, List, map, All, Any, AllPairs, Contains, IsSome}
+use Rattle.std.specs.Prelude.{◌≡◌, ℕ, List, [], map, All, Any, AllPairs, Contains, IsSome}
 use Rattle.std.specs.List.{AllZip}
 use Rattle.std.specs.Option.{option_map}
 use Rattle.fvn_base.specs.Order.{IsBefore}
