@@ -32,10 +32,10 @@ module _ (d : Declarations) (xs : List Var) where
   finds_none P never = record { found = λ r c. absurd (contains_none r c); covers = λ m h p. absurd (never m h p); apart = none_apart d }
 
   -- the row itself, where it has the property
-  pub finds_here : (P : Row → Type 0) (way : Row) → IsRow d xs way → P way → ((m : Row) → P m → IsRowBelow d m way) → Finds d xs P (way ∷ [])
+  pub finds_here : (P : Row → Type 0) (way : Row) → IsRow d xs way → P way → ((m : Row) → IsRow d xs m → P m → IsRowBelow d m way) → Finds d xs P (way ∷ [])
   finds_here P way h p below = record {
     found = λ r c. elim (contains_cases way [] r c) [ inl e ↦ subst (λ q. IsRow d xs q × P q) e (h, p) | inr l ↦ absurd (contains_none r l) ];
-    covers = λ m i q. (way, (contains_here way [], below m q));
+    covers = λ m i q. (way, (contains_here way [], below m i q));
     apart = one_apart d way;
   }
 
@@ -54,7 +54,7 @@ module _ (d : Declarations) (xs : List Var) where
   module _ {A : Type 0} (P : A → Row → Type 0) (l : List A) where
     -- the row has the property for one of these things
     abbrev pub ForOne : List A → Row → Type 0
-    ForOne as m = (a : A) × (Contains as a × P a m)
+    ForOne bs m = (a : A) × (Contains bs a × P a m)
 
     pub finds_for_none : Finds d xs (ForOne (take 0 l)) []
     finds_for_none = finds_none (ForOne (take 0 l)) (λ m h p. contains_none p.0 p.1.0)

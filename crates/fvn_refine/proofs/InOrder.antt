@@ -1,15 +1,15 @@
 -- Rows in their places: tests of the order, and that all rows stand there once.
-use Rattle.std.proofs.Common.{◌≡◌, ℕ, ◌+◌, ◌<◌, ◌⊎◌, Bool, true, false, nat_lt, nat_eq, List, [], ◌∷◌, ◌++◌, map, length, refl, sym, ap, subst, ◌∙◌, inl, inr, arith}
-use Rattle.std.specs.List.{Contains}
+use Rattle.std.proofs.Common.{◌≡◌, ℕ, zero, suc, ◌+◌, ◌<◌, ◌≤◌, ◌⊎◌, Bool, true, false, nat_lt, nat_eq, List, [], ◌∷◌, ◌++◌, map, length, drop, get_or, refl, sym, ap, subst, ◌∙◌, inl, inr, arith, add-one}
+use Rattle.std.specs.List.{Contains, insert}
 use Rattle.std.specs.Prelude.{if◌then◌else◌, ◌&&◌, ◌||◌}
-use Rattle.std.proofs.lemmas.Bool.{or_cases, or_parts, and_parts, and_from, ltb-true, ltb-false, eqb-true, eq-eqb, lt-ltb, true≢false, false≢true, cases_order, or_left, or_right}
+use Rattle.std.proofs.lemmas.Bool.{or_cases, or_parts, and_parts, and_from, ltb-true, ltb-false, eqb-true, eq-eqb, lt-ltb, le-ltb, true≢false, false≢true, cases_order, or_left, or_right}
 use Rattle.fvn_base.specs.Order.{IsBefore}
 use Rattle.fvn_base.proofs.Order.{before_trans, before_irrefl}
 use Rattle.fvn_base.proofs.Membership.{contains_here, contains_later, contains_cases, contains_none}
 use Rattle.fvn_terms.specs.declared.plain.SortId.{SortId}
 use Rattle.fvn_forms.specs.SortOrder.{sort_number}
 use Rattle.fvn_refine.specs.inner.Rows.{Row}
-use Rattle.fvn_refine.specs.inner.Ordering.{numbers, is_before, with_in_place, with_all_in_place, all_in_place, AreInOrder}
+use Rattle.fvn_refine.specs.inner.Ordering.{numbers, is_before, place, with_in_place, with_all_in_place, all_in_place, AreInOrder}
 
 pub before_true : (r q : Row) → is_before r q ≡ true → IsBefore (numbers r) (numbers q)
 before_true [] [] e = absurd (false≢true e)
@@ -40,6 +40,78 @@ neither_before (v ∷ vs) (w ∷ ws) e f = go (cases_order v.0 w.0) (neither_bef
         ap (λ n. sort_number n ∷ vs) same ∙ ap (λ l. w ∷ l) (rest a b)
     go (inr (inl l)) rest = absurd (true≢false (sym (lt-ltb v.0 w.0 l) ∙ left.0))
     go (inr (inr l)) rest = absurd (true≢false (sym (lt-ltb w.0 v.0 l) ∙ right.0))
+
+-- where the row is put
+pub place_within : (rows : List Row) (row : Row) → place rows row ≤ length rows
+place_within [] row = omega arith
+place_within (r ∷ rows) row = go (is_before r row) (place_within rows row)
+  where
+    go : (b : Bool) → place rows row ≤ length rows → (if b then suc (place rows row) else 0) ≤ length (r ∷ rows)
+    go true l = omega arith
+    go false l = omega arith
+
+pub place_next : (rows : List Row) (i : ℕ) (r row : Row) → i < length rows → r ≡ get_or rows i r → is_before r row ≡ true → i + place (drop i rows) row ≡ i + 1 + place (drop (i + 1) rows) row
+place_next [] i r row within is e = absurd (omega arith)
+place_next (q ∷ rows) zero r row within is e =
+    let f : place (q ∷ rows) row ≡ suc (place rows row) = ap (λ b. if b then suc (place rows row) else 0) (ap (λ z. is_before z row) (sym is) ∙ e) in
+    omega arith
+place_next (q ∷ rows) (suc i) r row within is e =
+    let f = place_next rows i r row (omega arith) is e in
+    let g : place (drop (suc i + 1) (q ∷ rows)) row ≡ place (drop (i + 1) rows) row = rw add-one refl in
+    omega arith
+
+pub place_here : (rows : List Row) (i : ℕ) (r row : Row) → i < length rows → r ≡ get_or rows i r → is_before r row ≡ false → place (drop i rows) row ≡ 0
+place_here [] i r row within is e = absurd (omega arith)
+place_here (q ∷ rows) zero r row within is e = ap (λ b. if b then suc (place rows row) else 0) (ap (λ z. is_before z row) (sym is) ∙ e)
+place_here (q ∷ rows) (suc i) r row within is e = place_here rows i r row (omega arith) is e
+
+pub place_past : (rows : List Row) (i : ℕ) (row : Row) → length rows ≤ i → place (drop i rows) row ≡ 0
+place_past [] zero row past = refl
+place_past [] (suc i) row past = refl
+place_past (q ∷ rows) zero row past = absurd (omega arith)
+place_past (q ∷ rows) (suc i) row past = place_past rows i row (omega arith)
+
+-- at the end, in place of nothing, or before the row there
+pub in_place_last : (rows : List Row) (row : Row) → place rows row ≡ length rows → with_in_place rows row ≡ rows ++ row ∷ []
+in_place_last [] row e = refl
+in_place_last (r ∷ rows) row e = go (is_before r row) refl (in_place_last rows row)
+  where
+    go : (b : Bool) → is_before r row ≡ b → (place rows row ≡ length rows → with_in_place rows row ≡ rows ++ row ∷ []) →
+        (if b then r ∷ with_in_place rows row else if is_before row r then row ∷ r ∷ rows else r ∷ rows) ≡ r ∷ (rows ++ row ∷ [])
+    go true f rest =
+        let n : suc (place rows row) ≡ length (r ∷ rows) = ap (λ b. if b then suc (place rows row) else 0) (sym f) ∙ e in
+        ap (λ l. r ∷ l) (rest (omega arith))
+    go false f rest =
+        let n : 0 ≡ length (r ∷ rows) = ap (λ b. if b then suc (place rows row) else 0) (sym f) ∙ e in
+        absurd (omega arith)
+
+pub in_place_there : (rows : List Row) (row q : Row) → place rows row < length rows → q ≡ get_or rows (place rows row) q → is_before row q ≡ false → with_in_place rows row ≡ rows
+in_place_there [] row q within is n = absurd (omega arith)
+in_place_there (r ∷ rows) row q within is n = go (is_before r row) refl within is (in_place_there rows row q)
+  where
+    go : (b : Bool) → is_before r row ≡ b → (if b then suc (place rows row) else 0) < length (r ∷ rows) → q ≡ get_or (r ∷ rows) (if b then suc (place rows row) else 0) q →
+        (place rows row < length rows → q ≡ get_or rows (place rows row) q → is_before row q ≡ false → with_in_place rows row ≡ rows) →
+        (if b then r ∷ with_in_place rows row else if is_before row r then row ∷ r ∷ rows else r ∷ rows) ≡ r ∷ rows
+    go true f within is rest = ap (λ l. r ∷ l) (rest (omega arith) is n)
+    go false f within is rest = ap (λ b. if b then row ∷ r ∷ rows else r ∷ rows) (ap (is_before row) (sym is) ∙ n)
+
+pub in_place_before : (rows : List Row) (row q : Row) → place rows row < length rows → q ≡ get_or rows (place rows row) q → is_before row q ≡ true → with_in_place rows row ≡ insert rows (place rows row) row
+in_place_before [] row q within is n = absurd (omega arith)
+in_place_before (r ∷ rows) row q within is n = go (is_before r row) refl within is (in_place_before rows row q)
+  where
+    go : (b : Bool) → is_before r row ≡ b → (if b then suc (place rows row) else 0) < length (r ∷ rows) → q ≡ get_or (r ∷ rows) (if b then suc (place rows row) else 0) q →
+        (place rows row < length rows → q ≡ get_or rows (place rows row) q → is_before row q ≡ true → with_in_place rows row ≡ insert rows (place rows row) row) →
+        (if b then r ∷ with_in_place rows row else if is_before row r then row ∷ r ∷ rows else r ∷ rows) ≡ insert (r ∷ rows) (if b then suc (place rows row) else 0) row
+    go true f within is rest = ap (λ l. r ∷ l) (rest (omega arith) is n)
+    go false f within is rest = ap (λ b. if b then row ∷ r ∷ rows else r ∷ rows) (ap (is_before row) (sym is) ∙ n)
+
+-- the end of a comparison
+pub before_end : (r q : Row) → (length r ≡ 0) ⊎ (length q ≡ 0) → is_before r q ≡ nat_lt (length r) (length q)
+before_end [] [] h = refl
+before_end [] (w ∷ ws) h = sym (lt-ltb 0 (length (w ∷ ws)) (omega arith))
+before_end (v ∷ vs) [] h = sym (le-ltb (length (v ∷ vs)) 0 (omega arith))
+before_end (v ∷ vs) (w ∷ ws) (inl e) = absurd (omega arith)
+before_end (v ∷ vs) (w ∷ ws) (inr e) = absurd (omega arith)
 
 -- the rows with one more have this one and the others
 pub in_place_from : (rows : List Row) (row q : Row) → Contains (with_in_place rows row) q → Contains rows q ⊎ (row ≡ q)

@@ -2,8 +2,10 @@
 mod RowTests
 mod Ways
 mod Finding
+mod Steps
 mod Sorts
 mod Tried
+mod Parts
 mod InOrder
 mod VariablesListed
 mod Resorted

@@ -1,10 +1,11 @@
 -- From the rows that are found to the refinements.
-use Rattle.std.proofs.Common.{◌≡◌, ◌↔◌, ◌⊎◌, ℕ, zero, suc, ◌+◌, ◌<◌, ◌≤◌, Bool, true, false, List, [], ◌∷◌, ◌++◌, map, length, get_or, Option, Some, None, refl, sym, ap, ◌∙◌, subst, inl, inr, arith}
+use Rattle.std.proofs.Common.{◌≡◌, ◌↔◌, ◌⊎◌, ℕ, zero, suc, ◌+◌, ◌<◌, ◌≤◌, Bool, true, false, List, [], ◌∷◌, ◌++◌, map, length, take, get_or, Option, Some, None, refl, sym, ap, ◌∙◌, subst, inl, inr, arith}
 use Rattle.std.specs.List.{All, Any, AllPairs, AllZip, Contains}
 use Rattle.std.specs.Option.{option_map, is_some, IsSome}
 use Rattle.std.specs.Prelude.{if◌then◌else◌, ◌||◌}
 use Rattle.std.proofs.lemmas.Bool.{true≢false, false≢true}
 use Rattle.std.proofs.lemmas.List.Elements.{All-nil, All-cons, All-head, All-tail, All-contains, All-map, All-weaker, All-contains_itself, Contains-get_or}
+use Rattle.std.proofs.lemmas.List.{take_all}
 use Rattle.fvn_base.specs.Order.{IsBefore}
 use Rattle.fvn_base.proofs.Membership.{contains_here, contains_later, contains_cases, contains_none, contains_map, map_contains}
 use Rattle.fvn_terms.specs.declared.plain.Var.{Var}
@@ -23,6 +24,7 @@ use Rattle.fvn_forms.proofs.Results.{AllBelow-trans}
 use Rattle.fvn_forms.proofs.Eval.{canon_plain}
 use Rattle.fvn_forms.proofs.LeastSort.{inst_lowers, least_sort_of_settled}
 use Rattle.fvn_flat.specs.Bindings.{Bindings, bound, form_or, value, BindingsFit}
+use Rattle.fvn_flat.specs.Fits.{Fits}
 use Rattle.fvn_flat.specs.Problems.{variables_among}
 use Rattle.fvn_flat.specs.Solving.{substitution}
 use Rattle.fvn_flat.specs.Drawn.{OccursInValues, IsWay, IsMaximalWay}
@@ -34,8 +36,9 @@ use Rattle.fvn_refine.specs.inner.Rows.{Row, beside, way_of, IsRow, IsRowBelow, 
 use Rattle.fvn_refine.specs.inner.Found.{AreRows, Finds, IsUnder, HaveSorts}
 use Rattle.fvn_refine.specs.inner.Ordering.{numbers, all_in_place, AreInOrder}
 use Rattle.fvn_refine.proofs.RowTests.{any_true, any_false}
-use Rattle.fvn_refine.proofs.Ways.{beside_else, beside_map, beside_below, row_long, below_antisym, way_kind, way_sort, map_row}
-use Rattle.fvn_refine.proofs.Sorts.{sort_agrees}
+use Rattle.fvn_refine.proofs.Ways.{beside_else, beside_map, beside_below, row_long, kinds_row, kinds_above, way_kind, way_sort, map_row}
+use Rattle.fvn_refine.proofs.Sorts.{sort_agrees, under_lower}
+use Rattle.fvn_refine.proofs.Finding.{taken_new, taken_old, taken_cases, finds_here, finds_both}
 use Rattle.fvn_refine.proofs.InOrder.{placed_from, placed_all, placed_in_order}
 use Rattle.fvn_refine.proofs.VariablesListed.{Distinct, other_way, occurs_in_terms, terms_distinct}
 
@@ -65,6 +68,14 @@ all_members P xs h = All-weaker (Contains xs) P h xs (All-contains_itself xs)
 
 pub any_member : {A : Type 0} (P : A → Type 0) (xs : List A) (x : A) → Contains xs x → P x → Any P xs
 any_member P xs x c p = (c.0, x, c.1, c.2, p)
+
+taken_member : {A : Type 0} (l : List A) (i : ℕ) (x : A) → Contains (take i l) x → Contains l x
+taken_member l zero x c = absurd (contains_none x c)
+taken_member [] (suc i) x c = absurd (contains_none x c)
+taken_member (y ∷ l) (suc i) x c = elim (contains_cases y (take i l) x c) [
+  | inl e ↦ subst (Contains (y ∷ l)) e (contains_here y l)
+  | inr k ↦ contains_later y l x (taken_member l i x k)
+]
 
 -- what holds of each and each later one
 abbrev EachLater : {A : Type 0} → (A → A → Type 0) → List A → Type 0
@@ -335,6 +346,42 @@ module _ (d : Declarations) where
                 where
                   at_sort_flat : (row : Row) → Contains rows row → IsFlatSubstitution d (λ y. fvar (at_sort (way_of d (variables_of_terms s) row) y))
                   at_sort_flat row c = record { settled = λ y. tt; keeps_kinds = λ y j. (way_sort d good.kinded (variables_of_terms s) row y (is_row row c) j, way_kind d good.kinded (variables_of_terms s) row y (is_row row c)) }
+
+      -- the same for a list that is known to have the variables
+      module _ (xs : List Var) (are_variables : xs ≡ variables_of_terms s) (rows : List Row) (found : Finds d xs (HaveSorts d xs s vars) rows)
+          (ordered : List Row) (rs : List Bindings) (placed : ordered ≡ all_in_place rows) (at : AllZip (λ row r. IsAtSorts d s (way_of d xs row) r) ordered rs) where
+        found_there : Finds d (variables_of_terms s) (HaveSorts d (variables_of_terms s) s vars) rows
+        found_there = subst (λ z. Finds d z (HaveSorts d z s vars) rows) are_variables found
+
+        at_there : AllZip (λ row r. IsAtSorts d s (way_of d (variables_of_terms s) row) r) ordered rs
+        at_there = subst (λ z. AllZip (λ row r. IsAtSorts d s (way_of d z row) r) ordered rs) are_variables at
+
+        pub refined : AreRefinements d vars s rs
+        refined = are_refinements rows found_there ordered rs placed at_there
+
+        pub refined_sorts : All (BindingsFit d) rs → All (HaveTheirSorts d vars) rs
+        refined_sorts fits = have_sorts rows found_there ordered rs placed at_there fits
+
+      -- the rows at which the first of the variables have values of their sorts
+      module _ (xs : List Var) where
+        pub sorts_none : (way : Row) → way ≡ map (λ x. kind d x.sort) xs → (rows : List Row) → rows ≡ way ∷ [] → Finds d xs (HaveSorts d xs s (take 0 vars)) rows
+        sorts_none way e rows f =
+            subst (Finds d xs (HaveSorts d xs s (take 0 vars))) (sym f)
+            (finds_here d xs (HaveSorts d xs s (take 0 vars)) way (subst (IsRow d xs) (sym e) (kinds_row d good.kinded xs)) (λ x c. absurd (contains_none x c)) (λ m i p. subst (IsRowBelow d m) (sym e) (kinds_above d good.kinded xs m i)))
+
+        value_fits : (x : Var) → Contains vars x → Fits d (value s x)
+        value_fits x c = record { flat = fit.settled x; kinded = (kind d x.sort, kinded_value x c) }
+
+        pub sorts_more : (i : ℕ) (x : Var) → i < length vars → x ≡ get_or vars i x → (rows all : List Row) → Finds d xs (HaveSorts d xs s (take i vars)) rows →
+            Finds d xs (λ m. HasAbove d rows m × IsUnder d xs (value s x) x.sort m) all → Finds d xs (HaveSorts d xs s (take (i + 1) vars)) all
+        sorts_more i x within is rows all h k =
+            finds_both d xs (HaveSorts d xs s (take i vars)) (IsUnder d xs (value s x) x.sort) (HaveSorts d xs s (take (i + 1) vars))
+            (λ m r im ir below p z c. under_lower d good xs (value s z) (value_fits z (taken_member vars i z c)) z.sort m r im ir below (p z c)) rows all h k
+            (λ m p z c. elim (taken_cases vars i x within is z c) [ inl o ↦ p.0 z o | inr e ↦ subst (λ q. IsUnder d xs (value s q) q.sort m) e p.1 ])
+            (λ m q. (λ z c. q z (taken_old vars i x within is z c), q x (taken_new vars i x within is)))
+
+        pub sorts_all : (i : ℕ) → length vars ≤ i → (rows : List Row) → Finds d xs (HaveSorts d xs s (take i vars)) rows → Finds d xs (HaveSorts d xs s vars) rows
+        sorts_all i past rows h = subst (λ l. Finds d xs (HaveSorts d xs s l) rows) (take_all i vars past) h
 
     -- no refinements exactly where there is no way
     pub none_exactly : (rs : List Bindings) → AreRefinements d vars s rs → (rs ≡ []) ↔ HasNoWay d vars s

@@ -23,6 +23,11 @@ use Rattle.fvn_refine.specs.inner.Resorting.{with_resorted, with_all_resorted, r
 use Rattle.fvn_refine.proofs.VariablesListed.{occurs_in_terms}
 use Rattle.fvn_refine.proofs.Ways.{row_long}
 
+-- what is not some is none
+pub unbound : (o : Option FlatTerm) → is_some o ≡ false → o ≡ None
+unbound None e = refl
+unbound (Some t) e = absurd (true≢false e)
+
 -- the form of a variable at a sort
 abbrev there : Var → SortId → FlatTerm
 there y w = fvar (record { name = y.name; sort = w; fresh = y.fresh })

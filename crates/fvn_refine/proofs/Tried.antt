@@ -81,7 +81,7 @@ module _ (d : Declarations) (xs : List Var) (way : Row) (y : Var) (now s : SortI
     pub lowered_here : AtOrBelow d now s → (rows : List Row) → rows ≡ way ∷ [] → Finds d xs IsLowered rows
     lowered_here under rows e =
         subst (Finds d xs IsLowered) (sym e)
-        (finds_here d xs IsLowered way row (AllBelow-self d way, subst (λ q. AtOrBelow d q s) now_is under) (λ m p. p.0))
+        (finds_here d xs IsLowered way row (AllBelow-self d way, subst (λ q. AtOrBelow d q s) now_is under) (λ m i p. p.0))
 
     pub lowered_none : (AtOrBelow d now s → ⊥) → listed xs y ≡ false → Finds d xs IsLowered []
     lowered_none over out = finds_none d xs IsLowered (λ m h p. over (subst (λ q. AtOrBelow d q s) (beside_else xs m y (kind d y.sort) out ∙ sym (beside_else xs way y (kind d y.sort) out) ∙ sym now_is) p.1))

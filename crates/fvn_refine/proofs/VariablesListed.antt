@@ -1,5 +1,5 @@
 -- Variables of terms, listed in order of first occurrence: none twice, and all that occur.
-use Rattle.std.proofs.Common.{◌≡◌, ℕ, ◌+◌, ◌<◌, Bool, true, false, List, [], ◌∷◌, ◌++◌, map, length, take, get_or, Some, refl, sym, ap, ◌∙◌, subst, inl, inr, arith}
+use Rattle.std.proofs.Common.{◌≡◌, ℕ, ◌+◌, ◌<◌, Bool, true, false, List, [], ◌∷◌, ◌++◌, map, length, take, get_or, Some, None, refl, sym, ap, ◌∙◌, subst, inl, inr, arith}
 use Rattle.std.specs.Prelude.{◌||◌, if◌then◌else◌}
 use Rattle.std.proofs.lemmas.List.{take_more}
 use Rattle.std.proofs.lemmas.Bool.{or_parts, or_from, or_right, true≢false, false≢true}
@@ -8,6 +8,8 @@ use Rattle.fvn_terms.specs.Substitution.{same_var, Occurs, OccursAmong}
 use Rattle.fvn_forms.specs.Flat.{FlatTerm, FlatTerms, fvar, fapp, fnone, fmore, fpack, plain, plain_all}
 use Rattle.fvn_flat.specs.Bindings.{Bindings, bound}
 use Rattle.fvn_flat.specs.Variables.{listed, with_variable, with_variables, with_all_variables}
+use Rattle.fvn_forms.proofs.Sums.{fpack-funpack}
+use Rattle.fvn_flat.specs.Forms.{variable_of, args_of}
 use Rattle.fvn_flat.proofs.Occurrences.{occurs_in_app}
 use Rattle.fvn_flat.proofs.Binding.{same_var_is, same_var_itself}
 use Rattle.fvn_refine.specs.Refinements.{variables_of_terms}
@@ -101,6 +103,11 @@ with_all-push (u ∷ l) t vars = with_all-push l t (with_variables u vars)
 pub with_all-step : (l : List FlatTerm) (i : ℕ) (t : FlatTerm) (vars : List Var) → i < length l → t ≡ get_or l i t → with_all_variables (fpack (take (i + 1) l)) vars ≡ with_variables t (with_all_variables (fpack (take i l)) vars)
 with_all-step l i t vars within is =
     ap (λ m. with_all_variables (fpack m) vars) (take_more l i t within ∙ ap (λ u. take i l ++ u ∷ []) (sym is)) ∙ with_all-push (take i l) t vars
+
+-- the variables of a form that is no variable are those of its arguments
+pub with_variables_args : (t : FlatTerm) (vars : List Var) → variable_of t ≡ None → with_variables t vars ≡ with_all_variables (fpack (args_of t)) vars
+with_variables_args (fvar x) vars e = cc
+with_variables_args (fapp f joined ts) vars e = ap (λ us. with_all_variables us vars) (sym (fpack-funpack ts))
 
 in_terms : (s : Bindings) (vars : List Var) (x y : Var) (t : FlatTerm) → bound s x ≡ Some t → Occurs y (plain t) → listed (with_all_variables (fpack (map (λ p. p.1) s)) vars) y ≡ true
 in_terms [] vars x y t e o = cc

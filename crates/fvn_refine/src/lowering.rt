@@ -66,8 +66,8 @@ impl Search<'_> {
         self.sig.recall_good();
         self.sig.recall_completed();
         let kind = self.sig.kind(y.sort);
-        let now = beside(self.vars, way, y, kind);
-        if self.sig.leq(now, s) {
+        let here = beside(self.vars, way, y, kind);
+        if self.sig.leq(here, s) {
             let rows = alone(self.alloc, way)?;
             return Ok(rows);
         }
@@ -76,7 +76,7 @@ impl Search<'_> {
             return Ok(rows);
         }
         for n in 0..self.sig.declarations().sorts {
-            rows = self.with_sort(rows, way, y, SortId(n), now, s)?;
+            rows = self.with_sort(rows, way, y, SortId(n), here, s)?;
         }
         Ok(rows)
     }
@@ -88,14 +88,14 @@ impl Search<'_> {
         way: &[SortId],
         y: Var,
         z: SortId,
-        now: SortId,
+        here: SortId,
         s: SortId,
     ) -> Result<Vec<Seq<SortId>>, NoMemory>
         requires { length self.now.vars.now ≡ length way.now }
         ensures { let d = self.now.sig.now in
-            IfOk result (λ all. all.items ≡ (if at_or_below d z now && at_or_below d z s then with_row d rows.items (placed self.now.vars.now way.now y z) else rows.items)) }
+            IfOk result (λ all. all.items ≡ (if at_or_below d z here && at_or_below d z s then with_row d rows.items (placed self.now.vars.now way.now y z) else rows.items)) }
     {
-        if !is_at_or_below(self.sig, z, now) {
+        if !is_at_or_below(self.sig, z, here) {
             return Ok(rows);
         }
         if !is_at_or_below(self.sig, z, s) {
@@ -218,13 +218,15 @@ impl Search<'_> {
     {
         self.sig.recall_good();
         let last = ts.len() - 1;
+        let end = &ts[last];
         if last == 0 {
-            return self.lower(way, &ts[0], s);
+            return self.lower(way, &*end, s);
         }
+        let front = &ts[..last];
         let lists = arguments(self.alloc, self.sig, f, s)?;
         let mut all = Vec::new(self.alloc);
         for args in lists.as_slice() {
-            let more = self.lower_pair(way, f, &ts[..last], &ts[last], args.as_slice())?;
+            let more = self.lower_pair(way, f, front, &*end, args.as_slice())?;
             all = with_rows(self.alloc, self.sig, all, more)?;
         }
         Ok(all)

@@ -1,6 +1,6 @@
 //! Rows in the order of the numbers of their sorts.
 ghost use Rattle.std.specs.Prelude.{◌≡◌, IfOk};
-ghost use Rattle.fvn_refine.specs.inner.Ordering.{is_before, with_in_place, all_in_place};
+ghost use Rattle.fvn_refine.specs.inner.Ordering.{is_before, place, with_in_place, all_in_place};
 
 use fvn_base::Seq;
 use fvn_terms::{NoMemory, SortId};
@@ -21,26 +21,35 @@ fn is_before(row: &[SortId], other: &[SortId]) -> bool
     row.len() < other.len()
 }
 
+// How many rows at the front stand before this one.
+fn place(rows: &[Seq<SortId>], row: &[SortId]) -> usize
+    ensures { result ≡ place rows.now row.now }
+{
+    for (i, r) in rows.iter().enumerate() {
+        if !is_before(r.as_slice(), row) {
+            return i;
+        }
+    }
+    rows.len()
+}
+
 // The rows with one more in its place, if it is not there yet.
 fn with_in_place(
-    rows: Vec<Seq<SortId>>,
+    mut rows: Vec<Seq<SortId>>,
     row: Seq<SortId>,
 ) -> Result<Vec<Seq<SortId>>, NoMemory>
     ensures { IfOk result (λ all. all.items ≡ with_in_place rows.items row) }
 {
-    let mut all = rows;
-    let mut i = 0;
-    for r in all.as_slice() {
-        if !is_before(r.as_slice(), row.as_slice()) {
-            break;
-        }
-        i += 1;
+    let i = place(rows.as_slice(), row.as_slice());
+    if i == rows.len() {
+        rows.push(row)?;
+        return Ok(rows);
     }
-    if i < all.len() && !is_before(row.as_slice(), all[i].as_slice()) {
-        return Ok(all);
+    if !is_before(row.as_slice(), rows[i].as_slice()) {
+        return Ok(rows);
     }
-    all.insert(i, row)?;
-    Ok(all)
+    rows.insert(i, row)?;
+    Ok(rows)
 }
 
 // The rows in their places, each once.

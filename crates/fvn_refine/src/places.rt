@@ -1,5 +1,5 @@
 //! The sorts of rows beside variables.
-ghost use Rattle.std.specs.Prelude.{◌≡◌, IfOk, length};
+ghost use Rattle.std.specs.Prelude.{◌≡◌, ◌↔◌, IsTrue, IfOk, length};
 ghost use Rattle.fvn_refine.specs.inner.Rows.{beside, placed};
 
 use crate::rows::copied;
@@ -19,6 +19,13 @@ pub(crate) fn beside(vars: &[Var], row: &[SortId], y: Var, s: SortId) -> SortId
     s
 }
 
+// Whether the variables are one.
+fn is_same(x: Var, y: Var) -> bool
+    ensures { IsTrue result ↔ (x ≡ y) }
+{
+    x == y
+}
+
 // The row with another sort beside the first place of the variable.
 pub(crate) fn placed(
     alloc: Global,
@@ -32,7 +39,7 @@ pub(crate) fn placed(
 {
     let mut all = copied(alloc, row)?;
     for (i, x) in vars.iter().enumerate() {
-        if *x == y {
+        if is_same(*x, y) {
             all[i] = s;
             return Ok(all);
         }

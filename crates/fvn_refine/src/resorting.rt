@@ -1,7 +1,7 @@
 //! Substitutions with their variables at the sorts of a row.
-ghost use Rattle.std.specs.Prelude.{◌≡◌, map, IfOk, All};
+ghost use Rattle.std.specs.Prelude.{◌≡◌, map, IfOk, All, is_some};
 ghost use Rattle.std.specs.List.{AllZip};
-ghost use Rattle.fvn_flat.specs.Bindings.{BindingsFit};
+ghost use Rattle.fvn_flat.specs.Bindings.{bound, BindingsFit};
 ghost use Rattle.fvn_refine.specs.Refinements.{variables_of_terms, IsAtSorts};
 ghost use Rattle.fvn_refine.specs.inner.Rows.{IsRow, way_of};
 ghost use Rattle.fvn_refine.specs.inner.Found.{AreRows};
@@ -13,6 +13,13 @@ use fvn_sorts::Signature;
 use fvn_terms::{NoMemory, SortId, Var};
 use std::alloc::Global;
 
+// Whether the variable has a pair.
+fn is_bound(subst: &Subst, y: Var) -> bool
+    ensures { result ≡ is_some (bound subst.now y) }
+{
+    subst.get(y).is_some()
+}
+
 // The substitution with the variable at the sort, if it binds it not yet.
 fn with_resorted(
     alloc: Global,
@@ -22,7 +29,7 @@ fn with_resorted(
 ) -> Result<Subst, NoMemory>
     ensures { IfOk result (λ all. all ≡ with_resorted resorting y w) }
 {
-    if resorting.get(y).is_some() {
+    if is_bound(&resorting, y) {
         return Ok(resorting);
     }
     let there = Flat::var(Var {
@@ -30,7 +37,8 @@ fn with_resorted(
         sort: w,
         fresh: y.fresh,
     });
-    resorting.bind(alloc, y, &there)
+    let all = resorting.bind(alloc, y, &there)?;
+    Ok(all)
 }
 
 // The substitution of each variable by the same one at the sort beside it.

@@ -1,5 +1,5 @@
 -- Rows by the numbers of their sorts, each once.
-use Rattle.std.specs.Prelude.{◌≡◌, ℕ, Bool, true, false, nat_lt, nat_eq, ◌&&◌, ◌||◌, if◌then◌else◌, List, [], ◌∷◌, map, Contains}
+use Rattle.std.specs.Prelude.{◌≡◌, ℕ, suc, Bool, true, false, nat_lt, nat_eq, ◌&&◌, ◌||◌, if◌then◌else◌, List, [], ◌∷◌, map, Contains}
 use Rattle.fvn_base.specs.Order.{IsBefore}
 use Rattle.fvn_terms.specs.declared.plain.SortId.{SortId}
 use Rattle.fvn_refine.specs.inner.Rows.{Row}
@@ -14,6 +14,11 @@ is_before [] [] = false
 is_before [] (w ∷ ws) = true
 is_before (v ∷ vs) [] = false
 is_before (v ∷ vs) (w ∷ ws) = nat_lt v.0 w.0 || (nat_eq v.0 w.0 && is_before vs ws)
+
+-- how many rows at the front stand before this one
+abbrev pub place : List Row → Row → ℕ
+place [] row = 0
+place (r ∷ rows) row = if is_before r row then suc (place rows row) else 0
 
 -- the rows with one more in its place, if it is not there yet
 abbrev pub with_in_place : List Row → Row → List Row
