@@ -1,5 +1,5 @@
 -- Rows in their places: tests of the order, and that all rows stand there once.
-use Rattle.std.proofs.Common.{◌≡◌, ℕ, zero, suc, ◌+◌, ◌<◌, ◌≤◌, ◌⊎◌, Bool, true, false, nat_lt, nat_eq, List, [], ◌∷◌, ◌++◌, map, length, drop, get_or, refl, sym, ap, subst, ◌∙◌, inl, inr, arith, add-one}
+use Rattle.std.proofs.Common.{◌≡◌, ℕ, zero, suc, ◌+◌, ◌<◌, ◌≤◌, ◌⊎◌, Bool, true, false, nat_lt, nat_eq, List, [], ◌∷◌, ◌++◌, map, length, drop, get_or, refl, sym, ap, subst, ◌∙◌, inl, inr, arith}
 use Rattle.std.specs.List.{Contains, insert}
 use Rattle.std.specs.Prelude.{if◌then◌else◌, ◌&&◌, ◌||◌}
 use Rattle.std.proofs.lemmas.Bool.{or_cases, or_parts, and_parts, and_from, ltb-true, ltb-false, eqb-true, eq-eqb, lt-ltb, le-ltb, true≢false, false≢true, cases_order, or_left, or_right}
@@ -50,14 +50,15 @@ place_within (r ∷ rows) row = go (is_before r row) (place_within rows row)
     go true l = omega arith
     go false l = omega arith
 
+place_after : (rows : List Row) (i : ℕ) (r row : Row) → i < length rows → r ≡ get_or rows i r → is_before r row ≡ true → place (drop i rows) row ≡ suc (place (drop (suc i) rows) row)
+place_after [] i r row within is e = absurd (omega arith)
+place_after (q ∷ rows) zero r row within is e = ap (λ b. if b then suc (place rows row) else 0) (ap (λ z. is_before z row) (sym is) ∙ e)
+place_after (q ∷ rows) (suc i) r row within is e = place_after rows i r row (omega arith) is e
+
 pub place_next : (rows : List Row) (i : ℕ) (r row : Row) → i < length rows → r ≡ get_or rows i r → is_before r row ≡ true → i + place (drop i rows) row ≡ i + 1 + place (drop (i + 1) rows) row
-place_next [] i r row within is e = absurd (omega arith)
-place_next (q ∷ rows) zero r row within is e =
-    let f : place (q ∷ rows) row ≡ suc (place rows row) = ap (λ b. if b then suc (place rows row) else 0) (ap (λ z. is_before z row) (sym is) ∙ e) in
-    omega arith
-place_next (q ∷ rows) (suc i) r row within is e =
-    let f = place_next rows i r row (omega arith) is e in
-    let g : place (drop (suc i + 1) (q ∷ rows)) row ≡ place (drop (i + 1) rows) row = rw add-one refl in
+place_next rows i r row within is e =
+    let a : suc i ≡ i + 1 = omega arith in
+    let f : place (drop i rows) row ≡ suc (place (drop (i + 1) rows) row) = place_after rows i r row within is e ∙ ap (λ n. suc (place (drop n rows) row)) a in
     omega arith
 
 pub place_here : (rows : List Row) (i : ℕ) (r row : Row) → i < length rows → r ≡ get_or rows i r → is_before r row ≡ false → place (drop i rows) row ≡ 0

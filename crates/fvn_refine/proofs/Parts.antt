@@ -88,13 +88,13 @@ module _ (d : Declarations) (xs : List Var) where
 
     -- lists that are not as long
     pub unequal : (length ts ≡ length args → ⊥) → Finds d xs (λ m. IsRowBelow d m way × AreUnder d xs ts args m) []
-    unequal n = finds_none d xs (λ m. IsRowBelow d m way × AreUnder d xs ts args m) (λ m i p. n (long ts args p.1))
+    unequal n = finds_none d xs (λ m. IsRowBelow d m way × AreUnder d xs ts args m) (λ m i p. n (long ts args m p.1))
       where
-        long : (us : List FlatTerm) (ss : List SortId) → {m : Row} → AreUnder d xs us ss m → length us ≡ length ss
-        long [] [] h = refl
-        long [] (s ∷ ss) h = absurd h
-        long (t ∷ us) [] h = absurd h
-        long (t ∷ us) (s ∷ ss) h = let e = long us ss h.1 in omega arith
+        long : (us : List FlatTerm) (ss : List SortId) (m : Row) → AreUnder d xs us ss m → length us ≡ length ss
+        long [] [] m h = refl
+        long [] (s ∷ ss) m h = absurd h
+        long (t ∷ us) [] m h = absurd h
+        long (t ∷ us) (s ∷ ss) m h = let e = long us ss m h.1 in omega arith
 
   module _ (good : IsGood d) (way : Row) (f : OpId) (s : SortId) where
     -- an operator over forms, from its argument lists

@@ -1,5 +1,5 @@
 -- Steps of loops: ranks, pairs of a substitution, places of a row.
-use Rattle.std.proofs.Common.{◌≡◌, ℕ, zero, suc, ◌+◌, ◌<◌, ◌≤◌, ◌⊎◌, Bool, true, false, List, [], ◌∷◌, ◌++◌, map, length, take, drop, get_or, set, Some, None, refl, sym, ap, ◌∙◌, subst, inl, inr, arith, add-one}
+use Rattle.std.proofs.Common.{◌≡◌, ℕ, zero, suc, ◌+◌, ◌<◌, ◌≤◌, ◌⊎◌, Bool, true, false, List, [], ◌∷◌, ◌++◌, map, length, take, drop, get_or, set, Some, None, refl, sym, ap, ◌∙◌, subst, inl, inr, arith}
 use Rattle.std.specs.List.{Contains, slice_get, AllZip, All}
 use Rattle.std.specs.Prelude.{if◌then◌else◌}
 use Rattle.std.proofs.lemmas.Bool.{true≢false, false_from_ne_true}
@@ -25,10 +25,13 @@ got [] i x e = cc
 got (y ∷ l) zero x e = let q : y ≡ x = cc in (omega arith, sym q)
 got (y ∷ l) (suc i) x e = let r = got l i x e in let n : i < length l = r.0 in (omega arith, r.1)
 
+rest_from : {A : Type 0} (l : List A) (i : ℕ) (x : A) → slice_get l i ≡ Some x → drop i l ≡ x ∷ drop (suc i) l
+rest_from [] i x e = cc
+rest_from (y ∷ l) zero x e = let q : y ≡ x = cc in ap (λ z. z ∷ l) q
+rest_from (y ∷ l) (suc i) x e = rest_from l i x e
+
 pub got_rest : {A : Type 0} (l : List A) (i : ℕ) (x : A) → slice_get l i ≡ Some x → drop i l ≡ x ∷ drop (i + 1) l
-got_rest [] i x e = cc
-got_rest (y ∷ l) zero x e = let q : y ≡ x = cc in ap (λ z. z ∷ l) q
-got_rest (y ∷ l) (suc i) x e = got_rest l i x e ∙ rw add-one refl
+got_rest l i x e = let a : suc i ≡ i + 1 = omega arith in rest_from l i x e ∙ ap (λ n. x ∷ drop n l) a
 
 pub got_mapped : {A B : Type 0} (f : A → B) (l : List A) (i : ℕ) (x : A) → slice_get l i ≡ Some x → map f (take (i + 1) l) ≡ map f (take i l) ++ f x ∷ []
 got_mapped f l i x e = let g = got l i x e in map_more f l i x g.0 ∙ ap (λ z. map f (take i l) ++ f z ∷ []) (sym g.1)
@@ -82,12 +85,18 @@ module _ (d : Declarations) (s : SortId) where
   arguments_all ranks i rows past h = subst (λ l. AreArguments d s l rows) (take_all i ranks past) h
 
 -- one place of a row after another
+placed_after : (xs : List Var) (ws : Row) (i : ℕ) (e y : Var) (s : SortId) → length xs ≡ length ws → i < length xs → (get_or xs i e ≡ y → ⊥) →
+    take (suc i) ws ++ placed (drop (suc i) xs) (drop (suc i) ws) y s ≡ take i ws ++ placed (drop i xs) (drop i ws) y s
+placed_after [] ws i e y s long within n = absurd (omega arith)
+placed_after (v ∷ xs) [] i e y s long within n = absurd (omega arith)
+placed_after (v ∷ xs) (w ∷ ws) zero e y s long within n = sym (ap (λ b. if b then s ∷ ws else w ∷ placed xs ws y s) (false_from_ne_true (same_var v y) (λ f. n (same_var_is v y f))))
+placed_after (v ∷ xs) (w ∷ ws) (suc i) e y s long within n = ap (λ l. w ∷ l) (placed_after xs ws i e y s (omega arith) (omega arith) n)
+
 pub placed_next : (xs : List Var) (ws : Row) (i : ℕ) (e y : Var) (s : SortId) → length xs ≡ length ws → i < length xs → (get_or xs i e ≡ y → ⊥) →
     take (i + 1) ws ++ placed (drop (i + 1) xs) (drop (i + 1) ws) y s ≡ take i ws ++ placed (drop i xs) (drop i ws) y s
-placed_next [] ws i e y s long within n = absurd (omega arith)
-placed_next (v ∷ xs) [] i e y s long within n = absurd (omega arith)
-placed_next (v ∷ xs) (w ∷ ws) zero e y s long within n = sym (ap (λ b. if b then s ∷ ws else w ∷ placed xs ws y s) (false_from_ne_true (same_var v y) (λ f. n (same_var_is v y f))))
-placed_next (v ∷ xs) (w ∷ ws) (suc i) e y s long within n = rw add-one (ap (λ l. w ∷ l) (rw add-one at (placed_next xs ws i e y s (omega arith) (omega arith) n)))
+placed_next xs ws i e y s long within n =
+    let a : i + 1 ≡ suc i = omega arith in
+    ap (λ k. take k ws ++ placed (drop k xs) (drop k ws) y s) a ∙ placed_after xs ws i e y s long within n
 
 pub placed_here : (xs : List Var) (ws : Row) (i : ℕ) (e y : Var) (s : SortId) → length xs ≡ length ws → i < length xs → get_or xs i e ≡ y →
     set ws i s ≡ take i ws ++ placed (drop i xs) (drop i ws) y s

@@ -88,13 +88,15 @@ pub fn refine(
 {
     sig.recall_good();
     let ys = variables_of_terms(alloc, subst)?;
+    let variables = ys.as_slice();
     let search = Search {
         alloc,
         sig,
-        vars: ys.as_slice(),
+        vars: variables,
     };
     let rows = search.largest(subst, vars)?;
     let ordered = all_in_place(alloc, rows)?;
-    let all = all_resorted(alloc, sig, subst, ys.as_slice(), ordered.as_slice())?;
+    let placed = ordered.as_slice();
+    let all = all_resorted(alloc, sig, subst, variables, placed)?;
     Ok(all)
 }
