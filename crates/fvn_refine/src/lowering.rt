@@ -126,7 +126,10 @@ impl Search<'_> {
         };
         self.sig.recall_good();
         let ts = t.args();
-        if is_associative(self.sig, f) && !ts.is_empty() {
+        if ts.is_empty() {
+            return self.lower_over(way, f, ts, s);
+        }
+        if is_associative(self.sig, f) {
             return self.lower_sum(way, f, ts, s);
         }
         self.lower_over(way, f, ts, s)
