@@ -50,7 +50,6 @@ fn is_associative(sig: &Signature, f: OpId) -> bool
     }
 }
 
-#[tactic(none)]
 impl Search<'_> {
     // The rows at or below this one at which the variable has the sort or one below it.
     fn lower_variable(
