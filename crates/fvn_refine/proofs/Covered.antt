@@ -52,12 +52,12 @@ module _ (d : Declarations) where
     lowest_is_way : IsWay d vars (substitution s) (λ y. least_sort d (canon d (c.later y)))
     lowest_is_way = record {
       kinds = λ y o.
-        let i = occurring d vars s fit are y o in
-        (sort_from_kind (least_sort d (canon d (c.later y))) (kind d y.sort) (good.kinded.listed y.sort i) (later_kind y i), later_kind y i);
+          let i = occurring d vars s fit are y o in
+          (sort_from_kind (least_sort d (canon d (c.later y))) (kind d y.sort) (good.kinded.listed y.sort i) (later_kind y i), later_kind y i);
       fits = λ x i.
-        let term : IsTerm d (u x) = (kind d x.sort, sorted.0 x (sort_of_var d vars s fit are x i)) in
-        subst (λ q. AtOrBelow d q x.sort) (c.sorts x i ∙ ap (sort_in d (λ y. least_sort d (canon d (c.later y)))) (sym (canon_value d vars s fit are x)))
-        (least_sort_below d good (u x) term x.sort (sorted.1 x));
+          let term : IsTerm d (u x) = (kind d x.sort, sorted.0 x (sort_of_var d vars s fit are x i)) in
+          subst (λ q. AtOrBelow d q x.sort) (c.sorts x i ∙ ap (sort_in d (λ y. least_sort d (canon d (c.later y)))) (sym (canon_value d vars s fit are x)))
+          (least_sort_below d good (u x) term x.sort (sorted.1 x));
     }
 
     module _ (way : Way) (largest : IsLargest d vars s way) (above : (y : Var) → OccursInValues vars (substitution s) y → AtOrBelow d (least_sort d (canon d (c.later y))) (way y))
@@ -81,8 +81,8 @@ module _ (d : Declarations) where
       after_is y o =
           ap (λ b. if b then c.later (back (at_sort way y)) else var (at_sort way y))
           (and_from (occurs_in_values vars s (back (at_sort way y))) (same_sort (way y) (way (back (at_sort way y))))
-            (ap (occurs_in_values vars s) (back_is y o) ∙ occurs_complete vars s y o)
-            (ap (λ z. same_sort (way y) (way z)) (back_is y o) ∙ same_sort-self (way y)))
+          (ap (occurs_in_values vars s) (back_is y o) ∙ occurs_complete vars s y o)
+          (ap (λ z. same_sort (way y) (way z)) (back_is y o) ∙ same_sort-self (way y)))
           ∙ ap c.later (back_is y o)
 
       own_sort : (z : Var) → HasSort d (var z) z.sort
@@ -131,9 +131,9 @@ module _ (d : Declarations) where
       after_equal x i =
           let t = value s x in
           let placed : BEqual d (apply (λ y. var (at_sort way y)) (plain t)) (plain (value r x)) =
-              subst (λ v. BEqual d (apply (λ y. var (at_sort way y)) (plain t)) (plain v)) (sym (value_is x i)) (inst_equal d (λ y. fvar (at_sort way y)) good places_flat t (kind d x.sort, kinded_value d vars s fit are x i)) in
+          subst (λ v. BEqual d (apply (λ y. var (at_sort way y)) (plain t)) (plain v)) (sym (value_is x i)) (inst_equal d (λ y. fvar (at_sort way y)) good places_flat t (kind d x.sort, kinded_value d vars s fit are x i)) in
           let undone : apply after (apply (λ y. var (at_sort way y)) (plain t)) ≡ apply c.later (plain t) =
-              apply-apply (λ y. var (at_sort way y)) after (plain t) ∙ apply-agree (followed_by (λ y. var (at_sort way y)) after) c.later (plain t) (λ y o. after_is y (x, i, o)) in
+          apply-apply (λ y. var (at_sort way y)) after (plain t) ∙ apply-agree (followed_by (λ y. var (at_sort way y)) after) c.later (plain t) (λ y o. after_is y (x, i, o)) in
           BEqual-trans d (c.equal x i) (subst (λ v. BEqual d v (apply after (plain (value r x)))) undone (BEqual-apply d after after_sorted.0 placed))
 
       covered_by : IsInstance d vars u (substitution r)

@@ -222,7 +222,7 @@ module _ (d : Declarations) where
       row_of_under : (way : Way) → IsWay d vars (substitution s) way → HaveSorts d (variables_of_terms s) s vars (row_of way)
       row_of_under way h x c =
           let e : sort_in d way (canon d (substitution s x)) ≡ sort_in d (way_of d (variables_of_terms s) (row_of way)) (value s x) =
-              ap (sort_in d way) (canon_value x) ∙ sym (sort_agrees d (way_of d (variables_of_terms s) (row_of way)) way (value s x) (λ y o. row_of_sorts way y (x, c, o))) in
+          ap (sort_in d way) (canon_value x) ∙ sym (sort_agrees d (way_of d (variables_of_terms s) (row_of way)) way (value s x) (λ y o. row_of_sorts way y (x, c, o))) in
           subst (λ q. AtOrBelow d q x.sort) e (h.fits x c)
 
       module _ (rows : List Row) (found : Finds d (variables_of_terms s) (HaveSorts d (variables_of_terms s) s vars) rows) where
@@ -265,9 +265,9 @@ module _ (d : Declarations) where
             maximal = record {
               is_way = is_way;
               maximal = λ other h above y o.
-                AtOrBelow-antisym d good.kinded good.acyclic
-                (subst (λ q. AtOrBelow d q (way_r y)) (row_of_sorts other y o) (beside_below d (variables_of_terms s) (row_of other) r y (kind d y.sort) (topmost other h above)))
-                (above y o);
+                  AtOrBelow-antisym d good.kinded good.acyclic
+                  (subst (λ q. AtOrBelow d q (way_r y)) (row_of_sorts other y o) (beside_below d (variables_of_terms s) (row_of other) r y (kind d y.sort) (topmost other h above)))
+                  (above y o);
             };
             others = λ y n. go y n (listed (variables_of_terms s) y) refl;
           }
@@ -310,7 +310,7 @@ module _ (d : Declarations) where
             largest = All-map (IsLargest d vars s) (way_of d (variables_of_terms s)) ordered (all_members (λ r. IsLargest d vars s (way_of d (variables_of_terms s) r)) ordered (λ r c. is_largest r (of_rows r c)));
             above = λ way h. over way h;
             in_order = pairs_from (λ v w. IsBefore (sort_numbers (variables_of_terms s) v) (sort_numbers (variables_of_terms s) w)) (map (way_of d (variables_of_terms s)) ordered)
-              (later ordered of_rows (subst AreInOrder (sym placed) (placed_in_order rows)));
+                (later ordered of_rows (subst AreInOrder (sym placed) (placed_in_order rows)));
           }
             where
               over : (way : Way) → IsWay d vars (substitution s) way → Any (IsBelowWay d vars s way) (map (way_of d (variables_of_terms s)) ordered)
@@ -336,11 +336,11 @@ module _ (d : Declarations) where
               one : (row : Row) (r : Bindings) → Contains rows row → IsAtSorts d s (way_of d (variables_of_terms s) row) r → BindingsFit d r → (x : Var) → Contains vars x → HasSort d (substitution r x) x.sort
               one row r c h fits x i =
                   let is : value r x ≡ inst d (λ y. fvar (at_sort (way_of d (variables_of_terms s) row) y)) (value s x) =
-                      ap (form_or x) (h x ∙ ap (option_map (inst d (λ y. fvar (at_sort (way_of d (variables_of_terms s) row) y)))) (bound_value x i)) in
+                  ap (form_or x) (h x ∙ ap (option_map (inst d (λ y. fvar (at_sort (way_of d (variables_of_terms s) row) y)))) (bound_value x i)) in
                   let k = kinded_value x i in
                   let lower : AtOrBelow d (least_sort d (value r x)) (sort_in d (way_of d (variables_of_terms s) row) (value s x)) =
-                      subst (λ t. AtOrBelow d (least_sort d t) (sort_in d (way_of d (variables_of_terms s) row) (value s x))) (sym is)
-                      (inst_lowers d good (λ y. fvar (at_sort (way_of d (variables_of_terms s) row) y)) (at_sort_flat row c) (λ y. y.sort) (λ y j. refl) (value s x) (fit.settled x) (kind d x.sort, k)) in
+                  subst (λ t. AtOrBelow d (least_sort d t) (sort_in d (way_of d (variables_of_terms s) row) (value s x))) (sym is)
+                  (inst_lowers d good (λ y. fvar (at_sort (way_of d (variables_of_terms s) row) y)) (at_sort_flat row c) (λ y. y.sort) (λ y j. refl) (value s x) (fit.settled x) (kind d x.sort, k)) in
                   (least_sort_of_settled d good (value r x) (fits.settled x) (kind d x.sort, fits.keeps_kinds x (sort_of_var x i)) x.sort).1
                   (AtOrBelow-trans d lower ((found.found row c).1 x i))
                 where

@@ -34,10 +34,7 @@ fn place(rows: &[Seq<SortId>], row: &[SortId]) -> usize
 }
 
 // The rows with one more in its place, if it is not there yet.
-fn with_in_place(
-    mut rows: Vec<Seq<SortId>>,
-    row: Seq<SortId>,
-) -> Result<Vec<Seq<SortId>>, NoMemory>
+fn with_in_place(mut rows: Vec<Seq<SortId>>, row: Seq<SortId>) -> Result<Vec<Seq<SortId>>, NoMemory>
     ensures { IfOk result (λ all. all.items ≡ with_in_place rows.items row) }
 {
     let i = place(rows.as_slice(), row.as_slice());

@@ -21,12 +21,7 @@ fn is_bound(subst: &Subst, y: Var) -> bool
 }
 
 // The substitution with the variable at the sort, if it binds it not yet.
-fn with_resorted(
-    alloc: Global,
-    resorting: Subst,
-    y: Var,
-    w: SortId,
-) -> Result<Subst, NoMemory>
+fn with_resorted(alloc: Global, resorting: Subst, y: Var, w: SortId) -> Result<Subst, NoMemory>
     ensures { IfOk result (λ all. all ≡ with_resorted resorting y w) }
 {
     if is_bound(&resorting, y) {

@@ -9,6 +9,7 @@ use Rattle.fvn_refine.proofs.Sorts.{variable_is, variable_or_head}
 use Rattle.fvn_refine.proofs.Finding.{ForOne, finds_for_none, finds_for_more, finds_for_all, finds_from_rows}
 use Rattle.fvn_refine.proofs.Parts.{joined_is, joined_summands, from_sum, unjoined_is, unjoined_fits, from_over, args_places, front_none, front_more, front_all, unequal, over_all, sum_one, sum_several, front_summands, summand_fits, summand_kind, places_push, places_some}
 use Rattle.fvn_refine.proofs.lowering.Search.+lower.Goals as goal
+
 -- a term
 pub lower-lower_variable-rows-requires : goal.lower-lower_variable-rows-requires
 lower-lower_variable-rows-requires t c = record { row = c.requires.row; sort = c.requires.sort }
