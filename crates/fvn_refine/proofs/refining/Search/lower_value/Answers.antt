@@ -1,0 +1,7 @@
+-- The value of the variable.
+use Rattle.std.proofs.Common.{sym, ap, subst}
+use Rattle.fvn_flat.proofs.Composing.{bound_fits}
+use Rattle.fvn_refine.proofs.refining.Search.lower_value.Goals as goal
+
+pub lower_rows-all-requires : goal.lower_rows-all-requires
+lower_rows-all-requires c = ?
