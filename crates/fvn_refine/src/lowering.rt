@@ -1,7 +1,6 @@
 //! How sorts of variables are lowered until terms have given sorts: down the ranks that give them.
-ghost use Rattle.std.specs.Prelude.{◌≡◌, ◌∷◌, [], ◌++◌, ◌↔◌, IfOk, IsTrue, length, false};
+ghost use Rattle.std.specs.Prelude.{◌≡◌, ◌≤◌, ◌∷◌, [], ◌++◌, ◌↔◌, ◌&&◌, if◌then◌else◌, IfOk, IsTrue, length, false};
 ghost use Rattle.std.specs.List.{AllByRecursion};
-ghost use Rattle.std.specs.Prelude.{◌&&◌, if◌then◌else◌};
 ghost use Rattle.fvn_terms.specs.Signature.{axioms, IsSort};
 ghost use Rattle.fvn_terms.specs.Equality.{IsAssociative};
 ghost use Rattle.fvn_forms.specs.SortOrder.{at_or_below};
@@ -48,6 +47,17 @@ fn is_associative(sig: &Signature, f: OpId) -> bool
         Axioms::AssocComm => true,
         Axioms::AssocCommId(_) => true,
     }
+}
+
+// Whether the operator takes the terms as summands.
+fn is_sum(sig: &Signature, f: OpId, ts: &[Flat]) -> bool
+    ensures yes { IsTrue result → (IsAssociative (axioms sig.now f) × (1 ≤ length ts.now)) }
+    ensures no { result ≡ false → IsAssociative (axioms sig.now f) → ts.now ≡ [] }
+{
+    if ts.is_empty() {
+        return false;
+    }
+    is_associative(sig, f)
 }
 
 impl Search<'_> {
@@ -125,13 +135,12 @@ impl Search<'_> {
         };
         self.sig.recall_good();
         let ts = t.args();
-        if ts.is_empty() {
-            return self.lower_over(way, f, ts, s);
+        if is_sum(self.sig, f, ts) {
+            let rows = self.lower_sum(way, f, ts, s)?;
+            return Ok(rows);
         }
-        if is_associative(self.sig, f) {
-            return self.lower_sum(way, f, ts, s);
-        }
-        self.lower_over(way, f, ts, s)
+        let rows = self.lower_over(way, f, ts, s)?;
+        Ok(rows)
     }
 
     // The rows at or below one of these at which the term has the sort or one below it.
@@ -170,6 +179,7 @@ impl Search<'_> {
         ensures { let d = self.now.sig.now in let xs = self.now.vars.now in
             IfOk result (λ rows. Finds d xs (λ m. IsRowBelow d m way.now × AreUnder d xs ts.now args.now m) rows.items) }
     {
+        self.sig.recall_good();
         if ts.len() != args.len() {
             return Ok(Vec::new(self.alloc));
         }
@@ -223,7 +233,8 @@ impl Search<'_> {
         let last = ts.len() - 1;
         let end = &ts[last];
         if last == 0 {
-            return self.lower(way, &*end, s);
+            let rows = self.lower(way, &*end, s)?;
+            return Ok(rows);
         }
         let front = &ts[..last];
         let lists = arguments(self.alloc, self.sig, f, s)?;
@@ -256,7 +267,8 @@ impl Search<'_> {
             return Ok(Vec::new(self.alloc));
         }
         let rows = self.lower(way, &*last, args[1])?;
-        self.lower_sum_rows(rows.as_slice(), f, front, args[0])
+        let all = self.lower_sum_rows(rows.as_slice(), f, front, args[0])?;
+        Ok(all)
     }
 
     // The rows at or below one of these at which the sum of the terms has the sort or one below it.

@@ -28,45 +28,43 @@ fn kinds(alloc: Global, sig: &Signature, vars: &[Var]) -> Result<Vec<SortId>, No
     Ok(row)
 }
 
-impl Search<'_> {
-    // The rows at or below one of these at which the variable has a value of its sort.
-    fn lower_value(
-        &self,
-        rows: Vec<Seq<SortId>>,
-        subst: &Subst,
-        x: Var,
-    ) -> Result<Vec<Seq<SortId>>, NoMemory>
-        requires rows { AreRows self.now.sig.now self.now.vars.now rows.items }
-        requires fits { BindingsFit self.now.sig.now subst.now }
-        requires sort { IsSort self.now.sig.now x.sort }
-        requires bound { IsSome (bound subst.now x) }
-        ensures { let d = self.now.sig.now in let xs = self.now.vars.now in
-            IfOk result (λ all. Finds d xs (λ m. HasAbove d rows.items m × IsUnder d xs (value subst.now x) x.sort m) all.items) }
-    {
-        match subst.get(x) {
-            Some(t) => {
-                let all = self.lower_rows(rows.as_slice(), t, x.sort)?;
-                Ok(all)
-            }
-            None => Ok(rows),
+// The rows at or below one of these at which the variable has a value of its sort.
+fn lower_value(
+    search: &Search,
+    rows: Vec<Seq<SortId>>,
+    subst: &Subst,
+    x: Var,
+) -> Result<Vec<Seq<SortId>>, NoMemory>
+    requires rows { AreRows search.now.sig.now search.now.vars.now rows.items }
+    requires fits { BindingsFit search.now.sig.now subst.now }
+    requires sort { IsSort search.now.sig.now x.sort }
+    requires bound { IsSome (bound subst.now x) }
+    ensures { let d = search.now.sig.now in let xs = search.now.vars.now in
+        IfOk result (λ all. Finds d xs (λ m. HasAbove d rows.items m × IsUnder d xs (value subst.now x) x.sort m) all.items) }
+{
+    match subst.get(x) {
+        Some(t) => {
+            let all = search.lower_rows(rows.as_slice(), t, x.sort)?;
+            Ok(all)
         }
+        None => Ok(rows),
     }
+}
 
-    // The largest rows at which each of the variables has a value of its sort.
-    fn largest(&self, subst: &Subst, vars: &[Var]) -> Result<Vec<Seq<SortId>>, NoMemory>
-        requires fits { BindingsFit self.now.sig.now subst.now }
-        requires bound { AreBound self.now.sig.now vars.now subst.now }
-        ensures { let d = self.now.sig.now in let xs = self.now.vars.now in
-            IfOk result (λ rows. Finds d xs (HaveSorts d xs subst.now vars.now) rows.items) }
-    {
-        self.sig.recall_good();
-        let start = kinds(self.alloc, self.sig, self.vars)?;
-        let mut rows = alone(self.alloc, start.as_slice())?;
-        for x in vars {
-            rows = self.lower_value(rows, subst, *x)?;
-        }
-        Ok(rows)
+// The largest rows at which each of the variables has a value of its sort.
+fn largest(search: &Search, subst: &Subst, vars: &[Var]) -> Result<Vec<Seq<SortId>>, NoMemory>
+    requires fits { BindingsFit search.now.sig.now subst.now }
+    requires bound { AreBound search.now.sig.now vars.now subst.now }
+    ensures { let d = search.now.sig.now in let xs = search.now.vars.now in
+        IfOk result (λ rows. Finds d xs (HaveSorts d xs subst.now vars.now) rows.items) }
+{
+    search.sig.recall_good();
+    let start = kinds(search.alloc, search.sig, search.vars)?;
+    let mut rows = alone(search.alloc, start.as_slice())?;
+    for x in vars {
+        rows = lower_value(search, rows, subst, *x)?;
     }
+    Ok(rows)
 }
 
 /// The substitution once for each maximal way to put sorts on its variables such that each of the listed variables
@@ -94,7 +92,7 @@ pub fn refine(
         sig,
         vars: variables,
     };
-    let rows = search.largest(subst, vars)?;
+    let rows = largest(&search, subst, vars)?;
     let ordered = all_in_place(alloc, rows)?;
     let placed = ordered.as_slice();
     let all = all_resorted(alloc, sig, subst, variables, placed)?;

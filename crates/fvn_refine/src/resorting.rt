@@ -97,7 +97,8 @@ pub(crate) fn all_resorted(
 {
     let mut all = Vec::new(alloc);
     for row in rows {
-        all.push(resorted(alloc, sig, subst, vars, row.as_slice())?)?;
+        let one = resorted(alloc, sig, subst, vars, row.as_slice())?;
+        all.push(one)?;
     }
     Ok(all)
 }

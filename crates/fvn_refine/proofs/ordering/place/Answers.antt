@@ -1,4 +1,6 @@
 -- One more row.
+use Rattle.std.proofs.Common.{sym, ap, ◌∙◌}
+use Rattle.fvn_refine.proofs.InOrder.{place_next, place_here, place_past}
 use Rattle.fvn_refine.proofs.ordering.place.Goals as goal
 
 pub loop-i-preserved : goal.loop-i-preserved
