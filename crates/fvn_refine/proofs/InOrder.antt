@@ -2,7 +2,7 @@
 use Rattle.std.proofs.Common.{◌≡◌, ℕ, zero, suc, ◌+◌, ◌<◌, ◌≤◌, ◌⊎◌, Bool, true, false, nat_lt, nat_eq, List, [], ◌∷◌, ◌++◌, map, length, drop, get_or, refl, sym, ap, subst, ◌∙◌, inl, inr, arith}
 use Rattle.std.specs.List.{Contains, insert}
 use Rattle.std.specs.Prelude.{if◌then◌else◌, ◌&&◌, ◌||◌}
-use Rattle.std.proofs.lemmas.Bool.{or_cases, or_parts, and_parts, and_from, ltb-true, ltb-false, eqb-true, eq-eqb, lt-ltb, le-ltb, true≢false, false≢true, cases_order, or_left, or_right}
+use Rattle.std.proofs.lemmas.Bool.{or_cases, or_parts, and_parts, and_from, ltb-true, ltb-false, eqb-true, eq-eqb, lt-ltb, le-ltb, true≢false, false≢true, cases_order, cases_lt, or_left, or_right}
 use Rattle.fvn_base.specs.Order.{IsBefore}
 use Rattle.fvn_base.proofs.Order.{before_trans, before_irrefl}
 use Rattle.fvn_base.proofs.Membership.{contains_here, contains_later, contains_cases, contains_none}
@@ -113,6 +113,13 @@ before_end [] (w ∷ ws) h = sym (lt-ltb 0 (length (w ∷ ws)) (omega arith))
 before_end (v ∷ vs) [] h = sym (le-ltb (length (v ∷ vs)) 0 (omega arith))
 before_end (v ∷ vs) (w ∷ ws) (inl e) = absurd (omega arith)
 before_end (v ∷ vs) (w ∷ ws) (inr e) = absurd (omega arith)
+
+pub before_ended : (row other r q : Row) → length row + length q ≡ length other + length r → (length r ≡ 0) ⊎ (length q ≡ 0) → is_before row other ≡ is_before r q → nat_lt (length row) (length other) ≡ is_before row other
+before_ended row other r q as_many ended decide = go (cases_lt (length r) (length q)) ∙ sym (before_end r q ended) ∙ sym decide
+  where
+    go : (length r < length q) ⊎ (length q ≤ length r) → nat_lt (length row) (length other) ≡ nat_lt (length r) (length q)
+    go (inl l) = lt-ltb (length row) (length other) (omega arith) ∙ sym (lt-ltb (length r) (length q) l)
+    go (inr l) = le-ltb (length row) (length other) (omega arith) ∙ sym (le-ltb (length r) (length q) l)
 
 -- the rows with one more have this one and the others
 pub in_place_from : (rows : List Row) (row q : Row) → Contains (with_in_place rows row) q → Contains rows q ⊎ (row ≡ q)

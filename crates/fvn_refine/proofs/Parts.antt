@@ -1,7 +1,7 @@
 -- What is found for terms from what is found for their parts.
 use Rattle.std.proofs.Common.{◌≡◌, ℕ, zero, suc, ◌+◌, ◌*◌, ◌-◌, ◌<◌, ◌≤◌, ◌⊎◌, Bool, true, false, List, [], ◌∷◌, ◌++◌, map, length, take, drop, get_or, Some, None, refl, sym, ap, subst, ◌∙◌, inl, inr, arith}
 use Rattle.std.specs.List.{Contains, AllZip, AllByRecursion}
-use Rattle.std.proofs.lemmas.List.{take_more, take_all, length-take}
+use Rattle.std.proofs.lemmas.List.{take_more, take_all, drop_more, length-take}
 use Rattle.fvn_base.proofs.Membership.{contains_here, contains_cases, contains_none}
 use Rattle.fvn_terms.specs.declared.plain.Var.{Var}
 use Rattle.fvn_terms.specs.declared.plain.OpId.{OpId}
@@ -14,9 +14,11 @@ use Rattle.fvn_forms.specs.Flat.{FlatTerm, fvar, fapp, fpack, plain}
 use Rattle.fvn_forms.specs.Good.{IsGood}
 use Rattle.fvn_forms.specs.Ranks.{ranks_of}
 use Rattle.fvn_forms.proofs.Results.{AllBelow-trans, AllBelow-self}
+use Rattle.fvn_forms.proofs.Sums.{funpack-fpack}
 use Rattle.fvn_flat.specs.Forms.{variable_of, head_of, args_of}
 use Rattle.fvn_flat.specs.Weight.{places, places_all}
 use Rattle.fvn_flat.specs.Fits.{Fits, AllFit, AllOfKind}
+use Rattle.fvn_flat.proofs.Fitting.{args_fit}
 use Rattle.fvn_flat.proofs.Instances.{each_at}
 use Rattle.fvn_refine.specs.inner.Rows.{Row, way_of, IsRow, IsRowBelow, HasAbove, IsAntichain}
 use Rattle.fvn_refine.specs.inner.Found.{AreArguments, AreSummands, Finds, IsUnder, AreUnder, IsResultUnder, IsSumUnder, IsPairUnder}
@@ -32,13 +34,11 @@ module _ (d : Declarations) (xs : List Var) where
     pub covers : (m : Row) → IsRow d xs m → IsRowBelow d m way → AreUnder d xs ts args m → HasAbove d rows m
     pub apart : IsAntichain d rows
     pub fit : AllFit d us
-    pub sorts : AllByRecursion (IsSort d) ss
     pub as_long : length us ≡ length ss
-    pub small : places_all (fpack us) ≤ places_all (fpack ts)
 
   module _ (good : IsGood d) (way : Row) (ts : List FlatTerm) (args : List SortId) where
-    pub front_none : IsRow d xs way → AllFit d ts → AllByRecursion (IsSort d) args → length ts ≡ length args → (rows : List Row) → rows ≡ way ∷ [] → FindsFront way ts args ts args rows
-    front_none row fit sorts long rows e = subst (FindsFront way ts args ts args) (sym e) (record {
+    pub front_none : IsRow d xs way → AllFit d ts → length ts ≡ length args → (rows : List Row) → rows ≡ way ∷ [] → FindsFront way ts args ts args rows
+    front_none row fit long rows e = subst (FindsFront way ts args ts args) (sym e) (record {
       within = λ m u. u;
       found = λ r c. elim (contains_cases way [] r c) [
         | inl f ↦ subst (λ q. IsRow d xs q × (IsRowBelow d q way × ((m : Row) → IsRow d xs m → IsRowBelow d m q → AreUnder d xs ts args m → AreUnder d xs ts args m))) f (row, (AllBelow-self d way, λ m i b u. u))
@@ -47,9 +47,7 @@ module _ (d : Declarations) (xs : List Var) where
       covers = λ m i b u. (way, (contains_here way [], b));
       apart = one_apart d way;
       fit = fit;
-      sorts = sorts;
       as_long = long;
-      small = omega arith;
     })
 
     pub front_more : (t : FlatTerm) (us : List FlatTerm) (s : SortId) (ss : List SortId) (rows all : List Row) → FindsFront way ts args (t ∷ us) (s ∷ ss) rows →
@@ -60,9 +58,7 @@ module _ (d : Declarations) (xs : List Var) where
       covers = λ m i b u. k.covers m i (h.covers m i b u, (h.within m u).0);
       apart = k.apart;
       fit = h.fit.1;
-      sorts = h.sorts.1;
       as_long = let e = h.as_long in omega arith;
-      small = let e = h.small in omega arith;
     }
       where
         next : (r : Row) → IsRow d xs r × (HasAbove d rows r × IsUnder d xs t s r) → IsRow d xs r × (IsRowBelow d r way × ((m : Row) → IsRow d xs m → IsRowBelow d m r → AreUnder d xs us ss m → AreUnder d xs ts args m))
@@ -74,6 +70,15 @@ module _ (d : Declarations) (xs : List Var) where
                 λ m i b u. o.1.1 m i (AllBelow-trans d m r f.1.0.0 b f.1.0.1.1) (under_lower d good xs t h.fit.0 s m r i f.0 b f.1.1, u),
               ),
             )
+
+    -- the same at a place of the lists
+    pub front_next : (i : ℕ) (t : FlatTerm) (e : SortId) → i < length ts → i < length args → t ≡ get_or ts i t → (rows all : List Row) → FindsFront way ts args (drop i ts) (drop i args) rows →
+        Finds d xs (λ m. HasAbove d rows m × IsUnder d xs t (get_or args i e) m) all → FindsFront way ts args (drop (i + 1) ts) (drop (i + 1) args) all
+    front_next i t e within inside is rows all h k =
+        let terms : drop i ts ≡ t ∷ drop (i + 1) ts = drop_more ts i t within ∙ ap (λ u. u ∷ drop (i + 1) ts) (sym is) in
+        let sorts : drop i args ≡ get_or args i e ∷ drop (i + 1) args = drop_more args i e inside in
+        front_more t (drop (i + 1) ts) (get_or args i e) (drop (i + 1) args) rows all
+        (subst (λ l. FindsFront way ts args l (get_or args i e ∷ drop (i + 1) args) rows) terms (subst (λ l. FindsFront way ts args (drop i ts) l rows) sorts h)) k
 
     pub front_all : (us : List FlatTerm) (ss : List SortId) (rows : List Row) → FindsFront way ts args us ss rows → (length us ≡ 0) ⊎ (length ss ≡ 0) → Finds d xs (λ m. IsRowBelow d m way × AreUnder d xs ts args m) rows
     front_all [] [] rows h e = record {
@@ -95,6 +100,27 @@ module _ (d : Declarations) (xs : List Var) where
         long [] (s ∷ ss) m h = absurd h
         long (t ∷ us) [] m h = absurd h
         long (t ∷ us) (s ∷ ss) m h = let e = long us ss m h.1 in omega arith
+
+  -- a row that is no pair
+  pub not_two : (way : Row) (f : OpId) (front : List FlatTerm) (last : FlatTerm) (args : List SortId) → (length args ≡ 2 → ⊥) →
+      Finds d xs (λ m. IsRowBelow d m way × IsPairUnder d xs f front last args m) []
+  not_two way f front last args n = finds_none d xs (λ m. IsRowBelow d m way × IsPairUnder d xs f front last args m) (λ m i p. n (two args m p.1))
+    where
+      two : (ss : List SortId) (m : Row) → IsPairUnder d xs f front last ss m → length ss ≡ 2
+      two [] m h = absurd h
+      two (a ∷ []) m h = absurd h
+      two (a ∷ b ∷ []) m h = refl
+      two (a ∷ b ∷ c ∷ ss) m h = absurd h
+
+  -- a pair, from the last form and then the sum of the first ones
+  pub pair_found : IsGood d → (way : Row) (f : OpId) (front : List FlatTerm) (last : FlatTerm) → Fits d last → (a b : SortId) (args : List SortId) → args ≡ a ∷ b ∷ [] → (rows all : List Row) →
+      Finds d xs (λ m. IsRowBelow d m way × IsUnder d xs last b m) rows → Finds d xs (λ m. HasAbove d rows m × IsSumUnder d xs f front a m) all →
+      Finds d xs (λ m. IsRowBelow d m way × IsPairUnder d xs f front last args m) all
+  pair_found good way f front last fits a b args e rows all h k =
+      subst (λ ss. Finds d xs (λ m. IsRowBelow d m way × IsPairUnder d xs f front last ss m) all) (sym e)
+      (finds_both d xs (λ m. IsRowBelow d m way × IsUnder d xs last b m) (IsSumUnder d xs f front a) (λ m. IsRowBelow d m way × IsPairUnder d xs f front last (a ∷ b ∷ []) m)
+      (λ m r im ir below p. (AllBelow-trans d m r way below p.0, under_lower d good xs last fits b m r im ir below p.1)) rows all h k
+      (λ m p. (p.0.0, (p.1, p.0.1))) (λ m q. ((q.0, q.1.1), q.1.0)))
 
   module _ (good : IsGood d) (way : Row) (f : OpId) (s : SortId) where
     -- an operator over forms, from its argument lists
@@ -187,6 +213,10 @@ module _ (d : Declarations) (xs : List Var) (good : IsGood d) (way : Row) (f : O
   from_over none h =
       finds_same d xs (λ m. IsRowBelow d m way × IsResultUnder d xs f (args_of t) s m) (λ m. IsRowBelow d m way × IsUnder d xs t s m)
       (λ m i p. (p.0, from_unjoined d good xs f t (args_of t) s m (unjoined_is none) p.1)) (λ m i p. (p.0, to_unjoined d good xs f t (args_of t) s m (unjoined_is none) p.1)) rows h
+
+-- the arguments of an operator fit
+pub over_fit : (d : Declarations) → IsGood d → (f : OpId) (l : List FlatTerm) → Fits d (fapp f false (fpack l)) → AllFit d l
+over_fit d good f l h = subst (AllFit d) (funpack-fpack l) (args_fit (fapp f false (fpack l)) d good.fits h)
 
 pub args_places : (f : OpId) (joined : Bool) (t : FlatTerm) → t ≡ fapp f joined (fpack (args_of t)) → places t ≡ places_all (fpack (args_of t)) + 1
 args_places f joined t e = ap places e

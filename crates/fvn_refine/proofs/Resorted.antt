@@ -1,5 +1,5 @@
 -- Substitutions at the sorts of a row.
-use Rattle.std.proofs.Common.{◌≡◌, Bool, true, false, List, [], ◌∷◌, ◌++◌, map, length, Option, Some, None, refl, sym, ap, ◌∙◌, subst, inl, inr, arith}
+use Rattle.std.proofs.Common.{◌≡◌, ◌⊎◌, Bool, true, false, List, [], ◌∷◌, ◌++◌, map, length, Option, Some, None, refl, sym, ap, ◌∙◌, subst, inl, inr, arith}
 use Rattle.std.specs.List.{Contains}
 use Rattle.std.specs.Option.{option_map, is_some}
 use Rattle.std.specs.Prelude.{◌||◌, if◌then◌else◌}
@@ -72,6 +72,13 @@ all_new (x ∷ ys) (w ∷ ws) s y e long n l = go (same_var x y) refl (all_new y
         all_kept ys ws (with_resorted s x w) y (there y w)
         (subst (λ z. bound (with_resorted s x w) z ≡ Some (there z w)) is (resorted_same s x w (ap (bound s) is ∙ n)))
     go false f rest = rest (resorted_other s x y w f ∙ n) (ap (λ b. b || listed ys y) (sym f) ∙ l)
+
+-- nothing is left of one of the lists
+pub resorted_ended : (s : Bindings) (ys : List Var) (ws : Row) → (length ys ≡ 0) ⊎ (length ws ≡ 0) → with_all_resorted s ys ws ≡ s
+resorted_ended s [] ws h = refl
+resorted_ended s (y ∷ ys) [] h = refl
+resorted_ended s (y ∷ ys) (w ∷ ws) (inl e) = absurd (omega arith)
+resorted_ended s (y ∷ ys) (w ∷ ws) (inr e) = absurd (omega arith)
 
 -- the variables of a list go to themselves at the sorts of the row
 pub value_resorting : (ys : List Var) (ws : Row) (y : Var) (e : SortId) → length ys ≡ length ws → listed ys y ≡ true → value (resorting ys ws) y ≡ there y (beside ys ws y e)

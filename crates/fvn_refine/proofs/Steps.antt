@@ -84,6 +84,13 @@ module _ (d : Declarations) (s : SortId) where
   pub arguments_all : (ranks : List Rank) (i : ℕ) (rows : List Row) → length ranks ≤ i → AreArguments d s (take i ranks) rows → AreArguments d s ranks rows
   arguments_all ranks i rows past h = subst (λ l. AreArguments d s l rows) (take_all i ranks past) h
 
+-- a row of two
+pub two_items : (row : Row) (e f : SortId) → length row ≡ 2 → row ≡ get_or row 0 e ∷ get_or row 1 f ∷ []
+two_items [] e f long = absurd (omega arith)
+two_items (a ∷ []) e f long = absurd (omega arith)
+two_items (a ∷ b ∷ []) e f long = refl
+two_items (a ∷ b ∷ c ∷ row) e f long = absurd (omega arith)
+
 -- one place of a row after another
 placed_after : (xs : List Var) (ws : Row) (i : ℕ) (e y : Var) (s : SortId) → length xs ≡ length ws → i < length xs → (get_or xs i e ≡ y → ⊥) →
     take (suc i) ws ++ placed (drop (suc i) xs) (drop (suc i) ws) y s ≡ take i ws ++ placed (drop i xs) (drop i ws) y s

@@ -1,7 +1,6 @@
 //! How sorts of variables are lowered until terms have given sorts: down the ranks that give them.
-ghost use Rattle.std.specs.Prelude.{◌≡◌, ◌≤◌, ◌∷◌, [], ◌++◌, ◌↔◌, ◌&&◌, if◌then◌else◌, IfOk, IsTrue, length, false};
-ghost use Rattle.std.specs.List.{AllByRecursion};
-ghost use Rattle.fvn_terms.specs.Signature.{axioms, IsSort};
+ghost use Rattle.std.specs.Prelude.{◌≡◌, ◌≤◌, ◌∷◌, [], ◌++◌, ◌↔◌, ◌&&◌, if◌then◌else◌, IfOk, IsTrue, MatchOption, length, false};
+ghost use Rattle.fvn_terms.specs.Signature.{axioms};
 ghost use Rattle.fvn_terms.specs.Equality.{IsAssociative};
 ghost use Rattle.fvn_forms.specs.SortOrder.{at_or_below};
 ghost use Rattle.fvn_forms.specs.Flat.{fvar, fapp, fpack};
@@ -60,6 +59,16 @@ fn is_sum(sig: &Signature, f: OpId, ts: &[Flat]) -> bool
     is_associative(sig, f)
 }
 
+// The two sorts of the row, where there are two.
+fn pair_of(row: &[SortId]) -> Option<(SortId, SortId)>
+    ensures { MatchOption result (length row.now ≡ 2 → ⊥) (λ pair. row.now ≡ pair.0 ∷ pair.1 ∷ []) }
+{
+    if row.len() != 2 {
+        return None;
+    }
+    Some((row[0], row[1]))
+}
+
 impl Search<'_> {
     // The rows at or below this one at which the variable has the sort or one below it.
     fn lower_variable(
@@ -69,7 +78,6 @@ impl Search<'_> {
         s: SortId,
     ) -> Result<Vec<Seq<SortId>>, NoMemory>
         requires row { IsRow self.now.sig.now self.now.vars.now way.now }
-        requires sort { IsSort self.now.sig.now s }
         ensures { let d = self.now.sig.now in let xs = self.now.vars.now in
             IfOk result (λ rows. Finds d xs (λ m. IsRowBelow d m way.now × IsUnder d xs (fvar y) s m) rows.items) }
     {
@@ -121,7 +129,6 @@ impl Search<'_> {
     fn lower(&self, way: &[SortId], t: &Flat, s: SortId) -> Result<Vec<Seq<SortId>>, NoMemory>
         requires row { IsRow self.now.sig.now self.now.vars.now way.now }
         requires term { Fits self.now.sig.now t.now }
-        requires sort { IsSort self.now.sig.now s }
         ensures { let d = self.now.sig.now in let xs = self.now.vars.now in
             IfOk result (λ rows. Finds d xs (λ m. IsRowBelow d m way.now × IsUnder d xs t.now s m) rows.items) }
     {
@@ -153,7 +160,6 @@ impl Search<'_> {
     ) -> Result<Vec<Seq<SortId>>, NoMemory>
         requires rows { AreRows self.now.sig.now self.now.vars.now rows.now }
         requires term { Fits self.now.sig.now t.now }
-        requires sort { IsSort self.now.sig.now s }
         ensures { let d = self.now.sig.now in let xs = self.now.vars.now in
             IfOk result (λ all. Finds d xs (λ m. HasAbove d rows.now m × IsUnder d xs t.now s m) all.items) }
     {
@@ -175,7 +181,6 @@ impl Search<'_> {
     ) -> Result<Vec<Seq<SortId>>, NoMemory>
         requires row { IsRow self.now.sig.now self.now.vars.now way.now }
         requires terms { AllFit self.now.sig.now ts.now }
-        requires sorts { AllByRecursion (IsSort self.now.sig.now) args.now }
         ensures { let d = self.now.sig.now in let xs = self.now.vars.now in
             IfOk result (λ rows. Finds d xs (λ m. IsRowBelow d m way.now × AreUnder d xs ts.now args.now m) rows.items) }
     {
@@ -184,8 +189,8 @@ impl Search<'_> {
             return Ok(Vec::new(self.alloc));
         }
         let mut rows = alone(self.alloc, way)?;
-        for (t, s) in ts.iter().zip(args.iter()) {
-            rows = self.lower_rows(rows.as_slice(), t, *s)?;
+        for (i, t) in ts.iter().enumerate() {
+            rows = self.lower_rows(rows.as_slice(), t, args[i])?;
         }
         Ok(rows)
     }
@@ -225,7 +230,6 @@ impl Search<'_> {
     ) -> Result<Vec<Seq<SortId>>, NoMemory>
         requires row { IsRow self.now.sig.now self.now.vars.now way.now }
         requires sum { AreSummands self.now.sig.now f ts.now }
-        requires sort { IsSort self.now.sig.now s }
         ensures { let d = self.now.sig.now in let xs = self.now.vars.now in
             IfOk result (λ rows. Finds d xs (λ m. IsRowBelow d m way.now × IsSumUnder d xs f ts.now s m) rows.items) }
     {
@@ -259,15 +263,16 @@ impl Search<'_> {
         requires row { IsRow self.now.sig.now self.now.vars.now way.now }
         requires sum { AreSummands self.now.sig.now f front.now }
         requires term { Fits self.now.sig.now last.now }
-        requires sorts { AllByRecursion (IsSort self.now.sig.now) args.now }
         ensures { let d = self.now.sig.now in let xs = self.now.vars.now in
             IfOk result (λ rows. Finds d xs (λ m. IsRowBelow d m way.now × IsPairUnder d xs f front.now last.now args.now m) rows.items) }
     {
-        if args.len() != 2 {
-            return Ok(Vec::new(self.alloc));
-        }
-        let rows = self.lower(way, &*last, args[1])?;
-        let all = self.lower_sum_rows(rows.as_slice(), f, front, args[0])?;
+        self.sig.recall_good();
+        let pair = match pair_of(args) {
+            None => return Ok(Vec::new(self.alloc)),
+            Some(pair) => pair,
+        };
+        let rows = self.lower(way, &*last, pair.1)?;
+        let all = self.lower_sum_rows(rows.as_slice(), f, front, pair.0)?;
         Ok(all)
     }
 
@@ -282,7 +287,6 @@ impl Search<'_> {
     ) -> Result<Vec<Seq<SortId>>, NoMemory>
         requires rows { AreRows self.now.sig.now self.now.vars.now rows.now }
         requires sum { AreSummands self.now.sig.now f ts.now }
-        requires sort { IsSort self.now.sig.now s }
         ensures { let d = self.now.sig.now in let xs = self.now.vars.now in
             IfOk result (λ all. Finds d xs (λ m. HasAbove d rows.now m × IsSumUnder d xs f ts.now s m) all.items) }
     {

@@ -17,7 +17,13 @@ use std::alloc::{AllocError, AllocFailed, Global};
 fn is_bound(sig: &Signature, s: &Subst, x: Var) -> bool
     ensures { IsTrue result → (IsSort sig.now x.sort × IsSome (bound s.now x)) }
 {
-    is_sort(sig, x.sort) && s.get(x).is_some()
+    if !is_sort(sig, x.sort) {
+        return false;
+    }
+    match s.get(x) {
+        Some(_) => true,
+        None => false,
+    }
 }
 
 /// The variables that are written with commas between them, where the substitution binds each; none where nothing is

@@ -16,5 +16,5 @@ loop-i-preserved c =
 
 pub returns : goal.returns
 returns c =
-    let past : length (ranks_of c.args.sig.now c.args.f) ≤ c.loop-i.i = omega (arith, c.loop-i-test.false, c.loop-i.auto.i-end, c.rank_count.ensures) in
+    let past : length (ranks_of c.args.sig.now c.args.f) ≤ c.loop-i.i = omega (arith, c.loop-i-test.false, c.loop-i.auto.i-end, c.rank_count-i-end.ensures) in
     arguments_all c.args.sig.now c.args.s (ranks_of c.args.sig.now c.args.f) c.loop-i.i c.loop-i.rows.items past c.loop-i.invariant

@@ -5,11 +5,11 @@ use Rattle.fvn_refine.proofs.InOrder.{placed_from}
 use Rattle.fvn_refine.proofs.Refined.{refined, refined_sorts, none_exactly}
 use Rattle.fvn_refine.proofs.refining.refine.Goals as goal
 
-pub all_resorted-all-requires-clause-vars : goal.all_resorted-all-requires-clause-vars
-all_resorted-all-requires-clause-vars c = c.as_slice-variables.ensures.value ∙ c.in_ok-ys.ensures
+pub all_resorted-requires-clause-vars : goal.all_resorted-requires-clause-vars
+all_resorted-requires-clause-vars c = c.as_slice-variables.ensures.value ∙ c.in_ok-ys.ensures
 
-pub all_resorted-all-requires-clause-rows : goal.all_resorted-all-requires-clause-rows
-all_resorted-all-requires-clause-rows c = λ r k.
+pub all_resorted-requires-clause-rows : goal.all_resorted-requires-clause-rows
+all_resorted-requires-clause-rows c = λ r k.
     (c.in_ok-rows.ensures.found r (placed_from c.in_ok-rows.rows.items r (subst (λ l. Contains l r) (c.as_slice-placed.ensures.value ∙ c.in_ok-ordered.ensures) k))).0
 
 pub returns-clause-exact : goal.returns-clause-exact

@@ -8,8 +8,8 @@ use Rattle.fvn_refine.specs.inner.Rows.{IsRow, way_of}
 use Rattle.fvn_refine.proofs.Steps.{zip_more}
 use Rattle.fvn_refine.proofs.resorting.all_resorted.Goals as goal
 
-pub resorted-one-requires-clause-row : goal.resorted-one-requires-clause-row
-resorted-one-requires-clause-row c = subst (IsRow c.args.sig.now c.args.vars.now) (sym c.as_slice.ensures) (c.requires.rows c.row-item.result (c.loop-row.row-index, c.loop-row-test.true, sym c.row-item.is))
+pub resorted-requires-clause-row : goal.resorted-requires-clause-row
+resorted-requires-clause-row c = subst (IsRow c.args.sig.now c.args.vars.now) (sym c.as_slice.ensures) (c.requires.rows c.row-item.result (c.loop-row.row-index, c.loop-row-test.true, sym c.row-item.is))
 
 pub loop-row-preserved : goal.loop-row-preserved
 loop-row-preserved c = record {

@@ -5,8 +5,8 @@ use Rattle.fvn_flat.proofs.Composing.{restriction_fits}
 use Rattle.fvn_refine.proofs.Resorted.{resorting_fits, resorted_is}
 use Rattle.fvn_refine.proofs.resorting.resorted.Goals as goal
 
-pub compose-whole-requires-clause-then : goal.compose-whole-requires-clause-then
-compose-whole-requires-clause-then c = subst (BindingsFit c.args.sig.now) (sym c.in_ok-places.ensures) (resorting_fits c.args.sig.now c.args.vars.now c.args.row.now c.requires.row)
+pub compose-requires-clause-then : goal.compose-requires-clause-then
+compose-requires-clause-then c = subst (BindingsFit c.args.sig.now) (sym c.in_ok-places.ensures) (resorting_fits c.args.sig.now c.args.vars.now c.args.row.now c.requires.row)
 
 pub returns-clause-at : goal.returns-clause-at
 returns-clause-at c =

@@ -1,5 +1,5 @@
 -- The measures of the search, and what was found so far.
-use Rattle.std.proofs.Common.{◌≡◌, ◌+◌, ◌*◌, length, take, drop}
+use Rattle.std.proofs.Common.{◌+◌, ◌*◌, take, drop}
 use Rattle.fvn_forms.specs.Flat.{fpack}
 use Rattle.fvn_flat.specs.Weight.{places, places_all}
 use Rattle.fvn_refine.specs.inner.Rows.{IsRowBelow}
@@ -46,13 +46,13 @@ abbrev pub invariant-lower_over-loop-args : goal.invariant-lower_over-loop-args
 invariant-lower_over-loop-args l =
     let d = l.self.sig.now in
     let xs = l.self.vars.now in
-    Finds d xs (ForOne d xs (λ args m. IsRowBelow d m l.way × AreUnder d xs l.ts args m) l.lists.items (take l.args-index l.args-items)) l.all.items
+    Finds d xs (ForOne d xs (λ args m. IsRowBelow d m l.way × AreUnder d xs l.ts args m) l.args-items (take l.args-index l.args-items)) l.all.items
 
 abbrev pub invariant-lower_sum-loop-args : goal.invariant-lower_sum-loop-args
 invariant-lower_sum-loop-args l =
     let d = l.self.sig.now in
     let xs = l.self.vars.now in
-    Finds d xs (ForOne d xs (λ args m. IsRowBelow d m l.way × IsPairUnder d xs l.f l.front l.end args m) l.lists.items (take l.args-index l.args-items)) l.all.items
+    Finds d xs (ForOne d xs (λ args m. IsRowBelow d m l.way × IsPairUnder d xs l.f l.front l.end args m) l.args-items (take l.args-index l.args-items)) l.all.items
 
-abbrev pub invariant-lower_all-loop-t : goal.invariant-lower_all-loop-t
-invariant-lower_all-loop-t l = FindsFront l.self.sig.now l.self.vars.now l.way l.ts l.args l.t-iterator.a.rest.now l.t-iterator.b.rest.now l.rows.items
+abbrev pub invariant-lower_all-loop-i : goal.invariant-lower_all-loop-i
+invariant-lower_all-loop-i l = FindsFront l.self.sig.now l.self.vars.now l.way l.ts l.args (drop l.i l.ts) (drop l.i l.args) l.rows.items
