@@ -72,13 +72,14 @@ module _ (d : Declarations) (xs : List Var) where
             )
 
     -- the same at a place of the lists
-    pub front_next : (i : ℕ) (t : FlatTerm) (e : SortId) → i < length ts → i < length args → t ≡ get_or ts i t → (rows all : List Row) → FindsFront way ts args (drop i ts) (drop i args) rows →
-        Finds d xs (λ m. HasAbove d rows m × IsUnder d xs t (get_or args i e) m) all → FindsFront way ts args (drop (i + 1) ts) (drop (i + 1) args) all
-    front_next i t e within inside is rows all h k =
+    pub front_next : (i : ℕ) (t : FlatTerm) (e : SortId) → i < length ts → i < length args → t ≡ get_or ts i t → (rows list all : List Row) → list ≡ rows → FindsFront way ts args (drop i ts) (drop i args) rows →
+        Finds d xs (λ m. HasAbove d list m × IsUnder d xs t (get_or args i e) m) all → FindsFront way ts args (drop (i + 1) ts) (drop (i + 1) args) all
+    front_next i t e within inside is rows list all same h k =
         let terms : drop i ts ≡ t ∷ drop (i + 1) ts = drop_more ts i t within ∙ ap (λ u. u ∷ drop (i + 1) ts) (sym is) in
         let sorts : drop i args ≡ get_or args i e ∷ drop (i + 1) args = drop_more args i e inside in
         front_more t (drop (i + 1) ts) (get_or args i e) (drop (i + 1) args) rows all
-        (subst (λ l. FindsFront way ts args l (get_or args i e ∷ drop (i + 1) args) rows) terms (subst (λ l. FindsFront way ts args (drop i ts) l rows) sorts h)) k
+        (subst (λ l. FindsFront way ts args l (get_or args i e ∷ drop (i + 1) args) rows) terms (subst (λ l. FindsFront way ts args (drop i ts) l rows) sorts h))
+        (subst (λ l. Finds d xs (λ m. HasAbove d l m × IsUnder d xs t (get_or args i e) m) all) same k)
 
     pub front_all : (us : List FlatTerm) (ss : List SortId) (rows : List Row) → FindsFront way ts args us ss rows → (length us ≡ 0) ⊎ (length ss ≡ 0) → Finds d xs (λ m. IsRowBelow d m way × AreUnder d xs ts args m) rows
     front_all [] [] rows h e = record {
@@ -186,6 +187,7 @@ module _ (d : Declarations) (xs : List Var) (good : IsGood d) (way : Row) (f : O
   -- a sum of several
   pub sum_several : (ts : List FlatTerm) (n : ℕ) (last : FlatTerm) → AreSummands d f ts → length ts ≡ n + 1 → 1 ≤ n → last ≡ get_or ts n last → (lists : List Row) → AreArguments d s (ranks_of d f) lists → (rows : List Row) →
       Finds d xs (ForOne d xs (λ args m. IsRowBelow d m way × IsPairUnder d xs f (take n ts) last args m) lists lists) rows → Finds d xs (λ m. IsRowBelow d m way × IsSumUnder d xs f ts s m) rows
+  unfolding front_summands
   sum_several ts n last h long some is lists arguments rows k =
       let within : n < length ts = omega arith in
       sum_all d xs good way f s ts (take n ts) last (all_but_last ts n last long is) (front_summands d f ts h n some within) (summand_fits d f ts h n last within is) (summand_kind d f ts h n last within is) lists arguments rows k

@@ -5,7 +5,7 @@ use Rattle.std.specs.Option.{option_map, is_some, IsSome}
 use Rattle.std.specs.Prelude.{if◌then◌else◌, ◌||◌}
 use Rattle.std.proofs.lemmas.Bool.{true≢false, false≢true}
 use Rattle.std.proofs.lemmas.List.Elements.{All-nil, All-cons, All-head, All-tail, All-contains, All-map, All-weaker, All-contains_itself, Contains-get_or}
-use Rattle.std.proofs.lemmas.List.{take_all}
+use Rattle.std.proofs.lemmas.List.{take_all, get_or_default}
 use Rattle.fvn_base.specs.Order.{IsBefore}
 use Rattle.fvn_base.proofs.Membership.{contains_here, contains_later, contains_cases, contains_none, contains_map, map_contains}
 use Rattle.fvn_terms.specs.declared.plain.Var.{Var}
@@ -379,6 +379,11 @@ module _ (d : Declarations) where
             (λ m r im ir below p z c. under_lower d good xs (value s z) (value_fits z (taken_member vars i z c)) z.sort m r im ir below (p z c)) rows all h k
             (λ m p z c. elim (taken_cases vars i x within is z c) [ inl o ↦ p.0 z o | inr e ↦ subst (λ q. IsUnder d xs (value s q) q.sort m) e p.1 ])
             (λ m q. (λ z c. q z (taken_old vars i x within is z c), q x (taken_new vars i x within is)))
+
+        -- the same at a place of the list
+        pub sorts_next : (i : ℕ) (e : Var) → i < length vars → (rows all : List Row) → Finds d xs (HaveSorts d xs s (take i vars)) rows →
+            Finds d xs (λ m. HasAbove d rows m × IsUnder d xs (value s (get_or vars i e)) (get_or vars i e).sort m) all → Finds d xs (HaveSorts d xs s (take (i + 1) vars)) all
+        sorts_next i e within rows all h k = sorts_more i (get_or vars i e) within (get_or_default vars i e (get_or vars i e) within) rows all h k
 
         pub sorts_all : (i : ℕ) → length vars ≤ i → (rows : List Row) → Finds d xs (HaveSorts d xs s (take i vars)) rows → Finds d xs (HaveSorts d xs s vars) rows
         sorts_all i past rows h = subst (λ l. Finds d xs (HaveSorts d xs s l) rows) (take_all i vars past) h

@@ -1,12 +1,8 @@
 -- One more variable.
-use Rattle.std.proofs.Common.{take, sym, ap, ◌∙◌}
-use Rattle.std.specs.Option.{IsSome}
-use Rattle.std.proofs.lemmas.List.Elements.{All-contains}
-use Rattle.fvn_terms.specs.Signature.{IsSort}
-use Rattle.fvn_flat.specs.Bindings.{bound}
+use Rattle.std.proofs.Common.{take, ◌∙◌}
 use Rattle.fvn_refine.specs.inner.Found.{HaveSorts}
 use Rattle.fvn_refine.proofs.Finding.{rows_found}
-use Rattle.fvn_refine.proofs.Refined.{sorts_none, sorts_more, sorts_all}
+use Rattle.fvn_refine.proofs.Refined.{sorts_none, sorts_next, sorts_all}
 use Rattle.fvn_refine.proofs.refining.largest.Goals as goal
 
 pub loop-x-init : goal.loop-x-init
@@ -21,17 +17,15 @@ lower_value-requires-clause-rows c =
     rows_found d xs (HaveSorts d xs c.args.subst.now (take c.loop-x.x-index c.args.vars.now)) c.loop-x.rows.items c.loop-x.invariant
 
 pub lower_value-requires-clause-sort : goal.lower_value-requires-clause-sort
-lower_value-requires-clause-sort c =
-    (All-contains (λ x. IsSort c.args.search.now.sig.now x.sort × IsSome (bound c.args.subst.now x)) c.args.vars.now c.x-item.result c.requires.bound (c.loop-x.x-index, c.loop-x-test.true, sym c.x-item.is)).0
+lower_value-requires-clause-sort c = (c.requires.bound c.loop-x.x-index _ c.loop-x-test.true).0
 
 pub lower_value-requires-clause-bound : goal.lower_value-requires-clause-bound
-lower_value-requires-clause-bound c =
-    (All-contains (λ x. IsSort c.args.search.now.sig.now x.sort × IsSome (bound c.args.subst.now x)) c.args.vars.now c.x-item.result c.requires.bound (c.loop-x.x-index, c.loop-x-test.true, sym c.x-item.is)).1
+lower_value-requires-clause-bound c = (c.requires.bound c.loop-x.x-index _ c.loop-x-test.true).1
 
 pub loop-x-preserved : goal.loop-x-preserved
 loop-x-preserved c =
-    sorts_more c.args.search.now.sig.now c.args.vars.now c.args.subst.now c.requires.fits c.requires.bound c.recall_good.ensures c.args.search.now.vars.now
-    c.loop-x.x-index c.x-item.result c.loop-x-test.true c.x-item.is c.loop-x.rows.items c.in_ok-rows-2.rows.items c.loop-x.invariant c.in_ok-rows-2.ensures
+    sorts_next c.args.search.now.sig.now c.args.vars.now c.args.subst.now c.requires.fits c.requires.bound c.recall_good.ensures c.args.search.now.vars.now
+    c.loop-x.x-index _ c.loop-x-test.true c.loop-x.rows.items c.in_ok-rows-2.rows.items c.loop-x.invariant c.in_ok-rows-2.ensures
 
 pub returns : goal.returns
 returns c =

@@ -14,12 +14,12 @@ lower_rows-requires-clause-rows c = subst (AreRows c.args.search.now.sig.now c.a
 pub lower_rows-requires-clause-term : goal.lower_rows-requires-clause-term
 lower_rows-requires-clause-term c = bound_fits c.args.search.now.sig.now c.args.subst.now c.args.x c.in-Some.t.now c.requires.fits c.requires.sort c.in-Some.ensures
 
-pub returns-in-Some : goal.returns-in-Some
-returns-in-Some c =
+pub returns-in_ok-all-in-Some : goal.returns-in_ok-all-in-Some
+returns-in_ok-all-in-Some c =
     let d = c.args.search.now.sig.now in
     let xs = c.args.search.now.vars.now in
-    subst (λ u. Finds d xs (λ m. HasAbove d c.args.rows.items m × IsUnder d xs u c.args.x.sort m) c.in_ok-all.all.items) (sym (ap (form_or c.args.x) c.in-Some.ensures))
-    (subst (λ l. Finds d xs (λ m. HasAbove d l m × IsUnder d xs c.in-Some.t.now c.args.x.sort m) c.in_ok-all.all.items) c.as_slice.ensures.value c.in_ok-all.ensures)
+    subst (λ u. Finds d xs (λ m. HasAbove d c.args.rows.items m × IsUnder d xs u c.args.x.sort m) c.in_ok-all-in-Some.all.items) (sym (ap (form_or c.args.x) c.in-Some.ensures))
+    (subst (λ l. Finds d xs (λ m. HasAbove d l m × IsUnder d xs c.in-Some.t.now c.args.x.sort m) c.in_ok-all-in-Some.all.items) c.as_slice.ensures.value c.in_ok-all-in-Some.ensures)
 
 pub returns-in-None : goal.returns-in-None
 returns-in-None c = absurd (true≢false (sym (subst IsSome c.in-None.ensures c.requires.bound)))

@@ -141,11 +141,9 @@ lower_all-lower_rows-requires t c =
 
 pub lower_all-loop-i-preserved : goal.lower_all-loop-i-preserved
 lower_all-loop-i-preserved t c =
-    let d = c.args.self.now.sig.now in
-    let xs = c.args.self.now.vars.now in
-    front_next d xs c.recall_good.ensures c.args.way.now c.args.ts.now c.args.args.now c.loop-i.i c.index-ts-i.result _ c.loop-i-test.true (omega (arith, c.if-ts-args.false, c.loop-i-test.true))
-    c.index-ts-i.is c.loop-i.rows.items c.in_ok-rows-2.rows.items c.loop-i.invariant
-    (subst (λ l. Finds d xs (λ m. HasAbove d l m × IsUnder d xs c.index-ts-i.result _ m) c.in_ok-rows-2.rows.items) c.as_slice.ensures.value c.in_ok-rows-2.ensures)
+    front_next c.args.self.now.sig.now c.args.self.now.vars.now c.recall_good.ensures c.args.way.now c.args.ts.now c.args.args.now c.loop-i.i c.index-ts-i.result _
+    c.loop-i-test.true (omega (arith, c.if-ts-args.false, c.loop-i-test.true)) c.index-ts-i.is c.loop-i.rows.items c.as_slice.result.now c.in_ok-rows-2.rows.items
+    c.as_slice.ensures.value c.loop-i.invariant c.in_ok-rows-2.ensures
 
 pub lower_all-returns : goal.lower_all-returns
 lower_all-returns t c =
