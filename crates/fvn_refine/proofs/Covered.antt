@@ -1,6 +1,6 @@
 -- A well-sorted substitution that is covered on kinds is an instance of a refinement.
-use Rattle.std.proofs.Common.{◌≡◌, ◌⊎◌, ℕ, ◌<◌, ◌≤◌, Bool, true, false, List, [], ◌∷◌, length, Some, refl, sym, ap, ◌∙◌, subst, inl, inr}
-use Rattle.std.specs.List.{All, Any, Contains}
+use Rattle.std.proofs.Common.{◌≡◌, ◌⊎◌, ◌<◌, ◌≤◌, Bool, true, false, List, length, refl, sym, ap, ◌∙◌, subst, inl, inr}
+use Rattle.std.specs.List.{Any, Contains}
 use Rattle.std.specs.Option.{option_map}
 use Rattle.std.specs.Prelude.{if◌then◌else◌, ◌&&◌}
 use Rattle.std.proofs.lemmas.Bool.{and_parts, and_from, cases_lt}
@@ -9,25 +9,24 @@ use Rattle.std.proofs.lemmas.List.Elements.{All-contains}
 use Rattle.fvn_terms.specs.declared.plain.Var.{Var}
 use Rattle.fvn_terms.specs.declared.plain.SortId.{SortId}
 use Rattle.fvn_terms.specs.declared.declarations.Declarations.{Declarations}
-use Rattle.fvn_terms.specs.Term.{Term, var}
-use Rattle.fvn_terms.specs.Signature.{kind, IsSort, AtOrBelow, same, HasKind, IsTerm, KeepsKinds}
-use Rattle.fvn_terms.specs.Substitution.{Substitution, apply, followed_by, Occurs}
+use Rattle.fvn_terms.specs.Term.{var}
+use Rattle.fvn_terms.specs.Signature.{kind, IsSort, AtOrBelow, same, HasKind, IsTerm}
+use Rattle.fvn_terms.specs.Substitution.{Substitution, apply, followed_by}
 use Rattle.fvn_terms.specs.Equality.{BEqual}
 use Rattle.fvn_terms.specs.Sorts.{HasSort, IsWellSorted}
 use Rattle.fvn_terms.specs.Unifiers.{IsInstance}
 use Rattle.fvn_terms.proofs.Substitutions.{apply-apply, apply-agree}
-use Rattle.fvn_terms.proofs.Equal.{BEqual-refl, BEqual-sym, BEqual-trans, BEqual-apply}
+use Rattle.fvn_terms.proofs.Equal.{BEqual-refl, BEqual-trans, BEqual-apply}
 use Rattle.fvn_forms.specs.SortOrder.{same_sort}
-use Rattle.fvn_forms.specs.Flat.{FlatTerm, fvar, plain}
+use Rattle.fvn_forms.specs.Flat.{fvar, plain}
 use Rattle.fvn_forms.specs.Canon.{canon, inst}
-use Rattle.fvn_forms.specs.Good.{IsGood, IsKinded}
+use Rattle.fvn_forms.specs.Good.{IsGood}
 use Rattle.fvn_forms.specs.LeastSort.{sort_in, least_sort, IsFlatSubstitution}
-use Rattle.fvn_forms.proofs.SortOrder.{AtOrBelow-trans}
 use Rattle.fvn_forms.proofs.SortTests.{same_sort-true, same_sort-self}
 use Rattle.fvn_forms.proofs.Eval.{canon_settled}
 use Rattle.fvn_forms.proofs.ToCanon.{canon_of_kind}
 use Rattle.fvn_forms.proofs.LeastSort.{sort_in-kind, least_sort_below, least_sort_exact}
-use Rattle.fvn_flat.specs.Bindings.{Bindings, bound, form_or, value, BindingsFit}
+use Rattle.fvn_flat.specs.Bindings.{Bindings, form_or, value, BindingsFit}
 use Rattle.fvn_flat.specs.Solving.{substitution}
 use Rattle.fvn_flat.specs.Drawn.{OccursInValues, IsWay}
 use Rattle.fvn_flat.proofs.Instances.{inst_equal}

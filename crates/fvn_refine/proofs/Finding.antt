@@ -1,17 +1,14 @@
 -- What searches for rows find, put together.
-use Rattle.std.proofs.Common.{◌≡◌, ℕ, ◌+◌, ◌<◌, ◌≤◌, ◌⊎◌, List, [], ◌∷◌, ◌++◌, length, take, get_or, refl, sym, ap, subst, ◌∙◌, inl, inr, arith}
+use Rattle.std.proofs.Common.{◌≡◌, ℕ, ◌+◌, ◌<◌, ◌≤◌, ◌⊎◌, List, [], ◌∷◌, ◌++◌, length, take, get_or, sym, ap, subst, ◌∙◌, inl, inr}
 use Rattle.std.specs.List.{Contains}
 use Rattle.std.proofs.lemmas.List.{take_more, take_all}
 use Rattle.std.proofs.lemmas.List.Elements.{Contains-append_left, Contains-push, Contains-push_cases}
 use Rattle.fvn_base.proofs.Membership.{contains_here, contains_cases, contains_none}
 use Rattle.fvn_terms.specs.declared.plain.Var.{Var}
-use Rattle.fvn_terms.specs.declared.plain.SortId.{SortId}
 use Rattle.fvn_terms.specs.declared.declarations.Declarations.{Declarations}
-use Rattle.fvn_terms.specs.Signature.{AtOrBelow}
-use Rattle.fvn_forms.proofs.Results.{AllBelow-trans, AllBelow-self}
-use Rattle.fvn_refine.specs.inner.Rows.{Row, IsRow, IsRowBelow, HasAbove, IsAntichain, with_rows}
+use Rattle.fvn_refine.specs.inner.Rows.{Row, IsRow, IsRowBelow, HasAbove, with_rows}
 use Rattle.fvn_refine.specs.inner.Found.{Finds, AreRows}
-use Rattle.fvn_refine.proofs.RowTests.{with_rows-from, with_rows-above, with_rows-new, with_rows-apart, none_apart, one_apart, above-member}
+use Rattle.fvn_refine.proofs.RowTests.{with_rows-from, with_rows-above, with_rows-new, with_rows-apart, none_apart, one_apart}
 
 -- the first items of a list, with one more
 module _ {A : Type 0} (l : List A) (i : ℕ) (a : A) (within : i < length l) (is : a ≡ get_or l i a) where

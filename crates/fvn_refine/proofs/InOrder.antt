@@ -1,12 +1,11 @@
 -- Rows in their places: tests of the order, and that all rows stand there once.
-use Rattle.std.proofs.Common.{◌≡◌, ℕ, zero, suc, ◌+◌, ◌<◌, ◌≤◌, ◌⊎◌, Bool, true, false, nat_lt, nat_eq, List, [], ◌∷◌, ◌++◌, map, length, drop, get_or, refl, sym, ap, subst, ◌∙◌, inl, inr, arith}
+use Rattle.std.proofs.Common.{◌≡◌, ℕ, zero, suc, ◌+◌, ◌<◌, ◌≤◌, ◌⊎◌, Bool, true, false, nat_lt, nat_eq, List, [], ◌∷◌, ◌++◌, length, drop, get_or, refl, sym, ap, subst, ◌∙◌, inl, inr, arith}
 use Rattle.std.specs.List.{Contains, insert}
-use Rattle.std.specs.Prelude.{if◌then◌else◌, ◌&&◌, ◌||◌}
-use Rattle.std.proofs.lemmas.Bool.{or_cases, or_parts, and_parts, and_from, ltb-true, ltb-false, eqb-true, eq-eqb, lt-ltb, le-ltb, true≢false, false≢true, cases_order, cases_lt, or_left, or_right}
+use Rattle.std.specs.Prelude.{if◌then◌else◌, ◌&&◌}
+use Rattle.std.proofs.lemmas.Bool.{or_cases, or_parts, and_parts, ltb-true, eqb-true, eq-eqb, lt-ltb, le-ltb, true≢false, false≢true, cases_order, cases_lt}
 use Rattle.fvn_base.specs.Order.{IsBefore}
-use Rattle.fvn_base.proofs.Order.{before_trans, before_irrefl}
+use Rattle.fvn_base.proofs.Order.{before_trans}
 use Rattle.fvn_base.proofs.Membership.{contains_here, contains_later, contains_cases, contains_none}
-use Rattle.fvn_terms.specs.declared.plain.SortId.{SortId}
 use Rattle.fvn_forms.specs.SortOrder.{sort_number}
 use Rattle.fvn_refine.specs.inner.Rows.{Row}
 use Rattle.fvn_refine.specs.inner.Ordering.{numbers, is_before, place, with_in_place, with_all_in_place, all_in_place, AreInOrder}

@@ -1,30 +1,29 @@
 -- What is found for terms from what is found for their parts.
-use Rattle.std.proofs.Common.{◌≡◌, ℕ, zero, suc, ◌+◌, ◌*◌, ◌-◌, ◌<◌, ◌≤◌, ◌⊎◌, Bool, true, false, List, [], ◌∷◌, ◌++◌, map, length, take, drop, get_or, Some, None, refl, sym, ap, subst, ◌∙◌, inl, inr, arith}
-use Rattle.std.specs.List.{Contains, AllZip, AllByRecursion}
+use Rattle.std.proofs.Common.{◌≡◌, ℕ, zero, suc, ◌+◌, ◌<◌, ◌≤◌, ◌⊎◌, Bool, true, false, List, [], ◌∷◌, ◌++◌, length, take, drop, get_or, Some, refl, sym, ap, subst, ◌∙◌, inl, inr, arith}
+use Rattle.std.specs.List.{Contains, AllByRecursion}
 use Rattle.std.proofs.lemmas.List.{take_more, take_all, drop_more, length-take}
 use Rattle.fvn_base.proofs.Membership.{contains_here, contains_cases, contains_none}
 use Rattle.fvn_terms.specs.declared.plain.Var.{Var}
 use Rattle.fvn_terms.specs.declared.plain.OpId.{OpId}
 use Rattle.fvn_terms.specs.declared.plain.SortId.{SortId}
-use Rattle.fvn_terms.specs.declared.declarations.Rank.{Rank}
 use Rattle.fvn_terms.specs.declared.declarations.Declarations.{Declarations}
-use Rattle.fvn_terms.specs.Signature.{kind, declared, axioms, IsSort, AtOrBelow, HasKind}
+use Rattle.fvn_terms.specs.Signature.{kind, axioms, HasKind}
 use Rattle.fvn_terms.specs.Equality.{IsAssociative}
 use Rattle.fvn_forms.specs.Flat.{FlatTerm, fvar, fapp, fpack, plain}
 use Rattle.fvn_forms.specs.Good.{IsGood}
 use Rattle.fvn_forms.specs.Ranks.{ranks_of}
 use Rattle.fvn_forms.proofs.Results.{AllBelow-trans, AllBelow-self}
 use Rattle.fvn_forms.proofs.Sums.{funpack-fpack}
-use Rattle.fvn_flat.specs.Forms.{variable_of, head_of, args_of}
+use Rattle.fvn_flat.specs.Forms.{head_of, args_of}
 use Rattle.fvn_flat.specs.Weight.{places, places_all}
-use Rattle.fvn_flat.specs.Fits.{Fits, AllFit, AllOfKind}
+use Rattle.fvn_flat.specs.Fits.{Fits, AllFit}
 use Rattle.fvn_flat.proofs.Fitting.{args_fit}
 use Rattle.fvn_flat.proofs.Instances.{each_at}
-use Rattle.fvn_refine.specs.inner.Rows.{Row, way_of, IsRow, IsRowBelow, HasAbove, IsAntichain}
+use Rattle.fvn_refine.specs.inner.Rows.{Row, IsRow, IsRowBelow, HasAbove, IsAntichain}
 use Rattle.fvn_refine.specs.inner.Found.{AreArguments, AreSummands, Finds, IsUnder, AreUnder, IsResultUnder, IsSumUnder, IsPairUnder}
 use Rattle.fvn_refine.proofs.RowTests.{one_apart}
 use Rattle.fvn_refine.proofs.Sorts.{under_lower, over_through, over_leads, sum_through, sum_leads, is_unjoined, is_joined, summands_of, to_unjoined, from_unjoined, to_joined, from_joined}
-use Rattle.fvn_refine.proofs.Finding.{ForOne, finds_same, finds_none, finds_for_all, finds_both}
+use Rattle.fvn_refine.proofs.Finding.{ForOne, finds_same, finds_none, finds_both}
 
 module _ (d : Declarations) (xs : List Var) where
   -- what is found for the first of some forms: where the others, us, have their sorts, ss, then all have

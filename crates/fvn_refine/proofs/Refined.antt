@@ -1,10 +1,10 @@
 -- From the rows that are found to the refinements.
-use Rattle.std.proofs.Common.{◌≡◌, ◌↔◌, ◌⊎◌, ℕ, zero, suc, ◌+◌, ◌<◌, ◌≤◌, Bool, true, false, List, [], ◌∷◌, ◌++◌, map, length, take, get_or, Option, Some, None, refl, sym, ap, ◌∙◌, subst, inl, inr, arith}
+use Rattle.std.proofs.Common.{◌≡◌, ◌↔◌, ℕ, zero, suc, ◌+◌, ◌<◌, ◌≤◌, Bool, true, false, List, [], ◌∷◌, map, length, take, get_or, Option, Some, None, refl, sym, ap, ◌∙◌, subst, inl, inr, arith}
 use Rattle.std.specs.List.{All, Any, AllPairs, AllZip, Contains}
-use Rattle.std.specs.Option.{option_map, is_some, IsSome}
-use Rattle.std.specs.Prelude.{if◌then◌else◌, ◌||◌}
-use Rattle.std.proofs.lemmas.Bool.{true≢false, false≢true}
-use Rattle.std.proofs.lemmas.List.Elements.{All-nil, All-cons, All-head, All-tail, All-contains, All-map, All-weaker, All-contains_itself, Contains-get_or}
+use Rattle.std.specs.Option.{option_map, IsSome}
+use Rattle.std.specs.Prelude.{if◌then◌else◌}
+use Rattle.std.proofs.lemmas.Bool.{true≢false}
+use Rattle.std.proofs.lemmas.List.Elements.{All-nil, All-cons, All-head, All-contains, All-map, All-weaker, All-contains_itself, Contains-get_or}
 use Rattle.std.proofs.lemmas.List.{take_all, get_or_default}
 use Rattle.fvn_base.specs.Order.{IsBefore}
 use Rattle.fvn_base.proofs.Membership.{contains_here, contains_later, contains_cases, contains_none, contains_map, map_contains}
@@ -12,7 +12,7 @@ use Rattle.fvn_terms.specs.declared.plain.Var.{Var}
 use Rattle.fvn_terms.specs.declared.plain.SortId.{SortId}
 use Rattle.fvn_terms.specs.declared.declarations.Declarations.{Declarations}
 use Rattle.fvn_terms.specs.Term.{Term, Terms, var, app, none, more, pack}
-use Rattle.fvn_terms.specs.Signature.{kind, IsSort, AtOrBelow, same, HasKind, HaveKinds, IsTerm}
+use Rattle.fvn_terms.specs.Signature.{kind, IsSort, AtOrBelow, same, HasKind, HaveKinds}
 use Rattle.fvn_terms.specs.Substitution.{same_var, Occurs, OccursAmong}
 use Rattle.fvn_terms.specs.Sorts.{HasSort}
 use Rattle.fvn_forms.specs.Flat.{FlatTerm, fvar, plain}
@@ -27,13 +27,13 @@ use Rattle.fvn_flat.specs.Bindings.{Bindings, bound, form_or, value, BindingsFit
 use Rattle.fvn_flat.specs.Fits.{Fits}
 use Rattle.fvn_flat.specs.Problems.{variables_among}
 use Rattle.fvn_flat.specs.Solving.{substitution}
-use Rattle.fvn_flat.specs.Drawn.{OccursInValues, IsWay, IsMaximalWay}
+use Rattle.fvn_flat.specs.Drawn.{OccursInValues, IsWay}
 use Rattle.fvn_flat.specs.Variables.{listed}
 use Rattle.fvn_flat.proofs.Binding.{same_var_is, same_var_itself}
 use Rattle.fvn_flat.proofs.VariableLists.{variables_list_among, variables_occur_among}
 use Rattle.fvn_refine.specs.Refinements.{Way, at_sort, variables_of_terms, sort_numbers, IsAtSorts, AreBound, HasNoWay, IsBelowWay, IsLargest, HaveTheirSorts, AreRefinements}
-use Rattle.fvn_refine.specs.inner.Rows.{Row, beside, way_of, IsRow, IsRowBelow, HasAbove, IsAntichain}
-use Rattle.fvn_refine.specs.inner.Found.{AreRows, Finds, IsUnder, HaveSorts}
+use Rattle.fvn_refine.specs.inner.Rows.{Row, beside, way_of, IsRow, IsRowBelow, HasAbove}
+use Rattle.fvn_refine.specs.inner.Found.{Finds, IsUnder, HaveSorts}
 use Rattle.fvn_refine.specs.inner.Ordering.{numbers, all_in_place, AreInOrder}
 use Rattle.fvn_refine.proofs.RowTests.{any_true, any_false}
 use Rattle.fvn_refine.proofs.Ways.{beside_else, beside_map, beside_below, row_long, kinds_row, kinds_above, way_kind, way_sort, map_row}

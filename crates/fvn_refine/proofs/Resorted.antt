@@ -15,7 +15,7 @@ use Rattle.fvn_forms.specs.Flat.{FlatTerm, fvar, plain}
 use Rattle.fvn_forms.specs.Canon.{build, eval, eval_all, inst}
 use Rattle.fvn_flat.specs.Bindings.{Bindings, bound, form_or, value, BindingsFit, IsRestriction, composed, changed, chosen, is_free}
 use Rattle.fvn_flat.specs.Variables.{listed}
-use Rattle.fvn_flat.proofs.Binding.{same_var_is, same_var_itself, or_else, bound-append, bound_first}
+use Rattle.fvn_flat.proofs.Binding.{same_var_is, or_else, bound-append, bound_first}
 use Rattle.fvn_flat.proofs.Composing.{bound-changed, bind_fits, empty_fits}
 use Rattle.fvn_refine.specs.Refinements.{at_sort, variables_of_terms, IsAtSorts}
 use Rattle.fvn_refine.specs.inner.Rows.{Row, beside, way_of, IsRow}

@@ -1,6 +1,6 @@
 -- Rows in lists of them: tests, and what is kept when more are added.
 use Rattle.std.proofs.Common.{◌≡◌, ◌↔◌, ◌⊎◌, Bool, true, false, not, List, [], ◌∷◌, ◌++◌, length, refl, sym, ap, subst, ◌∙◌, inl, inr, arith, IsTrue}
-use Rattle.std.specs.List.{Contains, AllZip, filter, list_any}
+use Rattle.std.specs.List.{Contains, filter, list_any}
 use Rattle.std.specs.Prelude.{if◌then◌else◌, ◌||◌, ◌&&◌, ◌≢◌}
 use Rattle.std.proofs.lemmas.Bool.{and_parts, and_from, false≢true, true≢false, not-true}
 use Rattle.std.proofs.lemmas.List.Elements.{Contains-append_left, Contains-push, Contains-push_cases}

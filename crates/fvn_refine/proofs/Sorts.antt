@@ -1,5 +1,5 @@
 -- The sorts of forms at the sorts of rows: which argument lists of ranks they go through.
-use Rattle.std.proofs.Common.{◌≡◌, ℕ, ◌+◌, ◌<◌, ◌≤◌, Bool, true, false, List, [], ◌∷◌, ◌++◌, map, length, refl, sym, ap, subst, ◌∙◌, inl, inr, arith, Some, None}
+use Rattle.std.proofs.Common.{◌≡◌, ◌≤◌, true, false, List, [], ◌∷◌, ◌++◌, map, length, refl, sym, ap, subst, ◌∙◌, inl, inr, arith, Some, None}
 use Rattle.std.specs.List.{Contains, AllZip, AllByRecursion, fold}
 use Rattle.std.proofs.lemmas.List.{map-append}
 use Rattle.fvn_terms.specs.declared.plain.Var.{Var}
@@ -9,14 +9,14 @@ use Rattle.fvn_terms.specs.declared.declarations.Axioms.{Axioms}
 use Rattle.fvn_terms.specs.declared.declarations.Axioms.TheVariants.{Free, Comm, AssocComm, AssocCommId}
 use Rattle.fvn_terms.specs.declared.declarations.Rank.{Rank}
 use Rattle.fvn_terms.specs.declared.declarations.Declarations.{Declarations}
-use Rattle.fvn_terms.specs.Signature.{kind, declared, axioms, IsSort, AtOrBelow, HasKind, HaveKinds, IsTerm}
+use Rattle.fvn_terms.specs.Signature.{kind, declared, axioms, AtOrBelow, HasKind, HaveKinds}
 use Rattle.fvn_terms.specs.Substitution.{Occurs, OccursAmong}
 use Rattle.fvn_terms.specs.Equality.{IsAssociative}
 use Rattle.fvn_forms.specs.Flat.{FlatTerm, FlatTerms, fvar, fapp, fnone, fmore, fpack, funpack, plain, plain_all}
 use Rattle.fvn_forms.specs.Settled.{Settled, SettledAll, FitsUnjoined}
 use Rattle.fvn_forms.specs.Good.{TakesKinds, IsOfKind, IsGood}
-use Rattle.fvn_forms.specs.Ranks.{Serves, IsResult, ranks_of, result}
-use Rattle.fvn_forms.specs.LeastSort.{result_of_two, sum_sort, sort_over, sort_in, sorts_in, KeepsKindsOfVariables}
+use Rattle.fvn_forms.specs.Ranks.{ranks_of, result}
+use Rattle.fvn_forms.specs.LeastSort.{result_of_two, sum_sort, sort_over, sort_in, sorts_in}
 use Rattle.fvn_forms.proofs.SortOrder.{AtOrBelow-trans}
 use Rattle.fvn_forms.proofs.Results.{AllBelow-trans, result-is, result-pair, TakesKinds-pair}
 use Rattle.fvn_forms.proofs.LeastSort.{sort_in-kind, sort_in_monotone}

@@ -1,30 +1,26 @@
 -- The search for rows: the sorts that were tried for a variable, and what is found for terms.
-use Rattle.std.proofs.Common.{◌≡◌, ℕ, ◌+◌, ◌-◌, ◌<◌, ◌≤◌, ◌⊎◌, Bool, true, false, List, [], ◌∷◌, ◌++◌, map, length, take, get_or, refl, sym, ap, subst, ◌∙◌, inl, inr, arith}
-use Rattle.std.specs.List.{Contains, AllZip, AllByRecursion}
+use Rattle.std.proofs.Common.{◌≡◌, ℕ, ◌+◌, ◌<◌, ◌⊎◌, Bool, true, false, List, [], ◌∷◌, refl, sym, ap, subst, ◌∙◌, inl, inr, arith}
+use Rattle.std.specs.List.{Contains}
 use Rattle.std.specs.Prelude.{if◌then◌else◌, ◌&&◌}
-use Rattle.std.proofs.lemmas.Bool.{and_parts, and_from, false≢true, true≢false, cases_order}
-use Rattle.std.proofs.lemmas.List.{take_more, take_all, length-take}
+use Rattle.std.proofs.lemmas.Bool.{and_parts, and_from, true≢false, cases_order}
 use Rattle.fvn_base.proofs.Membership.{contains_none}
 use Rattle.fvn_terms.specs.declared.plain.Var.{Var}
-use Rattle.fvn_terms.specs.declared.plain.OpId.{OpId}
 use Rattle.fvn_terms.specs.declared.plain.SortId.{SortId}
-use Rattle.fvn_terms.specs.declared.declarations.Rank.{Rank}
 use Rattle.fvn_terms.specs.declared.declarations.Declarations.{Declarations}
-use Rattle.fvn_terms.specs.Signature.{kind, IsSort, AtOrBelow, same, HasKind}
+use Rattle.fvn_terms.specs.Signature.{kind, AtOrBelow, same}
 use Rattle.fvn_forms.specs.SortOrder.{sort_number, at_or_below}
-use Rattle.fvn_forms.specs.Flat.{FlatTerm, fvar}
+use Rattle.fvn_forms.specs.Flat.{fvar}
 use Rattle.fvn_forms.specs.Good.{IsGood}
 use Rattle.fvn_forms.proofs.SortOrder.{AtOrBelow-one_kind}
 use Rattle.fvn_forms.proofs.SortTests.{at_or_below-true, at_or_below-complete}
 use Rattle.fvn_forms.proofs.Results.{AllBelow-self}
 use Rattle.fvn_sorts.specs.Queries.{IsCompleted}
 use Rattle.fvn_flat.specs.Variables.{listed}
-use Rattle.fvn_flat.specs.Fits.{Fits, AllFit, AllOfKind}
-use Rattle.fvn_refine.specs.inner.Rows.{Row, beside, placed, way_of, IsRow, IsRowBelow, HasAbove, IsAntichain, with_row}
-use Rattle.fvn_refine.specs.inner.Found.{AreArguments, AreSummands, Finds, IsUnder}
+use Rattle.fvn_refine.specs.inner.Rows.{Row, placed, way_of, IsRow, IsRowBelow, HasAbove, IsAntichain, with_row}
+use Rattle.fvn_refine.specs.inner.Found.{Finds, IsUnder}
 use Rattle.fvn_refine.proofs.RowTests.{with_row-from, with_row-new, with_row-above, with_row-apart, none_apart, above-lower}
 use Rattle.fvn_refine.proofs.Ways.{beside_else, beside_placed, beside_below, placed_below, placed_above, placed_row, way_kind, row_long, declared_or_same}
-use Rattle.fvn_refine.proofs.Finding.{finds_here, finds_none, taken_cases}
+use Rattle.fvn_refine.proofs.Finding.{finds_here, finds_none}
 
 -- the sort of a number is below the next number, or is this one
 sort_cases : (n : ℕ) (z : SortId) → z.0 < n + 1 → (z.0 < n) ⊎ (sort_number n ≡ z)

@@ -1,6 +1,6 @@
 -- Rows as ways: the sorts beside variables, and rows that are placed below others.
-use Rattle.std.proofs.Common.{◌≡◌, ℕ, ◌+◌, ◌<◌, ◌≤◌, Bool, true, false, List, [], ◌∷◌, map, length, refl, sym, ap, subst, ◌∙◌, inl, inr, arith}
-use Rattle.std.specs.List.{Contains, AllZip}
+use Rattle.std.proofs.Common.{◌≡◌, ◌<◌, ◌≤◌, Bool, true, false, List, [], ◌∷◌, map, length, refl, sym, ap, subst, ◌∙◌, inl, inr, arith}
+use Rattle.std.specs.List.{Contains}
 use Rattle.std.specs.Prelude.{if◌then◌else◌, ◌||◌, ◌⊎◌}
 use Rattle.std.proofs.lemmas.Bool.{false≢true, true≢false, cases_lt}
 use Rattle.std.proofs.lemmas.List.{get_or_past}
@@ -11,11 +11,11 @@ use Rattle.fvn_terms.specs.Signature.{kind, IsSort, AtOrBelow, same}
 use Rattle.fvn_terms.specs.Substitution.{same_var}
 use Rattle.fvn_forms.specs.Good.{IsKinded}
 use Rattle.fvn_forms.specs.LeastSort.{KeepsKindsOfVariables}
-use Rattle.fvn_forms.proofs.SortOrder.{AtOrBelow-kind, AtOrBelow-antisym, AtOrBelow-one_kind, kind_is_greatest}
+use Rattle.fvn_forms.proofs.SortOrder.{AtOrBelow-kind, AtOrBelow-antisym, kind_is_greatest}
 use Rattle.fvn_forms.proofs.Results.{AllBelow-self}
-use Rattle.fvn_sorts.specs.Queries.{IsKind, IsCompleted}
+use Rattle.fvn_sorts.specs.Queries.{IsCompleted}
 use Rattle.fvn_flat.specs.Variables.{listed}
-use Rattle.fvn_flat.proofs.Binding.{same_var_is, same_var_itself}
+use Rattle.fvn_flat.proofs.Binding.{same_var_is}
 use Rattle.fvn_refine.specs.inner.Rows.{Row, beside, placed, way_of, IsRow, IsRowBelow}
 
 -- a variable without a place

@@ -6,14 +6,14 @@ use Rattle.fvn_terms.specs.declared.plain.OpId.{OpId}
 use Rattle.fvn_terms.specs.declared.plain.SortId.{SortId}
 use Rattle.fvn_terms.specs.declared.declarations.Rank.{Rank}
 use Rattle.fvn_terms.specs.declared.declarations.Declarations.{Declarations}
-use Rattle.fvn_terms.specs.Signature.{kind, declared, axioms, IsSort, AtOrBelow}
+use Rattle.fvn_terms.specs.Signature.{kind, declared, axioms, AtOrBelow}
 use Rattle.fvn_terms.specs.Equality.{IsAssociative}
 use Rattle.fvn_forms.specs.Flat.{FlatTerm}
 use Rattle.fvn_forms.specs.Ranks.{result}
 use Rattle.fvn_forms.specs.LeastSort.{sum_sort, sort_in}
 use Rattle.fvn_flat.specs.Fits.{AllFit, AllOfKind}
 use Rattle.fvn_flat.specs.Bindings.{Bindings, value}
-use Rattle.fvn_refine.specs.inner.Rows.{Row, way_of, IsRow, IsRowBelow, HasAbove, IsAntichain}
+use Rattle.fvn_refine.specs.inner.Rows.{Row, way_of, IsRow, HasAbove, IsAntichain}
 
 module _ (d : Declarations) where
   -- the argument lists of the ranks that give the sort or one below it, but for those below another

@@ -1,7 +1,6 @@
 -- Rows by the numbers of their sorts, each once.
-use Rattle.std.specs.Prelude.{◌≡◌, ℕ, suc, Bool, true, false, nat_lt, nat_eq, ◌&&◌, ◌||◌, if◌then◌else◌, List, [], ◌∷◌, map, Contains}
+use Rattle.std.specs.Prelude.{ℕ, suc, Bool, true, false, nat_lt, nat_eq, ◌&&◌, ◌||◌, if◌then◌else◌, List, [], ◌∷◌, map, Contains}
 use Rattle.fvn_base.specs.Order.{IsBefore}
-use Rattle.fvn_terms.specs.declared.plain.SortId.{SortId}
 use Rattle.fvn_refine.specs.inner.Rows.{Row}
 
 -- the numbers of the sorts

@@ -1,5 +1,5 @@
 -- At the end, where it stands already, or before the row in its place.
-use Rattle.std.proofs.Common.{◌≡◌, false, true, length, get_or, sym, ap, subst, ◌∙◌, arith}
+use Rattle.std.proofs.Common.{◌≡◌, length, get_or, sym, ap, subst, ◌∙◌, arith}
 use Rattle.std.specs.List.{insert}
 use Rattle.fvn_refine.specs.inner.Ordering.{is_before, place}
 use Rattle.fvn_refine.proofs.InOrder.{place_within, in_place_last, in_place_there, in_place_before}

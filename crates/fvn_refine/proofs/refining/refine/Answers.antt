@@ -1,5 +1,5 @@
 -- The rows that are found give the refinements.
-use Rattle.std.proofs.Common.{◌≡◌, sym, subst, ◌∙◌}
+use Rattle.std.proofs.Common.{subst, ◌∙◌}
 use Rattle.std.specs.List.{Contains}
 use Rattle.fvn_refine.proofs.InOrder.{placed_from}
 use Rattle.fvn_refine.proofs.Refined.{refined, refined_sorts, none_exactly}

@@ -1,5 +1,5 @@
 -- The variables are put at their sorts, and then left out.
-use Rattle.std.proofs.Common.{sym, subst, ◌∙◌}
+use Rattle.std.proofs.Common.{sym, subst}
 use Rattle.fvn_flat.specs.Bindings.{BindingsFit, IsRestriction}
 use Rattle.fvn_flat.proofs.Composing.{restriction_fits}
 use Rattle.fvn_refine.proofs.Resorted.{resorting_fits, resorted_is}

@@ -1,19 +1,19 @@
 -- What each call of the search finds.
-use Rattle.std.proofs.Common.{◌≡◌, ◌<◌, ◌≤◌, ◌+◌, ◌-◌, false, true, [], ◌∷◌, length, take, drop, get_or, Some, None, sym, ap, subst, ◌∙◌, inl, inr, arith}
-use Rattle.std.proofs.lemmas.List.{drop_more, length-drop}
+use Rattle.std.proofs.Common.{◌≡◌, ◌<◌, ◌≤◌, ◌+◌, ◌-◌, false, true, [], length, take, drop, get_or, Some, sym, ap, subst, ◌∙◌, inl, arith}
+use Rattle.std.proofs.lemmas.List.{length-drop}
 use Rattle.fvn_terms.specs.Signature.{axioms}
 use Rattle.fvn_terms.specs.Equality.{IsAssociative}
 use Rattle.fvn_forms.specs.Flat.{fapp, fpack}
 use Rattle.fvn_flat.specs.Forms.{head_of, args_of}
-use Rattle.fvn_flat.specs.Fits.{Fits, AllFit}
-use Rattle.fvn_flat.specs.Weight.{places, places_all}
+use Rattle.fvn_flat.specs.Fits.{Fits}
+use Rattle.fvn_flat.specs.Weight.{places_all}
 use Rattle.fvn_flat.proofs.Smaller.{places_at}
 use Rattle.fvn_flat.proofs.Instances.{each_at}
 use Rattle.fvn_refine.specs.inner.Rows.{Row, IsRow, IsRowBelow, HasAbove}
 use Rattle.fvn_refine.specs.inner.Found.{AreSummands, AreRows, Finds, IsUnder, AreUnder, IsResultUnder, IsSumUnder, IsPairUnder}
 use Rattle.fvn_refine.proofs.Sorts.{variable_is, variable_or_head}
 use Rattle.fvn_refine.proofs.Finding.{ForOne, rows_found, finds_for_none, finds_for_more, finds_for_all, finds_from_rows}
-use Rattle.fvn_refine.proofs.Parts.{FindsFront, joined_is, joined_summands, from_sum, unjoined_is, unjoined_fits, from_over, args_places, front_none, front_next, front_all, unequal, over_all, over_fit, not_two, pair_found, all_but_last, sum_one, sum_several, front_summands, summand_fits, places_push, places_some}
+use Rattle.fvn_refine.proofs.Parts.{joined_is, joined_summands, from_sum, unjoined_is, unjoined_fits, from_over, args_places, front_none, front_next, front_all, unequal, over_all, over_fit, not_two, pair_found, all_but_last, sum_one, sum_several, front_summands, summand_fits, places_push, places_some}
 use Rattle.fvn_refine.proofs.lowering.Search.+lower.Goals as goal
 
 -- a term

@@ -1,7 +1,7 @@
 -- What is found for a variable.
-use Rattle.std.proofs.Common.{◌≡◌, false, [], sym, ap, subst, ◌∙◌, arith}
+use Rattle.std.proofs.Common.{◌≡◌, sym, ap, subst, ◌∙◌, arith}
 use Rattle.std.proofs.lemmas.Bool.{false≢true}
-use Rattle.fvn_refine.specs.inner.Rows.{beside, way_of}
+use Rattle.fvn_refine.specs.inner.Rows.{beside}
 use Rattle.fvn_refine.specs.inner.Found.{Finds}
 use Rattle.fvn_refine.proofs.Ways.{row_long}
 use Rattle.fvn_refine.proofs.Tried.{IsLowered, HasTried, tried_none, tried_more, lowered_here, lowered_none, lowered_tried}
