@@ -1,0 +1,7 @@
+-- A variable without a pair is bound.
+use Rattle.std.proofs.Common.{sym, ◌∙◌}
+use Rattle.fvn_refine.proofs.Resorted.{unbound}
+use Rattle.fvn_refine.proofs.resorting.with_resorted.Goals as goal
+
+pub bind-requires : goal.bind-requires
+bind-requires c = unbound _ (sym c.is_bound.ensures ∙ c.if-is_bound.false)

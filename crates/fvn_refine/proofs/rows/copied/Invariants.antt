@@ -1,0 +1,6 @@
+-- The sorts so far.
+use Rattle.std.proofs.Common.{◌≡◌, take}
+use Rattle.fvn_refine.proofs.rows.copied.Given as goal
+
+abbrev pub invariant-loop-s : goal.invariant-loop-s
+invariant-loop-s l = l.copy.items ≡ take l.s-index l.row

@@ -1,0 +1,5 @@
+-- What mirrors the code.
+pub mod Rows
+pub mod Found
+pub mod Ordering
+pub mod Resorting
