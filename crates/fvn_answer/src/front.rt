@@ -119,18 +119,18 @@ fn merged(least: Front, front: Front) -> Result<Front, NoMemory>
         IsFrontOf known other front w → AreGathered known other true whole l (all ++ w ∷ [])) }
 {
     if front.text.cmp(&least.text).is_lt() {
-        let later = lesser(front.later, least.text);
+        let later_front = lesser(front.later, least.text);
         return Ok(Front {
             text: front.text,
-            later,
+            later: later_front,
             tips: front.tips,
         });
     }
     if least.text.cmp(&front.text).is_lt() {
-        let later = lesser(least.later, front.text);
+        let later_least = lesser(least.later, front.text);
         return Ok(Front {
             text: least.text,
-            later,
+            later: later_least,
             tips: least.tips,
         });
     }

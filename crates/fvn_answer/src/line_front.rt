@@ -51,7 +51,8 @@ fn behind(alloc: Global, text: Vec<u8>, front: Front) -> Result<Front, NoMemory>
         first.extend_from_slice(front.text.as_slice())?;
         return Ok(closed(alloc, first));
     }
-    let mut later = Vec::from_slice(alloc, first.as_slice())?;
+    let mut later = Vec::new(alloc);
+    later.extend_from_slice(first.as_slice())?;
     later.extend_from_slice(front.later.as_slice())?;
     first.extend_from_slice(front.text.as_slice())?;
     Ok(Front {

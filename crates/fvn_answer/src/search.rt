@@ -6,13 +6,13 @@ ghost use Rattle.fvn_answer.specs.Numberings.{IsNumbering};
 ghost use Rattle.fvn_answer.specs.Lines.{forms_in};
 ghost use Rattle.fvn_answer.specs.inner.Readable.{AreReadable};
 ghost use Rattle.fvn_answer.specs.inner.Fronts.{AtLeast, IsAtMost, IsKept};
-ghost use Rattle.fvn_answer.specs.inner.Shown.{shown, CanPrint, IsNumberedText, IsBestText, IsLeastText, IsSearched};
+ghost use Rattle.fvn_answer.specs.inner.Shown.{shown, CanPrint, IsNumberedText, IsBestText, IsLeastText, IsSearched, AreSearched};
 
 use crate::front::Fixed;
 use crate::line_front::front;
-use crate::numbering::{FEW_VARIABLES, is_listed, variables};
+use crate::numbering::{FEW_VARIABLES, variables};
 use crate::printed::{Printed, text};
-use crate::twins::are_twins;
+use crate::twins::is_tried;
 use fvn_sorts::Signature;
 use fvn_syntax::{Names, VarNames};
 use fvn_terms::{NoMemory, Var};
@@ -50,46 +50,8 @@ fn exchanged(alloc: Global, order: &[Var], i: usize, j: usize) -> Result<Vec<Var
     Ok(other)
 }
 
-// Whether one of the tips stands in the order from k on and before j, and is a twin of the variable.
-fn has_twin(
-    signature: &Signature,
-    printed: &Printed<'_>,
-    order: &[Var],
-    k: usize,
-    j: usize,
-    tips: &[Var],
-    x: Var,
-) -> bool
-    requires within { j ≤ length order.now }
-    ensures { result ≡ true → HasTwin signature.now (shown printed.now) order.now k j tips.now x }
-{
-    for i in k..j {
-        let y = order[i];
-        if is_listed(tips, y) && are_twins(signature, printed, y, x) {
-            return true;
-        }
-    }
-    false
-}
-
-// Whether the variable at j is to have the next number: it is a tip, and no twin of one before.
-fn is_tried(
-    signature: &Signature,
-    printed: &Printed<'_>,
-    order: &[Var],
-    k: usize,
-    j: usize,
-    tips: &[Var],
-) -> bool
-    requires within { j < length order.now }
-{
-    if !is_listed(tips, order[j]) {
-        return false;
-    }
-    !has_twin(signature, printed, order, k, j, tips, order[j])
-}
-
 // Searches the numberings that begin as the order does, up to k, and go on with one of the tips.
+#[cycle(search)]
 fn search_tips(
     alloc: Global,
     signature: &Signature,
@@ -100,7 +62,17 @@ fn search_tips(
     k: usize,
     tips: &[Var],
     best: &mut Option<Vec<u8>>,
-) -> Result<(), NoMemory> {
+) -> Result<(), NoMemory>
+    requires names { AreReadable signature.now names.now }
+    requires printed { CanPrint signature.now var_names.now.texts printed.now }
+    requires numbering { IsNumbering (forms_in (shown printed.now)) order.now }
+    requires within { k < length order.now }
+    requires few { length order.now ≤ FEW_VARIABLES }
+    requires best { IsBestText signature.now var_names.now.texts names.now (shown printed.now)
+        best.old }
+    ensures { OnOk result (AreSearched signature.now var_names.now.texts names.now
+        (shown printed.now) order.now k tips.now best.old best.new) }
+{
     for j in k..order.len() {
         if is_tried(signature, printed, order, k, j, tips) {
             let next = exchanged(alloc, order, k, j)?;
@@ -120,6 +92,7 @@ fn search_tips(
 }
 
 // Searches the numberings that begin as the order does, up to k, for a text before the best one.
+#[cycle(search)]
 fn search(
     alloc: Global,
     signature: &Signature,
@@ -166,7 +139,8 @@ fn search(
     }
     search_tips(
         alloc, signature, names, var_names, printed, order, k, order, &mut *best,
-    )
+    )?;
+    Ok(())
 }
 
 // The least text under a numbering.
