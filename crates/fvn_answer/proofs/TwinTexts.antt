@@ -47,6 +47,10 @@ part-one : (b : Bool) (n : ℕ) → part b (1 + n) ≡ one_if b + part b n
 part-one true n = refl
 part-one false n = refl
 
+part-zero : (b : Bool) (n : ℕ) → part b (0 + n) ≡ part b n
+part-zero true n = omega arith
+part-zero false n = refl
+
 part-none : (b : Bool) → part b 0 ≡ 0
 part-none true = refl
 part-none false = refl
@@ -106,18 +110,18 @@ module _ (d : Declarations) (names : Names) (x y : Var) (order other : List Var)
             count-more (one_if b) (one_if a) 1 0 (fvar z) ts
             (ap (λ t. one_if (same q t)) (ap (λ v. new_text (fvar v)) zx ∙ variable-text x y e.first e.sort)) (ap (λ v. one_if (same q (old_text (fvar v)))) zx)
             (ap (λ s. if s then 1 else 0) p) (ap (λ s. if s then 1 else 0) r)
-            (let m = part-one a (times x ts) in let k = part-one b (times x ts) in omega (arith, m, k, ih))
+            (let m = part-one a (times x ts) in let k = part-one b (times x ts) in let za = part-zero a (times x ts) in let zb = part-zero b (times x ts) in let zc = part-zero b (times y ts) in let zd = part-zero a (times y ts) in omega (arith, za, zb, zc, zd, m, k, ih))
         go false true p r =
             let zy = same_var_is z y r in
             count-more (one_if a) (one_if b) 0 1 (fvar z) ts
             (ap (λ t. one_if (same q t)) (ap (λ v. new_text (fvar v)) zy ∙ variable-text y x e.second (sym e.sort))) (ap (λ v. one_if (same q (old_text (fvar v)))) zy)
             (ap (λ s. if s then 1 else 0) p) (ap (λ s. if s then 1 else 0) r)
-            (let n = part-one b (times y ts) in let l = part-one a (times y ts) in omega (arith, n, l, ih))
+            (let n = part-one b (times y ts) in let l = part-one a (times y ts) in let za = part-zero a (times x ts) in let zb = part-zero b (times x ts) in let zc = part-zero b (times y ts) in let zd = part-zero a (times y ts) in omega (arith, za, zb, zc, zd, n, l, ih))
         go false false p r =
             count-more (one_if (same q (old_text (fvar z)))) (one_if (same q (old_text (fvar z)))) 0 0 (fvar z) ts
             (ap (λ t. one_if (same q t)) (other-variable z (differs z x p) (differs z y r))) refl
             (ap (λ s. if s then 1 else 0) p) (ap (λ s. if s then 1 else 0) r)
-            (omega (arith, ih))
+            (let za = part-zero a (times x ts) in let zb = part-zero b (times x ts) in let zc = part-zero b (times y ts) in let zd = part-zero a (times y ts) in omega (arith, za, zb, zc, zd, ih))
 
     counts : (ts : List FlatTerm) → AllByRecursion (Kept true) ts → Counts ts
     counts [] k = let m = part-none a in let n = part-none b in omega (arith, m, n)
@@ -126,7 +130,7 @@ module _ (d : Declarations) (names : Names) (x y : Var) (order other : List Var)
       | inl v ↦ let n : false ≡ true = v.1 in cc
       | inr is ↦ let ih = counts ts k.1 in
           count-more (one_if (same q (old_text (fapp f joined us)))) (one_if (same q (old_text (fapp f joined us)))) 0 0 (fapp f joined us) ts
-          (ap (λ t. one_if (same q t)) is) refl refl refl (omega (arith, ih))
+          (ap (λ t. one_if (same q t)) is) refl refl refl (let za = part-zero a (times x ts) in let zb = part-zero b (times x ts) in let zc = part-zero b (times y ts) in let zd = part-zero a (times y ts) in omega (arith, za, zb, zc, zd, ih))
     ]
 
     pub same-count : (ts : List FlatTerm) → AllByRecursion (Kept true) ts → times x ts ≡ times y ts → count q (map new_text ts) ≡ count q (map old_text ts)
@@ -172,7 +176,7 @@ module _ (d : Declarations) (x y : Var) where
   -- an operator over arguments that keep their texts
   pub keeps-application : (f : OpId) (t : FlatTerm) → head_of t ≡ Some f → (exchange : Bool) → exchange ≡ may_exchange (axioms d f) → (items : List FlatTerm) → items ≡ args_of t →
       ((i : ℕ) (z : FlatTerm) → i < length items → KeepsArgument d x y exchange (get_or items i z)) → (exchange ≡ true → times x items ≡ times y items) → KeepsText d x y t
-  keeps-application f (fvar z) h exchange is items all kept even = cc
+  keeps-application f (fvar z) h exchange is items all kept even names readable p order other e = cc
   keeps-application f (fapp g joined ts) h exchange is items all kept even names readable p order other e =
       let t = fapp g joined ts in
       let fg : f ≡ g = cc in
@@ -241,7 +245,7 @@ module _ (d : Declarations) (printed : Printed) (order : List Var) (k j : ℕ) (
   }
 
   pub passed-other : (e : Var) → j < length order → listed tips (get_or order j e) ≡ false → IsPassedOver d printed order k j tips
-  passed-other e within no x c = absurd (not-listed tips (get_or order j e) no (subst (Contains tips) (get_or_default order j x e within) c))
+  passed-other e within other x c = absurd (not-listed tips (get_or order j e) other (subst (Contains tips) (get_or_default order j x e within) c))
 
   pub passed-twin : (e : Var) → j < length order → HasTwin d printed order k j tips (get_or order j e) → IsPassedOver d printed order k j tips
   passed-twin e within t x c = subst (HasTwin d printed order k j tips) (get_or_default order j e x within) t

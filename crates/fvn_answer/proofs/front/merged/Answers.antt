@@ -1,16 +1,12 @@
 -- The least of two fronts, by cases on their order.
-use Rattle.std.proofs.Common.{◌≡◌, ◌++◌, refl, sym, ap, ◌∙◌}
-use Rattle.std.specs.Ordering.{is_lt, nat_cmp}
-use Rattle.std.specs.Cmp.Lexicographic.{slice_cmp}
+use Rattle.std.proofs.Common.{◌++◌, refl, sym, ap, ◌∙◌}
+use Rattle.std.specs.Ordering.{is_lt}
 use Rattle.fvn_answer.proofs.Fronts.{at_least-itself, lt-at_least, no-lt-at_least, merged-front, merged-least, merged-both}
 use Rattle.fvn_answer.proofs.front.merged.Goals as goal
 
-compared : (c : goal.After-is_lt) → is_lt (slice_cmp nat_cmp c.args.front.text.items c.args.least.text.items) ≡ c.is_lt.result
-compared c = sym (c.is_lt.ensures ∙ ap is_lt c.cmp.ensures)
-
 pub returns-then-is_lt : goal.returns-then-is_lt
 returns-then-is_lt c known other whole all w t s g f =
-    merged-front known other whole all c.args.least c.args.front _ w t s g f (lt-at_least c.args.front.text.items c.args.least.text.items (compared c ∙ c.if-is_lt.true))
+    merged-front known other whole all c.args.least c.args.front _ w t s g f (lt-at_least c.args.front.text.items c.args.least.text.items (sym (c.is_lt.ensures ∙ ap is_lt c.cmp.ensures) ∙ c.if-is_lt.true))
     (at_least-itself c.args.front.text.items) refl c.lesser-later_front.ensures.first c.lesser-later_front.ensures.second
 
 pub returns-then-is_lt-2 : goal.returns-then-is_lt-2
@@ -22,5 +18,5 @@ returns-then-is_lt-2 c known other whole all w t s g f =
 pub returns : goal.returns
 returns c known other whole all w t s g f =
     merged-both known other whole all c.args.least c.args.front _ w t s g f (at_least-itself c.args.least.text.items)
-    (no-lt-at_least c.args.front.text.items c.args.least.text.items (compared c ∙ c.if-is_lt.false))
+    (no-lt-at_least c.args.front.text.items c.args.least.text.items (sym (c.is_lt.ensures ∙ ap is_lt c.cmp.ensures) ∙ c.if-is_lt.false))
     (c.in_ok-extend_from_slice.ensures.items ∙ ap (λ l. c.args.least.tips.items ++ l) c.as_slice.ensures.value) c.lesser-later.ensures.first c.lesser-later.ensures.second
