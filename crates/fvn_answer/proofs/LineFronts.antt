@@ -1,6 +1,6 @@
 -- The fronts of lines.
 use Rattle.std.proofs.Common.{◌≡◌, ℕ, ◌+◌, ◌<◌, ◌≤◌, Bool, true, false, Some, List, [], ◌∷◌, ◌++◌, length, get_or, take, drop, refl, sym, ap, ◌∙◌, subst, append_assoc, map}
-use Rattle.std.specs.Prelude.{codes, slice_get}
+use Rattle.std.specs.Prelude.{slice_get}
 use Rattle.std.proofs.lemmas.List.{append-nil, drop_more, take_more, take_all, get_or_default}
 use Rattle.fvn_lex.specs.Parts.{is_quoted_after}
 use Rattle.fvn_lex.specs.Join.{space}
@@ -9,19 +9,17 @@ use Rattle.fvn_terms.specs.declared.plain.OpId.{OpId}
 use Rattle.fvn_terms.specs.declared.declarations.Declarations.{Declarations}
 use Rattle.fvn_terms.specs.Signature.{axioms}
 use Rattle.fvn_forms.specs.Flat.{FlatTerm}
-use Rattle.fvn_flat.specs.Bindings.{Bindings, value}
+use Rattle.fvn_flat.specs.Bindings.{Bindings}
 use Rattle.fvn_flat.specs.Forms.{head_of, args_of}
 use Rattle.fvn_syntax.specs.declared.names.Names.{Names}
 use Rattle.fvn_syntax.specs.Pieces.{Text}
 use Rattle.fvn_answer.specs.inner.Readable.{AreReadable}
-use Rattle.fvn_answer.specs.Writing.{text_of, sorted, written, may_exchange}
+use Rattle.fvn_answer.specs.Writing.{text_of, written, may_exchange}
 use Rattle.fvn_answer.specs.inner.Bytes.{beside, between, pair_text, with_pairs, over_texts, IsPrintable}
 use Rattle.fvn_answer.specs.declared.front.Front.{Front}
 use Rattle.fvn_answer.specs.inner.Fronts.{AtLeast, NoneIsNext, AreTips, HasTips, IsUpTo, IsFrontOf, HaveMore, HaveTexts, AreGathered, arranged_if}
-use Rattle.fvn_answer.specs.inner.Shown.{value_texts}
 use Rattle.fvn_answer.proofs.Fronts.{at_least-append, at_least-behind, whole-front, front-after, cut-front, gather-behind}
 use Rattle.fvn_answer.proofs.Printing.{application-text, operator-filled}
-use Rattle.fvn_answer.proofs.ValueTexts.{pair-push}
 
 upto-behind : (tips : List Var) (p v w : Text) → IsUpTo tips v w → IsUpTo tips (p ++ v) (p ++ w)
 upto-behind [] p v w h = ap (λ t. p ++ t) h

@@ -1,5 +1,5 @@
 -- The search for the least text.
-use Rattle.std.proofs.Common.{◌≡◌, ◌≢◌, ℕ, Bool, true, false, ◌+◌, ◌<◌, ◌≤◌, inl, inr, List, length, get_or, Option, Some, None, refl, sym, ap, ◌∙◌, subst, arith}
+use Rattle.std.proofs.Common.{◌≡◌, ℕ, Bool, true, false, ◌+◌, ◌<◌, ◌≤◌, inl, inr, List, length, get_or, Option, Some, None, refl, sym, ap, ◌∙◌, subst, arith}
 use Rattle.std.specs.Global.{Vec}
 use Rattle.std.specs.Prelude.{Contains}
 use Rattle.std.specs.List.{SwappedAt}
@@ -23,7 +23,7 @@ use Rattle.fvn_answer.proofs.Fronts.{at_least-itself, at_least-trans, front-afte
 use Rattle.fvn_answer.proofs.Collecting.{listed-only, not-listed}
 use Rattle.fvn_answer.proofs.Numbers.{nobody, stands-numbered, next-place, nothing-else, agrees, next-begins}
 use Rattle.fvn_answer.proofs.Exchanging.{exchange}
-use Rattle.fvn_answer.proofs.Least.{same-length, exchanged-length, exchanged-numbering}
+use Rattle.fvn_answer.proofs.Least.{same-length}
 
 pub most-after : (best : Option (Vec ℕ)) (v w : Text) → IsAtMost best v → AtLeast v w → IsAtMost best w
 most-after None v w h k = h
@@ -93,15 +93,16 @@ module _ (d : Declarations) (texts : List Text) (names : Names) (it : Shown) whe
               let twin = passed nobody (subst (λ p. Contains tips (get_or order p nobody)) at (t.tip nobody)) in
               let twins = twin.twins nobody in
               let e = exchange d texts names it order other k j twin.place n t.begins twin.from twin.upto within next twins.sort in
-              subst (IsAtMost best) (same printed is readable can (get_or order twin.place nobody) (get_or order j nobody) e.turned other twins e.exchanged)
+              most printed is readable can best (get_or order twin.place nobody) (get_or order j nobody) e.turned other twins e.exchanged
               (s.tried e.turned (record { begins = e.begins; place = twin.place; from = twin.from; upto = twin.upto; next = e.next; tip = twin.tip }))
         ];
       }
     where
-      same : (printed : Printed) → it ≡ shown printed → AreReadable d names → CanPrint d texts printed → (x y : Var) (one two : List Var) → AreTwins d printed x y → AreExchanged x y one two →
-          text d names texts one it ≡ text d names texts two it
-      same printed is readable can x y one two twins e =
-          subst (λ shown. text d names texts one shown ≡ text d names texts two shown) (sym is) (sym (twins.same names texts readable can one two e))
+      most : (printed : Printed) → it ≡ shown printed → AreReadable d names → CanPrint d texts printed → (best : Option (Vec ℕ)) (x y : Var) (one two : List Var) → AreTwins d printed x y →
+          AreExchanged x y one two → IsAtMost best (text d names texts one it) → IsAtMost best (text d names texts two it)
+      most printed is readable can best x y one two twins e h =
+          let same = subst (λ shown. text d names texts one shown ≡ text d names texts two shown) (sym is) (sym (twins.same names texts readable can one two e)) in
+          subst (IsAtMost best) same h
 
   -- all tips have been tried
   pub searched-tips : (order tips : List Var) (k j : ℕ) (old best : Option (Vec ℕ)) → IsNumbering (forms_in it) order → k < length order → length order ≤ j → SearchedUpTo order k j tips old best →

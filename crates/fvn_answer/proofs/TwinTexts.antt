@@ -14,7 +14,7 @@ use Rattle.fvn_terms.specs.declared.declarations.Axioms.{Axioms}
 use Rattle.fvn_terms.specs.declared.declarations.Declarations.{Declarations}
 use Rattle.fvn_terms.specs.Signature.{axioms}
 use Rattle.fvn_terms.specs.Substitution.{same_var}
-use Rattle.fvn_forms.specs.Flat.{FlatTerm, FlatTerms, fvar, fapp}
+use Rattle.fvn_forms.specs.Flat.{FlatTerm, fvar, fapp}
 use Rattle.fvn_flat.specs.Bindings.{Bindings, value}
 use Rattle.fvn_flat.specs.Variables.{listed}
 use Rattle.fvn_flat.specs.Forms.{variable_of, head_of, args_of}

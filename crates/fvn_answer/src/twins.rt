@@ -1,5 +1,5 @@
 //! Twins: variables whose numbers can be exchanged without a change of the text.
-ghost use Rattle.std.specs.Prelude.{◌≡◌, ◌≢◌, ◌≤◌, ◌<◌, Bool, true, false, length, Contains};
+ghost use Rattle.std.specs.Prelude.{◌≡◌, ◌≢◌, ◌≤◌, ◌<◌, true, false, length, Contains};
 ghost use Rattle.std.specs.Option.{is_some};
 ghost use Rattle.fvn_flat.specs.Bindings.{value};
 ghost use Rattle.fvn_flat.specs.Forms.{variable_of, args_of};

@@ -1,5 +1,5 @@
 -- The front of a variable whose number is not known.
-use Rattle.std.proofs.Common.{refl, sym, ap, ◌∙◌, arith}
+use Rattle.std.proofs.Common.{refl, ap, ◌∙◌, arith}
 use Rattle.fvn_answer.proofs.Fronts.{closed-front}
 use Rattle.fvn_answer.proofs.NewFronts.{open-front, known-front}
 use Rattle.fvn_answer.proofs.front.new_front.Goals as goal

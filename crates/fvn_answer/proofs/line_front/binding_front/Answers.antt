@@ -1,6 +1,5 @@
 -- A variable, an arrow and the front of its value.
-use Rattle.std.proofs.Common.{subst, ◌++◌}
-use Rattle.std.specs.Prelude.{codes}
+use Rattle.std.proofs.Common.{subst}
 use Rattle.fvn_answer.specs.inner.Fronts.{IsFrontOf}
 use Rattle.fvn_answer.specs.Writing.{text_of, written}
 use Rattle.fvn_flat.specs.Bindings.{value}

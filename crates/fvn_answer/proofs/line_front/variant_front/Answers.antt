@@ -1,5 +1,5 @@
 -- A term, and bindings where the term is known to its end.
-use Rattle.std.proofs.Common.{◌∷◌, ◌++◌, [], sym, ap, ◌∙◌, subst, append_assoc}
+use Rattle.std.proofs.Common.{◌∷◌, ◌++◌, [], ap, ◌∙◌, subst, append_assoc}
 use Rattle.fvn_answer.specs.Lines.{values, values_of, text}
 use Rattle.fvn_answer.specs.inner.Fronts.{IsFrontOf}
 use Rattle.fvn_answer.proofs.Fronts.{no-tips, some-tips, whole-front}

@@ -1,9 +1,8 @@
 -- The search of the numberings that begin alike.
-use Rattle.std.proofs.Common.{◌≡◌, ◌<◌, ◌≤◌, ◌+◌, length, refl, sym, ap, ◌∙◌, subst, arith}
-use Rattle.std.specs.List.{SwappedAt, swap}
+use Rattle.std.proofs.Common.{◌≡◌, ◌≤◌, ◌+◌, length, refl, sym, ap, ◌∙◌, subst, arith}
 use Rattle.fvn_answer.specs.Numberings.{IsNumbering}
 use Rattle.fvn_answer.specs.Lines.{forms_in}
-use Rattle.fvn_answer.specs.inner.Fronts.{AgreesUpTo, IsAtMost}
+use Rattle.fvn_answer.specs.inner.Fronts.{IsAtMost}
 use Rattle.fvn_answer.specs.inner.Shown.{shown, IsSearched, AreSearched}
 use Rattle.fvn_answer.proofs.Least.{exchanged-length, exchanged-numbering}
 use Rattle.fvn_answer.proofs.Searching.{searched-one, searched-front, searched-later, searched-all, searched-tip, searched-twin, searched-tips}
