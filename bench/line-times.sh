@@ -1,6 +1,6 @@
 #!/usr/bin/env bash
 # Times of lines: random lines of 10 to 300 symbols, as many as a text may have with six new variables, against the same lines with one more
-# variable, whose numbering is fixed; and an answer of 1,000 and of 2,000 lines. It runs the crates without proving them.
+# variable, whose numbering is fixed; and answers of 500 to 4,000 lines. It runs the crates without proving them.
 # Run at the top of the repository; it works in a copy.
 set -e
 here=$(cd "$(dirname "$0")/.." && pwd)
@@ -50,6 +50,23 @@ for name in ['line_of_bindings', 'line_in', 'line_twice', 'line_of_texts']:
     printing = printing.replace(' %s(alloc' % name, ' %s(rt, alloc' % name)
 printing = printing.replace('use std::alloc::Global;\n', 'use std::alloc::Global;\nuse std::time::Instant;\n')
 open('src/tests/printing.rt', 'w').write(printing)
+ending = open('src/tests/ending.rt').read()
+answer = "        Some(end) => answer_text(alloc, declared, lines, &end),\n"
+assert ending.count(answer) == 1
+timed = '''        Some(end) => {
+            let started = Instant::now(rt);
+            let text = answer_text(alloc, declared, lines, &end)?;
+            if let Ok(start) = started {
+                if let Ok(time) = start.elapsed(rt) {
+                    let _ = println!(rt; "answer: {bytes} {time}", bytes = text.len(), time = time.as_micros());
+                }
+            }
+            Ok(text)
+        }
+'''
+ending = ending.replace(answer, timed).replace('pub fn answer_of(', 'pub fn answer_of(rt: &HostRuntime, ')
+ending = ending.replace('use std::alloc::Global;\n', 'use std::alloc::Global;\nuse std::time::Instant;\n')
+open('src/tests/ending.rt', 'w').write(ending)
 tests = '''//! Times of lines and of answers.
 mod ending;
 mod filling;
@@ -61,7 +78,6 @@ use fvn_module::{Module, read_module};
 use fvn_terms::NoMemory;
 use std::alloc::Global;
 use std::process::Abort;
-use std::time::Instant;
 
 const ROWS: &str = "%s";
 
@@ -74,16 +90,6 @@ fn module_of(rt: &impl Abort, alloc: Global) -> Result<Module, NoMemory> {
             Err(NoMemory)
         }
     }
-}
-
-fn answer_takes(rt: &HostRuntime, module: &Module, row: &str, count: usize) -> Result<(), NoMemory> {
-    if let Ok(start) = Instant::now(rt) {
-        let text = answer_of(rt.alloc(), module, row)?;
-        if let Ok(time) = start.elapsed(rt) {
-            let _ = println!(rt; "answer: {count} {bytes} {time}", bytes = text.len(), time = time.as_micros());
-        }
-    }
-    Ok(())
 }
 
 fn answer_row(alloc: Global, count: usize) -> Result<String, NoMemory> {
@@ -114,14 +120,16 @@ fn times(rt: HostRuntime) -> Result<(), NoMemory> {
         let (line, _again) = line_of_texts(&rt, alloc, &module, problem.as_bytes(), bindings.as_bytes())?;
         assert!(rt; line.as_slice().starts_with(b"{"), "at {row}");
     }
-    for count in [500, 1000, 2000] {
+    for count in [500, 1000, 2000, 4000] {
         let row = answer_row(alloc, count)?;
-        answer_takes(&rt, &module, row.as_str(), count)?;
+        for _ in 0..5 {
+            let _text = answer_of(&rt, alloc, &module, row.as_str())?;
+        }
     }
     Ok(())
 }
 ''' % rows
 open('src/tests.rt', 'w').write(tests)
 PROGRAM
-rt try --test --seconds 3000 2>&1 | tee times.txt | grep -aE 'error|panicked|fails|at [0-9]+ |test result|^ *answer:' | sed 's/^ *//'
+rt try --test --seconds 3000 2>&1 | tee times.txt | grep -aE 'error|panicked|fails|at [0-9]+ |test result' | sed 's/^ *//'
 python3 "$here/bench/lines.py" told < times.txt

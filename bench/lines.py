@@ -1,7 +1,8 @@
 """Random lines with six new variables, and what their times say.
 
 `rows` writes rows: a size, a problem and bindings, each twice, with six new variables and with one more. `told` reads
-times, in the order of the rows, and writes for each size how often longer a line with six takes.
+times, in the order of the rows, and writes for each size how often longer a line with six takes, and the least time of
+answers of each size.
 """
 import random
 import sys
@@ -62,7 +63,7 @@ def rows():
 
 
 def told():
-    size, times = None, {}
+    size, times, answers = None, {}, {}
     for row in sys.stdin:
         words = row.split()
         if words[:1] == ['size:']:
@@ -70,10 +71,14 @@ def told():
         elif words[:1] == ['line:'] and first:
             times.setdefault(size, []).append(int(words[1]))
             first = False
+        elif words[:1] == ['answer:']:
+            answers.setdefault(int(words[1]), []).append(int(words[2]))
     for size, all_times in times.items():
         ratios = [six / seven for six, seven in zip(all_times[::2], all_times[1::2])]
         mean = sum(ratios) / len(ratios)
         print('lines of %d symbols: %.1f renderings on average, at most %.1f' % (size, mean, max(ratios)))
+    for size, all_times in answers.items():
+        print('an answer of %d bytes: %d microseconds, %.1f a kilobyte' % (size, min(all_times), 1000 * min(all_times) / size))
 
 
 {'rows': rows, 'told': told}[sys.argv[1]]()

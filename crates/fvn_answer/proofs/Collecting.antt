@@ -15,7 +15,7 @@ use Rattle.fvn_flat.proofs.Occurrences.{occurs_in_app}
 use Rattle.fvn_flat.proofs.Binding.{same_var_is, same_var_itself}
 use Rattle.fvn_answer.specs.Numberings.{IsNumbering}
 
-listed-only : (vars : List Var) (x : Var) → listed vars x ≡ true → Contains vars x
+pub listed-only : (vars : List Var) (x : Var) → listed vars x ≡ true → Contains vars x
 listed-only [] x e = cc
 listed-only (y ∷ vars) x e = go (same_var y x) refl (listed-only vars x)
   where
@@ -76,7 +76,7 @@ Distinct-push (y ∷ vars) x h n = (
   Distinct-push vars x h.1 (λ k. n (contains_later y vars x k)),
 )
 
-not-listed : (vars : List Var) (x : Var) → listed vars x ≡ false → Contains vars x → ⊥
+pub not-listed : (vars : List Var) (x : Var) → listed vars x ≡ false → Contains vars x → ⊥
 not-listed [] x e k = contains_none x k
 not-listed (y ∷ vars) x e k = go (same_var y x) refl (not-listed vars x)
   where

@@ -1,15 +1,17 @@
 -- Fronts of texts and of lists of texts.
-use Rattle.std.proofs.Common.{◌≡◌, ℕ, ◌⊎◌, inl, inr, Bool, true, false, Some, None, Option, List, [], ◌∷◌, ◌++◌, refl, sym, ap, ◌∙◌, subst, append_assoc, arith}
-use Rattle.std.specs.Prelude.{if◌then◌else◌}
+use Rattle.std.proofs.Common.{◌≡◌, ℕ, ◌⊎◌, inl, inr, Bool, true, false, List, [], ◌∷◌, ◌++◌, refl, sym, ap, ◌∙◌, subst, append_assoc, arith}
+use Rattle.std.specs.Prelude.{if◌then◌else◌, ◌==◌, ◌≢◌, length}
+use Rattle.std.specs.Vec.{vec_len}
+use Rattle.std.proofs.lemmas.Bool.{eqb-true, eq-eqb}
 use Rattle.std.specs.List.{AllByRecursion}
 use Rattle.std.specs.Global.{Vec}
-use Rattle.std.specs.Option.{is_some}
 use Rattle.fvn_answer.specs.declared.front.Front.{Front}
 use Rattle.std.specs.declared.cmp.Ordering.{Ordering}
 use Rattle.std.specs.declared.cmp.Ordering.TheVariants.{Less, Equal, Greater}
 use Rattle.std.specs.Ordering.{ordering_reverse, is_gt, is_lt, nat_cmp}
 use Rattle.std.specs.Cmp.Lexicographic.{slice_cmp, nat_list_cmp_total}
 use Rattle.std.proofs.lemmas.List.{append-nil}
+use Rattle.std.proofs.lemmas.List.Elements.{Contains-append_left, Contains-append_right}
 use Rattle.fvn_base.specs.Order.{IsBefore}
 use Rattle.fvn_base.proofs.Order.{before_irrefl, before_trans}
 use Rattle.fvn_lex.specs.Parts.{is_quoted_after}
@@ -18,7 +20,7 @@ use Rattle.fvn_terms.specs.declared.plain.Var.{Var}
 use Rattle.fvn_syntax.specs.Pieces.{Text}
 use Rattle.fvn_answer.specs.Writing.{is_after}
 use Rattle.fvn_answer.specs.inner.Bytes.{bytes_of, beside, with_each, over_texts, put_text, sorted_texts}
-use Rattle.fvn_answer.specs.inner.Fronts.{AtLeast, IsFrontOf, IsLesserOf, arranged_if, HaveMore, AreGathered, upto}
+use Rattle.fvn_answer.specs.inner.Fronts.{AtLeast, NoneIsNext, AreTips, HasTips, IsUpTo, IsFrontOf, arranged_if, HaveMore, HaveTexts, AreGathered, upto}
 use Rattle.fvn_answer.proofs.Least.{before-lt, before-not, not-before, before-split}
 use Rattle.fvn_answer.proofs.TextOrder.{not_after, after_trans, put-put}
 
@@ -222,10 +224,10 @@ over-cut false name l shown whole all e h =
 -- Arguments, one by one.
 
 -- a text that is known to its end
-pub gather-whole : (exchange : Bool) (whole all : List Text) (tip : Option Var) (l v w : Text) → (exchange ≡ true) ⊎ (tip ≡ None) → v ≡ w →
-    AreGathered exchange whole tip l all → AreGathered exchange (whole ++ v ∷ []) tip l (all ++ w ∷ [])
-gather-whole exchange whole all None l v w or is h = λ i. h i ++ is i ∷ []
-gather-whole true whole all (Some x) l v w or is h = record {
+gather-whole : (exchange : Bool) (whole all : List Text) (tips : List Var) (l v w : Text) → (exchange ≡ true) ⊎ (tips ≡ []) → v ≡ w →
+    HaveTexts exchange whole tips l all → HaveTexts exchange (whole ++ v ∷ []) tips l (all ++ w ∷ [])
+gather-whole exchange whole all [] l v w or is h = λ i. h i ++ is i ∷ []
+gather-whole true whole all (x ∷ tips) l v w or is h = record {
   first = h.first;
   more = h.more;
   all_are =
@@ -235,11 +237,11 @@ gather-whole true whole all (Some x) l v w or is h = record {
   first_after = h.first_after;
   more_after = h.more_after;
 }
-gather-whole false whole all (Some x) l v w (inl e) is h = cc
-gather-whole false whole all (Some x) l v w (inr e) is h = cc
+gather-whole false whole all (x ∷ tips) l v w (inl e) is h = cc
+gather-whole false whole all (x ∷ tips) l v w (inr e) is h = cc
 
 -- the first text that is not
-pub gather-first : (exchange : Bool) (whole all : List Text) (v w : Text) → AtLeast v w → whole ≡ all → HaveMore exchange whole v (all ++ w ∷ [])
+gather-first : (exchange : Bool) (whole all : List Text) (v w : Text) → AtLeast v w → whole ≡ all → HaveMore exchange whole v (all ++ w ∷ [])
 gather-first exchange whole all v w h is = record {
   first = w;
   more = [];
@@ -249,7 +251,7 @@ gather-first exchange whole all v w h is = record {
 }
 
 -- one more of them
-pub gather-more : (whole all : List Text) (l v u w : Text) → AtLeast u l → AtLeast u v → AtLeast v w → HaveMore true whole l all → HaveMore true whole u (all ++ w ∷ [])
+gather-more : (whole all : List Text) (l v u w : Text) → AtLeast u l → AtLeast u v → AtLeast v w → HaveMore true whole l all → HaveMore true whole u (all ++ w ∷ [])
 gather-more whole all l v u w low lower after h = record {
   first = w;
   more = h.first ∷ h.more;
@@ -268,44 +270,151 @@ gather-behind whole all l w h = record {
   more_after = λ e. cc;
 }
 
--- A front with a tip, and one without.
+-- Fronts with tips, and those without.
 
-pub whole-front : (tip : Option Var) (v w : Text) → is_some tip ≡ false → IsFrontOf tip v w → v ≡ w
-whole-front None v w e h = h
-whole-front (Some x) v w e h = cc
+empty-tips : (tips : List Var) → length tips ≡ 0 → tips ≡ []
+empty-tips [] e = refl
+empty-tips (x ∷ tips) e = absurd (omega (arith, e))
 
-pub front-after : (tip : Option Var) (v w : Text) → IsFrontOf tip v w → AtLeast v w
-front-after None v w h = subst (AtLeast v) h (at_least-itself v)
-front-after (Some x) v w h = h
+filled-tips : (tips : List Var) → length tips ≢ 0 → AreTips tips
+filled-tips [] n = n refl
+filled-tips (x ∷ tips) n = tt
 
-gathered-more : (exchange : Bool) (whole all : List Text) (tip : Option Var) (v : Text) → is_some tip ≡ true → HaveMore exchange whole v all → AreGathered exchange whole tip v all
-gathered-more exchange whole all None v e h = cc
-gathered-more exchange whole all (Some x) v e h = h
+pub no-tips : (tips : Vec Var) → true ≡ (vec_len tips == 0) → tips.items ≡ []
+no-tips tips e = let long = tips.ok.0 in let n = eqb-true (vec_len tips) 0 (sym e) in empty-tips tips.items (omega (arith, long, n))
 
-pub gather-lesser : (exchange : Bool) (whole all : List Text) (least front lesser : Front) (w : Text) (tip : Option Var) → least.tip ≡ tip → (exchange ≡ true) ⊎ (tip ≡ None) →
-    is_some front.tip ≡ true → IsLesserOf tip least front lesser → AreGathered exchange whole tip least.text.items all → AtLeast front.text.items w →
-    AreGathered exchange whole lesser.tip lesser.text.items (all ++ w ∷ [])
-gather-lesser exchange whole all least front lesser w None t or some is g h =
-    subst (λ (f : Front). AreGathered exchange whole f.tip f.text.items (all ++ w ∷ [])) (sym is)
-    (gathered-more exchange whole (all ++ w ∷ []) front.tip front.text.items some (gather-first exchange whole all front.text.items w h g))
-gather-lesser false whole all least front lesser w (Some x) t (inl e) some is g h = cc
-gather-lesser false whole all least front lesser w (Some x) t (inr e) some is g h = cc
-gather-lesser true whole all least front lesser w (Some x) t or some is g h = go (is_lt (slice_cmp nat_cmp front.text.items least.text.items)) refl is
-  where
-    u : Text
-    u = front.text.items
+pub some-tips : (tips : Vec Var) → false ≡ (vec_len tips == 0) → AreTips tips.items
+some-tips tips e =
+    let long = tips.ok.0 in
+    filled-tips tips.items (λ z. let n : vec_len tips ≡ 0 = omega (arith, long, z) in let t : (vec_len tips == 0) ≡ true = eq-eqb (vec_len tips) 0 n in let f : false ≡ true = e ∙ t in cc)
 
-    l : Text
-    l = least.text.items
+tips-append : (tips more : List Var) → AreTips tips → AreTips (tips ++ more)
+tips-append [] more t = absurd t
+tips-append (x ∷ tips) more t = tt
 
-    go : (b : Bool) → is_lt (slice_cmp nat_cmp front.text.items least.text.items) ≡ b → lesser ≡ (if b then front else least) →
-        AreGathered true whole lesser.tip lesser.text.items (all ++ w ∷ [])
-    go true e s =
-        subst (λ (f : Front). AreGathered true whole f.tip f.text.items (all ++ w ∷ [])) (sym s)
-        (gathered-more true whole (all ++ w ∷ []) front.tip u some (gather-more whole all l u u w (lt-at_least u l e) (at_least-itself u) h g))
-    go false e s =
-        subst (λ (f : Front). AreGathered true whole f.tip f.text.items (all ++ w ∷ [])) (sym s)
-        (gathered-more true whole (all ++ w ∷ []) least.tip l (ap is_some t) (gather-more whole all l u l w (at_least-itself l) (no-lt-at_least u l e) h g))
+pub whole-front : (tips : List Var) (v w : Text) → tips ≡ [] → IsUpTo tips v w → v ≡ w
+whole-front [] v w e h = h
+whole-front (x ∷ tips) v w e h = cc
+
+pub front-after : (tips : List Var) (v w : Text) → IsUpTo tips v w → AtLeast v w
+front-after [] v w h = subst (AtLeast v) h (at_least-itself v)
+front-after (x ∷ tips) v w h = h
+
+pub cut-front : (tips : List Var) (v w : Text) → AreTips tips → AtLeast v w → IsUpTo tips v w
+cut-front [] v w t h = absurd t
+cut-front (x ∷ tips) v w t h = h
+
+have-more : (exchange : Bool) (whole all : List Text) (tips : List Var) (v : Text) → AreTips tips → HaveMore exchange whole v all → HaveTexts exchange whole tips v all
+have-more exchange whole all [] v t h = absurd t
+have-more exchange whole all (x ∷ tips) v t h = h
+
+pub more-texts : (exchange : Bool) (whole all : List Text) (tips : List Var) (v : Text) → AreTips tips → HaveTexts exchange whole tips v all → HaveMore exchange whole v all
+more-texts exchange whole all [] v t h = absurd t
+more-texts exchange whole all (x ∷ tips) v t h = h
+
+pub whole-texts : (exchange : Bool) (whole all : List Text) (tips : List Var) (v : Text) → tips ≡ [] → HaveTexts exchange whole tips v all → whole ≡ all
+whole-texts exchange whole all [] v e h = h
+whole-texts exchange whole all (x ∷ tips) v e h = cc
+
+pub at_least-nothing : (w : Text) → AtLeast [] w
+at_least-nothing [] b = b
+at_least-nothing (a ∷ w) b = b
+
+whole-upto : (tips : List Var) (v w : Text) → tips ≡ [] → v ≡ w → IsUpTo tips v w
+whole-upto [] v w e h = h
+whole-upto (x ∷ tips) v w e h = cc
+
+-- a text that is known to its end
+pub closed-front : (known : ℕ) (other : List Var) (front : Front) (w : Text) → front.tips.items ≡ [] → front.text.items ≡ w → front.later.items ≡ [] → IsFrontOf known other front w
+closed-front known other front w none is later = record {
+  upto = whole-upto front.tips.items front.text.items w none is;
+  later = λ n. subst (λ v. AtLeast v w) (sym later) (at_least-nothing w);
+}
+
+module _ (known : ℕ) (other : List Var) where
+  pub gathered-whole : (exchange : Bool) (whole all : List Text) (least front : Front) (w : Text) → (exchange ≡ true) ⊎ (least.tips.items ≡ []) → front.tips.items ≡ [] →
+      AreGathered known other exchange whole least all → IsFrontOf known other front w → AreGathered known other exchange (whole ++ front.text.items ∷ []) least (all ++ w ∷ [])
+  gathered-whole exchange whole all least front w or none g f =
+      let is = whole-front front.tips.items front.text.items w none f.upto in record {
+        upto = gather-whole exchange whole all least.tips.items least.text.items front.text.items w or is g.upto;
+        later = λ n. gather-whole exchange whole all least.tips.items least.later.items front.text.items w or is (g.later n);
+      }
+
+  pub gathered-first : (exchange : Bool) (whole all : List Text) (least front : Front) (w : Text) → least.tips.items ≡ [] → AreTips front.tips.items →
+      AreGathered known other exchange whole least all → IsFrontOf known other front w → AreGathered known other exchange whole front (all ++ w ∷ [])
+  gathered-first exchange whole all least front w none some g f =
+      let is = whole-texts exchange whole all least.tips.items least.text.items none g.upto in record {
+        upto = have-more exchange whole (all ++ w ∷ []) front.tips.items front.text.items some
+            (gather-first exchange whole all front.text.items w (front-after front.tips.items front.text.items w f.upto) is);
+        later = λ n. have-more exchange whole (all ++ w ∷ []) front.tips.items front.later.items some (gather-first exchange whole all front.later.items w (f.later n) is);
+      }
+
+  -- one more text, that is at least v
+  step : (tips more : List Var) (whole all : List Text) (l v u w : Text) → AreTips tips → AreTips more → AtLeast u l → AtLeast u v → AtLeast v w →
+      HaveTexts true whole tips l all → HaveTexts true whole more u (all ++ w ∷ [])
+  step tips more whole all l v u w t s low lower after h =
+      have-more true whole (all ++ w ∷ []) more u s (gather-more whole all l v u w low lower after (more-texts true whole all tips l t h))
+
+  module _ (whole all : List Text) (least front merged : Front) (w : Text) (t : HasTips least) (s : HasTips front) (g : AreGathered known other true whole least all) (f : IsFrontOf known other front w)
+      (low : AtLeast merged.text.items least.text.items) (lower : AtLeast merged.text.items front.text.items) where
+    after : AtLeast front.text.items w
+    after = front-after front.tips.items front.text.items w f.upto
+
+    -- the front stands before the least one
+    pub merged-front : merged.tips.items ≡ front.tips.items → AtLeast merged.later.items front.later.items → AtLeast merged.later.items least.text.items →
+        AreGathered known other true whole merged (all ++ w ∷ [])
+    merged-front e first second =
+        let m : AreTips merged.tips.items = subst AreTips (sym e) s in record {
+          upto = step least.tips.items merged.tips.items whole all least.text.items front.text.items merged.text.items w t m low lower after g.upto;
+          later = λ n. step least.tips.items merged.tips.items whole all least.text.items front.later.items merged.later.items w t m second first
+              (f.later (subst (λ tips. NoneIsNext tips known other) e n)) g.upto;
+        }
+
+    -- it stands after it
+    pub merged-least : merged.tips.items ≡ least.tips.items → AtLeast merged.later.items least.later.items → AtLeast merged.later.items front.text.items →
+        AreGathered known other true whole merged (all ++ w ∷ [])
+    merged-least e first second =
+        let m : AreTips merged.tips.items = subst AreTips (sym e) t in record {
+          upto = step least.tips.items merged.tips.items whole all least.text.items front.text.items merged.text.items w t m low lower after g.upto;
+          later = λ n. step least.tips.items merged.tips.items whole all least.later.items front.text.items merged.later.items w t m first second after
+              (g.later (subst (λ tips. NoneIsNext tips known other) e n));
+        }
+
+    -- the two are one text
+    pub merged-both : merged.tips.items ≡ least.tips.items ++ front.tips.items → AtLeast merged.later.items least.later.items → AtLeast merged.later.items front.later.items →
+        AreGathered known other true whole merged (all ++ w ∷ [])
+    merged-both e first second =
+        let m : AreTips merged.tips.items = subst AreTips (sym e) (tips-append least.tips.items front.tips.items t) in
+        let none : NoneIsNext merged.tips.items known other → NoneIsNext (least.tips.items ++ front.tips.items) known other = subst (λ tips. NoneIsNext tips known other) e in record {
+          upto = step least.tips.items merged.tips.items whole all least.text.items front.text.items merged.text.items w t m low lower after g.upto;
+          later = λ n. step least.tips.items merged.tips.items whole all least.later.items front.later.items merged.later.items w t m first second
+              (f.later (λ x c. none n x (Contains-append_right least.tips.items front.tips.items x c)))
+              (g.later (λ x c. none n x (Contains-append_left least.tips.items front.tips.items x c)));
+        }
+
+  -- both have tips
+  pub gathered-both : (exchange : Bool) (whole all : List Text) (least front both : Front) (w : Text) → (exchange ≡ true) ⊎ (least.tips.items ≡ []) → HasTips least → HasTips front →
+      AreGathered known other exchange whole least all → IsFrontOf known other front w →
+      ((whole all : List Text) (w : Text) → HasTips least → HasTips front → AreGathered known other true whole least all → IsFrontOf known other front w →
+      AreGathered known other true whole both (all ++ w ∷ [])) → AreGathered known other exchange whole both (all ++ w ∷ [])
+  gathered-both exchange whole all least front both w (inl e) t s g f m =
+      subst (λ b. AreGathered known other b whole both (all ++ w ∷ [])) (sym e) (m whole all w t s (subst (λ b. AreGathered known other b whole least all) e g) f)
+  gathered-both exchange whole all least front both w (inr e) t s g f m = absurd (subst AreTips e t)
+
+  -- a name over arguments of which some are not known
+  pub over-open : (exchange : Bool) (name : Text) (shown whole all : List Text) (least front : Front) → AreTips least.tips.items → front.tips.items ≡ least.tips.items →
+      shown ≡ arranged_if exchange whole → AreGathered known other exchange whole least all →
+      front.text.items ≡ with_each 40 name (upto exchange least.text.items shown ++ least.text.items ∷ []) →
+      front.later.items ≡ with_each 40 name (upto exchange least.later.items shown ++ least.later.items ∷ []) →
+      IsFrontOf known other front (over_texts name (arranged_if exchange all))
+  over-open exchange name shown whole all least front t e is g text_is later_is = record {
+    upto = cut-front front.tips.items front.text.items (over_texts name (arranged_if exchange all)) (subst AreTips (sym e) t)
+        (subst (λ v. AtLeast v (over_texts name (arranged_if exchange all))) (sym text_is)
+        (over-cut exchange name least.text.items shown whole all is (more-texts exchange whole all least.tips.items least.text.items t g.upto)));
+    later = λ n. subst (λ v. AtLeast v (over_texts name (arranged_if exchange all))) (sym later_is)
+        (over-cut exchange name least.later.items shown whole all is
+        (more-texts exchange whole all least.tips.items least.later.items t (g.later (subst (λ tips. NoneIsNext tips known other) e n))));
+  }
 
 pub bytes-snoc : (l : List (Vec ℕ)) (v : Vec ℕ) → bytes_of (l ++ v ∷ []) ≡ bytes_of l ++ v.items ∷ []
 bytes-snoc [] v = refl

@@ -1,6 +1,7 @@
 -- Joined pieces of written terms and of bindings, byte by byte.
-use Rattle.std.proofs.Common.{◌≡◌, ℕ, Bool, true, false, ◌||◌, List, [], ◌∷◌, ◌++◌, refl, sym, ap, ◌∙◌, append_assoc, map}
-use Rattle.std.specs.Prelude.{codes}
+use Rattle.std.proofs.Common.{◌≡◌, ℕ, ◌-◌, Bool, true, false, ◌||◌, List, [], ◌∷◌, ◌++◌, length, get_or, refl, sym, ap, ◌∙◌, subst, append_assoc, map, arith}
+use Rattle.std.specs.Prelude.{◌==◌, codes}
+use Rattle.std.proofs.lemmas.Bool.{eqb-true}
 use Rattle.std.specs.List.{AllByRecursion}
 use Rattle.std.proofs.lemmas.List.{append-nil, map-append}
 use Rattle.fvn_lex.specs.declared.token.Class.TheVariants.{Special}
@@ -110,6 +111,21 @@ closed-last t = ap closed (spell-last t) ∙ map-append close (before_last t) (l
 pub quoted-append : (q : Bool) (a b : Text) → is_quoted_after q (a ++ b) ≡ is_quoted_after (is_quoted_after q a) b
 quoted-append q [] b = refl
 quoted-append q (c ∷ a) b = quoted-append (is_backquote c) a b
+
+pub quoted-empty : (text : Text) → true ≡ (length text == 0) → false ≡ is_quoted_after false text
+quoted-empty [] e = refl
+quoted-empty (b ∷ text) e = let n = eqb-true (length (b ∷ text)) 0 (sym e) in absurd (omega (arith, n))
+
+last-byte : (b : ℕ) (text : Text) (d : ℕ) → is_backquote (get_or (b ∷ text) (length text) d) ≡ is_quoted_after (is_backquote b) text
+last-byte b [] d = refl
+last-byte b (c ∷ text) d = last-byte c text d
+
+-- the last byte tells
+pub last-quoted : (text : Text) (d : ℕ) → false ≡ (length text == 0) → is_backquote (get_or text (length text - 1) d) ≡ is_quoted_after false text
+last-quoted [] d e = cc
+last-quoted (b ∷ text) d e =
+    let last : length (b ∷ text) - 1 ≡ length text = omega arith in
+    subst (λ n. is_backquote (get_or (b ∷ text) n d) ≡ is_quoted_after false (b ∷ text)) (sym last) (last-byte b text d)
 
 -- the text is not empty: what stands before it does not tell whether its last byte is a backquote
 abbrev pub IsFilled : Text → Type 0

@@ -4,6 +4,7 @@ mod Applying
 mod Arranged
 mod BoundLines
 mod Collecting
+mod Exchanging
 mod Fronts
 mod Joining
 mod Least
@@ -27,5 +28,6 @@ mod TextPlaces
 mod Tokens
 mod Tops
 mod Turning
+mod TwinTexts
 mod ValueTexts
 mod Variables

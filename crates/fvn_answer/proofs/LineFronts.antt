@@ -1,7 +1,6 @@
 -- The fronts of lines.
-use Rattle.std.proofs.Common.{◌≡◌, ℕ, ◌+◌, ◌<◌, ◌≤◌, Bool, true, false, Option, Some, None, List, [], ◌∷◌, ◌++◌, length, get_or, take, drop, refl, sym, ap, ◌∙◌, subst, append_assoc, map}
-use Rattle.std.specs.Prelude.{codes, slice_get}
-use Rattle.std.specs.Option.{is_some}
+use Rattle.std.proofs.Common.{◌≡◌, ℕ, ◌+◌, ◌<◌, ◌≤◌, Bool, true, false, Some, List, [], ◌∷◌, ◌++◌, length, get_or, take, drop, refl, sym, ap, ◌∙◌, subst, append_assoc, map}
+use Rattle.std.specs.Prelude.{slice_get}
 use Rattle.std.proofs.lemmas.List.{append-nil, drop_more, take_more, take_all, get_or_default}
 use Rattle.fvn_lex.specs.Parts.{is_quoted_after}
 use Rattle.fvn_lex.specs.Join.{space}
@@ -10,33 +9,36 @@ use Rattle.fvn_terms.specs.declared.plain.OpId.{OpId}
 use Rattle.fvn_terms.specs.declared.declarations.Declarations.{Declarations}
 use Rattle.fvn_terms.specs.Signature.{axioms}
 use Rattle.fvn_forms.specs.Flat.{FlatTerm}
-use Rattle.fvn_flat.specs.Bindings.{Bindings, value}
+use Rattle.fvn_flat.specs.Bindings.{Bindings}
 use Rattle.fvn_flat.specs.Forms.{head_of, args_of}
 use Rattle.fvn_syntax.specs.declared.names.Names.{Names}
 use Rattle.fvn_syntax.specs.Pieces.{Text}
 use Rattle.fvn_answer.specs.inner.Readable.{AreReadable}
-use Rattle.fvn_answer.specs.Writing.{text_of, sorted, written, may_exchange}
+use Rattle.fvn_answer.specs.Writing.{text_of, written, may_exchange}
 use Rattle.fvn_answer.specs.inner.Bytes.{beside, between, pair_text, with_pairs, over_texts, IsPrintable}
-use Rattle.fvn_answer.specs.inner.Fronts.{AtLeast, IsFrontOf, HaveMore, AreGathered, arranged_if}
-use Rattle.fvn_answer.specs.inner.Shown.{value_texts}
-use Rattle.fvn_answer.proofs.Fronts.{at_least-append, at_least-behind, whole-front, front-after, gather-behind}
+use Rattle.fvn_answer.specs.declared.front.Front.{Front}
+use Rattle.fvn_answer.specs.inner.Fronts.{AtLeast, NoneIsNext, AreTips, HasTips, IsUpTo, IsFrontOf, HaveMore, HaveTexts, AreGathered, arranged_if}
+use Rattle.fvn_answer.proofs.Fronts.{at_least-append, at_least-behind, whole-front, front-after, cut-front, gather-behind}
 use Rattle.fvn_answer.proofs.Printing.{application-text, operator-filled}
-use Rattle.fvn_answer.proofs.ValueTexts.{pair-push}
 
-pub front-behind : (tip : Option Var) (p v w : Text) → IsFrontOf tip v w → IsFrontOf tip (p ++ v) (p ++ w)
-front-behind None p v w h = ap (λ t. p ++ t) h
-front-behind (Some x) p v w h = at_least-behind p v w h
+upto-behind : (tips : List Var) (p v w : Text) → IsUpTo tips v w → IsUpTo tips (p ++ v) (p ++ w)
+upto-behind [] p v w h = ap (λ t. p ++ t) h
+upto-behind (x ∷ tips) p v w h = at_least-behind p v w h
 
-pub cut-front : (tip : Option Var) (v w : Text) → is_some tip ≡ true → AtLeast v w → IsFrontOf tip v w
-cut-front None v w e h = cc
-cut-front (Some x) v w e h = h
+-- a front behind a text
+pub front-behind : (known : ℕ) (other : List Var) (p w : Text) (front longer : Front) → longer.tips.items ≡ front.tips.items → longer.text.items ≡ p ++ front.text.items →
+    longer.later.items ≡ p ++ front.later.items → IsFrontOf known other front w → IsFrontOf known other longer (p ++ w)
+front-behind known other p w front longer t e l f = record {
+  upto = subst (λ tips. IsUpTo tips longer.text.items (p ++ w)) (sym t) (subst (λ v. IsUpTo front.tips.items v (p ++ w)) (sym e) (upto-behind front.tips.items p front.text.items w f.upto));
+  later = λ n. subst (λ v. AtLeast v (p ++ w)) (sym l) (at_least-behind p front.later.items w (f.later (subst (λ tips. NoneIsNext tips known other) t n)));
+}
 
-pub binding-front : (d : Declarations) (names : Names) (texts : List Text) (other : List Var) (s : Bindings) (x : Var) (old called : Text) (tip : Option Var) (v : Text) →
-    slice_get texts x.name ≡ Some called → IsFrontOf tip v (text_of (written d names other (value s x))) →
-    IsFrontOf tip (old ++ text_of (sorted d names called x.sort) ++ codes " --> " ++ v) (old ++ pair_text (value_texts d texts names other s x))
-binding-front d names texts other s x old called tip v e h =
-    subst (IsFrontOf tip (old ++ text_of (sorted d names called x.sort) ++ codes " --> " ++ v)) (pair-push d names texts other s x old called e)
-    (front-behind tip (old ++ text_of (sorted d names called x.sort) ++ codes " --> ") v (text_of (written d names other (value s x))) h)
+-- a text behind a front with tips
+pub front-longer : (known : ℕ) (other : List Var) (w z : Text) (front : Front) → HasTips front → IsFrontOf known other front w → IsFrontOf known other front (w ++ z)
+front-longer known other w z front t f = record {
+  upto = cut-front front.tips.items front.text.items (w ++ z) t (at_least-append front.text.items w z (front-after front.tips.items front.text.items w f.upto));
+  later = λ n. at_least-append front.later.items w z (f.later n);
+}
 
 -- Bindings.
 
@@ -59,32 +61,33 @@ module _ (each : Var → Text × Text) (vars : List Var) (i : ℕ) (x : Var) (wi
   left first acc = ap (λ l. with_pairs first acc (map each l)) (drop_more vars i x within ∙ ap (λ y. y ∷ drop (i + 1) vars) (sym is))
 
   -- a binding that is known to its end
-  pub binding-whole : (all : Text) (first : Bool) (acc line : Text) (tip : Option Var) → is_some tip ≡ false → all ≡ with_pairs first acc (map each (drop i vars)) →
-      IsFrontOf tip line (between first acc ++ pair_text (each x)) → all ≡ with_pairs false line (map each (drop (i + 1) vars))
-  binding-whole all first acc line tip e h f =
-      h ∙ left first acc ∙ ap (λ t. with_pairs false t (map each (drop (i + 1) vars))) (sym (whole-front tip line (between first acc ++ pair_text (each x)) e f))
+  pub binding-whole : (all : Text) (first : Bool) (acc line : Text) → all ≡ with_pairs first acc (map each (drop i vars)) →
+      line ≡ between first acc ++ pair_text (each x) → all ≡ with_pairs false line (map each (drop (i + 1) vars))
+  binding-whole all first acc line h e = h ∙ left first acc ∙ ap (λ t. with_pairs false t (map each (drop (i + 1) vars))) (sym e)
 
   -- one that ends at a tip
-  pub binding-cut : (all whole : Text) (first : Bool) (acc line : Text) (tip : Option Var) → is_some tip ≡ true → beside all 125 ≡ whole → all ≡ with_pairs first acc (map each (drop i vars)) →
-      IsFrontOf tip line (between first acc ++ pair_text (each x)) → IsFrontOf tip line whole
-  binding-cut all whole first acc line tip e end h f =
+  pub binding-cut : (known : ℕ) (other : List Var) (front : Front) (all whole : Text) (first : Bool) (acc : Text) → HasTips front → beside all 125 ≡ whole →
+      all ≡ with_pairs first acc (map each (drop i vars)) → IsFrontOf known other front (between first acc ++ pair_text (each x)) → IsFrontOf known other front whole
+  binding-cut known other front all whole first acc t end h f =
       let base = between first acc ++ pair_text (each x) in
       let more = pairs-front false base (map each (drop (i + 1) vars)) in
-      let low : AtLeast line base = front-after tip line base f in
-      let one : AtLeast line all = subst (AtLeast line) (sym (h ∙ left first acc ∙ more.1)) (at_least-append line base more.0 low) in
-      cut-front tip line whole e (subst (AtLeast line) end (at_least-append line all _ one))
+      let gap = space (is_quoted_after false all) ++ 125 ∷ [] in
+      let one : IsFrontOf known other front all = subst (IsFrontOf known other front) (sym (h ∙ left first acc ∙ more.1)) (front-longer known other base more.0 front t f) in
+      subst (IsFrontOf known other front) end (front-longer known other all gap front t one)
 
 -- the binding that a loop is at
-module _ (each : Var → Text × Text) (vars : List Var) (i : ℕ) (within : i < length vars) (e : Var) (all : Text) (first : Bool) (acc mid line : Text) (tip : Option Var) (is : mid ≡ between first acc)
-    (h : all ≡ with_pairs first acc (map each (drop i vars))) (f : IsFrontOf tip line (mid ++ pair_text (each (get_or vars i e)))) where
-  front-here : IsFrontOf tip line (between first acc ++ pair_text (each (get_or vars i e)))
-  front-here = subst (λ t. IsFrontOf tip line (t ++ pair_text (each (get_or vars i e)))) is f
+module _ (each : Var → Text × Text) (vars : List Var) (i : ℕ) (within : i < length vars) (e : Var) (known : ℕ) (other : List Var) (front : Front) (all : Text) (first : Bool) (acc mid : Text)
+    (is : mid ≡ between first acc) (h : all ≡ with_pairs first acc (map each (drop i vars))) (f : IsFrontOf known other front (mid ++ pair_text (each (get_or vars i e)))) where
+  front-here : IsFrontOf known other front (between first acc ++ pair_text (each (get_or vars i e)))
+  front-here = subst (λ t. IsFrontOf known other front (t ++ pair_text (each (get_or vars i e)))) is f
 
-  pub whole-here : is_some tip ≡ false → all ≡ with_pairs false line (map each (drop (i + 1) vars))
-  whole-here none = binding-whole each vars i (get_or vars i e) within (get_or_default vars i e (get_or vars i e) within) all first acc line tip none h front-here
+  pub whole-here : front.tips.items ≡ [] → all ≡ with_pairs false front.text.items (map each (drop (i + 1) vars))
+  whole-here none =
+      binding-whole each vars i (get_or vars i e) within (get_or_default vars i e (get_or vars i e) within) all first acc front.text.items h
+      (whole-front front.tips.items front.text.items (between first acc ++ pair_text (each (get_or vars i e))) none front-here.upto)
 
-  pub cut-here : (whole : Text) → beside all 125 ≡ whole → is_some tip ≡ true → IsFrontOf tip line whole
-  cut-here whole end some = binding-cut each vars i (get_or vars i e) within (get_or_default vars i e (get_or vars i e) within) all whole first acc line tip some end h front-here
+  pub cut-here : (whole : Text) → beside all 125 ≡ whole → HasTips front → IsFrontOf known other front whole
+  cut-here whole end some = binding-cut each vars i (get_or vars i e) within (get_or_default vars i e (get_or vars i e) within) known other front all whole first acc some end h front-here
 
 -- Arguments.
 
@@ -99,35 +102,31 @@ module _ (d : Declarations) (names : Names) (other : List Var) where
       map-snoc [] t = refl
       map-snoc (v ∷ l) t = ap (λ m. shown_text v ∷ m) (map-snoc l t)
 
-  pub argument-gathered : (exchange : Bool) (whole : List Text) (tip : Option Var) (least : Text) (items : List FlatTerm) (i : ℕ) (u : FlatTerm) → i < length items → u ≡ get_or items i u →
-      AreGathered exchange whole tip least (map shown_text (take i items) ++ shown_text u ∷ []) → AreGathered exchange whole tip least (map shown_text (take (i + 1) items))
-  argument-gathered exchange whole tip least items i u within is h = subst (AreGathered exchange whole tip least) (one-more items i u within is) h
+  module _ (known : ℕ) (exchange : Bool) (whole : List Text) (least : Front) where
+    pub argument-gathered : (items : List FlatTerm) (i : ℕ) (u : FlatTerm) → i < length items → u ≡ get_or items i u →
+        AreGathered known other exchange whole least (map shown_text (take i items) ++ shown_text u ∷ []) → AreGathered known other exchange whole least (map shown_text (take (i + 1) items))
+    argument-gathered items i u within is h = subst (AreGathered known other exchange whole least) (one-more items i u within is) h
 
-  -- an argument that is not looked at
-  pub argument-passed : (exchange : Bool) (whole : List Text) (tip : Option Var) (least : Text) (items : List FlatTerm) (i : ℕ) (u : FlatTerm) → i < length items → u ≡ get_or items i u →
-      exchange ≡ false → is_some tip ≡ true → AreGathered exchange whole tip least (map shown_text (take i items)) → AreGathered exchange whole tip least (map shown_text (take (i + 1) items))
-  argument-passed true whole tip least items i u within is e s h = cc
-  argument-passed false whole None least items i u within is e s h = cc
-  argument-passed false whole (Some x) least items i u within is e s h =
-      subst (HaveMore false whole least) (one-more items i u within is) (gather-behind whole (map shown_text (take i items)) least (shown_text u) h)
+    have-passed : (all : List Text) (w : Text) (tips : List Var) (v : Text) → exchange ≡ false → AreTips tips → HaveTexts exchange whole tips v all → HaveTexts exchange whole tips v (all ++ w ∷ [])
+    have-passed all w [] v e t h = absurd t
+    have-passed all w (x ∷ tips) v e t h =
+        subst (λ b. HaveMore b whole v (all ++ w ∷ [])) (sym e) (gather-behind whole all v w (subst (λ b. HaveMore b whole v all) e h))
+
+    -- an argument that is not looked at
+    pub argument-passed : (items : List FlatTerm) (i : ℕ) (u : FlatTerm) → i < length items → u ≡ get_or items i u → exchange ≡ false → HasTips least →
+        AreGathered known other exchange whole least (map shown_text (take i items)) → AreGathered known other exchange whole least (map shown_text (take (i + 1) items))
+    argument-passed items i u within is e t h = argument-gathered items i u within is (record {
+      upto = have-passed (map shown_text (take i items)) (shown_text u) least.tips.items least.text.items e t h.upto;
+      later = λ n. have-passed (map shown_text (take i items)) (shown_text u) least.tips.items least.later.items e t (h.later n);
+    })
 
   -- all arguments
   pub application-front : AreReadable d names → (f : OpId) (t : FlatTerm) → head_of t ≡ Some f → IsPrintable d t → (w : Text) → slice_get names.ops f.0 ≡ Some w →
-      (exchange : Bool) → exchange ≡ may_exchange (axioms d f) → (items : List FlatTerm) (i : ℕ) → items ≡ args_of t → length items ≤ i → (tip : Option Var) (v : Text) →
-      IsFrontOf tip v (over_texts w (arranged_if exchange (map shown_text (take i items)))) → IsFrontOf tip v (shown_text t)
-  application-front readable f t h p w g exchange e items i is end tip v front =
+      (exchange : Bool) → exchange ≡ may_exchange (axioms d f) → (items : List FlatTerm) (i : ℕ) → items ≡ args_of t → length items ≤ i → (known : ℕ) (front : Front) →
+      IsFrontOf known other front (over_texts w (arranged_if exchange (map shown_text (take i items)))) → IsFrontOf known other front (shown_text t)
+  application-front readable f t h p w g exchange e items i is end known front it =
       let all : take i items ≡ args_of t = take_all i items end ∙ is in
-      subst (IsFrontOf tip v)
+      subst (IsFrontOf known other front)
       (ap (λ b. over_texts w (arranged_if b (map shown_text (take i items)))) e ∙ ap (λ l. over_texts w (arranged_if (may_exchange (axioms d f)) (map shown_text l))) all
       ∙ application-text d names (operator-filled d names readable) other f t h p w g)
-      front
-
--- A term and bindings.
-
-pub variant-front : (tip : Option Var) (v w z : Text) → is_some tip ≡ true → IsFrontOf tip v w → IsFrontOf tip v (w ++ z)
-variant-front tip v w z e h = cut-front tip v (w ++ z) e (at_least-append v w z (front-after tip v w h))
-
-pub variant-rest : (tip more : Option Var) (v w r z : Text) → is_some tip ≡ false → IsFrontOf tip v w → IsFrontOf more r z → IsFrontOf more ((v ++ 32 ∷ []) ++ r) (w ++ 32 ∷ z)
-variant-rest tip more v w r z e h k =
-    subst (λ l. IsFrontOf more l (w ++ 32 ∷ z)) (sym (append_assoc v (32 ∷ []) r ∙ ap (λ t. t ++ 32 ∷ r) (whole-front tip v w e h)))
-    (front-behind more w (32 ∷ r) (32 ∷ z) (front-behind more (32 ∷ []) r z k))
+      it

@@ -1,8 +1,9 @@
 -- The fronts of the texts of new variables.
-use Rattle.std.proofs.Common.{◌≡◌, ℕ, ◌+◌, ◌<◌, ◌≤◌, inl, inr, Bool, true, false, Option, Some, List, [], ◌∷◌, ◌++◌, refl, sym, ap, ◌∙◌, subst, append_assoc, arith}
-use Rattle.std.specs.Prelude.{decimal, nat_lt}
+use Rattle.std.proofs.Common.{◌≡◌, ℕ, ◌+◌, ◌<◌, ◌≤◌, inl, inr, Bool, true, false, List, [], ◌∷◌, ◌++◌, refl, sym, ap, ◌∙◌, subst, append_assoc, arith}
+use Rattle.std.specs.Prelude.{◌≢◌, decimal, nat_lt, Contains}
 use Rattle.std.proofs.lemmas.Fmt.{decimal_digit}
 use Rattle.std.proofs.lemmas.List.{append-nil}
+use Rattle.fvn_base.proofs.Membership.{contains_here}
 use Rattle.fvn_lex.specs.Parts.{is_quoted_after}
 use Rattle.fvn_lex.specs.Join.{needs_space, space, join_after, join}
 use Rattle.fvn_terms.specs.declared.plain.Var.{Var}
@@ -10,10 +11,11 @@ use Rattle.fvn_terms.specs.declared.plain.SortId.{SortId}
 use Rattle.fvn_terms.specs.declared.declarations.Declarations.{Declarations}
 use Rattle.fvn_syntax.specs.declared.names.Names.{Names}
 use Rattle.fvn_syntax.specs.Pieces.{Text}
+use Rattle.fvn_answer.specs.declared.front.Front.{Front}
 use Rattle.fvn_answer.specs.Numberings.{number, new_name}
 use Rattle.fvn_answer.specs.Writing.{text_of, top, sort_text, sorted}
-use Rattle.fvn_answer.specs.inner.Fronts.{AtLeast, IsFrontOf}
-use Rattle.fvn_answer.proofs.Fronts.{at_least-append, at_least-behind}
+use Rattle.fvn_answer.specs.inner.Fronts.{AtLeast, AreTips, IsFrontOf}
+use Rattle.fvn_answer.proofs.Fronts.{at_least-append, at_least-behind, cut-front}
 use Rattle.fvn_answer.proofs.Joining.{quoted-append}
 
 module _ (d : Declarations) (names : Names) where
@@ -48,12 +50,16 @@ module _ (d : Declarations) (names : Names) where
       let digits : AtLeast (decimal n) (decimal m) = subst (λ v. AtLeast v (decimal m)) (sym e) (subst (AtLeast ((48 + n) ∷ [])) (sym g) (digit-least n m h)) in
       subst (AtLeast (35 ∷ decimal n)) (sym f.1) (at_least-append (35 ∷ decimal n) (35 ∷ decimal m) f.0 (at_least-behind (35 ∷ []) (decimal n) (decimal m) digits))
 
-  -- a front with a tip
-  pub open-front : (n : ℕ) (x : Var) (s : SortId) (other : List Var) (tip : Option Var) (v : Text) → tip ≡ Some x → v ≡ 35 ∷ decimal n → n ≤ number other x → number other x < 10 →
-      IsFrontOf tip v (text_of (sorted d names (new_name other x) s))
-  open-front n x s other tip v t e h few =
-      subst (λ o. IsFrontOf o v (text_of (sorted d names (new_name other x) s))) (sym t)
-      (subst (λ w. AtLeast w (text_of (sorted d names (new_name other x) s))) (sym e) (open-at_least n (number other x) s h few))
+  -- a front that ends at the variable's number
+  pub open-front : (known : ℕ) (least later : ℕ) (x : Var) (s : SortId) (other : List Var) (front : Front) → front.tips.items ≡ x ∷ [] → front.text.items ≡ 35 ∷ decimal least →
+      front.later.items ≡ 35 ∷ decimal later → least ≤ number other x → (number other x ≢ known + 1 → later ≤ number other x) → number other x < 10 →
+      IsFrontOf known other front (text_of (sorted d names (new_name other x) s))
+  open-front known least later x s other front t e l h k few = record {
+    upto = cut-front front.tips.items front.text.items (text_of (sorted d names (new_name other x) s)) (subst AreTips (sym t) tt)
+        (subst (λ w. AtLeast w (text_of (sorted d names (new_name other x) s))) (sym e) (open-at_least least (number other x) s h few));
+    later = λ n. subst (λ w. AtLeast w (text_of (sorted d names (new_name other x) s))) (sym l)
+        (open-at_least later (number other x) s (k (n x (subst (λ tips. Contains tips x) (sym t) (contains_here x [])))) few);
+  }
 
   -- a variable whose number is known
   pub known-front : (order other : List Var) (x : Var) (s : SortId) (v : Text) → number other x ≡ number order x → v ≡ text_of (sorted d names (new_name order x) s) →

@@ -14,7 +14,7 @@ use Rattle.fvn_syntax.specs.Pieces.{Text}
 use Rattle.fvn_answer.specs.Numberings.{number, IsNumbering}
 use Rattle.fvn_answer.specs.Lines.{Shown, forms_in}
 use Rattle.fvn_answer.specs.inner.Fronts.{AgreesUpTo}
-use Rattle.fvn_answer.specs.inner.Shown.{BeginsAs, Tried}
+use Rattle.fvn_answer.specs.inner.Shown.{BeginsAs}
 use Rattle.fvn_answer.proofs.Least.{same-length, same-lists}
 use Rattle.fvn_answer.proofs.TextPlaces.{position-finds, position-some}
 
@@ -61,7 +61,7 @@ number-within order x = go (position_from (λ y. same_var y x) 1 order) refl
         omega arith
 
 -- two places of one variable are one
-one-place : (order : List Var) → AllPairs (λ x y. x ≢ y) order → (i j : ℕ) → i < length order → j < length order → get_or order i nobody ≡ get_or order j nobody → i ≡ j
+pub one-place : (order : List Var) → AllPairs (λ x y. x ≢ y) order → (i j : ℕ) → i < length order → j < length order → get_or order i nobody ≡ get_or order j nobody → i ≡ j
 one-place order distinct i j low high e = elim (cases_order i j) [
   | inl is ↦ is
   | inr n ↦ elim n [
@@ -70,15 +70,17 @@ one-place order distinct i j low high e = elim (cases_order i j) [
   ]
 ]
 
-contains-at : (order : List Var) (x : Var) (i : ℕ) → i < length order → get_or order i nobody ≡ x → Contains order x
+pub contains-at : (order : List Var) (x : Var) (i : ℕ) → i < length order → get_or order i nobody ≡ x → Contains order x
 contains-at order x i within e = (i, within, get_or_default order i x nobody within ∙ e)
+
+pub number-at : (order : List Var) (x : Var) → AllPairs (λ x y. x ≢ y) order → (i : ℕ) → i < length order → get_or order i nobody ≡ x → number order x ≡ 1 + i
+number-at order x distinct i within is =
+    let s = stands-listed order x (contains-at order x i within is) in
+    s.number_is ∙ ap (λ n. 1 + n) (one-place order distinct s.at i s.within within (s.is ∙ sym is))
 
 module _ (d : Declarations) (texts : List Text) (names : Names) (it : Shown) where
   abbrev Begins : List Var → ℕ → List Var → Type 0
   Begins = BeginsAs d texts names it
-
-  abbrev Tries : List Var → ℕ → ℕ → List Var → Type 0
-  Tries = Tried d texts names it
 
   -- where the variable at k stands, in an order with the same variables that begins alike up to k
   pub record Next (order : List Var) (k : ℕ) (other : List Var) : Type 0 where
@@ -120,17 +122,14 @@ module _ (d : Declarations) (texts : List Text) (names : Names) (it : Shown) whe
       ])
 
   -- numbers agree as far as they are fixed
-  pub agrees : (order other : List Var) (k passed : ℕ) → k < length order → length order < 10 → IsNumbering (forms_in it) order → (b : Begins order k other) →
-      (n : Next order k other) → passed ≤ n.place → AgreesUpTo order k passed other
-  agrees order other k passed inside small is b n after = record {
+  pub agrees : (order other : List Var) (k : ℕ) → length order < 10 → IsNumbering (forms_in it) order → (b : Begins order k other) → AgreesUpTo order k other
+  agrees order other k small is b = record {
     same = λ x some low.
         let s = stands-numbered order x some in
         let num = s.number_is in
         let here = s.within in
         let found : get_or other s.at nobody ≡ x = b.alike s.at nobody (omega arith) ∙ s.is in
-        let t = stands-listed other x (contains-at other x s.at (omega (arith, long)) found) in
-        let at : t.at ≡ s.at = one-place other b.numbering.distinct t.at s.at t.within (omega (arith, long)) (t.is ∙ sym found) in
-        t.number_is ∙ ap (λ i. 1 + i) at ∙ sym num;
+        number-at other x b.numbering.distinct s.at (omega (arith, long)) found ∙ sym num;
     later = λ x high.
         let s = stands-numbered order x (omega arith) in
         let num = s.number_is in
@@ -140,18 +139,9 @@ module _ (d : Declarations) (texts : List Text) (names : Names) (it : Shown) whe
           | inr up ↦ omega arith
           | inl below ↦
               let e : get_or order t.at nobody ≡ x = sym (b.alike t.at nobody below) ∙ t.is in
-              let at : t.at ≡ s.at = one-place order is.distinct t.at s.at (omega arith) s.within (e ∙ sym s.is) in
+              let at : t.at ≡ s.at = one-place order is.distinct t.at s.at (let in_other = t.within in omega (arith, long)) s.within (e ∙ sym s.is) in
               absurd (omega arith)
         ];
-    passed_over = λ x high low e.
-        let s = stands-numbered order x (omega arith) in
-        let num = s.number_is in
-        let t = listed x s in
-        let tnum = t.number_is in
-        let at : t.at ≡ k = omega (arith, e) in
-        let here : get_or order n.place nobody ≡ x = sym (n.next nobody) ∙ subst (λ i. get_or other i nobody ≡ x) at t.is in
-        let same : n.place ≡ s.at = one-place order is.distinct n.place s.at n.upto s.within (here ∙ sym s.is) in
-        omega arith;
     few = λ x. let w = number-within other x in omega (arith, long);
   }
     where
@@ -161,40 +151,14 @@ module _ (d : Declarations) (texts : List Text) (names : Names) (it : Shown) whe
       listed : (x : Var) → StandsAt order x → StandsAt other x
       listed x s = stands-listed other x ((b.numbering.exact x).1 ((is.exact x).0 (contains-at order x s.at s.within s.is)))
 
-  -- One step of the search: the variable at j goes to k, and what was tried stays.
-
-  module _ (order rest turned next : List Var) (k j i : ℕ) (up : k ≤ j) (higher : j ≤ i)
-      (alike : (m : ℕ) (x : Var) → m < k → get_or rest m x ≡ get_or order m x)
-      (turn : SwappedAt rest turned j i) (move : SwappedAt turned next k j) where
-    pub turned-alike : (m : ℕ) (x : Var) → m < j → get_or turned m x ≡ get_or rest m x
-    turned-alike m x l = turn.2 m x (λ e. omega (arith, e)) (λ e. omega (arith, e))
-
-    next-alike : (m : ℕ) (x : Var) → m < k → get_or next m x ≡ get_or order m x
-    next-alike m x l = move.2 m x (λ e. omega (arith, e)) (λ e. omega (arith, e)) ∙ turned-alike m x (omega arith) ∙ alike m x l
-
-    pub turned-begins : (m : ℕ) (x : Var) → m < k → get_or turned m x ≡ get_or order m x
-    turned-begins m x l = turned-alike m x (omega arith) ∙ alike m x l
-
-    -- what is tried up to j + 1 was tried up to j, or begins as the next order
-    pub tried-apart : (Goal : List Var → Type 0) → ((other : List Var) → Tries rest k j other → Goal other) → ((other : List Var) → Begins next (k + 1) other → Goal other) →
-        (other : List Var) → Tries turned k (j + 1) other → Goal other
-    tried-apart Goal before now other t = elim (cases_lt t.place j) [
-      | inl below ↦ before other (record {
-        begins = record { numbering = t.begins.numbering; alike = λ m x l. t.begins.alike m x l ∙ turned-alike m x (omega arith) };
-        place = t.place;
-        from = t.from;
-        upto = below;
-        next = λ x. t.next x ∙ turned-alike t.place x below;
-      })
+  -- an order that goes on with the variable at j begins as the one in which that stands at k
+  pub next-begins : (order next other : List Var) (k j : ℕ) → k ≤ j → SwappedAt order next k j → Begins order k other → ((x : Var) → get_or other k x ≡ get_or order j x) → Begins next (k + 1) other
+  next-begins order next other k j up move b is = record {
+    numbering = b.numbering;
+    alike = λ m x l. elim (cases_lt m k) [
+      | inl below ↦ b.alike m x below ∙ sym (move.2 m x (λ e. omega (arith, e)) (λ e. omega (arith, e)))
       | inr high ↦
-          let place : t.place ≡ j = let q = t.upto in omega arith in
-          now other (record {
-            numbering = t.begins.numbering;
-            alike = λ m x l. elim (cases_lt m k) [
-              | inl below ↦ t.begins.alike m x below ∙ turned-begins m x below ∙ sym (next-alike m x below)
-              | inr high ↦
-                  let at : m ≡ k = omega arith in
-                  subst (λ p. get_or other p x ≡ get_or next p x) (sym at) (subst (λ p. get_or other k x ≡ get_or turned p x) place (t.next x) ∙ sym (move.0 x))
-            ];
-          })
-    ]
+          let at : m ≡ k = omega arith in
+          subst (λ p. get_or other p x ≡ get_or next p x) (sym at) (is x ∙ sym (move.0 x))
+    ];
+  }

@@ -1,19 +1,29 @@
 -- The search for the least text.
-use Rattle.std.proofs.Common.{◌≡◌, ℕ, ◌+◌, ◌<◌, ◌≤◌, inl, inr, List, length, get_or, Option, Some, None, refl, sym, ap, ◌∙◌, subst, arith}
+use Rattle.std.proofs.Common.{◌≡◌, ℕ, Bool, true, false, ◌+◌, ◌<◌, ◌≤◌, inl, inr, List, length, get_or, Option, Some, None, refl, sym, ap, ◌∙◌, subst, arith}
 use Rattle.std.specs.Global.{Vec}
-use Rattle.std.specs.List.{SwappedAt, swap}
+use Rattle.std.specs.Prelude.{Contains}
+use Rattle.std.specs.List.{SwappedAt}
+use Rattle.std.proofs.lemmas.List.{get_or_default}
+use Rattle.std.proofs.lemmas.List.Elements.{Contains-get_or}
 use Rattle.std.proofs.lemmas.Bool.{cases_lt}
-use Rattle.fvn_answer.specs.inner.Fronts.{AtLeast, IsFrontOf, AgreesUpTo, IsAtMost, IsKept}
+use Rattle.fvn_flat.specs.Variables.{listed}
+use Rattle.fvn_answer.specs.declared.front.Front.{Front}
+use Rattle.fvn_answer.specs.declared.printed.Printed.{Printed}
+use Rattle.fvn_answer.specs.inner.Readable.{AreReadable}
+use Rattle.fvn_answer.specs.inner.Fronts.{AtLeast, NoneIsNext, IsFrontOf, AgreesUpTo, IsAtMost, IsKept}
+use Rattle.fvn_answer.specs.inner.Twins.{AreExchanged, AreTwins, IsPassedOver}
 use Rattle.fvn_terms.specs.declared.plain.Var.{Var}
 use Rattle.fvn_terms.specs.declared.declarations.Declarations.{Declarations}
 use Rattle.fvn_syntax.specs.declared.names.Names.{Names}
 use Rattle.fvn_syntax.specs.Pieces.{Text}
 use Rattle.fvn_answer.specs.Numberings.{IsNumbering}
 use Rattle.fvn_answer.specs.Lines.{Shown, forms_in, text}
-use Rattle.fvn_answer.specs.inner.Shown.{BeginsAs, Tried, IsBestText, IsLeastText, IsSearched}
+use Rattle.fvn_answer.specs.inner.Shown.{shown, CanPrint, BeginsAs, Tried, IsBestText, IsLeastText, IsSearched, AreSearched}
 use Rattle.fvn_answer.proofs.Fronts.{at_least-itself, at_least-trans, front-after}
-use Rattle.fvn_answer.proofs.Numbers.{next-place, nothing-else, agrees, turned-begins, tried-apart}
-use Rattle.fvn_answer.proofs.Least.{exchanged-length, exchanged-numbering}
+use Rattle.fvn_answer.proofs.Collecting.{listed-only, not-listed}
+use Rattle.fvn_answer.proofs.Numbers.{nobody, stands-numbered, next-place, nothing-else, agrees, next-begins}
+use Rattle.fvn_answer.proofs.Exchanging.{exchange}
+use Rattle.fvn_answer.proofs.Least.{same-length}
 
 pub most-after : (best : Option (Vec ℕ)) (v w : Text) → IsAtMost best v → AtLeast v w → IsAtMost best w
 most-after None v w h k = h
@@ -43,77 +53,116 @@ module _ (d : Declarations) (texts : List Text) (names : Names) (it : Shown) whe
   }
 
   -- What has been searched, in a turn of the loop.
-  pub record SearchedUpTo (order rest : List Var) (k j : ℕ) (old best : Option (Vec ℕ)) : Type 0 where
-    pub numbering : IsNumbering (forms_in it) rest
-    pub alike : (m : ℕ) (x : Var) → m < k → get_or rest m x ≡ get_or order m x
+  pub record SearchedUpTo (order : List Var) (k j : ℕ) (tips : List Var) (old best : Option (Vec ℕ)) : Type 0 where
     pub up : k ≤ j
-    pub upto : j ≤ length rest
     pub one : IsBestText d texts names it best
     pub keeps : (u : Text) → IsAtMost old u → IsAtMost best u
-    pub tried : (other : List Var) → Tried d texts names it rest k j other → IsAtMost best (text d names texts other it)
+    pub tried : (other : List Var) → Tried d texts names it order k j tips other → IsAtMost best (text d names texts other it)
 
-  begins-rest : (order rest other : List Var) (k : ℕ) → ((m : ℕ) (x : Var) → m < k → get_or rest m x ≡ get_or order m x) → BeginsAs d texts names it order k other → BeginsAs d texts names it rest k other
-  begins-rest order rest other k alike b = record { numbering = b.numbering; alike = λ m x l. b.alike m x l ∙ sym (alike m x l) }
-
-  -- none of the numberings that are left gives a text before the best one
-  pub searched-rest : (order rest : List Var) (k j : ℕ) (old best : Option (Vec ℕ)) (tip : Option Var) (v : Text) → k < length rest → length rest < 10 → SearchedUpTo order rest k j old best →
-      ((other : List Var) → AgreesUpTo rest k j other → IsFrontOf tip v (text d names texts other it)) → IsAtMost best v → IsSearched d texts names it order k old best
-  searched-rest order rest k j old best tip v inside small s front most = record {
-    one = s.one;
-    keeps = s.keeps;
-    most = λ other b.
-        let c = begins-rest order rest other k s.alike b in
-        let n = next-place d texts names it rest other k inside s.numbering c in
-        elim (cases_lt n.place j) [
-          | inl below ↦ s.tried other (record { begins = c; place = n.place; from = n.from; upto = below; next = n.next })
-          | inr high ↦ most-after best v (text d names texts other it) most
-              (front-after tip v (text d names texts other it) (front other (agrees d texts names it rest other k j inside small s.numbering c n high)))
+  -- the variable at j has been tried
+  pub searched-tip : (order next tips : List Var) (k j : ℕ) (old best new : Option (Vec ℕ)) → SwappedAt order next k j → SearchedUpTo order k j tips old best →
+      IsSearched d texts names it next (k + 1) best new → SearchedUpTo order k (j + 1) tips old new
+  searched-tip order next tips k j old best new move s r =
+      let up = s.up in record {
+        up = omega arith;
+        one = r.one;
+        keeps = λ u h. r.keeps u (s.keeps u h);
+        tried = λ other t. elim (cases_lt t.place j) [
+          | inl below ↦ r.keeps (text d names texts other it) (s.tried other (record { begins = t.begins; place = t.place; from = t.from; upto = below; next = t.next; tip = t.tip }))
+          | inr high ↦
+              let last = t.upto in
+              let at : t.place ≡ j = omega arith in
+              r.most other (next-begins d texts names it order next other k j up move t.begins (λ x. subst (λ p. get_or other k x ≡ get_or order p x) at (t.next x)))
         ];
-  }
-
-  -- all have been tried
-  pub searched-all : (order rest : List Var) (k j : ℕ) (old best : Option (Vec ℕ)) → k < length rest → length rest ≤ j → SearchedUpTo order rest k j old best → IsSearched d texts names it order k old best
-  searched-all order rest k j old best inside all s = record {
-    one = s.one;
-    keeps = s.keeps;
-    most = λ other b.
-        let c = begins-rest order rest other k s.alike b in
-        let n = next-place d texts names it rest other k inside s.numbering c in
-        let l = n.upto in
-        s.tried other (record { begins = c; place = n.place; from = n.from; upto = omega arith; next = n.next });
-  }
-
-  -- the orders of the next turn
-  pub record Turned (rest turned next : List Var) : Type 0 where
-    pub numbering : IsNumbering (forms_in it) turned
-    pub long : length turned ≡ length rest
-    pub next_numbering : IsNumbering (forms_in it) next
-    pub next_long : length next ≡ length rest
-
-  pub turned-orders : (rest turned next : List Var) (k j i : ℕ) → k < length rest → j < length rest → i < length rest → turned ≡ swap rest j i → next ≡ swap turned k j →
-      IsNumbering (forms_in it) rest → Turned rest turned next
-  turned-orders rest turned next k j i kin jin iin turn move n =
-      let long = exchanged-length rest turned j i jin iin turn in
-      let now = exchanged-numbering (forms_in it) rest turned j i jin iin turn n in
-      let next_long = exchanged-length turned next k j (omega (arith, long)) (omega (arith, long)) move in record {
-        numbering = now;
-        long = long;
-        next_numbering = exchanged-numbering (forms_in it) turned next k j (omega (arith, long)) (omega (arith, long)) move now;
-        next_long = next_long ∙ long;
       }
 
-  -- one more of them has been tried
-  pub searched-step : (order rest turned next : List Var) (k j i : ℕ) (old best new : Option (Vec ℕ)) → k ≤ j → j ≤ i → j < length rest → Turned rest turned next →
-      SwappedAt rest turned j i → SwappedAt turned next k j → SearchedUpTo order rest k j old best → IsSearched d texts names it next (k + 1) best new → SearchedUpTo order turned k (j + 1) old new
-  searched-step order rest turned next k j i old best new up higher inside t turn move s r = record {
-    numbering = t.numbering;
-    alike = turned-begins d texts names it order rest turned next k j i up higher s.alike turn move;
-    up = omega arith;
-    upto = (let long = t.long in omega arith);
-    one = r.one;
-    keeps = λ u h. r.keeps u (s.keeps u h);
-    tried = tried-apart d texts names it order rest turned next k j i up higher s.alike turn move (λ other. IsAtMost new (text d names texts other it))
-        (λ other h. r.keeps (text d names texts other it) (s.tried other h)) (λ other b. r.most other b);
+  -- it is passed over
+  pub searched-twin : (printed : Printed) → it ≡ shown printed → AreReadable d names → CanPrint d texts printed → (order tips : List Var) (k j : ℕ) (old best : Option (Vec ℕ)) →
+      IsNumbering (forms_in it) order → j < length order → IsPassedOver d printed order k j tips → SearchedUpTo order k j tips old best → SearchedUpTo order k (j + 1) tips old best
+  searched-twin printed is readable can order tips k j old best n within passed s =
+      let up = s.up in record {
+        up = omega arith;
+        one = s.one;
+        keeps = s.keeps;
+        tried = λ other t. elim (cases_lt t.place j) [
+          | inl below ↦ s.tried other (record { begins = t.begins; place = t.place; from = t.from; upto = below; next = t.next; tip = t.tip })
+          | inr high ↦
+              let last = t.upto in
+              let at : t.place ≡ j = omega arith in
+              let next : (x : Var) → get_or other k x ≡ get_or order j x = λ x. subst (λ p. get_or other k x ≡ get_or order p x) at (t.next x) in
+              let twin = passed nobody (subst (λ p. Contains tips (get_or order p nobody)) at (t.tip nobody)) in
+              let twins = twin.twins nobody in
+              let e = exchange d texts names it order other k j twin.place n t.begins twin.from twin.upto within next twins.sort in
+              most printed is readable can best (get_or order twin.place nobody) (get_or order j nobody) e.turned other twins e.exchanged
+              (s.tried e.turned (record { begins = e.begins; place = twin.place; from = twin.from; upto = twin.upto; next = e.next; tip = twin.tip }))
+        ];
+      }
+    where
+      most : (printed : Printed) → it ≡ shown printed → AreReadable d names → CanPrint d texts printed → (best : Option (Vec ℕ)) (x y : Var) (one two : List Var) → AreTwins d printed x y →
+          AreExchanged x y one two → IsAtMost best (text d names texts one it) → IsAtMost best (text d names texts two it)
+      most printed is readable can best x y one two twins e h =
+          let same = subst (λ shown. text d names texts one shown ≡ text d names texts two shown) (sym is) (sym (twins.same names texts readable can one two e)) in
+          subst (IsAtMost best) same h
+
+  -- all tips have been tried
+  pub searched-tips : (order tips : List Var) (k j : ℕ) (old best : Option (Vec ℕ)) → IsNumbering (forms_in it) order → k < length order → length order ≤ j → SearchedUpTo order k j tips old best →
+      AreSearched d texts names it order k tips old best
+  searched-tips order tips k j old best is inside all s = record {
+    one = s.one;
+    keeps = s.keeps;
+    most = λ other x b c.
+        let n = next-place d texts names it order other k inside is b in
+        let l = n.upto in
+        let long = same-length (forms_in it) other order b.numbering is in
+        s.tried other (record {
+          begins = b;
+          place = n.place;
+          from = n.from;
+          upto = omega arith;
+          next = n.next;
+          tip = λ y. subst (Contains tips) (get_or_default other k x y (omega (arith, long)) ∙ n.next y) c;
+        });
+  }
+
+  -- the best text is at most the front
+  pub searched-front : (order : List Var) (k : ℕ) (best : Option (Vec ℕ)) (front : Front) → length order < 10 → IsNumbering (forms_in it) order → IsBestText d texts names it best →
+      ((other : List Var) → AgreesUpTo order k other → IsFrontOf k other front (text d names texts other it)) → IsAtMost best front.text.items → IsSearched d texts names it order k best best
+  searched-front order k best front small is one fronts most = record {
+    one = one;
+    keeps = λ w h. h;
+    most = λ other b. most-after best front.text.items (text d names texts other it) most
+        (front-after front.tips.items front.text.items (text d names texts other it) (fronts other (agrees d texts names it order other k small is b)).upto);
+  }
+
+  -- the tips have been tried, and the best text is at most the later one of the front
+  pub searched-later : (order : List Var) (k : ℕ) (old best : Option (Vec ℕ)) (front : Front) → length order < 10 → IsNumbering (forms_in it) order →
+      ((other : List Var) → AgreesUpTo order k other → IsFrontOf k other front (text d names texts other it)) → AreSearched d texts names it order k front.tips.items old best →
+      IsAtMost best front.later.items → IsSearched d texts names it order k old best
+  searched-later order k old best front small is fronts s most = record {
+    one = s.one;
+    keeps = s.keeps;
+    most = λ other b. go other b (listed front.tips.items (get_or other k nobody)) refl;
+  }
+    where
+      go : (other : List Var) → BeginsAs d texts names it order k other → (yes : Bool) → listed front.tips.items (get_or other k nobody) ≡ yes → IsAtMost best (text d names texts other it)
+      go other b true e = s.most other nobody b (listed-only front.tips.items (get_or other k nobody) e)
+      go other b false e =
+          let a = agrees d texts names it order other k small is b in
+          let none : NoneIsNext front.tips.items k other = λ x c n.
+          let t = stands-numbered other x (omega (arith, n)) in
+          let at : t.at ≡ k = let m = t.number_is in omega (arith, n) in
+          not-listed front.tips.items (get_or other k nobody) e (subst (Contains front.tips.items) (sym t.is ∙ ap (λ p. get_or other p nobody) at) c) in
+          most-after best front.later.items (text d names texts other it) most ((fronts other a).later none)
+
+  -- all variables have been tried
+  pub searched-all : (order : List Var) (k : ℕ) (old mid best : Option (Vec ℕ)) → k < length order → IsNumbering (forms_in it) order → ((w : Text) → IsAtMost old w → IsAtMost mid w) →
+      AreSearched d texts names it order k order mid best → IsSearched d texts names it order k old best
+  searched-all order k old mid best inside is keeps s = record {
+    one = s.one;
+    keeps = λ w h. s.keeps w (keeps w h);
+    most = λ other b.
+        let n = next-place d texts names it order other k inside is b in
+        s.most other nobody b (subst (Contains order) (sym (n.next nobody)) (Contains-get_or order n.place nobody n.upto));
   }
 
   -- the best text of all

@@ -31,7 +31,7 @@ between Equal e h = refl
 between Greater e h = cc
 
 -- whether the two texts are one
-abbrev same : Text → Text → Bool
+abbrev pub same : Text → Text → Bool
 same s t = is_eq (text_cmp s t)
 
 same_is : (s t : Text) → same s t ≡ true → s ≡ t
@@ -68,12 +68,12 @@ put-put t u (v ∷ l) = go (is_after t v) (is_after u v) (is_after t u) (is_afte
     go false false c e pa pb pc pe ih = simp (pa, pb, pc, pe) (two_turned t u (v ∷ l) c e pc pe)
 
 -- 1 where it is true, else 0
-abbrev one_if : Bool → ℕ
+abbrev pub one_if : Bool → ℕ
 one_if true = 1
 one_if false = 0
 
 -- how often q stands in the list
-abbrev count : Text → List Text → ℕ
+abbrev pub count : Text → List Text → ℕ
 count q [] = 0
 count q (t ∷ l) = one_if (same q t) + count q l
 
@@ -107,7 +107,7 @@ put_remove q (t ∷ l) h = go (same q t) refl (λ k. put_remove q l k)
         let below : 1 ≤ 0 + count q l = rw e at h in
         rw e (put-put q t (sorted_texts (remove q l)) ∙ ap (put_text t) (ih (omega arith)))
 
-same_counts : (l m : List Text) → ((q : Text) → count q l ≡ count q m) → sorted_texts l ≡ sorted_texts m
+pub same_counts : (l m : List Text) → ((q : Text) → count q l ≡ count q m) → sorted_texts l ≡ sorted_texts m
 same_counts [] [] h = refl
 same_counts [] (u ∷ m) h = let e : 0 ≡ 1 + count u m = h u ∙ count_itself u m in absurd (omega arith)
 same_counts (t ∷ l) m h =

@@ -3,3 +3,4 @@ pub mod Bytes
 pub mod Fronts
 pub mod Readable
 pub mod Shown
+pub mod Twins

@@ -1,13 +1,13 @@
 //! Fronts: what is known of a text under all numberings that begin alike.
-ghost use Rattle.std.specs.Prelude.{◌≡◌, ◌≤◌, ◌++◌, ◌∷◌, ◌⊎◌, ◌&&◌, Bool, List, [], Some, None, true, false, is_some, decimal, IfOk, OnOk};
+ghost use Rattle.std.specs.Prelude.{◌≡◌, ◌++◌, ◌∷◌, ◌⊎◌, ◌&&◌, ℕ, Bool, List, [], true, false, decimal, IfOk, OnOk};
 ghost use Rattle.fvn_terms.specs.declared.plain.Var.{Var};
 ghost use Rattle.fvn_terms.specs.Signature.{IsSort};
 ghost use Rattle.fvn_syntax.specs.Pieces.{Text};
-ghost use Rattle.fvn_answer.specs.Numberings.{number, new_name};
+ghost use Rattle.fvn_answer.specs.Numberings.{new_name};
 ghost use Rattle.fvn_answer.specs.Writing.{is_after, text_of, sorted, written};
 ghost use Rattle.fvn_answer.specs.inner.Readable.{AreReadable};
 ghost use Rattle.fvn_answer.specs.inner.Bytes.{bytes_of, with_each, over_texts, IsPrintable};
-ghost use Rattle.fvn_answer.specs.inner.Fronts.{Agrees, IsFrontOf, IsLesserFront, AreGathered, arranged_if, upto};
+ghost use Rattle.fvn_answer.specs.inner.Fronts.{AtLeast, Agrees, HasTips, IsFrontOf, AreGathered, arranged_if, upto};
 
 use crate::texts::{arrange, may_exchange, number, operator, over, push_new, push_special};
 use fvn_flat::Flat;
@@ -17,53 +17,61 @@ use fvn_terms::{NoMemory, Var};
 use itoa::Buffer;
 use std::alloc::Global;
 
-/// How far a numbering is fixed.
-///
-/// The first `known` variables of the order have its numbers, and the next number has none of
-/// those before `passed`.
+/// How far a numbering is fixed: the first `known` variables of the order have its numbers.
 #[derive(Drop)]
 pub(crate) struct Fixed<'a> {
     pub(crate) order: &'a [Var],
     pub(crate) known: usize,
-    pub(crate) passed: usize,
 }
 
-/// The whole text, or where there is a tip a text that it does not stand before.
+/// The whole text, or where there are tips two texts.
 ///
-/// It ends at the tip, a variable whose number is not known.
+/// The first ends at the number of a tip, a variable whose number is not known, and the text does
+/// not stand before it. Where none of the tips has the next number, the text does not stand before
+/// the later one.
 #[derive(Drop)]
 pub(crate) struct Front {
     pub(crate) text: Vec<u8>,
-    pub(crate) tip: Option<Var>,
+    pub(crate) later: Vec<u8>,
+    pub(crate) tips: Vec<Var>,
 }
 
-// The least number that a variable with this number in the order can have.
-fn least_number(fixed: &Fixed<'_>, n: usize) -> usize
-    ensures { (x : Var) (other : List Var) → number fixed.now.order.now x ≡ n →
-        Agrees fixed.now other → result ≤ number other x }
-{
-    if n == 0 {
-        return 0;
-    }
-    if n <= fixed.known {
-        return n;
-    }
-    if n <= fixed.passed {
-        return fixed.known.saturating_add(2);
-    }
-    fixed.known.saturating_add(1)
-}
-
-// A new variable's text, where its number is not known: up to the least number that it can have.
-fn open_front(alloc: Global, n: usize, x: Var) -> Result<Front, NoMemory>
-    ensures tip { IfOk result (λ f. f.tip ≡ Some x) }
-    ensures text { IfOk result (λ f. f.text.items ≡ 35 ∷ decimal n) }
+// `#` and a number.
+fn numbered(alloc: Global, n: usize) -> Result<Vec<u8>, NoMemory>
+    ensures { IfOk result (λ text. text.items ≡ 35 ∷ decimal n) }
 {
     let mut buffer = Buffer::new();
     let mut text = Vec::new(alloc);
     text.push(b'#')?;
     text.extend_from_slice(buffer.format(n).as_bytes())?;
-    Ok(Front { text, tip: Some(x) })
+    Ok(text)
+}
+
+// A new variable's text, where its number is not known: up to the least number that it can have,
+// and up to the least one but the next.
+fn open_front(alloc: Global, least: usize, later: usize, x: Var) -> Result<Front, NoMemory>
+    ensures tips { IfOk result (λ f. f.tips.items ≡ x ∷ []) }
+    ensures text { IfOk result (λ f. f.text.items ≡ 35 ∷ decimal least) }
+    ensures later { IfOk result (λ f. f.later.items ≡ 35 ∷ decimal later) }
+{
+    let text = numbered(alloc, least)?;
+    let later = numbered(alloc, later)?;
+    let mut tips = Vec::new(alloc);
+    tips.push(x)?;
+    Ok(Front { text, later, tips })
+}
+
+/// The front of a text that is known to its end.
+pub(crate) fn closed(alloc: Global, text: Vec<u8>) -> Front
+    ensures tips { result.tips.items ≡ [] }
+    ensures text { result.text ≡ text }
+    ensures later { result.later.items ≡ [] }
+{
+    Front {
+        text,
+        later: Vec::new(alloc),
+        tips: Vec::new(alloc),
+    }
 }
 
 /// The front of a new variable's text.
@@ -77,51 +85,82 @@ pub(crate) fn new_front(
     requires names { AreReadable signature.now names.now }
     requires sort { IsSort signature.now x.sort }
     ensures { IfOk result (λ f. (other : List Var) → Agrees fixed.now other →
-        IsFrontOf f.tip f.text.items
+        IsFrontOf fixed.now.known other f
         (text_of (sorted signature.now names.now (new_name other x) x.sort))) }
 {
     let n = number(fixed.order, x);
     if n == 0 {
-        let front = open_front(alloc, 0, x)?;
+        let front = open_front(alloc, 0, 0, x)?;
         return Ok(front);
     }
     if fixed.known < n {
-        let front = open_front(alloc, least_number(fixed, n), x)?;
+        let least = fixed.known.saturating_add(1);
+        let later = fixed.known.saturating_add(2);
+        let front = open_front(alloc, least, later, x)?;
         return Ok(front);
     }
     let mut text = Vec::new(alloc);
     push_new(alloc, signature, names, fixed.order, &mut text, x)?;
-    Ok(Front { text, tip: None })
+    Ok(closed(alloc, text))
 }
 
-// The front that stands first, where the first of the two may be none yet.
-fn lesser_front(least: Front, front: Front) -> Front
-    ensures { IsLesserFront least front result }
+// The first of two texts.
+fn lesser(v: Vec<u8>, w: Vec<u8>) -> Vec<u8>
+    ensures first { AtLeast result.items v.items }
+    ensures second { AtLeast result.items w.items }
 {
-    if least.tip.is_none() {
-        return front;
-    }
+    if v.cmp(&w).is_lt() { v } else { w }
+}
+
+// The least of two fronts that have tips. Where they are one text, both have its tips.
+fn merged(least: Front, front: Front) -> Result<Front, NoMemory>
+    ensures { IfOk result (λ l. (known : ℕ) (other : List Var) (whole all : List Text) (w : Text) →
+        HasTips least → HasTips front → AreGathered known other true whole least all →
+        IsFrontOf known other front w → AreGathered known other true whole l (all ++ w ∷ [])) }
+{
     if front.text.cmp(&least.text).is_lt() {
-        front
-    } else {
-        least
+        let later_front = lesser(front.later, least.text);
+        return Ok(Front {
+            text: front.text,
+            later: later_front,
+            tips: front.tips,
+        });
     }
+    if least.text.cmp(&front.text).is_lt() {
+        let later_least = lesser(least.later, front.text);
+        return Ok(Front {
+            text: least.text,
+            later: later_least,
+            tips: least.tips,
+        });
+    }
+    let mut tips = least.tips;
+    tips.extend_from_slice(front.tips.as_slice())?;
+    let later = lesser(least.later, front.later);
+    Ok(Front {
+        text: least.text,
+        later,
+        tips,
+    })
 }
 
 // One more argument: its text, where that is known to its end, or else the least front.
 fn gather(texts: &mut Vec<Vec<u8>>, least: Front, front: Front) -> Result<Front, NoMemory>
-    ensures { IfOk result (λ l. (exchange : Bool) (all : List Text) (w : Text) →
-        (exchange ≡ true) ⊎ (least.tip ≡ None) →
-        AreGathered exchange (bytes_of texts.old.items) least.tip least.text.items all →
-        IsFrontOf front.tip front.text.items w →
-        AreGathered exchange (bytes_of texts.new.items) l.tip l.text.items (all ++ w ∷ [])) }
+    ensures { IfOk result (λ l. (known : ℕ) (other : List Var) (exchange : Bool)
+        (all : List Text) (w : Text) → (exchange ≡ true) ⊎ (least.tips.items ≡ []) →
+        AreGathered known other exchange (bytes_of texts.old.items) least all →
+        IsFrontOf known other front w →
+        AreGathered known other exchange (bytes_of texts.new.items) l (all ++ w ∷ [])) }
 {
-    if front.tip.is_none() {
+    if front.tips.is_empty() {
         texts.push(front.text)?;
         return Ok(least);
     }
-    let lesser = lesser_front(least, front);
-    Ok(lesser)
+    if least.tips.is_empty() {
+        return Ok(front);
+    }
+    let both = merged(least, front)?;
+    Ok(both)
 }
 
 // Whether arguments may be exchanged and the text stands after the least front.
@@ -177,33 +216,34 @@ fn over_front(
     texts: &[Vec<u8>],
     least: Front,
 ) -> Result<Front, NoMemory>
-    ensures { IfOk result (λ f. (whole all : List Text) →
+    ensures { IfOk result (λ f. (known : ℕ) (other : List Var) (whole all : List Text) →
         bytes_of texts.now ≡ arranged_if exchange whole →
-        AreGathered exchange whole least.tip least.text.items all →
-        IsFrontOf f.tip f.text.items (over_texts name.now (arranged_if exchange all))) }
+        AreGathered known other exchange whole least all →
+        IsFrontOf known other f (over_texts name.now (arranged_if exchange all))) }
 {
-    match least.tip {
-        None => {
-            let text = over(alloc, name, texts)?;
-            Ok(Front { text, tip: None })
-        }
-        Some(x) => {
-            let text = over_least(alloc, name, exchange, texts, least.text.as_slice())?;
-            Ok(Front { text, tip: Some(x) })
-        }
+    if least.tips.is_empty() {
+        let text = over(alloc, name, texts)?;
+        return Ok(closed(alloc, text));
     }
+    let text = over_least(alloc, name, exchange, texts, least.text.as_slice())?;
+    let later = over_least(alloc, name, exchange, texts, least.later.as_slice())?;
+    Ok(Front {
+        text,
+        later,
+        tips: least.tips,
+    })
 }
 
 // Whether the next argument is looked at: where arguments may not be exchanged, none is behind
 // the first tip.
 fn goes_on(exchange: bool, least: &Front) -> bool
-    ensures more { result ≡ true → (exchange ≡ true) ⊎ (least.now.tip ≡ None) }
-    ensures end { result ≡ false → (exchange ≡ false) × (is_some least.now.tip ≡ true) }
+    ensures more { result ≡ true → (exchange ≡ true) ⊎ (least.now.tips.items ≡ []) }
+    ensures end { result ≡ false → (exchange ≡ false) × HasTips least.now }
 {
     if exchange {
         return true;
     }
-    least.tip.is_none()
+    least.tips.is_empty()
 }
 
 /// The front of a term's text.
@@ -217,7 +257,8 @@ pub(crate) fn term_front(
     requires names { AreReadable signature.now names.now }
     requires term { IsPrintable signature.now t.now }
     ensures { IfOk result (λ f. (other : List Var) → Agrees fixed.now other →
-        IsFrontOf f.tip f.text.items (text_of (written signature.now names.now other t.now))) }
+        IsFrontOf fixed.now.known other f
+        (text_of (written signature.now names.now other t.now))) }
 {
     match t.as_var() {
         Some(x) => new_front(alloc, signature, names, fixed, x),
@@ -225,10 +266,7 @@ pub(crate) fn term_front(
             let f = operator(t);
             let exchange = may_exchange(signature.axioms(f));
             let mut texts = Vec::new(alloc);
-            let mut least = Front {
-                text: Vec::new(alloc),
-                tip: None,
-            };
+            let mut least = closed(alloc, Vec::new(alloc));
             for u in t.args() {
                 if goes_on(exchange, &least) {
                     let front = term_front(alloc, signature, names, fixed, u)?;

@@ -11,6 +11,7 @@ mod numbering;
 mod printed;
 mod search;
 mod texts;
+mod twins;
 
 pub use answer::{Line, answer_text};
 pub use end::End;

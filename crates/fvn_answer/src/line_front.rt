@@ -1,5 +1,5 @@
 //! Fronts of what is printed.
-ghost use Rattle.std.specs.Prelude.{◌++◌, ◌∷◌, List, IfOk};
+ghost use Rattle.std.specs.Prelude.{◌++◌, ◌∷◌, ℕ, List, IfOk};
 ghost use Rattle.fvn_terms.specs.declared.plain.Var.{Var};
 ghost use Rattle.fvn_flat.specs.Bindings.{value};
 ghost use Rattle.fvn_syntax.specs.Pieces.{Text};
@@ -11,7 +11,7 @@ ghost use Rattle.fvn_answer.specs.inner.Bytes.{pair_text, IsPrintable};
 ghost use Rattle.fvn_answer.specs.inner.Fronts.{Agrees, IsFrontOf};
 ghost use Rattle.fvn_answer.specs.inner.Shown.{shown, value_texts, HavePrintable, CanPrint};
 
-use crate::front::{Fixed, Front, new_front, term_front};
+use crate::front::{Fixed, Front, closed, new_front, term_front};
 use crate::printed::{Printed, push_between};
 use crate::texts::{push_sorted, push_special};
 use fvn_flat::Subst;
@@ -32,7 +32,7 @@ fn value_front(
     requires names { AreReadable signature.now names.now }
     requires value { IsPrintable signature.now (value subst.now x) }
     ensures { IfOk result (λ f. (other : List Var) → Agrees fixed.now other →
-        IsFrontOf f.tip f.text.items
+        IsFrontOf fixed.now.known other f
         (text_of (written signature.now names.now other (value subst.now x)))) }
 {
     match subst.get(x) {
@@ -41,29 +41,51 @@ fn value_front(
     }
 }
 
-// The text goes on with a variable and its value, up to a tip if there is one.
-fn push_binding(
+// The front of a text with a second one behind it.
+fn behind(alloc: Global, text: Vec<u8>, front: Front) -> Result<Front, NoMemory>
+    ensures { IfOk result (λ f. (known : ℕ) (other : List Var) (w : Text) →
+        IsFrontOf known other front w → IsFrontOf known other f (text.items ++ w)) }
+{
+    let mut first = text;
+    if front.tips.is_empty() {
+        first.extend_from_slice(front.text.as_slice())?;
+        return Ok(closed(alloc, first));
+    }
+    let mut later = Vec::new(alloc);
+    later.extend_from_slice(first.as_slice())?;
+    later.extend_from_slice(front.later.as_slice())?;
+    first.extend_from_slice(front.text.as_slice())?;
+    Ok(Front {
+        text: first,
+        later,
+        tips: front.tips,
+    })
+}
+
+// The front of a text that goes on with a variable and its value.
+fn binding_front(
     alloc: Global,
     signature: &Signature,
     names: &Names,
     var_names: &VarNames,
     fixed: &Fixed<'_>,
-    text: &mut Vec<u8>,
+    line: Vec<u8>,
     subst: &Subst,
     x: Var,
-) -> Result<Option<Var>, NoMemory>
+) -> Result<Front, NoMemory>
     requires names { AreReadable signature.now names.now }
     requires named { IsNamed signature.now var_names.now.texts x }
     requires value { IsPrintable signature.now (value subst.now x) }
-    ensures { IfOk result (λ tip. (other : List Var) → Agrees fixed.now other →
-        IsFrontOf tip text.new.items (text.old.items ++ pair_text
+    ensures { IfOk result (λ f. (other : List Var) → Agrees fixed.now other →
+        IsFrontOf fixed.now.known other f (line.items ++ pair_text
         (value_texts signature.now var_names.now.texts names.now other subst.now x))) }
 {
-    push_sorted(signature, names, text, var_names.text(x.name), x.sort)?;
+    let mut text = line;
+    push_sorted(signature, names, &mut text, var_names.text(x.name), x.sort)?;
     text.extend_from_slice(b" --> ")?;
-    let front = value_front(alloc, signature, names, fixed, subst, x)?;
-    text.extend_from_slice(front.text.as_slice())?;
-    Ok(front.tip)
+    let value = value_front(alloc, signature, names, fixed, subst, x)?;
+    let front = behind(alloc, text, value)?;
+    Ok(front)
 }
 
 // The front of the text of the values of variables.
@@ -79,7 +101,8 @@ fn values_front(
     requires names { AreReadable signature.now names.now }
     requires values { HavePrintable signature.now var_names.now.texts subst.now vars.now }
     ensures { IfOk result (λ f. (other : List Var) → Agrees fixed.now other →
-        IsFrontOf f.tip f.text.items (text signature.now names.now var_names.now.texts other
+        IsFrontOf fixed.now.known other f
+        (text signature.now names.now var_names.now.texts other
         (values (values_of subst.now vars.now)))) }
 {
     let mut line = Vec::new(alloc);
@@ -87,19 +110,15 @@ fn values_front(
     let mut first = true;
     for x in vars {
         push_between(&mut line, first)?;
-        let tip = push_binding(
-            alloc, signature, names, var_names, fixed, &mut line, subst, *x,
-        )?;
-        if tip.is_some() {
-            return Ok(Front { text: line, tip });
+        let front = binding_front(alloc, signature, names, var_names, fixed, line, subst, *x)?;
+        if !front.tips.is_empty() {
+            return Ok(front);
         }
+        line = front.text;
         first = false;
     }
     push_special(&mut line, b'}')?;
-    Ok(Front {
-        text: line,
-        tip: None,
-    })
+    Ok(closed(alloc, line))
 }
 
 // The front of a term's text and that of the values of variables.
@@ -116,21 +135,18 @@ fn variant_front(
     requires names { AreReadable signature.now names.now }
     requires values { HavePrintable signature.now var_names.now.texts subst.now vars.now }
     ensures { IfOk result (λ f. (other : List Var) (w : Text) → Agrees fixed.now other →
-        IsFrontOf term.tip term.text.items w → IsFrontOf f.tip f.text.items
+        IsFrontOf fixed.now.known other term w → IsFrontOf fixed.now.known other f
         (w ++ 32 ∷ text signature.now names.now var_names.now.texts other
         (values (values_of subst.now vars.now)))) }
 {
-    if term.tip.is_some() {
+    if !term.tips.is_empty() {
         return Ok(term);
     }
     let rest = values_front(alloc, signature, names, var_names, fixed, subst, vars)?;
     let mut line = term.text;
     line.push(b' ')?;
-    line.extend_from_slice(rest.text.as_slice())?;
-    Ok(Front {
-        text: line,
-        tip: rest.tip,
-    })
+    let front = behind(alloc, line, rest)?;
+    Ok(front)
 }
 
 /// The front of the text of what is printed.
@@ -145,7 +161,7 @@ pub(crate) fn front(
     requires names { AreReadable signature.now names.now }
     requires printed { CanPrint signature.now var_names.now.texts printed.now }
     ensures { IfOk result (λ f. (other : List Var) → Agrees fixed.now other →
-        IsFrontOf f.tip f.text.items
+        IsFrontOf fixed.now.known other f
         (text signature.now names.now var_names.now.texts other (shown printed.now))) }
 {
     match printed {

@@ -13,8 +13,8 @@ use std::alloc::Global;
 /// The most variables of a line for which the numbering is the one that gives the least text.
 pub const FEW_VARIABLES: usize = 6;
 
-// Whether the variable stands in the list.
-fn is_listed(vars: &[Var], x: Var) -> bool
+/// Whether the variable stands in the list.
+pub(crate) fn is_listed(vars: &[Var], x: Var) -> bool
     ensures { result ≡ listed vars.now x }
 {
     for y in vars {

@@ -6,12 +6,13 @@ ghost use Rattle.fvn_answer.specs.Numberings.{IsNumbering};
 ghost use Rattle.fvn_answer.specs.Lines.{forms_in};
 ghost use Rattle.fvn_answer.specs.inner.Readable.{AreReadable};
 ghost use Rattle.fvn_answer.specs.inner.Fronts.{AtLeast, IsAtMost, IsKept};
-ghost use Rattle.fvn_answer.specs.inner.Shown.{shown, CanPrint, IsNumberedText, IsBestText, IsLeastText, IsSearched};
+ghost use Rattle.fvn_answer.specs.inner.Shown.{shown, CanPrint, IsNumberedText, IsBestText, IsLeastText, IsSearched, AreSearched};
 
 use crate::front::Fixed;
 use crate::line_front::front;
 use crate::numbering::{FEW_VARIABLES, variables};
 use crate::printed::{Printed, text};
+use crate::twins::is_tried;
 use fvn_sorts::Signature;
 use fvn_syntax::{Names, VarNames};
 use fvn_terms::{NoMemory, Var};
@@ -37,32 +38,6 @@ fn keep_lesser(best: &mut Option<Vec<u8>>, line: Vec<u8>)
     }
 }
 
-// The place of the variable, or the first place where it stands before that.
-fn place(order: &[Var], x: Var, from: usize) -> usize
-    requires { from < length order.now }
-    ensures from { from ≤ result }
-    ensures within { result < length order.now }
-{
-    for i in from..order.len() {
-        if order[i] == x {
-            return i;
-        }
-    }
-    from
-}
-
-// The place of the tip, or the first place where there is none from there on.
-fn next_place(order: &[Var], tip: Option<Var>, from: usize) -> usize
-    requires { from < length order.now }
-    ensures from { from ≤ result }
-    ensures within { result < length order.now }
-{
-    match tip {
-        Some(x) => place(order, x, from),
-        None => from,
-    }
-}
-
 // The order with two variables exchanged.
 fn exchanged(alloc: Global, order: &[Var], i: usize, j: usize) -> Result<Vec<Var>, NoMemory>
     requires first { i < length order.now }
@@ -75,7 +50,49 @@ fn exchanged(alloc: Global, order: &[Var], i: usize, j: usize) -> Result<Vec<Var
     Ok(other)
 }
 
+// Searches the numberings that begin as the order does, up to k, and go on with one of the tips.
+#[cycle(search)]
+fn search_tips(
+    alloc: Global,
+    signature: &Signature,
+    names: &Names,
+    var_names: &VarNames,
+    printed: &Printed<'_>,
+    order: &[Var],
+    k: usize,
+    tips: &[Var],
+    best: &mut Option<Vec<u8>>,
+) -> Result<(), NoMemory>
+    requires names { AreReadable signature.now names.now }
+    requires printed { CanPrint signature.now var_names.now.texts printed.now }
+    requires numbering { IsNumbering (forms_in (shown printed.now)) order.now }
+    requires within { k < length order.now }
+    requires few { length order.now ≤ FEW_VARIABLES }
+    requires best { IsBestText signature.now var_names.now.texts names.now (shown printed.now)
+        best.old }
+    ensures { OnOk result (AreSearched signature.now var_names.now.texts names.now
+        (shown printed.now) order.now k tips.now best.old best.new) }
+{
+    for j in k..order.len() {
+        if is_tried(signature, printed, order, k, j, tips) {
+            let next = exchanged(alloc, order, k, j)?;
+            search(
+                alloc,
+                signature,
+                names,
+                var_names,
+                printed,
+                next.as_slice(),
+                k + 1,
+                &mut *best,
+            )?;
+        }
+    }
+    Ok(())
+}
+
 // Searches the numberings that begin as the order does, up to k, for a text before the best one.
+#[cycle(search)]
 fn search(
     alloc: Global,
     signature: &Signature,
@@ -101,31 +118,28 @@ fn search(
         keep_lesser(best, line);
         return Ok(());
     }
-    let mut rest = Vec::from_slice(alloc, order)?;
-    for j in k..order.len() {
-        let fixed = Fixed {
-            order: rest.as_slice(),
-            known: k,
-            passed: j,
-        };
-        let front = front(alloc, signature, names, var_names, &fixed, printed)?;
-        if !may_be_less(best, front.text.as_slice()) {
-            return Ok(());
-        }
-        let i = next_place(rest.as_slice(), front.tip, j);
-        rest.swap(j, i);
-        let next = exchanged(alloc, rest.as_slice(), k, j)?;
-        search(
-            alloc,
-            signature,
-            names,
-            var_names,
-            printed,
-            next.as_slice(),
-            k + 1,
-            &mut *best,
-        )?;
+    let fixed = Fixed { order, known: k };
+    let front = front(alloc, signature, names, var_names, &fixed, printed)?;
+    if !may_be_less(best, front.text.as_slice()) {
+        return Ok(());
     }
+    search_tips(
+        alloc,
+        signature,
+        names,
+        var_names,
+        printed,
+        order,
+        k,
+        front.tips.as_slice(),
+        &mut *best,
+    )?;
+    if !may_be_less(best, front.later.as_slice()) {
+        return Ok(());
+    }
+    search_tips(
+        alloc, signature, names, var_names, printed, order, k, order, &mut *best,
+    )?;
     Ok(())
 }
 

@@ -20,11 +20,10 @@ use std::alloc::Global;
 fn is_quoted(text: &[u8]) -> bool
     ensures { result ≡ is_quoted_after false text.now }
 {
-    let mut quoted = false;
-    for b in text {
-        quoted = *b == b'`';
+    if text.is_empty() {
+        return false;
     }
-    quoted
+    text[text.len() - 1] == b'`'
 }
 
 /// The text goes on with a special byte; after a backquote one space stands between.

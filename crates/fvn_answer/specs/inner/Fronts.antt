@@ -1,9 +1,7 @@
 -- Fronts: what is known of the texts under all numberings that begin alike.
-use Rattle.std.specs.Prelude.{◌≡◌, ◌<◌, ◌≤◌, ◌≢◌, ◌+◌, ◌⊎◌, ℕ, Bool, true, ◌&&◌, if◌then◌else◌, Option, Some, None, List, [], ◌∷◌, ◌++◌}
+use Rattle.std.specs.Prelude.{◌≡◌, ◌<◌, ◌≤◌, ◌≢◌, ◌+◌, ◌⊎◌, ℕ, Bool, true, ◌&&◌, if◌then◌else◌, Option, Some, None, List, [], ◌∷◌, ◌++◌, Contains}
 use Rattle.std.specs.List.{AllByRecursion}
 use Rattle.std.specs.Global.{Vec}
-use Rattle.std.specs.Ordering.{is_lt, nat_cmp}
-use Rattle.std.specs.Cmp.Lexicographic.{slice_cmp}
 use Rattle.fvn_base.specs.Order.{IsBefore}
 use Rattle.fvn_terms.specs.declared.plain.Var.{Var}
 use Rattle.fvn_syntax.specs.Pieces.{Text}
@@ -17,31 +15,39 @@ use Rattle.fvn_answer.specs.inner.Bytes.{sorted_texts}
 abbrev pub AtLeast : Text → Text → Type 0
 AtLeast v w = IsBefore w v → ⊥
 
--- The numbers of the first `known` variables of an order are the same in the other one. All others have later numbers,
--- and those before `passed` not the next one. No number has two digits.
-pub record AgreesUpTo (order : List Var) (known passed : ℕ) (other : List Var) : Type 0 where
+-- The numbers of the first `known` variables of an order are the same in the other one, and all others have later
+-- numbers. No number has two digits.
+pub record AgreesUpTo (order : List Var) (known : ℕ) (other : List Var) : Type 0 where
   pub same : (x : Var) → 0 < number order x → number order x ≤ known → number other x ≡ number order x
   pub later : (x : Var) → known < number order x → known < number other x
-  pub passed_over : (x : Var) → known < number order x → number order x ≤ passed → number other x ≢ known + 1
   pub few : (x : Var) → number other x < 10
 
 -- the other order has the numbers that are fixed
 abbrev pub Agrees : Fixed → List Var → Type 0
-Agrees fixed other = AgreesUpTo fixed.order.now fixed.known fixed.passed other
+Agrees fixed other = AgreesUpTo fixed.order.now fixed.known other
 
--- v is the text w, or where there is a tip a text that w does not stand before
-abbrev pub IsFrontOf : Option Var → Text → Text → Type 0
-IsFrontOf None v w = v ≡ w
-IsFrontOf (Some x) v w = AtLeast v w
+-- none of these variables has the number behind the first `known`
+abbrev pub NoneIsNext : List Var → ℕ → List Var → Type 0
+NoneIsNext tips known other = (x : Var) → Contains tips x → number other x ≢ known + 1
 
--- the first of two fronts in byte order, or the second where the first has no tip yet
-abbrev pub IsLesserOf : Option Var → Front → Front → Front → Type 0
-IsLesserOf None least front lesser = lesser ≡ front
-IsLesserOf (Some x) least front lesser = lesser ≡ (if is_lt (slice_cmp nat_cmp front.text.items least.text.items) then front else least)
+-- there are tips
+abbrev pub AreTips : List Var → Type 0
+AreTips [] = ⊥
+AreTips (x ∷ tips) = Unit {0}
 
--- so it is of two fronts
-abbrev pub IsLesserFront : Front → Front → Front → Type 0
-IsLesserFront least front lesser = IsLesserOf least.tip least front lesser
+-- the front has tips
+abbrev pub HasTips : Front → Type 0
+HasTips front = AreTips front.tips.items
+
+-- v is the text w, or where there are tips a text that w does not stand before
+abbrev pub IsUpTo : List Var → Text → Text → Type 0
+IsUpTo [] v w = v ≡ w
+IsUpTo (x ∷ tips) v w = AtLeast v w
+
+-- The front is one of the text w, in which variables have their numbers in the other order.
+pub record IsFrontOf (known : ℕ) (other : List Var) (front : Front) (w : Text) : Type 0 where
+  pub upto : IsUpTo front.tips.items front.text.items w
+  pub later : NoneIsNext front.tips.items known other → AtLeast front.later.items w
 
 -- the texts, in byte order where they may be exchanged
 abbrev pub arranged_if : (exchange : Bool) → List Text → List Text
@@ -56,10 +62,15 @@ pub record HaveMore (exchange : Bool) (whole : List Text) (least : Text) (all : 
   pub first_after : AtLeast least first
   pub more_after : exchange ≡ true → AllByRecursion (AtLeast least) more
 
--- the texts of arguments are these, and where there is a tip more, with this least front
-abbrev pub AreGathered : (exchange : Bool) → List Text → Option Var → Text → List Text → Type 0
-AreGathered exchange whole None least all = whole ≡ all
-AreGathered exchange whole (Some x) least all = HaveMore exchange whole least all
+-- the texts of arguments are these, and where there are tips more, none of them before the least text
+abbrev pub HaveTexts : (exchange : Bool) → List Text → List Var → Text → List Text → Type 0
+HaveTexts exchange whole [] least all = whole ≡ all
+HaveTexts exchange whole (x ∷ tips) least all = HaveMore exchange whole least all
+
+-- so it is of the two texts of the least front
+pub record AreGathered (known : ℕ) (other : List Var) (exchange : Bool) (whole : List Text) (least : Front) (all : List Text) : Type 0 where
+  pub upto : HaveTexts exchange whole least.tips.items least.text.items all
+  pub later : NoneIsNext least.tips.items known other → HaveTexts exchange whole least.tips.items least.later.items all
 
 -- the texts up to the first that stands after the least front, where arguments may be exchanged
 abbrev pub upto : (exchange : Bool) → Text → List Text → List Text

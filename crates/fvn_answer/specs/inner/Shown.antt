@@ -1,5 +1,5 @@
 -- What the program prints, and the order of its variables.
-use Rattle.std.specs.Prelude.{ℕ, ◌≡◌, ◌<◌, ◌≤◌, ◌^◌, List, Option, Some, None, length, All, slice_index_or}
+use Rattle.std.specs.Prelude.{ℕ, ◌≡◌, ◌<◌, ◌≤◌, ◌^◌, List, Option, Some, None, length, All, Contains, slice_index_or}
 use Rattle.std.specs.Global.{Vec}
 use Rattle.fvn_base.specs.Order.{IsBefore}
 use Rattle.fvn_terms.specs.declared.plain.Var.{Var}
@@ -50,13 +50,14 @@ module _ (d : Declarations) (texts : List Text) where
       pub numbering : IsNumbering (forms_in it) other
       pub alike : (i : ℕ) (x : Var) → i < k → slice_index_or other i x ≡ slice_index_or order i x
 
-    -- a numbering that begins as the order does, up to k, and has at k one of its variables from k on and before i
-    pub record Tried (it : Shown) (order : List Var) (k i : ℕ) (other : List Var) : Type 0 where
+    -- a numbering that begins as the order does, up to k, and has at k one of the tips, which the order has before i
+    pub record Tried (it : Shown) (order : List Var) (k i : ℕ) (tips other : List Var) : Type 0 where
       pub begins : BeginsAs it order k other
       pub place : ℕ
       pub from : k ≤ place
       pub upto : place < i
       pub next : (x : Var) → slice_index_or other k x ≡ slice_index_or order place x
+      pub tip : (x : Var) → Contains tips (slice_index_or order place x)
 
     -- w is the text under some numbering
     pub record IsTextOfSome (it : Shown) (w : Text) : Type 0 where
@@ -80,6 +81,13 @@ module _ (d : Declarations) (texts : List Text) where
       pub one : IsBestText it new
       pub keeps : (w : Text) → IsAtMost old w → IsAtMost new w
       pub most : (other : List Var) → BeginsAs it order k other → IsAtMost new (text d names texts other it)
+
+    -- So it is of the numberings that begin as the order does, up to k, and go on with one of the tips.
+    pub record AreSearched (it : Shown) (order : List Var) (k : ℕ) (tips : List Var) (old new : Option (Vec ℕ)) : Type 0 where
+      pub one : IsBestText it new
+      pub keeps : (w : Text) → IsAtMost old w → IsAtMost new w
+      pub most : (other : List Var) (x : Var) → BeginsAs it order k other → Contains tips (slice_index_or other k x) →
+          IsAtMost new (text d names texts other it)
 
     -- w is the text of what is printed, and there are not more variables than numbers
     pub record IsNumberedText (it : Shown) (w : Text) : Type 0 where

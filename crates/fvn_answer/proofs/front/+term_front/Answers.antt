@@ -21,6 +21,7 @@ pub loop-u-preserved : goal.loop-u-preserved
 loop-u-preserved t c other a =
     let d = c.args.signature.now in
     let names = c.args.names.now in
+    let known = c.args.fixed.now.known in
     let items = c.args-u-items.result.now in
     let i = c.loop-u.u-index in
     let u = c.u-item.result in
@@ -28,19 +29,20 @@ loop-u-preserved t c other a =
     let so_far = c.loop-u.invariant other a in
     elim c.if-goes_on.branch [
       | then-goes_on+in_ok-front-in-None+in_ok-least-in-None w ↦ rw (w.texts-is, w.least-is)
-          (argument-gathered d names other exchange (bytes_of w.gather.new.texts.items) w.in_ok-least-in-None.least.tip w.in_ok-least-in-None.least.text.items items i u c.loop-u-test.true c.u-item.is
-          (w.in_ok-least-in-None.ensures exchange (map (λ v. text_of (written d names other v)) (take i items)) (text_of (written d names other u))
+          (argument-gathered d names other known exchange (bytes_of w.gather.new.texts.items) w.in_ok-least-in-None.least items i u c.loop-u-test.true c.u-item.is
+          (w.in_ok-least-in-None.ensures known other exchange (map (λ v. text_of (written d names other v)) (take i items)) (text_of (written d names other u))
           (c.goes_on.ensures.more w.if-goes_on.true) so_far (w.in_ok-front-in-None.ensures other a)))
       | else-goes_on w ↦
           let end = c.goes_on.ensures.end w.if-goes_on.false in
           rw (w.texts-is, w.least-is)
-          (argument-passed d names other exchange (bytes_of c.loop-u.texts.items) c.loop-u.least.tip c.loop-u.least.text.items items i u c.loop-u-test.true c.u-item.is end.0 end.1 so_far)
+          (argument-passed d names other known exchange (bytes_of c.loop-u.texts.items) c.loop-u.least items i u c.loop-u-test.true c.u-item.is end.0 end.1 so_far)
     ]
 
 pub returns-in_ok-front-in-None-2 : goal.returns-in_ok-front-in-None-2
 returns-in_ok-front-in-None-2 t c other a =
     let d = c.args.signature.now in
     let names = c.args.names.now in
+    let known = c.args.fixed.now.known in
     let items = c.args-u-items.result.now in
     let i = c.loop-u.u-index in
     let f = c.operator-f.result in
@@ -49,5 +51,5 @@ returns-in_ok-front-in-None-2 t c other a =
     let e = c.may_exchange-exchange.ensures ∙ ap may_exchange c.axioms.ensures in
     let arranged = ap bytes_of c.as_slice.ensures.value ∙ c.in_ok-arrange-in-None.ensures ∙ ap (λ b. arranged_if b whole) (ap may_exchange c.axioms-in-None.ensures ∙ sym e) in
     application-front d names other c.requires.names f c.args.t.now c.operator-f.ensures c.requires.term c.op_text.result.now c.op_text.ensures exchange e items i c.args-u-items.ensures.exact
-    c.loop-u-test.false c.in_ok-front-in-None-2.front.tip c.in_ok-front-in-None-2.front.text.items
-    (c.in_ok-front-in-None-2.ensures whole (map (λ v. text_of (written d names other v)) (take i items)) arranged (c.loop-u.invariant other a))
+    c.loop-u-test.false known c.in_ok-front-in-None-2.front
+    (c.in_ok-front-in-None-2.ensures known other whole (map (λ v. text_of (written d names other v)) (take i items)) arranged (c.loop-u.invariant other a))

@@ -12,4 +12,4 @@ decreases-term_front l = places l.t.now
 
 abbrev pub invariant-loop-u : goal.invariant-loop-u
 invariant-loop-u l = (other : List Var) → Agrees l.fixed other →
-    AreGathered l.exchange (bytes_of l.texts.items) l.least.tip l.least.text.items (map (λ u. text_of (written l.signature l.names other u)) (take l.u-index l.u-items))
+    AreGathered l.fixed.known other l.exchange (bytes_of l.texts.items) l.least (map (λ u. text_of (written l.signature l.names other u)) (take l.u-index l.u-items))

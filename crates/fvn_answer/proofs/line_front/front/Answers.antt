@@ -16,6 +16,6 @@ returns-in_ok-front-in-Variant c other a =
     let vars = c.in-Variant.vars.now in
     let w = text_of (written d names other t) in
     rw c.in-Variant.is
-    (subst (IsFrontOf c.in_ok-front-in-Variant.front.tip c.in_ok-front-in-Variant.front.text.items)
+    (subst (IsFrontOf c.args.fixed.now.known other c.in_ok-front-in-Variant.front)
     (sym (append_assoc w (32 ∷ []) (text d names texts other (values (values_of s vars)))) ∙ whole-text d names c.requires.names texts other s t vars)
     (c.in_ok-front-in-Variant.ensures other w a (c.in_ok-term-in-Variant.ensures other a)))

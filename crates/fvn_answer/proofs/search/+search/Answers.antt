@@ -1,80 +1,85 @@
 -- The search of the numberings that begin alike.
-use Rattle.std.proofs.Common.{◌≡◌, ◌<◌, ◌≤◌, ◌+◌, length, sym, ap, ◌∙◌, subst, arith}
-use Rattle.std.specs.List.{SwappedAt, swap}
+use Rattle.std.proofs.Common.{◌≡◌, ◌≤◌, ◌+◌, length, refl, sym, ap, ◌∙◌, subst, arith}
 use Rattle.fvn_answer.specs.Numberings.{IsNumbering}
 use Rattle.fvn_answer.specs.Lines.{forms_in}
-use Rattle.fvn_answer.specs.inner.Fronts.{AgreesUpTo, IsAtMost}
-use Rattle.fvn_answer.specs.inner.Shown.{shown, IsSearched}
-use Rattle.fvn_answer.proofs.Searching.{searched-one, searched-rest, searched-all, searched-step, turned-orders}
+use Rattle.fvn_answer.specs.inner.Fronts.{IsAtMost}
+use Rattle.fvn_answer.specs.inner.Shown.{shown, IsSearched, AreSearched}
+use Rattle.fvn_answer.proofs.Least.{exchanged-length, exchanged-numbering}
+use Rattle.fvn_answer.proofs.Searching.{searched-one, searched-front, searched-later, searched-all, searched-tip, searched-twin, searched-tips}
 use Rattle.fvn_answer.proofs.search.+search.Goals as goal
+use Rattle.fvn_answer.proofs.search.+search.Goals.{search_tips-then-is_tried+in_ok-next+in_ok-search, search_tips-else-is_tried}
 
-pub returns-then-order-k : goal.returns-then-order-k
-returns-then-order-k t c =
-    searched-one c.args.signature.now c.args.var_names.now.texts c.args.names.now (shown c.args.printed.now) c.args.order.now c.args.k c.args.best.now c.keep_lesser.new.best c.in_ok-line.line.items (omega (arith, c.if-order-k.true))
-    c.requires.numbering c.in_ok-line.ensures c.requires.best c.keep_lesser.ensures
+pub search-returns-then-order-k : goal.search-returns-then-order-k
+search-returns-then-order-k t c =
+    searched-one c.args.signature.now c.args.var_names.now.texts c.args.names.now (shown c.args.printed.now) c.args.order.now c.args.k c.args.best.now c.keep_lesser.new.best c.in_ok-line.line.items
+    (omega (arith, c.if-order-k.true)) c.requires.numbering c.in_ok-line.ensures c.requires.best c.keep_lesser.ensures
 
-pub returns-then-not-may_be_less : goal.returns-then-not-may_be_less
-returns-then-not-may_be_less t c =
-    let rest = c.loop-j.rest.items in
-    let long = c.loop-j.invariant.1 in
+pub search-returns-then-not-may_be_less : goal.search-returns-then-not-may_be_less
+search-returns-then-not-may_be_less t c =
     let few : length c.args.order.now ≤ 6 = c.requires.few in
-    searched-rest c.args.signature.now c.args.var_names.now.texts c.args.names.now (shown c.args.printed.now) c.args.order.now rest c.args.k c.loop-j.j c.args.best.now c.loop-j.best c.in_ok-front.front.tip c.in_ok-front.front.text.items
-    (omega (arith, c.if-order-k.false, long)) (omega (arith, few, long)) c.loop-j.invariant.0
-    (λ other a. c.in_ok-front.ensures other (subst (λ o. AgreesUpTo o c.args.k c.loop-j.j other) (sym c.as_slice.ensures.value) a))
-    (subst (IsAtMost c.loop-j.best) c.as_slice-in-loop-j.ensures.value (c.may_be_less.ensures.more c.if-not-may_be_less.true))
+    searched-front c.args.signature.now c.args.var_names.now.texts c.args.names.now (shown c.args.printed.now) c.args.order.now c.args.k c.args.best.now c.in_ok-front.front
+    (omega (arith, few)) c.requires.numbering c.requires.best c.in_ok-front.ensures
+    (subst (IsAtMost c.args.best.now) c.as_slice.ensures.value (c.may_be_less.ensures.more c.if-not-may_be_less.true))
 
-pub search-requires : goal.search-requires
-search-requires t c =
-    let rest = c.loop-j.rest.items in
-    let turned = c.swap.new.self.items in
+pub search-returns-then-not-may_be_less-2 : goal.search-returns-then-not-may_be_less-2
+search-returns-then-not-may_be_less-2 t c =
+    let d = c.args.signature.now in
+    let names = c.args.names.now in
+    let texts = c.args.var_names.now.texts in
+    let it = shown c.args.printed.now in
+    let few : length c.args.order.now ≤ 6 = c.requires.few in
+    searched-later d texts names it c.args.order.now c.args.k c.args.best.now c.search_tips.new.best c.in_ok-front.front
+    (omega (arith, few)) c.requires.numbering c.in_ok-front.ensures
+    (subst (λ tips. AreSearched d texts names it c.args.order.now c.args.k tips c.args.best.now c.search_tips.new.best) c.as_slice-2.ensures.value c.in_ok-search_tips.ensures)
+    (subst (IsAtMost c.search_tips.new.best) c.as_slice-3.ensures.value (c.may_be_less-2.ensures.more c.if-not-may_be_less-2.true))
+
+pub search-returns : goal.search-returns
+search-returns t c =
+    searched-all c.args.signature.now c.args.var_names.now.texts c.args.names.now (shown c.args.printed.now) c.args.order.now c.args.k c.args.best.now c.search_tips.new.best c.search_tips-2.new.best
+    (omega (arith, c.if-order-k.false)) c.requires.numbering c.in_ok-search_tips.ensures.keeps c.in_ok-search_tips-2.ensures
+
+pub search_tips-search-requires : goal.search_tips-search-requires
+search_tips-search-requires t c =
+    let order = c.args.order.now in
     let next = c.in_ok-next.next.items in
     let k = c.args.k in
     let j = c.loop-j.j in
-    let i = c.next_place-i.result in
-    let long : length rest ≡ length c.args.order.now = c.loop-j.invariant.1 in
-    let inside : j < length rest = omega (arith, c.loop-j-test.true, long) in
-    let place : i < length rest = subst (λ o. i < length o) c.as_slice-in-loop-j-2.ensures.value c.next_place-i.ensures.within in
-    let move : next ≡ swap turned k j = subst (λ o. next ≡ swap o k j) c.as_slice-in-loop-j-3.ensures.value c.in_ok-next.ensures.items in
-    let orders = turned-orders c.args.signature.now c.args.var_names.now.texts c.args.names.now (shown c.args.printed.now) rest turned next k j i (omega (arith, c.if-order-k.false, long)) inside place c.swap.ensures.items move c.loop-j.invariant.0.numbering in
-    let next_long : length c.as_slice-in-loop-j-4.result.now ≡ length c.args.order.now = ap length c.as_slice-in-loop-j-4.ensures.value ∙ orders.next_long ∙ long in
-    let few = c.requires.few in (
-      omega (arith, next_long, c.if-order-k.false),
+    let within = c.requires.within in
+    let few = c.requires.few in
+    let shown_next = c.as_slice.result.now in
+    let is : shown_next ≡ next = c.as_slice.ensures.value in
+    let long : length shown_next ≡ length order = ap length is ∙ exchanged-length order next k j within c.loop-j-test.true c.in_ok-next.ensures.items in (
+      omega (arith, long, within),
       (
         c.requires.names,
         (
           c.requires.printed,
           (
-            subst (IsNumbering (forms_in (shown c.args.printed.now))) (sym c.as_slice-in-loop-j-4.ensures.value) orders.next_numbering,
-            (omega (arith, next_long, c.if-order-k.false), (omega (arith, next_long, few), c.loop-j.invariant.0.one)),
+            subst (IsNumbering (forms_in (shown c.args.printed.now))) (sym is)
+                (exchanged-numbering (forms_in (shown c.args.printed.now)) order next k j within c.loop-j-test.true c.in_ok-next.ensures.items c.requires.numbering),
+            (omega (arith, long, within), (omega (arith, long, few), c.loop-j.invariant.one)),
           ),
         ),
       ),
     )
 
-pub loop-j-preserved : goal.loop-j-preserved
-loop-j-preserved t c =
+pub search_tips-loop-j-preserved : goal.search_tips-loop-j-preserved
+search_tips-loop-j-preserved t c =
+    let d = c.args.signature.now in
+    let names = c.args.names.now in
+    let texts = c.args.var_names.now.texts in
+    let it = shown c.args.printed.now in
     let order = c.args.order.now in
-    let rest = c.loop-j.rest.items in
-    let turned = c.swap.new.self.items in
-    let next = c.in_ok-next.next.items in
-    let k = c.args.k in
-    let j = c.loop-j.j in
-    let i = c.next_place-i.result in
-    let long : length rest ≡ length order = c.loop-j.invariant.1 in
-    let inside : j < length rest = omega (arith, c.loop-j-test.true, long) in
-    let place : i < length rest = subst (λ o. i < length o) c.as_slice-in-loop-j-2.ensures.value c.next_place-i.ensures.within in
-    let move : next ≡ swap turned k j = subst (λ o. next ≡ swap o k j) c.as_slice-in-loop-j-3.ensures.value c.in_ok-next.ensures.items in
-    let moved : SwappedAt turned next k j = subst (λ o. SwappedAt o next k j) c.as_slice-in-loop-j-3.ensures.value c.in_ok-next.ensures.by_index in
-    let orders = turned-orders c.args.signature.now c.args.var_names.now.texts c.args.names.now (shown c.args.printed.now) rest turned next k j i (omega (arith, c.if-order-k.false, long)) inside place c.swap.ensures.items move c.loop-j.invariant.0.numbering in
-    let found : IsSearched c.args.signature.now c.args.var_names.now.texts c.args.names.now (shown c.args.printed.now) next (k + 1) c.loop-j.best c.search.new.best =
-    subst (λ o. IsSearched c.args.signature.now c.args.var_names.now.texts c.args.names.now (shown c.args.printed.now) o (k + 1) c.loop-j.best c.search.new.best) c.as_slice-in-loop-j-4.ensures.value c.in_ok-search.ensures in (
-      searched-step c.args.signature.now c.args.var_names.now.texts c.args.names.now (shown c.args.printed.now) order rest turned next k j i c.args.best.now c.loop-j.best c.search.new.best c.loop-j.invariant.0.up c.next_place-i.ensures.from inside orders
-          c.swap.ensures.by_index moved c.loop-j.invariant.0 found,
-      orders.long ∙ long,
-    )
+    elim c.if-is_tried.branch [
+      | search_tips-then-is_tried+in_ok-next+in_ok-search w ↦ rw w.best-is
+          (searched-tip d texts names it order w.in_ok-next.next.items c.args.tips.now c.args.k c.loop-j.j c.args.best.now c.loop-j.best w.search.new.best w.in_ok-next.ensures.by_index c.loop-j.invariant
+          (subst (λ o. IsSearched d texts names it o (c.args.k + 1) c.loop-j.best w.search.new.best) w.as_slice.ensures.value w.in_ok-search.ensures))
+      | search_tips-else-is_tried w ↦ rw w.best-is
+          (searched-twin d texts names it c.args.printed.now refl c.requires.names c.requires.printed order c.args.tips.now c.args.k c.loop-j.j c.args.best.now c.loop-j.best
+          c.requires.numbering c.loop-j-test.true (c.is_tried.ensures w.if-is_tried.false) c.loop-j.invariant)
+    ]
 
-pub returns : goal.returns
-returns t c =
-    let long = c.loop-j.invariant.1 in
-    searched-all c.args.signature.now c.args.var_names.now.texts c.args.names.now (shown c.args.printed.now) c.args.order.now c.loop-j.rest.items c.args.k c.loop-j.j c.args.best.now c.loop-j.best
-    (omega (arith, c.if-order-k.false, long)) (omega (arith, c.loop-j-test.false, long)) c.loop-j.invariant.0
+pub search_tips-returns : goal.search_tips-returns
+search_tips-returns t c =
+    searched-tips c.args.signature.now c.args.var_names.now.texts c.args.names.now (shown c.args.printed.now) c.args.order.now c.args.tips.now c.args.k c.loop-j.j c.args.best.now c.loop-j.best
+    c.requires.numbering c.requires.within c.loop-j-test.false c.loop-j.invariant
