@@ -28,7 +28,7 @@ use Rattle.fvn_obeying.specs.CoveringChoices.{IsCovering}
 use Rattle.fvn_binding.specs.Ready.{IsReady, ArePlanned, AreVariablesOf}
 use Rattle.fvn_binding.proofs.Planned.{planned as as_planned, variables_exact}
 use Rattle.fvn_drawing.specs.OnKinds.{IsUnfolding, IsNewFrom, IsGivenOnKinds}
-use Rattle.fvn_drawing.specs.Drawn.{IsDrawn}
+use Rattle.fvn_drawing.specs.Drawn.{IsDrawnBy}
 use Rattle.fvn_drawing.specs.inner.Unfolded.{IsUnfolded, IsUnfoldedFrom}
 use Rattle.fvn_drawing.specs.declared.drawing.Drawn.{Drawn}
 use Rattle.fvn_drawing.specs.declared.drawing.Drawn.TheVariants.{Nothing, TooLarge, Unifier}
@@ -90,7 +90,7 @@ module _ (d : Declarations) (good : IsGood d) (given : Pairs) (first size : ℕ)
             sorts = λ x m. k.sorts x m ∙ ap (sort_in d (λ z. least_sort d (canon d (k.later z)))) (sym (values x m));
           }
 
-    pub drawn : (r : Drawn) → IsUnfoldedFrom d bindings vars size r → IsDrawn d given first size t s y c r
+    pub drawn : (r : Drawn) → IsUnfoldedFrom d bindings vars size r → IsDrawnBy d given first size t s y c r
     drawn Nothing h = absurd h
     drawn (TooLarge list) h = subst (IsTooLarge d given size) (sym h.0) (too_large h.1)
     drawn (Unifier g) h = (given_on_kinds g h, covered g h)

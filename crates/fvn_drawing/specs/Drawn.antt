@@ -18,7 +18,7 @@ use Rattle.fvn_drawing.specs.declared.drawing.Drawn.TheVariants.{Nothing, TooLar
 module _ (d : Declarations) (given : Pairs) (first size : ℕ) (t : NodeTable) (s : State) (y : Systems) (c : Choice) where
   -- nothing, where the choice covers no unifier; bindings that unfold to too many symbols;
   -- or a unifier on kinds, of which all that the choice covers are instances
-  abbrev pub IsDrawn : Drawn → Type 0
-  IsDrawn Nothing = (u : Substitution) → IsCovering d (problem_of given) t s y u c → ⊥
-  IsDrawn (TooLarge list) = IsTooLarge d given size list.bindings
-  IsDrawn (Unifier g) = IsGivenOnKinds d given first size g × ((u : Substitution) → IsCovering d (problem_of given) t s y u c → CoversOnKinds d (variables_of (problem_of given)) (value g) u)
+  abbrev pub IsDrawnBy : Drawn → Type 0
+  IsDrawnBy Nothing = (u : Substitution) → IsCovering d (problem_of given) t s y u c → ⊥
+  IsDrawnBy (TooLarge list) = IsTooLarge d given size list.bindings
+  IsDrawnBy (Unifier g) = IsGivenOnKinds d given first size g × ((u : Substitution) → IsCovering d (problem_of given) t s y u c → CoversOnKinds d (variables_of (problem_of given)) (value g) u)

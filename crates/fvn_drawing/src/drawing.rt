@@ -6,7 +6,7 @@ ghost use Rattle.fvn_asking.specs.Listed.{systems_of, choice_of};
 ghost use Rattle.fvn_openings.specs.Bases.{AreBases};
 ghost use Rattle.fvn_binding.specs.Ready.{IsReady, AreListed, AreVariablesOf};
 ghost use Rattle.fvn_drawing.specs.Choices.{IsListedChoice};
-ghost use Rattle.fvn_drawing.specs.Drawn.{IsDrawn};
+ghost use Rattle.fvn_drawing.specs.Drawn.{IsDrawnBy};
 
 use crate::unfolding::unfold_within;
 use fvn_base::Seq;
@@ -56,7 +56,7 @@ pub fn draw(
         reading.now bases.now tags.now numbers.now }
     requires variables { AreVariablesOf table.now variables.now }
     requires size { size < 2 ^ 64 - 1 }
-    ensures { IfOk result (IsDrawn sig.now problem.now first size table.now state.now
+    ensures { IfOk result (IsDrawnBy sig.now problem.now first size table.now state.now
         (systems_of reading.now bases.now) (choice_of reading.now tags.now numbers.now)) }
 {
     sig.recall_good();

@@ -1,7 +1,7 @@
 -- The numbers that are passed cover nothing, or only what is given.
 use Rattle.std.proofs.Common.{refl, sym, subst, inl, inr}
 use Rattle.fvn_binding.specs.Ready.{AreListed}
-use Rattle.fvn_drawing.specs.Drawn.{IsDrawn}
+use Rattle.fvn_drawing.specs.Drawn.{IsDrawnBy}
 use Rattle.fvn_asking.specs.Listed.{tag_in, systems_of, choice_of}
 use Rattle.fvn_combine.specs.Tasks.{Combining}
 use Rattle.fvn_combine.proofs.Current.{listed, fewer_under, passed_or_to_come, still_turning}
@@ -28,9 +28,9 @@ choices-preserved c =
     let tags = c.choices.turning.tags in
     let old = c.choices.turning.wheels in
     let new = c.advance.new.self in
-    let drawn = subst (λ (k : Combining). IsDrawn k.declarations k.given k.first k.size k.table s (systems_of r b) (choice_of r tags c.in-Some.numbers.now) c.in_ok-drawn.drawn) c.task.view_is
-    (subst (λ l. IsDrawn c.task.inside.sig.now c.task.inside.problem.now c.task.inside.first c.task.inside.size c.task.inside.table s (systems_of r b) (choice_of r l c.in-Some.numbers.now) c.in_ok-drawn.drawn) c.as_slice.ensures c.in_ok-drawn.ensures) in
-    let none = subst (IsDrawn k.declarations k.given k.first k.size k.table s (systems_of r b) (choice_of r tags c.in-Some.numbers.now)) c.in-Nothing.is drawn in
+    let drawn = subst (λ (k : Combining). IsDrawnBy k.declarations k.given k.first k.size k.table s (systems_of r b) (choice_of r tags c.in-Some.numbers.now) c.in_ok-drawn.drawn) c.task.view_is
+    (subst (λ l. IsDrawnBy c.task.inside.sig.now c.task.inside.problem.now c.task.inside.first c.task.inside.size c.task.inside.table s (systems_of r b) (choice_of r l c.in-Some.numbers.now) c.in_ok-drawn.drawn) c.as_slice.ensures c.in_ok-drawn.ensures) in
+    let none = subst (IsDrawnBy k.declarations k.given k.first k.size k.table s (systems_of r b) (choice_of r tags c.in-Some.numbers.now)) c.in-Nothing.is drawn in
     record {
       turning = still_turning k s r b tags old new c.advance.ensures.taken c.args.shared.now c.advance.ensures.wheels c.choices.invariant.turning;
       fewer = λ u h. c.choices.invariant.fewer u (fewer_under k s r b tags old new c.advance.ensures.taken u h);
@@ -50,9 +50,9 @@ returns-in-Unifier-clause-drawn c =
     let r = c.args.reading.now in
     let b = c.args.bases.now in
     let tags = c.choices.turning.tags in
-    let drawn = subst (λ (k : Combining). IsDrawn k.declarations k.given k.first k.size k.table s (systems_of r b) (choice_of r tags c.in-Some.numbers.now) c.in_ok-drawn.drawn) c.task.view_is
-    (subst (λ l. IsDrawn c.task.inside.sig.now c.task.inside.problem.now c.task.inside.first c.task.inside.size c.task.inside.table s (systems_of r b) (choice_of r l c.in-Some.numbers.now) c.in_ok-drawn.drawn) c.as_slice.ensures c.in_ok-drawn.ensures) in
-    let given = subst (IsDrawn k.declarations k.given k.first k.size k.table s (systems_of r b) (choice_of r tags c.in-Some.numbers.now)) c.in-Unifier.is drawn in (
+    let drawn = subst (λ (k : Combining). IsDrawnBy k.declarations k.given k.first k.size k.table s (systems_of r b) (choice_of r tags c.in-Some.numbers.now) c.in_ok-drawn.drawn) c.task.view_is
+    (subst (λ l. IsDrawnBy c.task.inside.sig.now c.task.inside.problem.now c.task.inside.first c.task.inside.size c.task.inside.table s (systems_of r b) (choice_of r l c.in-Some.numbers.now) c.in_ok-drawn.drawn) c.as_slice.ensures c.in_ok-drawn.ensures) in
+    let given = subst (IsDrawnBy k.declarations k.given k.first k.size k.table s (systems_of r b) (choice_of r tags c.in-Some.numbers.now)) c.in-Unifier.is drawn in (
       given.0,
       λ u h. elim (passed_or_to_come k s r b tags c.choices.turning.wheels c.advance-in-Unifier.new.self c.advance-in-Unifier.ensures.taken c.in-Some.numbers.now c.in-Some.ensures.value u (c.choices.invariant.kept u h)) [
         | inl e ↦ inl (given.1 u e)
