@@ -1,13 +1,12 @@
-//! Reads the terms and substitutions of tests in flat form.
+//! Reads the substitutions of tests.
 ghost use Rattle.std.specs.Prelude.{IfOk, IfSome};
-ghost use Rattle.fvn_flat.specs.Fits.{Fits, AllFit};
 ghost use Rattle.fvn_flat.specs.Bindings.{BindingsFit};
 
-use super::terms::{has_kind, is_term, term_of, var_of};
-use fvn_flat::{Flat, Subst, flatten};
+use super::terms::{has_kind, term_of, var_of};
+use fvn_flat::{Subst, flatten};
 use fvn_sorts::Signature;
 use fvn_terms::{NoMemory, Plain, Var};
-use std::alloc::{AllocError, AllocFailed, Global};
+use std::alloc::{AllocError, Global};
 
 /// One more variable bound, where it is free and the term is of its kind.
 fn with_pair(
@@ -57,38 +56,4 @@ pub fn subst_of(alloc: Global, sig: &Signature, text: &str) -> Result<Option<Sub
         };
     }
     Ok(Some(s))
-}
-
-/// The flat form of the term that is written, where it is well-kinded.
-fn flat_of(alloc: Global, sig: &Signature, word: &str) -> Result<Option<Flat>, NoMemory>
-    ensures { IfOk result (λ o. IfSome o (Fits sig.now)) }
-{
-    match term_of(alloc, sig, word)? {
-        Some(t) => {
-            if !is_term(sig, &t) {
-                return Ok(None);
-            }
-            let u = flatten(alloc, sig, &t)?;
-            Ok(Some(u))
-        }
-        None => Ok(None),
-    }
-}
-
-/// The flat forms of the terms that are written with commas between them; none where nothing is written.
-pub fn flats_of(alloc: Global, sig: &Signature, text: &str) -> Result<Option<Vec<Flat>>, NoMemory>
-    ensures { IfOk result (λ o. IfSome o (λ ts. AllFit sig.now ts.items)) }
-{
-    let mut all = Vec::new(alloc);
-    if text.is_empty() {
-        return Ok(Some(all));
-    }
-    for word in text.split(", ") {
-        let t = match flat_of(alloc, sig, word)? {
-            Some(t) => t,
-            None => return Ok(None),
-        };
-        all.push(t)?;
-    }
-    Ok(Some(all))
 }

@@ -1,7 +1,7 @@
 //! Reads terms of tests, and decides whether they are well-kinded.
 ghost use Rattle.std.specs.Prelude.{◌≡◌, ◌<◌, map, length, Contains, IsTrue, IfSome};
 ghost use Rattle.fvn_terms.specs.Plain.{term};
-ghost use Rattle.fvn_terms.specs.Signature.{kind, declared, IsSort, HasKind, HaveKinds, IsTerm};
+ghost use Rattle.fvn_terms.specs.Signature.{kind, declared, IsSort, HasKind, HaveKinds};
 
 use super::reading::{operator_of, sort_of};
 use fvn_sorts::Signature;
@@ -60,25 +60,6 @@ fn have_kinds(sig: &Signature, us: &Args, list: &[SortId]) -> bool
         }
     }
     true
-}
-
-/// The kind of a term, where it is well-kinded.
-pub fn kind_of(sig: &Signature, t: &Plain) -> SortId {
-    match t {
-        Plain::Var(x) => sig.kind(x.sort),
-        Plain::App(f, _) => match first_rank(sig, *f) {
-            Some(rank) => sig.kind(rank.result),
-            None => SortId(0),
-        },
-    }
-}
-
-/// Whether the term is well-kinded.
-pub fn is_term(sig: &Signature, t: &Plain) -> bool
-    ensures { IsTrue result → IsTerm sig.now (term t.now) }
-{
-    let k = kind_of(sig, t);
-    has_kind(sig, t, k)
 }
 
 /// The terms, with those that the operator takes as its arguments.
