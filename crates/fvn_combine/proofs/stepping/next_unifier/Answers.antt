@@ -2,7 +2,8 @@
 use Rattle.std.proofs.Common.{sym, ◌∙◌, subst, inl, inr, arith}
 use Rattle.std.proofs.lemmas.Result.{err_from_is_err_and}
 use Rattle.fvn_combine.specs.Search.{IsCoveredAt, IsOpenedAt}
-use Rattle.fvn_combine.specs.inner.Found.{CoversBy, IsDrawnFrom, IsStep, IsAheadAsBefore, AreFound}
+use Rattle.fvn_combine.specs.inner.Found.{CoversBy, IsDrawnFrom, IsStep, IsAheadAsBefore, AreFound, LeavesLess}
+use Rattle.fvn_combine.specs.Work.{left_at}
 use Rattle.fvn_combine.proofs.Ahead.{frame_kept, frame_gives, nothing_ahead, ahead_after}
 use Rattle.fvn_combine.proofs.stepping.next_unifier.Goals as goal
 
@@ -57,6 +58,11 @@ steps-preserved c =
       closed = c.take_step.ensures.closed;
       opened = s.1;
       same = ahead_after k c.args.tree.now c.args.frame.now c.steps.tree c.steps.frame c.steps.invariant.same none c.next_in.new.frame c.next_in.ensures.fewer c.take_step.new.tree c.take_step.new.frame s;
+      less =
+          let less = subst (LeavesLess (left_at k c.steps.frame) (left_at k c.next_in.new.frame)) c.in-Nothing.is c.in_ok-next_in.ensures.falls in
+          let no_more = s.3 in
+          let l = c.steps.invariant.less in
+          omega (arith, less, no_more, l);
     }
 
 pub returns-in-End-clause-opened : goal.returns-in-End-clause-opened
@@ -74,3 +80,10 @@ returns-in-End-clause-found c =
           (subst (IsAheadAsBefore k c.args.tree.now c.args.frame.now c.steps.tree) (sym s.2)
           (frame_kept k c.args.tree.now c.args.frame.now c.steps.tree c.steps.frame c.steps.invariant.same c.next_in.new.frame (λ u h. absurd (none u h)) c.next_in.ensures.fewer)),
     )
+
+pub returns-in-Unifier-clause-falls : goal.returns-in-Unifier-clause-falls
+returns-in-Unifier-clause-falls c =
+    let k = c.args.task.now in
+    let less = subst (LeavesLess (left_at k c.steps.frame) (left_at k c.next_in.new.frame)) c.in-Unifier.is c.in_ok-next_in.ensures.falls in
+    let l = c.steps.invariant.less in
+    omega (arith, less, l)

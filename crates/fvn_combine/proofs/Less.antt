@@ -1,0 +1,107 @@
+-- What is left to do falls: how many choices a frame has, and what each step leaves.
+use Rattle.std.proofs.Common.{◌≡◌, ℕ, zero, suc, ◌+◌, ◌*◌, ◌^◌, ◌<◌, ◌≤◌, List, [], ◌∷◌, length, map, get_or, slice_index_or, refl, sym, ap, ◌∙◌, subst, inl, inr, arith, All, Contains, Option, Some, None}
+use Rattle.std.specs.Prelude.{slice_get}
+use Rattle.std.proofs.Math.Nat.{one-le-pow, pow-le-pow_right, mul-le-mul_right}
+use Rattle.std.proofs.lemmas.Nat.{mul-le}
+use Rattle.std.proofs.lemmas.Grind.{pow_more}
+use Rattle.std.proofs.lemmas.List.{length-map}
+use Rattle.std.proofs.lemmas.List.Elements.{All-tail, All-contains}
+use Rattle.std.proofs.lemmas.Option.{slice_get_cases, slice_get-get_or}
+use Rattle.fvn_base.proofs.Membership.{map_contains}
+use Rattle.fvn_base.proofs.Pigeonhole.{length-le_below}
+use Rattle.fvn_base.specs.declared.limits.TheConstants.{MINIMAL_SOLUTIONS}
+use Rattle.fvn_terms.specs.declared.plain.OpId.{OpId}
+use Rattle.fvn_lindio.specs.declared.system.Solution.{Solution}
+use Rattle.fvn_nodes.specs.States.{class_of}
+use Rattle.fvn_nodes.specs.Trees.{weight}
+use Rattle.fvn_nodes.specs.declared.state.State.{State}
+use Rattle.fvn_frames.specs.Readings.{IsReading}
+use Rattle.fvn_frames.specs.declared.reading.Reading.{Reading}
+use Rattle.fvn_wheels.specs.Weight.{product}
+use Rattle.fvn_wheels.specs.Wheels.{Wheel, counts_of}
+use Rattle.fvn_openings.specs.Bases.{AreBases}
+use Rattle.fvn_openings.specs.Laws.{SumOperatorsAreFew}
+use Rattle.fvn_openings.specs.Sharing.{AreSharedClasses, classes_of}
+use Rattle.fvn_openings.specs.Tags.{tag_counts}
+use Rattle.fvn_openings.specs.Turning.{AreWheels}
+use Rattle.fvn_openings.specs.declared.sharing.SharedClass.{SharedClass}
+use Rattle.fvn_drawing.specs.declared.drawing.Drawn.{Drawn}
+use Rattle.fvn_drawing.specs.declared.drawing.Drawn.TheVariants.{Nothing, TooLarge, Unifier}
+use Rattle.fvn_combine.specs.Tasks.{Combining}
+use Rattle.fvn_combine.specs.Work.{most_tags, most_numbers, left_at, left_by}
+use Rattle.fvn_combine.specs.declared.opened.Frame.{Frame}
+use Rattle.fvn_combine.specs.inner.Found.{LeavesLess}
+
+-- at most n numbers, none above b, have a product of at most b ^ n
+product-le : {X : Type 0} (f : X → ℕ) (b n : ℕ) (xs : List X) → 0 < b → All (λ x. f x ≤ b) xs → length xs ≤ n → product (map f xs) ≤ b ^ n
+product-le f b n [] some all few = one-le-pow n b some
+product-le f b zero (x ∷ xs) some all few = absurd (let l : length xs + 1 ≤ 0 = few in omega (arith, l))
+product-le f b (suc n) (x ∷ xs) some all few =
+    let first : f x ≤ b = all 0 x (omega arith) in
+    let rest = product-le f b n xs some (All-tail (λ y. f y ≤ b) x xs all) (omega (arith, few)) in
+    mul-le (f x) (product (map f xs)) b (b ^ n) first rest
+
+-- what falls by one makes room for what is below the step
+pub falls-le : (step before after left more : ℕ) → after < before → left ≤ step → after * step + left ≤ before * step + more
+falls-le step before after left more less small =
+    let next : after + 1 ≤ before = omega (arith, less) in
+    let l = mul-le-mul_right step next in
+    let e : (after + 1) * step ≡ after * step + step = ring in
+    omega (arith, l, e, small)
+
+-- what is left beside is kept
+pub less_beside : (n before after : ℕ) (r : Drawn) → LeavesLess before after r → LeavesLess (n + before) (n + after) r
+less_beside n before after Nothing h = omega (arith, h)
+less_beside n before after (TooLarge list) h = tt
+less_beside n before after (Unifier g) h = omega (arith, h)
+
+-- less than what is no more than at first is less than at first
+pub less_than_first : (first before after : ℕ) (r : Drawn) → before ≤ first → LeavesLess before after r → LeavesLess first after r
+less_than_first first before after Nothing m h = omega (arith, m, h)
+less_than_first first before after (TooLarge list) m h = tt
+less_than_first first before after (Unifier g) m h = omega (arith, m, h)
+
+two : 0 < 2
+two = omega arith
+
+module _ (k : Combining) (few : SumOperatorsAreFew) (s : State) (r : Reading) (reading : IsReading k.declarations k.table (class_of s) r) where
+  few_sums : length r.sums ≤ length k.table.subterms
+  few_sums = few k.declarations k.table (class_of s) r reading
+
+  few_shared : (shared : List SharedClass) → AreSharedClasses k.declarations k.table (class_of s) shared → length shared ≤ length k.table.nodes
+  few_shared shared are =
+      let n = length-le_below (classes_of shared) (length k.table.nodes) are.distinct within in
+      let m = length-map shared (λ (c : SharedClass). c.class) in
+      omega (arith, n, m)
+    where
+      within : (x : ℕ) → Contains (classes_of shared) x → x < length k.table.nodes
+      within x m =
+          let c = map_contains (λ (c : SharedClass). c.class) shared x m in
+          let each = All-contains (λ (a : SharedClass). a.class < length k.table.nodes) shared c.0 (λ i d l. (are.each i d l).within) c.1.0 in
+          subst (λ y. y < length k.table.nodes) c.1.1 each
+
+  -- a frame has few tags
+  pub few_tags : (shared : List SharedClass) → AreSharedClasses k.declarations k.table (class_of s) shared → All (λ c. length c.users ≤ length r.sums) shared → product (tag_counts shared) ≤ most_tags k
+  unfolding most_tags
+  few_tags shared are users = product-le (λ (c : SharedClass). length c.users + 1) (length k.table.subterms + 1) (length k.table.nodes) shared (omega arith)
+      (λ i d l. let u = users i d l in let m = few_sums in omega (arith, u, m)) (few_shared shared are)
+
+  -- and few numbers under each of them
+  pub few_numbers : (bases : List (List Solution)) → AreBases r.sums bases → (tag : ℕ → Option OpId) (wheels : List Wheel) → AreWheels k.declarations k.table (class_of s) tag r.sums bases wheels → product (counts_of wheels) ≤ most_numbers k
+  unfolding most_numbers
+  few_numbers bases are tag wheels asked = product-le (λ (w : Wheel). 2 ^ length w.basis) (2 ^ MINIMAL_SOLUTIONS) (length k.table.subterms) wheels (one-le-pow MINIMAL_SOLUTIONS 2 two)
+      (λ i d l. power (length (get_or wheels i d).basis) MINIMAL_SOLUTIONS (few_each i d l))
+      (let m = few_sums in let n = asked.as_many in omega (arith, m, n))
+    where
+      power : (i j : ℕ) → i ≤ j → 2 ^ i ≤ 2 ^ j
+      power i j l = pow-le-pow_right two l
+
+      few_each : (i : ℕ) (d : Wheel) → i < length wheels → length (get_or wheels i d).basis ≤ MINIMAL_SOLUTIONS
+      few_each i d l = elim (slice_get_cases r.sums i).1 [
+        | inl e ↦ subst (λ b. length b ≤ MINIMAL_SOLUTIONS) (sym (asked.each i e.0 (get_or wheels i d) e.2 (slice_get-get_or wheels i d l)).over) (are.each i e.0 e.2).few
+        | inr n ↦ let m = asked.as_many in let o = n.0 in absurd (omega (arith, l, m, o))
+      ]
+
+-- a tree that falls makes room for a frame
+pub left_falls : (k : Combining) (before after : List State) (frame opened : Option Frame) → weight after < weight before → left_at k opened ≤ most_tags k * most_numbers k → left_by k after opened ≤ left_by k before frame
+left_falls k before after frame opened falls few = falls-le (most_tags k * most_numbers k) (weight before) (weight after) (left_at k opened) (left_at k frame) falls few
