@@ -1,8 +1,7 @@
 -- What is left to do falls: how many choices a frame has, and what each step leaves.
-use Rattle.std.proofs.Common.{◌≡◌, ℕ, zero, suc, ◌+◌, ◌*◌, ◌^◌, ◌<◌, ◌≤◌, List, [], ◌∷◌, length, map, get_or, slice_index_or, refl, sym, ap, ◌∙◌, subst, inl, inr, arith, All, Contains, Option, Some, None}
-use Rattle.std.specs.Prelude.{slice_get}
-use Rattle.std.proofs.Math.Nat.{one-le-pow, pow-le-pow_right, mul-le-mul_right}
-use Rattle.std.proofs.lemmas.Nat.{mul-le}
+use Rattle.std.proofs.Common.{◌≡◌, ℕ, zero, suc, ◌+◌, ◌*◌, ◌^◌, ◌<◌, ◌≤◌, List, [], ◌∷◌, length, map, get_or, sym, ap, ◌∙◌, subst, inl, inr, arith, All, Contains, Option}
+use Rattle.std.proofs.Math.Nat.{one-le-pow, pow-le-pow_right, mul-le-mul_right, mul_comm, add-mul}
+use Rattle.std.proofs.lemmas.Nat.{mul-le, pow_pos}
 use Rattle.std.proofs.lemmas.Grind.{pow_more}
 use Rattle.std.proofs.lemmas.List.{length-map}
 use Rattle.std.proofs.lemmas.List.Elements.{All-tail, All-contains}
@@ -25,41 +24,41 @@ use Rattle.fvn_openings.specs.Sharing.{AreSharedClasses, classes_of}
 use Rattle.fvn_openings.specs.Tags.{tag_counts}
 use Rattle.fvn_openings.specs.Turning.{AreWheels}
 use Rattle.fvn_openings.specs.declared.sharing.SharedClass.{SharedClass}
-use Rattle.fvn_drawing.specs.declared.drawing.Drawn.{Drawn}
-use Rattle.fvn_drawing.specs.declared.drawing.Drawn.TheVariants.{Nothing, TooLarge, Unifier}
 use Rattle.fvn_combine.specs.Tasks.{Combining}
 use Rattle.fvn_combine.specs.Work.{most_tags, most_numbers, left_at, left_by}
 use Rattle.fvn_combine.specs.declared.opened.Frame.{Frame}
-use Rattle.fvn_combine.specs.inner.Found.{LeavesLess}
 
 -- at most n numbers, none above b, have a product of at most b ^ n
 product-le : {X : Type 0} (f : X → ℕ) (b n : ℕ) (xs : List X) → 0 < b → All (λ x. f x ≤ b) xs → length xs ≤ n → product (map f xs) ≤ b ^ n
 product-le f b n [] some all few = one-le-pow n b some
-product-le f b zero (x ∷ xs) some all few = absurd (let l : length xs + 1 ≤ 0 = few in omega (arith, l))
+product-le f b zero (x ∷ xs) some all few = absurd (omega (arith, few))
 product-le f b (suc n) (x ∷ xs) some all few =
     let first : f x ≤ b = all 0 x (omega arith) in
     let rest = product-le f b n xs some (All-tail (λ y. f y ≤ b) x xs all) (omega (arith, few)) in
-    mul-le (f x) (product (map f xs)) b (b ^ n) first rest
+    let e : suc n ≡ n + 1 = omega arith in
+    let power : b ^ suc n ≡ b ^ n * b = ap (λ m. b ^ m) e ∙ pow_more b n in
+    let both = mul-le (product (map f xs)) (f x) (b ^ n) b rest first in
+    subst (λ m. f x * product (map f xs) ≤ m) (sym power) (subst (λ m. m ≤ b ^ n * b) (mul_comm (product (map f xs)) (f x)) both)
+
+-- there is room in a step
+room : (p q step all left more : ℕ) → all ≤ q → all ≡ p + 1 * step → left ≤ step → p + left ≤ q + more
+room p q step all left more a e l = omega (arith, a, e, l)
 
 -- what falls by one makes room for what is below the step
 pub falls-le : (step before after left more : ℕ) → after < before → left ≤ step → after * step + left ≤ before * step + more
 falls-le step before after left more less small =
     let next : after + 1 ≤ before = omega (arith, less) in
-    let l = mul-le-mul_right step next in
-    let e : (after + 1) * step ≡ after * step + step = ring in
-    omega (arith, l, e, small)
+    room (after * step) (before * step) step ((after + 1) * step) left more (mul-le-mul_right step next) (add-mul after 1 step) small
 
--- what is left beside is kept
-pub less_beside : (n before after : ℕ) (r : Drawn) → LeavesLess before after r → LeavesLess (n + before) (n + after) r
-less_beside n before after Nothing h = omega (arith, h)
-less_beside n before after (TooLarge list) h = tt
-less_beside n before after (Unifier g) h = omega (arith, h)
+-- nothing beside
+pub alone-le : (a b : ℕ) → a ≤ b → a + 0 ≤ b
+alone-le a b l = omega (arith, l)
 
--- less than what is no more than at first is less than at first
-pub less_than_first : (first before after : ℕ) (r : Drawn) → before ≤ first → LeavesLess before after r → LeavesLess first after r
-less_than_first first before after Nothing m h = omega (arith, m, h)
-less_than_first first before after (TooLarge list) m h = tt
-less_than_first first before after (Unifier g) m h = omega (arith, m, h)
+beside-le : (n a b : ℕ) → a ≤ b → n + a ≤ n + b
+beside-le n a b l = omega (arith, l)
+
+beside-lt : (n a b : ℕ) → a < b → n + a < n + b
+beside-lt n a b l = omega (arith, l)
 
 two : 0 < 2
 two = omega arith
@@ -89,7 +88,7 @@ module _ (k : Combining) (few : SumOperatorsAreFew) (s : State) (r : Reading) (r
   -- and few numbers under each of them
   pub few_numbers : (bases : List (List Solution)) → AreBases r.sums bases → (tag : ℕ → Option OpId) (wheels : List Wheel) → AreWheels k.declarations k.table (class_of s) tag r.sums bases wheels → product (counts_of wheels) ≤ most_numbers k
   unfolding most_numbers
-  few_numbers bases are tag wheels asked = product-le (λ (w : Wheel). 2 ^ length w.basis) (2 ^ MINIMAL_SOLUTIONS) (length k.table.subterms) wheels (one-le-pow MINIMAL_SOLUTIONS 2 two)
+  few_numbers bases are tag wheels asked = product-le (λ (w : Wheel). 2 ^ length w.basis) (2 ^ MINIMAL_SOLUTIONS) (length k.table.subterms) wheels (pow_pos MINIMAL_SOLUTIONS)
       (λ i d l. power (length (get_or wheels i d).basis) MINIMAL_SOLUTIONS (few_each i d l))
       (let m = few_sums in let n = asked.as_many in omega (arith, m, n))
     where
@@ -105,3 +104,10 @@ module _ (k : Combining) (few : SumOperatorsAreFew) (s : State) (r : Reading) (r
 -- a tree that falls makes room for a frame
 pub left_falls : (k : Combining) (before after : List State) (frame opened : Option Frame) → weight after < weight before → left_at k opened ≤ most_tags k * most_numbers k → left_by k after opened ≤ left_by k before frame
 left_falls k before after frame opened falls few = falls-le (most_tags k * most_numbers k) (weight before) (weight after) (left_at k opened) (left_at k frame) falls few
+
+-- a frame that falls leaves less beside the states
+pub frame_falls : (k : Combining) (states : List State) (before after : Option Frame) → left_at k after < left_at k before → left_by k states after < left_by k states before
+frame_falls k states before after l = beside-lt (weight states * (most_tags k * most_numbers k)) (left_at k after) (left_at k before) l
+
+pub frame_stays : (k : Combining) (states : List State) (before after : Option Frame) → left_at k after ≤ left_at k before → left_by k states after ≤ left_by k states before
+frame_stays k states before after l = beside-le (weight states * (most_tags k * most_numbers k)) (left_at k after) (left_at k before) l

@@ -12,11 +12,11 @@ use Rattle.fvn_combine.specs.declared.opened.Opened.{Opened}
 use Rattle.fvn_combine.specs.declared.opened.Frame.{Frame}
 
 -- the most lists of tags at a frame: a node has none, or one of the operators that head a subterm
-pub most_tags : Combining → ℕ
+unfoldable pub most_tags : Combining → ℕ
 most_tags k = (length k.table.subterms + 1) ^ length k.table.nodes
 
 -- the most lists of numbers under tags: each sum operator, which heads a subterm, has few minimal solutions
-pub most_numbers : Combining → ℕ
+unfoldable pub most_numbers : Combining → ℕ
 most_numbers k = (2 ^ MINIMAL_SOLUTIONS) ^ length k.table.subterms
 
 -- how many lists of numbers are left under the current tags, at most

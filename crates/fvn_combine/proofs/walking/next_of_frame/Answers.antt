@@ -1,5 +1,6 @@
 -- What is to come under the current tags and later, one list of tags after another.
-use Rattle.std.proofs.Common.{ap, sym, ◌∙◌, subst, inl, inr, arith}
+use Rattle.std.proofs.Common.{◌<◌, ◌≤◌, ap, sym, ◌∙◌, subst, inl, inr, arith}
+use Rattle.std.proofs.Math.Nat.{le_trans, lt_of_lt_of_le}
 use Rattle.std.proofs.lemmas.Result.{err_from_is_err_and}
 use Rattle.fvn_wheels.specs.Tags.{Tagging, tags_left}
 use Rattle.fvn_combine.specs.Frames.{IsCoveredNow, IsCoveredToCome}
@@ -82,10 +83,8 @@ tags-preserved c =
       fewer = λ u h. c.tags.invariant.fewer u (to_come_was k s old new c.next_of_current.ensures.same c.next_of_current.ensures.fewer u (inr (turned.3 u h)));
       kept = λ u h. turned.2 u (later_alone k s old new c.next_of_current.ensures.same none u (c.tags.invariant.kept u h));
       less =
-          let less = subst (LeavesLess (frame_left k old) (frame_left k new)) c.in-Nothing.is c.in_ok-next_of_current.ensures.falls in
-          let no_more = turned.4 in
-          let l = c.tags.invariant.less in
-          omega (arith, less, no_more, l);
+          let less : frame_left k new ≤ frame_left k old = subst (LeavesLess (frame_left k old) (frame_left k new)) c.in-Nothing.is c.in_ok-next_of_current.ensures.falls in
+          le_trans turned.4 (le_trans less c.tags.invariant.less);
     }
 
 pub tags-smaller : goal.tags-smaller
@@ -101,16 +100,13 @@ tags-smaller c =
 pub returns-in-Unifier-clause-falls : goal.returns-in-Unifier-clause-falls
 returns-in-Unifier-clause-falls c =
     let k = c.args.task.now in
-    let less = subst (LeavesLess (frame_left k c.tags.opened) (frame_left k c.next_of_current.new.opened)) c.in-Unifier.is c.in_ok-next_of_current.ensures.falls in
-    let l = c.tags.invariant.less in
-    omega (arith, less, l)
+    let less : frame_left k c.next_of_current.new.opened < frame_left k c.tags.opened = subst (LeavesLess (frame_left k c.tags.opened) (frame_left k c.next_of_current.new.opened)) c.in-Unifier.is c.in_ok-next_of_current.ensures.falls in
+    lt_of_lt_of_le less c.tags.invariant.less
 
 pub returns-then-not-branch-clause-falls : goal.returns-then-not-branch-clause-falls
 returns-then-not-branch-clause-falls c =
     let k = c.args.task.now in
     let new = c.next_of_current.new.opened in
-    let less = subst (LeavesLess (frame_left k c.tags.opened) (frame_left k new)) c.in-Nothing.is c.in_ok-next_of_current.ensures.falls in
+    let less : frame_left k new ≤ frame_left k c.tags.opened = subst (LeavesLess (frame_left k c.tags.opened) (frame_left k new)) c.in-Nothing.is c.in_ok-next_of_current.ensures.falls in
     let over = subst (IsTurned k c.args.state.now new c.turn.new.opened) c.if-not-branch.true c.in_ok-turn.ensures.turned in
-    let same = ap (frame_left k) over.0 in
-    let l = c.tags.invariant.less in
-    omega (arith, less, same, l)
+    subst (λ o. frame_left k o ≤ frame_left k c.args.opened.now) (sym over.0) (le_trans less c.tags.invariant.less)
