@@ -8,3 +8,4 @@ mod Ahead
 mod OneKind
 mod Opening
 mod Ends
+mod Less

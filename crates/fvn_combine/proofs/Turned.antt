@@ -1,5 +1,5 @@
 -- The next tags are made the current ones.
-use Rattle.std.proofs.Common.{◌≡◌, ℕ, ◌<◌, List, length, refl, sym, ap, ◌∙◌, subst, inl, inr, Option, Some, true}
+use Rattle.std.proofs.Common.{◌≡◌, ℕ, ◌<◌, ◌≤◌, List, length, refl, sym, ap, ◌∙◌, subst, inl, inr, Option, Some, true}
 use Rattle.std.specs.Prelude.{◌⊎◌, ◌↔◌}
 use Rattle.std.specs.List.{AllZip}
 use Rattle.std.proofs.lemmas.Slice.Zip.{AllZip-long}
@@ -11,7 +11,7 @@ use Rattle.fvn_nodes.specs.States.{class_of}
 use Rattle.fvn_nodes.specs.declared.state.State.{State}
 use Rattle.fvn_plans.specs.Choosing.{Choice}
 use Rattle.fvn_wheels.specs.Tags.{Tagging, PendingTags, tags_left}
-use Rattle.fvn_wheels.specs.Wheels.{Odometer, IsChoice, PendingChoices}
+use Rattle.fvn_wheels.specs.Wheels.{Odometer, IsChoice, PendingChoices, choices_left}
 use Rattle.fvn_asking.specs.Listed.{tag_in, systems_of, choice_of}
 use Rattle.fvn_obeying.specs.CoveringChoices.{IsCovering}
 use Rattle.fvn_openings.specs.Laws.{ListedChoicesArePossible}
@@ -21,9 +21,11 @@ use Rattle.fvn_combine.specs.Tasks.{Combining, IsCombining}
 use Rattle.fvn_combine.specs.Frames.{IsTurning, IsCoveredBy, IsCoveredLater, IsCoveredToCome, IsOpened}
 use Rattle.fvn_combine.specs.declared.opened.Turning.{Turning}
 use Rattle.fvn_combine.specs.declared.opened.Opened.{Opened}
+use Rattle.fvn_combine.specs.Work.{most_numbers, numbers_left}
 use Rattle.fvn_combine.specs.inner.Found.{IsTurned}
+use Rattle.fvn_combine.proofs.Less.{falls-le}
 
-module _ (k : Combining) (is : IsCombining k) (possible : ListedChoicesArePossible) (s : State) (o : Opened) (opened : IsOpened k s o) (tags : List (Option OpId)) (options : List ℕ) (are : AreTags o.shared options tags) (wheels : Odometer) (asked : AreWheels k.declarations k.table (class_of s) (tag_in tags) o.reading.sums o.bases wheels.wheels) (all : (numbers : List ℕ) → AllZip IsChoice wheels.wheels numbers → PendingChoices wheels numbers) (after : Tagging) (counts : after.counts ≡ o.tags.counts) (now : o.tags.current ≡ Some options) (taken : (n : List ℕ) → PendingTags o.tags n ↔ ((o.tags.current ≡ Some n) ⊎ PendingTags after n)) (falls : tags_left after < tags_left o.tags) where
+module _ (k : Combining) (is : IsCombining k) (possible : ListedChoicesArePossible) (s : State) (o : Opened) (opened : IsOpened k s o) (tags : List (Option OpId)) (options : List ℕ) (are : AreTags o.shared options tags) (wheels : Odometer) (asked : AreWheels k.declarations k.table (class_of s) (tag_in tags) o.reading.sums o.bases wheels.wheels) (all : (numbers : List ℕ) → AllZip IsChoice wheels.wheels numbers → PendingChoices wheels numbers) (after : Tagging) (counts : after.counts ≡ o.tags.counts) (now : o.tags.current ≡ Some options) (taken : (n : List ℕ) → PendingTags o.tags n ↔ ((o.tags.current ≡ Some n) ⊎ PendingTags after n)) (falls : tags_left after < tags_left o.tags) (no_more : choices_left wheels ≤ most_numbers k) where
   abbrev current : Turning
   current = record { tags = tags; wheels = wheels }
 
@@ -80,4 +82,4 @@ module _ (k : Combining) (is : IsCombining k) (possible : ListedChoicesArePossib
   }
 
   pub turned : IsTurned k s o turned_frame true
-  turned = (still_opened, falls, to_come, was_to_come)
+  turned = (still_opened, falls, to_come, was_to_come, falls-le (most_numbers k) (tags_left o.tags) (tags_left after) (choices_left wheels) (numbers_left o.turning) falls no_more)

@@ -4,4 +4,5 @@ pub mod Frames
 pub mod Endings
 pub mod Search
 pub mod Advancing
+pub mod Work
 pub mod inner

@@ -1,11 +1,12 @@
 //! The unifiers of a problem on kinds, one after another.
-ghost use Rattle.std.specs.Prelude.{◌≡◌, ◌≤◌, ◌<◌, ◌-◌, ◌^◌, Some, None, IfOk};
+ghost use Rattle.std.specs.Prelude.{◌≡◌, ◌≤◌, ◌<◌, ◌-◌, ◌^◌, Some, None, IfOk, IfSome};
 ghost use Rattle.fvn_base.specs.declared.limits.TheConstants.{TERM_SYMBOLS};
 ghost use Rattle.fvn_terms.specs.Substitution.{Substitution};
 ghost use Rattle.fvn_flat.specs.Solving.{IsGiven, problem_of, symbols_of_pairs};
 ghost use Rattle.fvn_flat.specs.SolvedLists.{IsKindUnifier};
 ghost use Rattle.fvn_combine.specs.Advancing.{IsOf, IsToCome, IsAdvanced, IsAgain};
 ghost use Rattle.fvn_combine.specs.Search.{IsSearch};
+ghost use Rattle.fvn_combine.specs.Work.{work_left};
 ghost use Rattle.fvn_combine.specs.inner.Parts.{search_by, search_of};
 ghost use Rattle.fvn_combine.specs.declared.ending.Ended.{Ended as Cause};
 
@@ -66,6 +67,9 @@ fn next_of_parts(
     ensures search { IsSearch (search_by task.now tree.new frame.new ended.new) }
     ensures advanced { IsAdvanced (search_by task.now tree.old frame.old ended.old)
         (search_by task.now tree.new frame.new ended.new) result }
+    ensures falls { IfOk result (λ o. IfSome o (λ g.
+        work_left (search_by task.now tree.new frame.new ended.new)
+        < work_left (search_by task.now tree.old frame.old ended.old))) }
 {
     match next_unifier(task, tree, frame)? {
         Found::Nothing => Ok(None),
@@ -85,6 +89,8 @@ fn next_of(parts: &mut Parts) -> Result<Option<Subst>, CombineEnd>
     ensures search { IsSearch (search_of parts.new) }
     ensures same { parts.new.task ≡ parts.old.task }
     ensures advanced { IsAdvanced (search_of parts.old) (search_of parts.new) result }
+    ensures falls { IfOk result (λ o. IfSome o (λ g.
+        work_left (search_of parts.new) < work_left (search_of parts.old))) }
 {
     next_of_parts(
         &parts.task,
@@ -133,6 +139,8 @@ impl<'a> Combiner<'a> {
     pub fn advance(&mut self) -> Result<Option<Subst>, CombineEnd>
         ensures same { self.new.combining ≡ self.old.combining }
         ensures advanced { self.old.ended ≡ None → IsAdvanced self.old self.new result }
+        // What is left to do falls with each unifier that is given.
+        ensures falls { IfOk result (λ o. IfSome o (λ g. work_left self.new < work_left self.old)) }
         // After an end.
         ensures again { (e : Cause) → self.old.ended ≡ Some e → IsAgain self.old.combining e result }
         ensures stays { (e : Cause) → self.old.ended ≡ Some e → self.new ≡ self.old }

@@ -1,5 +1,5 @@
 //! Frames that are open.
-ghost use Rattle.std.specs.Prelude.{◌≡◌, IfOk, OnOk, OnErr, IsTrue};
+ghost use Rattle.std.specs.Prelude.{◌≡◌, ◌*◌, ◌≤◌, IfOk, OnOk, OnErr, IsTrue};
 ghost use Rattle.fvn_terms.specs.Substitution.{Substitution};
 ghost use Rattle.fvn_flat.specs.Solving.{problem_of};
 ghost use Rattle.fvn_nodes.specs.States.{class_of};
@@ -11,13 +11,16 @@ ghost use Rattle.fvn_obeying.specs.CoveringChoices.{IsCovering};
 ghost use Rattle.fvn_openings.specs.Bases.{AreBases};
 ghost use Rattle.fvn_binding.specs.Ready.{IsReady};
 ghost use Rattle.fvn_combine.specs.Frames.{IsOpened, IsCoveredToCome};
+ghost use Rattle.fvn_combine.specs.Work.{most_tags, most_numbers, frame_left};
 
 use crate::task::Task;
 use fvn_base::Seq;
 use fvn_frames::Reading;
 use fvn_lindio::Solution;
 use fvn_nodes::State;
-use fvn_openings::{SharedClass, covering_choices_are_listed, option_counts, shared};
+use fvn_openings::{
+    SharedClass, covering_choices_are_listed, option_counts, shared, sum_operators_are_few,
+};
 use fvn_sums::tables_are_small;
 use fvn_terms::{NoMemory, OpId};
 use fvn_wheels::{Tags, Wheels};
@@ -61,8 +64,10 @@ pub(crate) fn open(
     ensures all { IfOk result (λ o. (u : Substitution) (c : InChoice)
         → IsCovering task.now.declarations (problem_of task.now.given) task.now.table state.now
         (systems_of o.reading o.bases) u c → IsCoveredToCome task.now state.now o u) }
+    ensures few { IfOk result (λ o. frame_left task.now o ≤ most_tags task.now * most_numbers task.now) }
 {
     task.recall();
+    sum_operators_are_few();
     covering_choices_are_listed();
     tables_are_small();
     let classes = shared(task.alloc, task.sig, &task.table, state, &reading)?;

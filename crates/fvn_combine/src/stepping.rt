@@ -2,7 +2,8 @@
 ghost use Rattle.std.specs.Prelude.{◌≡◌, IfOk, OnErr};
 ghost use Rattle.fvn_nodes.specs.Trees.{AreClosed};
 ghost use Rattle.fvn_combine.specs.Search.{IsOpenedAt};
-ghost use Rattle.fvn_combine.specs.inner.Found.{IsStep, AreFound};
+ghost use Rattle.fvn_combine.specs.inner.Found.{IsStep, AreFound, IsLessLeft};
+ghost use Rattle.fvn_combine.specs.Work.{left_by};
 
 use crate::ending::Ended;
 use crate::looking::{Looked, look};
@@ -79,6 +80,7 @@ pub(crate) fn next_unifier(
     ensures closed { AreClosed task.now.declarations task.now.table tree.new }
     ensures opened { IsOpenedAt task.now frame.new }
     ensures found { AreFound task.now tree.old frame.old tree.new frame.new result }
+    ensures falls { IfOk result (IsLessLeft (left_by task.now tree.old frame.old) (left_by task.now tree.new frame.new)) }
 {
     'steps: loop {
         match next_in(task, frame)? {

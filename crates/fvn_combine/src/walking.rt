@@ -8,7 +8,9 @@ ghost use Rattle.fvn_openings.specs.Sharing.{AreSharedClasses};
 ghost use Rattle.fvn_binding.specs.Ready.{IsReady};
 ghost use Rattle.fvn_combine.specs.Frames.{IsTurning, IsOpened, IsCoveredUnder, IsCoveredNow, IsCoveredToCome};
 ghost use Rattle.fvn_combine.specs.Search.{IsCoveredAt, IsOpenedAt};
-ghost use Rattle.fvn_combine.specs.inner.Found.{AreDrawnFrom, IsSameButCurrent, IsTurned};
+ghost use Rattle.fvn_combine.specs.inner.Found.{AreDrawnFrom, IsSameButCurrent, IsTurned, LeavesLess};
+ghost use Rattle.fvn_combine.specs.Work.{frame_left, left_at};
+ghost use Rattle.fvn_wheels.specs.Wheels.{choices_left};
 
 use crate::opened::{Frame, Opened, Turning};
 use crate::task::Task;
@@ -17,7 +19,9 @@ use fvn_drawing::{Drawn, draw};
 use fvn_frames::Reading;
 use fvn_lindio::Solution;
 use fvn_nodes::State;
-use fvn_openings::{SharedClass, listed_choices_are_possible, tags_of, wheels};
+use fvn_openings::{
+    SharedClass, listed_choices_are_possible, sum_operators_are_few, tags_of, wheels,
+};
 use fvn_sums::tables_are_small;
 use fvn_terms::NoMemory;
 
@@ -42,6 +46,7 @@ fn next_of_turning(
     ensures drawn { AreDrawnFrom task.now
         (IsCoveredUnder task.now state.now reading.now bases.now turning.old)
         (IsCoveredUnder task.now state.now reading.now bases.now turning.new) result }
+    ensures falls { IfOk result (LeavesLess (choices_left turning.old.wheels) (choices_left turning.new.wheels)) }
 {
     let _shared = shared;
     task.recall();
@@ -85,6 +90,7 @@ fn next_of_current(task: &Task, state: &State, opened: &mut Opened) -> Result<Dr
         → IsCoveredNow task.now state.now opened.old u }
     ensures drawn { AreDrawnFrom task.now (IsCoveredNow task.now state.now opened.old)
         (IsCoveredNow task.now state.now opened.new) result }
+    ensures falls { IfOk result (LeavesLess (frame_left task.now opened.old) (frame_left task.now opened.new)) }
 {
     match &mut opened.turning {
         None => Ok(Drawn::Nothing),
@@ -110,6 +116,7 @@ fn turn(task: &Task, state: &State, opened: &mut Opened) -> Result<bool, NoMemor
 {
     task.recall();
     listed_choices_are_possible();
+    sum_operators_are_few();
     let options = match opened.tags.current() {
         None => return Ok(false),
         Some(options) => options,
@@ -145,6 +152,7 @@ fn next_of_frame(task: &Task, state: &State, opened: &mut Opened) -> Result<Draw
         → IsCoveredToCome task.now state.now opened.old u }
     ensures drawn { AreDrawnFrom task.now (IsCoveredToCome task.now state.now opened.old)
         (IsCoveredToCome task.now state.now opened.new) result }
+    ensures falls { IfOk result (LeavesLess (frame_left task.now opened.old) (frame_left task.now opened.new)) }
 {
     'tags: loop {
         match next_of_current(task, state, opened)? {
@@ -166,6 +174,7 @@ pub(crate) fn next_in(task: &Task, frame: &mut Option<Frame>) -> Result<Drawn, N
         → IsCoveredAt task.now frame.new u → IsCoveredAt task.now frame.old u }
     ensures drawn { AreDrawnFrom task.now (IsCoveredAt task.now frame.old)
         (IsCoveredAt task.now frame.new) result }
+    ensures falls { IfOk result (LeavesLess (left_at task.now frame.old) (left_at task.now frame.new)) }
 {
     match frame {
         None => Ok(Drawn::Nothing),

@@ -1,5 +1,5 @@
 -- What is found when states are looked at and choices are gone through.
-use Rattle.std.specs.Prelude.{◌≡◌, ◌⊎◌, ◌↔◌, ◌<◌, Bool, true, false, List, [], ◌∷◌, ◌++◌, length, Option, Result, Ok, Err}
+use Rattle.std.specs.Prelude.{◌≡◌, ◌⊎◌, ◌↔◌, ℕ, ◌*◌, ◌<◌, ◌≤◌, Bool, true, false, List, [], ◌∷◌, ◌++◌, length, Option, Result, Ok, Err}
 use Rattle.fvn_base.specs.declared.memory.NoMemory.{NoMemory}
 use Rattle.fvn_terms.specs.Substitution.{Substitution}
 use Rattle.fvn_flat.specs.Bindings.{Bindings, value}
@@ -18,6 +18,7 @@ use Rattle.fvn_drawing.specs.declared.drawing.Drawn.TheVariants.{Nothing as None
 use Rattle.fvn_combine.specs.Tasks.{Combining}
 use Rattle.fvn_combine.specs.Frames.{IsOpened, IsCoveredLater, IsCoveredToCome}
 use Rattle.fvn_combine.specs.Search.{IsEnd, IsAdmitted, IsOpenedAt, IsCoveredAt}
+use Rattle.fvn_combine.specs.Work.{most_tags, most_numbers, frame_left, left_by}
 use Rattle.fvn_combine.specs.declared.opened.Opened.{Opened}
 use Rattle.fvn_combine.specs.declared.opened.Frame.{Frame}
 use Rattle.fvn_combine.specs.declared.stepping.Step.{Step}
@@ -43,6 +44,18 @@ module _ (k : Combining) (Before After : Substitution → Type 0) where
   AreDrawnFrom (Ok r) = IsDrawnFrom r
   AreDrawnFrom (Err e) = (u : Substitution) → Before u → After u
 
+-- where a unifier is given less is left than before, and where there is none no more
+abbrev pub LeavesLess : ℕ → ℕ → Drawn → Type 0
+LeavesLess before after NoneDrawn = after ≤ before
+LeavesLess before after (TooLarge list) = Unit {0}
+LeavesLess before after (Unifier g) = after < before
+
+-- where a unifier is found less is left than before
+abbrev pub IsLessLeft : ℕ → ℕ → Found → Type 0
+IsLessLeft before after Nothing = Unit {0}
+IsLessLeft before after (Ends e) = Unit {0}
+IsLessLeft before after (Given g) = after < before
+
 -- two open frames are the same but for the current tags
 pub record IsSameButCurrent (before after : Opened) : Type 0 where
   pub reading : after.reading ≡ before.reading
@@ -58,6 +71,7 @@ module _ (k : Combining) (s : State) (before after : Opened) where
       IsOpened k s after × (tags_left after.tags < tags_left before.tags)
       × ((u : Substitution) → IsCoveredLater k s before u → IsCoveredToCome k s after u)
       × ((u : Substitution) → IsCoveredToCome k s after u → IsCoveredLater k s before u)
+      × (frame_left k after ≤ frame_left k before)
 
 module _ (k : Combining) where
   -- the state admits the partition of u, which is a unifier on kinds
@@ -70,7 +84,9 @@ module _ (k : Combining) where
   IsLookedAt s (Open i j) = (i < length k.table.nodes) × (j < length k.table.nodes) × IsOpen s i j
   IsLookedAt s Passed = (u : Substitution) → IsAdmittedBy s u → ⊥
   IsLookedAt s (Refused f system) = IsBasisCause k.declarations k.given f system
-  IsLookedAt s (Framed o) = IsOpened k s o × ((u : Substitution) → IsAdmittedBy s u → IsCoveredToCome k s o u)
+  IsLookedAt s (Framed o) =
+      IsOpened k s o × ((u : Substitution) → IsAdmittedBy s u → IsCoveredToCome k s o u)
+      × (frame_left k o ≤ most_tags k * most_numbers k)
 
   -- this is so of the last state
   pub record IsLookedAtLast (states : List State) (r : Looked) : Type 0 where
@@ -99,6 +115,7 @@ module _ (k : Combining) where
     IsStep More =
         (weight states_after < weight states) × IsOpenedAt k frame_after
         × ((u : Substitution) → IsKindUnifier k.declarations (problem_of k.given) u → IsAdmitted k states u ↔ (IsAdmitted k states_after u ⊎ IsCoveredAt k frame_after u))
+        × (left_by k states_after frame_after ≤ left_by k states frame)
     IsStep (End e) = IsEnd k e × (states_after ≡ states) × (frame_after ≡ frame)
 
     -- all that was to come is so, and no more

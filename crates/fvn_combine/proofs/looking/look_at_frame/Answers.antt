@@ -28,4 +28,5 @@ pub returns : goal.returns
 returns c = (
   c.in_ok-frame-in-Ok.ensures.opened,
   covers_admitted c.args.task.now c.recall.ensures c.args.state.now c.frames_cover.ensures c.readings_tell.ensures c.bases_make_systems.ensures c.in_ok-frame-in-Ok.frame c.in_ok-frame-in-Ok.ensures.opened c.in_ok-frame-in-Ok.ensures.all,
+  c.in_ok-frame-in-Ok.ensures.few,
 )

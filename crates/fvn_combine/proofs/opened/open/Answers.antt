@@ -1,10 +1,15 @@
 -- The options are few, and each choice that covers a unifier is listed by options and numbers.
-use Rattle.std.proofs.Common.{◌<◌, length, sym, ap, ◌∙◌, subst, All}
+use Rattle.std.proofs.Common.{◌*◌, ◌<◌, ◌≤◌, length, sym, ap, ◌∙◌, subst, All}
+use Rattle.std.proofs.Math.Nat.{le_trans, mul-le-mul_right}
 use Rattle.fvn_nodes.specs.States.{class_of}
+use Rattle.fvn_wheels.specs.Weight.{product}
+use Rattle.fvn_wheels.specs.Tags.{tags_left}
 use Rattle.fvn_openings.specs.Sharing.{AreSharedClasses}
 use Rattle.fvn_openings.specs.Tags.{tag_counts}
 use Rattle.fvn_openings.specs.declared.sharing.SharedClass.{SharedClass}
 use Rattle.fvn_combine.specs.Tasks.{Combining}
+use Rattle.fvn_combine.specs.Work.{most_tags, most_numbers}
+use Rattle.fvn_combine.proofs.Less.{few_tags, alone-le}
 use Rattle.fvn_combine.proofs.Opening.{few_users, all_to_come}
 use Rattle.fvn_combine.proofs.opened.open.Goals as goal
 
@@ -22,3 +27,14 @@ returns-clause-all c =
     all_to_come c.args.task.now c.recall.ensures c.args.state.now c.args.reading c.from_vec.result c.from_vec-2.result c.in_ok-tags.tags c.requires.ready c.requires.reading
     (subst (AreSharedClasses c.args.task.now.declarations c.args.task.now.table (class_of c.args.state.now)) (sym c.from_vec-2.ensures) exact)
     c.covering_choices_are_listed.ensures counts c.in_ok-tags.ensures.all_pending
+
+pub returns-clause-few : goal.returns-clause-few
+returns-clause-few c =
+    let k = c.args.task.now in
+    let classes = c.in_ok-classes.classes.items in
+    let exact = subst (λ (k : Combining). AreSharedClasses k.declarations k.table (class_of c.args.state.now) classes) c.task.view_is c.in_ok-classes.ensures.exact in
+    let counts = c.in_ok-tags.ensures.counts ∙ c.in_ok-counts.ensures ∙ ap tag_counts c.as_slice.ensures.value in
+    let few = few_tags k c.sum_operators_are_few.ensures c.args.state.now c.args.reading c.requires.reading classes exact c.in_ok-classes.ensures.few in
+    let bounded = subst (λ l. tags_left c.in_ok-tags.tags ≤ product l) counts c.in_ok-tags.ensures.bounded in
+    let all : tags_left c.in_ok-tags.tags ≤ most_tags k = le_trans bounded few in
+    alone-le (tags_left c.in_ok-tags.tags * most_numbers k) (most_tags k * most_numbers k) (mul-le-mul_right (most_numbers k) all)

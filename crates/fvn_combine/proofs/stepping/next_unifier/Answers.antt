@@ -1,8 +1,11 @@
 -- What is ahead stays so until a unifier is found.
-use Rattle.std.proofs.Common.{sym, ◌∙◌, subst, inl, inr, arith}
+use Rattle.std.proofs.Common.{◌<◌, ◌≤◌, sym, ◌∙◌, subst, inl, inr, arith}
+use Rattle.std.proofs.Math.Nat.{le_trans, lt_of_lt_of_le}
 use Rattle.std.proofs.lemmas.Result.{err_from_is_err_and}
 use Rattle.fvn_combine.specs.Search.{IsCoveredAt, IsOpenedAt}
-use Rattle.fvn_combine.specs.inner.Found.{CoversBy, IsDrawnFrom, IsStep, IsAheadAsBefore, AreFound}
+use Rattle.fvn_combine.specs.inner.Found.{CoversBy, IsDrawnFrom, IsStep, IsAheadAsBefore, AreFound, LeavesLess}
+use Rattle.fvn_combine.specs.Work.{left_at}
+use Rattle.fvn_combine.proofs.Less.{frame_falls, frame_stays}
 use Rattle.fvn_combine.proofs.Ahead.{frame_kept, frame_gives, nothing_ahead, ahead_after}
 use Rattle.fvn_combine.proofs.stepping.next_unifier.Goals as goal
 
@@ -61,6 +64,9 @@ steps-preserved c =
       closed = c.take_step.ensures.closed;
       opened = s.1;
       same = ahead_after k c.args.tree.now c.args.frame.now c.steps.tree c.steps.frame c.steps.invariant.same none c.next_in.new.frame c.next_in.ensures.fewer c.take_step.new.tree c.take_step.new.frame s;
+      less =
+          let less : left_at k c.next_in.new.frame ≤ left_at k c.steps.frame = subst (LeavesLess (left_at k c.steps.frame) (left_at k c.next_in.new.frame)) c.in-Nothing.is c.in_ok-next_in.ensures.falls in
+          le_trans s.3 (le_trans (frame_stays k c.steps.tree c.steps.frame c.next_in.new.frame less) c.steps.invariant.less);
     }
 
 pub returns-in-End-clause-opened : goal.returns-in-End-clause-opened
@@ -78,3 +84,9 @@ returns-in-End-clause-found c =
           (subst (IsAheadAsBefore k c.args.tree.now c.args.frame.now c.steps.tree) (sym s.2)
           (frame_kept k c.args.tree.now c.args.frame.now c.steps.tree c.steps.frame c.steps.invariant.same c.next_in.new.frame (λ u h. absurd (none u h)) c.next_in.ensures.fewer)),
     )
+
+pub returns-in-Unifier-clause-falls : goal.returns-in-Unifier-clause-falls
+returns-in-Unifier-clause-falls c =
+    let k = c.args.task.now in
+    let less : left_at k c.next_in.new.frame < left_at k c.steps.frame = subst (LeavesLess (left_at k c.steps.frame) (left_at k c.next_in.new.frame)) c.in-Unifier.is c.in_ok-next_in.ensures.falls in
+    lt_of_lt_of_le (frame_falls k c.steps.tree c.steps.frame c.next_in.new.frame less) c.steps.invariant.less

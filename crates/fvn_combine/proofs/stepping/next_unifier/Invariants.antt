@@ -1,6 +1,8 @@
 -- The states are closed, the frame is open, and what was ahead is ahead, and no more.
+use Rattle.std.proofs.Common.{◌≤◌}
 use Rattle.fvn_nodes.specs.Trees.{AreClosed, weight}
 use Rattle.fvn_combine.specs.Search.{IsOpenedAt}
+use Rattle.fvn_combine.specs.Work.{left_by}
 use Rattle.fvn_combine.specs.inner.Found.{IsAheadAsBefore}
 use Rattle.fvn_combine.proofs.stepping.next_unifier.Given as goal
 
@@ -9,6 +11,7 @@ invariant-steps l = record {
   closed : AreClosed l.task.declarations l.task.table l.tree;
   opened : IsOpenedAt l.task l.frame;
   same : IsAheadAsBefore l.task l.initial.tree l.initial.frame l.tree l.frame;
+  less : left_by l.task l.tree l.frame ≤ left_by l.task l.initial.tree l.initial.frame;
 }
 
 abbrev pub decreases-steps : goal.decreases-steps

@@ -1,5 +1,5 @@
 -- The numbers that are passed cover nothing, or only what is given.
-use Rattle.std.proofs.Common.{refl, sym, subst, inl, inr}
+use Rattle.std.proofs.Common.{refl, sym, subst, inl, inr, arith}
 use Rattle.fvn_binding.specs.Ready.{AreListed}
 use Rattle.fvn_drawing.specs.Drawn.{IsDrawnBy}
 use Rattle.fvn_asking.specs.Listed.{tag_in, systems_of, choice_of}
@@ -38,6 +38,7 @@ choices-preserved c =
         | inl e ↦ absurd (none u e)
         | inr n ↦ n
       ];
+      less = let l = c.choices.invariant.less in let f = c.advance.ensures.falls c.in-Some.numbers.now c.in-Some.ensures.value in omega (arith, l, f);
     }
 
 pub returns-in-Unifier-clause-fewer : goal.returns-in-Unifier-clause-fewer
@@ -59,3 +60,9 @@ returns-in-Unifier-clause-drawn c =
         | inr n ↦ inr n
       ],
     )
+
+pub returns-in-Unifier-clause-falls : goal.returns-in-Unifier-clause-falls
+returns-in-Unifier-clause-falls c =
+    let l = c.choices.invariant.less in
+    let f = c.advance-in-Unifier.ensures.falls c.in-Some.numbers.now c.in-Some.ensures.value in
+    omega (arith, l, f)

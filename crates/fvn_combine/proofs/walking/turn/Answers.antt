@@ -1,10 +1,12 @@
 -- The next tags are made the current ones.
 use Rattle.std.proofs.Common.{sym, ◌∙◌, subst}
+use Rattle.std.proofs.Math.Nat.{le_trans}
 use Rattle.fvn_nodes.specs.States.{class_of}
 use Rattle.fvn_asking.specs.Listed.{tag_in}
 use Rattle.fvn_openings.specs.Tags.{AreTags}
 use Rattle.fvn_openings.specs.Turning.{AreWheels}
 use Rattle.fvn_combine.specs.Tasks.{Combining}
+use Rattle.fvn_combine.proofs.Less.{few_numbers}
 use Rattle.fvn_combine.proofs.Turned.{turned}
 use Rattle.fvn_combine.proofs.walking.turn.Goals as goal
 
@@ -18,3 +20,5 @@ returns-clause-turned c =
     (subst (λ b. AreWheels c.task.inside.sig.now c.task.inside.table (class_of c.args.state.now) (tag_in c.as_slice-3.result.now) o.reading.sums b wheels.wheels) c.as_slice-2.ensures c.in_ok-wheels.ensures.asked)) in
     turned c.args.task.now c.recall.ensures c.listed_choices_are_possible.ensures c.args.state.now o c.requires.opened c.from_vec.result c.in-Some.options.now are wheels asked c.in_ok-wheels.ensures.all_pending
     c.advance.new.self c.advance.ensures.counts c.in-Some.ensures.value c.advance.ensures.taken (c.advance.ensures.falls c.in-Some.options.now c.in-Some.ensures.value)
+    (le_trans c.in_ok-wheels.ensures.bounded
+    (few_numbers c.args.task.now c.sum_operators_are_few.ensures c.args.state.now o.reading c.requires.opened.reading o.bases c.requires.opened.bases (tag_in c.from_vec.result) wheels.wheels asked))

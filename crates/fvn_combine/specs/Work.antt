@@ -1,0 +1,42 @@
+-- How much is left to do: a number that falls with each unifier that is given.
+use Rattle.std.specs.Prelude.{ℕ, ◌+◌, ◌*◌, ◌^◌, List, length, Option, Some, None}
+use Rattle.fvn_base.specs.declared.limits.TheConstants.{MINIMAL_SOLUTIONS}
+use Rattle.fvn_nodes.specs.Trees.{weight}
+use Rattle.fvn_nodes.specs.declared.state.State.{State}
+use Rattle.fvn_wheels.specs.Tags.{tags_left}
+use Rattle.fvn_wheels.specs.Wheels.{choices_left}
+use Rattle.fvn_combine.specs.Tasks.{Combining}
+use Rattle.fvn_combine.specs.Search.{Search}
+use Rattle.fvn_combine.specs.declared.opened.Turning.{Turning}
+use Rattle.fvn_combine.specs.declared.opened.Opened.{Opened}
+use Rattle.fvn_combine.specs.declared.opened.Frame.{Frame}
+
+-- the most lists of tags at a frame: a node has none, or one of the operators that head a subterm
+unfoldable pub most_tags : Combining → ℕ
+most_tags k = (length k.table.subterms + 1) ^ length k.table.nodes
+
+-- the most lists of numbers under tags: each sum operator, which heads a subterm, has few minimal solutions
+unfoldable pub most_numbers : Combining → ℕ
+most_numbers k = (2 ^ MINIMAL_SOLUTIONS) ^ length k.table.subterms
+
+-- how many lists of numbers are left under the current tags, at most
+abbrev pub numbers_left : Option Turning → ℕ
+numbers_left None = 0
+numbers_left (Some v) = choices_left v.wheels
+
+-- how many choices of an open frame are left, at most
+abbrev pub frame_left : Combining → Opened → ℕ
+frame_left k o = tags_left o.tags * most_numbers k + numbers_left o.turning
+
+-- so it is, where a frame is open
+abbrev pub left_at : Combining → Option Frame → ℕ
+left_at k None = 0
+left_at k (Some w) = frame_left k w.opened
+
+-- what these states and this frame leave to do
+abbrev pub left_by : Combining → List State → Option Frame → ℕ
+left_by k states frame = weight states * (most_tags k * most_numbers k) + left_at k frame
+
+-- by this falls a search that gives a unifier
+abbrev pub work_left : Search → ℕ
+work_left m = left_by m.combining m.states m.frame
