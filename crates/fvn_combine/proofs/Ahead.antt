@@ -1,14 +1,14 @@
 -- What is ahead of a search, in its states and at its frame.
-use Rattle.std.proofs.Common.{◌≡◌, ◌<◌, List, [], refl, sym, ◌∙◌, subst, inl, inr, Option}
-use Rattle.std.specs.Prelude.{◌⊎◌, ◌↔◌}
+use Rattle.std.proofs.Common.{◌≡◌, List, [], subst, inl, inr, Option}
+use Rattle.std.specs.Prelude.{◌⊎◌}
 use Rattle.fvn_base.proofs.Membership.{contains_none}
 use Rattle.fvn_terms.specs.Substitution.{Substitution}
 use Rattle.fvn_nodes.specs.declared.state.State.{State}
 use Rattle.fvn_combine.specs.Tasks.{Combining}
 use Rattle.fvn_combine.specs.Search.{IsAdmitted, IsCoveredAt}
 use Rattle.fvn_combine.specs.declared.opened.Frame.{Frame}
-use Rattle.fvn_combine.specs.declared.stepping.Step.TheVariants.{Over, More}
-use Rattle.fvn_combine.specs.inner.Found.{CoversBy, IsAhead, IsAheadAsBefore, IsStep}
+use Rattle.fvn_combine.specs.declared.stepping.Step.TheVariants.{More}
+use Rattle.fvn_combine.specs.inner.Found.{IsAhead, IsAheadAsBefore, IsStep}
 
 module _ (k : Combining) (states : List State) (frame : Option Frame) (states_now : List State) (frame_now : Option Frame) (same : IsAheadAsBefore k states frame states_now frame_now) where
   -- the frame has what it had

@@ -1,5 +1,5 @@
 -- A search that ends tells its cause.
-use Rattle.std.proofs.Common.{◌≡◌, refl, Some, Err}
+use Rattle.std.proofs.Common.{◌≡◌, Some, Err}
 use Rattle.std.specs.Prelude.{◌↔◌}
 use Rattle.fvn_terms.specs.Substitution.{Substitution}
 use Rattle.fvn_combine.specs.Search.{Search, IsEnd}

@@ -1,5 +1,5 @@
 -- Classes are of one kind each exactly where each node is of the kind of the node that names its class.
-use Rattle.std.proofs.Common.{◌≡◌, ℕ, ◌<◌, length, refl, sym, ap, ◌∙◌, subst, arith}
+use Rattle.std.proofs.Common.{◌≡◌, ℕ, ◌<◌, length, sym, ◌∙◌, subst, arith}
 use Rattle.fvn_terms.specs.declared.plain.SortId.{SortId}
 use Rattle.fvn_terms.specs.Signature.{HasKind, IsTerm}
 use Rattle.fvn_forms.proofs.KindsKept.{kind_unique}

@@ -1,7 +1,6 @@
 -- A frame that is opened: all that its state admits is covered by a choice that is to come.
 use Rattle.std.proofs.Common.{◌≡◌, ℕ, ◌<◌, ◌≤◌, List, length, sym, subst, inr, arith, All, None}
 use Rattle.std.specs.List.{AllZip}
-use Rattle.fvn_terms.specs.declared.plain.OpId.{OpId}
 use Rattle.fvn_terms.specs.Substitution.{Substitution}
 use Rattle.fvn_flat.specs.Solving.{problem_of}
 use Rattle.fvn_lindio.specs.declared.system.Solution.{Solution}

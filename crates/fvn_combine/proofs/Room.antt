@@ -1,7 +1,7 @@
 -- The table of a small problem leaves room for new numbers.
-use Rattle.std.proofs.Common.{◌≡◌, ◌≢◌, ℕ, ◌+◌, ◌*◌, ◌<◌, ◌≤◌, true, List, [], ◌∷◌, ◌++◌, map, length, get_or, refl, sym, ap, ◌∙◌, subst, inl, inr, arith, AllPairs, Contains, Option, Some, None}
-use Rattle.std.specs.Prelude.{slice_get, Any}
-use Rattle.std.proofs.lemmas.List.{length-map, length-append, get_or-map, get_or_default}
+use Rattle.std.proofs.Common.{◌≡◌, ℕ, ◌+◌, ◌*◌, ◌<◌, ◌≤◌, true, ◌++◌, map, length, get_or, sym, ap, ◌∙◌, subst, inl, inr, arith, Contains, Option, Some, None}
+use Rattle.std.specs.Prelude.{slice_get}
+use Rattle.std.proofs.lemmas.List.{length-map, length-append, get_or_default}
 use Rattle.std.proofs.lemmas.List.Elements.{All-contains, Contains-append_left, Contains-append_right}
 use Rattle.fvn_base.proofs.Membership.{filter_contains, contains_map, map_contains}
 use Rattle.fvn_base.proofs.Pigeonhole.{length-le_within, length-le_numbered}

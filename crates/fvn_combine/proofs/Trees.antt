@@ -1,7 +1,7 @@
 -- What the states of a tree admit when a question is asked, and when the last state is taken out.
-use Rattle.std.proofs.Common.{◌≡◌, ℕ, zero, suc, ◌<◌, List, [], ◌∷◌, ◌++◌, length, get_or, refl, sym, ap, ◌∙◌, subst, inl, inr, arith, All, Contains, Option, Some, None}
+use Rattle.std.proofs.Common.{◌≡◌, ◌<◌, List, [], ◌∷◌, ◌++◌, length, refl, sym, ap, ◌∙◌, subst, inl, inr, arith, Contains, Option, Some, None}
 use Rattle.std.specs.Prelude.{◌⊎◌, ◌↔◌, MatchOption, IfSome}
-use Rattle.std.proofs.lemmas.List.{length_push, length-append, get_or_append_left}
+use Rattle.std.proofs.lemmas.List.{length_push, get_or_append_left}
 use Rattle.std.proofs.lemmas.List.Elements.{All-contains, Contains-push, Contains-append_cases, Contains-append_left, Contains-append_right}
 use Rattle.fvn_base.proofs.Membership.{contains_here, contains_cases, contains_none}
 use Rattle.fvn_terms.specs.Substitution.{Substitution}
@@ -15,7 +15,6 @@ use Rattle.fvn_nodes.specs.declared.state.State.{State}
 use Rattle.fvn_combine.specs.Tasks.{Combining, IsCombining}
 use Rattle.fvn_combine.specs.Frames.{IsOpened, IsCoveredToCome}
 use Rattle.fvn_combine.specs.Search.{IsAdmitted, IsCoveredAt, IsOpenedAt}
-use Rattle.fvn_combine.specs.declared.opened.Frame.{Frame}
 use Rattle.fvn_combine.specs.declared.opened.Opened.{Opened}
 use Rattle.fvn_combine.specs.declared.looking.Looked.{Looked}
 use Rattle.fvn_combine.specs.declared.looking.Looked.TheVariants.{Passed, Framed}

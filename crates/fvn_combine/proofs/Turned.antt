@@ -1,5 +1,5 @@
 -- The next tags are made the current ones.
-use Rattle.std.proofs.Common.{◌≡◌, ℕ, ◌<◌, ◌≤◌, List, length, refl, sym, ap, ◌∙◌, subst, inl, inr, Option, Some, true}
+use Rattle.std.proofs.Common.{◌≡◌, ℕ, ◌<◌, ◌≤◌, List, sym, ◌∙◌, subst, inl, inr, Option, Some, true}
 use Rattle.std.specs.Prelude.{◌⊎◌, ◌↔◌}
 use Rattle.std.specs.List.{AllZip}
 use Rattle.std.proofs.lemmas.Slice.Zip.{AllZip-long}
@@ -18,7 +18,7 @@ use Rattle.fvn_openings.specs.Laws.{ListedChoicesArePossible}
 use Rattle.fvn_openings.specs.Tags.{AreTags}
 use Rattle.fvn_openings.specs.Turning.{AreWheels}
 use Rattle.fvn_combine.specs.Tasks.{Combining, IsCombining}
-use Rattle.fvn_combine.specs.Frames.{IsTurning, IsCoveredBy, IsCoveredLater, IsCoveredToCome, IsOpened}
+use Rattle.fvn_combine.specs.Frames.{IsTurning, IsCoveredLater, IsCoveredToCome, IsOpened}
 use Rattle.fvn_combine.specs.declared.opened.Turning.{Turning}
 use Rattle.fvn_combine.specs.declared.opened.Opened.{Opened}
 use Rattle.fvn_combine.specs.Work.{most_numbers, numbers_left}

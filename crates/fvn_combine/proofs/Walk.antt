@@ -1,5 +1,5 @@
 -- What is to come at a frame when the numbers under the current tags are gone through.
-use Rattle.std.proofs.Common.{◌≡◌, sym, subst, inl, inr, Option}
+use Rattle.std.proofs.Common.{sym, subst, inl, inr, Option}
 use Rattle.std.specs.Prelude.{◌⊎◌}
 use Rattle.fvn_terms.specs.Substitution.{Substitution}
 use Rattle.fvn_nodes.specs.declared.state.State.{State}

@@ -1,6 +1,5 @@
 -- The search for all unifiers on kinds, and what is still to come of them.
-use Rattle.std.specs.Prelude.{◌≡◌, ◌⊎◌, ℕ, List, Option, Some, None, Any}
-use Rattle.fvn_terms.specs.declared.plain.OpId.{OpId}
+use Rattle.std.specs.Prelude.{◌≡◌, ◌⊎◌, List, Option, Some, None, Any}
 use Rattle.fvn_terms.specs.Substitution.{Substitution}
 use Rattle.fvn_flat.specs.Solving.{IsBasisCause, IsTooLarge}
 use Rattle.fvn_nodes.specs.States.{Admits}

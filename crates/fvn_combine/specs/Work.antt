@@ -28,7 +28,7 @@ numbers_left (Some v) = choices_left v.wheels
 abbrev pub frame_left : Combining → Opened → ℕ
 frame_left k o = tags_left o.tags * most_numbers k + numbers_left o.turning
 
--- so it is, where a frame is open
+-- how many choices of the open frame are left, at most; none where no frame is open
 abbrev pub left_at : Combining → Option Frame → ℕ
 left_at k None = 0
 left_at k (Some w) = frame_left k w.opened

@@ -1,7 +1,6 @@
 -- What the bindings of a possible choice give.
-use Rattle.std.proofs.Common.{◌≡◌, ℕ, ◌<◌, ◌≤◌, List, refl, sym, ap, ◌∙◌, subst, arith, Contains}
+use Rattle.std.proofs.Common.{◌≡◌, ℕ, ◌<◌, ◌≤◌, List, sym, ap, ◌∙◌, subst, arith, Contains}
 use Rattle.std.specs.Prelude.{◌↔◌, Any}
-use Rattle.fvn_base.specs.declared.limits.TheConstants.{NEXT_FRESH}
 use Rattle.fvn_terms.specs.declared.plain.Var.{Var}
 use Rattle.fvn_terms.specs.declared.declarations.Declarations.{Declarations}
 use Rattle.fvn_terms.specs.Substitution.{Substitution, apply, Occurs}
@@ -27,7 +26,7 @@ use Rattle.fvn_plans.specs.Plans.{unfolds_to}
 use Rattle.fvn_obeying.specs.CoveringChoices.{IsCovering}
 use Rattle.fvn_binding.specs.Ready.{IsReady, ArePlanned, AreVariablesOf}
 use Rattle.fvn_binding.proofs.Planned.{planned as as_planned, variables_exact}
-use Rattle.fvn_drawing.specs.OnKinds.{IsUnfolding, IsNewFrom, IsGivenOnKinds}
+use Rattle.fvn_drawing.specs.OnKinds.{IsNewFrom, IsGivenOnKinds}
 use Rattle.fvn_drawing.specs.Drawn.{IsDrawnBy}
 use Rattle.fvn_drawing.specs.inner.Unfolded.{IsUnfolded, IsUnfoldedFrom}
 use Rattle.fvn_drawing.specs.declared.drawing.Drawn.{Drawn}

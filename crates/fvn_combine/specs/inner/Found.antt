@@ -2,8 +2,6 @@
 use Rattle.std.specs.Prelude.{◌≡◌, ◌⊎◌, ◌↔◌, ℕ, ◌*◌, ◌<◌, ◌≤◌, Bool, true, false, List, [], ◌∷◌, ◌++◌, length, Option, Result, Ok, Err}
 use Rattle.fvn_base.specs.declared.memory.NoMemory.{NoMemory}
 use Rattle.fvn_terms.specs.Substitution.{Substitution}
-use Rattle.fvn_flat.specs.Bindings.{Bindings, value}
-use Rattle.fvn_flat.specs.Problems.{variables_of}
 use Rattle.fvn_flat.specs.Solving.{problem_of, IsBasisCause, IsTooLarge}
 use Rattle.fvn_flat.specs.SolvedLists.{IsKindUnifier}
 use Rattle.fvn_nodes.specs.States.{Admits, IsOpen}
@@ -11,11 +9,11 @@ use Rattle.fvn_nodes.specs.Trees.{weight}
 use Rattle.fvn_nodes.specs.Unifiers.{kernel}
 use Rattle.fvn_nodes.specs.declared.state.State.{State}
 use Rattle.fvn_wheels.specs.Tags.{tags_left}
-use Rattle.fvn_plans.specs.Covering.{CoversOnKinds}
 use Rattle.fvn_drawing.specs.OnKinds.{IsGivenOnKinds}
 use Rattle.fvn_drawing.specs.declared.drawing.Drawn.{Drawn}
 use Rattle.fvn_drawing.specs.declared.drawing.Drawn.TheVariants.{Nothing as NoneDrawn, TooLarge, Unifier}
 use Rattle.fvn_combine.specs.Tasks.{Combining}
+use Rattle.fvn_combine.specs.Advancing.{IsCovered}
 use Rattle.fvn_combine.specs.Frames.{IsOpened, IsCoveredLater, IsCoveredToCome}
 use Rattle.fvn_combine.specs.Search.{IsEnd, IsAdmitted, IsOpenedAt, IsCoveredAt}
 use Rattle.fvn_combine.specs.Work.{most_tags, most_numbers, frame_left, left_by}
@@ -28,16 +26,12 @@ use Rattle.fvn_combine.specs.declared.stepping.Found.TheVariants.{Nothing, Ends,
 use Rattle.fvn_combine.specs.declared.looking.Looked.{Looked}
 use Rattle.fvn_combine.specs.declared.looking.Looked.TheVariants.{Over, Open, Passed, Refused, Framed}
 
--- what is given covers u
-abbrev pub CoversBy : Combining → Bindings → Substitution → Type 0
-CoversBy k g u = CoversOnKinds k.declarations (variables_of (problem_of k.given)) (value g) u
-
 module _ (k : Combining) (Before After : Substitution → Type 0) where
   -- nothing, where nothing was to come; bindings that are too large, with all still to come; or a unifier that covers what is no longer to come
   abbrev pub IsDrawnFrom : Drawn → Type 0
   IsDrawnFrom NoneDrawn = (u : Substitution) → Before u → ⊥
   IsDrawnFrom (TooLarge list) = IsTooLarge k.declarations k.given k.size list.bindings × ((u : Substitution) → Before u → After u)
-  IsDrawnFrom (Unifier g) = IsGivenOnKinds k.declarations k.given k.first k.size g × ((u : Substitution) → Before u → CoversBy k g u ⊎ After u)
+  IsDrawnFrom (Unifier g) = IsGivenOnKinds k.declarations k.given k.first k.size g × ((u : Substitution) → Before u → IsCovered k g u ⊎ After u)
 
   -- so it is, and at want of memory all is still to come
   abbrev pub AreDrawnFrom : Result Drawn NoMemory → Type 0
@@ -126,7 +120,7 @@ module _ (k : Combining) where
     abbrev pub IsFound : Found → Type 0
     IsFound Nothing = ((u : Substitution) → IsAhead states frame u → ⊥) × IsAheadAsBefore
     IsFound (Ends e) = IsEnd k e × IsAheadAsBefore
-    IsFound (Given g) = IsGivenOnKinds k.declarations k.given k.first k.size g × ((u : Substitution) → IsAhead states frame u → CoversBy k g u ⊎ IsAhead states_after frame_after u)
+    IsFound (Given g) = IsGivenOnKinds k.declarations k.given k.first k.size g × ((u : Substitution) → IsAhead states frame u → IsCovered k g u ⊎ IsAhead states_after frame_after u)
 
     -- so it is, and at want of memory all is to come as before
     abbrev pub AreFound : Result Found NoMemory → Type 0

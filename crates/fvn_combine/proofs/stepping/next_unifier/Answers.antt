@@ -1,9 +1,10 @@
 -- What is ahead stays so until a unifier is found.
-use Rattle.std.proofs.Common.{◌<◌, ◌≤◌, sym, ◌∙◌, subst, inl, inr, arith}
+use Rattle.std.proofs.Common.{◌<◌, ◌≤◌, sym, subst}
 use Rattle.std.proofs.Math.Nat.{le_trans, lt_of_lt_of_le}
 use Rattle.std.proofs.lemmas.Result.{err_from_is_err_and}
 use Rattle.fvn_combine.specs.Search.{IsCoveredAt, IsOpenedAt}
-use Rattle.fvn_combine.specs.inner.Found.{CoversBy, IsDrawnFrom, IsStep, IsAheadAsBefore, AreFound, LeavesLess}
+use Rattle.fvn_combine.specs.Advancing.{IsCovered}
+use Rattle.fvn_combine.specs.inner.Found.{IsDrawnFrom, IsStep, IsAheadAsBefore, AreFound, LeavesLess}
 use Rattle.fvn_combine.specs.Work.{left_at}
 use Rattle.fvn_combine.proofs.Less.{frame_falls, frame_stays}
 use Rattle.fvn_combine.proofs.Ahead.{frame_kept, frame_gives, nothing_ahead, ahead_after}
@@ -24,7 +25,7 @@ pub returns-in-Unifier-clause-found : goal.returns-in-Unifier-clause-found
 returns-in-Unifier-clause-found c =
     let k = c.args.task.now in
     let h = subst (IsDrawnFrom k (IsCoveredAt k c.steps.frame) (IsCoveredAt k c.next_in.new.frame)) c.in-Unifier.is c.in_ok-next_in.ensures.drawn in
-    (h.0, frame_gives k c.args.tree.now c.args.frame.now c.steps.tree c.steps.frame c.steps.invariant.same c.next_in.new.frame (CoversBy k c.in-Unifier.g) h.1)
+    (h.0, frame_gives k c.args.tree.now c.args.frame.now c.steps.tree c.steps.frame c.steps.invariant.same c.next_in.new.frame (IsCovered k c.in-Unifier.g) h.1)
 
 pub returns-in_err-take_step-clause-opened : goal.returns-in_err-take_step-clause-opened
 returns-in_err-take_step-clause-opened c = subst (IsOpenedAt c.args.task.now) (sym c.in_err-take_step.ensures.no_memory.1) c.next_in.ensures.opened

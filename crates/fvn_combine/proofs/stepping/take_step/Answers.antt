@@ -5,7 +5,7 @@ use Rattle.fvn_combine.proofs.Trees.{after_asking, closed_before, taken_out, tak
 use Rattle.fvn_nodes.specs.Trees.{IsAsked}
 use Rattle.fvn_combine.specs.Tasks.{Combining}
 use Rattle.fvn_combine.specs.inner.Found.{IsLooked}
-use Rattle.fvn_combine.specs.declared.looking.Looked.TheVariants.{Passed, Framed}
+use Rattle.fvn_combine.specs.declared.looking.Looked.TheVariants.{Passed}
 use Rattle.fvn_combine.proofs.stepping.take_step.Goals as goal
 
 pub returns-in_ok-ask-in-Open-clause-stepped : goal.returns-in_ok-ask-in-Open-clause-stepped

@@ -1,10 +1,11 @@
 -- What is to come under the current tags and later, one list of tags after another.
-use Rattle.std.proofs.Common.{◌<◌, ◌≤◌, ap, sym, ◌∙◌, subst, inl, inr, arith}
+use Rattle.std.proofs.Common.{◌<◌, ◌≤◌, ap, sym, subst, inr, arith}
 use Rattle.std.proofs.Math.Nat.{le_trans, lt_of_lt_of_le}
 use Rattle.std.proofs.lemmas.Result.{err_from_is_err_and}
 use Rattle.fvn_wheels.specs.Tags.{Tagging, tags_left}
 use Rattle.fvn_combine.specs.Frames.{IsCoveredNow, IsCoveredToCome}
-use Rattle.fvn_combine.specs.inner.Found.{CoversBy, IsDrawnFrom, AreDrawnFrom, IsTurned, LeavesLess}
+use Rattle.fvn_combine.specs.Advancing.{IsCovered}
+use Rattle.fvn_combine.specs.inner.Found.{IsDrawnFrom, AreDrawnFrom, IsTurned, LeavesLess}
 use Rattle.fvn_combine.specs.Work.{frame_left}
 use Rattle.fvn_combine.proofs.Walk.{to_come_was, to_come_kept, to_come_or, later_alone}
 use Rattle.fvn_combine.proofs.walking.next_of_frame.Goals as goal
@@ -43,7 +44,7 @@ returns-in-Unifier-clause-drawn c =
     let old = c.tags.opened in
     let new = c.next_of_current.new.opened in
     let h = subst (IsDrawnFrom k (IsCoveredNow k s old) (IsCoveredNow k s new)) c.in-Unifier.is c.in_ok-next_of_current.ensures.drawn in
-    (h.0, λ u m. to_come_or k s old new c.next_of_current.ensures.same (CoversBy k c.in-Unifier.g) h.1 u (c.tags.invariant.kept u m))
+    (h.0, λ u m. to_come_or k s old new c.next_of_current.ensures.same (IsCovered k c.in-Unifier.g) h.1 u (c.tags.invariant.kept u m))
 
 pub returns-in_err-turn-clause-fewer : goal.returns-in_err-turn-clause-fewer
 returns-in_err-turn-clause-fewer c = λ u h.
