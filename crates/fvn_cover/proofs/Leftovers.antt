@@ -1,12 +1,12 @@
 -- What is left of a list without some of its members.
-use Rattle.std.proofs.Common.{◌≡◌, ℕ, zero, suc, ◌+◌, ◌<◌, ◌⊎◌, inl, inr, List, [], ◌∷◌, ◌++◌, length, get_or, take, refl, sym, ap, ◌∙◌, subst, arith}
+use Rattle.std.proofs.Common.{◌≡◌, ℕ, zero, suc, ◌+◌, ◌<◌, ◌≤◌, ◌⊎◌, inl, inr, List, [], ◌∷◌, ◌++◌, length, get_or, take, refl, sym, ap, ◌∙◌, subst, arith}
 use Rattle.std.specs.Prelude.{All, AllPairs, Any, Contains}
 use Rattle.std.proofs.lemmas.List.{take_more, get_or_default}
 use Rattle.std.proofs.lemmas.List.Elements.{All-nil, All-cons, All-head, All-tail, All-push}
 use Rattle.std.proofs.lemmas.List.Kept.{AllPairs-cons}
 use Rattle.fvn_base.proofs.Membership.{contains_here, contains_later, contains_cases, contains_none}
 use Rattle.fvn_base.proofs.Pigeonhole.{AllPairs-tail}
-use Rattle.fvn_cover.specs.inner.Leaving.{IsLeft}
+use Rattle.fvn_cover.specs.Adding.{IsLeft}
 
 module _ {A : Type 0} where
   -- of one of a list
@@ -45,6 +45,12 @@ module _ {A : Type 0} (P : A → Type 0) where
   left_stays [] left x h n = inr (n, ([], ap (λ l. l ++ x ∷ []) h, refl))
   left_stays (y ∷ xs) left x (inl h) n = inl (h.0, left_stays xs left x h.1 n)
   left_stays (y ∷ xs) left x (inr h) n = inr (h.0, (h.1.0 ++ x ∷ [], ap (λ l. l ++ x ∷ []) h.1.1, left_stays xs h.1.0 x h.1.2 n))
+
+  -- no more are left than were there
+  pub left_length : (xs left : List A) → IsLeft P xs left → length left ≤ length xs
+  left_length [] left h = let e = ap length h in omega (arith, e)
+  left_length (x ∷ xs) left (inl h) = let l = left_length xs left h.1 in omega (arith, l)
+  left_length (x ∷ xs) left (inr h) = let l = left_length xs h.1.0 h.1.2 in let e = ap length h.1.1 in omega (arith, l, e)
 
   -- what held of all holds of those that are left
   pub all_left : (Q : A → Type 0) (xs left : List A) → IsLeft P xs left → All Q xs → All Q left

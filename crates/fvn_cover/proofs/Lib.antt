@@ -1,5 +1,6 @@
 -- The lemmas of the crate.
 mod CoverFacts
-mod Leftovers
+pub mod Leftovers
+pub mod Additions
 mod Prunings
 mod PieceFacts

@@ -11,8 +11,9 @@ use Rattle.fvn_cover.specs.declared.variant.Variant.{Variant}
 use Rattle.fvn_cover.specs.Covering.{CoversVariant, AreAlike}
 use Rattle.fvn_cover.specs.Pruning.{Choices, all_of, chosen, IsCoveredBySome, IsPruned}
 use Rattle.fvn_cover.specs.Laws.{CoveringIsAPreorder}
-use Rattle.fvn_cover.specs.inner.Leaving.{IsLeft, IsAdded}
-use Rattle.fvn_cover.proofs.Leftovers.{all_at, any_none, any_of, any_contains, all_left, pairs_left, left_never, went_or_left}
+use Rattle.fvn_cover.specs.Adding.{IsLeft, IsAdded}
+use Rattle.fvn_cover.proofs.Leftovers.{all_at, any_of, any_contains}
+use Rattle.fvn_cover.proofs.Additions.{added_apart, added_new, added_still}
 
 pub alike_sym : (a b : Variant) → AreAlike a b → AreAlike b a
 alike_sym a b h = record { vars = sym h.vars; terms = sym h.terms }
@@ -66,11 +67,6 @@ module _ (d : Declarations) where
       b.1
       (h i j e l n (subst (λ v. CoversVariant d v (get_or cs j e).0) a.0 (subst (CoversVariant d (get_or after i e).0) b.0 p)) (subst (λ v. CoversVariant d v (get_or cs i e).0) b.0 (subst (CoversVariant d (get_or after j e).0) a.0 q)))
 
-  -- what holds of all and of the new one
-  pub added_all : (P : Variant → Type 0) (kept : List Variant) (v : Variant) (after : List Variant) → IsAdded d kept v after → All P kept → P v → All P after
-  added_all P kept v after (inl h) all p = subst (All P) (sym h.1) all
-  added_all P kept v after (inr h) all p = subst (All P) (sym h.1.2) (All-push P h.1.0 v (all_left (CoversVariant d v) P kept h.1.0 h.1.1 all) p)
-
   module _ (order : CoveringIsAPreorder d) (given kept : List Variant) (v : Variant) (pruned : IsPruned d given kept) where
     skipped : IsCoveredBySome d kept v → IsPruned d (given ++ v ∷ []) kept
     skipped covered = record {
@@ -84,20 +80,15 @@ module _ (d : Declarations) where
 
     module _ (kept_alike : All (AreAlike v) kept) (given_alike : All (AreAlike v) given) where
       module _ (free : IsCoveredBySome d kept v → ⊥) (left : List Variant) (h : IsLeft (CoversVariant d v) kept left) where
-        -- whoever was covered by a member that went is covered by the new one
-        still_covered : (g : Variant) → IsCoveredBySome d kept g → IsCoveredBySome d (left ++ v ∷ []) g
-        still_covered g some = let k = any_contains (λ k. CoversVariant d k g) kept some in go k.0 k.1.0 k.1.1 (went_or_left (CoversVariant d v) kept left k.0 h k.1.0)
-          where
-            go : (k : Variant) → Contains kept k → CoversVariant d k g → CoversVariant d v k ⊎ Contains left k → IsCoveredBySome d (left ++ v ∷ []) g
-            go k m p (inl q) = Any-push (λ z. CoversVariant d z g) left v (order.transitive v k g (all_at (AreAlike v) kept m.0 k kept_alike m.1 (sym m.2)) q p)
-            go k m p (inr n) = any_of (λ z. CoversVariant d z g) (left ++ v ∷ []) k (Contains-append_left left (v ∷ []) k n) p
-
         -- no earlier one covers it
         never_covered : (g : Variant) → IsCoveredBySome d kept g → AreAlike v g → CoversVariant d g v → ⊥
         never_covered g some alike p =
             let k = any_contains (λ k. CoversVariant d k g) kept some in
             let like : AreAlike k.0 g = alike_trans k.0 v g (alike_sym v k.0 (all_at (AreAlike v) kept k.1.0.0 k.0 kept_alike k.1.0.1 (sym k.1.0.2))) alike in
             free (any_of (λ z. CoversVariant d z v) kept k.0 k.1.0 (order.transitive k.0 g v like k.1.1 p))
+
+        added : IsAdded d kept v (left ++ v ∷ [])
+        added = inr (free, (left, h, refl))
 
         kept_more : IsPruned d (given ++ v ∷ []) (left ++ v ∷ [])
         kept_more =
@@ -108,10 +99,8 @@ module _ (d : Declarations) where
               choices = r.0 ++ (v, true) ∷ [];
               whole = map-append (λ c. c.0) r.0 ((v, true) ∷ []) ∙ ap (λ l. l ++ v ∷ []) from;
               sublist = chosen-kept r.0 v ∙ ap (λ l. l ++ v ∷ []) r.2;
-              apart = all_pairs_push (λ s c. (CoversVariant d s c → ⊥) × (CoversVariant d c s → ⊥)) left v
-                  (pairs_left (CoversVariant d v) (λ s c. (CoversVariant d s c → ⊥) × (CoversVariant d c s → ⊥)) kept left h pruned.apart)
-                  (λ k e l. (all_left (CoversVariant d v) (λ z. CoversVariant d z v → ⊥) kept left h (any_none (λ z. CoversVariant d z v) kept free) k e l, left_never (CoversVariant d v) kept left h k e l));
-              dropped = All-push (IsCoveredBySome d (left ++ v ∷ [])) given v (All-weaker (IsCoveredBySome d kept) (IsCoveredBySome d (left ++ v ∷ [])) still_covered given pruned.dropped) (Any-push (λ z. CoversVariant d z v) left v (order.reflexive v));
+              apart = added_apart d kept v (left ++ v ∷ []) added pruned.apart;
+              dropped = All-push (IsCoveredBySome d (left ++ v ∷ [])) given v (All-weaker (IsCoveredBySome d kept) (IsCoveredBySome d (left ++ v ∷ [])) (added_still d order kept v kept_alike (left ++ v ∷ []) added) given pruned.dropped) (added_new d order kept v (left ++ v ∷ []) added);
               earlier = all_pairs_push Later r.0 (v, true) (narrowed_later pruned.choices r.0 r.1 pruned.earlier) (λ k e l p q. absurd (never_covered (get_or r.0 k e).0 (covered k e l) (alike k e l) p));
             }
 

@@ -1,4 +1,3 @@
 -- What mirrors the code.
-pub mod Leaving
 pub mod Pieces
 pub mod Profiled

@@ -28,9 +28,11 @@ fn profile(
     Ok(p)
 }
 
-// A variant, the values of its variables and its profile, which contracts see as the variant.
+/// A variant that is kept to be compared with others, seen as that variant.
+///
+/// It holds the values of the variant's variables and what is counted of these and of its terms.
 #[derive(Drop)]
-pub(crate) struct Kept {
+pub struct Kept {
     variant: Variant,
     values: Vec<Flat>,
     profile: Profile,
@@ -55,8 +57,8 @@ impl Model for Kept {
 }
 
 impl Kept {
-    // The variant, its values in memory of their own, and its profile.
-    pub(crate) fn new(alloc: Global, sig: &Signature, variant: Variant) -> Result<Kept, NoMemory>
+    /// The variant, its values in memory of their own, and its profile.
+    pub fn new(alloc: Global, sig: &Signature, variant: Variant) -> Result<Kept, NoMemory>
         requires { IsFlatVariant sig.now variant }
         ensures { IfOk result (λ k. k ≡ variant) }
     {
@@ -76,8 +78,8 @@ impl Kept {
         Shown::new(&self.variant, self.values.as_slice(), &self.profile)
     }
 
-    // The variant alone.
-    pub(crate) fn into_variant(self) -> Variant
+    /// The variant alone.
+    pub fn into_variant(self) -> Variant
         ensures { result ≡ self }
     {
         self.variant

@@ -2,7 +2,7 @@
 ghost use Rattle.std.specs.Prelude.{◌≡◌, ◌↔◌, IsTrue, IfOk, All};
 ghost use Rattle.fvn_cover.specs.Covering.{CoversVariant, AreAlike, IsFlatVariant};
 ghost use Rattle.fvn_cover.specs.Pruning.{IsCoveredBySome, IsPruned};
-ghost use Rattle.fvn_cover.specs.inner.Leaving.{IsLeft, IsAdded};
+ghost use Rattle.fvn_cover.specs.Adding.{IsLeft, IsAdded};
 
 use crate::keeping::Kept;
 use crate::laws::covering_of_variants_is_a_preorder;
@@ -45,8 +45,10 @@ fn uncovered(
     Ok(left)
 }
 
-// The list with the variant, if none of its members covers it, and then without those that it covers.
-fn with_member(
+/// The list with the variant, if none of its members covers it, and then without those that it covers.
+///
+/// The members are moved and not copied.
+pub fn with_member(
     alloc: Global,
     sig: &Signature,
     list: Vec<Kept>,

@@ -32,6 +32,7 @@ use Rattle.fvn_flat.specs.Drawn.{OccursInValues, IsWay}
 use Rattle.fvn_flat.proofs.Instances.{inst_equal}
 use Rattle.fvn_refine.specs.Refinements.{Way, at_sort, IsAtSorts, AreBound, HaveKindsAsSorts, IsLargest, AreRefinements, IsCoveredOnKinds}
 use Rattle.fvn_refine.specs.Laws.{RefinementsCover}
+use Rattle.fvn_refine.proofs.AtSorts.{sorts_flat, value_at_sorts}
 use Rattle.fvn_refine.proofs.Refined.{occurs_in_values, occurs_true, occurs_complete, occurs_false, occurring, bound_value, kinded_value, canon_value, sort_of_var, zip_member, any_member}
 
 module _ (d : Declarations) where
@@ -113,24 +114,11 @@ module _ (d : Declarations) where
                   (subst (AtOrBelow d (least_sort d (canon d (c.later (back z))))) (sym w.1) (above (back z) w.0))
               go false e = own_sort z
 
-      -- the renaming of variables
-      places_flat : IsFlatSubstitution d (λ y. fvar (at_sort way y))
-      places_flat = record { settled = λ y. tt; keeps_kinds = λ y i. go y i (occurs_in_values vars s y) refl }
-        where
-          go : (y : Var) → IsSort d y.sort → (b : Bool) → occurs_in_values vars s y ≡ b → IsSort d (way y) × (kind d (way y) ≡ kind d y.sort)
-          go y i true e = largest.maximal.is_way.kinds y (occurs_true vars s y e)
-          go y i false e =
-              let is = largest.others y (occurs_false vars s y e) in
-              (subst (IsSort d) (sym is) (good.kinded.listed y.sort i), ap (kind d) is ∙ good.kinded.own y.sort)
-
-      value_is : (x : Var) → Contains vars x → value r x ≡ inst d (λ y. fvar (at_sort way y)) (value s x)
-      value_is x i = ap (form_or x) (at x ∙ ap (option_map (inst d (λ y. fvar (at_sort way y)))) (bound_value d vars s fit are x i))
-
       after_equal : (x : Var) → Contains vars x → BEqual d (u x) (apply after (substitution r x))
       after_equal x i =
           let t = value s x in
           let placed : BEqual d (apply (λ y. var (at_sort way y)) (plain t)) (plain (value r x)) =
-          subst (λ v. BEqual d (apply (λ y. var (at_sort way y)) (plain t)) (plain v)) (sym (value_is x i)) (inst_equal d (λ y. fvar (at_sort way y)) good places_flat t (kind d x.sort, kinded_value d vars s fit are x i)) in
+          subst (λ v. BEqual d (apply (λ y. var (at_sort way y)) (plain t)) (plain v)) (sym (value_at_sorts d good vars s fit are way largest r at x i)) (inst_equal d (λ y. fvar (at_sort way y)) good (sorts_flat d good vars s fit are way largest) t (kind d x.sort, kinded_value d vars s fit are x i)) in
           let undone : apply after (apply (λ y. var (at_sort way y)) (plain t)) ≡ apply c.later (plain t) =
           apply-apply (λ y. var (at_sort way y)) after (plain t) ∙ apply-agree (followed_by (λ y. var (at_sort way y)) after) c.later (plain t) (λ y o. after_is y (x, i, o)) in
           BEqual-trans d (c.equal x i) (subst (λ v. BEqual d v (apply after (plain (value r x)))) undone (BEqual-apply d after after_sorted.0 placed))

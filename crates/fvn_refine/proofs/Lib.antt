@@ -7,7 +7,8 @@ mod Sorts
 mod Tried
 mod Parts
 mod InOrder
-mod VariablesListed
+pub mod VariablesListed
 mod Resorted
-mod Refined
+pub mod Refined
+pub mod AtSorts
 mod Covered

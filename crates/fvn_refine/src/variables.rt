@@ -31,8 +31,8 @@ fn with_variable(vars: Vec<Var>, x: Var) -> Result<Vec<Var>, NoMemory>
     Ok(all)
 }
 
-// The variables with those of a term that are not there yet.
-fn with_variables(t: &Flat, vars: Vec<Var>) -> Result<Vec<Var>, NoMemory>
+/// The variables with those of a term that are not there yet, in order of first occurrence.
+pub fn with_variables(t: &Flat, vars: Vec<Var>) -> Result<Vec<Var>, NoMemory>
     ensures { IfOk result (λ all. all.items ≡ with_variables t.now vars.items) }
 {
     match t.as_var() {
@@ -50,8 +50,8 @@ fn with_variables(t: &Flat, vars: Vec<Var>) -> Result<Vec<Var>, NoMemory>
     }
 }
 
-// The variables of the terms to which the substitution binds, each once, in order of first occurrence.
-pub(crate) fn variables_of_terms(alloc: Global, subst: &Subst) -> Result<Vec<Var>, NoMemory>
+/// The variables of the terms to which the substitution binds, each once, in order of first occurrence.
+pub fn variables_of_terms(alloc: Global, subst: &Subst) -> Result<Vec<Var>, NoMemory>
     ensures { IfOk result (λ all. all.items ≡ variables_of_terms subst.now) }
 {
     let mut all = Vec::new(alloc);

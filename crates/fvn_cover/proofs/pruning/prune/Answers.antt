@@ -6,9 +6,10 @@ use Rattle.std.proofs.lemmas.List.Elements.{All-take, All-weaker}
 use Rattle.std.proofs.lemmas.Iterator.Adapters.{YieldsList-from_vec}
 use Rattle.std.proofs.lemmas.Iterator.Consumers.{YieldsList-turn, YieldsList-so_far}
 use Rattle.fvn_cover.specs.Covering.{AreAlike, IsFlatVariant}
-use Rattle.fvn_cover.specs.inner.Leaving.{IsAdded}
+use Rattle.fvn_cover.specs.Adding.{IsAdded}
 use Rattle.fvn_cover.proofs.Leftovers.{all_at}
-use Rattle.fvn_cover.proofs.Prunings.{alike_sym, added_all, pruned_more}
+use Rattle.fvn_cover.proofs.Additions.{added_all}
+use Rattle.fvn_cover.proofs.Prunings.{alike_sym, pruned_more}
 use Rattle.fvn_cover.proofs.pruning.prune.Goals as goal
 
 pub loop-v-preserved : goal.loop-v-preserved

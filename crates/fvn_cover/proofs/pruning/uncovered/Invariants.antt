@@ -1,6 +1,6 @@
 -- what is left so far
 use Rattle.fvn_cover.specs.Covering.{CoversVariant}
-use Rattle.fvn_cover.specs.inner.Leaving.{IsLeft}
+use Rattle.fvn_cover.specs.Adding.{IsLeft}
 use Rattle.fvn_cover.proofs.pruning.uncovered.Given as goal
 
 abbrev pub invariant-loop-k : goal.invariant-loop-k

@@ -1,4 +1,4 @@
--- Lists that lose some of their members.
+-- Lists of variants with one more, without those that it covers.
 use Rattle.std.specs.Prelude.{◌≡◌, ◌⊎◌, List, [], ◌∷◌, ◌++◌}
 use Rattle.fvn_terms.specs.declared.declarations.Declarations.{Declarations}
 use Rattle.fvn_cover.specs.declared.variant.Variant.{Variant}

@@ -1,0 +1,4 @@
+-- The words of the solver.
+pub mod Solvers
+pub mod Exact
+pub mod inner

@@ -1,0 +1,7 @@
+-- What mirrors the code.
+pub mod Asked
+pub mod Members
+pub mod Nexts
+pub mod Found
+pub mod Numbers
+pub mod Answers
