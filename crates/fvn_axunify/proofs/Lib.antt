@@ -1,1 +1,4 @@
 -- The lemmas of the crate.
+mod SameValues
+mod WaysAlong
+mod Sorted

@@ -1,4 +1,5 @@
 -- The words of the solver.
 pub mod Solvers
+pub mod Answers
 pub mod Exact
 pub mod inner

@@ -4,4 +4,3 @@ pub mod Members
 pub mod Nexts
 pub mod Found
 pub mod Numbers
-pub mod Answers

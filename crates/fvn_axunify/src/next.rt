@@ -14,7 +14,7 @@ pub(crate) enum Next {
 }
 
 // The next unifier on kinds of a search that has not ended.
-pub(crate) fn next(combiner: &mut Combiner) -> Result<Next, NoMemory>
+pub(crate) fn step(combiner: &mut Combiner) -> Result<Next, NoMemory>
     requires { combiner.old.ended ≡ None }
     ensures same { combiner.new.combining ≡ combiner.old.combining }
     ensures next { IfOk result (IsNext combiner.old combiner.new) }

@@ -9,7 +9,7 @@ ghost use Rattle.fvn_axunify.specs.inner.Asked.{IsAsked};
 ghost use Rattle.fvn_axunify.specs.inner.Found.{IsFound};
 
 use crate::members::with_refinements;
-use crate::next::{Next, next};
+use crate::next::{Next, step};
 use crate::task::Task;
 use fvn_combine::Combiner;
 use fvn_cover::Kept;
@@ -24,7 +24,7 @@ pub(crate) struct Found {
 }
 
 // What is found until the combiner or the limit ends the search.
-fn found(task: &Task, mut combiner: Combiner) -> Result<Found, NoMemory>
+fn run_through(task: &Task, mut combiner: Combiner) -> Result<Found, NoMemory>
     requires asked { IsAsked task.now.sig.now task.now.problem.now task.now.vars.now task.now.first }
     requires some { 1 ≤ task.now.limits.unifiers }
     requires of { IsOf task.now.sig.now task.now.problem.now task.now.first task.now.limits.size combiner }
@@ -37,7 +37,7 @@ fn found(task: &Task, mut combiner: Combiner) -> Result<Found, NoMemory>
     let most = task.limits.unifiers as usize;
     let mut kept = Vec::new(task.alloc);
     'next: loop {
-        match next(&mut combiner)? {
+        match step(&mut combiner)? {
             Next::End(end) => return Ok(Found { kept, end }),
             Next::Given(g) => {
                 kept = with_refinements(task, kept, &g)?;
@@ -69,6 +69,6 @@ pub(crate) fn search(task: &Task) -> Result<Found, NoMemory>
         task.first,
         task.limits.size,
     )?;
-    let f = found(task, combiner)?;
+    let f = run_through(task, combiner)?;
     Ok(f)
 }

@@ -7,7 +7,7 @@ ghost use Rattle.fvn_axunify.specs.Solvers.{Solver};
 ghost use Rattle.fvn_axunify.specs.Exact.{IsExact};
 ghost use Rattle.fvn_axunify.specs.inner.Found.{IsFound};
 ghost use Rattle.fvn_axunify.specs.inner.Asked.{IsAsked};
-ghost use Rattle.fvn_axunify.specs.inner.Answers.{IsAnswer};
+ghost use Rattle.fvn_axunify.specs.Answers.{IsAnswer};
 
 use crate::members::unifiers;
 use crate::numbers::above_all;
@@ -34,7 +34,7 @@ pub struct SolveLimits {
 /// It gives sorts to what the combination of the solvers for each operator gives on kinds, and keeps what
 /// is no instance of another (M. E. Stickel, 1981; F. Baader and K. U. Schulz, 1996; J. Meseguer, J. A.
 /// Goguen and G. Smolka, 1989).
-#[derive(Clone, Copy)]
+#[derive(Drop)]
 pub struct AxiomUnify<'a> {
     sig: &'a Signature,
     limits: SolveLimits,

@@ -57,7 +57,7 @@ zip_member R (z ∷ xs) (y ∷ ys) h x c = elim (contains_cases z xs x c) [
   | inr l ↦ let r = zip_member R xs ys h.1 x l in (r.0, (contains_later y ys r.0 r.1.0, r.1.1))
 ]
 
-zip_all : {A B : Type 0} (R : A → B → Type 0) (P : B → Type 0) (xs : List A) (ys : List B) → AllZip R xs ys → ((x : A) (y : B) → Contains xs x → R x y → P y) → All P ys
+pub zip_all : {A B : Type 0} (R : A → B → Type 0) (P : B → Type 0) (xs : List A) (ys : List B) → AllZip R xs ys → ((x : A) (y : B) → Contains xs x → R x y → P y) → All P ys
 zip_all R P [] [] h f = All-nil P
 zip_all R P [] (y ∷ ys) h f = absurd h
 zip_all R P (x ∷ xs) [] h f = absurd h
