@@ -11,7 +11,7 @@ use fvn_terms::NoMemory;
 use std::alloc::Global;
 
 /// The refusal of a module.
-pub(crate) fn refuse_module(alloc: Global, fault: &ModuleFault) -> Result<Answer, NoMemory>
+pub fn refuse_module(alloc: Global, fault: &ModuleFault) -> Result<Answer, NoMemory>
     ensures status { IfOk result (λ a. a.status ≡ Status.ModuleRefused) }
     ensures text { IfOk result (λ a. IsRefusalLine fault.now (bytes_of a.text)) }
 {

@@ -8,7 +8,7 @@ mod status;
 mod verifying;
 
 pub use answer::{Answer, Text};
-pub use checking::check_reply;
+pub use checking::{check_reply, refuse_module};
 pub use laws::readers_are_lawful;
 pub use status::Status;
-pub use verifying::verify_reply;
+pub use verifying::{refuse_problem, verify_reply};

@@ -33,8 +33,8 @@ fn leave_equations(alloc: Global, statement: usize) -> Result<Answer, NoMemory>
     Ok(answer)
 }
 
-// The refusal of a problem or of bindings.
-fn refuse_problem(alloc: Global, fault: ProblemFault) -> Result<Answer, NoMemory>
+/// The refusal of a problem or of bindings.
+pub fn refuse_problem(alloc: Global, fault: ProblemFault) -> Result<Answer, NoMemory>
     ensures status { IfOk result (λ a. a.status ≡ Status.ProblemRefused) }
     ensures text { IfOk result (λ a. IsProblemRefusalLine fault (bytes_of a.text)) }
 {
