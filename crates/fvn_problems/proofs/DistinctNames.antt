@@ -21,7 +21,7 @@ use Rattle.fvn_syntax.specs.Resolve.{Resolved, AllResolved, bind, or_fault, appl
 use Rattle.fvn_syntax.specs.Scope.{Scope}
 use Rattle.fvn_syntax.specs.Texts.{place, unless_at}
 use Rattle.fvn_problems.specs.Problems.{IsProblem, IsPairOf, ArePairsOf}
-use Rattle.fvn_problems.specs.Laws.{BindingsAreDetermined, RefusedBindingsBindNothing}
+use Rattle.fvn_problems.specs.Laws.{ProblemNamesDiffer, BindingsAreDetermined, RefusedBindingsBindNothing}
 use Rattle.fvn_problems.specs.Scopes.{guarded}
 use Rattle.fvn_problems.specs.Spelling.{RawPair, pairs_in}
 use Rattle.fvn_problems.proofs.BindingTexts.{bindings-only, bindings-none}
@@ -97,6 +97,9 @@ module _ (c : Scope) where
 module _ (d : Declarations) (names : Names) (text : Text) (p : Problem) (asked : IsProblem d names text p) where
   distinct : AreDistinct p.names.texts
   distinct = pairs-kept (guarded d names) [] (pairs_in asked.raw) p.pairs p.names.texts asked.asked.pairs none-are-distinct
+
+pub names-differ : ProblemNamesDiffer
+names-differ d names bytes p is = distinct d names bytes p is
 
 pub bindings-determined : BindingsAreDetermined
 bindings-determined d names text p asked bytes b e h k = bindings-only d names p bytes (distinct d names text p asked) e k b h

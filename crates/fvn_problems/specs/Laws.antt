@@ -1,5 +1,5 @@
 -- What is proved of all texts.
-use Rattle.std.specs.Prelude.{◌≡◌, List, ◌++◌, All, Ok}
+use Rattle.std.specs.Prelude.{◌≡◌, ◌≢◌, List, ◌++◌, All, AllPairs, Ok}
 use Rattle.std.specs.List.{AllByRecursion}
 use Rattle.fvn_terms.specs.declared.declarations.Declarations.{Declarations}
 use Rattle.fvn_syntax.specs.declared.names.Names.{Names}
@@ -69,6 +69,12 @@ abbrev pub ProblemNamesAreWords : Type 0
 ProblemNamesAreWords =
     (d : Declarations) (names : Names) (bytes : Text) (p : Problem) →
     IsProblem d names bytes p → All IsVariableText p.names.texts
+
+-- No two variables of a problem have one name.
+abbrev pub ProblemNamesDiffer : Type 0
+ProblemNamesDiffer =
+    (d : Declarations) (names : Names) (bytes : Text) (p : Problem) →
+    IsProblem d names bytes p → AllPairs (λ x y. x ≢ y) p.names.texts
 
 -- A text asks one term at most.
 abbrev pub QueriesAreDetermined : Type 0

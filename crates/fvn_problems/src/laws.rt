@@ -9,6 +9,7 @@ ghost use Rattle.fvn_problems.specs.Laws.{
   BindingFaultsAreDetermined,
   QueryNamesAreWords,
   ProblemNamesAreWords,
+  ProblemNamesDiffer,
   QueriesAreDetermined,
   ProblemsAreDetermined,
   BindingsAreDetermined,
@@ -69,6 +70,11 @@ pub fn problem_names_are_words()
     pieces_by_form();
     pieces_stand_alone();
 }
+
+/// No two variables of a problem have one name.
+pub fn problem_names_differ()
+    ensures { ProblemNamesDiffer }
+{}
 
 /// A text asks one term at most.
 pub fn queries_are_determined()
