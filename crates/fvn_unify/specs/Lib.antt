@@ -1,0 +1,6 @@
+-- The words of the reply to `unify`.
+pub mod Asked
+pub mod Ends
+pub mod Solutions
+pub mod Replies
+pub mod inner
