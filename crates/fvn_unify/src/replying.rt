@@ -4,7 +4,7 @@ ghost use Rattle.fvn_answer.specs.Asked.{AreAsked};
 ghost use Rattle.fvn_commands.specs.Texts.{bytes_of};
 ghost use Rattle.fvn_problems.specs.Problems.{AreOfOneKind, HasVariables};
 ghost use Rattle.fvn_unify.specs.Replies.{IsAnswer, IsUnifyReply};
-ghost use Rattle.fvn_unify.specs.inner.Steps.{RepliesIn};
+ghost use Rattle.fvn_unify.specs.inner.Steps.{IsSolved, RepliesIn};
 
 use crate::ends::{end_told, status_of_end};
 use crate::lines::lines_of;
@@ -13,13 +13,30 @@ use fvn_answer::{answer_text, equal_lines_are_instances};
 use fvn_axunify::{AxiomUnify, SolveLimits};
 use fvn_base::limits::{TERM_SYMBOLS, UNIFIERS};
 use fvn_commands::{Answer, Text, refuse_module, refuse_problem};
-use fvn_flat::{
-    answers_to_flattened_pairs, flattened_pairs_are_given, flattened_pairs_have_one_answer,
-};
+use fvn_flat::{Solved, answers_to_flattened_pairs, flattened_pairs_are_given};
 use fvn_module::{Module, read_module};
 use fvn_problems::{Problem, problem_names_are_words, problem_names_differ, read_problem};
 use fvn_terms::NoMemory;
 use std::alloc::Global;
+
+// What the solver finds.
+fn solved(alloc: Global, declared: &Module, problem: &Problem) -> Result<Solved, NoMemory>
+    requires kinded { All (AreOfOneKind declared.now.signature) problem.now.pairs }
+    requires vars { HasVariables declared.now.signature problem.now }
+    ensures { IfOk result (IsSolved declared.now problem.now) }
+{
+    flattened_pairs_are_given();
+    let signature = declared.signature();
+    signature.recall_good();
+    let limits = SolveLimits {
+        unifiers: UNIFIERS,
+        size: TERM_SYMBOLS,
+    };
+    let given = flattened(alloc, signature, problem.pairs.as_slice())?;
+    let solver = AxiomUnify::new(signature, limits);
+    let found = solver.unify(alloc, &given, 0)?;
+    Ok(found)
+}
 
 // The answer to a problem.
 fn answer(alloc: Global, declared: &Module, problem: &Problem) -> Result<Answer, NoMemory>
@@ -29,20 +46,12 @@ fn answer(alloc: Global, declared: &Module, problem: &Problem) -> Result<Answer,
     ensures { IfOk result (λ a. IsAnswer declared.now problem.now a.status (bytes_of a.text)) }
 {
     answers_to_flattened_pairs();
-    flattened_pairs_are_given();
-    flattened_pairs_have_one_answer();
     equal_lines_are_instances();
-    let signature = declared.signature();
-    signature.recall_good();
-    let limits = SolveLimits {
-        unifiers: UNIFIERS,
-        size: TERM_SYMBOLS,
-    };
-    let given = flattened(alloc, signature, problem.pairs.as_slice())?;
-    let solved = AxiomUnify::new(signature, limits).unify(alloc, &given, 0)?;
-    let unifiers = solved.unifiers.as_slice();
+    declared.signature().recall_good();
+    let found = solved(alloc, declared, problem)?;
+    let unifiers = found.unifiers.as_slice();
     let lines = lines_of(alloc, declared, problem, unifiers)?;
-    let end = end_told(&solved.end, unifiers.len());
+    let end = end_told(&found.end, unifiers.len());
     let text = answer_text(alloc, declared, lines, &end)?;
     Ok(Answer {
         status: status_of_end(&end),

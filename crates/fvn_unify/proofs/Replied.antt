@@ -1,0 +1,59 @@
+-- How the steps of `unify` make its reply.
+use Rattle.std.proofs.Common.{◌≡◌, ℕ, List, map, length, sym, ap, ◌∙◌, subst}
+use Rattle.std.specs.Prelude.{All}
+use Rattle.fvn_terms.specs.declared.declarations.Declarations.{Declarations}
+use Rattle.fvn_forms.specs.FitsKinds.{FitsKinds}
+use Rattle.fvn_flat.specs.Laws.{AnswersToFlattenedPairs}
+use Rattle.fvn_flat.specs.Bindings.{Bindings}
+use Rattle.fvn_flat.specs.Solving.{substitution}
+use Rattle.fvn_flat.specs.declared.solver.Solved.{Solved}
+use Rattle.fvn_syntax.specs.declared.names.Names.{Names}
+use Rattle.fvn_syntax.specs.Pieces.{Text}
+use Rattle.fvn_problems.specs.declared.fault.ProblemFault.{ProblemFault}
+use Rattle.fvn_problems.specs.declared.problem.Problem.{Problem}
+use Rattle.fvn_problems.specs.Problems.{IsProblem, RefusesProblem, AreOfOneKind, HasVariables}
+use Rattle.fvn_module.specs.declared.fault.ModuleFault.{ModuleFault}
+use Rattle.fvn_module.specs.Contents.{Contents}
+use Rattle.fvn_module.specs.Refusals.{Refuses}
+use Rattle.fvn_answer.specs.Answers.{IsAnswerText}
+use Rattle.fvn_answer.specs.Laws.{EqualLinesAreInstances}
+use Rattle.fvn_answer.specs.declared.end.End.{End}
+use Rattle.fvn_commands.specs.declared.status.Status.{Status}
+use Rattle.fvn_commands.specs.declared.status.Status.TheVariants.{ModuleRefused, ProblemRefused}
+use Rattle.fvn_commands.specs.Checks.{IsRefusalLine}
+use Rattle.fvn_commands.specs.Verifying.{IsProblemRefusalLine}
+use Rattle.fvn_unify.specs.Ends.{status_of_end}
+use Rattle.fvn_unify.specs.Replies.{IsAnswer, IsUnifyReply, module_refused, problem_refused, answered}
+use Rattle.fvn_unify.specs.inner.Told.{end_told, AreLinesOfBindings}
+use Rattle.fvn_unify.specs.inner.Steps.{IsSolved, RepliesIn}
+use Rattle.fvn_unify.proofs.Solving.{solved-solution}
+use Rattle.fvn_unify.proofs.Counting.{shown-lines}
+
+pub answer-told : (m : Contents) (p : Problem) → All (AreOfOneKind m.signature) p.pairs → HasVariables m.signature p → AnswersToFlattenedPairs → EqualLinesAreInstances → FitsKinds m.signature →
+    (r : Solved) → IsSolved m p r → (lines : List Text) → AreLinesOfBindings m p r.unifiers lines → (end : End) → end ≡ end_told r.end (length r.unifiers) → (text : Text) → IsAnswerText m.signature m.names lines end text →
+    (status : Status) → status ≡ status_of_end end → IsAnswer m p status text
+answer-told m p kinded vars law lines_law fits r s lines h end told text shown status is =
+    let e = end_told r.end (length r.unifiers) in
+    let solution = solved-solution m p kinded vars r s law fits in
+    record {
+      values = map substitution r.unifiers;
+      end = e;
+      solution = solution;
+      shown = shown-lines m p lines_law r.unifiers lines h solution.apart e text (subst (λ x. IsAnswerText m.signature m.names lines x text) told shown);
+      status_is = is ∙ ap status_of_end told;
+    }
+
+pub module-refused : (bytes word : List ℕ) (fault : ModuleFault) → Refuses bytes fault → (s : Status) (t : List ℕ) → s ≡ ModuleRefused → IsRefusalLine fault t → IsUnifyReply bytes word s t
+module-refused bytes word fault h s t e is = subst (λ x. IsUnifyReply bytes word x t) (sym e) (module_refused (record { fault = fault; first = h; line_of = is }))
+
+module _ (m : Contents) (d : Declarations) (names : Names) (signature_is : d ≡ m.signature) (names_are : names ≡ m.names) where
+  in_module : (P : Declarations → Names → Type 0) → P d names → P m.signature m.names
+  in_module P h = subst (λ x. P m.signature x) names_are (subst (λ x. P x names) signature_is h)
+
+  pub problem-refused : (word : List ℕ) (fault : ProblemFault) → RefusesProblem d names word fault → (s : Status) (t : List ℕ) → s ≡ ProblemRefused → IsProblemRefusalLine fault t → RepliesIn m word s t
+  problem-refused word fault h s t e is bytes module_text =
+      subst (λ x. IsUnifyReply bytes word x t) (sym e)
+      (problem_refused m module_text (record { fault = fault; first = in_module (λ x y. RefusesProblem x y word fault) h; line_of = is }))
+
+  pub problem-answered : (word : List ℕ) (p : Problem) → IsProblem d names word p → (s : Status) (t : List ℕ) → IsAnswer m p s t → RepliesIn m word s t
+  problem-answered word p h s t a bytes module_text = answered m p (record { module_text = module_text; problem_text = in_module (λ x y. IsProblem x y word p) h }) a
