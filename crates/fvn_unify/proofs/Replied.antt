@@ -15,7 +15,7 @@ use Rattle.fvn_problems.specs.Problems.{IsProblem, RefusesProblem, AreOfOneKind,
 use Rattle.fvn_module.specs.declared.fault.ModuleFault.{ModuleFault}
 use Rattle.fvn_module.specs.Contents.{Contents}
 use Rattle.fvn_module.specs.Refusals.{Refuses}
-use Rattle.fvn_answer.specs.Answers.{IsAnswerText}
+use Rattle.fvn_answer.specs.Answers.{FitsEnd, IsAnswerText}
 use Rattle.fvn_answer.specs.Laws.{EqualLinesAreInstances}
 use Rattle.fvn_answer.specs.declared.end.End.{End}
 use Rattle.fvn_commands.specs.declared.status.Status.{Status}
@@ -26,22 +26,27 @@ use Rattle.fvn_unify.specs.Ends.{status_of_end}
 use Rattle.fvn_unify.specs.Replies.{IsAnswer, IsUnifyReply, module_refused, problem_refused, answered}
 use Rattle.fvn_unify.specs.inner.Told.{end_told, AreLinesOfBindings}
 use Rattle.fvn_unify.specs.inner.Steps.{IsSolved, RepliesIn}
-use Rattle.fvn_unify.proofs.Solving.{solved-solution}
+use Rattle.fvn_unify.proofs.Solving.{solved-fits, solved-solution}
 use Rattle.fvn_unify.proofs.Counting.{shown-lines}
 
-pub answer-told : (m : Contents) (p : Problem) → All (AreOfOneKind m.signature) p.pairs → HasVariables m.signature p → AnswersToFlattenedPairs → EqualLinesAreInstances → FitsKinds m.signature →
-    (r : Solved) → IsSolved m p r → (lines : List Text) → AreLinesOfBindings m p r.unifiers lines → (end : End) → end ≡ end_told r.end (length r.unifiers) → (text : Text) → IsAnswerText m.signature m.names lines end text →
-    (status : Status) → status ≡ status_of_end end → IsAnswer m p status text
-answer-told m p kinded vars law lines_law fits r s lines h end told text shown status is =
-    let e = end_told r.end (length r.unifiers) in
-    let solution = solved-solution m p kinded vars r s law fits in
-    record {
-      values = map substitution r.unifiers;
-      end = e;
-      solution = solution;
-      shown = shown-lines m p lines_law r.unifiers lines h solution.apart e text (subst (λ x. IsAnswerText m.signature m.names lines x text) told shown);
-      status_is = is ∙ ap status_of_end told;
-    }
+module _ (m : Contents) (p : Problem) (kinded : All (AreOfOneKind m.signature) p.pairs) (vars : HasVariables m.signature p) (r : Solved) (s : IsSolved m p r) (unifiers : List Bindings) (are : unifiers ≡ r.unifiers) where
+  pub told-fits_end : (end : End) → end ≡ end_told r.end (length unifiers) → FitsEnd m.signature end
+  told-fits_end end told = subst (FitsEnd m.signature) (sym (told ∙ ap (λ l. end_told r.end (length l)) are)) (solved-fits m p kinded vars r s)
+
+  pub answer-told : AnswersToFlattenedPairs → EqualLinesAreInstances → (d : Declarations) → d ≡ m.signature → FitsKinds d → (lines : List Text) → AreLinesOfBindings m p unifiers lines →
+      (end : End) → end ≡ end_told r.end (length unifiers) → (text : Text) → IsAnswerText m.signature m.names lines end text → (status : Status) → status ≡ status_of_end end → IsAnswer m p status text
+  answer-told law lines_law d signature_is fits lines h end told text shown status is =
+      let e = end_told r.end (length r.unifiers) in
+      let end_is : end ≡ e = told ∙ ap (λ l. end_told r.end (length l)) are in
+      let solution = solved-solution m p kinded vars r s law (subst FitsKinds signature_is fits) in
+      let listed : AreLinesOfBindings m p r.unifiers lines = subst (λ l. AreLinesOfBindings m p l lines) are h in
+      record {
+        values = map substitution r.unifiers;
+        end = e;
+        solution = solution;
+        shown = shown-lines m p lines_law r.unifiers lines listed solution.apart e text (subst (λ x. IsAnswerText m.signature m.names lines x text) end_is shown);
+        status_is = is ∙ ap status_of_end end_is;
+      }
 
 pub module-refused : (bytes word : List ℕ) (fault : ModuleFault) → Refuses bytes fault → (s : Status) (t : List ℕ) → s ≡ ModuleRefused → IsRefusalLine fault t → IsUnifyReply bytes word s t
 module-refused bytes word fault h s t e is = subst (λ x. IsUnifyReply bytes word x t) (sym e) (module_refused (record { fault = fault; first = h; line_of = is }))

@@ -1,11 +1,10 @@
 -- A line for each unifier, and the end.
 use Rattle.std.proofs.Common.{sym, subst}
 use Rattle.std.specs.Prelude.{All}
-use Rattle.fvn_answer.specs.Answers.{FitsEnd}
 use Rattle.fvn_answer.specs.Asked.{HaveSorts}
 use Rattle.fvn_flat.specs.Bindings.{BindingsFit}
-use Rattle.fvn_unify.proofs.Solving.{solved-fits, solved-bindings, solved-sorts}
-use Rattle.fvn_unify.proofs.Replied.{answer-told}
+use Rattle.fvn_unify.proofs.Solving.{solved-bindings, solved-sorts}
+use Rattle.fvn_unify.proofs.Replied.{told-fits_end, answer-told}
 use Rattle.fvn_unify.proofs.replying.answer.Goals as goal
 
 pub lines_of-requires-clause-fit : goal.lines_of-requires-clause-fit
@@ -20,10 +19,9 @@ lines_of-requires-clause-sorts c =
 
 pub answer_text-requires : goal.answer_text-requires
 answer_text-requires c =
-    subst (FitsEnd c.args.declared.now.signature) (sym c.end_told-end.ensures)
-    (solved-fits c.args.declared.now c.args.problem.now c.requires.kinded c.requires.vars c.in_ok-found.found c.in_ok-found.ensures)
+    told-fits_end c.args.declared.now c.args.problem.now c.requires.kinded c.requires.vars c.in_ok-found.found c.in_ok-found.ensures _ c.as_slice-unifiers.ensures c.end_told-end.result c.end_told-end.ensures
 
 pub returns : goal.returns
 returns c =
-    answer-told c.args.declared.now c.args.problem.now c.requires.kinded c.requires.vars c.answers_to_flattened_pairs.ensures c.equal_lines_are_instances.ensures c.recall_good.ensures.fits
-    c.in_ok-found.found c.in_ok-found.ensures _ c.in_ok-lines.ensures c.end_told-end.result c.end_told-end.ensures _ c.in_ok-text.ensures _ c.status_of_end.ensures
+    answer-told c.args.declared.now c.args.problem.now c.requires.kinded c.requires.vars c.in_ok-found.found c.in_ok-found.ensures _ c.as_slice-unifiers.ensures
+    c.answers_to_flattened_pairs.ensures c.equal_lines_are_instances.ensures _ c.signature.ensures c.recall_good.ensures.fits _ c.in_ok-lines.ensures c.end_told-end.result c.end_told-end.ensures _ c.in_ok-text.ensures _ c.status_of_end.ensures
