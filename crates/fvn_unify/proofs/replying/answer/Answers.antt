@@ -18,8 +18,11 @@ lines_of-requires-clause-sorts c =
     (solved-sorts c.args.declared.now c.args.problem.now c.requires.kinded c.requires.vars c.in_ok-found.found c.in_ok-found.ensures)
 
 pub answer_text-requires : goal.answer_text-requires
-answer_text-requires c =
-    told-fits_end c.args.declared.now c.args.problem.now c.requires.kinded c.requires.vars c.in_ok-found.found c.in_ok-found.ensures _ c.as_slice-unifiers.ensures c.end_told-end.result c.end_told-end.ensures
+answer_text-requires c = record {
+  end =
+      told-fits_end c.args.declared.now c.args.problem.now c.requires.kinded c.requires.vars c.in_ok-found.found c.in_ok-found.ensures _ c.as_slice-unifiers.ensures c.end_told-end.result
+      c.end_told-end.ensures;
+}
 
 pub returns : goal.returns
 returns c =
