@@ -1,6 +1,6 @@
 -- What the solver's answer to the flattened pairs says of the problem.
 use Rattle.std.proofs.Common.{◌≡◌, ℕ, ◌<◌, List, map, length, refl, sym, ◌∙◌, subst, inl, inr}
-use Rattle.std.specs.Prelude.{All, Any}
+use Rattle.std.specs.Prelude.{All}
 use Rattle.std.proofs.lemmas.Bool.{cases_lt}
 use Rattle.std.proofs.lemmas.List.{get_or_past, length-map}
 use Rattle.std.proofs.lemmas.List.Elements.{All-map, All-weaker}
@@ -9,7 +9,7 @@ use Rattle.fvn_terms.specs.declared.plain.OpId.{OpId}
 use Rattle.fvn_terms.specs.declared.plain.Plain.{Plain}
 use Rattle.fvn_terms.specs.declared.declarations.OpDecl.{OpDecl}
 use Rattle.fvn_terms.specs.declared.declarations.Declarations.{Declarations}
-use Rattle.fvn_terms.specs.Signature.{axioms, declared, unknown}
+use Rattle.fvn_terms.specs.Signature.{axioms, unknown}
 use Rattle.fvn_terms.specs.Equality.{IsAssociative}
 use Rattle.fvn_terms.specs.Substitution.{Substitution}
 use Rattle.fvn_terms.specs.Unifiers.{IsUnifier}
@@ -17,7 +17,7 @@ use Rattle.fvn_terms.specs.CompleteSets.{IsCompleteSet, IsApart}
 use Rattle.fvn_terms.proofs.Instances.{shortest_unifiers}
 use Rattle.fvn_forms.specs.Flat.{FlatTerm}
 use Rattle.fvn_forms.specs.FitsKinds.{FitsKinds}
-use Rattle.fvn_flat.specs.Bindings.{Bindings, BindsOnce, BindingsFit}
+use Rattle.fvn_flat.specs.Bindings.{BindsOnce, BindingsFit}
 use Rattle.fvn_flat.specs.Drawn.{IsDrawn}
 use Rattle.fvn_flat.specs.Laws.{AnswersToFlattenedPairs, FlattenedPairsAreGiven}
 use Rattle.fvn_flat.specs.OneAnswer.{IsCompleteFor, IsApartFor}
@@ -34,7 +34,6 @@ use Rattle.fvn_module.specs.Contents.{Contents}
 use Rattle.fvn_axunify.specs.Answers.{IsAnswer}
 use Rattle.fvn_answer.specs.Answers.{FitsEnd}
 use Rattle.fvn_answer.specs.Asked.{HaveSorts}
-use Rattle.fvn_answer.specs.declared.end.End.{End}
 use Rattle.fvn_answer.specs.declared.end.End.TheVariants.{Complete}
 use Rattle.fvn_unify.specs.Asked.{pairs_of, Unifies, IsInstanceOf, flattened}
 use Rattle.fvn_unify.specs.Ends.{AreFlattened, IsCauseOf}

@@ -1,5 +1,5 @@
 -- How an answer to `unify` ends, with which status, and why.
-use Rattle.std.specs.Prelude.{ℕ, zero, suc, ◌≡◌, List, length}
+use Rattle.std.specs.Prelude.{zero, suc, ◌≡◌, List, length}
 use Rattle.fvn_base.specs.declared.limits.TheConstants.{TERM_SYMBOLS, UNIFIERS}
 use Rattle.fvn_terms.specs.declared.plain.OpId.{OpId}
 use Rattle.fvn_terms.specs.Substitution.{Substitution}
