@@ -1,7 +1,7 @@
 -- Numbers above those of variables, variable by variable and substitution by substitution.
 use Rattle.std.proofs.Common.{◌≡◌, ◌≤◌, ◌<◌, ◌+◌, ◌⊎◌, ℕ, List, [], ◌∷◌, ◌++◌, take, length, get_or, refl, sym, ap, ◌∙◌, subst, inl, inr, arith}
 use Rattle.std.specs.Prelude.{All, Any}
-use Rattle.std.proofs.lemmas.List.{take_more}
+use Rattle.std.proofs.lemmas.List.{take_more, get_or_default}
 use Rattle.std.proofs.lemmas.List.Elements.{All-nil, All-push, All-weaker, Contains-append_left}
 use Rattle.std.proofs.lemmas.List.Quantifiers.{Any-push}
 use Rattle.fvn_base.specs.declared.limits.TheConstants.{NEXT_FRESH}
@@ -45,9 +45,13 @@ above_raised low vars i y l e small n a over =
     }
     )
 
-pub above_more : (low : ℕ) (vars : List Var) (i : ℕ) (y : Var) → i < length vars → y ≡ get_or vars i y → y.name < NEXT_FRESH → (n m : ℕ) → IsAbove low (take i vars) n → IsRaised n y.name m → IsAbove low (take (i + 1) vars) m
+above_more : (low : ℕ) (vars : List Var) (i : ℕ) (y : Var) → i < length vars → y ≡ get_or vars i y → y.name < NEXT_FRESH → (n m : ℕ) → IsAbove low (take i vars) n → IsRaised n y.name m → IsAbove low (take (i + 1) vars) m
 above_more low vars i y l e small n m a (inl r) = subst (IsAbove low (take (i + 1) vars)) (sym r.1) (above_kept low vars i y l e n a r.0)
 above_more low vars i y l e small n m a (inr r) = subst (IsAbove low (take (i + 1) vars)) (sym r.1) (above_raised low vars i y l e small n a r.0)
+
+-- the variable at a place
+pub above_at : (low : ℕ) (vars : List Var) (i : ℕ) (e : Var) → i < length vars → (get_or vars i e).name < NEXT_FRESH → (n m : ℕ) → IsAbove low (take i vars) n → IsRaised n (get_or vars i e).name m → IsAbove low (take (i + 1) vars) m
+above_at low vars i e l small n m a r = above_more low vars i (get_or vars i e) l (get_or_default vars i e (get_or vars i e) l) small n m a r
 
 -- substitutions
 

@@ -43,7 +43,7 @@ mutual
   from_term (fvar x) vars y c = elim (listed_new vars x y c) [ inl o ↦ inl o | inr e ↦ inr (sym e) ]
   from_term (fapp f joined ts) vars y c = elim (from_terms ts vars y c) [ inl o ↦ inl o | inr o ↦ inr ((occurs_in_app y f joined ts).1 o) ]
 
-  from_terms : (ts : FlatTerms) (vars : List Var) (y : Var) → Contains (with_all_variables ts vars) y → Contains vars y ⊎ OccursAmong y (plain_all ts)
+  pub from_terms : (ts : FlatTerms) (vars : List Var) (y : Var) → Contains (with_all_variables ts vars) y → Contains vars y ⊎ OccursAmong y (plain_all ts)
   from_terms fnone vars y c = inl c
   from_terms (fmore t ts) vars y c = elim (from_terms ts (with_variables t vars) y c) [
     | inr o ↦ inr (inr o)
@@ -113,12 +113,15 @@ with_pairs-push (q ∷ ps) p vars = with_pairs-push ps p (with_variables q.1 (wi
 pub with_pairs-step : (ps : FlatPairs) (i : ℕ) (p : FlatTerm × FlatTerm) (vars : List Var) → i < length ps → p ≡ get_or ps i p → with_pairs (take (i + 1) ps) vars ≡ with_variables p.1 (with_variables p.0 (with_pairs (take i ps) vars))
 with_pairs-step ps i p vars l e = ap (λ l. with_pairs l vars) (take_more ps i p l ∙ ap (λ q. take i ps ++ q ∷ []) (sym e)) ∙ with_pairs-push (take i ps) p vars
 
+plain_zero : (n : ℕ) → n + 0 ≡ n
+plain_zero n = omega arith
+
 -- the symbols of one more pair
 pub symbols-step : (ps : FlatPairs) (i : ℕ) (p : FlatTerm × FlatTerm) → i < length ps → p ≡ get_or ps i p → symbols_of_pairs (take (i + 1) ps) ≡ symbols_of_pairs (take i ps) + (symbols p.0 + symbols p.1)
 symbols-step ps i p l e =
     ap symbols_of_pairs (take_more ps i p l ∙ ap (λ q. take i ps ++ q ∷ []) (sym e))
     ∙ sum_by-append (λ p. symbols p.0 + symbols p.1) (take i ps) (p ∷ [])
-    ∙ ap (λ n. symbols_of_pairs (take i ps) + n) (sum_by-cons (λ p. symbols p.0 + symbols p.1) p [])
+    ∙ ap (λ n. symbols_of_pairs (take i ps) + n) (sum_by-cons (λ p. symbols p.0 + symbols p.1) p [] ∙ plain_zero (symbols p.0 + symbols p.1))
 
 -- those of some of them are no more
 pub symbols-front : (ps : FlatPairs) (n : ℕ) → symbols_of_pairs (take n ps) ≤ symbols_of_pairs ps

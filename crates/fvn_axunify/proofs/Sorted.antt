@@ -4,6 +4,7 @@ use Rattle.std.specs.Prelude.{◌↔◌, ◌⊎◌, All, Contains}
 use Rattle.std.specs.Option.{option_map, IsSome}
 use Rattle.std.proofs.lemmas.List.Elements.{All-nil, All-cons, All-head, All-tail, All-weaker, All-contains_itself, Contains-append_left, Contains-append_right, Contains-append_cases}
 use Rattle.fvn_base.specs.declared.limits.TheConstants.{NEXT_FRESH}
+use Rattle.fvn_base.proofs.Membership.{contains_none}
 use Rattle.fvn_terms.specs.declared.plain.Var.{Var}
 use Rattle.fvn_terms.specs.declared.plain.SortId.{SortId}
 use Rattle.fvn_terms.specs.declared.declarations.Declarations.{Declarations}
@@ -38,15 +39,15 @@ use Rattle.fvn_axunify.proofs.SameValues.{apply_equal}
 use Rattle.fvn_axunify.proofs.WaysAlong.{HaveOneForm, maximal_along}
 
 -- variables of problems have sorts of the signature
-variable_sorts : (d : Declarations) (ps : Problem) → IsProblem d ps → (x : Var) → Contains (variables_of ps) x → IsSort d x.sort
-variable_sorts d [] h x (k, l, e) = absurd l
+pub variable_sorts : (d : Declarations) (ps : Problem) → IsProblem d ps → (x : Var) → Contains (variables_of ps) x → IsSort d x.sort
+variable_sorts d [] h x c = absurd (contains_none x c)
 variable_sorts d (p ∷ ps) h x c =
     let own = All-head (λ p. (k : SortId) × HasKind d p.0 k × HasKind d p.1 k) p ps h in
     elim (Contains-append_cases (variables p.0 ++ variables p.1) (variables_of ps) x c) [
       | inl a ↦
           elim (Contains-append_cases (variables p.0) (variables p.1) x a) [
-            | inl b ↦ occurring_sort d p.0 own.0 own.1.0 x (variables_occur x p.0 b)
-            | inr b ↦ occurring_sort d p.1 own.0 own.1.1 x (variables_occur x p.1 b)
+            | inl b ↦ occurring_sort d p.0 own.0 own.1 x (variables_occur x p.0 b)
+            | inr b ↦ occurring_sort d p.1 own.0 own.2 x (variables_occur x p.1 b)
           ]
       | inr r ↦ variable_sorts d ps (All-tail (λ p. (k : SortId) × HasKind d p.0 k × HasKind d p.1 k) p ps h) x r
     ]

@@ -1,5 +1,5 @@
 //! A problem as a whole: its variables, whether it is too large, and a copy of it.
-ghost use Rattle.std.specs.Prelude.{◌≡◌, ◌<◌, ◌-◌, ◌^◌, ◌↔◌, IsTrue, IfOk};
+ghost use Rattle.std.specs.Prelude.{◌≡◌, ◌<◌, ◌-◌, ◌^◌, ◌↔◌, [], IsTrue, IfOk};
 ghost use Rattle.fvn_flat.specs.Solving.{symbols_of_pairs};
 ghost use Rattle.fvn_axunify.specs.inner.Asked.{with_pairs, AreVariablesOf};
 

@@ -1,20 +1,20 @@
 -- One more variable.
-use Rattle.std.proofs.Common.{subst, get_or}
+use Rattle.std.proofs.Common.{subst}
 use Rattle.std.proofs.lemmas.List.{take_all}
 use Rattle.fvn_axunify.specs.inner.Numbers.{IsAbove}
-use Rattle.fvn_axunify.proofs.Above.{above_none, above_more}
+use Rattle.fvn_axunify.proofs.Above.{above_none, above_at}
 use Rattle.fvn_axunify.proofs.numbers.above.Goals as goal
 
 pub loop-y-init : goal.loop-y-init
 loop-y-init c = above_none c.args.low c.requires.low
 
-pub raised-requires : goal.raised-requires
-raised-requires c = c.requires.below c.loop-y.y-index _ c.loop-y-test.true
+pub raised-next-requires : goal.raised-next-requires
+raised-next-requires c = c.requires.below c.loop-y.y-index _ c.loop-y-test.true
 
 pub loop-y-preserved : goal.loop-y-preserved
 loop-y-preserved c =
-    above_more c.args.low c.args.vars.now c.loop-y.y-index c.y-item.result c.loop-y-test.true c.y-item.is (c.requires.below c.loop-y.y-index _ c.loop-y-test.true)
-    c.loop-y.next c.raised.result c.loop-y.invariant c.raised.ensures
+    above_at c.args.low c.args.vars.now c.loop-y.y-index _ c.loop-y-test.true (c.requires.below c.loop-y.y-index _ c.loop-y-test.true)
+    c.loop-y.next c.raised-next.result c.loop-y.invariant c.raised-next.ensures
 
 pub returns : goal.returns
 returns c = subst (λ l. IsAbove c.args.low l c.loop-y.next) (take_all c.loop-y.y-index c.args.vars.now c.loop-y-test.false) c.loop-y.invariant

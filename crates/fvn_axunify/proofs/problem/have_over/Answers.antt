@@ -1,5 +1,5 @@
 -- A side is larger than what is left, or the limit is kept.
-use Rattle.std.proofs.Common.{◌≡◌, ap, ◌∙◌, arith}
+use Rattle.std.proofs.Common.{◌≡◌, ◌+◌, ap, refl, ◌∙◌, arith}
 use Rattle.std.proofs.lemmas.List.{take_all}
 use Rattle.fvn_flat.specs.Solving.{symbols_of_pairs}
 use Rattle.fvn_axunify.proofs.Pairs.{symbols-step, symbols-front}
@@ -10,11 +10,17 @@ loop-a-preserved c =
     let step = symbols-step c.args.pairs.now c.loop-a.a-index c.loop-a-item.result c.loop-a-test.true c.loop-a-item.is in
     omega (arith, c.requires, c.loop-a.invariant, step, c.size-first.ensures, c.size-second.ensures, c.if-left-first.false, c.if-left-second.false)
 
-pub returns-in-then-first : goal.returns-in-then-first
-returns-in-then-first c =
+pub returns-then-left-first : goal.returns-then-left-first
+returns-then-left-first c =
     let step = symbols-step c.args.pairs.now c.loop-a.a-index c.loop-a-item.result c.loop-a-test.true c.loop-a-item.is in
     let front = symbols-front c.args.pairs.now (c.loop-a.a-index + 1) in
-    (λ t. omega (arith, c.requires, c.loop-a.invariant, step, front, c.size-first.ensures, c.if-left-first.true), λ l. c.if-left-first.true)
+    (λ t. omega (arith, c.requires, c.loop-a.invariant, step, front, c.size-first.ensures, c.if-left-first.true), λ l. refl)
+
+pub returns-then-left-second : goal.returns-then-left-second
+returns-then-left-second c =
+    let step = symbols-step c.args.pairs.now c.loop-a.a-index c.loop-a-item.result c.loop-a-test.true c.loop-a-item.is in
+    let front = symbols-front c.args.pairs.now (c.loop-a.a-index + 1) in
+    (λ t. omega (arith, c.requires, c.loop-a.invariant, step, front, c.size-first.ensures, c.if-left-first.false, c.size-second.ensures, c.if-left-second.true), λ l. refl)
 
 pub returns : goal.returns
 returns c =
