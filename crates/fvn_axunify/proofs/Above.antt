@@ -1,6 +1,7 @@
 -- Numbers above those of variables, variable by variable and substitution by substitution.
 use Rattle.std.proofs.Common.{◌≡◌, ◌≤◌, ◌<◌, ◌+◌, ◌⊎◌, ℕ, List, [], ◌∷◌, ◌++◌, take, length, get_or, refl, sym, ap, ◌∙◌, subst, inl, inr, arith}
-use Rattle.std.specs.Prelude.{All, Any}
+use Rattle.std.specs.Prelude.{max, All, Any}
+use Rattle.std.proofs.lemmas.Bool.{cases_lt}
 use Rattle.std.proofs.lemmas.List.{take_more, get_or_default}
 use Rattle.std.proofs.lemmas.List.Elements.{All-nil, All-push, All-weaker, Contains-append_left}
 use Rattle.std.proofs.lemmas.List.Quantifiers.{Any-push}
@@ -10,7 +11,7 @@ use Rattle.fvn_flat.specs.Bindings.{Bindings}
 use Rattle.fvn_cover.proofs.Leftovers.{any_contains, any_of}
 use Rattle.fvn_refine.specs.Refinements.{variables_of_terms}
 use Rattle.fvn_axunify.specs.Exact.{IsJustAbove}
-use Rattle.fvn_axunify.specs.inner.Numbers.{IsRaised, AreBelow, IsAbove, IsAboveAll}
+use Rattle.fvn_axunify.specs.inner.Numbers.{AreBelow, IsAbove, IsAboveAll}
 
 pub above_none : (low : ℕ) → low ≤ NEXT_FRESH → IsAbove low [] low
 above_none low l = record { from = omega arith; small = l; below = All-nil (λ y. y.name < low); just = inl refl }
@@ -45,13 +46,16 @@ above_raised low vars i y l e small n a over =
     }
     )
 
-above_more : (low : ℕ) (vars : List Var) (i : ℕ) (y : Var) → i < length vars → y ≡ get_or vars i y → y.name < NEXT_FRESH → (n m : ℕ) → IsAbove low (take i vars) n → IsRaised n y.name m → IsAbove low (take (i + 1) vars) m
-above_more low vars i y l e small n m a (inl r) = subst (IsAbove low (take (i + 1) vars)) (sym r.1) (above_kept low vars i y l e n a r.0)
-above_more low vars i y l e small n m a (inr r) = subst (IsAbove low (take (i + 1) vars)) (sym r.1) (above_raised low vars i y l e small n a r.0)
+-- the number is raised where it has to be
+pub above_at : (low : ℕ) (vars : List Var) (i : ℕ) (e : Var) → i < length vars → (get_or vars i e).name < NEXT_FRESH → (n m : ℕ) → IsAbove low (take i vars) n → m ≡ max n ((get_or vars i e).name + 1) → IsAbove low (take (i + 1) vars) m
+above_at low vars i e l small n m a is = go (cases_lt (get_or vars i e).name n)
+  where
+    here : get_or vars i e ≡ get_or vars i (get_or vars i e)
+    here = get_or_default vars i e (get_or vars i e) l
 
--- the variable at a place
-pub above_at : (low : ℕ) (vars : List Var) (i : ℕ) (e : Var) → i < length vars → (get_or vars i e).name < NEXT_FRESH → (n m : ℕ) → IsAbove low (take i vars) n → IsRaised n (get_or vars i e).name m → IsAbove low (take (i + 1) vars) m
-above_at low vars i e l small n m a r = above_more low vars i (get_or vars i e) l (get_or_default vars i e (get_or vars i e) l) small n m a r
+    go : ((get_or vars i e).name < n) ⊎ (n ≤ (get_or vars i e).name) → IsAbove low (take (i + 1) vars) m
+    go (inl k) = subst (IsAbove low (take (i + 1) vars)) (omega (arith, is, k)) (above_kept low vars i (get_or vars i e) l here n a k)
+    go (inr k) = subst (IsAbove low (take (i + 1) vars)) (omega (arith, is, k)) (above_raised low vars i (get_or vars i e) l here small n a k)
 
 -- substitutions
 

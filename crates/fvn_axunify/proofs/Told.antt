@@ -27,7 +27,7 @@ use Rattle.fvn_cover.proofs.Leftovers.{any_contains, any_of}
 use Rattle.fvn_refine.specs.Refinements.{variables_of_terms}
 use Rattle.fvn_refine.proofs.Refined.{listed_member}
 use Rattle.fvn_refine.proofs.VariablesListed.{occurs_in_terms}
-use Rattle.fvn_axunify.specs.Answers.{IsAnswer}
+use Rattle.fvn_axunify.specs.Solved.{IsSolvedAs}
 use Rattle.fvn_axunify.specs.inner.Asked.{IsAsked}
 use Rattle.fvn_axunify.specs.inner.Members.{IsKept, AreKept}
 use Rattle.fvn_axunify.specs.inner.Found.{IsEndOf, IsFound}
@@ -135,7 +135,7 @@ module _ (d : Declarations) (given : Pairs) (vars : List Var) (first most size :
     cause (Size (Binding list)) h = h.1
     cause (Size (Term t)) h = absurd h
 
-    pub answered : IsAnswer d given first most size (record { unifiers = map (λ v. v.subst) kept; next_fresh = next; end = end })
+    pub answered : IsSolvedAs d given first most size (record { unifiers = map (λ v. v.subst) kept; next_fresh = next; end = end })
     answered = record {
       sound = each (λ s. IsUnifier d (problem_of given) (substitution s)) (λ v k. k.member.unifier);
       drawn = each (λ s. IsDrawn d (problem_of given) (substitution s)) (λ v k. k.member.drawn);

@@ -2,20 +2,12 @@
 ghost use Rattle.std.specs.Prelude.{◌≡◌, ◌≤◌, ◌<◌, IfOk, All};
 ghost use Rattle.fvn_base.specs.declared.limits.TheConstants.{NEXT_FRESH};
 ghost use Rattle.fvn_refine.specs.Refinements.{variables_of_terms};
-ghost use Rattle.fvn_axunify.specs.inner.Numbers.{IsRaised, AreBelow, IsAbove, IsAboveAll};
+ghost use Rattle.fvn_axunify.specs.inner.Numbers.{AreBelow, IsAbove, IsAboveAll};
 
 use fvn_flat::Subst;
 use fvn_refine::variables_of_terms;
 use fvn_terms::{NoMemory, Var};
 use std::alloc::Global;
-
-// The number, or else the one above that of a variable.
-fn raised(next: u32, name: u32) -> u32
-    requires { name < NEXT_FRESH }
-    ensures { IsRaised next name result }
-{
-    if next <= name { name + 1 } else { next }
-}
 
 // The least number from `low` on that is above those of the variables.
 fn above(vars: &[Var], low: u32) -> u32
@@ -25,7 +17,7 @@ fn above(vars: &[Var], low: u32) -> u32
 {
     let mut next = low;
     for y in vars {
-        next = raised(next, y.name);
+        next = next.max(y.name + 1);
     }
     next
 }

@@ -7,7 +7,7 @@ ghost use Rattle.fvn_axunify.specs.Solvers.{Solver};
 ghost use Rattle.fvn_axunify.specs.Exact.{IsExact};
 ghost use Rattle.fvn_axunify.specs.inner.Found.{IsFound};
 ghost use Rattle.fvn_axunify.specs.inner.Asked.{IsAsked};
-ghost use Rattle.fvn_axunify.specs.Answers.{IsAnswer};
+ghost use Rattle.fvn_axunify.specs.Solved.{IsSolvedAs};
 
 use crate::members::unifiers;
 use crate::numbers::above_all;
@@ -67,7 +67,7 @@ fn told(task: &Task, found: Found) -> Result<Solved, NoMemory>
     requires found { IsFound task.now.sig.now task.now.problem.now task.now.vars.now task.now.first
         task.now.limits.unifiers task.now.limits.size found.kept.items found.end }
     requires small { symbols_of_pairs task.now.problem.now.pairs ≤ task.now.limits.size }
-    ensures answer { IfOk result (IsAnswer task.now.sig.now task.now.problem.now task.now.first
+    ensures solved { IfOk result (IsSolvedAs task.now.sig.now task.now.problem.now task.now.first
         task.now.limits.unifiers task.now.limits.size) }
     ensures exact { IfOk result (IsExact task.now.problem.now task.now.first
         task.now.limits.unifiers task.now.limits.size) }
@@ -93,18 +93,22 @@ impl<'a> AxiomUnify<'a> {
     {
         AxiomUnify { sig, limits }
     }
+}
 
-    /// Unifiers of the problem over fresh variables with numbers from `first_fresh` on.
-    ///
-    /// It is `solve` of `AxiomSolver`, with what is said beyond that of ends and numbers.
-    pub fn unify(
-        &self,
-        alloc: Global,
-        problem: &Pairs,
-        first_fresh: u32,
-    ) -> Result<Solved, NoMemory>
+impl AxiomSolver for AxiomUnify<'_> {
+    ghost signature = { λ s. s.declarations };
+
+    ghost most_unifiers = { λ s. s.most_unifiers };
+
+    ghost most_symbols = { λ s. s.most_symbols };
+
+    // What a solved list unfolds to, in a maximal way of sorts, and with new names.
+    ghost drawn = { λ s. IsDrawn s.declarations };
+
+    fn solve(&self, alloc: Global, problem: &Pairs, first_fresh: u32) -> Result<Solved, NoMemory>
         requires { IsGiven self.now.declarations problem.now first_fresh }
-        ensures answer { IfOk result (IsAnswer self.now.declarations problem.now first_fresh
+        // The laws of solvers in one record; and when exactly two ends come, and which number is the next.
+        ensures solved { IfOk result (IsSolvedAs self.now.declarations problem.now first_fresh
             self.now.most_unifiers self.now.most_symbols) }
         ensures exact { IfOk result (IsExact problem.now first_fresh
             self.now.most_unifiers self.now.most_symbols) }
@@ -129,22 +133,6 @@ impl<'a> AxiomUnify<'a> {
         };
         let found = search(&task)?;
         let solved = told(&task, found)?;
-        Ok(solved)
-    }
-}
-
-impl AxiomSolver for AxiomUnify<'_> {
-    ghost signature = { λ s. s.declarations };
-
-    ghost most_unifiers = { λ s. s.most_unifiers };
-
-    ghost most_symbols = { λ s. s.most_symbols };
-
-    // What a solved list unfolds to, in a maximal way of sorts, and with new names.
-    ghost drawn = { λ s. IsDrawn s.declarations };
-
-    fn solve(&self, alloc: Global, problem: &Pairs, first_fresh: u32) -> Result<Solved, NoMemory> {
-        let solved = self.unify(alloc, problem, first_fresh)?;
         Ok(solved)
     }
 }

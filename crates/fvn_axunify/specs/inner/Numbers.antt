@@ -6,10 +6,6 @@ use Rattle.fvn_flat.specs.Bindings.{Bindings}
 use Rattle.fvn_refine.specs.Refinements.{variables_of_terms}
 use Rattle.fvn_axunify.specs.Exact.{IsJustAbove}
 
--- the number stays where it is above another one, and is else just above that one
-abbrev pub IsRaised : (next name raised : ℕ) → Type 0
-IsRaised next name raised = ((name < next) × (raised ≡ next)) ⊎ ((next ≤ name) × (raised ≡ name + 1))
-
 -- their numbers are below this
 abbrev pub AreBelow : ℕ → List Var → Type 0
 AreBelow n vars = All (λ y. y.name < n) vars
