@@ -1,6 +1,6 @@
 -- Numbers above those of variables, variable by variable and substitution by substitution.
 use Rattle.std.proofs.Common.{◌≡◌, ◌≤◌, ◌<◌, ◌+◌, ◌⊎◌, ℕ, List, [], ◌∷◌, ◌++◌, take, length, get_or, refl, sym, ap, ◌∙◌, subst, inl, inr, arith}
-use Rattle.std.specs.Prelude.{max, All, Any}
+use Rattle.std.specs.Prelude.{max, Any}
 use Rattle.std.proofs.lemmas.Bool.{cases_lt}
 use Rattle.std.proofs.lemmas.List.{take_more, get_or_default}
 use Rattle.std.proofs.lemmas.List.Elements.{All-nil, All-push, All-weaker, Contains-append_left}
@@ -10,7 +10,6 @@ use Rattle.fvn_terms.specs.declared.plain.Var.{Var}
 use Rattle.fvn_flat.specs.Bindings.{Bindings}
 use Rattle.fvn_cover.proofs.Leftovers.{any_contains, any_of}
 use Rattle.fvn_refine.specs.Refinements.{variables_of_terms}
-use Rattle.fvn_axunify.specs.Exact.{IsJustAbove}
 use Rattle.fvn_axunify.specs.inner.Numbers.{AreBelow, IsAbove, IsAboveAll}
 
 pub above_none : (low : ℕ) → low ≤ NEXT_FRESH → IsAbove low [] low

@@ -1,6 +1,6 @@
 -- A list of unifiers with one more.
-use Rattle.std.proofs.Common.{◌≡◌, ◌≤◌, ◌+◌, ℕ, List, [], length, refl, sym, ap, ◌∙◌, subst}
-use Rattle.std.specs.Prelude.{All, Any, Contains}
+use Rattle.std.proofs.Common.{◌≡◌, ℕ, List, [], length, sym, ap, ◌∙◌, subst}
+use Rattle.std.specs.Prelude.{All, Contains}
 use Rattle.std.proofs.lemmas.List.Elements.{All-weaker, All-contains_itself}
 use Rattle.fvn_terms.specs.declared.plain.Var.{Var}
 use Rattle.fvn_terms.specs.declared.declarations.Declarations.{Declarations}
@@ -11,7 +11,6 @@ use Rattle.fvn_terms.proofs.Instances.{IsInstance-trans}
 use Rattle.fvn_forms.specs.Flat.{FlatTerm}
 use Rattle.fvn_flat.specs.Bindings.{Bindings, BindsOnce}
 use Rattle.fvn_flat.specs.Fits.{AllFit}
-use Rattle.fvn_flat.specs.Problems.{variables_of}
 use Rattle.fvn_flat.specs.Solving.{substitution, problem_of}
 use Rattle.fvn_flat.specs.declared.solver.Pairs.{Pairs}
 use Rattle.fvn_cover.specs.Covering.{CoversVariant, AreAlike, IsFlatVariant}
@@ -22,7 +21,7 @@ use Rattle.fvn_cover.specs.declared.variant.Variant.{Variant}
 use Rattle.fvn_cover.proofs.Leftovers.{any_contains, any_of}
 use Rattle.fvn_cover.proofs.Additions.{added_all, added_length, added_apart, added_new, added_still}
 use Rattle.fvn_axunify.specs.inner.Asked.{IsAsked}
-use Rattle.fvn_axunify.specs.inner.Members.{IsMember, IsKept, AreKept, IsReached, Grows, HasInstancesOf, IsWith}
+use Rattle.fvn_axunify.specs.inner.Members.{IsMember, IsKept, AreKept, IsReached, IsWith}
 use Rattle.fvn_axunify.proofs.Sorted.{variable_sorts}
 
 module _ (d : Declarations) (given : Pairs) (vars : List Var) (first : ℕ) (asked : IsAsked d given vars first) where

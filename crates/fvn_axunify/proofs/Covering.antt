@@ -1,11 +1,10 @@
 -- What refinements of a unifier on kinds reach.
-use Rattle.std.proofs.Common.{◌≡◌, ◌<◌, ℕ, List, length, get_or, sym, subst}
+use Rattle.std.proofs.Common.{◌<◌, ℕ, List, length, subst}
 use Rattle.std.specs.Prelude.{All, Any}
-use Rattle.std.proofs.lemmas.List.{get_or_default}
 use Rattle.fvn_terms.specs.declared.plain.Var.{Var}
 use Rattle.fvn_terms.specs.declared.declarations.Declarations.{Declarations}
 use Rattle.fvn_terms.specs.Substitution.{Substitution}
-use Rattle.fvn_terms.specs.Unifiers.{IsUnifier, IsInstance}
+use Rattle.fvn_terms.specs.Unifiers.{IsInstance}
 use Rattle.fvn_flat.specs.Bindings.{Bindings, value, BindingsFit}
 use Rattle.fvn_flat.specs.Problems.{variables_of}
 use Rattle.fvn_flat.specs.Solving.{substitution, problem_of}

@@ -1,5 +1,5 @@
 -- A search that goes on, and one that ends.
-use Rattle.std.proofs.Common.{◌≡◌, ◌<◌, ◌⊎◌, ℕ, List, length, refl, sym, ◌∙◌, subst, ap, inl, inr, Option, None}
+use Rattle.std.proofs.Common.{◌≡◌, ◌<◌, ◌⊎◌, ℕ, List, length, ◌∙◌, subst, ap, inl, inr}
 use Rattle.fvn_terms.specs.declared.plain.Var.{Var}
 use Rattle.fvn_terms.specs.declared.declarations.Declarations.{Declarations}
 use Rattle.fvn_terms.specs.Substitution.{Substitution}
@@ -7,7 +7,6 @@ use Rattle.fvn_terms.specs.Unifiers.{IsUnifier}
 use Rattle.fvn_flat.specs.Bindings.{Bindings, value}
 use Rattle.fvn_flat.specs.Problems.{variables_of}
 use Rattle.fvn_flat.specs.Solving.{problem_of, IsBasisCause, IsTooLarge}
-use Rattle.fvn_flat.specs.SolvedLists.{IsKindUnifier}
 use Rattle.fvn_flat.specs.declared.solver.Pairs.{Pairs}
 use Rattle.fvn_flat.specs.declared.solver.SolveEnd.{SolveEnd}
 use Rattle.fvn_flat.specs.declared.solver.SolveEnd.TheVariants.{Complete, Basis, Unifiers, Size}

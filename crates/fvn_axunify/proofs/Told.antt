@@ -1,16 +1,15 @@
 -- What is told of what was found.
-use Rattle.std.proofs.Common.{◌≡◌, ◌≤◌, ◌<◌, ◌⊎◌, ℕ, Bool, true, false, List, [], ◌∷◌, map, length, get_or, Option, Some, None, refl, sym, ap, ◌∙◌, subst, inl, inr, arith}
-use Rattle.std.specs.Prelude.{All, AllPairs, Any, Contains, if◌then◌else◌}
+use Rattle.std.proofs.Common.{◌≡◌, ◌<◌, ℕ, Bool, true, false, List, [], ◌∷◌, map, length, get_or, Some, None, refl, sym, ap, ◌∙◌, subst, inl, inr, arith}
+use Rattle.std.specs.Prelude.{All, AllPairs, Contains, if◌then◌else◌}
 use Rattle.std.proofs.lemmas.List.{get_or-map, length-map}
 use Rattle.std.proofs.lemmas.List.Elements.{All-map, All-weaker, All-contains_itself, All-contains}
 use Rattle.fvn_base.specs.declared.limits.TheConstants.{NEXT_FRESH}
 use Rattle.fvn_terms.specs.declared.plain.Var.{Var}
 use Rattle.fvn_terms.specs.declared.declarations.Declarations.{Declarations}
 use Rattle.fvn_terms.specs.Substitution.{Substitution, same_var, Occurs, OccursAmong}
-use Rattle.fvn_terms.specs.CompleteSets.{IsApart}
 use Rattle.fvn_terms.specs.Unifiers.{IsUnifier, IsInstance}
 use Rattle.fvn_forms.specs.Flat.{FlatTerm, fpack, plain, plain_all}
-use Rattle.fvn_flat.specs.Bindings.{Bindings, bound, form_or, value, BindsOnce, BindingsFit}
+use Rattle.fvn_flat.specs.Bindings.{Bindings, bound, form_or, BindsOnce, BindingsFit}
 use Rattle.fvn_flat.specs.Drawn.{IsDrawn}
 use Rattle.fvn_flat.specs.OneAnswer.{IsCompleteFor, IsApartFor}
 use Rattle.fvn_flat.specs.Problems.{variables_of}

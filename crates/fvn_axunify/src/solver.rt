@@ -1,7 +1,7 @@
 //! The solver.
 ghost use Rattle.std.specs.Prelude.{◌≡◌, ◌≤◌, IfOk};
-ghost use Rattle.fvn_base.specs.declared.limits.TheConstants.{TERM_SYMBOLS};
-ghost use Rattle.fvn_flat.specs.Solving.{IsGiven, symbols_of_pairs};
+ghost use Rattle.fvn_base.specs.declared.limits.TheConstants.{TERM_SYMBOLS, NEXT_FRESH};
+ghost use Rattle.fvn_flat.specs.Solving.{IsGiven, symbols_of_pairs, AreUnifiers, AreDrawn, AreBindings, AreNumbered, AreApart, AreComplete, HasCause};
 ghost use Rattle.fvn_flat.specs.Drawn.{IsDrawn};
 ghost use Rattle.fvn_axunify.specs.Solvers.{Solver};
 ghost use Rattle.fvn_axunify.specs.Exact.{IsExact};
@@ -93,21 +93,17 @@ impl<'a> AxiomUnify<'a> {
     {
         AxiomUnify { sig, limits }
     }
-}
 
-impl AxiomSolver for AxiomUnify<'_> {
-    ghost signature = { λ s. s.declarations };
-
-    ghost most_unifiers = { λ s. s.most_unifiers };
-
-    ghost most_symbols = { λ s. s.most_symbols };
-
-    // What a solved list unfolds to, in a maximal way of sorts, and with new names.
-    ghost drawn = { λ s. IsDrawn s.declarations };
-
-    fn solve(&self, alloc: Global, problem: &Pairs, first_fresh: u32) -> Result<Solved, NoMemory>
+    /// Unifiers of the problem over fresh variables with numbers from `first_fresh` on.
+    ///
+    /// It is what `solve` of `AxiomSolver` does; the laws of solvers stand here in one record.
+    pub fn unify(
+        &self,
+        alloc: Global,
+        problem: &Pairs,
+        first_fresh: u32,
+    ) -> Result<Solved, NoMemory>
         requires { IsGiven self.now.declarations problem.now first_fresh }
-        // The laws of solvers in one record; and when exactly two ends come, and which number is the next.
         ensures solved { IfOk result (IsSolvedAs self.now.declarations problem.now first_fresh
             self.now.most_unifiers self.now.most_symbols) }
         ensures exact { IfOk result (IsExact problem.now first_fresh
@@ -133,6 +129,38 @@ impl AxiomSolver for AxiomUnify<'_> {
         };
         let found = search(&task)?;
         let solved = told(&task, found)?;
+        Ok(solved)
+    }
+}
+
+impl AxiomSolver for AxiomUnify<'_> {
+    ghost signature = { λ s. s.declarations };
+
+    ghost most_unifiers = { λ s. s.most_unifiers };
+
+    ghost most_symbols = { λ s. s.most_symbols };
+
+    // What a solved list unfolds to, in a maximal way of sorts, and with new names.
+    ghost drawn = { λ s. IsDrawn s.declarations };
+
+    fn solve(&self, alloc: Global, problem: &Pairs, first_fresh: u32) -> Result<Solved, NoMemory>
+        requires { IsGiven self.now.declarations problem.now first_fresh }
+        ensures sound { IfOk result (AreUnifiers self.now.declarations problem.now) }
+        ensures drawn { IfOk result
+            (AreDrawn self.now.declarations problem.now (IsDrawn self.now.declarations)) }
+        ensures binds { IfOk result (AreBindings self.now.declarations problem.now) }
+        ensures fresh { IfOk result (AreNumbered self.now.declarations problem.now first_fresh) }
+        ensures next { IfOk result (λ r. first_fresh ≤ r.next_fresh) }
+        ensures bounded { IfOk result (λ r. r.next_fresh ≤ NEXT_FRESH) }
+        ensures apart { IfOk result (AreApart self.now.declarations problem.now) }
+        ensures complete { IfOk result (AreComplete self.now.declarations problem.now) }
+        ensures cause { IfOk result (HasCause self.now.declarations problem.now
+            self.now.most_unifiers self.now.most_symbols) }
+        // When exactly two ends come, and which number is the next.
+        ensures exact { IfOk result (IsExact problem.now first_fresh
+            self.now.most_unifiers self.now.most_symbols) }
+    {
+        let solved = self.unify(alloc, problem, first_fresh)?;
         Ok(solved)
     }
 }

@@ -1,6 +1,5 @@
 -- The unifier as a variant without terms.
 use Rattle.std.proofs.Common.{◌∙◌, ap, sym, subst}
-use Rattle.fvn_cover.specs.Adding.{IsAdded}
 use Rattle.fvn_axunify.specs.inner.Members.{IsKept, IsWith}
 use Rattle.fvn_axunify.proofs.Added.{unifier_kept, flat_variant, all_flat, all_alike, with_one}
 use Rattle.fvn_axunify.proofs.members.with_unifier.Goals as goal

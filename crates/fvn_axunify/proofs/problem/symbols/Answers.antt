@@ -1,5 +1,5 @@
 -- One more pair.
-use Rattle.std.proofs.Common.{◌≡◌, ◌-◌, ◌^◌, ap, ◌∙◌, arith}
+use Rattle.std.proofs.Common.{◌-◌, ◌^◌, ap, ◌∙◌, arith}
 use Rattle.std.specs.Prelude.{min}
 use Rattle.std.proofs.lemmas.List.{take_all}
 use Rattle.fvn_flat.specs.Solving.{symbols_of_pairs}

@@ -1,5 +1,5 @@
 -- The variables of one more pair.
-use Rattle.std.proofs.Common.{[], sym, ap, ◌∙◌, arith}
+use Rattle.std.proofs.Common.{[], sym, ap, ◌∙◌}
 use Rattle.std.proofs.lemmas.List.{take_all}
 use Rattle.fvn_flat.specs.Variables.{with_variables}
 use Rattle.fvn_axunify.specs.inner.Asked.{with_pairs}

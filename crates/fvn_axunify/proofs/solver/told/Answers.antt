@@ -1,5 +1,5 @@
 -- What was found is told.
-use Rattle.std.proofs.Common.{◌≡◌, ◌∙◌, sym, subst, map}
+use Rattle.std.proofs.Common.{◌∙◌, sym, subst}
 use Rattle.std.specs.Prelude.{All, List}
 use Rattle.fvn_base.specs.declared.limits.TheConstants.{NEXT_FRESH}
 use Rattle.fvn_flat.specs.Bindings.{Bindings}

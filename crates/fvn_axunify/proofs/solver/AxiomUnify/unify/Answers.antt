@@ -2,8 +2,8 @@
 use Rattle.std.proofs.Common.{sym, subst}
 use Rattle.fvn_flat.specs.Solving.{IsGiven}
 use Rattle.fvn_axunify.specs.Solvers.{Solver}
-use Rattle.fvn_axunify.specs.inner.Asked.{AreVariablesOf, IsAsked}
-use Rattle.fvn_axunify.proofs.solver.AxiomUnifyAxiomSolver.solve.Goals as goal
+use Rattle.fvn_axunify.specs.inner.Asked.{AreVariablesOf}
+use Rattle.fvn_axunify.proofs.solver.AxiomUnify.unify.Goals as goal
 
 pub search-requires-clause-asked : goal.search-requires-clause-asked
 search-requires-clause-asked c = record {
