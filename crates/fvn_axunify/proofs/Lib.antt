@@ -2,3 +2,9 @@
 mod SameValues
 mod WaysAlong
 mod Sorted
+mod Pairs
+mod Above
+mod Added
+mod Covering
+mod Ends
+mod Told

@@ -1,14 +1,15 @@
 -- What a unifier on kinds comes to with sorts is a unifier, and is drawn.
-use Rattle.std.proofs.Common.{◌≡◌, ◌≤◌, ◌<◌, ℕ, true, Bool, List, [], ◌∷◌, ◌++◌, Option, Some, None, refl, sym, ap, ◌∙◌, subst, inl, inr}
-use Rattle.std.specs.Prelude.{◌↔◌, ◌⊎◌, All, Contains}
+use Rattle.std.proofs.Common.{◌≡◌, ◌≤◌, ◌<◌, ℕ, true, List, [], ◌∷◌, ◌++◌, Option, Some, None, refl, sym, ap, ◌∙◌, subst, inl, inr}
+use Rattle.std.specs.Prelude.{All, Contains}
 use Rattle.std.specs.Option.{option_map, IsSome}
 use Rattle.std.proofs.lemmas.List.Elements.{All-nil, All-cons, All-head, All-tail, All-weaker, All-contains_itself, Contains-append_left, Contains-append_right, Contains-append_cases}
 use Rattle.fvn_base.specs.declared.limits.TheConstants.{NEXT_FRESH}
+use Rattle.fvn_base.proofs.Membership.{contains_none}
 use Rattle.fvn_terms.specs.declared.plain.Var.{Var}
 use Rattle.fvn_terms.specs.declared.plain.SortId.{SortId}
 use Rattle.fvn_terms.specs.declared.declarations.Declarations.{Declarations}
 use Rattle.fvn_terms.specs.Term.{Term, var}
-use Rattle.fvn_terms.specs.Signature.{kind, IsSort, AtOrBelow, same, HasKind, KeepsKinds}
+use Rattle.fvn_terms.specs.Signature.{kind, IsSort, same, HasKind, KeepsKinds}
 use Rattle.fvn_terms.specs.Substitution.{Substitution, apply, followed_by, Occurs}
 use Rattle.fvn_terms.specs.Equality.{BEqual}
 use Rattle.fvn_terms.specs.Sorts.{HasSort, IsWellSorted}
@@ -18,35 +19,34 @@ use Rattle.fvn_terms.proofs.Substitutions.{apply-apply}
 use Rattle.fvn_terms.proofs.Occurrences.{occurs_value, BEqual-occurs}
 use Rattle.fvn_forms.specs.Flat.{FlatTerm, fvar, plain}
 use Rattle.fvn_forms.specs.Canon.{canon, inst}
-use Rattle.fvn_forms.specs.LeastSort.{sort_in}
 use Rattle.fvn_forms.proofs.ToCanon.{to_canon}
 use Rattle.fvn_flat.specs.Bindings.{Bindings, bound, form_or, value, BindingsFit}
 use Rattle.fvn_flat.specs.Problems.{variables, variables_of, IsProblem}
 use Rattle.fvn_flat.specs.Solving.{substitution, problem_of, Binds, IsNumbered}
 use Rattle.fvn_flat.specs.SolvedLists.{unfolded}
-use Rattle.fvn_flat.specs.Drawn.{OccursInValues, IsMaximalWay, IsDrawn, renamed}
+use Rattle.fvn_flat.specs.Drawn.{OccursInValues, IsMaximalWay, IsDrawn}
 use Rattle.fvn_flat.specs.declared.solver.Pairs.{Pairs}
 use Rattle.fvn_flat.proofs.Instances.{inst_equal}
 use Rattle.fvn_flat.proofs.VariableLists.{variables_list, variables_occur}
 use Rattle.fvn_refine.specs.Refinements.{Way, at_sort, IsAtSorts, AreBound, HaveKindsAsSorts, IsLargest, HaveTheirSorts}
 use Rattle.fvn_refine.proofs.Refined.{occurring_sort, kinded_value, canon_value}
 use Rattle.fvn_refine.proofs.AtSorts.{sorts_flat, value_at_sorts}
-use Rattle.fvn_drawing.specs.OnKinds.{IsNewFrom, IsGivenOnKinds}
+use Rattle.fvn_drawing.specs.OnKinds.{IsGivenOnKinds}
 use Rattle.fvn_axunify.specs.inner.Asked.{IsAsked}
 use Rattle.fvn_axunify.specs.inner.Members.{IsMember}
 use Rattle.fvn_axunify.proofs.SameValues.{apply_equal}
-use Rattle.fvn_axunify.proofs.WaysAlong.{HaveOneForm, maximal_along}
+use Rattle.fvn_axunify.proofs.WaysAlong.{maximal_along}
 
 -- variables of problems have sorts of the signature
-variable_sorts : (d : Declarations) (ps : Problem) → IsProblem d ps → (x : Var) → Contains (variables_of ps) x → IsSort d x.sort
-variable_sorts d [] h x (k, l, e) = absurd l
+pub variable_sorts : (d : Declarations) (ps : Problem) → IsProblem d ps → (x : Var) → Contains (variables_of ps) x → IsSort d x.sort
+variable_sorts d [] h x c = absurd (contains_none x c)
 variable_sorts d (p ∷ ps) h x c =
     let own = All-head (λ p. (k : SortId) × HasKind d p.0 k × HasKind d p.1 k) p ps h in
     elim (Contains-append_cases (variables p.0 ++ variables p.1) (variables_of ps) x c) [
       | inl a ↦
           elim (Contains-append_cases (variables p.0) (variables p.1) x a) [
-            | inl b ↦ occurring_sort d p.0 own.0 own.1.0 x (variables_occur x p.0 b)
-            | inr b ↦ occurring_sort d p.1 own.0 own.1.1 x (variables_occur x p.1 b)
+            | inl b ↦ occurring_sort d p.0 own.0 own.1 x (variables_occur x p.0 b)
+            | inr b ↦ occurring_sort d p.1 own.0 own.2 x (variables_occur x p.1 b)
           ]
       | inr r ↦ variable_sorts d ps (All-tail (λ p. (k : SortId) × HasKind d p.0 k × HasKind d p.1 k) p ps h) x r
     ]

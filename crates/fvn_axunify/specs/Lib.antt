@@ -1,5 +1,5 @@
 -- The words of the solver.
 pub mod Solvers
-pub mod Answers
+pub mod Solved
 pub mod Exact
 pub mod inner

@@ -1,4 +1,4 @@
-//! The solver modulo the axioms: all unifiers of a problem, with least sorts, none an instance of another.
+//! The solver modulo the axioms: unifiers of a problem with all maximal sorts, none an instance of another, complete or up to a bound.
 #![tactic(auto)]
 
 mod members;

@@ -17,9 +17,7 @@ fn above(vars: &[Var], low: u32) -> u32
 {
     let mut next = low;
     for y in vars {
-        if next <= y.name {
-            next = y.name + 1;
-        }
+        next = next.max(y.name + 1);
     }
     next
 }

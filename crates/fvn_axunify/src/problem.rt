@@ -1,5 +1,5 @@
 //! A problem as a whole: its variables, whether it is too large, and a copy of it.
-ghost use Rattle.std.specs.Prelude.{◌≡◌, ◌<◌, ◌-◌, ◌^◌, ◌↔◌, IsTrue, IfOk};
+ghost use Rattle.std.specs.Prelude.{◌≡◌, ◌<◌, ◌-◌, ◌^◌, ◌↔◌, [], min, IsTrue, IfOk};
 ghost use Rattle.fvn_flat.specs.Solving.{symbols_of_pairs};
 ghost use Rattle.fvn_axunify.specs.inner.Asked.{with_pairs, AreVariablesOf};
 
@@ -29,25 +29,15 @@ pub(crate) fn variables(alloc: Global, problem: &Pairs) -> Result<Vec<Var>, NoMe
     Ok(vars)
 }
 
-// Whether the pairs have more symbols than this.
-fn have_over(pairs: &[(Flat, Flat)], most: u64) -> bool
-    requires { most < 2 ^ 64 - 1 }
-    ensures { IsTrue result ↔ (most < symbols_of_pairs pairs.now) }
+// The symbols of all sides, or the greatest number.
+fn symbols(pairs: &[(Flat, Flat)]) -> u64
+    ensures { result ≡ min (symbols_of_pairs pairs.now) (2 ^ 64 - 1) }
 {
-    let mut left = most;
+    let mut count: u64 = 0;
     for (a, b) in pairs {
-        let first = a.size();
-        if left < first {
-            return true;
-        }
-        left -= first;
-        let second = b.size();
-        if left < second {
-            return true;
-        }
-        left -= second;
+        count = count.saturating_add(a.size()).saturating_add(b.size());
     }
-    false
+    count
 }
 
 // Whether the problem has more symbols than this.
@@ -55,7 +45,7 @@ pub(crate) fn is_over(problem: &Pairs, most: u64) -> bool
     requires { most < 2 ^ 64 - 1 }
     ensures { IsTrue result ↔ (most < symbols_of_pairs problem.now.pairs) }
 {
-    have_over(problem.pairs.as_slice(), most)
+    most < symbols(problem.pairs.as_slice())
 }
 
 // The pairs, in memory of their own.

@@ -1,13 +1,13 @@
 //! The solver.
 ghost use Rattle.std.specs.Prelude.{◌≡◌, ◌≤◌, IfOk};
-ghost use Rattle.fvn_base.specs.declared.limits.TheConstants.{TERM_SYMBOLS};
-ghost use Rattle.fvn_flat.specs.Solving.{IsGiven, symbols_of_pairs};
+ghost use Rattle.fvn_base.specs.declared.limits.TheConstants.{TERM_SYMBOLS, NEXT_FRESH};
+ghost use Rattle.fvn_flat.specs.Solving.{IsGiven, symbols_of_pairs, AreUnifiers, AreDrawn, AreBindings, AreNumbered, AreApart, AreComplete, HasCause};
 ghost use Rattle.fvn_flat.specs.Drawn.{IsDrawn};
 ghost use Rattle.fvn_axunify.specs.Solvers.{Solver};
 ghost use Rattle.fvn_axunify.specs.Exact.{IsExact};
 ghost use Rattle.fvn_axunify.specs.inner.Found.{IsFound};
 ghost use Rattle.fvn_axunify.specs.inner.Asked.{IsAsked};
-ghost use Rattle.fvn_axunify.specs.Answers.{IsAnswer};
+ghost use Rattle.fvn_axunify.specs.Solved.{IsSolvedAs};
 
 use crate::members::unifiers;
 use crate::numbers::above_all;
@@ -67,7 +67,7 @@ fn told(task: &Task, found: Found) -> Result<Solved, NoMemory>
     requires found { IsFound task.now.sig.now task.now.problem.now task.now.vars.now task.now.first
         task.now.limits.unifiers task.now.limits.size found.kept.items found.end }
     requires small { symbols_of_pairs task.now.problem.now.pairs ≤ task.now.limits.size }
-    ensures answer { IfOk result (IsAnswer task.now.sig.now task.now.problem.now task.now.first
+    ensures solved { IfOk result (IsSolvedAs task.now.sig.now task.now.problem.now task.now.first
         task.now.limits.unifiers task.now.limits.size) }
     ensures exact { IfOk result (IsExact task.now.problem.now task.now.first
         task.now.limits.unifiers task.now.limits.size) }
@@ -96,7 +96,7 @@ impl<'a> AxiomUnify<'a> {
 
     /// Unifiers of the problem over fresh variables with numbers from `first_fresh` on.
     ///
-    /// It is `solve` of `AxiomSolver`, with what is said beyond that of ends and numbers.
+    /// It is what `solve` of `AxiomSolver` does; the laws of solvers stand here in one record.
     pub fn unify(
         &self,
         alloc: Global,
@@ -104,7 +104,7 @@ impl<'a> AxiomUnify<'a> {
         first_fresh: u32,
     ) -> Result<Solved, NoMemory>
         requires { IsGiven self.now.declarations problem.now first_fresh }
-        ensures answer { IfOk result (IsAnswer self.now.declarations problem.now first_fresh
+        ensures solved { IfOk result (IsSolvedAs self.now.declarations problem.now first_fresh
             self.now.most_unifiers self.now.most_symbols) }
         ensures exact { IfOk result (IsExact problem.now first_fresh
             self.now.most_unifiers self.now.most_symbols) }
@@ -143,7 +143,23 @@ impl AxiomSolver for AxiomUnify<'_> {
     // What a solved list unfolds to, in a maximal way of sorts, and with new names.
     ghost drawn = { λ s. IsDrawn s.declarations };
 
-    fn solve(&self, alloc: Global, problem: &Pairs, first_fresh: u32) -> Result<Solved, NoMemory> {
+    fn solve(&self, alloc: Global, problem: &Pairs, first_fresh: u32) -> Result<Solved, NoMemory>
+        requires { IsGiven self.now.declarations problem.now first_fresh }
+        ensures sound { IfOk result (AreUnifiers self.now.declarations problem.now) }
+        ensures drawn { IfOk result
+            (AreDrawn self.now.declarations problem.now (IsDrawn self.now.declarations)) }
+        ensures binds { IfOk result (AreBindings self.now.declarations problem.now) }
+        ensures fresh { IfOk result (AreNumbered self.now.declarations problem.now first_fresh) }
+        ensures next { IfOk result (λ r. first_fresh ≤ r.next_fresh) }
+        ensures bounded { IfOk result (λ r. r.next_fresh ≤ NEXT_FRESH) }
+        ensures apart { IfOk result (AreApart self.now.declarations problem.now) }
+        ensures complete { IfOk result (AreComplete self.now.declarations problem.now) }
+        ensures cause { IfOk result (HasCause self.now.declarations problem.now
+            self.now.most_unifiers self.now.most_symbols) }
+        // When exactly two ends come, and which number is the next.
+        ensures exact { IfOk result (IsExact problem.now first_fresh
+            self.now.most_unifiers self.now.most_symbols) }
+    {
         let solved = self.unify(alloc, problem, first_fresh)?;
         Ok(solved)
     }

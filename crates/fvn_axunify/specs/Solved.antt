@@ -7,8 +7,8 @@ use Rattle.fvn_flat.specs.Solving.{AreUnifiers, AreDrawn, AreBindings, AreNumber
 use Rattle.fvn_flat.specs.declared.solver.Pairs.{Pairs}
 use Rattle.fvn_flat.specs.declared.solver.Solved.{Solved}
 
--- what the solver of a signature promises, with these limits
-pub record IsAnswer (d : Declarations) (given : Pairs) (first most_unifiers most_symbols : ℕ) (r : Solved) : Type 0 where
+-- what the solver of a signature promises of its answer, with these limits: the laws of solvers, drawn by what solved lists unfold to
+pub record IsSolvedAs (d : Declarations) (given : Pairs) (first most_unifiers most_symbols : ℕ) (r : Solved) : Type 0 where
   pub sound : AreUnifiers d given r
   pub drawn : AreDrawn d given (IsDrawn d) r
   pub binds : AreBindings d given r

@@ -1,0 +1,45 @@
+"""Scaled problems: for each family its module and, for each size, a problem in prefix form."""
+
+
+def over(op, terms):
+    """The operator over the terms, nested to the right."""
+    out = terms[-1]
+    for t in reversed(terms[:-1]):
+        out = f"{op}({t}, {out})"
+    return out
+
+
+def variables(letter, count, sort="S"):
+    return [f"{letter}{i}:{sort}" for i in range(1, count + 1)]
+
+
+def sums(left, right, op="_+_", sort="S"):
+    return f"{over(op, variables('X', left, sort))} =? {over(op, variables('Y', right, sort))}"
+
+
+def tower(depth, x):
+    out = x
+    for _ in range(depth):
+        out = f"c({out}, a)"
+    return out
+
+
+def doubled(depth):
+    return " /\\ ".join(f"X{i + 1}:S =? p(X{i}:S, X{i}:S)" for i in range(1, depth + 1))
+
+
+FAMILIES = [
+    ("2 against n", "sums", {n: sums(2, n) for n in range(2, 8)}),
+    ("3 against n", "sums", {n: sums(3, n) for n in (2, 3)}),
+    ("coefficients", "sums", {n: f"{over('_+_', ['X1:S'] * n + ['X2:S'])} =? {over('_+_', ['Y1:S'] * 2 + ['Y2:S'] * 2)}" for n in (2, 3, 4)}),
+    ("commutative chain", "sums", {n: " /\\ ".join(f"c(X{i}:S, Y{i}:S) =? c(a, b)" for i in range(1, n + 1)) for n in (2, 4, 6, 8)}),
+    ("commutative tower", "sums", {n: f"{tower(n, 'X:S')} =? {tower(n, 'b')}" for n in (2, 4, 6, 8)}),
+    ("mixed operators", "sums", {n: f"_+_({over('_*_', variables('X', n))}, Z:S) =? _+_({over('_*_', variables('Y', 2))}, g(W:S))" for n in (2, 3, 4)}),
+    ("aliens under sums", "sums", {n: f"{over('_+_', [f'g(X{i}:S)' for i in range(1, n + 1)])} =? {over('_+_', [f'g(Y{i}:S)' for i in range(1, n + 1)])}" for n in (2, 3, 4, 5)}),
+    ("sums of identity", "zero", {n: sums(2, n) for n in (2, 3, 4)}),
+    ("collapses", "zero", {n: f"_+_(X1:S, {over('_+_', [f'g(Y{i}:S)' for i in range(1, n + 1)])}) =? _+_(X2:S, g(Z:S))" for n in (1, 2, 3)}),
+    ("bags of elements", "bag", {n: f"{over('_;_', variables('X', n, 'Elt') + ['R:Bag'])} =? {over('_;_', variables('Y', n, 'Elt') + ['T:Bag'])}" for n in (1, 2, 3)}),
+    ("sorts that split", "parity", {n: f"{over('_+_', ['X1:Even', 'X2:Odd'])} =? {over('_+_', variables('Y', n, 'Nat'))}" for n in (2, 3)}),
+    ("free pairs", "free", {n: f"{over('p', variables('X', n) + ['a'])} =? {over('p', variables('Y', n) + ['a'])}" for n in (25, 50, 99)}),
+    ("free terms that double", "free", {n: doubled(n) for n in (3, 5, 7)}),
+]

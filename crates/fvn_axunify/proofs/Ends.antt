@@ -1,0 +1,70 @@
+-- A search that goes on, and one that ends.
+use Rattle.std.proofs.Common.{◌≡◌, ◌<◌, ◌⊎◌, ℕ, List, length, ◌∙◌, subst, ap, inl, inr}
+use Rattle.fvn_terms.specs.declared.plain.Var.{Var}
+use Rattle.fvn_terms.specs.declared.declarations.Declarations.{Declarations}
+use Rattle.fvn_terms.specs.Substitution.{Substitution}
+use Rattle.fvn_terms.specs.Unifiers.{IsUnifier}
+use Rattle.fvn_flat.specs.Bindings.{Bindings, value}
+use Rattle.fvn_flat.specs.Problems.{variables_of}
+use Rattle.fvn_flat.specs.Solving.{problem_of, IsBasisCause, IsTooLarge}
+use Rattle.fvn_flat.specs.declared.solver.Pairs.{Pairs}
+use Rattle.fvn_flat.specs.declared.solver.SolveEnd.{SolveEnd}
+use Rattle.fvn_flat.specs.declared.solver.SolveEnd.TheVariants.{Complete, Basis, Unifiers, Size}
+use Rattle.fvn_flat.specs.declared.solver.SizeCause.TheVariants.{Problem, Binding, Term}
+use Rattle.fvn_plans.specs.Covering.{CoversOnKinds}
+use Rattle.fvn_drawing.specs.OnKinds.{IsGivenOnKinds}
+use Rattle.fvn_combine.specs.Search.{Search}
+use Rattle.fvn_combine.specs.Advancing.{IsOf, IsToCome, IsGivenNext}
+use Rattle.fvn_cover.specs.declared.variant.Variant.{Variant}
+use Rattle.fvn_axunify.specs.inner.Members.{AreKept, IsReached, IsWithAll}
+use Rattle.fvn_axunify.specs.inner.Nexts.{IsLast}
+use Rattle.fvn_axunify.specs.inner.Found.{IsFound}
+
+module _ (d : Declarations) (given : Pairs) (vars : List Var) (first most size : ℕ) (m after : Search) (of : IsOf d given first size m) where
+  -- an end, with its cause
+  pub end_found : (kept : List Variant) → AreKept d given vars first kept → length kept < most →
+      ((u : Substitution) → IsUnifier d (problem_of given) u → IsReached d given vars kept u ⊎ IsToCome m u) →
+      (end : SolveEnd) → IsLast m after end → IsFound d given vars first most size kept end
+  end_found kept are few all Complete last = record { are = are; end_of = (few, λ u h. elim (all u h) [ inl r ↦ r | inr t ↦ absurd (last u t) ]) }
+  end_found kept are few all (Basis f system) last =
+      record { are = are; end_of = (few, subst (λ g. IsBasisCause d g f system) of.problem (subst (λ e. IsBasisCause e m.combining.given f system) of.declarations last)) }
+  end_found kept are few all Unifiers last = absurd last
+  end_found kept are few all (Size (Problem p)) last = absurd last
+  end_found kept are few all (Size (Binding list)) last =
+      record {
+        are = are;
+        end_of = (few, subst (λ n. IsTooLarge d given n list.bindings) of.limit (subst (λ g. IsTooLarge d g m.combining.size list.bindings) of.problem (subst (λ e. IsTooLarge e m.combining.given m.combining.size list.bindings) of.declarations last)));
+      }
+  end_found kept are few all (Size (Term t)) last = absurd last
+
+  module _ (g : Bindings) (next : IsGivenNext m after g) where
+    -- what is given is given for this problem
+    pub given_here : IsGivenOnKinds d given first size g
+    given_here =
+        subst (λ n. IsGivenOnKinds d given first n g) of.limit
+        (subst (λ n. IsGivenOnKinds d given n m.combining.size g) of.number
+        (subst (λ p. IsGivenOnKinds d p m.combining.first m.combining.size g) of.problem
+        (subst (λ e. IsGivenOnKinds e m.combining.given m.combining.first m.combining.size g) of.declarations next.given)))
+
+    module _ (same : after.combining ≡ m.combining) where
+      pub of_after : IsOf d given first size after
+      of_after = record {
+        declarations = ap (λ k. k.declarations) same ∙ of.declarations;
+        problem = ap (λ k. k.given) same ∙ of.problem;
+        number = ap (λ k. k.first) same ∙ of.number;
+        limit = ap (λ k. k.size) same ∙ of.limit;
+        running = next.running;
+      }
+
+    -- each unifier is reached, or still to come
+    pub goes_on : (kept with_g : List Variant) → IsWithAll d given vars first most kept g with_g → length with_g < most →
+        ((u : Substitution) → IsUnifier d (problem_of given) u → IsReached d given vars kept u ⊎ IsToCome m u) →
+        (u : Substitution) → IsUnifier d (problem_of given) u → IsReached d given vars with_g u ⊎ IsToCome after u
+    goes_on kept with_g w few all u h =
+        elim (all u h) [
+          | inl r ↦ inl (w.grows u r)
+          | inr t ↦ elim (next.covers u t) [ inl c ↦ inl (w.covered few u h (here c)) | inr s ↦ inr s ]
+        ]
+      where
+        here : CoversOnKinds m.combining.declarations (variables_of (problem_of m.combining.given)) (value g) u → CoversOnKinds d (variables_of (problem_of given)) (value g) u
+        here c = subst (λ p. CoversOnKinds d (variables_of (problem_of p)) (value g) u) of.problem (subst (λ e. CoversOnKinds e (variables_of (problem_of m.combining.given)) (value g) u) of.declarations c)
