@@ -1,17 +1,16 @@
 -- Lines of substitutions, one after another.
-use Rattle.std.proofs.Common.{◌≡◌, ℕ, ◌+◌, ◌<◌, List, [], ◌∷◌, ◌++◌, take, length, get_or, sym, ap, ◌∙◌, subst}
+use Rattle.std.proofs.Common.{◌≡◌, ℕ, ◌+◌, ◌<◌, List, [], ◌∷◌, ◌++◌, take, length, get_or, refl, sym, ap, ◌∙◌, subst}
 use Rattle.std.specs.List.{AllZip}
 use Rattle.std.specs.Global.{Vec}
 use Rattle.std.proofs.lemmas.List.{take_more, map_push}
 use Rattle.fvn_terms.specs.declared.plain.Var.{Var}
-use Rattle.fvn_terms.specs.Substitution.{Substitution}
 use Rattle.fvn_flat.specs.Bindings.{Bindings}
 use Rattle.fvn_flat.specs.Solving.{substitution}
 use Rattle.fvn_syntax.specs.Pieces.{Text}
 use Rattle.fvn_problems.specs.declared.problem.Problem.{Problem}
 use Rattle.fvn_module.specs.Contents.{Contents}
 use Rattle.fvn_answer.specs.Denoting.{Reads}
-use Rattle.fvn_answer.specs.Lines.{HasNoLineFeed}
+use Rattle.fvn_answer.specs.Lines.{HasNoLineFeed, IsTextOf, values as text_of_values, values_of}
 use Rattle.fvn_answer.specs.inner.Bytes.{bytes_of as lines_in}
 use Rattle.fvn_unify.specs.Solutions.{IsLineOf}
 use Rattle.fvn_unify.specs.inner.Told.{AreLinesOfBindings}
@@ -23,8 +22,15 @@ zip-push R (w ∷ ws) [] x y h r = absurd h
 zip-push R (w ∷ ws) (z ∷ zs) x y h r = (h.0, zip-push R ws zs x y h.1 r)
 
 module _ (m : Contents) (p : Problem) where
-  pub line-of : (s : Substitution) (vars : List Var) → vars ≡ p.vars → (line : Text) → Reads m.signature m.names p.names.texts vars line s → HasNoLineFeed line → IsLineOf m p s line
-  line-of s vars is line reads plain = record { reads = subst (λ v. Reads m.signature m.names p.names.texts v line s) is reads; plain = plain }
+  pub line-of : (b : Bindings) (vars : List Var) → vars ≡ p.vars → (line : Text) → Reads m.signature m.names p.names.texts vars line (substitution b) →
+      IsTextOf m.signature m.names p.names.texts (text_of_values (values_of b vars)) line → HasNoLineFeed line → IsLineOf m p (substitution b) line
+  line-of b vars is line reads spelled plain = record {
+    reads = subst (λ v. Reads m.signature m.names p.names.texts v line (substitution b)) is reads;
+    bindings = b;
+    stands = refl;
+    spelled = subst (λ v. IsTextOf m.signature m.names p.names.texts (text_of_values (values_of b v)) line) is spelled;
+    plain = plain;
+  }
 
   abbrev IsLineOfBindings : Bindings → List ℕ → Type 0
   IsLineOfBindings s line = IsLineOf m p (substitution s) line

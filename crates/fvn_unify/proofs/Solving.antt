@@ -1,5 +1,5 @@
 -- What the solver's answer to the flattened pairs says of the problem.
-use Rattle.std.proofs.Common.{◌≡◌, ℕ, ◌<◌, List, map, length, refl, sym, ◌∙◌, subst, inl, inr}
+use Rattle.std.proofs.Common.{◌≡◌, ℕ, ◌<◌, ◌≤◌, List, map, length, refl, sym, ap, ◌∙◌, subst, inl, inr}
 use Rattle.std.specs.Prelude.{All}
 use Rattle.std.proofs.lemmas.Bool.{cases_lt}
 use Rattle.std.proofs.lemmas.List.{get_or_past, length-map}
@@ -31,10 +31,11 @@ use Rattle.fvn_flat.specs.declared.solver.SolveEnd.TheVariants.{Complete as AllF
 use Rattle.fvn_problems.specs.declared.problem.Problem.{Problem}
 use Rattle.fvn_problems.specs.Problems.{AreOfOneKind, HasVariables}
 use Rattle.fvn_module.specs.Contents.{Contents}
-use Rattle.fvn_axunify.specs.Answers.{IsAnswer}
+use Rattle.fvn_axunify.specs.Solved.{IsSolvedAs}
+use Rattle.fvn_axunify.specs.Exact.{IsExact}
 use Rattle.fvn_answer.specs.Answers.{FitsEnd}
 use Rattle.fvn_answer.specs.Asked.{HaveSorts}
-use Rattle.fvn_answer.specs.declared.end.End.TheVariants.{Complete}
+use Rattle.fvn_answer.specs.declared.end.End.TheVariants.{Complete, Unifiers}
 use Rattle.fvn_unify.specs.Asked.{pairs_of, Unifies, IsInstanceOf, flattened}
 use Rattle.fvn_unify.specs.Ends.{AreFlattened, IsCauseOf}
 use Rattle.fvn_unify.specs.Solutions.{AreAll, IsSolution}
@@ -53,13 +54,14 @@ module _ (m : Contents) (p : Problem) (d : Declarations) (signature_is : d ≡ m
       let fitting : FitsKinds m.signature = subst FitsKinds signature_is fits in
       subst (λ x. IsGiven x given 0) (sym (same ∙ signature_is)) (law m.signature fitting (pairs_of p.pairs) (pairs_of-problem m.signature p.pairs kinded) given these-flattened 0 (problem-room m.signature p vars))
 
-  pub solver-answer : (own : Declarations) → own ≡ d → (most : ℕ) → most ≡ UNIFIERS → (size : ℕ) → size ≡ TERM_SYMBOLS → (r : Solved) → IsAnswer own given 0 most size r → IsSolved m p r
-  solver-answer own same most most_is size size_is r a = record {
+  pub solver-answer : (own : Declarations) → own ≡ d → (most : ℕ) → most ≡ UNIFIERS → (size : ℕ) → size ≡ TERM_SYMBOLS → (r : Solved) → IsSolvedAs own given 0 most size r → IsExact given 0 most size r → IsSolved m p r
+  solver-answer own same most most_is size size_is r a exact = record {
     given = given;
     flattened = these-flattened;
     answer =
-        subst (λ x. IsAnswer m.signature given 0 UNIFIERS x r) size_is
-        (subst (λ x. IsAnswer m.signature given 0 x size r) most_is (subst (λ x. IsAnswer x given 0 most size r) (same ∙ signature_is) a));
+        subst (λ x. IsSolvedAs m.signature given 0 UNIFIERS x r) size_is
+        (subst (λ x. IsSolvedAs m.signature given 0 x size r) most_is (subst (λ x. IsSolvedAs x given 0 most size r) (same ∙ signature_is) a));
+    exact = subst (λ x. IsExact given 0 UNIFIERS x r) size_is (subst (λ x. IsExact given 0 x size r) most_is exact);
   }
 
 -- an associative operator is declared
@@ -75,6 +77,13 @@ told-complete AllFound count n h = refl
 told-complete (NoBasis f system) count n h = cc
 told-complete Full count n h = cc
 told-complete (TooLarge cause) count n h = cc
+
+-- the limit is told where the solver met it
+told-full : (e : SolveEnd) (count : ℕ) → end_told e count ≡ Unifiers UNIFIERS → e ≡ Full
+told-full AllFound count h = cc
+told-full (NoBasis f system) count h = cc
+told-full Full count h = refl
+told-full (TooLarge cause) count h = cc
 
 module _ (m : Contents) (p : Problem) (kinded : All (AreOfOneKind m.signature) p.pairs) (vars : HasVariables m.signature p) (r : Solved) (s : IsSolved m p r) where
   abbrev values : List Substitution
@@ -137,4 +146,9 @@ module _ (m : Contents) (p : Problem) (kinded : All (AreOfOneKind m.signature) p
         apart = apart-on_vars a.apart;
         all = λ n e. all-of (apart-on_vars a.apart) (complete-on_vars (a.complete (told-complete r.end (length r.unifiers) n e)));
         cause = told-cause r.end s.answer.cause;
+        few = subst (λ n. n ≤ UNIFIERS) count-is s.exact.unifiers.few;
+        full = (
+          λ e. sym count-is ∙ s.exact.unifiers.full.0 (told-full r.end (length r.unifiers) e),
+          λ e. ap (λ x. end_told x (length r.unifiers)) (s.exact.unifiers.full.1 (count-is ∙ e)),
+        );
       }

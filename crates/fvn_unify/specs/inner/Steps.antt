@@ -6,7 +6,8 @@ use Rattle.fvn_flat.specs.declared.solver.Solved.{Solved}
 use Rattle.fvn_problems.specs.declared.problem.Problem.{Problem}
 use Rattle.fvn_module.specs.Contents.{Contents}
 use Rattle.fvn_module.specs.ModuleText.{IsModule}
-use Rattle.fvn_axunify.specs.Answers.{IsAnswer}
+use Rattle.fvn_axunify.specs.Solved.{IsSolvedAs}
+use Rattle.fvn_axunify.specs.Exact.{IsExact}
 use Rattle.fvn_commands.specs.declared.status.Status.{Status}
 use Rattle.fvn_unify.specs.Ends.{AreFlattened}
 use Rattle.fvn_unify.specs.Replies.{IsUnifyReply}
@@ -15,7 +16,8 @@ use Rattle.fvn_unify.specs.Replies.{IsUnifyReply}
 pub record IsSolved (m : Contents) (p : Problem) (r : Solved) : Type 0 where
   pub given : Pairs
   pub flattened : AreFlattened m p given
-  pub answer : IsAnswer m.signature given 0 UNIFIERS TERM_SYMBOLS r
+  pub answer : IsSolvedAs m.signature given 0 UNIFIERS TERM_SYMBOLS r
+  pub exact : IsExact given 0 UNIFIERS TERM_SYMBOLS r
 
 -- replies to a word, whichever bytes are this module
 abbrev pub RepliesIn : Contents → List ℕ → Status → List ℕ → Type 0

@@ -16,4 +16,4 @@ line_of-requires-clause-sorts c =
 pub loop-s-preserved : goal.loop-s-preserved
 loop-s-preserved c =
     lines-more c.args.declared.now c.args.problem.now c.args.unifiers.now c.loop-s.s-index c.s-item.result c.loop-s-test.true c.s-item.is c.loop-s.lines.items _ c.in_ok-line.line
-    c.loop-s.invariant (line-of c.args.declared.now c.args.problem.now _ _ c.as_slice.ensures _ c.in_ok-line.ensures.reads c.in_ok-line.ensures.plain) c.in_ok-push.ensures.items
+    c.loop-s.invariant (line-of c.args.declared.now c.args.problem.now _ _ c.as_slice.ensures _ c.in_ok-line.ensures.reads c.in_ok-line.ensures.least c.in_ok-line.ensures.plain) c.in_ok-push.ensures.items
