@@ -1,17 +1,17 @@
 #!/usr/bin/env bash
-# Times of free problems of 100, 200 and 400 symbols: of their most general unifier as `fvn_free` finds it, and of their table, its closing, their parts and their first split. Run at the top of the repository; it works in a copy, which it does not prove: `rt try` runs it, so that only the proportions tell.
+# Times of free problems of 100, 200 and 400 symbols: of their flat forms, their table, its closing, their parts and their first split. Run at the top of the repository; it works in a copy, which it does not prove: `rt try` runs it, so that only the proportions tell.
 set -e
 here=$(cd "$(dirname "$0")/.." && pwd)
 there=$(mktemp -d)
 trap 'rm -rf "$there"' EXIT
 mkdir -p "$there/crates"
 cp "$here/HANDLES" "$there/HANDLES"
-for crate in fvn_base fvn_terms fvn_forms fvn_drafts fvn_sorts fvn_lindio fvn_flat fvn_lex fvn_first fvn_free fvn_nodes fvn_purify; do
+for crate in fvn_base fvn_terms fvn_forms fvn_drafts fvn_sorts fvn_lindio fvn_flat fvn_nodes fvn_purify; do
   mkdir -p "$there/crates/$crate"
   for part in src specs proofs; do cp -r "$here/crates/$crate/$part" "$there/crates/$crate/"; done
 done
-grep -E '^fvn_(base|terms|forms|drafts|sorts|lindio|flat|lex|first|free|nodes|purify):' "$here/crates.txt" > "$there/crates.txt"
-echo "times: fvn_base fvn_flat fvn_forms fvn_free fvn_nodes fvn_purify fvn_sorts fvn_terms" >> "$there/crates.txt"
+grep -E '^fvn_(base|terms|forms|drafts|sorts|lindio|flat|nodes|purify):' "$here/crates.txt" > "$there/crates.txt"
+echo "times: fvn_base fvn_flat fvn_forms fvn_nodes fvn_purify fvn_sorts fvn_terms" >> "$there/crates.txt"
 mkdir -p "$there/crates/times/src"
 cd "$there/crates/times"
 cat > src/main.rt <<'PROGRAM'
@@ -20,7 +20,6 @@ cat > src/main.rt <<'PROGRAM'
 
 use fvn_base::Seq;
 use fvn_flat::{Pairs, flatten};
-use fvn_free::{Unified, unify};
 use fvn_nodes::{start, table_of};
 use fvn_purify::{Splits, purify};
 use fvn_sorts::{Signature, SignatureBuilder};
@@ -83,18 +82,6 @@ fn told(rt: &HostRuntime, what: &str, size: u32, start: Instant) {
     }
 }
 
-fn free(rt: &HostRuntime, sig: &Signature, size: u32, l: &Plain, r: &Plain, vars: &[Var]) -> Result<(), NoMemory> {
-    if let Ok(start) = Instant::now(rt) {
-        let u = unify(rt.alloc(), sig.declarations(), l, r, vars, 100000)?;
-        match u {
-            Unified::MostGeneral(_) => told(rt, "free, unifier", size, start),
-            Unified::NoUnifier => told(rt, "free, none", size, start),
-            Unified::TooLarge => told(rt, "free, large", size, start),
-        }
-    }
-    Ok(())
-}
-
 fn nodes(rt: &HostRuntime, sig: &Signature, size: u32, l: &Plain, r: &Plain) -> Result<(), NoMemory> {
     let alloc = rt.alloc();
     if let Ok(first) = Instant::now(rt) {
@@ -131,20 +118,12 @@ fn nodes(rt: &HostRuntime, sig: &Signature, size: u32, l: &Plain, r: &Plain) -> 
     Ok(())
 }
 
-fn both(rt: &HostRuntime, sig: &Signature, size: u32, l: &Plain, r: &Plain, vars: &[Var]) -> Result<(), NoMemory> {
-    free(rt, sig, size, l, r, vars)?;
-    nodes(rt, sig, size, l, r)
-}
-
 fn chain(rt: &HostRuntime, sig: &Signature, size: u32) -> Result<(), NoMemory> {
     let alloc = rt.alloc();
     let l = deep(alloc, size / 2 - 1, Plain::Var(variable(0)))?;
     let r = deep(alloc, size / 2 - 1, Plain::Var(variable(1)))?;
-    let mut vars = Vec::new(alloc);
-    vars.push(variable(0))?;
-    vars.push(variable(1))?;
     let _ = println!(rt; "chain");
-    both(rt, sig, size, &l, &r, vars.as_slice())
+    nodes(rt, sig, size, &l, &r)
 }
 
 fn cascade(rt: &HostRuntime, sig: &Signature, size: u32) -> Result<(), NoMemory> {
@@ -152,12 +131,8 @@ fn cascade(rt: &HostRuntime, sig: &Signature, size: u32) -> Result<(), NoMemory>
     let count = size / 4;
     let l = comb(alloc, 0, count, Plain::Var(variable(count)))?;
     let r = comb(alloc, 1, count, constant(alloc))?;
-    let mut vars = Vec::new(alloc);
-    for k in 0..count + 1 {
-        vars.push(variable(k))?;
-    }
     let _ = println!(rt; "cascade");
-    both(rt, sig, size, &l, &r, vars.as_slice())
+    nodes(rt, sig, size, &l, &r)
 }
 
 fn apart(rt: &HostRuntime, sig: &Signature, size: u32) -> Result<(), NoMemory> {
@@ -165,12 +140,8 @@ fn apart(rt: &HostRuntime, sig: &Signature, size: u32) -> Result<(), NoMemory> {
     let count = size / 4;
     let l = comb(alloc, 0, count, constant(alloc))?;
     let r = comb(alloc, count, count, constant(alloc))?;
-    let mut vars = Vec::new(alloc);
-    for k in 0..count * 2 {
-        vars.push(variable(k))?;
-    }
     let _ = println!(rt; "apart");
-    both(rt, sig, size, &l, &r, vars.as_slice())
+    nodes(rt, sig, size, &l, &r)
 }
 
 fn all(rt: &HostRuntime, sig: &Signature) -> Result<(), NoMemory> {

@@ -1,5 +1,6 @@
 //! The program's answers, from the words and the module to the bytes that are written.
 mod check;
+mod unify;
 mod verify;
 
 use crate::program;
@@ -319,25 +320,25 @@ fn refusals_have_their_lines(rt: HostRuntime) -> Result<(), NoMemory> {
         assert!(rt; text.as_slice() == USAGE.as_bytes());
     }
     let refused = [
-        "-",
-        "",
-        "p(X,Y",
-        "X =?",
-        "X =? q",
-        "X =? p(a)",
-        "#1:S =? a",
-        "X =? a /\\ Y =? b",
-        "X =? a b",
+        ("-", 2),
+        ("", 2),
+        ("p(X,Y", 2),
+        ("X =?", 2),
+        ("X =? q", 3),
+        ("X =? p(a)", 4),
+        ("#1:S =? a", 7),
+        ("X =? a b", 2),
     ];
-    for problem in refused {
+    for (problem, fault) in refused {
         let (status, text) = undisturbed(rt.alloc(), problem)?;
+        let line = format!(in rt.alloc(); "problem {fault}\n")?;
         assert_eq!(rt; status, Status::ProblemRefused, "{problem}");
-        assert!(rt; text.as_slice() == b"problem 2\n".as_slice(), "{problem}");
+        assert!(rt; text.as_slice() == line.as_bytes(), "{problem}");
     }
     let unended = FREE.strip_suffix("endfm\n").unwrap_or("");
     let (status, text) = answer(rt.alloc(), &plain(&["unify", "X =? X"], unended.as_bytes()))?;
     assert_eq!(rt; status, Status::ModuleRefused);
-    assert!(rt; text.as_slice() == b"module 8 statement 0 later\n".as_slice());
+    assert!(rt; text.as_slice() == b"module 2\n".as_slice());
     Ok(())
 }
 

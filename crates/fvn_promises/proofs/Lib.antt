@@ -1,3 +1,4 @@
--- What is promised of `check` and of `verify` follows from their replies: these are for callers.
+-- What is promised of `check`, `verify` and `unify` follows from their replies: these are for callers.
 pub mod Checks
 pub mod Verified
+pub mod Unified

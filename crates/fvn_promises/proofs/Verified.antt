@@ -50,14 +50,14 @@ verdict_no_refusal (Size f) s e (inr (inr r)) = cc
 
 -- Refusals of words.
 
-not_memory : (fault : ProblemFault) (text : List ℕ) → IsProblemRefusalLine fault text → fault ≡ NoMemory → ⊥
+pub not_memory : (fault : ProblemFault) (text : List ℕ) → IsProblemRefusalLine fault text → fault ≡ NoMemory → ⊥
 not_memory fault text h e = let told = h.told in cc
 
 one_line_each : (f g : ProblemFault) (t v : List ℕ) → IsProblemRefusalLine f t → IsProblemRefusalLine g v → f ≡ g → v ≡ t
 one_line_each f g t v a b e =
     b.text_is ∙ ap line (Some-injective (sym b.told ∙ ap problem_text (sym e) ∙ a.told)) ∙ sym a.text_is
 
-lines_alike : (f g : ProblemFault) (t v : List ℕ) → IsProblemRefusalLine f t → IsProblemRefusalLine g v → AreOneFault f g → v ≡ t
+pub lines_alike : (f g : ProblemFault) (t v : List ℕ) → IsProblemRefusalLine f t → IsProblemRefusalLine g v → AreOneFault f g → v ≡ t
 lines_alike f g t v a b h =
     elim h [
       | inl e ↦ absurd (not_memory f t a e)

@@ -1,9 +1,11 @@
--- Laws of the replies to `check` and `verify`.
+-- Laws of the replies to `check`, `verify` and `unify`.
 use Rattle.std.specs.Prelude.{ℕ, List}
 use Rattle.fvn_commands.specs.declared.status.Status.{Status}
 use Rattle.fvn_commands.specs.Texts.{Is}
 use Rattle.fvn_commands.specs.Checks.{IsCheckReply}
 use Rattle.fvn_commands.specs.Verifying.{IsVerifyReply}
+use Rattle.fvn_unify.specs.Replies.{IsUnifyReply}
+use Rattle.fvn_promises.specs.Unified.{AreAnswersOrOne}
 
 -- a text has one reply to `check`
 abbrev pub RepliesToCheckAreDetermined : Type 0
@@ -16,3 +18,10 @@ abbrev pub RepliesToVerifyAreDetermined : Type 0
 RepliesToVerifyAreDetermined =
     (bytes problem bindings : List ℕ) (s : Status) (t : List ℕ) → IsVerifyReply bytes problem bindings s t →
     (u : Status) (v : List ℕ) → IsVerifyReply bytes problem bindings u v → Is s t u v
+
+-- A text and a problem are refused by `unify` with one text, or always answered. Which unifiers an answer gives is open:
+-- of two complete sets each is as good as the other.
+abbrev pub RefusalsToUnifyAreDetermined : Type 0
+RefusalsToUnifyAreDetermined =
+    (bytes word : List ℕ) (s : Status) (t : List ℕ) → IsUnifyReply bytes word s t →
+    (u : Status) (v : List ℕ) → IsUnifyReply bytes word u v → AreAnswersOrOne s t u v

@@ -1,5 +1,9 @@
 //! Laws of replies, each the contract of a function that does nothing.
-ghost use Rattle.fvn_promises.specs.Laws.{RepliesToCheckAreDetermined, RepliesToVerifyAreDetermined};
+ghost use Rattle.fvn_promises.specs.Laws.{
+  RepliesToCheckAreDetermined,
+  RepliesToVerifyAreDetermined,
+  RefusalsToUnifyAreDetermined,
+};
 
 use fvn_commands::readers_are_lawful;
 
@@ -13,6 +17,13 @@ pub fn replies_to_check_are_determined()
 /// A text, a problem and bindings have one reply to `verify`.
 pub fn replies_to_verify_are_determined()
     ensures { RepliesToVerifyAreDetermined }
+{
+    readers_are_lawful();
+}
+
+/// A text and a problem are refused by `unify` with one text, or always answered.
+pub fn refusals_to_unify_are_determined()
+    ensures { RefusalsToUnifyAreDetermined }
 {
     readers_are_lawful();
 }

@@ -1,8 +1,6 @@
 -- How an outcome comes about.
 use Rattle.std.proofs.Common.{◌≡◌, ◌+◌, ◌⊎◌, ℕ, List, Some, None, refl, sym, subst, inl, inr}
 use Rattle.fvn_base.specs.declared.limits.TheConstants.{MODULE_BYTES}
-use Rattle.fvn_first.specs.declared.first.module_text.FirstModule.{FirstModule}
-use Rattle.fvn_first.specs.declared.first.problem_text.FirstProblem.{FirstProblem}
 use Rattle.fvn_outside.specs.Source.{TakesCount}
 use Rattle.fvn_outside.specs.Sink.{Appends}
 use Rattle.fvn_commands.specs.declared.status.Status.{Status}
@@ -10,10 +8,11 @@ use Rattle.fvn_commands.specs.declared.status.Status.TheVariants.{Solved, Nothin
 use Rattle.fvn_tool.specs.Words.{Command, check, unify, verify, command_of}
 use Rattle.fvn_commands.specs.Statuses.{IsSilent, IsSpoken}
 use Rattle.fvn_tool.specs.Runs.{Outside, Leaves, WritesWhole}
-use Rattle.fvn_tool.specs.Replies.{IsReply, IsUnifyReply, no_module, no_problem, answered, IsAnswer, unified, not_unified, too_large}
+use Rattle.fvn_tool.specs.Replies.{IsReply}
 use Rattle.fvn_tool.specs.Outcomes.{usage_line, too_long_line, IsOutcome, no_command, too_long, replied}
 use Rattle.fvn_promises.proofs.Checks.{check_spoken}
 use Rattle.fvn_promises.proofs.Verified.{verify_spoken}
+use Rattle.fvn_promises.proofs.Unified.{unify_spoken}
 
 module _ (words : List (List ℕ)) (source : Outside) (status : Status) (text : List ℕ) where
   pub usage_outcome : status ≡ Usage → command_of words ≡ None → text ≡ usage_line → IsOutcome words source status text
@@ -23,19 +22,9 @@ module _ (words : List (List ℕ)) (source : Outside) (status : Status) (text : 
   too_long_outcome command e is_command taken is = subst (λ s. IsOutcome words source s text) (sym e) (too_long command is_command taken is)
 
 -- an outcome has a text
-answer_spoken : (scope : FirstModule) (problem : FirstProblem) {status : Status} {text : List ℕ} → IsAnswer scope problem status text → IsSpoken status
-answer_spoken scope problem (unified s p is) = tt
-answer_spoken scope problem (not_unified h is) = tt
-answer_spoken scope problem (too_large h is) = tt
-
-unify_spoken : {bytes word : List ℕ} {status : Status} {text : List ℕ} → IsUnifyReply bytes word status text → IsSpoken status
-unify_spoken (no_module h is) = tt
-unify_spoken (no_problem scope m h is) = tt
-unify_spoken (answered scope problem m p a) = answer_spoken scope problem a
-
 reply_spoken : (command : Command) (bytes : List ℕ) (status : Status) (text : List ℕ) → IsReply command bytes status text → IsSpoken status
 reply_spoken check bytes status text r = check_spoken bytes r
-reply_spoken (unify word) bytes status text r = unify_spoken r
+reply_spoken (unify word) bytes status text r = unify_spoken bytes word r
 reply_spoken (verify problem bindings) bytes status text r = verify_spoken bytes problem bindings r
 
 pub outcome_spoken : {words : List (List ℕ)} {source : Outside} {status : Status} {text : List ℕ} → IsOutcome words source status text → IsSpoken status

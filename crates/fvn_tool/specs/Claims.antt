@@ -1,57 +1,23 @@
 -- What is promised of a run.
-use Rattle.std.specs.Prelude.{◌≡◌, ◌≤◌, ◌<◌, ◌⊎◌, ◌↔◌, ℕ, zero, suc, List, [], length, map, All, AllPairs, Option, Some, None}
+use Rattle.std.specs.Prelude.{◌≡◌, ◌≤◌, ◌<◌, ◌⊎◌, ℕ, List, length, Option, Some, None}
 use Rattle.fvn_base.specs.declared.limits.TheConstants.{MODULE_BYTES}
-use Rattle.fvn_base.specs.Order.{IsBefore}
-use Rattle.fvn_terms.specs.Substitution.{Substitution}
-use Rattle.fvn_terms.specs.CompleteSets.{IsCompleteSet, IsApart, IsShortest}
-use Rattle.fvn_first.specs.declared.first.module_text.FirstModule.{FirstModule}
-use Rattle.fvn_first.specs.declared.first.problem_text.FirstProblem.{FirstProblem}
-use Rattle.fvn_first.specs.ModuleText.{IsModuleText}
-use Rattle.fvn_first.specs.ProblemText.{IsProblemText}
 use Rattle.fvn_module.specs.Contents.{Contents}
 use Rattle.fvn_module.specs.ModuleText.{IsModule}
-use Rattle.fvn_answer.specs.Lines.{HasNoLineFeed}
-use Rattle.fvn_commands.specs.declared.status.Status.{Status}
-use Rattle.fvn_commands.specs.declared.status.Status.TheVariants.{Solved, Nothing, Usage, ModuleRefused, ProblemRefused, Ended, ReadFault, WriteFault, NoMemory}
-use Rattle.fvn_commands.specs.Statuses.{IsSilent, IsAnswering}
-use Rattle.fvn_tool.specs.Words.{Command, check, unify, verify, command_of}
 use Rattle.fvn_problems.specs.declared.problem.Problem.{Problem}
 use Rattle.fvn_problems.specs.declared.bindings.Bindings.{Bindings}
+use Rattle.fvn_commands.specs.declared.status.Status.{Status}
+use Rattle.fvn_commands.specs.declared.status.Status.TheVariants.{Solved, Usage, ModuleRefused, ProblemRefused, ReadFault, WriteFault, NoMemory}
+use Rattle.fvn_commands.specs.Statuses.{IsSilent, IsAnswering}
 use Rattle.fvn_commands.specs.Texts.{Is}
 use Rattle.fvn_commands.specs.Checks.{AreNoModule, IsFirstRefusalOf, IsCheckText, summary_line}
 use Rattle.fvn_commands.specs.Verifying.{HasEquations, later_line, IsVerifyText, AreSolvedBy, TellsVerdict, AsksNoProblem, AreNoBindings, IsProblemRefusalOf, IsBindingRefusalOf, IsModuleOfAxioms, IsAskedIn, IsAskedOf}
-use Rattle.fvn_tool.specs.Replies.{End, complete, bound_size, answer_text, line_of, Unifies, IsInstanceOf, CannotBeUnified, ExceedsSize, DeclareNoModule, AsksNothing, no_module_line, no_problem_line}
+use Rattle.fvn_unify.specs.Replies.{IsAnswer, IsToBeUnified}
+use Rattle.fvn_promises.specs.Unified.{IsUnifyText, AnswersSo, IsNothingExact, EndsComplete, MeetsNoBound}
+use Rattle.fvn_tool.specs.Words.{Command, check, unify, verify, command_of}
 use Rattle.fvn_tool.specs.Runs.{Run, Leaves, WritesWhole, HasFailed}
 use Rattle.fvn_tool.specs.Outcomes.{usage_line, too_long_line, IsOutcome}
 
 -- Texts -----------------------------------------------------------------------------------------
-
--- the status that goes with an answer's end
-abbrev pub status_of : End → Status
-status_of (complete zero) = Nothing
-status_of (complete (suc n)) = Solved
-status_of bound_size = Ended
-
--- lines in byte order, each once and none with a line feed inside, and an end line, whose status this is
-pub record IsAnswerText (status : Status) (text : List ℕ) : Type 0 where
-  pub texts : List (List ℕ)
-  pub ordered : AllPairs IsBefore texts
-  pub plain : All HasNoLineFeed texts
-  pub end : End
-  pub text_is : text ≡ answer_text texts end
-  pub status_is : status ≡ status_of end
-
--- what `unify` writes of a text and a word: a refusal's line, or the answer's lines and end line
-abbrev pub IsUnifyText : Status → List ℕ → Type 0
-IsUnifyText ModuleRefused text = text ≡ no_module_line
-IsUnifyText ProblemRefused text = text ≡ no_problem_line
-IsUnifyText Solved text = IsAnswerText Solved text
-IsUnifyText Nothing text = IsAnswerText Nothing text
-IsUnifyText Ended text = IsAnswerText Ended text
-IsUnifyText Usage text = ⊥
-IsUnifyText ReadFault text = ⊥
-IsUnifyText WriteFault text = ⊥
-IsUnifyText NoMemory text = ⊥
 
 -- what a command writes of the text of a module
 abbrev pub IsCommandText : Command → Status → List ℕ → Type 0
@@ -106,88 +72,32 @@ pub record AnswersCheck (bytes : List ℕ) (run : Run) : Type 0 where
 
 -- The command unify -----------------------------------------------------------------------------
 
--- the module is refused exactly where its text is too long or declares no module
-pub record RefusesModule (bytes : List ℕ) (run : Run) : Type 0 where
-  pub only : run.status ≡ ModuleRefused →
-      (MODULE_BYTES < length bytes) ⊎ ((length bytes ≤ MODULE_BYTES) × DeclareNoModule bytes)
-  pub no_module : length bytes ≤ MODULE_BYTES → DeclareNoModule bytes →
-      Leaves (Is ModuleRefused no_module_line) run.status run.sink
+-- in a module the word is refused exactly where it is no problem in it, with the line of its first fault
+pub record RefusesToUnifyWord (bytes word : List ℕ) (run : Run) : Type 0 where
+  pub only : run.status ≡ ProblemRefused → (length bytes ≤ MODULE_BYTES)
+      × ((m : Contents) × (IsModule bytes m × AsksNoProblem m word))
+  pub no_problem : length bytes ≤ MODULE_BYTES → (m : Contents) → IsModule bytes m → AsksNoProblem m word →
+      Leaves (IsProblemRefusalOf m word) run.status run.sink
 
--- a module is declared in which the word asks nothing
-pub record HasNoProblem (bytes word : List ℕ) : Type 0 where
-  pub few : length bytes ≤ MODULE_BYTES
-  pub scope : FirstModule
-  pub module_text : IsModuleText bytes scope
-  pub no_problem : AsksNothing scope word
+-- where no bound is met and nothing outside failed, a complete answer is written, or memory was refused
+abbrev pub AnswersWithoutEvent : Contents → Problem → Run → Type 0
+AnswersWithoutEvent m p run =
+    MeetsNoBound m p → (HasFailed run.source → ⊥) → (HasFailed run.sink → ⊥) →
+    (run.status ≡ NoMemory) ⊎ WritesWhole (AnswersSo m p (EndsComplete m p)) run.status run.sink
 
--- the problem is refused exactly where a module is declared and the word asks nothing in it
-pub record RefusesProblem (bytes word : List ℕ) (run : Run) : Type 0 where
-  pub only : run.status ≡ ProblemRefused → HasNoProblem bytes word
-  pub text : HasNoProblem bytes word → Leaves (Is ProblemRefused no_problem_line) run.status run.sink
-
--- a module and a problem in it
-pub record IsAsked (bytes word : List ℕ) (scope : FirstModule) (problem : FirstProblem) : Type 0 where
-  pub few : length bytes ≤ MODULE_BYTES
-  pub module_text : IsModuleText bytes scope
-  pub problem_text : IsProblemText scope word problem
-
--- The text has a line for each of some substitutions and then an end line,
--- and the claim holds of the status, of what the lines denote, and of the end.
-pub record Shows (scope : FirstModule) (problem : FirstProblem) (Claim : Status → List Substitution → End → Type 0) (status : Status) (text : List ℕ) : Type 0 where
-  pub answering : IsAnswering status
-  pub values : List Substitution
-  pub end : End
-  pub text_is : text ≡ answer_text (map (line_of scope problem) values) end
-  pub claim : Claim status values end
-
-module _ (scope : FirstModule) (problem : FirstProblem) (status : Status) (values : List Substitution) (end : End) where
-  -- `complete 0` and its status come exactly where there is no unifier
-  pub record IsNothingExact : Type 0 where
-    pub only : status ≡ Nothing → CannotBeUnified scope problem
-    pub always : CannotBeUnified scope problem → status ≡ Nothing
-    pub end_is : status ≡ Nothing ↔ (end ≡ complete 0)
-
-  -- the bound comes, without a line, exactly where a most general unifier has a term of over 1,000 symbols
-  pub record IsBoundExact : Type 0 where
-    pub only : status ≡ Ended → ExceedsSize scope problem
-    pub always : ExceedsSize scope problem → status ≡ Ended
-    pub end_is : status ≡ Ended ↔ (end ≡ bound_size)
-    pub no_line : status ≡ Ended → values ≡ []
-
-  -- Each line denotes a unifier, and none an instance of what another denotes. At `complete n` there are n lines,
-  -- every unifier is an instance of one, and no complete set of unifiers has fewer members.
-  pub record IsRight : Type 0 where
-    pub sound : All (Unifies scope problem) values
-    pub apart : IsApart (IsInstanceOf scope problem) values
-    pub shortest : (n : ℕ) → end ≡ complete n → IsShortest (Unifies scope problem) (IsInstanceOf scope problem) values
-    pub complete : (n : ℕ) → end ≡ complete n →
-        (n ≡ length values) × IsCompleteSet (Unifies scope problem) (IsInstanceOf scope problem) values
-    pub nothing : IsNothingExact
-    pub bound_size : IsBoundExact
-
-  -- all was found
-  abbrev pub EndsComplete : Type 0
-  EndsComplete = end ≡ complete (length values)
-
-module _ (scope : FirstModule) (problem : FirstProblem) (run : Run) where
-  -- the answer is right
-  abbrev pub AnswersRight : Type 0
-  AnswersRight = Leaves (Shows scope problem (IsRight scope problem)) run.status run.sink
-
-  -- where no term is too large and nothing outside failed, a complete answer is written, or memory was refused
-  abbrev pub AnswersWithoutEvent : Type 0
-  AnswersWithoutEvent =
-      (ExceedsSize scope problem → ⊥) → (HasFailed run.source → ⊥) → (HasFailed run.sink → ⊥) →
-      (run.status ≡ NoMemory) ⊎ WritesWhole (Shows scope problem (EndsComplete scope problem)) run.status run.sink
-
--- a run that is asked to unify refuses what it should, and else answers every module and problem that the bytes and the word declare
+-- A run that is asked to unify refuses what it should, and else answers the problem: with unifiers, none an instance
+-- of another, and an end; at `complete` they are all. `complete 0` says that there is none.
 pub record AnswersUnify (bytes word : List ℕ) (run : Run) : Type 0 where
-  pub module_refused : RefusesModule bytes run
-  pub problem_refused : RefusesProblem bytes word run
-  pub right : (scope : FirstModule) (problem : FirstProblem) → IsAsked bytes word scope problem →
-      AnswersRight scope problem run
-  pub no_event : (scope : FirstModule) (problem : FirstProblem) → IsAsked bytes word scope problem →
-      AnswersWithoutEvent scope problem run
+  pub module_refused : RefusesText bytes run
+  pub problem_refused : RefusesToUnifyWord bytes word run
+  pub only : IsAnswering run.status → (length bytes ≤ MODULE_BYTES)
+      × ((m : Contents) × (p : Problem) × IsToBeUnified bytes word m p)
+  pub answer : length bytes ≤ MODULE_BYTES → (m : Contents) (p : Problem) → IsToBeUnified bytes word m p →
+      Leaves (IsAnswer m p) run.status run.sink
+  pub nothing : length bytes ≤ MODULE_BYTES → (m : Contents) (p : Problem) → IsToBeUnified bytes word m p →
+      Leaves (AnswersSo m p (IsNothingExact m p)) run.status run.sink
+  pub no_event : length bytes ≤ MODULE_BYTES → (m : Contents) (p : Problem) → IsToBeUnified bytes word m p →
+      AnswersWithoutEvent m p run
 
 -- The command verify ----------------------------------------------------------------------------
 

@@ -1,6 +1,4 @@
 -- The words of the contracts of this crate.
-pub mod Lines
-pub mod Spellings
 pub mod Words
 pub mod Runs
 pub mod Replies

@@ -3,7 +3,6 @@
 
 mod answer;
 mod laws;
-mod lines;
 mod top;
 mod words;
 

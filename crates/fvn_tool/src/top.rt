@@ -11,7 +11,6 @@ ghost use Rattle.fvn_tool.specs.Claims.{IsReport};
 use crate::{answer, words};
 use fvn_base::limits::MODULE_BYTES;
 use fvn_commands::{Answer, Status, readers_are_lawful};
-use fvn_first::first::{modules_are_determined, modules_are_first, problems_are_determined};
 use fvn_outside::{ReadAll, Sink, Source, WriteFailed, read_all, write_all};
 use fvn_terms::NoMemory;
 use std::alloc::Global;
@@ -98,9 +97,6 @@ pub fn run<S: Source, K: Sink>(
     ensures no_read_fault { NeverFails S.faults → result ≢ Status.ReadFault }
     ensures no_write_fault { NeverFails K.faults → result ≢ Status.WriteFault }
 {
-    modules_are_determined();
-    modules_are_first();
-    problems_are_determined();
     readers_are_lawful();
     conclude(alloc, words, source, out)
 }

@@ -5,5 +5,5 @@ use Rattle.fvn_tool.proofs.top.run.Goals as goal
 
 pub returns-clause-report : goal.returns-clause-report
 returns-clause-report g c =
-    report _ c.conclude.ensures.outcome c.modules_are_determined.ensures c.modules_are_first.ensures c.problems_are_determined.ensures c.conclude.ensures.read_fault c.conclude.ensures.write_fault c.readers_are_lawful.ensures c.conclude.ensures.usage
+    report _ c.conclude.ensures.outcome c.conclude.ensures.read_fault c.conclude.ensures.write_fault c.readers_are_lawful.ensures c.conclude.ensures.usage
     (λ none. ap g.S.Source.left (c.conclude.ensures.unread none)) (λ silent. ap g.K.Sink.written (c.conclude.ensures.unwritten silent))

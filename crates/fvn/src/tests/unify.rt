@@ -1,0 +1,164 @@
+//! What `unify` prints over operators with axioms, over several sorts, and of several pairs.
+use super::{answer, plain};
+use fvn_terms::NoMemory;
+use fvn_tool::Status;
+use std::alloc::Global;
+use std::process::Abort;
+use std::string::String;
+
+// Modules, and problems over each with the lines that are printed of them, worked out by hand or by Maude.
+
+const AC: &str =
+    "fmod AC is sort S . ops a b : -> S . op g : S -> S . op c : S S -> S [comm] . op _+_ : S S -> S [assoc comm] . vars X Y Z U V : S . endfm";
+
+const OVER_AC: &str = "\
+_+_(X,Y) =? _+_(U,V) ==> {X:S --> #1:S, Y:S --> #2:S, U:S --> #1:S, V:S --> #2:S} | {X:S --> #1:S, Y:S --> #2:S, U:S --> #2:S, V:S --> #1:S} | {X:S --> #1:S, Y:S --> _+_(#2:S,#3:S), U:S --> #2:S, V:S --> _+_(#1:S,#3:S)} | {X:S --> #1:S, Y:S --> _+_(#2:S,#3:S), U:S --> _+_(#1:S,#2:S), V:S --> #3:S} | {X:S --> _+_(#1:S,#2:S), Y:S --> #3:S, U:S --> #1:S, V:S --> _+_(#2:S,#3:S)} | {X:S --> _+_(#1:S,#2:S), Y:S --> #3:S, U:S --> _+_(#1:S,#3:S), V:S --> #2:S} | {X:S --> _+_(#1:S,#2:S), Y:S --> _+_(#3:S,#4:S), U:S --> _+_(#1:S,#3:S), V:S --> _+_(#2:S,#4:S)} | complete 7
+_+_(X,X) =? _+_(Y,Z) ==> {X:S --> #1:S, Y:S --> #1:S, Z:S --> #1:S} | {X:S --> _+_(#1:S,#2:S), Y:S --> #1:S, Z:S --> _+_(#1:S,#2:S,#2:S)} | {X:S --> _+_(#1:S,#2:S), Y:S --> _+_(#1:S,#1:S), Z:S --> _+_(#2:S,#2:S)} | {X:S --> _+_(#1:S,#2:S), Y:S --> _+_(#1:S,#1:S,#2:S), Z:S --> #2:S} | {X:S --> _+_(#1:S,#2:S,#3:S), Y:S --> _+_(#1:S,#1:S,#2:S), Z:S --> _+_(#2:S,#3:S,#3:S)} | complete 5
+_+_(X,a) =? _+_(Y,b) ==> {X:S --> _+_(#1:S,b), Y:S --> _+_(#1:S,a)} | {X:S --> b, Y:S --> a} | complete 2
+_+_(X,g(U)) =? _+_(g(V),a) ==> {X:S --> a, U:S --> #1:S, V:S --> #1:S} | complete 1
+c(X,Y) =? c(a,b) ==> {X:S --> a, Y:S --> b} | {X:S --> b, Y:S --> a} | complete 2
+X =? g(X) ==> complete 0
+X =? _+_(X,a) ==> complete 0
+a =? a ==> {} | complete 1
+_+_(X,Y,Z,U,V) =? _+_(A:S,B:S,C:S,D:S,E:S) ==> bound basis _+_
+X =? ==> problem 2
+X =? q ==> problem 3
+X =? g(X,X) ==> problem 4
+#1:S =? a ==> problem 7
+c(_+_(X,Y),g(X)) =? c(g(Z),_+_(a,b)) ==> {X:S --> a, Y:S --> b, Z:S --> a} | {X:S --> b, Y:S --> a, Z:S --> b} | complete 2
+_+_(X,Y) =? _+_(a,b) ==> {X:S --> a, Y:S --> b} | {X:S --> b, Y:S --> a} | complete 2
+_+_(X,X,Y) =? _+_(a,a,b) ==> {X:S --> a, Y:S --> b} | complete 1
+g(_+_(X,a)) =? g(_+_(Y,Z)) ==> {X:S --> #1:S, Y:S --> #1:S, Z:S --> a} | {X:S --> #1:S, Y:S --> a, Z:S --> #1:S} | {X:S --> _+_(#1:S,#2:S), Y:S --> #1:S, Z:S --> _+_(#2:S,a)} | {X:S --> _+_(#1:S,#2:S), Y:S --> _+_(#1:S,a), Z:S --> #2:S} | complete 4
+c(X,a) =? c(Y,b) ==> {X:S --> b, Y:S --> a} | complete 1
+X =? a /\\ Y =? g(X) ==> {X:S --> a, Y:S --> g(a)} | complete 1
+X =? Y /\\ Y =? g(X) ==> complete 0";
+
+const SET: &str =
+    "fmod SET is sorts Elt Set . subsort Elt < Set . ops a b : -> Elt . op mt : -> Set . op _;_ : Set Set -> Set [assoc comm id: mt] . vars X Y : Set . endfm";
+
+const OVER_SET: &str = "\
+X =? _;_(X,Y) ==> {X:Set --> #1:Set, Y:Set --> mt} | complete 1
+E:Elt =? _;_(X,Y) ==> {E:Elt --> #1:Elt, X:Set --> #1:Elt, Y:Set --> mt} | {E:Elt --> #1:Elt, X:Set --> mt, Y:Set --> #1:Elt} | complete 2
+_;_(X,a) =? _;_(Y,b) ==> {X:Set --> _;_(#1:Set,b), Y:Set --> _;_(#1:Set,a)} | complete 1
+_;_(X,Y) =? a ==> {X:Set --> a, Y:Set --> mt} | {X:Set --> mt, Y:Set --> a} | complete 2
+_;_(X,Y) =? _;_(a,b) ==> {X:Set --> _;_(a,b), Y:Set --> mt} | {X:Set --> a, Y:Set --> b} | {X:Set --> b, Y:Set --> a} | {X:Set --> mt, Y:Set --> _;_(a,b)} | complete 4
+_;_(X,X) =? Y ==> {X:Set --> #1:Set, Y:Set --> _;_(#1:Set,#1:Set)} | complete 1
+E:Elt =? mt ==> complete 0
+_;_(E:Elt,X) =? _;_(a,b) ==> {E:Elt --> a, X:Set --> b} | {E:Elt --> b, X:Set --> a} | complete 2
+_;_(E:Elt,F:Elt) =? _;_(X,a) ==> {E:Elt --> #1:Elt, F:Elt --> a, X:Set --> #1:Elt} | {E:Elt --> a, F:Elt --> #1:Elt, X:Set --> #1:Elt} | complete 2";
+
+const PARITY: &str =
+    "fmod PARITY is sorts Even Odd Nat . subsorts Even Odd < Nat . op + : Nat Nat -> Nat . op + : Even Even -> Even . op + : Odd Odd -> Even . op + : Even Odd -> Odd . op + : Odd Even -> Odd . endfm";
+
+const OVER_PARITY: &str = "\
+E:Even =? +(X:Nat,Y:Nat) ==> {E:Even --> +(#1:Even,#2:Even), X:Nat --> #1:Even, Y:Nat --> #2:Even} | {E:Even --> +(#1:Odd,#2:Odd), X:Nat --> #1:Odd, Y:Nat --> #2:Odd} | complete 2
+X:Odd =? +(Y:Nat,Z:Odd) ==> {X:Odd --> +(#1:Even,#2:Odd), Y:Nat --> #1:Even, Z:Odd --> #2:Odd} | complete 1
+X:Even =? Y:Odd ==> complete 0
++(X:Nat,Y:Nat) =? +(Z:Even,W:Odd) ==> {X:Nat --> #1:Even, Y:Nat --> #2:Odd, Z:Even --> #1:Even, W:Odd --> #2:Odd} | complete 1
+X:Nat =? Y:Odd ==> {X:Nat --> #1:Odd, Y:Odd --> #1:Odd} | complete 1";
+
+const BAG: &str =
+    "fmod BAG is sort Bag . ops a b none : -> Bag . op _,_ : Bag Bag -> Bag [assoc comm id: none prec 121] . var X : Bag . endfm";
+
+const OVER_BAG: &str = "\
+_`,_(X, a) =? _`,_(a, b) ==> {X:Bag --> b} | complete 1
+_`,_(X,Y:Bag) =? a ==> {X:Bag --> a, Y:Bag --> none} | {X:Bag --> none, Y:Bag --> a} | complete 2
+X =? _`,_(X,Y:Bag) ==> {X:Bag --> #1:Bag, Y:Bag --> none} | complete 1
+X =? none ==> {X:Bag --> none} | complete 1";
+
+const XOR: &str =
+    "fmod XOR is sorts Nat NatSet . subsort Nat < NatSet . op 0 : -> Nat [ctor] . op s : Nat -> Nat [ctor] . op mt : -> NatSet [ctor] . op _*_ : NatSet NatSet -> NatSet [ctor assoc comm] . vars X Y Z : [NatSet] . eq [idem] : _*_(X,X) = mt [variant] . eq [idem-Coh] : _*_(X,X,Z) = Z [variant] . eq [id] : _*_(X,mt) = X [variant] . endfm";
+
+const OVER_XOR: &str = "\
+_*_(X,X) =? mt ==> complete 0
+X =? _*_(Y,Z) ==> {X:[NatSet] --> _*_(#1:[NatSet],#2:[NatSet]), Y:[NatSet] --> #1:[NatSet], Z:[NatSet] --> #2:[NatSet]} | complete 1
+N:Nat =? _*_(Y,Z) ==> complete 0
+s(N:Nat) =? s(s(M:Nat)) ==> {N:Nat --> s(#1:Nat), M:Nat --> #1:Nat} | complete 1";
+
+const ENC: &str =
+    "fmod ENC is sorts Msg Key . op a : -> Msg . op k : -> Key . ops enc dec : Msg Key -> Msg . vars X M : Msg . vars Y K : Key . eq dec(enc(M,K),K) = M [variant] . endfm";
+
+const OVER_ENC: &str = "\
+a =? k ==> problem 5
+dec(X,k) =? a ==> complete 0
+enc(X,Y) =? enc(M,k) ==> {X:Msg --> #1:Msg, Y:Key --> k, M:Msg --> #1:Msg} | complete 1";
+
+const PLUS: &str =
+    "fmod PLUS is sort Nat . op 0 : -> Nat . op s : Nat -> Nat . op + : Nat Nat -> Nat . vars X Y : Nat . eq +(0,Y) = Y [variant] . eq +(s(X),Y) = s(+(X,Y)) [variant] . endfm";
+
+const OVER_PLUS: &str = "\
++(X,Y) =? +(s(Y),0) ==> {X:Nat --> s(0), Y:Nat --> 0} | complete 1";
+
+const NO_END: &str = "fmod M is sort A . op a : -> A .";
+
+const OVER_NO_END: &str = "\
+a =? a ==> module 2
+a =? ==> module 2";
+
+const NOPRE: &str =
+    "fmod NOPRE is sorts A B C . subsorts A < B . subsorts A < C . op f : B -> B . op f : C -> C . endfm";
+
+const OVER_NOPRE: &str = "\
+X =? X ==> module 9.6 f A";
+
+// The status that goes with the last line.
+fn status_of(last: &str) -> Status {
+    if last == "complete 0" {
+        return Status::Nothing;
+    }
+    if last.starts_with("complete ") {
+        return Status::Solved;
+    }
+    if last.starts_with("problem ") {
+        return Status::ProblemRefused;
+    }
+    if last.starts_with("module ") {
+        return Status::ModuleRefused;
+    }
+    Status::Ended
+}
+
+// What is printed of a problem in a module.
+fn tell(
+    rt: &impl Abort,
+    alloc: Global,
+    module: &str,
+    problem: &str,
+    said: &str,
+) -> Result<(), NoMemory> {
+    let words = ["unify", problem];
+    let (status, written) = answer(alloc, &plain(&words, module.as_bytes()))?;
+    let mut text = String::from_str(alloc, "")?;
+    let mut last = "";
+    for line in said.split(" | ") {
+        text = format!(in alloc; "{text}{line}\n")?;
+        last = line;
+    }
+    assert_eq!(rt; status, status_of(last), "{problem}");
+    assert!(rt; written.as_slice() == text.as_bytes(), "{problem}");
+    Ok(())
+}
+
+// All rows over this module.
+fn all_unified(rt: &impl Abort, alloc: Global, module: &str, rows: &str) -> Result<(), NoMemory> {
+    for row in rows.lines() {
+        if let Some((problem, said)) = row.split_once(" ==> ") {
+            tell(rt, alloc, module, problem, said)?;
+        }
+    }
+    Ok(())
+}
+
+#[test]
+fn problems_are_unified_modulo_axioms(rt: HostRuntime) -> Result<(), NoMemory> {
+    all_unified(&rt, rt.alloc(), AC, OVER_AC)?;
+    all_unified(&rt, rt.alloc(), SET, OVER_SET)?;
+    all_unified(&rt, rt.alloc(), PARITY, OVER_PARITY)?;
+    all_unified(&rt, rt.alloc(), BAG, OVER_BAG)?;
+    all_unified(&rt, rt.alloc(), XOR, OVER_XOR)?;
+    all_unified(&rt, rt.alloc(), ENC, OVER_ENC)?;
+    all_unified(&rt, rt.alloc(), PLUS, OVER_PLUS)?;
+    all_unified(&rt, rt.alloc(), NO_END, OVER_NO_END)?;
+    all_unified(&rt, rt.alloc(), NOPRE, OVER_NOPRE)?;
+    Ok(())
+}

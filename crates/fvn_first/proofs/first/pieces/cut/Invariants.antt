@@ -1,8 +1,0 @@
--- The invariant of the pieces of the tokens.
-use Rattle.std.proofs.Common.{◌≡◌, map, take}
-use Rattle.fvn_first.specs.Pieces.{piece_at}
-use Rattle.fvn_first.proofs.first.pieces.cut.Given as goal
-
--- the pieces of the tokens so far
-abbrev pub invariant-loop-token : goal.invariant-loop-token
-invariant-loop-token l = l.pieces.items ≡ map (piece_at l.bytes) (take l.token-index l.token-items)

@@ -1,4 +1,0 @@
--- The readers as functions over pieces, and their tests.
-pub mod Tests
-pub mod ModuleReading
-pub mod ProblemReading

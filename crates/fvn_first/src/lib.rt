@@ -1,4 +1,0 @@
-//! The readers of module and problem texts.
-#![tactic(auto)]
-
-pub mod first;
