@@ -1,5 +1,5 @@
 -- The lemmas of the crate.
-mod SameValues
+pub mod SameValues
 mod WaysAlong
 mod Sorted
 mod Pairs

@@ -2,3 +2,4 @@
 pub mod Checks
 pub mod Verified
 pub mod Unified
+mod Counts

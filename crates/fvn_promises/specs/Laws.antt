@@ -1,10 +1,13 @@
 -- Laws of the replies to `check`, `verify` and `unify`.
-use Rattle.std.specs.Prelude.{ℕ, List}
+use Rattle.std.specs.Prelude.{◌≡◌, ℕ, List}
+use Rattle.fvn_module.specs.Contents.{Contents}
+use Rattle.fvn_problems.specs.declared.problem.Problem.{Problem}
+use Rattle.fvn_answer.specs.declared.end.End.TheVariants.{Complete}
 use Rattle.fvn_commands.specs.declared.status.Status.{Status}
 use Rattle.fvn_commands.specs.Texts.{Is}
 use Rattle.fvn_commands.specs.Checks.{IsCheckReply}
 use Rattle.fvn_commands.specs.Verifying.{IsVerifyReply}
-use Rattle.fvn_unify.specs.Replies.{IsUnifyReply}
+use Rattle.fvn_unify.specs.Replies.{IsAnswer, IsUnifyReply}
 use Rattle.fvn_promises.specs.Unified.{AreAnswersOrOne}
 
 -- a text has one reply to `check`
@@ -25,3 +28,9 @@ abbrev pub RefusalsToUnifyAreDetermined : Type 0
 RefusalsToUnifyAreDetermined =
     (bytes word : List ℕ) (s : Status) (t : List ℕ) → IsUnifyReply bytes word s t →
     (u : Status) (v : List ℕ) → IsUnifyReply bytes word u v → AreAnswersOrOne s t u v
+
+-- Two complete answers to a problem have equally many lines.
+abbrev pub CompleteAnswersHaveOneCount : Type 0
+CompleteAnswersHaveOneCount =
+    (m : Contents) (p : Problem) (s u : Status) (t v : List ℕ) (a : IsAnswer m p s t) (b : IsAnswer m p u v) (n k : ℕ) →
+    a.end ≡ Complete n → b.end ≡ Complete k → n ≡ k

@@ -3,6 +3,7 @@ ghost use Rattle.fvn_promises.specs.Laws.{
   RepliesToCheckAreDetermined,
   RepliesToVerifyAreDetermined,
   RefusalsToUnifyAreDetermined,
+  CompleteAnswersHaveOneCount,
 };
 
 use fvn_commands::readers_are_lawful;
@@ -27,3 +28,8 @@ pub fn refusals_to_unify_are_determined()
 {
     readers_are_lawful();
 }
+
+/// Two complete answers of `unify` to a problem have equally many lines.
+pub fn complete_answers_have_one_count()
+    ensures { CompleteAnswersHaveOneCount }
+{}

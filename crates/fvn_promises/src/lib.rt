@@ -4,6 +4,6 @@
 mod laws;
 
 pub use laws::{
-    refusals_to_unify_are_determined, replies_to_check_are_determined,
-    replies_to_verify_are_determined,
+    complete_answers_have_one_count, refusals_to_unify_are_determined,
+    replies_to_check_are_determined, replies_to_verify_are_determined,
 };

@@ -16,8 +16,9 @@ Agree (Some (verify problem bindings)) s t u v = Is s t u v
 Agree (Some (unify word)) s t u v = AreAnswersOrOne s t u v
 
 -- Words and the bytes of a source have at most one outcome, one status and one text to the last byte; but where `unify`
--- answers, only that it does is determined, since an answer may give any complete set of unifiers in which none is an
--- instance of another, and may meet one bound or another.
+-- answers, only that it does is determined, since an answer may give any complete set of unifiers that may be drawn and
+-- of which none is an instance of another, or meet any bound of the problem, also where another answer is complete. Two
+-- complete answers have equally many lines.
 abbrev pub OutcomesAreDetermined : Type 0
 OutcomesAreDetermined =
     (words : List (List ℕ)) (bytes : List ℕ) (source other : Outside) → source.before ≡ Some bytes → other.before ≡ Some bytes →

@@ -7,9 +7,10 @@ use fvn_commands::readers_are_lawful;
 ///
 /// By `outcome` in the report of `run`, two runs over them have the same status and the same text,
 /// where neither status is ReadFault, WriteFault or NoMemory. Where `unify` answers, the law says
-/// only that both runs answer: an answer may give any complete set of unifiers in which none is an
-/// instance of another, and may meet one bound or another. With which text a module or a problem
-/// is refused is determined there too.
+/// only that both runs answer: an answer may give any complete set of unifiers that may be drawn and
+/// of which none is an instance of another, or meet any bound of the problem, also where another
+/// answer is complete. With which text a module or a problem is refused is determined there too.
+/// Complete answers have equally many lines (`complete_answers_have_one_count` of `fvn_promises`).
 pub fn outcomes_are_determined()
     ensures { OutcomesAreDetermined }
 {

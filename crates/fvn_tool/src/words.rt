@@ -9,7 +9,7 @@ use std::string::String;
 pub(crate) enum Command<'a> {
     /// To tell how much a module declares.
     Check,
-    /// To unify the two sides of a problem.
+    /// To unify the sides of each pair of a problem.
     Unify(&'a [u8]),
     /// To tell whether bindings solve a problem.
     Verify(&'a [u8], &'a [u8]),

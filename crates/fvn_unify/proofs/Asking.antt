@@ -46,7 +46,7 @@ module _ (d : Declarations) (p : Problem) (vars : HasVariables d p) where
   listed : (x : Var) → Contains p.vars x → Contains (variables_of (pairs_of p.pairs)) x
   listed x c = sides-listed p.pairs x ((vars.exact x).0 c)
 
-  asked : (x : Var) → Contains (variables_of (pairs_of p.pairs)) x → Contains p.vars x
+  pub asked : (x : Var) → Contains (variables_of (pairs_of p.pairs)) x → Contains p.vars x
   asked x c = (vars.exact x).1 (listed-sides p.pairs x c)
 
   pub instance-on_vars : (a b : Substitution) → IsInstance d (variables_of (pairs_of p.pairs)) a b → IsInstance d p.vars a b

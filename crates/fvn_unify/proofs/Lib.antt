@@ -5,3 +5,4 @@ mod Listing
 mod Solving
 mod Counting
 mod Replied
+mod Denoted

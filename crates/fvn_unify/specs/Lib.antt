@@ -3,4 +3,5 @@ pub mod Asked
 pub mod Ends
 pub mod Solutions
 pub mod Replies
+pub mod Laws
 pub mod inner

@@ -2,8 +2,10 @@
 #![tactic(auto)]
 
 mod ends;
+mod laws;
 mod lines;
 mod pairs;
 mod replying;
 
+pub use laws::lines_denote_unifiers;
 pub use replying::unify_reply;
