@@ -15,6 +15,7 @@ use Rattle.fvn_terms.proofs.Equal.{BEqual-refl, BEqual-sym, BEqual-trans}
 use Rattle.fvn_terms.proofs.Substitutions.{apply-var}
 use Rattle.fvn_terms.proofs.Occurrences.{occurs_value, BEqual-occurs}
 use Rattle.fvn_terms.proofs.WellSorted.{IsUnifier-followed_by}
+use Rattle.fvn_forms.specs.FitsKinds.{FitsKinds}
 use Rattle.fvn_forms.proofs.KindsKept.{b_equal_keeps_kind}
 use Rattle.fvn_flat.specs.Drawn.{OccursInValues, renamed}
 use Rattle.fvn_flat.specs.Problems.{variables, variables_of}
@@ -36,7 +37,7 @@ use Rattle.fvn_unify.proofs.Asking.{asked}
 on_listed : (vars : List Var) (s : Substitution) (x : Var) → Contains vars x → on_variables vars s x ≡ s x
 on_listed vars s x c = ap (λ b. if b then s x else var x) (member_listed vars x c)
 
-module _ (d : Declarations) (vars : List Var) (problem : TermPairs) (inside : (x : Var) → Contains (variables_of problem) x → Contains vars x) where
+module _ (d : Declarations) (fits : FitsKinds d) (vars : List Var) (problem : TermPairs) (inside : (x : Var) → Contains (variables_of problem) x → Contains vars x) where
   -- what agrees with a unifier on the problem's variables, modulo the axioms, and leaves others alone, is one
   module _ (c : Substitution) (r : Substitution) (equal : (x : Var) → Contains vars x → BEqual d (c x) (r x)) (others : (x : Var) → listed vars x ≡ false → r x ≡ var x) where
     abbrev Made : Term × Term → Type 0
@@ -60,7 +61,7 @@ module _ (d : Declarations) (vars : List Var) (problem : TermPairs) (inside : (x
     sorted w = (λ x i. keeps x i (listed vars x) refl, λ x. has x (listed vars x) refl)
       where
         keeps : (x : Var) → IsSort d x.sort → (b : Bool) → listed vars x ≡ b → HasKind d (r x) (kind d x.sort)
-        keeps x i true e = b_equal_keeps_kind d (equal x (listed_member vars x e)) (kind d x.sort) (w.0 x i)
+        keeps x i true e = b_equal_keeps_kind d fits (equal x (listed_member vars x e)) (kind d x.sort) (w.0 x i)
         keeps x i false e = subst (λ t. HasKind d t (kind d x.sort)) (sym (others x e)) (i, refl)
 
         has : (x : Var) (b : Bool) → listed vars x ≡ b → HasSort d (r x) x.sort
@@ -68,7 +69,7 @@ module _ (d : Declarations) (vars : List Var) (problem : TermPairs) (inside : (x
         has x false e = subst (λ t. HasSort d t x.sort) (sym (others x e)) (record { form = var x; equal = BEqual-refl d (var x); gets = record { sort = x.sort; gets = refl; below = same } })
 
 pub lines-denote_unifiers : EqualLinesAreInstances → LinesDenoteOneSubstitution → LinesDenoteUnifiers
-lines-denote_unifiers instances one m p has s unifies line of r denotes =
+lines-denote_unifiers instances one m p fits has s unifies line of r denotes =
     let d = m.signature in
     let t = on_variables p.vars r in
     let own : Reads d m.names p.names.texts p.vars line t = record {
@@ -84,8 +85,8 @@ lines-denote_unifiers instances one m p has s unifies line of r denotes =
     let near : (x : Var) → Contains p.vars x → BEqual d (apply below.after (s x)) (t x) = λ x c. BEqual-sym d (below.equal x c) in
     let others : (x : Var) → listed p.vars x ≡ false → t x ≡ var x = λ x e. ap (λ b. if b then r x else var x) e in (
       (
-        sorted d p.vars (pairs_of p.pairs) (asked d p has) (followed_by s below.after) t near others whole.0,
-        made d p.vars (pairs_of p.pairs) (asked d p has) (followed_by s below.after) t near others (pairs_of p.pairs) (asked d p has) whole.1,
+        sorted d fits p.vars (pairs_of p.pairs) (asked d p has) (followed_by s below.after) t near others whole.0,
+        made d fits p.vars (pairs_of p.pairs) (asked d p has) (followed_by s below.after) t near others (pairs_of p.pairs) (asked d p has) whole.1,
       ),
       below,
       above,
