@@ -11,7 +11,7 @@ use Rattle.fvn_plans.specs.Covering.{CoversOnKinds}
 use Rattle.fvn_drawing.specs.OnKinds.{IsGivenOnKinds}
 use Rattle.fvn_combine.specs.Tasks.{Combining}
 use Rattle.fvn_combine.specs.Endings.{told_of}
-use Rattle.fvn_combine.specs.Search.{Search, Pending}
+use Rattle.fvn_combine.specs.Search.{Search, Pending, IsEnd}
 use Rattle.fvn_combine.specs.declared.ending.Ended.{Ended}
 use Rattle.fvn_combine.specs.declared.ending.Ended.TheVariants.{Basis as OfBasis, Size as OfSize}
 use Rattle.fvn_combine.specs.declared.ending.CombineEnd.{CombineEnd}
@@ -39,18 +39,32 @@ module _ (before after : Search) where
     pub ended : after.ended ≡ Some e
     pub kept : (u : Substitution) → IsToCome before u ↔ IsToCome after u
 
-  -- a unifier on kinds is given, and each that was to come is covered by it or still to come; or none was to come; or the cause of an end
-  -- holds and is kept; or memory was refused, and the same are to come, with the same end
+  -- the same unifiers on kinds are to come
+  abbrev pub IsToComeAsBefore : Type 0
+  IsToComeAsBefore = (u : Substitution) → IsToCome before u ↔ IsToCome after u
+
+  -- what is given promises what is said of it; each unifier that was to come is covered by it, or still to come; and the search goes on
+  pub record IsGivenNext (g : Bindings) : Type 0 where
+    pub given : IsGivenOnKinds before.combining.declarations before.combining.given before.combining.first before.combining.size g
+    pub covers : (u : Substitution) → IsToCome before u → IsCovered before.combining g u ⊎ IsToCome after u
+    pub running : after.ended ≡ None
+
+  -- no unifier on kinds was to come, and none is
+  pub record IsOver : Type 0 where
+    pub none : (u : Substitution) → IsToCome before u → ⊥
+    pub none_after : (u : Substitution) → IsToCome after u → ⊥
+    pub running : after.ended ≡ None
+
+  -- what an answer of a search that has not ended says: a unifier, the end of all, a cause that holds and is kept, or want of memory,
+  -- at which the same are to come and nothing has ended
   abbrev pub IsAdvanced : Result (Option Bindings) CombineEnd → Type 0
-  IsAdvanced (Ok (Some g)) =
-      IsGivenOnKinds before.combining.declarations before.combining.given before.combining.first before.combining.size g
-      × ((u : Substitution) → IsToCome before u → IsCovered before.combining g u ⊎ IsToCome after u)
-  IsAdvanced (Ok None) = (u : Substitution) → IsToCome before u → ⊥
+  IsAdvanced (Ok (Some g)) = IsGivenNext g
+  IsAdvanced (Ok None) = IsOver
   IsAdvanced (Err (Basis f system)) = IsBasisCause before.combining.declarations before.combining.given f system × IsEndedBy (OfBasis f system)
   IsAdvanced (Err (Size list)) = IsTooLarge before.combining.declarations before.combining.given before.combining.size list.bindings × IsEndedBy (OfSize list)
-  IsAdvanced (Err NoMemory) = (after.ended ≡ before.ended) × ((u : Substitution) → IsToCome before u ↔ IsToCome after u)
+  IsAdvanced (Err NoMemory) = (after.ended ≡ before.ended) × IsToComeAsBefore
 
--- the cause once more, or want of memory
-abbrev pub IsAgain : Ended → Result (Option Bindings) CombineEnd → Type 0
-IsAgain e (Ok o) = ⊥
-IsAgain e (Err end) = (end ≡ told_of e) ⊎ (end ≡ NoMemory)
+-- the cause, which holds, is told once more; or memory was refused
+abbrev pub IsAgain : Combining → Ended → Result (Option Bindings) CombineEnd → Type 0
+IsAgain k e (Ok o) = ⊥
+IsAgain k e (Err end) = IsEnd k e × ((end ≡ told_of e) ⊎ (end ≡ NoMemory))

@@ -41,12 +41,12 @@ module _ (k : Combining) (s : State) where
       pub pending : PendingChoices v.wheels numbers
       pub covered : IsCoveredBy v.tags numbers u
 
-  -- so it is, where there are current tags
+  -- numbers under the current tags that are still to come cover u, where there are current tags
   abbrev pub IsCoveredByCurrent : Reading → List (List Solution) → Option Turning → Substitution → Type 0
   IsCoveredByCurrent r bases None u = ⊥
   IsCoveredByCurrent r bases (Some v) u = IsCoveredUnder r bases v u
 
-  -- so it is at an open frame
+  -- numbers under the current tags of an open frame that are still to come cover u
   abbrev pub IsCoveredNow : Opened → Substitution → Type 0
   IsCoveredNow o u = IsCoveredByCurrent o.reading o.bases o.turning u
 

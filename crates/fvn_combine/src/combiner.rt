@@ -134,7 +134,7 @@ impl<'a> Combiner<'a> {
         ensures same { self.new.combining ≡ self.old.combining }
         ensures advanced { self.old.ended ≡ None → IsAdvanced self.old self.new result }
         // After an end.
-        ensures again { (e : Cause) → self.old.ended ≡ Some e → IsAgain e result }
+        ensures again { (e : Cause) → self.old.ended ≡ Some e → IsAgain self.old.combining e result }
         ensures stays { (e : Cause) → self.old.ended ≡ Some e → self.new ≡ self.old }
     {
         if let Some(ended) = &self.parts.ended {

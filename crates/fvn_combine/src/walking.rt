@@ -162,7 +162,8 @@ fn next_of_frame(task: &Task, state: &State, opened: &mut Opened) -> Result<Draw
 pub(crate) fn next_in(task: &Task, frame: &mut Option<Frame>) -> Result<Drawn, NoMemory>
     requires opened { IsOpenedAt task.now frame.old }
     ensures opened { IsOpenedAt task.now frame.new }
-    ensures fewer { (u : Substitution) → IsCoveredAt task.now frame.new u → IsCoveredAt task.now frame.old u }
+    ensures fewer { (u : Substitution)
+        → IsCoveredAt task.now frame.new u → IsCoveredAt task.now frame.old u }
     ensures drawn { AreDrawnFrom task.now (IsCoveredAt task.now frame.old)
         (IsCoveredAt task.now frame.new) result }
 {

@@ -95,7 +95,7 @@ module _ (k : Combining) where
   module _ (states : List State) (frame : Option Frame) (states_after : List State) (frame_after : Option Frame) where
     -- no state is left; or the tree falls, and what the states admit is to come, and no more; or the search ends here, and all is as it was
     abbrev pub IsStep : Step → Type 0
-    IsStep NoneLeft = (states ≡ []) × (frame_after ≡ frame)
+    IsStep NoneLeft = (states ≡ []) × (states_after ≡ states) × (frame_after ≡ frame)
     IsStep More =
         (weight states_after < weight states) × IsOpenedAt k frame_after
         × ((u : Substitution) → IsKindUnifier k.declarations (problem_of k.given) u → IsAdmitted k states u ↔ (IsAdmitted k states_after u ⊎ IsCoveredAt k frame_after u))
@@ -107,7 +107,7 @@ module _ (k : Combining) where
 
     -- nothing was to come; or the search ends here; or a unifier covers what is no longer to come
     abbrev pub IsFound : Found → Type 0
-    IsFound Nothing = (u : Substitution) → IsAhead states frame u → ⊥
+    IsFound Nothing = ((u : Substitution) → IsAhead states frame u → ⊥) × IsAheadAsBefore
     IsFound (Ends e) = IsEnd k e × IsAheadAsBefore
     IsFound (Given g) = IsGivenOnKinds k.declarations k.given k.first k.size g × ((u : Substitution) → IsAhead states frame u → CoversBy k g u ⊎ IsAhead states_after frame_after u)
 

@@ -22,7 +22,13 @@ returns-in_err-end-in-Ends-clause-advanced c =
 
 pub returns-in-Nothing-clause-advanced : goal.returns-in-Nothing-clause-advanced
 returns-in-Nothing-clause-advanced c =
-    subst (IsFound c.args.task.now c.args.tree.now c.args.frame.now c.next_unifier.new.tree c.next_unifier.new.frame) c.in-Nothing.is c.in_ok-next_unifier.ensures.found
+    let h = subst (IsFound c.args.task.now c.args.tree.now c.args.frame.now c.next_unifier.new.tree c.next_unifier.new.frame) c.in-Nothing.is c.in_ok-next_unifier.ensures.found in
+    record { none = h.0; none_after = λ u m. h.0 u ((h.1 u).1 m); running = c.requires.running }
+
+pub returns-in-Given-clause-advanced : goal.returns-in-Given-clause-advanced
+returns-in-Given-clause-advanced c =
+    let h = subst (IsFound c.args.task.now c.args.tree.now c.args.frame.now c.next_unifier.new.tree c.next_unifier.new.frame) c.in-Given.is c.in_ok-next_unifier.ensures.found in
+    record { given = h.0; covers = h.1; running = c.requires.running }
 
 pub returns-in_ok-end-in-Ends-clause-advanced : goal.returns-in_ok-end-in-Ends-clause-advanced
 returns-in_ok-end-in-Ends-clause-advanced c =

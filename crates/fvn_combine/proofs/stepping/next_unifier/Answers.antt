@@ -39,14 +39,18 @@ returns-in_err-take_step-clause-found c =
 pub returns-in-Over-clause-opened : goal.returns-in-Over-clause-opened
 returns-in-Over-clause-opened c =
     let s = subst (IsStep c.args.task.now c.steps.tree c.next_in.new.frame c.take_step.new.tree c.take_step.new.frame) c.in-Over.is c.in_ok-take_step.ensures.stepped in
-    subst (IsOpenedAt c.args.task.now) (sym s.1) c.next_in.ensures.opened
+    subst (IsOpenedAt c.args.task.now) (sym s.2) c.next_in.ensures.opened
 
 pub returns-in-Over-clause-found : goal.returns-in-Over-clause-found
 returns-in-Over-clause-found c =
     let k = c.args.task.now in
     let none = subst (IsDrawnFrom k (IsCoveredAt k c.steps.frame) (IsCoveredAt k c.next_in.new.frame)) c.in-Nothing.is c.in_ok-next_in.ensures.drawn in
-    let s = subst (IsStep k c.steps.tree c.next_in.new.frame c.take_step.new.tree c.take_step.new.frame) c.in-Over.is c.in_ok-take_step.ensures.stepped in
-    nothing_ahead k c.args.tree.now c.args.frame.now c.steps.tree c.steps.frame c.steps.invariant.same none c.next_in.new.frame c.next_in.ensures.fewer s.0
+    let s = subst (IsStep k c.steps.tree c.next_in.new.frame c.take_step.new.tree c.take_step.new.frame) c.in-Over.is c.in_ok-take_step.ensures.stepped in (
+      nothing_ahead k c.args.tree.now c.args.frame.now c.steps.tree c.steps.frame c.steps.invariant.same none c.next_in.new.frame c.next_in.ensures.fewer s.0,
+      subst (λ l. IsAheadAsBefore k c.args.tree.now c.args.frame.now l c.take_step.new.frame) (sym s.1)
+          (subst (IsAheadAsBefore k c.args.tree.now c.args.frame.now c.steps.tree) (sym s.2)
+          (frame_kept k c.args.tree.now c.args.frame.now c.steps.tree c.steps.frame c.steps.invariant.same c.next_in.new.frame (λ u h. absurd (none u h)) c.next_in.ensures.fewer)),
+    )
 
 pub steps-preserved : goal.steps-preserved
 steps-preserved c =
