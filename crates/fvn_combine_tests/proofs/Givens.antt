@@ -6,10 +6,10 @@ use Rattle.fvn_combine.specs.Advancing.{IsAdvanced, IsAgain}
 use Rattle.fvn_combine.specs.declared.ending.Ended.{Ended}
 
 pub given_fits : (before after : Search) (o : Option Bindings)
-    → (before.ended ≡ None → IsAdvanced before after (Ok o)) → ((e : Ended) → before.ended ≡ Some e → IsAgain e (Ok o))
+    → (before.ended ≡ None → IsAdvanced before after (Ok o)) → ((e : Ended) → before.ended ≡ Some e → IsAgain before.combining e (Ok o))
     → IfSome o (BindingsFit before.combining.declarations)
 given_fits before after None advanced again = tt
 given_fits before after (Some g) advanced again = go before.ended refl where
   go : (ended : Option Ended) → before.ended ≡ ended → BindingsFit before.combining.declarations g
-  go None is = (advanced is).0.fit
+  go None is = (advanced is).given.fit
   go (Some e) is = absurd (again e is)
