@@ -1,5 +1,5 @@
 -- One more pair of terms of one kind.
-use Rattle.std.proofs.Common.{◌≡◌, ◌<◌, ◌≤◌, ℕ, length, map, ◌∙◌, sym, ap, subst, arith, take, All}
+use Rattle.std.proofs.Common.{◌<◌, ◌≤◌, length, subst, arith}
 use Rattle.fvn_base.proofs.MappedLists.{all_mapped_more, all_mapped_all}
 use Rattle.fvn_terms.specs.Term.{Term}
 use Rattle.fvn_terms.specs.declared.plain.SortId.{SortId}
