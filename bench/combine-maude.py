@@ -1,6 +1,6 @@
 #!/usr/bin/env python3
-# Prints how many unifiers Maude's `unify` gives for problems that are written as in bench/combine-times.sh, and in how many milliseconds with its start; with a second word also their values, as the tables of fvn_combine_tests want them.
-import subprocess,sys,re,time
+# Prints how many unifiers Maude's `unify` gives for problems that are written as in bench/combine-times.sh, how many of these are irredundant, and in how many milliseconds, with its printing and without its start; with a second word also their values, as the tables of fvn_combine_tests want them.
+import resource,subprocess,sys,re,time
 MOD='''fmod M is
  sort A .
  ops f g : -> A .
@@ -66,6 +66,15 @@ def unify(text,irr=False,timeout=60):
         if m: cur['A'+chr(48+int(m.group(1)))]=post(parse(m.group(2)))
     if 'No unifier' not in r and not us: print(r,file=sys.stderr)
     return us,dt
+def milliseconds(text, times=100):
+    """What one run of the command takes the processor beyond Maude's start, with its printing."""
+    q=' /\\ '.join('%s =? %s'%(prefix(a),prefix(b)) for a,b in (p.split(' = ') for p in text.split('; ')))
+    def used(n):
+        a=resource.getrusage(resource.RUSAGE_CHILDREN)
+        subprocess.run(['maude','-no-banner','-no-wrap'],input=MOD+('unify in M : '+q+' .\n')*n+'q\n',stdout=subprocess.DEVNULL,text=True,timeout=60)
+        b=resource.getrusage(resource.RUSAGE_CHILDREN)
+        return b.ru_utime+b.ru_stime-a.ru_utime-a.ru_stime
+    return 1000*(used(times+1)-used(1))/times
 if __name__ == '__main__':
     for text in open(sys.argv[1]).read().split('\n'):
         if not text:
@@ -74,9 +83,10 @@ if __name__ == '__main__':
         if found is None:
             print('%s: maude takes more than %d s' % (text, seconds))
             continue
+        least, _ = unify(text, True)
         names = vars_(text)
         for u in found:
             for x in names:
                 u.setdefault(x, 'A9')
         values = ' | ' + ' & '.join('; '.join(x + ' ' + u[x] for x in names) for u in found)
-        print('%s: maude %d, %d ms%s' % (text, len(found), 1000 * seconds, values if len(sys.argv) > 2 else ''))
+        print('%s: maude %d, irredundant %s, %.2f ms%s' % (text, len(found), '?' if least is None else len(least), milliseconds(text, 1 if len(found) > 999 else 100), values if len(sys.argv) > 2 else ''), flush=True)
