@@ -1,0 +1,125 @@
+#!/usr/bin/env bash
+# How many unifiers problems modulo C, AC and ACU are given, and in how many microseconds; where Maude is installed, how many its `unify` gives, and its times. Code as LLVM builds it: run at the top of the repository; it works in a copy, which it proves first. With `try` it proves nothing, and times code with checks, which is over a hundred times slower. PROBLEMS=FILE takes other problems.
+set -e
+here=$(cd "$(dirname "$0")/.." && pwd)
+there=$(mktemp -d)
+trap 'rm -rf "$there"' EXIT
+mkdir -p "$there/crates"
+cp "$here/HANDLES" "$there/HANDLES"
+for crate in base lindio acunify terms forms drafts sorts flat match nodes sums frames supports plans asking unfolding binding obeying wheels openings drawing combine combine_tests; do
+  cp -r "$here/crates/fvn_$crate" "$there/crates/"
+  rm -rf "$there/crates/fvn_$crate/must-fail"
+  grep "^fvn_$crate:" "$here/crates.txt" >> "$there/crates.txt"
+done
+# A term is written with each operator after its arguments: constants f and g, free operators h and i, a commutative
+# operator j, sums k and n, and sums l and m with the identity g.
+cat > "$there/problems" <<'PROBLEMS'
+A0 A1 k = A2 A3 k
+A0 A1 k = A2 A3 k A4 k
+A0 A1 k = A2 A3 k A4 k A5 k
+A0 A1 k = A2 A3 k A4 k A5 k A6 k
+A0 A1 k A2 k = A3 A4 k A5 k
+A0 A1 k A2 k = A3 A4 k A5 k A6 k
+A0 A0 k A1 k = A2 A3 k A4 k
+A0 f k A1 k = A2 g k A3 k
+A0 h A1 k = A2 A3 k
+A0 h A1 h k = A2 h A3 k
+A0 h A1 k A2 k = A3 h A4 k A5 k
+A0 h A1 h k A2 k = A3 h A4 k A5 k
+A0 h A1 h k A2 k = A3 h A4 h k A5 k
+A0 h A1 h k A2 h k A3 k = A4 h A5 k A6 k
+A0 A1 l = A2 A3 l
+A0 A1 l = A2 A3 l A4 l
+A0 A1 l A2 l = A3 A4 l A5 l
+A0 h A1 l = A2 h A3 l
+A0 h A1 l A2 l = A3 h A4 l A5 l
+A0 h A1 h l A2 l = A3 h A4 l A5 l
+A0 A1 n A2 k = A3 A4 n A5 k
+A0 A1 n A2 n A3 k = A4 A5 n A6 n A7 k
+A0 A1 k = A2 A3 k; A0 A4 n = A5 f n
+A0 A1 k = A2 A3 k; A0 A4 n = A5 A2 n
+A0 A1 k = A2 A3 k; A0 A1 n = A4 A5 n
+A0 A1 l = A2 A3 m
+A0 A1 l A2 l = A3 A4 m
+A0 A1 k A2 l = A3 A4 k A5 l
+A0 A1 l = A2 f l; A0 A3 m = A4 g m
+A0 A1 j A2 j A3 j = A4 A5 j A6 j A7 j
+A0 A1 j A2 A3 j j = A4 A5 j A6 A7 j j
+PROBLEMS
+if [ -n "$PROBLEMS" ]; then cp "$PROBLEMS" "$there/problems"; fi
+cd "$there/crates/fvn_combine_tests"
+rm -r src/tests/unifying.rt proofs/tests/unifying proofs/Givens.antt
+printf -- '-- The lemmas of the crate.\n' > proofs/Lib.antt
+cat > src/tests.rt <<'PROGRAM'
+//! Times of combined unification.
+mod given;
+mod signatures;
+mod terms;
+
+use self::given::is_given;
+use self::signatures::collected;
+use self::terms::read_problem;
+use fvn_combine::{CombineEnd, Combiner};
+use fvn_sorts::Signature;
+use fvn_terms::NoMemory;
+use std::process::Abort;
+use std::time::Instant;
+
+const PROBLEMS: &str = "@PROBLEMS@";
+
+/// How many unifiers are given, and whether the search ends at a limit.
+fn counted(combiner: &mut Combiner) -> Result<(u64, bool), NoMemory> {
+    for count in 0..1000000000 {
+        match combiner.advance() {
+            Ok(Some(_)) => {}
+            Ok(None) => return Ok((count, false)),
+            Err(CombineEnd::NoMemory) => return Err(NoMemory),
+            Err(CombineEnd::Basis(_, _)) => return Ok((count, true)),
+            Err(CombineEnd::Size(_)) => return Ok((count, true)),
+        }
+    }
+    Ok((0, true))
+}
+
+fn timed(abort: &impl Abort, rt: &HostRuntime, sig: &Signature, text: &str) -> Result<(), NoMemory> {
+    let alloc = rt.alloc();
+    let problem = read_problem(abort, alloc, sig, text)?;
+    assert!(abort; is_given(alloc, sig, &problem)?);
+    if let Ok(start) = Instant::now(rt) {
+        let mut combiner = Combiner::new(alloc, sig, &problem, 0, 1000)?;
+        let (count, ended) = counted(&mut combiner)?;
+        let end = if ended { " and an end" } else { "" };
+        if let Ok(time) = start.elapsed(rt) {
+            let _ = println!(rt; "{text}: {count}{end}, {} us", time.as_micros());
+        }
+    }
+    Ok(())
+}
+
+fn all_timed(abort: &impl Abort, rt: &HostRuntime, sig: &Signature) -> Result<(), NoMemory> {
+    for text in PROBLEMS.lines() {
+        timed(abort, rt, sig, text)?;
+    }
+    Ok(())
+}
+
+#[test]
+fn times(rt: HostRuntime) -> Result<(), NoMemory> {
+    let alloc = rt.alloc();
+    match collected(alloc)?.finish(alloc) {
+        Ok(sig) => all_timed(&rt, &rt, &sig)?,
+        Err(_) => assert!(rt; false),
+    }
+    Ok(())
+}
+PROGRAM
+python3 - "$there/problems" <<'FILL'
+import sys
+text = open('src/tests.rt').read()
+open('src/tests.rt', 'w').write(text.replace('@' + 'PROBLEMS@', open(sys.argv[1]).read().strip()))
+FILL
+rt fmt > /dev/null
+if [ "$1" = try ]; then rt try --test --steps 1000; else (cd "$there" && git init -q . && rt ci fvn_combine_tests) | grep -E ' us$|passed|FAILED'; fi
+if command -v maude > /dev/null; then
+  python3 "$here/bench/combine-maude.py" "$there/problems"
+fi
