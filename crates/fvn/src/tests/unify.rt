@@ -130,13 +130,14 @@ fn tell(
     problem: &str,
     said: &str,
 ) -> Result<(), NoMemory> {
+    let wanted = status_of(said);
     let words = ["unify", problem];
     let (status, written) = answer(alloc, &plain(&words, module.as_bytes()))?;
     let mut text = String::from_str(alloc, "")?;
     for line in said.split(" | ") {
         text = format!(in alloc; "{text}{line}\n")?;
     }
-    assert_eq!(rt; status, status_of(said), "{problem}");
+    assert_eq!(rt; status, wanted, "{problem}");
     assert!(rt; written.as_slice() == text.as_bytes(), "{problem}");
     Ok(())
 }
