@@ -1,5 +1,5 @@
 #!/usr/bin/env bash
-# Times of lines: random lines of 10 to 300 symbols, as many as a text may have with six new variables, against the same lines with one more
+# Times of lines: random lines of 10 to 1,000 symbols with six new variables against the same lines with one more
 # variable, whose numbering is fixed; and answers of 500 to 4,000 lines. It runs the crates without proving them.
 # Run at the top of the repository; it works in a copy.
 set -e

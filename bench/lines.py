@@ -7,7 +7,7 @@ answers of each size.
 import random
 import sys
 
-SIZES = [10, 15, 30, 100, 300]
+SIZES = [10, 15, 30, 100, 300, 1000]
 LINES = 20
 
 
@@ -37,12 +37,19 @@ def written(t, names):
     return name if not t[1] else name + '(' + ','.join(written(u, names) for u in t[1]) + ')'
 
 
+def symbols(t):
+    own = 1 if t[0] != '+' else len(t[1]) - 1
+    return 1 if t[0] == 'v' else own + sum(map(symbols, t[1]))
+
+
 def line(size, draw):
+    # A sum of n terms has n - 1 symbols of its own, and a text may have 1,000 in one term: the greatest lines are cut to that.
+    size = min(size, 850)
     while True:
         number = draw.randint(1, min(6, size // 2))
         cuts = sorted(draw.sample(range(1, size), number - 1))
         values = [term(b - a, draw) for a, b in zip([0] + cuts, cuts + [size])]
-        if len(set().union(*map(variables, values))) == 6:
+        if len(set().union(*map(variables, values))) == 6 and sum(map(symbols, values)) <= 1000:
             return values
 
 
