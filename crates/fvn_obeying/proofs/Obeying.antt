@@ -24,9 +24,8 @@ use Rattle.fvn_obeying.specs.Obeyed.{AreMadeOf, AreObeying}
 use Rattle.fvn_obeying.proofs.Asked.{sum_told, user_told, shared_told, Asked, asked}
 use Rattle.fvn_obeying.proofs.Chosen.{made_of, acceptable}
 use Rattle.fvn_obeying.proofs.Marked.{number_by, marked, AreMarks, marks_of, are_marks, marks_long, also_marked, bit_marked}
-use Rattle.fvn_obeying.proofs.Meeting.{component_at}
 use Rattle.fvn_obeying.proofs.NeutralTold.{neutral_told}
-use Rattle.fvn_obeying.proofs.Touching.{touched_from}
+use Rattle.fvn_obeying.proofs.Touching.{bare_is}
 use Rattle.fvn_obeying.proofs.Tagging.{sum_head, sum_told as headed_told}
 
 module _ (choose : ValuesChoose) (aliases : NoAliases) (law : MadeUpByTaken) (d : Declarations) (good : IsGood d) (t : NodeTable) (made : IsWellMade t) (has : HasSums d t) (s : State) (frame : IsFrame d t s) (told : IsTold d t (class_of s)) (y : Systems) (systems : AreSystems d t (class_of s) y) (values : ℕ → FlatTerm) (go_with : GoWith d t s values) where
@@ -142,10 +141,8 @@ module _ (choose : ValuesChoose) (aliases : NoAliases) (law : MadeUpByTaken) (d 
   filled f sum n (inl h) e i l bare =
       let asked = (asked_for f h).are_asked in
       let v = get_or (y.basis f) i [] in
-      let none : touched (asked_for f h).constants v ≡ 0 = touched_from (asked_for f h).constants v (λ j m.
-      let r = (asked.are_constant j).0 m in
-      sym (component_at (y.columns f) v (systems.is_system f h).distinct j r.0) ∙ bare (get_or (y.columns f) j 0) r.1)
-      in
+      let system = systems.is_system f h in
+      let none = (bare_is d t class tag f (y.columns f) system.distinct (λ k c. (system.exact k).1 c.used.column) (asked_for f h).constants (asked_for f h).may_be_zero asked v).1 bare in
       let are = marks_are f h in
       let long = marks_long (also f h) (marks_for f h) (chosen_for f h).pieces (y.basis f) are in
       ap (λ m. m / 2 ^ i % 2) (ap (number_in f) e)
