@@ -6,7 +6,8 @@
 Each line of the input is a problem as `bench/partitions.py` reads it, in which no two nodes are in one class but the
 sides of its pairs. The program adds how many minimal solutions each sum operator has; each shared class, as the
 number of its node, with the operators that use it; and for each list of tags of the shared classes how many choices
-of minimal solutions are valid, and how many of these leave no shared class a sum of a constant alone. Minimal
+of minimal solutions are on the wheels, and how many of these leave no shared class a sum of a constant alone. There is
+one sort, so that a sum with an identity is neutral, and its choices take every solution without a constant. Minimal
 solutions are found by trying all vectors with components up to 4, and choices by trying all sets of solutions.
 """
 
@@ -103,7 +104,7 @@ class Frame:
         return tags.get(k) == f if self.is_shared(k) else True
 
     def choices(self, tags, f):
-        """How many sets of minimal solutions are valid for f, and whether each leaves no alias."""
+        """For each set of minimal solutions on the wheel of f whether it leaves no alias."""
         columns = self.columns[f]
         constants = [j for j, k in enumerate(columns) if self.uses(f, k) and not self.is_bound(tags, f, k)]
         required = [
@@ -119,6 +120,8 @@ class Frame:
                 if any(total[j] != 1 for j in constants) or any(total[j] == 0 for j in required):
                     continue
                 if any(sum(x[j] > 0 for j in constants) > 1 for x in taken):
+                    continue
+                if axioms(f) == "unital" and not all(x in taken or any(x[j] for j in constants) for x in self.bases[f]):
                     continue
                 found.append(
                     not any(

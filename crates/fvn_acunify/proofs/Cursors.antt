@@ -1,12 +1,13 @@
--- What is valid by the fields of the code is valid by the cursor.
+-- What is listed by the fields of the code is listed by the cursor.
 use Rattle.std.proofs.Common.{◌≡◌, ℕ, Bool, List, subst}
 use Rattle.fvn_lindio.specs.Systems.{vectors_of}
 use Rattle.fvn_lindio.specs.declared.system.Solution.{Solution}
-use Rattle.fvn_acunify.specs.ValidChoice.{IsValid}
+use Rattle.fvn_acunify.specs.ValidChoice.{IsListed}
 
 -- what the code reads from its fields is what the cursor has
-pub IsValid-same : {constants constants' : List ℕ} {may_be_zero may_be_zero' : List Bool} {basis basis' : List Solution} → constants ≡ constants' → may_be_zero ≡ may_be_zero' → basis ≡ basis' → (b : ℕ) → IsValid constants may_be_zero (vectors_of basis) b → IsValid constants' may_be_zero' (vectors_of basis') b
-IsValid-same {constants} {constants'} {may_be_zero} {may_be_zero'} {basis} {basis'} e f g b valid =
-    subst (λ l. IsValid constants' may_be_zero' (vectors_of l) b) g
-    (subst (λ l. IsValid constants' l (vectors_of basis) b) f
-    (subst (λ l. IsValid l may_be_zero (vectors_of basis) b) e valid))
+pub IsListed-same : {full full' : Bool} {constants constants' : List ℕ} {may_be_zero may_be_zero' : List Bool} {basis basis' : List Solution} → full ≡ full' → constants ≡ constants' → may_be_zero ≡ may_be_zero' → basis ≡ basis' → (b : ℕ) → IsListed full constants may_be_zero (vectors_of basis) b → IsListed full' constants' may_be_zero' (vectors_of basis') b
+IsListed-same {full} {full'} {constants} {constants'} {may_be_zero} {may_be_zero'} {basis} {basis'} w e f g b listed =
+    subst (λ l. IsListed full' constants' may_be_zero' (vectors_of l) b) g
+    (subst (λ l. IsListed full' constants' l (vectors_of basis) b) f
+    (subst (λ l. IsListed full' l may_be_zero (vectors_of basis) b) e
+    (subst (λ l. IsListed l constants may_be_zero (vectors_of basis) b) w listed)))

@@ -1,13 +1,13 @@
 -- What the highest bits of a number tell of every number that begins with them.
-use Rattle.std.proofs.Common.{◌≡◌, ◌≢◌, ℕ, zero, suc, ◌+◌, ◌-◌, ◌*◌, ◌/◌, ◌%◌, ◌^◌, ◌<◌, ◌≤◌, Bool, true, false, cond, eqb, List, [], ◌∷◌, ◌++◌, length, take, drop, get_or, replicate, slice_index, slice_index_or, All, refl, ap, sym, ◌∙◌, inl, inr, arith}
+use Rattle.std.proofs.Common.{◌≡◌, ◌≢◌, ℕ, zero, suc, ◌+◌, ◌-◌, ◌*◌, ◌/◌, ◌%◌, ◌^◌, ◌<◌, ◌≤◌, Bool, true, false, cond, eqb, List, [], ◌∷◌, ◌++◌, length, take, drop, get_or, replicate, slice_index, slice_index_or, All, refl, ap, sym, subst, ◌∙◌, inl, inr, arith}
 use Rattle.std.proofs.lemmas.Bool.{cond-true, cond-false, eq-eqb, ne_eqb, cases_lt}
 use Rattle.std.proofs.lemmas.Nat.{shr-shr, pow_pos, div-add-mod', le-div}
-use Rattle.std.proofs.lemmas.List.{drop_more, drop_all, get_or_past, get_or-replicate, length-map, length-replicate}
+use Rattle.std.proofs.lemmas.List.{drop_more, drop_all, get_or_past, get_or-map, get_or-replicate, length-map, length-replicate}
 use Rattle.std.proofs.lemmas.List.Elements.{All-head, All-tail, All-cons, All-same, All-nil}
 use Rattle.std.proofs.lemmas.List.Sums.{sum_by-append}
 use Rattle.fvn_lindio.specs.Systems.{vectors_of}
 use Rattle.fvn_lindio.specs.declared.system.Solution.{Solution}
-use Rattle.fvn_acunify.specs.ValidChoice.{IsValid, chosen, column_sum, touched}
+use Rattle.fvn_acunify.specs.ValidChoice.{IsValid, IsListed, chosen, column_sum, touched}
 use Rattle.fvn_acunify.specs.inner.Prefix.{IsBounded, IsDead, IsOpen}
 use Rattle.fvn_acunify.proofs.ColumnSums.{column_sum-cons}
 
@@ -144,9 +144,13 @@ column_sum-at constants basis number place sums walked b same j =
     let few : column_sum j lower ≤ column_sum j (vectors_of (take place basis)) = column_sum-chosen-le j b (vectors_of (take place basis)) in
     (omega arith, omega arith)
 
+vector_at : (basis : List Solution) (p : ℕ) (d : Solution) → p < length basis → get_or (vectors_of basis) p [] ≡ (get_or basis p d).parts
+vector_at basis p d within = get_or-map (λ (v : Solution). v.parts) basis p d [] within
+
 -- where the sums leave a column without what is asked, all numbers with these higher bits are out
-pub dead-from_closed : (constants : List ℕ) (may_be_zero : List Bool) (basis : List Solution) (number place : ℕ) (sums : List ℕ) → IsWalked constants basis number place sums → (IsOpen constants may_be_zero (take place basis) sums → ⊥) → IsDead constants may_be_zero basis number place
-dead-from_closed constants may_be_zero basis number place sums walked closed b same valid =
+pub dead-from_closed : (full : Bool) (constants : List ℕ) (may_be_zero : List Bool) (basis : List Solution) (number place : ℕ) (sums : List ℕ) → IsWalked constants basis number place sums → (IsOpen constants may_be_zero (take place basis) sums → ⊥) → IsDead full constants may_be_zero basis number place
+dead-from_closed full constants may_be_zero basis number place sums walked closed b same listed =
+    let valid = listed.valid in
     let at = column_sum-at constants basis number place sums walked b same in
     closed (record {
       filled = λ j asked. omega (arith, at j, valid.filled j asked);
@@ -154,29 +158,54 @@ dead-from_closed constants may_be_zero basis number place sums walked closed b s
     })
 
 -- where the solution at a place touches two constants, all numbers with its bit and these higher bits are out
-pub dead-from_touched : (constants : List ℕ) (may_be_zero : List Bool) (basis : List Solution) (number p : ℕ) (parts : List ℕ) (d : Solution) → p < length basis → number / 2 ^ p % 2 ≡ 1 → parts ≡ (get_or basis p d).parts → 1 < touched constants parts → IsDead constants may_be_zero basis number p
-dead-from_touched constants may_be_zero basis number p parts d within bit is touches b same valid =
+pub dead-from_touched : (full : Bool) (constants : List ℕ) (may_be_zero : List Bool) (basis : List Solution) (number p : ℕ) (parts : List ℕ) (d : Solution) → p < length basis → number / 2 ^ p % 2 ≡ 1 → parts ≡ (get_or basis p d).parts → 1 < touched constants parts → IsDead full constants may_be_zero basis number p
+dead-from_touched full constants may_be_zero basis number p parts d within bit is touches b same listed =
+    let valid = listed.valid in
     let bit_b : b / 2 ^ p % 2 ≡ 1 = ap (λ n. n % 2) same ∙ bit in
     let lower = chosen b (vectors_of (take p basis)) in
     let split : chosen b (vectors_of basis) ≡ lower ++ parts ∷ higher b (p + 1) basis = chosen-split p b basis ∙ ap (λ l. lower ++ l) (higher-taken b p basis d within bit_b) ∙ ap (λ v. lower ++ v ∷ higher b (p + 1) basis) (sym is) in
     let one : touched constants parts ≤ 1 = All-middle (λ v. touched constants v ≤ 1) lower (higher b (p + 1) basis) parts (All-same (λ v. touched constants v ≤ 1) (lower ++ parts ∷ higher b (p + 1) basis) (chosen b (vectors_of basis)) (sym split) valid.apart) in
     omega arith
 
--- a number that was walked to its last bit, with every column as asked, is a valid choice
-pub valid-from_open : (constants : List ℕ) (may_be_zero : List Bool) (basis : List Solution) (number : ℕ) (sums : List ℕ) → IsWalked constants basis number 0 sums → IsOpen constants may_be_zero (take 0 basis) sums → number < 2 ^ length basis → IsValid constants may_be_zero (vectors_of basis) number
-valid-from_open constants may_be_zero basis number sums walked all_open within =
+-- where a solution that must be taken is not, all numbers with these higher bits are out
+pub dead-from_missing : (full : Bool) (constants : List ℕ) (may_be_zero : List Bool) (basis : List Solution) (number p : ℕ) (parts : List ℕ) (d : Solution) → full ≡ true → p < length basis → number / 2 ^ p % 2 ≢ 1 → parts ≡ (get_or basis p d).parts → touched constants parts ≡ 0 → IsDead full constants may_be_zero basis number p
+dead-from_missing full constants may_be_zero basis number p parts d is_full within bit is bare b same listed =
+    bit (ap (λ n. n % 2) (sym same) ∙ listed.whole is_full p (rw length-map within) (ap (touched constants) (vector_at basis p d within ∙ sym is) ∙ bare))
+
+-- from a place on every solution that must be taken is
+abbrev pub IsFullFrom : Bool → List ℕ → List Solution → ℕ → ℕ → Type 0
+IsFullFrom full constants basis number place = full ≡ true → (i : ℕ) → place ≤ i → i < length basis → touched constants (get_or (vectors_of basis) i []) ≡ 0 → number / 2 ^ i % 2 ≡ 1
+
+pub full-from_taken : (full : Bool) (constants : List ℕ) (basis : List Solution) (number place p : ℕ) → p + 1 ≡ place → number / 2 ^ p % 2 ≡ 1 → IsFullFrom full constants basis number place → IsFullFrom full constants basis number p
+full-from_taken full constants basis number place p e bit rest is_full i from within bare = elim (cases_lt p i) [
+  | inl later ↦ rest is_full i (omega (arith, later, e)) within bare
+  | inr here ↦ (let is : p ≡ i = omega (arith, here, from) in subst (λ j. number / 2 ^ j % 2 ≡ 1) is bit)
+]
+
+pub full-from_skipped : (full : Bool) (constants : List ℕ) (basis : List Solution) (number place p : ℕ) (parts : List ℕ) (d : Solution) → p + 1 ≡ place → p < length basis → parts ≡ (get_or basis p d).parts → ((full ≡ true) × (touched constants parts ≡ 0) → ⊥) → IsFullFrom full constants basis number place → IsFullFrom full constants basis number p
+full-from_skipped full constants basis number place p parts d e inside is other rest is_full i from within bare = elim (cases_lt p i) [
+  | inl later ↦ rest is_full i (omega (arith, later, e)) within bare
+  | inr here ↦ (let same : p ≡ i = omega (arith, here, from) in absurd (other (is_full, ap (touched constants) (is ∙ sym (vector_at basis p d inside)) ∙ subst (λ j. touched constants (get_or (vectors_of basis) j []) ≡ 0) (sym same) bare)))
+]
+
+-- a number that was walked to its last bit, with every column as asked and every solution that must be taken, is listed
+pub listed-from_open : (full : Bool) (constants : List ℕ) (may_be_zero : List Bool) (basis : List Solution) (number : ℕ) (sums : List ℕ) → IsWalked constants basis number 0 sums → IsOpen constants may_be_zero (take 0 basis) sums → IsFullFrom full constants basis number 0 → number < 2 ^ length basis → IsListed full constants may_be_zero (vectors_of basis) number
+listed-from_open full constants may_be_zero basis number sums walked all_open taken within =
     let same : number / 1 ≡ number = omega arith in
     let whole : higher number 0 basis ≡ chosen number (vectors_of basis) = ap (λ n. chosen n (vectors_of basis)) same in
     record {
-      within = rw length-map within;
-      filled = λ j asked. omega (arith, all_open.filled j asked, walked.summed j, ap (column_sum j) whole);
-      once = λ k d h. omega (arith, all_open.once k d h, walked.summed (slice_index_or constants k d), ap (column_sum (slice_index_or constants k d)) whole);
-      apart = All-same (λ v. touched constants v ≤ 1) (chosen number (vectors_of basis)) (higher number 0 basis) (sym whole) walked.apart;
+      valid = record {
+        within = rw length-map within;
+        filled = λ j asked. omega (arith, all_open.filled j asked, walked.summed j, ap (column_sum j) whole);
+        once = λ k d h. omega (arith, all_open.once k d h, walked.summed (slice_index_or constants k d), ap (column_sum (slice_index_or constants k d)) whole);
+        apart = All-same (λ v. touched constants v ≤ 1) (chosen number (vectors_of basis)) (higher number 0 basis) (sym whole) walked.apart;
+      };
+      whole = λ is_full i l bare. taken is_full i (omega arith) (let n = length-map basis (λ (v : Solution). v.parts) in omega (arith, l, n)) bare;
     }
 
--- a jump below all numbers with the same higher bits passes no valid choice
-pub jump_skips_none : (constants : List ℕ) (may_be_zero : List Bool) (basis : List Solution) (number place : ℕ) → IsDead constants may_be_zero basis number place → (a : ℕ) → a ≤ number → IsValid constants may_be_zero (vectors_of basis) a → a < number - number % 2 ^ place
-jump_skips_none constants may_be_zero basis number place dead a upto valid =
+-- a jump below all numbers with the same higher bits passes no choice that is listed
+pub jump_skips_none : (full : Bool) (constants : List ℕ) (may_be_zero : List Bool) (basis : List Solution) (number place : ℕ) → IsDead full constants may_be_zero basis number place → (a : ℕ) → a ≤ number → IsListed full constants may_be_zero (vectors_of basis) a → a < number - number % 2 ^ place
+jump_skips_none full constants may_be_zero basis number place dead a upto valid =
     elim (cases_lt a (number - number % 2 ^ place)) [
       | inl below ↦ below
       | inr above ↦ absurd (dead a (same_quotient a number (2 ^ place) (pow_pos place) above upto) valid)

@@ -22,3 +22,12 @@ pub record IsValid (constants : List ℕ) (may_be_zero : List Bool) (basis : Lis
   pub filled : (j : ℕ) → slice_index_or may_be_zero j true ≡ false → 0 < column_sum j (chosen b basis)
   pub once : All (λ c. column_sum c (chosen b basis) ≡ 1) constants
   pub apart : All (λ v. touched constants v ≤ 1) (chosen b basis)
+
+-- the choice takes every solution that is zero in all constant columns
+abbrev pub IsFull : List ℕ → List (List ℕ) → ℕ → Type 0
+IsFull constants basis b = (i : ℕ) → i < length basis → touched constants (slice_index_or basis i []) ≡ 0 → b / 2 ^ i % 2 ≡ 1
+
+-- a valid choice; where full ones alone are asked for, a full one
+pub record IsListed (full : Bool) (constants : List ℕ) (may_be_zero : List Bool) (basis : List (List ℕ)) (b : ℕ) : Type 0 where
+  pub valid : IsValid constants may_be_zero basis b
+  pub whole : full ≡ true → IsFull constants basis b

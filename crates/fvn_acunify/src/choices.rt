@@ -1,5 +1,5 @@
-//! The valid choices of a theory, from the greatest number down.
-ghost use Rattle.std.specs.Prelude.{◌≡◌, ◌↔◌, ℕ, ◌≤◌, ◌^◌, length, IfOk, IfErr, IfSome, unwrap_or};
+//! The choices of a theory that are listed, from the greatest number down.
+ghost use Rattle.std.specs.Prelude.{◌≡◌, ◌↔◌, ℕ, ◌≤◌, ◌^◌, length, true, false, IfOk, IfErr, IfSome, unwrap_or};
 ghost use Rattle.fvn_lindio.specs.Systems.{vectors_of};
 
 use crate::prefix::dead_place;
@@ -9,13 +9,14 @@ use fvn_lindio::Solution;
 use std::alloc::Global;
 use std::marker::Model;
 
-/// The minimal solutions of a theory's system, and the valid choices among them that are still to
-/// come. Its calls take no memory.
+/// The minimal solutions of a theory's system, and the choices among them that are listed and still
+/// to come: all valid ones, or those that are full. Its calls take no memory.
 #[derive(Drop)]
 pub struct Choices {
     constants: Vec<usize>,
     may_be_zero: Vec<bool>,
     basis: Seq<Solution>,
+    full: bool,
     sums: Vec<u64>,
     below: u32,
 }
@@ -31,6 +32,7 @@ impl Model for Choices {
       constants = c.constants.items;
       may_be_zero = c.may_be_zero.items;
       basis = c.basis;
+      full = c.full;
       below = c.below;
     } };
 
@@ -42,7 +44,7 @@ impl Model for Choices {
 impl Choices {
     ghost use Rattle.fvn_acunify.specs.Cursor.{Pending};
     ghost use Rattle.fvn_acunify.specs.inner.Prefix.{IsBounded};
-    ghost use Rattle.fvn_acunify.specs.ValidChoice.{IsValid};
+    ghost use Rattle.fvn_acunify.specs.ValidChoice.{IsListed};
 
     /// The choices among these solutions, none of them given yet.
     pub(crate) fn over(
@@ -56,6 +58,7 @@ impl Choices {
           constants = theory.now.constants;
           may_be_zero = theory.now.may_be_zero;
           basis = basis;
+          full = false;
           below = 2 ^ length basis;
         }) }
         ensures only_memory { IfErr result (λ fault. fault ≡ OneFault.NoMemory) }
@@ -68,6 +71,7 @@ impl Choices {
             constants,
             may_be_zero,
             basis,
+            full: false,
             sums,
             below,
         })
@@ -80,10 +84,10 @@ impl Choices {
         self.basis.as_slice()
     }
 
-    /// The greatest valid choice that is still to come; bit i says that solution i is chosen.
+    /// The greatest choice that is still to come; bit i says that solution i is chosen.
     ///
     /// No branch of numbers with the same highest bits is entered where these bits already leave no
-    /// valid choice; it is passed in one step.
+    /// choice that is listed; it is passed in one step.
     pub fn next(&mut self) -> Option<u32>
         ensures greatest { IfSome result (λ b.
             Pending self.old b × ((a : ℕ) → Pending self.old a → a ≤ b)) }
@@ -93,6 +97,7 @@ impl Choices {
         while self.below > 0 {
             let number = self.below - 1;
             let found = dead_place(
+                self.full,
                 self.constants.as_slice(),
                 self.may_be_zero.as_slice(),
                 self.basis.as_slice(),
@@ -110,13 +115,22 @@ impl Choices {
         None
     }
 
-    /// Goes back to the start: every valid choice is still to come.
+    /// Goes back to the start: every choice that is listed is still to come.
     pub fn again(&mut self)
         ensures restarted { self.new ≡ record self.old { below = 2 ^ length self.old.basis } }
         ensures all_pending { (b : ℕ) →
-            IsValid self.new.constants self.new.may_be_zero (vectors_of self.new.basis) b
+            IsListed self.new.full self.new.constants self.new.may_be_zero (vectors_of self.new.basis) b
             → Pending self.new b }
     {
         self.below = 1 << self.basis.len();
+    }
+
+    /// Lists from now on full choices alone, which take every solution that is zero in all constant
+    /// columns, and goes back to the start.
+    pub fn list_full(&mut self)
+        ensures { self.new ≡ record self.old { full = true; below = 2 ^ length self.old.basis } }
+    {
+        self.full = true;
+        self.again();
     }
 }

@@ -1,14 +1,15 @@
 //! The highest bits of a number that already rule out every choice which begins with them.
 ghost use Rattle.std.specs.Prelude.{◌≡◌, ◌↔◌, ℕ, ◌+◌, ◌^◌, ◌<◌, ◌≤◌, length, slice_index, slice_index_or, true, false, All, IsTrue, IfSome, IfNone};
 ghost use Rattle.fvn_lindio.specs.Systems.{vectors_of};
-ghost use Rattle.fvn_acunify.specs.ValidChoice.{IsValid, touched};
+ghost use Rattle.fvn_acunify.specs.ValidChoice.{IsListed, touched};
 ghost use Rattle.fvn_acunify.specs.inner.Prefix.{CanBeFilled, CanBeOne, IsBounded, IsDead, IsOpen};
 
 use fvn_lindio::Solution;
 
 /// The highest place from which on the bits of the number rule out every choice, or None where the
-/// number is a valid choice. `sums` is room for a sum a column.
+/// number is a choice that is listed. `sums` is room for a sum a column.
 pub fn dead_place(
+    full: bool,
     constants: &[usize],
     may_be_zero: &[bool],
     basis: &[Solution],
@@ -20,8 +21,8 @@ pub fn dead_place(
     requires within { number < 2 ^ length basis.now }
 
     ensures place { IfSome result (λ place. place ≤ length basis.now) }
-    ensures dead { IfSome result (IsDead constants.now may_be_zero.now basis.now number) }
-    ensures valid { IfNone result (IsValid constants.now may_be_zero.now (vectors_of basis.now) number) }
+    ensures dead { IfSome result (IsDead full constants.now may_be_zero.now basis.now number) }
+    ensures listed { IfNone result (IsListed full constants.now may_be_zero.now (vectors_of basis.now) number) }
 {
     sums.fill(0);
     let mut place = basis.len();
@@ -36,6 +37,8 @@ pub fn dead_place(
                 return Some(place);
             }
             add(sums, parts);
+        } else if is_asked(full, constants, basis[place].parts.as_slice()) {
+            return Some(place);
         }
         if !is_open(constants, may_be_zero, &basis[..place], sums) {
             return Some(place);
@@ -50,6 +53,17 @@ fn touches_two(constants: &[usize], parts: &[u32]) -> bool
     ensures { IsTrue result ↔ (1 < touched constants.now parts.now) }
 {
     constants.iter().filter(|c| parts[**c] > 0).count() > 1
+}
+
+/// Whether full choices alone are listed, and the solution is zero in all constant columns.
+fn is_asked(full: bool, constants: &[usize], parts: &[u32]) -> bool
+    requires { All (λ c. c < length parts.now) constants.now }
+    ensures { IsTrue result ↔ ((full ≡ true) × (touched constants.now parts.now ≡ 0)) }
+{
+    if !full {
+        return false;
+    }
+    constants.iter().filter(|c| parts[**c] > 0).count() == 0
 }
 
 /// Adds a solution to the column sums.

@@ -97,6 +97,20 @@ fn worked_choices_come_from_the_greatest_down(rt: HostRuntime) -> Result<(), Fai
 }
 
 #[test]
+fn full_choices_take_every_solution_without_a_constant(rt: HostRuntime) -> Result<(), Fail> {
+    let alloc = rt.alloc();
+    for (constants, want) in [([].as_slice(), 15u32), ([1, 3].as_slice(), 14)] {
+        let theory = one_row(alloc, &[1, 1, -1, -1], constants)?;
+        assert!(rt; keeps(&theory));
+        let mut choices = solve_one(alloc, &theory)?;
+        choices.list_full();
+        assert_eq!(rt; choices.next(), Some(want));
+        assert_eq!(rt; choices.next(), None);
+    }
+    Ok(())
+}
+
+#[test]
 fn a_refusal_is_handed_on(rt: HostRuntime) -> Result<(), Fail> {
     let alloc = rt.alloc();
     let theory = one_row(alloc, &[1, 1, 1, 1, 1, -1, -1, -1, -1, -1], &[])?;

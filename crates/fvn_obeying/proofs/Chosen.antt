@@ -1,7 +1,7 @@
 -- Minimal solutions that values choose are acceptable, and the values are made of their pieces.
-use Rattle.std.proofs.Common.{◌≡◌, ℕ, zero, suc, ◌<◌, ◌≤◌, ◌^◌, List, [], ◌∷◌, length, get_or, sym, ap, ◌∙◌, subst, inl, inr, arith, All, Contains, pos, slice_get, sum_by}
+use Rattle.std.proofs.Common.{◌≡◌, ℕ, zero, suc, ◌<◌, ◌≤◌, ◌^◌, true, List, [], ◌∷◌, length, get_or, sym, ap, ◌∙◌, subst, inl, inr, arith, All, Contains, pos, slice_get, sum_by}
 use Rattle.std.specs.Prelude.{Bool, ◌↔◌}
-use Rattle.std.proofs.lemmas.Bool.{cases_eq}
+use Rattle.std.proofs.lemmas.Bool.{cases_eq, or_cases}
 use Rattle.std.proofs.lemmas.List.{get_or-map, get_or_default}
 use Rattle.std.proofs.lemmas.List.Sums.{sum_by-cons}
 use Rattle.std.proofs.lemmas.List.Elements.{All-map, All-contains, Contains-get_or}
@@ -11,14 +11,14 @@ use Rattle.fvn_forms.specs.Flat.{FlatTerm}
 use Rattle.fvn_forms.specs.InOrder.{count, SameCounts}
 use Rattle.fvn_forms.specs.Canon.{parts}
 use Rattle.fvn_lindio.specs.Systems.{IsMinimal, IsUnused, rows_of}
-use Rattle.fvn_acunify.specs.ValidChoice.{chosen, column_sum}
+use Rattle.fvn_acunify.specs.ValidChoice.{chosen, column_sum, touched}
 use Rattle.fvn_flat.specs.SolvedLists.{component}
 use Rattle.fvn_nodes.specs.Table.{NodeTable, IsWellMade}
 use Rattle.fvn_nodes.specs.States.{class_of}
 use Rattle.fvn_nodes.specs.declared.state.State.{State}
 use Rattle.fvn_sums.specs.NodeSystems.{addends, sums, coefficient, row_at, IsNodeSystem}
 use Rattle.fvn_supports.specs.Laws.{MadeUpByTaken}
-use Rattle.fvn_supports.specs.Pieces.{number_of, taken as with_pieces, some_of}
+use Rattle.fvn_supports.specs.Pieces.{has_some, number_of, taken as with_pieces}
 use Rattle.fvn_frames.specs.Frames.{IsFrame, IsSumOperator, Uses, IsShared}
 use Rattle.fvn_plans.specs.Binding.{IsBound, IsConstant, IsRequired, AreAsked}
 use Rattle.fvn_plans.specs.Choosing.{Systems, Choice, AreSystems, AreTakenTogether, IsAcceptable, taken, member_count}
@@ -30,7 +30,10 @@ use Rattle.fvn_obeying.specs.Obeyed.{IsSummand, AreMadeOf}
 use Rattle.fvn_obeying.proofs.Aliases.{laid_out_are}
 use Rattle.fvn_obeying.proofs.Asked.{uses_told}
 use Rattle.fvn_obeying.proofs.Meeting.{component_at, not_unused}
-use Rattle.fvn_obeying.proofs.Taken.{laid_for_is, TakenAt, taken_at, some_are_some, contains_counted, laid_counts, sum_by_alike}
+use Rattle.fvn_obeying.specs.Neutral.{IsNeutral}
+use Rattle.fvn_obeying.proofs.Marked.{number_by, marked, number_small, chosen_marked, AreMarks, marks_long, as_many_marked, laid_for_is, MarkedAt, marked_at, sums_grow, sums_stay, empty_passes}
+use Rattle.fvn_obeying.proofs.Taken.{contains_counted, laid_counts, sum_by_alike}
+use Rattle.fvn_obeying.proofs.Touching.{touched_none}
 use Rattle.fvn_obeying.proofs.TwoSummands.{shared_two}
 use Rattle.fvn_obeying.proofs.Values.{zero_told, bound_used, may_be, constants_differ}
 
@@ -41,7 +44,8 @@ some_component (zero ∷ v) h = let r = some_component v (let e = sum_by-cons (�
 some_component (suc n ∷ v) h = (0, omega arith, omega arith)
 
 module _ (d : Declarations) (t : NodeTable) (made : IsWellMade t) (has : HasSums d t) (s : State) (frame : IsFrame d t s) (told : IsTold d t (class_of s)) (values : ℕ → FlatTerm) (go_with : GoWith d t s values) (y : Systems) (systems : AreSystems d t (class_of s) y) (c : Choice) (obey : ObeyTags d t (class_of s) c.tag values)
-    (f : OpId) (sum : IsSumOperator d t f) (constants : List ℕ) (may_be_zero : List Bool) (are_asked : AreAsked d t (class_of s) c.tag f (y.columns f) constants may_be_zero) (ch : IsChosen d f values (y.columns f) (y.system f) (y.basis f) constants may_be_zero) (number : c.number f ≡ number_of ch.pieces) (law : MadeUpByTaken) where
+    (f : OpId) (sum : IsSumOperator d t f) (constants : List ℕ) (may_be_zero : List Bool) (are_asked : AreAsked d t (class_of s) c.tag f (y.columns f) constants may_be_zero) (ch : IsChosen d f values (y.columns f) (y.system f) (y.basis f) constants may_be_zero) (also : List ℕ → Bool) (marks : List Bool) (are : AreMarks also marks ch.pieces (y.basis f)) (number : c.number f ≡ number_by marks)
+    (neutral : (v : List ℕ) → also v ≡ true → IsNeutral d f) (bare : (v : List ℕ) → also v ≡ true → touched constants v ≡ 0) (law : MadeUpByTaken) where
   abbrev class : ℕ → ℕ
   class = class_of s
 
@@ -54,11 +58,11 @@ module _ (d : Declarations) (t : NodeTable) (made : IsWellMade t) (has : HasSums
   sized : All (λ v. length v ≡ (y.system f).columns) (y.basis f)
   sized i v l = ((exact (get_or (y.basis f) i v)).0 (Contains-get_or (y.basis f) i v l)).solves.sized
 
-  taken_is : taken y c f ≡ with_pieces ch.pieces (y.basis f)
-  taken_is = ap (λ n. chosen n (y.basis f)) number ∙ (law (y.system f).columns (y.basis f) sized ch.counted ch.pieces ch.made_up).0
+  taken_is : taken y c f ≡ marked marks (y.basis f)
+  taken_is = ap (λ n. chosen n (y.basis f)) number ∙ chosen_marked marks (y.basis f) (marks_long also marks ch.pieces (y.basis f) are)
 
-  as_many : length (some_of ch.pieces) ≡ length (taken y c f)
-  as_many = (law (y.system f).columns (y.basis f) sized ch.counted ch.pieces ch.made_up).1.as_many ∙ ap length (sym taken_is)
+  as_many : length (marked marks ch.pieces) ≡ length (taken y c f)
+  as_many = as_many_marked also marks ch.pieces (y.basis f) are ∙ ap length (sym taken_is)
 
   -- the column of a class
   record IsAt (k : ℕ) : Type 0 where
@@ -79,32 +83,46 @@ module _ (d : Declarations) (t : NodeTable) (made : IsWellMade t) (has : HasSums
       not_unused d t class f (y.columns f) (y.system f) is_node_system a.column a.within (subst (Uses d t class f) (sym a.of) u)
 
   -- the summands of a used class's value
-  made_for : (k : ℕ) → Uses d t class f k → SameCounts (parts d f (values k)) (laid_for (y.columns f) k (taken y c f) (some_of ch.pieces))
+  made_for : (k : ℕ) → Uses d t class f k → SameCounts (parts d f (values k)) (laid_for (y.columns f) k (taken y c f) (marked marks ch.pieces))
   made_for k u q =
       let a = at k u in
       ap (λ n. count q (parts d f (values n))) (sym a.of)
       ∙ laid_out_are d f values (y.columns f) (y.system f) (y.basis f) exact constants may_be_zero ch a.column a.within (used_column k u) q
-      ∙ ap (count q) (laid_for_is (y.columns f) a.column k a.component_is ch.pieces (y.basis f))
-      ∙ ap (λ vs. count q (laid_for (y.columns f) k vs (some_of ch.pieces))) (sym taken_is)
+      ∙ ap (count q) (laid_for_is also (y.columns f) a.column k a.component_is marks ch.pieces (y.basis f) are)
+      ∙ ap (λ vs. count q (laid_for (y.columns f) k vs (marked marks ch.pieces))) (sym taken_is)
 
-  from : (i : ℕ) → i < length (taken y c f) → TakenAt ch.pieces (y.basis f) i
-  from i l = taken_at ch.pieces (y.basis f) i (let e = ap length taken_is in omega (arith, l, e))
+  from : (i : ℕ) → i < length (taken y c f) → MarkedAt also ch.pieces (y.basis f) (marked marks (y.basis f)) (marked marks ch.pieces) i
+  from i l = marked_at also marks ch.pieces (y.basis f) are i (let e = ap length taken_is in omega (arith, l, e))
 
   solution_from : (i : ℕ) (l : i < length (taken y c f)) → get_or (taken y c f) i [] ≡ get_or (y.basis f) (from i l).place []
   solution_from i l = ap (λ vs. get_or vs i []) taken_is ∙ (from i l).solution
 
+  -- a solution with a constant has pieces
+  has_pieces : (i k : ℕ) (l : i < length (taken y c f)) → IsConstant d t class c.tag f k → 0 < component (y.columns f) (get_or (taken y c f) i []) k → has_some (get_or ch.pieces (from i l).place []) ≡ true
+  has_pieces i k l h p =
+      let r = from i l in
+      let v = get_or (y.basis f) r.place [] in
+      let a = at k h.used in
+      let e = ap (λ v. component (y.columns f) v k) (solution_from i l) ∙ a.component_is v in
+      elim (or_cases (has_some (get_or ch.pieces r.place [])) (also v) r.why) [
+        | inl some ↦ some
+        | inr passes ↦ absurd (
+            let z = touched_none constants v (bare v passes) a.column ((are_asked.are_constant a.column).1 (a.within, subst (IsConstant d t class c.tag f) (sym a.of) h)) in
+            omega (arith, e, p, z))
+      ]
+
   -- a solution with a constant has its value as its one piece
-  alone_piece : (i k : ℕ) → i < length (taken y c f) → IsConstant d t class c.tag f k → 0 < component (y.columns f) (get_or (taken y c f) i []) k → get_or (some_of ch.pieces) i [] ≡ values k ∷ []
+  alone_piece : (i k : ℕ) → i < length (taken y c f) → IsConstant d t class c.tag f k → 0 < component (y.columns f) (get_or (taken y c f) i []) k → get_or (marked marks ch.pieces) i [] ≡ values k ∷ []
   alone_piece i k l h p =
       let r = from i l in
       let a = at k h.used in
       let e = ap (λ v. component (y.columns f) v k) (solution_from i l) ∙ a.component_is (get_or (y.basis f) r.place []) in
       r.piece
-      ∙ ch.stand.piece r.place a.column r.within ((are_asked.are_constant a.column).1 (a.within, subst (IsConstant d t class c.tag f) (sym a.of) h)) r.has (omega (arith, e, p))
+      ∙ ch.stand.piece r.place a.column r.within ((are_asked.are_constant a.column).1 (a.within, subst (IsConstant d t class c.tag f) (sym a.of) h)) (has_pieces i k l h p) (omega (arith, e, p))
       ∙ ap (λ n. values n ∷ []) a.of
 
   -- the pieces are summands of values
-  module _ (i : ℕ) (l : i < length (taken y c f)) (q : FlatTerm) (among : Contains (get_or (some_of ch.pieces) i []) q) where
+  module _ (i : ℕ) (l : i < length (taken y c f)) (q : FlatTerm) (among : Contains (get_or (marked marks ch.pieces) i []) q) where
     abbrev v : List ℕ
     v = get_or (y.basis f) (from i l).place []
 
@@ -119,7 +137,7 @@ module _ (d : Declarations) (t : NodeTable) (made : IsWellMade t) (has : HasSums
           | inl u ↦
               let of = component_at (y.columns f) v is_node_system.distinct j within in
               let e = ap (λ w. component (y.columns f) w k) (solution_from i l) in
-              let counted = laid_counts (y.columns f) k q (taken y c f) (some_of ch.pieces) i l (omega (arith, e, of, p)) among in
+              let counted = laid_counts (y.columns f) k q (taken y c f) (marked marks ch.pieces) i l (omega (arith, e, of, p)) among in
               let same = made_for k u q in
               record { k = k; used = u; among = contains_counted q (parts d f (values k)) (omega (arith, counted, same)) }
           | inr n ↦ absurd (let e = minimal.solves.unused j (unused j within n) in omega (arith, e, p))
@@ -142,20 +160,24 @@ module _ (d : Declarations) (t : NodeTable) (made : IsWellMade t) (has : HasSums
     summand : IsSummand d t class values f q
     summand = let r = some_component v minimal.nonzero in summand_at r.0 r.1 r.2
 
-  pub made_of : AreMadeOf d t class y c values f (some_of ch.pieces)
+  pub made_of : AreMadeOf d t class y c values f (marked marks ch.pieces)
   made_of = record {
     as_many = as_many;
-    some = some_are_some ch.pieces;
+    some = λ z m e. let r = empty_passes also marks ch.pieces (y.basis f) are m.0 m.1 (get_or_default (marked marks ch.pieces) m.0 [] z m.1 ∙ m.2 ∙ e) in neutral r.0 r.1;
     summands = λ z q m n. (let l : m.0 < length (taken y c f) = (let e = as_many in let w = m.1 in omega (arith, e, w)) in
-        summand m.0 l q (subst (λ z. Contains z q) (sym (get_or_default (some_of ch.pieces) m.0 [] z m.1 ∙ m.2)) n));
+        summand m.0 l q (subst (λ z. Contains z q) (sym (get_or_default (marked marks ch.pieces) m.0 [] z m.1 ∙ m.2)) n));
     made = made_for;
     alone = alone_piece;
   }
 
-  counted : (k : ℕ) (u : Uses d t class f k) → member_count y c f k ≡ column_sum (at k u).column (chosen (number_of ch.pieces) (y.basis f))
+  counted : (k : ℕ) (u : Uses d t class f k) → member_count y c f k ≡ column_sum (at k u).column (marked marks (y.basis f))
   counted k u =
       sum_by_alike (λ v. component (y.columns f) v k) (λ v. get_or v (at k u).column 0) (at k u).component_is (taken y c f)
-      ∙ ap (λ n. column_sum (at k u).column (chosen n (y.basis f))) number
+      ∙ ap (column_sum (at k u).column) taken_is
+
+  -- a column has no more with those that have pieces alone
+  pieces_sum : (j : ℕ) → column_sum j (chosen (number_of ch.pieces) (y.basis f)) ≡ column_sum j (with_pieces ch.pieces (y.basis f))
+  pieces_sum j = ap (column_sum j) (law (y.system f).columns (y.basis f) sized ch.counted ch.pieces ch.made_up).0
 
   -- a shared class is no sum of a constant alone
   not_alone : NoAliases → (k l : ℕ) → IsShared d t class k → IsBound d t class c.tag f k → IsConstant d t class c.tag f l → AreTakenTogether d t class y c f k l → 2 ≤ member_count y c f k
@@ -166,16 +188,19 @@ module _ (d : Declarations) (t : NodeTable) (made : IsWellMade t) (has : HasSums
       let u = bound_used d t made has s frame told values go_with c.tag obey f k b in
       let a = at k u in
       let e = at l h.used in
+      let place_right = ap (λ v. component (y.columns f) v l) (get_or_default (taken y c f) m.0 [] together.solution m.1 ∙ m.2) in
       let left = ap (λ v. get_or v a.column 0) v_is ∙ sym (a.component_is together.solution) in
       let right = ap (λ v. get_or v e.column 0) v_is ∙ sym (e.component_is together.solution) in
       let p = together.left in
       let q = together.right in
       let two = shared_two d t made has s frame told values go_with c.tag obey f k shared b in
       let same_length = ap (λ n. length (parts d f (values n))) a.of in
-      let count = law d f values (y.columns f) (y.system f) (y.basis f) exact constants may_be_zero ch r.place a.column e.column r.within r.has a.within (used_column k u)
+      let count = law d f values (y.columns f) (y.system f) (y.basis f) exact constants may_be_zero ch r.place a.column e.column r.within (has_pieces m.0 l m.1 h (omega (arith, place_right, q))) a.within (used_column k u)
       ((are_asked.are_constant e.column).1 (e.within, subst (IsConstant d t class c.tag f) (sym e.of) h)) (omega (arith, two, same_length)) (omega (arith, left, p)) (omega (arith, right, q)) in
       let sums = counted k u in
-      omega (arith, count, sums)
+      let few = pieces_sum a.column in
+      let grow = sums_grow also a.column marks ch.pieces (y.basis f) are in
+      omega (arith, count, sums, few, grow)
 
   -- constants of one solution that is taken have one value, so that they are one
   constants_apart : (k l : ℕ) → IsConstant d t class c.tag f k → IsConstant d t class c.tag f l → AreTakenTogether d t class y c f k l → k ≡ l
@@ -203,17 +228,22 @@ module _ (d : Declarations) (t : NodeTable) (made : IsWellMade t) (has : HasSums
 
   pub acceptable : NoAliases → IsAcceptable d t class y c f
   acceptable aliases = record {
-    within = let w = ch.valid.within in subst (λ n. n < 2 ^ length (y.basis f)) (sym number) w;
+    within = let w = number_small marks in let n = ap (λ n. 2 ^ n) (marks_long also marks ch.pieces (y.basis f) are) in omega (arith, w, n, number);
     once = λ k h.
         let a = at k h.used in
+        let listed = (are_asked.are_constant a.column).1 (a.within, subst (IsConstant d t class c.tag f) (sym a.of) h) in
         counted k h.used
-        ∙ All-contains (λ j. column_sum j (chosen (number_of ch.pieces) (y.basis f)) ≡ 1) constants a.column ch.valid.once ((are_asked.are_constant a.column).1 (a.within, subst (IsConstant d t class c.tag f) (sym a.of) h));
+        ∙ sums_stay also a.column (λ v passes. touched_none constants v (bare v passes) a.column listed) marks ch.pieces (y.basis f) are
+        ∙ sym (pieces_sum a.column)
+        ∙ All-contains (λ j. column_sum j (chosen (number_of ch.pieces) (y.basis f)) ≡ 1) constants a.column ch.valid.once listed;
     apart = constants_apart;
     filled = λ k h.
         let u = bound_used d t made has s frame told values go_with c.tag obey f k h.bound in
         let a = at k u in
         let p = ch.valid.filled a.column ((are_asked.required a.column).1 (a.within, subst (IsRequired d t class c.tag f) (sym a.of) h)) in
         let e = counted k u in
-        omega (arith, p, e);
+        let few = pieces_sum a.column in
+        let grow = sums_grow also a.column marks ch.pieces (y.basis f) are in
+        omega (arith, p, e, few, grow);
     no_alias = not_alone aliases;
   }

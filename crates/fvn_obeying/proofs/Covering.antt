@@ -60,14 +60,15 @@ pub frames_cover : UnifiersGoWith → TablesHaveSums → ValuesObeyChoices → O
 frames_cover go_with sums obey fall cover d good problem kinded t made table s frame told y systems u unifier admits =
     let has = sums d good.fits problem kinded t made table in
     let values = go_with d good.fits problem kinded t made table u unifier s frame.closed admits in
-    let chosen = obey d t made has s frame told y systems (value_at d u t.nodes) values in
+    let chosen = obey d good t made has s frame told y systems (value_at d u t.nodes) values in
     let c = chosen.0 in
-    let ranked = fall d t made has s frame told y (value_at d u t.nodes) values c chosen.2 in (
+    let ranked = fall d t made has s frame told y (value_at d u t.nodes) values c chosen.3 in (
       c,
       record {
         possible = chosen.1;
+        full = chosen.2;
         rank = ranked.0;
         falls = ranked.1;
-        covers = λ first next plan after plan_by bindings by. cover d good problem kinded t made table s frame told y systems u unifier admits c chosen.2 first next plan after plan_by bindings by;
+        covers = λ first next plan after plan_by bindings by. cover d good problem kinded t made table s frame told y systems u unifier admits c chosen.3 first next plan after plan_by bindings by;
       },
     )

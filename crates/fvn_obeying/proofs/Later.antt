@@ -1,5 +1,5 @@
 -- Values of all variables: of names of classes, of variables that stand for solutions, and of all others.
-use Rattle.std.proofs.Common.{◌≡◌, ◌≢◌, ℕ, zero, suc, ◌+◌, ◌-◌, ◌<◌, ◌≤◌, true, List, [], ◌∷◌, length, refl, sym, ap, ◌∙◌, subst, inl, inr, arith, Contains, slice_get}
+use Rattle.std.proofs.Common.{◌≡◌, ℕ, zero, suc, ◌+◌, ◌-◌, ◌<◌, ◌≤◌, true, List, [], ◌∷◌, length, refl, sym, ap, ◌∙◌, subst, inl, inr, arith, Contains, slice_get}
 use Rattle.std.specs.List.{AllByRecursion}
 use Rattle.std.proofs.lemmas.Bool.{cases_Bool, cases_lt, true≢false}
 use Rattle.fvn_base.specs.Decided.{Decided}
@@ -12,10 +12,10 @@ use Rattle.fvn_terms.specs.Substitution.{Substitution, same_var}
 use Rattle.fvn_terms.specs.Signature.{kind, IsSort, HasKind}
 use Rattle.fvn_terms.specs.Unifiers.{Problem}
 use Rattle.fvn_forms.specs.Flat.{FlatTerm, plain}
-use Rattle.fvn_forms.specs.Canon.{same_op, sum, canon}
+use Rattle.fvn_forms.specs.Canon.{same_op, sum, canon, identity, empty_sum}
 use Rattle.fvn_forms.specs.Settled.{Settled}
 use Rattle.fvn_forms.specs.LeastSort.{IsFlatSubstitution}
-use Rattle.fvn_forms.proofs.Build.{sum_settled}
+use Rattle.fvn_forms.proofs.Build.{HasIdentity, sum_settled}
 use Rattle.fvn_forms.proofs.Eval.{canon_settled}
 use Rattle.fvn_forms.proofs.KindsOfSums.{sum_of_forms_of_kind}
 use Rattle.fvn_forms.proofs.Sums.{same_op_is, same_op_itself}
@@ -33,6 +33,7 @@ use Rattle.fvn_sums.specs.NodeSystems.{is_headed}
 use Rattle.fvn_frames.specs.Frames.{IsSumOperator}
 use Rattle.fvn_plans.specs.Choosing.{Systems, Choice}
 use Rattle.fvn_plans.specs.Plans.{IsForSolution}
+use Rattle.fvn_obeying.specs.Neutral.{IsNeutral}
 use Rattle.fvn_obeying.proofs.Asked.{sum_told}
 use Rattle.fvn_obeying.proofs.Entries.{paired}
 use Rattle.fvn_obeying.proofs.Setting.{Setting, name_kinded, name_of_kind, names_apart, column_within}
@@ -186,6 +187,9 @@ module _ {d : Declarations} {problem : Problem} {t : NodeTable} {s : State} {y :
           omega (arith, old, a, e))
       go (inr n) = standing n (some_standing x)
 
+  neutral_identity : (f : OpId) → IsNeutral d f → HasIdentity d f
+  neutral_identity f n = (n.unit, ap identity n.is_identity)
+
   -- the values are settled and keep kinds
   pub later_flat : IsFlatSubstitution d later
   unfolding later
@@ -194,7 +198,7 @@ module _ {d : Declarations} {problem : Problem} {t : NodeTable} {s : State} {y :
       settled_standing : (x : Variable) (o : Decided (Standing x)) → Settled d (by_standing x o)
       settled_standing x (inl h) =
           sum_settled d h.0 h.1.sum_operator.associative h.1.entry.1 (entry_pieces g h.0 h.1.sum_operator h.1.entry h.1.among) (entry_settled g h.0 h.1.sum_operator h.1.entry h.1.among)
-          (λ e. absurd (entry_some g h.0 h.1.sum_operator h.1.entry h.1.among e))
+          (λ e. neutral_identity h.0 (entry_some g h.0 h.1.sum_operator h.1.entry h.1.among e))
       settled_standing x (inr n) = canon_settled d (u x)
 
       settled_name : (x : Variable) (o : Decided (IsNamed x)) → Settled d (by_name x o)
@@ -208,8 +212,10 @@ module _ {d : Declarations} {problem : Problem} {t : NodeTable} {s : State} {y :
           subst (HasKind d (plain (sum d h.0 h.1.entry.1))) is
           (of_pieces h.0 h.1.sum_operator new h.1.entry.1 (entry_some g h.0 h.1.sum_operator h.1.entry h.1.among) (entry_kinded g h.0 h.1.sum_operator h.1.entry h.1.among new.rank new.declared_so))
         where
-          of_pieces : (f : OpId) → IsSumOperator d t f → (new : IsForSolution d t first next f x) → (l : List FlatTerm) → (l ≡ [] → ⊥) → AllByRecursion (λ q. HasKind d (plain q) (kind d new.rank.result)) l → HasKind d (plain (sum d f l)) (kind d new.rank.result)
-          of_pieces f sum_operator new [] n h = absurd (n refl)
+          of_pieces : (f : OpId) → IsSumOperator d t f → (new : IsForSolution d t first next f x) → (l : List FlatTerm) → (l ≡ [] → IsNeutral d f) → AllByRecursion (λ q. HasKind d (plain q) (kind d new.rank.result)) l → HasKind d (plain (sum d f l)) (kind d new.rank.result)
+          of_pieces f sum_operator new [] n h =
+              let e = n refl in
+              subst (λ a. HasKind d (plain (empty_sum d f (identity a))) (kind d new.rank.result)) (sym e.is_identity) (g.good.fits.identity f e.unit new.rank e.is_identity new.declared_so)
           of_pieces f sum_operator new (q ∷ qs) n h = sum_of_forms_of_kind d g.good.fits f sum_operator.associative (kind d new.rank.result) new.rank new.declared_so refl q qs h
       kinded_standing x i n (inr m) = canon_of_kind d g.good.fits (u x) (kind d x.sort) (g.unifier.0 x i)
 

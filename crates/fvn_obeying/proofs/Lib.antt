@@ -10,6 +10,9 @@ mod Aliases
 mod Asked
 mod TwoSummands
 mod Taken
+mod Marked
+pub mod Touching
+pub mod NeutralTold
 mod Chosen
 mod Obeying
 mod Falling

@@ -28,6 +28,7 @@ use Rattle.fvn_frames.specs.Frames.{IsSumOperator}
 use Rattle.fvn_plans.specs.Binding.{IsConstant}
 use Rattle.fvn_plans.specs.Choosing.{Systems, Choice, taken}
 use Rattle.fvn_plans.specs.Plans.{IsForSolution, StandsFor}
+use Rattle.fvn_obeying.specs.Neutral.{IsNeutral}
 use Rattle.fvn_obeying.specs.Obeyed.{IsSummand, AreMadeOf}
 use Rattle.fvn_obeying.proofs.Asked.{constant_told, user_told}
 use Rattle.fvn_obeying.proofs.Entries.{paired, PairedAt, paired_at}
@@ -84,7 +85,7 @@ module _ {d : Declarations} {problem : Problem} {t : NodeTable} {s : State} {y :
     pub entry_alone : (k : ℕ) → IsConstant d t class c.tag f k → 0 < component (y.columns f) e.0.solution k → e.1 ≡ values k ∷ []
     entry_alone k h p = sym at.piece ∙ made.alone i k within_taken h (let m = ap (λ v. component (y.columns f) v k) solution_is in omega (arith, m, p))
 
-    pub entry_some : e.1 ≡ [] → ⊥
+    pub entry_some : e.1 ≡ [] → IsNeutral d f
     entry_some = made.some e.1 piece_among
 
     summand : (q : FlatTerm) → Contains e.1 q → IsSummand d t class values f q

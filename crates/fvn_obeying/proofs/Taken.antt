@@ -1,5 +1,5 @@
--- The solutions that have pieces, with these, laid out for a class.
-use Rattle.std.proofs.Common.{◌≡◌, ℕ, zero, suc, ◌+◌, ◌<◌, true, List, [], ◌∷◌, ◌++◌, length, get_or, refl, sym, ap, ◌∙◌, subst, inl, inr, arith, Contains, sum_by}
+-- Pieces of solutions, counted and laid out for a class.
+use Rattle.std.proofs.Common.{◌≡◌, ℕ, zero, suc, ◌<◌, List, [], ◌∷◌, length, get_or, sym, ap, subst, inl, inr, arith, Contains, sum_by}
 use Rattle.std.proofs.lemmas.Bool.{cases_Bool}
 use Rattle.fvn_base.proofs.Membership.{contains_here, contains_later, contains_cases, contains_none}
 use Rattle.fvn_forms.specs.Flat.{FlatTerm}
@@ -8,44 +8,7 @@ use Rattle.fvn_forms.specs.InOrder.{one_if, count}
 use Rattle.fvn_forms.proofs.InOrder.{count_append, count_itself}
 use Rattle.fvn_forms.proofs.Order.{same_flat_is}
 use Rattle.fvn_flat.specs.SolvedLists.{component}
-use Rattle.fvn_supports.specs.Pieces.{has_some, taken, some_of}
-use Rattle.fvn_obeying.specs.LaidOut.{copies, laid_out, laid_for}
-
-copies_nothing : (n : ℕ) → copies n [] ≡ []
-copies_nothing zero = refl
-copies_nothing (suc n) = copies_nothing n
-
--- solutions without pieces lay out nothing
-pub laid_for_is : (columns : List ℕ) (j k : ℕ) → ((v : List ℕ) → component columns v k ≡ get_or v j 0) → (zs : List (List FlatTerm)) (vs : List (List ℕ)) → laid_out j zs vs ≡ laid_for columns k (taken zs vs) (some_of zs)
-laid_for_is columns j k at [] vs = refl
-laid_for_is columns j k at ([] ∷ zs) [] = refl
-laid_for_is columns j k at ((x ∷ xs) ∷ zs) [] = refl
-laid_for_is columns j k at ([] ∷ zs) (v ∷ vs) = ap (λ l. l ++ laid_out j zs vs) (copies_nothing (get_or v j 0)) ∙ laid_for_is columns j k at zs vs
-laid_for_is columns j k at ((x ∷ xs) ∷ zs) (v ∷ vs) =
-    ap (λ n. copies n (x ∷ xs) ++ laid_out j zs vs) (sym (at v)) ∙ ap (λ l. copies (component columns v k) (x ∷ xs) ++ l) (laid_for_is columns j k at zs vs)
-
--- a solution that has pieces, among all
-pub record TakenAt (zs : List (List FlatTerm)) (vs : List (List ℕ)) (i : ℕ) : Type 0 where
-  pub place : ℕ
-  pub within : place < length vs
-  pub has : has_some (get_or zs place []) ≡ true
-  pub solution : get_or (taken zs vs) i [] ≡ get_or vs place []
-  pub piece : get_or (some_of zs) i [] ≡ get_or zs place []
-
-pub taken_at : (zs : List (List FlatTerm)) (vs : List (List ℕ)) (i : ℕ) → i < length (taken zs vs) → TakenAt zs vs i
-taken_at [] vs i l = absurd (omega (arith, l))
-taken_at (z ∷ zs) [] i l = absurd (omega (arith, l))
-taken_at ([] ∷ zs) (v ∷ vs) i l = let r = taken_at zs vs i l in record { place = suc r.place; within = (let m = r.within in omega (arith, m)); has = r.has; solution = r.solution; piece = r.piece }
-taken_at ((x ∷ xs) ∷ zs) (v ∷ vs) zero l = record { place = 0; within = omega arith; has = refl; solution = refl; piece = refl }
-taken_at ((x ∷ xs) ∷ zs) (v ∷ vs) (suc i) l = let r = taken_at zs vs i (omega (arith, l)) in record { place = suc r.place; within = (let m = r.within in omega (arith, m)); has = r.has; solution = r.solution; piece = r.piece }
-
-pub some_are_some : (zs : List (List FlatTerm)) (z : List FlatTerm) → Contains (some_of zs) z → z ≡ [] → ⊥
-some_are_some [] z c e = contains_none z c
-some_are_some ([] ∷ zs) z c e = some_are_some zs z c e
-some_are_some ((x ∷ xs) ∷ zs) z c e = elim (contains_cases (x ∷ xs) (some_of zs) z c) [
-  | inl h ↦ (let f : x ∷ xs ≡ [] = h ∙ e in cc)
-  | inr h ↦ some_are_some zs z h e
-]
+use Rattle.fvn_obeying.specs.LaidOut.{copies, laid_for}
 
 pub contains_counted : (q : FlatTerm) (l : List FlatTerm) → 0 < count q l → Contains l q
 contains_counted q [] h = absurd (omega (arith, h))

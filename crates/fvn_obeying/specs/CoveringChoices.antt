@@ -14,15 +14,17 @@ use Rattle.fvn_nodes.specs.declared.state.State.{State}
 use Rattle.fvn_plans.specs.Choosing.{Systems, Choice, IsPossible, Falls}
 use Rattle.fvn_plans.specs.Plans.{IsPlanBy, AreBindingsBy, unfolds_to}
 use Rattle.fvn_plans.specs.Covering.{CoversOnKinds}
+use Rattle.fvn_obeying.specs.Full.{IsFull}
 
 -- no fresh variable of the problem has this number or a greater one
 abbrev pub IsAfterNumbersOf : Problem → ℕ → Type 0
 IsAfterNumbersOf problem first = (x : Var) → Contains (variables_of problem) x → x.fresh ≡ true → x.name < first
 
--- the choice covers u: it is possible, its bindings can be put in an order, and whatever its plan with numbers that are new,
+-- the choice covers u: it is possible and full, its bindings can be put in an order, and whatever its plan with numbers that are new,
 -- and its bindings by the plan, what they unfold to covers u
 pub record IsCovering (d : Declarations) (problem : Problem) (t : NodeTable) (s : State) (y : Systems) (u : Substitution) (c : Choice) : Type 0 where
   pub possible : IsPossible d t (class_of s) y c
+  pub full : IsFull d t (class_of s) y c
   pub rank : ℕ → ℕ
   pub falls : Falls d t (class_of s) y c rank
   pub covers : (first next : ℕ) (plan : Plan) → IsAfterNumbersOf problem first → IsPlanBy d t (class_of s) y c first next plan → (bindings : Bindings)

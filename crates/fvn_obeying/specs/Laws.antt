@@ -31,6 +31,7 @@ use Rattle.fvn_plans.specs.Choosing.{Systems, Choice, AreSystems, IsPossible, Fa
 use Rattle.fvn_plans.specs.Covering.{CoversOnKinds}
 use Rattle.fvn_plans.specs.Plans.{IsPlanBy, AreBindingsBy, unfolds_to}
 use Rattle.fvn_obeying.specs.CoveringChoices.{IsAfterNumbersOf, IsCovering}
+use Rattle.fvn_obeying.specs.Full.{IsFull}
 use Rattle.fvn_obeying.specs.LaidOut.{laid_out}
 use Rattle.fvn_obeying.specs.Obeyed.{AreObeying}
 use Rattle.fvn_plans.specs.Tables.{HasSums}
@@ -110,12 +111,12 @@ UnifiersGoWith =
     (d : Declarations) → FitsKinds d → (problem : Problem) → IsProblem d problem → (t : NodeTable) → IsWellMade t → IsTableOf d problem t
     → (u : Substitution) → IsKindUnifier d problem u → (s : State) → IsClosed d t s → Admits s (kernel d u t.nodes) → GoWith d t s (value_at d u t.nodes)
 
--- values that go with a frame obey a possible choice
+-- values that go with a frame obey a possible choice that is full
 abbrev pub ValuesObeyChoices : Type 0
 ValuesObeyChoices =
-    (d : Declarations) (t : NodeTable) → IsWellMade t → HasSums d t → (s : State) → IsFrame d t s → IsTold d t (class_of s)
+    (d : Declarations) → IsGood d → (t : NodeTable) → IsWellMade t → HasSums d t → (s : State) → IsFrame d t s → IsTold d t (class_of s)
     → (y : Systems) → AreSystems d t (class_of s) y → (values : ℕ → FlatTerm) → GoWith d t s values
-    → (c : Choice) × IsPossible d t (class_of s) y c × AreObeying d t (class_of s) y c values
+    → (c : Choice) × IsPossible d t (class_of s) y c × IsFull d t (class_of s) y c × AreObeying d t (class_of s) y c values
 
 -- where values obey a choice, a class needs only classes of a lower rank
 abbrev pub ObeyedChoicesFall : Type 0

@@ -1,6 +1,8 @@
 -- The words of covering: values that go with a frame, choices that they obey, and choices that cover a unifier.
 pub mod Obeying
 pub mod LaidOut
+pub mod Neutral
+pub mod Full
 pub mod Obeyed
 pub mod CoveringChoices
 pub mod Laws

@@ -11,6 +11,7 @@ use Rattle.fvn_frames.specs.Frames.{IsSumOperator, Uses}
 use Rattle.fvn_plans.specs.Binding.{IsConstant}
 use Rattle.fvn_plans.specs.Choosing.{Systems, Choice, taken}
 use Rattle.fvn_obeying.specs.LaidOut.{laid_for}
+use Rattle.fvn_obeying.specs.Neutral.{IsNeutral}
 use Rattle.fvn_obeying.specs.Obeying.{ObeyTags}
 
 module _ (d : Declarations) (t : NodeTable) (class : ℕ → ℕ) (values : ℕ → FlatTerm) where
@@ -24,8 +25,8 @@ module _ (d : Declarations) (t : NodeTable) (class : ℕ → ℕ) (y : Systems) 
   -- for each solution that is taken for f the pieces that it stands for: summands of values, which are made up of them
   pub record AreMadeOf (f : OpId) (pieces : List (List FlatTerm)) : Type 0 where
     pub as_many : length pieces ≡ length (taken y c f)
-    -- each solution stands for something
-    pub some : (z : List FlatTerm) → Contains pieces z → z ≡ [] → ⊥
+    -- a solution that stands for nothing stands for the identity of an operator that is neutral
+    pub some : (z : List FlatTerm) → Contains pieces z → z ≡ [] → IsNeutral d f
     pub summands : (z : List FlatTerm) (q : FlatTerm) → Contains pieces z → Contains z q → IsSummand d t class values f q
     -- the summands of each used class are the pieces, as often as the solutions have the class
     pub made : (k : ℕ) → Uses d t class f k → SameCounts (parts d f (values k)) (laid_for (y.columns f) k (taken y c f) pieces)

@@ -69,7 +69,7 @@ pub fn unifiers_go_with()
     unifiers_partition();
 }
 
-/// Values that go with a frame obey a possible choice.
+/// Values that go with a frame obey a possible choice that is full.
 pub fn values_obey_choices()
     ensures { ValuesObeyChoices }
 {

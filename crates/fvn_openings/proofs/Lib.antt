@@ -10,3 +10,4 @@ mod Walked
 mod Ordered
 mod Setting
 mod Few
+mod Absorbing

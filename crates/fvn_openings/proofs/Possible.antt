@@ -1,5 +1,5 @@
 -- Choices by lists that are possible.
-use Rattle.std.proofs.Common.{◌≡◌, ℕ, ◌<◌, ◌≤◌, List, [], length, slice_index, slice_index_or, refl, sym, ap, ◌∙◌, subst, arith, Contains, Option, Some}
+use Rattle.std.proofs.Common.{◌≡◌, ℕ, ◌/◌, ◌%◌, ◌^◌, ◌<◌, ◌≤◌, true, List, [], length, slice_index, slice_index_or, refl, sym, ap, ◌∙◌, subst, arith, Contains, Option, Some}
 use Rattle.std.specs.Prelude.{◌↔◌, slice_get}
 use Rattle.std.specs.List.{AllZip, sum_by}
 use Rattle.std.proofs.lemmas.Option.{slice_get_within}
@@ -9,7 +9,7 @@ use Rattle.fvn_terms.specs.Unifiers.{Problem}
 use Rattle.fvn_forms.specs.FitsKinds.{FitsKinds}
 use Rattle.fvn_lindio.specs.declared.system.Solution.{Solution}
 use Rattle.fvn_lindio.specs.Systems.{vectors_of}
-use Rattle.fvn_acunify.specs.ValidChoice.{chosen, IsValid}
+use Rattle.fvn_acunify.specs.ValidChoice.{chosen, touched, IsValid, IsFull as TakesAll}
 use Rattle.fvn_flat.specs.Problems.{IsProblem}
 use Rattle.fvn_flat.specs.SolvedLists.{component}
 use Rattle.fvn_nodes.specs.Table.{NodeTable, IsWellMade, IsTableOf}
@@ -22,12 +22,15 @@ use Rattle.fvn_plans.specs.Choosing.{Systems, Choice, AreTakenTogether, IsAccept
 use Rattle.fvn_plans.specs.Laws.{ValidChoicesAreAcceptable}
 use Rattle.fvn_asking.specs.Listed.{tag_in, systems_of, choice_of}
 use Rattle.fvn_asking.specs.Aliases.{HasNoAlias}
+use Rattle.fvn_obeying.specs.Full.{HasNoConstant, IsFull}
+use Rattle.fvn_obeying.specs.Neutral.{IsNeutral}
+use Rattle.fvn_obeying.proofs.Touching.{bare_is}
 use Rattle.fvn_wheels.specs.Wheels.{Wheel, IsChoice}
 use Rattle.fvn_openings.specs.declared.sharing.SharedClass.{SharedClass}
 use Rattle.fvn_openings.specs.Bases.{AreBases}
 use Rattle.fvn_openings.specs.Sharing.{AreSharedClasses}
 use Rattle.fvn_openings.specs.Tags.{AreTags}
-use Rattle.fvn_openings.specs.Turning.{AreWheels, LeaveNoAlias}
+use Rattle.fvn_openings.specs.Turning.{IsWheel, AreWheels, LeaveNoAlias}
 use Rattle.fvn_openings.proofs.Entries.{entry_at, listed_at, zip_at, zip_from}
 use Rattle.fvn_openings.proofs.Systems.{IsPlaced, placed, operator_at, columns_for, basis_for, for_operator, make_systems}
 use Rattle.fvn_openings.proofs.Tagged.{tags_are_users}
@@ -74,7 +77,7 @@ module _ (d : Declarations) (t : NodeTable) (class : ℕ → ℕ) (r : Reading) 
   module _ (valid : ValidChoicesAreAcceptable) (fits : FitsKinds d) (problem : Problem) (is_problem : IsProblem d problem) (made : IsWellMade t) (table : IsTableOf d problem t) (wheels : List Wheel) (are_wheels : AreWheels d t class (tag_in tags) r.sums bases wheels) where
     -- for an operator with its wheel
     at_wheel : (f : OpId) → IsSumOperator d t f → (p : IsPlaced r f) (w : Wheel) → slice_get wheels p.place ≡ Some w
-        → IsAcceptable d t class (systems_of r bases) (choice_of r tags numbers) f ↔ (IsChoice w (slice_index numbers p.place) × NoAlias d t class (systems_of r bases) (choice_of r tags numbers) f)
+        → IsAcceptable d t class (systems_of r bases) (choice_of r tags numbers) f ↔ (IsValid w.constants w.may_be_zero (vectors_of w.basis) (slice_index numbers p.place) × NoAlias d t class (systems_of r bases) (choice_of r tags numbers) f)
     at_wheel f op p w is =
         let is_wheel = are_wheels.each p.place p.entry w p.is is in
         let cols = columns_for d t class r reading f p in
@@ -82,11 +85,44 @@ module _ (d : Declarations) (t : NodeTable) (class : ℕ → ℕ) (r : Reading) 
         subst (λ cs. AreAsked d t class (tag_in tags) f cs w.constants w.may_be_zero) (sym cols) (subst (λ g. AreAsked d t class (tag_in tags) g p.entry.columns w.constants w.may_be_zero) p.operator is_wheel.asked) in
         let iff = valid d fits problem is_problem t made table class (systems_of r bases) (make_systems d t class r reading bases are) (choice_of r tags numbers) f op w.constants w.may_be_zero asked in
         let basis : (systems_of r bases).basis f ≡ vectors_of w.basis = basis_for d t class r reading f p bases are.as_many ∙ ap vectors_of (sym is_wheel.over) in
-        let to : IsValid w.constants w.may_be_zero ((systems_of r bases).basis f) ((choice_of r tags numbers).number f) → IsChoice w (slice_index numbers p.place) =
+        let to : IsValid w.constants w.may_be_zero ((systems_of r bases).basis f) ((choice_of r tags numbers).number f) → IsValid w.constants w.may_be_zero (vectors_of w.basis) (slice_index numbers p.place) =
         λ h. subst (IsValid w.constants w.may_be_zero (vectors_of w.basis)) (number_for f p) (subst (λ vs. IsValid w.constants w.may_be_zero vs ((choice_of r tags numbers).number f)) basis h) in
-        let from : IsChoice w (slice_index numbers p.place) → IsValid w.constants w.may_be_zero ((systems_of r bases).basis f) ((choice_of r tags numbers).number f) =
+        let from : IsValid w.constants w.may_be_zero (vectors_of w.basis) (slice_index numbers p.place) → IsValid w.constants w.may_be_zero ((systems_of r bases).basis f) ((choice_of r tags numbers).number f) =
         λ h. subst (λ vs. IsValid w.constants w.may_be_zero vs ((choice_of r tags numbers).number f)) (sym basis) (subst (IsValid w.constants w.may_be_zero (vectors_of w.basis)) (sym (number_for f p)) h) in
         (λ h. let b = iff.0 h in (to b.0, b.1), λ b. iff.1 (from b.0, b.1))
+
+    -- full choices, by the choice and by the wheel
+    module _ (f : OpId) (op : IsSumOperator d t f) (p : IsPlaced r f) (w : Wheel) (is : slice_get wheels p.place ≡ Some w) where
+      is_wheel : IsWheel d t class (tag_in tags) p.entry (slice_index_or bases p.place []) w
+      is_wheel = are_wheels.each p.place p.entry w p.is is
+
+      neutral : (w.full ≡ true) ↔ IsNeutral d f
+      neutral = subst (λ g. (w.full ≡ true) ↔ IsNeutral d g) p.operator is_wheel.full
+
+      basis_is : (systems_of r bases).basis f ≡ vectors_of w.basis
+      basis_is = basis_for d t class r reading f p bases are.as_many ∙ ap vectors_of (sym is_wheel.over)
+
+      bare : (v : List ℕ) → (touched w.constants v ≡ 0) ↔ HasNoConstant d t class (systems_of r bases) (choice_of r tags numbers) f v
+      bare v =
+          let cols = columns_for d t class r reading f p in
+          let system = (make_systems d t class r reading bases are).is_system f op in
+          let asked : AreAsked d t class (tag_in tags) f ((systems_of r bases).columns f) w.constants w.may_be_zero =
+          subst (λ cs. AreAsked d t class (tag_in tags) f cs w.constants w.may_be_zero) (sym cols) (subst (λ g. AreAsked d t class (tag_in tags) g p.entry.columns w.constants w.may_be_zero) p.operator is_wheel.asked) in
+          bare_is d t class (tag_in tags) f ((systems_of r bases).columns f) system.distinct (λ k h. (system.exact k).1 h.used.column) w.constants w.may_be_zero asked v
+
+      whole_to : IsFull d t class (systems_of r bases) (choice_of r tags numbers) → w.full ≡ true → TakesAll w.constants (vectors_of w.basis) (slice_index numbers p.place)
+      whole_to h e i l none =
+          let n = ap length basis_is in
+          let at = ap (λ vs. slice_index_or vs i []) basis_is in
+          ap (λ b. b / 2 ^ i % 2) (sym (number_for f p))
+          ∙ h f op (neutral.0 e) i (omega (arith, l, n)) (subst (HasNoConstant d t class (systems_of r bases) (choice_of r tags numbers) f) (sym at) ((bare (slice_index_or (vectors_of w.basis) i [])).0 none))
+
+      whole_from : (w.full ≡ true → TakesAll w.constants (vectors_of w.basis) (slice_index numbers p.place)) → IsNeutral d f → (i : ℕ) → i < length ((systems_of r bases).basis f) → HasNoConstant d t class (systems_of r bases) (choice_of r tags numbers) f (slice_index_or ((systems_of r bases).basis f) i []) → (choice_of r tags numbers).number f / 2 ^ i % 2 ≡ 1
+      whole_from h n i l none =
+          let m = ap length basis_is in
+          let at = ap (λ vs. slice_index_or vs i []) basis_is in
+          ap (λ b. b / 2 ^ i % 2) (number_for f p)
+          ∙ h (neutral.1 n) i (omega (arith, l, m)) ((bare (slice_index_or (vectors_of w.basis) i [])).1 (subst (HasNoConstant d t class (systems_of r bases) (choice_of r tags numbers) f) at none))
 
     -- the operator at a place
     abbrev here : (i : ℕ) (e : Sums) → slice_get r.sums i ≡ Some e → IsPlaced r e.operator
@@ -98,22 +134,33 @@ module _ (d : Declarations) (t : NodeTable) (class : ℕ → ℕ) (r : Reading) 
     wheel_here : (i : ℕ) (e : Sums) → slice_get r.sums i ≡ Some e → (w : Wheel) × (slice_get wheels i ≡ Some w)
     wheel_here i e is = entry_at wheels i (let l = slice_get_within r.sums i e is in let m = are_wheels.as_many in omega (arith, l, m))
 
-    pub to_wheels : IsPossible d t class (systems_of r bases) (choice_of r tags numbers) → AllZip IsChoice wheels numbers × LeaveNoAlias d t class (tag_in tags) r.sums bases numbers
+    pub to_wheels : IsPossible d t class (systems_of r bases) (choice_of r tags numbers) × IsFull d t class (systems_of r bases) (choice_of r tags numbers) → AllZip IsChoice wheels numbers × LeaveNoAlias d t class (tag_in tags) r.sums bases numbers
     to_wheels h = (
       zip_from IsChoice wheels numbers (let m = are_wheels.as_many in omega (arith, m, numbered)) (λ i w is.
           let l = slice_get_within wheels i w is in
           let e = entry_at r.sums i (let m = are_wheels.as_many in omega (arith, l, m)) in
-          ((at_wheel e.0.operator (op_here i e.0 e.1) (here i e.0 e.1) w is).0 (h.acceptable e.0.operator (op_here i e.0 e.1))).0),
-      λ i e is. alias_from e.operator (here i e is) (h.acceptable e.operator (op_here i e is)).no_alias,
+          let f = e.0.operator in
+          let op = op_here i e.0 e.1 in
+          record {
+            valid = ((at_wheel f op (here i e.0 e.1) w is).0 (h.0.acceptable f op)).0;
+            whole = whole_to f op (here i e.0 e.1) w is h.1;
+          }),
+      λ i e is. alias_from e.operator (here i e is) (h.0.acceptable e.operator (op_here i e is)).no_alias,
     )
 
     pub from_wheels : (shared : List SharedClass) → AreSharedClasses d t class shared → (options : List ℕ) → AreTags shared options tags
-        → AllZip IsChoice wheels numbers × LeaveNoAlias d t class (tag_in tags) r.sums bases numbers → IsPossible d t class (systems_of r bases) (choice_of r tags numbers)
-    from_wheels shared are_shared options are_tags h = record {
-      tags = tags_are_users d t class shared are_shared options tags are_tags;
-      acceptable = λ f op.
+        → AllZip IsChoice wheels numbers × LeaveNoAlias d t class (tag_in tags) r.sums bases numbers → IsPossible d t class (systems_of r bases) (choice_of r tags numbers) × IsFull d t class (systems_of r bases) (choice_of r tags numbers)
+    from_wheels shared are_shared options are_tags h = (
+      record {
+        tags = tags_are_users d t class shared are_shared options tags are_tags;
+        acceptable = λ f op.
+            let p = placed d t class r reading f op in
+            let w = wheel_here p.place p.entry p.is in
+            let none = alias_to f p (subst (λ g. HasNoAlias d t class (tag_in tags) g p.entry.columns (chosen (slice_index numbers p.place) (vectors_of (slice_index_or bases p.place [])))) p.operator (h.1 p.place p.entry p.is)) in
+            (at_wheel f op p w.0 w.1).1 ((zip_at IsChoice wheels numbers h.0 p.place w.0 w.1).valid, none);
+      },
+      λ f op n.
           let p = placed d t class r reading f op in
           let w = wheel_here p.place p.entry p.is in
-          let none = alias_to f p (subst (λ g. HasNoAlias d t class (tag_in tags) g p.entry.columns (chosen (slice_index numbers p.place) (vectors_of (slice_index_or bases p.place [])))) p.operator (h.1 p.place p.entry p.is)) in
-          (at_wheel f op p w.0 w.1).1 (zip_at IsChoice wheels numbers h.0 p.place w.0 w.1, none);
-    }
+          whole_from f op p w.0 w.1 (zip_at IsChoice wheels numbers h.0 p.place w.0 w.1).whole n,
+    )

@@ -24,6 +24,7 @@ use Rattle.fvn_frames.specs.declared.reading.Reading.{Reading}
 use Rattle.fvn_plans.specs.Choosing.{Systems, Choice, AreSystems, IsPossible}
 use Rattle.fvn_asking.specs.Listed.{systems_of, choice_of, tag_in}
 use Rattle.fvn_obeying.specs.CoveringChoices.{IsCovering}
+use Rattle.fvn_obeying.specs.Full.{IsFull}
 use Rattle.fvn_wheels.specs.Tags.{IsOption}
 use Rattle.fvn_wheels.specs.Wheels.{Wheel, IsChoice}
 use Rattle.fvn_openings.specs.declared.sharing.SharedClass.{SharedClass}
@@ -49,14 +50,14 @@ RefusalsAreCauses =
     → (class : ℕ → ℕ) → IsNodePartition d t class → (r : Reading) → IsReading d t class r
     → (f : OpId) (system : System) → IsFirstRefused r.sums f system → IsBasisCause d given f system
 
--- tags by options and a number for each sum operator are a possible choice exactly where each number is valid on its wheel and no class is an alias
+-- tags by options and a number for each sum operator are a possible choice that is full exactly where each number is a choice of its wheel and no class is an alias
 abbrev pub ListedChoicesArePossible : Type 0
 ListedChoicesArePossible =
     (d : Declarations) → FitsKinds d → (problem : Problem) → IsProblem d problem → (t : NodeTable) → IsWellMade t → IsTableOf d problem t
     → (class : ℕ → ℕ) (r : Reading) → IsReading d t class r → (bases : List (List Solution)) → AreBases r.sums bases
     → (shared : List SharedClass) → AreSharedClasses d t class shared → (options : List ℕ) (tags : List (Option OpId)) → AreTags shared options tags
     → (wheels : List Wheel) → AreWheels d t class (tag_in tags) r.sums bases wheels → (numbers : List ℕ) → length numbers ≡ length r.sums
-    → IsPossible d t class (systems_of r bases) (choice_of r tags numbers) ↔ (AllZip IsChoice wheels numbers × LeaveNoAlias d t class (tag_in tags) r.sums bases numbers)
+    → (IsPossible d t class (systems_of r bases) (choice_of r tags numbers) × IsFull d t class (systems_of r bases) (choice_of r tags numbers)) ↔ (AllZip IsChoice wheels numbers × LeaveNoAlias d t class (tag_in tags) r.sums bases numbers)
 
 -- a choice that covers a unifier can be listed: by an option for each shared class, and a number for each sum operator
 abbrev pub CoveringChoicesAreListed : Type 0
@@ -67,7 +68,7 @@ CoveringChoicesAreListed =
     × ((tags : List (Option OpId)) → AreTags shared options tags → IsCovering d problem t s y u (choice_of r tags numbers))
 
 -- at a frame that admits its partition, each unifier on kinds is covered by a choice that can be listed: by an option for each shared class, and,
--- under their tags, by numbers that are valid on the wheels and make no class an alias
+-- under their tags, by numbers that are choices of the wheels and make no class an alias
 abbrev pub ListsCover : Type 0
 ListsCover =
     (d : Declarations) → IsGood d → (problem : Problem) → IsProblem d problem → (t : NodeTable) → IsWellMade t → IsTableOf d problem t

@@ -1,5 +1,5 @@
 -- Wheels of the sum operators that are read, and what is asked of numbers beside them.
-use Rattle.std.specs.Prelude.{◌≡◌, ℕ, List, length, slice_get, slice_index, slice_index_or, [], Some, Option}
+use Rattle.std.specs.Prelude.{true, ◌↔◌, ◌≡◌, ℕ, List, length, slice_get, slice_index, slice_index_or, [], Some, Option}
 use Rattle.fvn_terms.specs.declared.plain.OpId.{OpId}
 use Rattle.fvn_terms.specs.declared.declarations.Declarations.{Declarations}
 use Rattle.fvn_lindio.specs.declared.system.Solution.{Solution}
@@ -9,13 +9,15 @@ use Rattle.fvn_nodes.specs.Table.{NodeTable}
 use Rattle.fvn_frames.specs.declared.reading.Sums.{Sums}
 use Rattle.fvn_plans.specs.Binding.{AreAsked}
 use Rattle.fvn_asking.specs.Aliases.{HasNoAlias}
+use Rattle.fvn_obeying.specs.Neutral.{IsNeutral}
 use Rattle.fvn_wheels.specs.Wheels.{Wheel}
 
 module _ (d : Declarations) (t : NodeTable) (class : ℕ → ℕ) (tag : ℕ → Option OpId) where
-  -- the wheel goes over these minimal solutions, with what is asked of them under the tags
+  -- the wheel goes over these minimal solutions, with what is asked of them under the tags; for a neutral operator it has full choices alone
   pub record IsWheel (e : Sums) (basis : List Solution) (w : Wheel) : Type 0 where
     pub over : w.basis ≡ basis
     pub asked : AreAsked d t class tag e.operator e.columns w.constants w.may_be_zero
+    pub full : (w.full ≡ true) ↔ IsNeutral d e.operator
 
   -- so does one wheel for each sum operator
   pub record AreWheels (sums : List Sums) (bases : List (List Solution)) (wheels : List Wheel) : Type 0 where

@@ -31,7 +31,8 @@ pub fn refusals_are_causes()
     node_systems_are_sum_systems();
 }
 
-/// Tags and numbers are a possible choice where the numbers are valid and no class is an alias.
+/// Tags and numbers are a possible choice that is full where the numbers are choices of the wheels and no
+/// class is an alias.
 pub fn listed_choices_are_possible()
     ensures { ListedChoicesArePossible }
 {

@@ -3,6 +3,7 @@
 
 mod aliases;
 mod laws;
+mod neutral;
 mod opening;
 mod sharing;
 mod tagging;
@@ -13,6 +14,7 @@ pub use laws::{
     bases_make_systems, covering_choices_are_listed, listed_choices_are_possible, lists_cover,
     refusals_are_causes, sum_operators_are_few,
 };
+pub use neutral::is_neutral;
 pub use opening::{OpenFault, bases};
 pub use sharing::{SharedClass, shared};
 pub use tagging::{option_counts, tags_of};

@@ -1,15 +1,17 @@
 //! Wheels for all sum operators, under tags.
-ghost use Rattle.std.specs.Prelude.{◌≡◌, ◌≤◌, ℕ, List, length, map, Contains, IfOk};
+ghost use Rattle.std.specs.Prelude.{◌≡◌, ◌↔◌, ◌≤◌, ℕ, List, length, map, true, false, Contains, IfOk};
 ghost use Rattle.std.specs.List.{AllZip};
 ghost use Rattle.fvn_acunify.specs.Cursor.{Cursor};
 ghost use Rattle.fvn_nodes.specs.States.{IsClosed, class_of};
 ghost use Rattle.fvn_frames.specs.Readings.{IsReading};
 ghost use Rattle.fvn_asking.specs.Listed.{tag_in};
+ghost use Rattle.fvn_obeying.specs.Neutral.{IsNeutral};
 ghost use Rattle.fvn_wheels.specs.Weight.{product};
 ghost use Rattle.fvn_wheels.specs.Wheels.{IsChoice, PendingChoices, choices_left, counts_of, wheel_of};
 ghost use Rattle.fvn_openings.specs.Bases.{IsBasis, AreBases};
 ghost use Rattle.fvn_openings.specs.Turning.{IsWheel, AreWheels};
 
+use crate::neutral::is_neutral;
 use fvn_acunify::{Choices, OneFault, solve_one};
 use fvn_asking::theory;
 use fvn_base::Seq;
@@ -20,6 +22,20 @@ use fvn_sorts::Signature;
 use fvn_terms::{NoMemory, OpId};
 use fvn_wheels::Wheels;
 use std::alloc::Global;
+
+// The same choices; of a neutral operator full ones alone.
+fn listed(sig: &Signature, f: OpId, mut choices: Choices) -> Choices
+    requires { choices.full ≡ false }
+    ensures same { result.basis ≡ choices.basis }
+    ensures constants { result.constants ≡ choices.constants }
+    ensures may_be_zero { result.may_be_zero ≡ choices.may_be_zero }
+    ensures full { (result.full ≡ true) ↔ IsNeutral sig.now f }
+{
+    if is_neutral(sig, f) {
+        choices.list_full();
+    }
+    choices
+}
 
 // The choices for a sum operator.
 fn choices_of(
@@ -42,14 +58,15 @@ fn choices_of(
     let _basis = basis;
     let theory = theory(alloc, sig, table, state, reading, tags, sums)?;
     match solve_one(alloc, &theory) {
-        Ok(choices) => Ok(choices),
+        Ok(choices) => Ok(listed(sig, sums.operator, choices)),
         Err(OneFault::NoMemory) => Err(NoMemory),
         Err(OneFault::Basis(_)) => unreachable!(),
     }
 }
 
 /// One wheel for each sum operator: the lists of numbers that are to come are exactly those in which
-/// each number is valid for what is asked of its operator's minimal solutions, under these tags.
+/// each number is valid for what is asked of its operator's minimal solutions, under these tags, and
+/// takes every solution without a constant where the operator is neutral.
 pub fn wheels(
     alloc: Global,
     sig: &Signature,

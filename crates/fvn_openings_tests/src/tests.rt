@@ -16,10 +16,10 @@ use std::process::Abort;
 //
 // A term is written with each operator after its arguments, sums nested to the right. First comes how many
 // minimal solutions each sum operator has; then each shared class, as the number of its node, with the
-// operators that use it; then for each list of tags how many choices are valid, and how many of these leave
+// operators that use it; then for each list of tags how many choices there are, and how many of these leave
 // no alias. `bench/openings.py` prints these lines from the problems, by the definitions alone.
 const OPENED: &str = "A0 A1 k = A2 A3 k => 4 | | 77
-A0 A1 l = A2 A3 l => 4 | | @@
+A0 A1 l = A2 A3 l => 4 | | 11
 A0 f k = A1 g k => 4 | | 22
 A0 h A1 k = A2 A3 k => 4 | | 44
 A0 A1 k = A2 A0 h l => 2 2 | | 00
@@ -27,12 +27,12 @@ A0 A1 k h = A2 h => 2 | | 11
 A0 A1 l = A0 A2 k => 2 2 | 0lk | k00 l10 .00
 A0 A0 k = A1 A2 k => 3 | | 55
 A0 A1 k A2 k = A3 => 3 | | 11
-A0 A1 l = A2; A0 A3 k = A4 => 2 2 | 0lk | k22 l22 .22
+A0 A1 l = A2; A0 A3 k = A4 => 2 2 | 0lk | k11 l11 .11
 A0 = A1 h => | | 11
-A0 A1 k A0 A2 l i = A3 => 2 2 | 0kl | l22 k22 .22
+A0 A1 k A0 A2 l i = A3 => 2 2 | 0kl | l11 k11 .11
 A0 A1 k A0 A1 l i = A2 => 2 2 | 0kl 1kl | ll11 lk11 l.11 kl11 kk11 k.11 .l11 .k11 ..11
 A0 A0 k A0 f l i = A1 => 1 2 | 0kl | l11 k11 .11
-A0 A1 k = A2; A0 A1 l A3 A3 l i = A4 => 2 3 | 0kl 1kl | ll22 lk22 l.22 kl22 kk22 k.22 .l22 .k22 ..22";
+A0 A1 k = A2; A0 A1 l A3 A3 l i = A4 => 2 3 | 0kl 1kl | ll11 lk11 l.11 kl11 kk11 k.11 .l11 .k11 ..11";
 
 /// What is held of the problem.
 fn shown(rt: &impl Abort, alloc: Global, sig: &Signature, text: &str) -> Result<String, NoMemory> {

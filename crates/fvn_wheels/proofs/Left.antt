@@ -89,4 +89,4 @@ pub choices_are_below : (ws : List Wheel) (x : List ℕ) → AllZip IsChoice ws 
 choices_are_below [] [] h = tt
 choices_are_below [] (n ∷ x) h = h
 choices_are_below (w ∷ ws) [] h = h
-choices_are_below (w ∷ ws) (n ∷ x) h = (subst (λ m. n < 2 ^ m) (length-map w.basis (λ v. v.parts)) h.0.within, choices_are_below ws x h.1)
+choices_are_below (w ∷ ws) (n ∷ x) h = (subst (λ m. n < 2 ^ m) (length-map w.basis (λ v. v.parts)) h.0.valid.within, choices_are_below ws x h.1)

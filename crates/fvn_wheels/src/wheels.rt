@@ -40,7 +40,7 @@ impl Model for Wheels {
 }
 
 impl Wheels {
-    /// All lists of valid choices, one a wheel, wherever the cursors stand.
+    /// All lists of choices, one a wheel, wherever the cursors stand.
     pub fn new(alloc: Global, mut wheels: Vec<Choices>) -> Result<Wheels, NoMemory>
         ensures wheels { IfOk result (λ o. o.wheels ≡ map wheel_of wheels.items) }
         ensures all_pending { IfOk result (λ o. (numbers : List ℕ) →
@@ -95,7 +95,7 @@ impl Wheels {
         }
     }
 
-    /// Goes back to the start: all lists of valid choices are to come; takes no memory.
+    /// Goes back to the start: all lists of choices are to come; takes no memory.
     pub fn again(&mut self)
         ensures wheels { self.new.wheels ≡ self.old.wheels }
         ensures all_pending { (numbers : List ℕ) →

@@ -3,7 +3,7 @@ use Rattle.std.specs.Prelude.{◌≡◌, ℕ, ◌/◌, ◌^◌, ◌+◌, ◌<◌
 use Rattle.fvn_base.specs.declared.limits.TheConstants.{COMPONENT, MINIMAL_SOLUTIONS}
 use Rattle.fvn_lindio.specs.Systems.{vectors_of}
 use Rattle.fvn_lindio.specs.declared.system.Solution.{Solution}
-use Rattle.fvn_acunify.specs.ValidChoice.{IsValid, column_sum}
+use Rattle.fvn_acunify.specs.ValidChoice.{IsListed, column_sum}
 
 -- few solutions, of so many columns and with small components, and constants among these columns
 pub record IsBounded (columns : ℕ) (constants : List ℕ) (basis : List Solution) : Type 0 where
@@ -12,10 +12,10 @@ pub record IsBounded (columns : ℕ) (constants : List ℕ) (basis : List Soluti
   pub narrow : All (λ v. All (λ a. a ≤ COMPONENT) v.parts) basis
   pub among : All (λ c. c < columns) constants
 
--- no valid choice has the bits of this number from a place on
-abbrev pub IsDead : List ℕ → List Bool → List Solution → ℕ → ℕ → Type 0
-IsDead constants may_be_zero basis number place =
-    (b : ℕ) → b / 2 ^ place ≡ number / 2 ^ place → IsValid constants may_be_zero (vectors_of basis) b → ⊥
+-- no choice that is listed has the bits of this number from a place on
+abbrev pub IsDead : Bool → List ℕ → List Bool → List Solution → ℕ → ℕ → Type 0
+IsDead full constants may_be_zero basis number place =
+    (b : ℕ) → b / 2 ^ place ≡ number / 2 ^ place → IsListed full constants may_be_zero (vectors_of basis) b → ⊥
 
 -- a column is above zero with its sum and the lower solutions together
 abbrev pub CanBeFilled : List Solution → List ℕ → ℕ → Type 0

@@ -18,6 +18,6 @@ returns c d good problem is_problem t made table s frame r reading bases are sha
         l.4 tags are_tags,
         λ wheels are_wheels.
             let possible = c.listed_choices_are_possible.ensures d good.fits problem is_problem t made table (class_of s) r reading bases are shared are_shared l.0 tags are_tags wheels are_wheels l.1 l.3 in
-            possible.0 (l.4 tags are_tags).possible,
+            possible.0 ((l.4 tags are_tags).possible, (l.4 tags are_tags).full),
       ),
     )

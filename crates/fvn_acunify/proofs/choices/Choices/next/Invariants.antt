@@ -9,6 +9,7 @@ invariant-loop-self l = record {
   constants : l.self-inside.constants.items ≡ l.fn.self.constants;
   may_be_zero : l.self-inside.may_be_zero.items ≡ l.fn.self.may_be_zero;
   basis : l.self-inside.basis ≡ l.fn.self.basis;
+  full : l.self-inside.full ≡ l.fn.self.full;
   bounded : IsBounded (length l.self-inside.may_be_zero.items) l.self-inside.constants.items l.self-inside.basis;
   room : length l.self-inside.sums.items ≡ length l.self-inside.may_be_zero.items;
   within : l.self-inside.below ≤ 2 ^ length l.self-inside.basis;
