@@ -17,7 +17,7 @@ use Rattle.fvn_frames.specs.Readings.{IsReading}
 use Rattle.fvn_frames.specs.declared.reading.Reading.{Reading}
 use Rattle.fvn_wheels.specs.Wheels.{Odometer, Wheel, IsChoice, PendingChoices}
 use Rattle.fvn_asking.specs.Listed.{tag_in}
-use Rattle.fvn_openings.specs.Bases.{AreBases}
+use Rattle.fvn_frames.specs.Bases.{AreBases}
 use Rattle.fvn_openings.specs.Turning.{AreWheels}
 use Rattle.fvn_openings.specs.declared.sharing.SharedClass.{SharedClass}
 use Rattle.fvn_binding.specs.Ready.{AreListed}

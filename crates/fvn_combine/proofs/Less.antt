@@ -18,7 +18,7 @@ use Rattle.fvn_frames.specs.Readings.{IsReading}
 use Rattle.fvn_frames.specs.declared.reading.Reading.{Reading}
 use Rattle.fvn_wheels.specs.Weight.{product}
 use Rattle.fvn_wheels.specs.Wheels.{Wheel, counts_of}
-use Rattle.fvn_openings.specs.Bases.{AreBases}
+use Rattle.fvn_frames.specs.Bases.{AreBases}
 use Rattle.fvn_openings.specs.Laws.{SumOperatorsAreFew}
 use Rattle.fvn_openings.specs.Sharing.{AreSharedClasses, classes_of}
 use Rattle.fvn_openings.specs.Tags.{tag_counts}

@@ -16,7 +16,7 @@ use Rattle.fvn_plans.specs.Plans.{AreOfOneKind}
 use Rattle.fvn_asking.specs.Listed.{systems_of}
 use Rattle.fvn_obeying.specs.CoveringChoices.{IsCovering}
 use Rattle.fvn_obeying.specs.Laws.{FramesCover, ReadingsTell}
-use Rattle.fvn_openings.specs.Bases.{AreBases}
+use Rattle.fvn_frames.specs.Bases.{AreBases}
 use Rattle.fvn_openings.specs.Laws.{BasesMakeSystems, CoveringChoicesAreListed}
 use Rattle.fvn_openings.specs.Sharing.{AreSharedClasses}
 use Rattle.fvn_openings.specs.Tags.{tag_counts}

@@ -13,7 +13,7 @@ use Rattle.fvn_wheels.specs.Tags.{PendingTags}
 use Rattle.fvn_wheels.specs.Wheels.{PendingChoices}
 use Rattle.fvn_asking.specs.Listed.{tag_in, systems_of, choice_of}
 use Rattle.fvn_obeying.specs.CoveringChoices.{IsCovering}
-use Rattle.fvn_openings.specs.Bases.{AreBases}
+use Rattle.fvn_frames.specs.Bases.{AreBases}
 use Rattle.fvn_openings.specs.Sharing.{AreSharedClasses}
 use Rattle.fvn_openings.specs.Tags.{tag_counts, AreTags}
 use Rattle.fvn_openings.specs.Turning.{AreWheels}

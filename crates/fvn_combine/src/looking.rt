@@ -2,15 +2,19 @@
 ghost use Rattle.std.specs.Prelude.{◌≡◌, IfOk};
 ghost use Rattle.fvn_nodes.specs.Trees.{AreClosed};
 ghost use Rattle.fvn_nodes.specs.States.{class_of};
-ghost use Rattle.fvn_frames.specs.Frames.{IsFrame};
+ghost use Rattle.fvn_frames.specs.Bases.{AreBases};
+ghost use Rattle.fvn_frames.specs.Frames.{IsNearFrame, IsFrame};
 ghost use Rattle.fvn_frames.specs.Readings.{IsReading};
+ghost use Rattle.fvn_plans.specs.Plans.{AreOfOneKind};
+ghost use Rattle.fvn_openings.specs.Refusals.{IsFirstRefused};
 ghost use Rattle.fvn_combine.specs.inner.Found.{IsLooked, IsLookedAt};
 
 use crate::kinds::are_of_one_kind;
 use crate::opened::{Opened, open};
 use crate::task::Task;
-use fvn_frames::{Reading, question, read};
-use fvn_lindio::System;
+use fvn_base::Seq;
+use fvn_frames::{Reading, first_question, question_on_all, question_on_touched, read};
+use fvn_lindio::{Solution, System};
 use fvn_nodes::{State, Tree};
 use fvn_obeying::{frames_cover, readings_tell};
 use fvn_openings::{OpenFault, bases, bases_make_systems, refusals_are_causes};
@@ -33,27 +37,64 @@ pub(crate) enum Looked {
     Framed(Opened),
 }
 
-// What is asked for by a state in which no question is open.
-fn look_at_frame(task: &Task, state: &State, reading: Reading) -> Result<Looked, NoMemory>
+// What is asked for by a state in which no question is open: its choices are to be gone through.
+fn look_at_frame(
+    task: &Task,
+    state: &State,
+    reading: Reading,
+    bases: Vec<Seq<Solution>>,
+) -> Result<Looked, NoMemory>
     requires frame { IsFrame task.now.declarations task.now.table state.now }
+    requires kinds { AreOfOneKind task.now.declarations task.now.table (class_of state.now) }
+    requires reading { IsReading task.now.declarations task.now.table (class_of state.now) reading }
+    requires bases { AreBases reading.sums bases.items }
+    ensures { IfOk result (IsLookedAt task.now state.now) }
+{
+    task.recall();
+    bases_make_systems();
+    frames_cover();
+    readings_tell();
+    let frame = open(task, state, reading, bases)?;
+    Ok(Looked::Framed(frame))
+}
+
+// What is asked for where the system of an operator is refused.
+fn look_at_refused(task: &Task, state: &State, reading: &Reading, f: OpId, system: System) -> Looked
+    requires near { IsNearFrame task.now.declarations task.now.table state.now }
+    requires reading { IsReading task.now.declarations task.now.table (class_of state.now) reading.now }
+    requires refused { IsFirstRefused reading.now.sums f system }
+    ensures { IsLookedAt task.now state.now result }
+{
+    task.recall();
+    refusals_are_causes();
+    match question_on_all(task.sig, &task.table, state, reading) {
+        Some((i, j)) => Looked::Open(i, j),
+        None => Looked::Refused(f, system),
+    }
+}
+
+// What is asked for by a state that is nearly a frame.
+fn look_at_near_frame(task: &Task, state: &State, reading: Reading) -> Result<Looked, NoMemory>
+    requires near { IsNearFrame task.now.declarations task.now.table state.now }
     requires reading { IsReading task.now.declarations task.now.table (class_of state.now) reading }
     ensures { IfOk result (IsLookedAt task.now state.now) }
 {
     task.recall();
-    refusals_are_causes();
-    bases_make_systems();
     classes_have_one_kind();
-    frames_cover();
-    readings_tell();
     if !are_of_one_kind(task, state) {
         return Ok(Looked::Passed);
     }
     match bases(task.alloc, task.sig, &task.table, state, &reading) {
         Err(OpenFault::NoMemory) => Err(NoMemory),
-        Err(OpenFault::Basis(f, system)) => Ok(Looked::Refused(f, system)),
+        Err(OpenFault::Basis(f, system)) => Ok(look_at_refused(task, state, &reading, f, system)),
         Ok(bases) => {
-            let frame = open(task, state, reading, bases)?;
-            Ok(Looked::Framed(frame))
+            match question_on_touched(task.sig, &task.table, state, &reading, bases.as_slice()) {
+                Some(pair) => Ok(Looked::Open(pair.0, pair.1)),
+                None => {
+                    let looked = look_at_frame(task, state, reading, bases)?;
+                    Ok(looked)
+                }
+            }
         }
     }
 }
@@ -70,10 +111,10 @@ pub(crate) fn look(task: &Task, tree: &Tree) -> Result<Looked, NoMemory>
         None => Ok(Looked::Over),
         Some(state) => {
             let reading = read(task.alloc, task.sig, &task.table, state)?;
-            match question(task.sig, &task.table, state, &reading) {
+            match first_question(task.sig, &task.table, state, &reading) {
                 Some((i, j)) => Ok(Looked::Open(i, j)),
                 None => {
-                    let looked = look_at_frame(task, state, reading)?;
+                    let looked = look_at_near_frame(task, state, reading)?;
                     Ok(looked)
                 }
             }

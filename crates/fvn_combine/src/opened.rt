@@ -8,7 +8,7 @@ ghost use Rattle.fvn_frames.specs.Readings.{IsReading};
 ghost use Rattle.fvn_plans.specs.Choosing.{Choice as InChoice};
 ghost use Rattle.fvn_asking.specs.Listed.{systems_of};
 ghost use Rattle.fvn_obeying.specs.CoveringChoices.{IsCovering};
-ghost use Rattle.fvn_openings.specs.Bases.{AreBases};
+ghost use Rattle.fvn_frames.specs.Bases.{AreBases};
 ghost use Rattle.fvn_binding.specs.Ready.{IsReady};
 ghost use Rattle.fvn_combine.specs.Frames.{IsOpened, IsCoveredToCome};
 ghost use Rattle.fvn_combine.specs.Work.{most_tags, most_numbers, frame_left};

@@ -3,7 +3,7 @@ ghost use Rattle.std.specs.Prelude.{◌≡◌, IfOk, OnOk, OnErr, IsTrue};
 ghost use Rattle.fvn_terms.specs.Substitution.{Substitution};
 ghost use Rattle.fvn_nodes.specs.States.{class_of};
 ghost use Rattle.fvn_frames.specs.Readings.{IsReading};
-ghost use Rattle.fvn_openings.specs.Bases.{AreBases};
+ghost use Rattle.fvn_frames.specs.Bases.{AreBases};
 ghost use Rattle.fvn_openings.specs.Sharing.{AreSharedClasses};
 ghost use Rattle.fvn_binding.specs.Ready.{IsReady};
 ghost use Rattle.fvn_combine.specs.Frames.{IsTurning, IsOpened, IsCoveredUnder, IsCoveredNow, IsCoveredToCome};

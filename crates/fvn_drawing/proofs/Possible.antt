@@ -15,7 +15,7 @@ use Rattle.fvn_frames.specs.declared.reading.Reading.{Reading}
 use Rattle.fvn_plans.specs.Choosing.{IsPossible}
 use Rattle.fvn_asking.specs.Listed.{tag_in, systems_of, choice_of}
 use Rattle.fvn_obeying.specs.Full.{IsFull}
-use Rattle.fvn_openings.specs.Bases.{AreBases}
+use Rattle.fvn_frames.specs.Bases.{AreBases}
 use Rattle.fvn_openings.specs.Laws.{ListedChoicesArePossible}
 use Rattle.fvn_openings.specs.Turning.{LeaveNoAlias}
 use Rattle.fvn_binding.specs.Ready.{IsReady}

@@ -3,7 +3,7 @@ ghost use Rattle.std.specs.Prelude.{◌≡◌, ◌-◌, ◌^◌, ◌<◌, IfOk};
 ghost use Rattle.fvn_nodes.specs.States.{class_of};
 ghost use Rattle.fvn_frames.specs.Readings.{IsReading};
 ghost use Rattle.fvn_asking.specs.Listed.{systems_of, choice_of};
-ghost use Rattle.fvn_openings.specs.Bases.{AreBases};
+ghost use Rattle.fvn_frames.specs.Bases.{AreBases};
 ghost use Rattle.fvn_binding.specs.Ready.{IsReady, AreListed, AreVariablesOf};
 ghost use Rattle.fvn_drawing.specs.Choices.{IsListedChoice};
 ghost use Rattle.fvn_drawing.specs.Drawn.{IsDrawnBy};

@@ -1,7 +1,9 @@
 -- Lemmas on readings of states.
 mod Walked
+mod Passing
 mod Marking
 mod Gathered
 mod Heading
 mod Using
+mod Carrying
 mod Framing

@@ -7,8 +7,9 @@ mod heads;
 mod identities;
 mod operators;
 mod reading;
+mod touched;
 mod used;
 mod users;
 
-pub use asking::question;
+pub use asking::{first_question, question_on_all, question_on_touched};
 pub use reading::{Reading, Sums, read};

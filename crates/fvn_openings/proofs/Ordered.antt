@@ -15,7 +15,7 @@ use Rattle.fvn_frames.specs.declared.reading.Sums.{Sums}
 use Rattle.fvn_plans.specs.Binding.{AreAsked}
 use Rattle.fvn_obeying.specs.Neutral.{IsNeutral}
 use Rattle.fvn_wheels.specs.Wheels.{Wheel}
-use Rattle.fvn_openings.specs.Bases.{IsBasis}
+use Rattle.fvn_frames.specs.Bases.{IsBasis}
 use Rattle.fvn_openings.specs.Turning.{IsWheel}
 
 -- the first comes before every other

@@ -27,7 +27,7 @@ use Rattle.fvn_obeying.specs.Neutral.{IsNeutral}
 use Rattle.fvn_obeying.proofs.Touching.{bare_is}
 use Rattle.fvn_wheels.specs.Wheels.{Wheel, IsChoice}
 use Rattle.fvn_openings.specs.declared.sharing.SharedClass.{SharedClass}
-use Rattle.fvn_openings.specs.Bases.{AreBases}
+use Rattle.fvn_frames.specs.Bases.{AreBases}
 use Rattle.fvn_openings.specs.Sharing.{AreSharedClasses}
 use Rattle.fvn_openings.specs.Tags.{AreTags}
 use Rattle.fvn_openings.specs.Turning.{IsWheel, AreWheels, LeaveNoAlias}

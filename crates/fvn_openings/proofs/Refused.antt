@@ -26,7 +26,7 @@ use Rattle.fvn_frames.specs.declared.reading.Sums.{Sums}
 use Rattle.fvn_frames.specs.declared.reading.Reading.{Reading}
 use Rattle.fvn_openings.specs.declared.opening.OpenFault.{OpenFault}
 use Rattle.fvn_openings.specs.declared.opening.OpenFault.TheVariants.{Basis, NoMemory as OutOfMemory}
-use Rattle.fvn_openings.specs.Bases.{IsFirstRefused, IsOpenFault}
+use Rattle.fvn_openings.specs.Refusals.{IsFirstRefused, IsOpenFault}
 use Rattle.fvn_openings.specs.inner.Walking.{AreBasesBelow, IsFaultOf}
 use Rattle.fvn_openings.proofs.Entries.{read_at, listed_at}
 use Rattle.fvn_openings.proofs.Systems.{operator_at, sums_at}

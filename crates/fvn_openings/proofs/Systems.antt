@@ -22,7 +22,7 @@ use Rattle.fvn_frames.specs.declared.reading.Reading.{Reading}
 use Rattle.fvn_plans.specs.Choosing.{AreSystems}
 use Rattle.fvn_asking.specs.Listed.{at_operator, empty_system, systems_of}
 use Rattle.fvn_asking.proofs.Listing.{at_place}
-use Rattle.fvn_openings.specs.Bases.{IsBasis, AreBases}
+use Rattle.fvn_frames.specs.Bases.{IsBasis, AreBases}
 use Rattle.fvn_openings.proofs.Entries.{entry_at, read_at, listed_at, placed_at}
 
 -- where an operator stands in a reading

@@ -23,7 +23,7 @@ use Rattle.fvn_asking.proofs.Reading.{column_within}
 use Rattle.fvn_asking.proofs.Listing.{operators_differ}
 use Rattle.fvn_wheels.specs.Wheels.{Wheel}
 use Rattle.fvn_openings.specs.declared.sharing.SharedClass.{SharedClass}
-use Rattle.fvn_openings.specs.Bases.{IsBasis, AreBases}
+use Rattle.fvn_frames.specs.Bases.{IsBasis, AreBases}
 use Rattle.fvn_openings.specs.Sharing.{classes_of, IsSharedClass, AreSharedClasses}
 use Rattle.fvn_openings.specs.Turning.{IsWheel, AreWheels}
 use Rattle.fvn_openings.specs.inner.Walking.{AreBasesBelow, AreWheelsBelow, IsUserBelow, AreUsersBelow, AreSharedBelow}

@@ -18,6 +18,7 @@ use Rattle.fvn_nodes.specs.Classes.{IsNodePartition}
 use Rattle.fvn_nodes.specs.States.{Admits, IsClosed, class_of}
 use Rattle.fvn_nodes.specs.Unifiers.{kernel}
 use Rattle.fvn_nodes.specs.declared.state.State.{State}
+use Rattle.fvn_frames.specs.Bases.{AreBases}
 use Rattle.fvn_frames.specs.Frames.{IsFrame}
 use Rattle.fvn_frames.specs.Readings.{IsReading}
 use Rattle.fvn_frames.specs.declared.reading.Reading.{Reading}
@@ -28,7 +29,7 @@ use Rattle.fvn_obeying.specs.Full.{IsFull}
 use Rattle.fvn_wheels.specs.Tags.{IsOption}
 use Rattle.fvn_wheels.specs.Wheels.{Wheel, IsChoice}
 use Rattle.fvn_openings.specs.declared.sharing.SharedClass.{SharedClass}
-use Rattle.fvn_openings.specs.Bases.{AreBases, IsFirstRefused}
+use Rattle.fvn_openings.specs.Refusals.{IsFirstRefused}
 use Rattle.fvn_openings.specs.Sharing.{AreSharedClasses}
 use Rattle.fvn_openings.specs.Tags.{tag_counts, AreTags}
 use Rattle.fvn_openings.specs.Turning.{AreWheels, LeaveNoAlias}

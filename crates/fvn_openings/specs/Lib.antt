@@ -1,5 +1,5 @@
 -- The words of frames that are opened: minimal solutions, shared classes with their tags, and wheels.
-pub mod Bases
+pub mod Refusals
 pub mod Sharing
 pub mod Tags
 pub mod Turning

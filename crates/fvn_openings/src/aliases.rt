@@ -3,7 +3,7 @@ ghost use Rattle.std.specs.Prelude.{◌≡◌, ◌↔◌, length, IfOk, IsTrue};
 ghost use Rattle.fvn_nodes.specs.States.{IsClosed, class_of};
 ghost use Rattle.fvn_frames.specs.Readings.{IsReading};
 ghost use Rattle.fvn_asking.specs.Listed.{tag_in};
-ghost use Rattle.fvn_openings.specs.Bases.{AreBases};
+ghost use Rattle.fvn_frames.specs.Bases.{AreBases};
 ghost use Rattle.fvn_openings.specs.Turning.{LeaveNoAlias};
 
 use fvn_asking::has_no_alias;

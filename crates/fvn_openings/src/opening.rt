@@ -4,10 +4,11 @@ ghost use Rattle.fvn_base.specs.declared.limits.TheConstants.{MINIMAL_SOLUTIONS}
 ghost use Rattle.fvn_lindio.specs.Systems.{IsSystem};
 ghost use Rattle.fvn_flat.specs.Solving.{IsRefused};
 ghost use Rattle.fvn_nodes.specs.States.{class_of};
+ghost use Rattle.fvn_frames.specs.Bases.{IsBasis, AreBases};
 ghost use Rattle.fvn_frames.specs.Readings.{IsReading};
 ghost use Rattle.fvn_plans.specs.Choosing.{AreSystems};
 ghost use Rattle.fvn_asking.specs.Listed.{systems_of};
-ghost use Rattle.fvn_openings.specs.Bases.{IsBasis, AreBases, IsOpenFault};
+ghost use Rattle.fvn_openings.specs.Refusals.{IsOpenFault};
 ghost use Rattle.fvn_openings.specs.inner.Walking.{IsFaultOf};
 
 use crate::laws::bases_make_systems;

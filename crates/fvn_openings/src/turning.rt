@@ -8,7 +8,7 @@ ghost use Rattle.fvn_asking.specs.Listed.{tag_in};
 ghost use Rattle.fvn_obeying.specs.Neutral.{IsNeutral};
 ghost use Rattle.fvn_wheels.specs.Weight.{product};
 ghost use Rattle.fvn_wheels.specs.Wheels.{IsChoice, PendingChoices, choices_left, counts_of, wheel_of};
-ghost use Rattle.fvn_openings.specs.Bases.{IsBasis, AreBases};
+ghost use Rattle.fvn_frames.specs.Bases.{IsBasis, AreBases};
 ghost use Rattle.fvn_openings.specs.Turning.{IsWheel, AreWheels};
 
 use crate::neutral::is_neutral;

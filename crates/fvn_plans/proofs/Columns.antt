@@ -13,16 +13,7 @@ use Rattle.fvn_flat.specs.SolvedLists.{component}
 pub all_from : {X : Type 0} (P : X → Type 0) (xs : List X) → ((x : X) → Contains xs x → P x) → All P xs
 all_from P xs h = All-weaker (Contains xs) P h xs (All-contains_itself xs)
 
--- the component in a column of a list without repetition
-pub component_at : (columns v : List ℕ) → AllPairs ◌≢◌ columns → (j : ℕ) → j < length columns → component columns v (get_or columns j 0) ≡ get_or v j 0
-component_at [] v h j l = absurd (omega (arith, l))
-component_at (c ∷ columns) [] h j l = refl
-component_at (c ∷ columns) (n ∷ v) h zero l = ap (λ b. if b then n else component columns v c) (eq-eqb c c refl)
-component_at (c ∷ columns) (n ∷ v) h (suc j) l =
-    let k = get_or columns j 0 in
-    let within : j < length columns = omega (arith, l) in
-    ap (λ b. if b then n else component columns v k) (ne_eqb c k (AllPairs-first ◌≢◌ c columns k h (Contains-get_or columns j 0 within)))
-    ∙ component_at columns v (AllPairs-tail ◌≢◌ c columns h) j within
+pub use Rattle.fvn_sums.proofs.Weighing.{component_at}
 
 -- a class with a component other than 0 has a column
 pub column_listed : (columns v : List ℕ) (k : ℕ) → 0 < component columns v k → Contains columns k

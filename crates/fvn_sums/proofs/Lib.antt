@@ -1,6 +1,6 @@
 -- Lemmas on sum systems over nodes, and on values of classes.
 mod Terms
-mod Weighing
+pub mod Weighing
 mod Zeroes
 mod Members
 mod Counting

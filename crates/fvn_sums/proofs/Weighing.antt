@@ -1,8 +1,10 @@
 -- The row of a sum at a vector: it is zero where the components of the arguments together are that of the sum.
-use Rattle.std.proofs.Common.{◌≡◌, ◌≢◌, ℕ, zero, suc, ◌+◌, ◌*◌, ◌-◌, Bool, true, false, List, [], ◌∷◌, map, refl, sym, ap, ◌∙◌, subst, inl, inr, arith, AllPairs, Contains}
+use Rattle.std.proofs.Common.{◌≡◌, ◌≢◌, ℕ, zero, suc, ◌+◌, ◌*◌, ◌-◌, Bool, true, false, List, [], ◌∷◌, map, length, get_or, refl, sym, ap, ◌∙◌, subst, inl, inr, arith, ◌<◌, AllPairs, Contains}
 use Rattle.std.specs.Prelude.{pos, negsuc, ◌-ℤ◌, nat_eq, nat_lt, if◌then◌else◌, cond, ◌↔◌}
 use Rattle.std.proofs.lemmas.Bool.{cases_eq, eq-eqb, ne_eqb, ltb-true, ltb-false}
+use Rattle.std.proofs.lemmas.List.Elements.{Contains-get_or}
 use Rattle.fvn_base.proofs.Membership.{contains_cases, contains_later, contains_none}
+use Rattle.fvn_base.proofs.Pigeonhole.{AllPairs-tail, AllPairs-first}
 use Rattle.fvn_forms.specs.InOrder.{one_if}
 use Rattle.fvn_lindio.specs.Systems.{above, below, up, down, IsZeroAt}
 use Rattle.fvn_flat.specs.SolvedLists.{component}
@@ -107,3 +109,14 @@ component-map g (c ∷ ks) k h = elim (cases_eq c k) [
       ap (λ b. if b then g c else component ks (map g ks) k) (ne_eqb c k o)
       ∙ (elim (contains_cases c ks k h) [ inl e ↦ absurd (o e) | inr r ↦ component-map g ks k r ])
 ]
+
+-- the component in a column of a list without repetition
+pub component_at : (columns v : List ℕ) → AllPairs ◌≢◌ columns → (j : ℕ) → j < length columns → component columns v (get_or columns j 0) ≡ get_or v j 0
+component_at [] v h j l = absurd (omega (arith, l))
+component_at (c ∷ columns) [] h j l = refl
+component_at (c ∷ columns) (n ∷ v) h zero l = ap (λ b. if b then n else component columns v c) (eq-eqb c c refl)
+component_at (c ∷ columns) (n ∷ v) h (suc j) l =
+    let k = get_or columns j 0 in
+    let within : j < length columns = omega (arith, l) in
+    ap (λ b. if b then n else component columns v k) (ne_eqb c k (AllPairs-first ◌≢◌ c columns k h (Contains-get_or columns j 0 within)))
+    ∙ component_at columns v (AllPairs-tail ◌≢◌ c columns h) j within

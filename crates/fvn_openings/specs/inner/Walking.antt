@@ -11,7 +11,7 @@ use Rattle.fvn_wheels.specs.Wheels.{Wheel}
 use Rattle.fvn_openings.specs.declared.opening.OpenFault.{OpenFault}
 use Rattle.fvn_openings.specs.declared.opening.OpenFault.TheVariants.{Basis, NoMemory}
 use Rattle.fvn_openings.specs.declared.sharing.SharedClass.{SharedClass}
-use Rattle.fvn_openings.specs.Bases.{IsBasis}
+use Rattle.fvn_frames.specs.Bases.{IsBasis}
 use Rattle.fvn_openings.specs.Sharing.{classes_of, IsSharedClass}
 use Rattle.fvn_openings.specs.Turning.{IsWheel}
 

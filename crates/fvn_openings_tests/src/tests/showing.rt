@@ -4,7 +4,7 @@ ghost use Rattle.fvn_flat.specs.Solving.{problem_of};
 ghost use Rattle.fvn_nodes.specs.Table.{IsTableOf};
 ghost use Rattle.fvn_nodes.specs.States.{IsClosed, class_of};
 ghost use Rattle.fvn_frames.specs.Readings.{IsReading};
-ghost use Rattle.fvn_openings.specs.Bases.{AreBases};
+ghost use Rattle.fvn_frames.specs.Bases.{AreBases};
 ghost use Rattle.fvn_openings.specs.Sharing.{AreSharedClasses};
 
 use fvn_base::Seq;

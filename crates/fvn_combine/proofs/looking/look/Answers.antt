@@ -15,7 +15,7 @@ read-requires-clause-few c =
     let m = c.task.invariant.small in
     omega (arith, n, m)
 
-pub question-requires-clause-closed : goal.question-requires-clause-closed
-question-requires-clause-closed c =
+pub first_question-requires-clause-closed : goal.first_question-requires-clause-closed
+first_question-requires-clause-closed c =
     subst (λ (k : Combining). IsClosed k.declarations k.table c.in-Some.state.now) (sym c.task.view_is)
     (closed_last c.args.task.now c.args.tree.now c.in-Some.ensures.0 c.in-Some.state.now c.in-Some.ensures.1 c.requires)

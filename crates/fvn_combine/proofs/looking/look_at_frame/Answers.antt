@@ -1,32 +1,13 @@
--- A state whose classes have two kinds admits no unifier; a refusal is a cause; and an open frame covers all that its state admits.
-use Rattle.std.proofs.Common.{sym, ◌∙◌, subst}
-use Rattle.std.proofs.lemmas.Bool.{false≢true}
-use Rattle.fvn_flat.specs.Solving.{problem_of}
-use Rattle.fvn_nodes.specs.States.{class_of}
-use Rattle.fvn_openings.specs.Bases.{IsOpenFault}
+-- An open frame covers all that its state admits.
 use Rattle.fvn_combine.proofs.Opening.{is_ready, covers_admitted}
 use Rattle.fvn_combine.proofs.looking.look_at_frame.Goals as goal
 
-pub returns-then-not-are_of_one_kind : goal.returns-then-not-are_of_one_kind
-returns-then-not-are_of_one_kind c = λ u h.
-    let k = c.args.task.now in
-    let is = c.recall.ensures in
-    false≢true (sym c.if-not-are_of_one_kind.true ∙ c.are_of_one_kind.ensures.1
-    (c.classes_have_one_kind.ensures k.declarations is.good.fits (problem_of k.given) is.is_given.kinds k.table is.well_made is.table_of u h.0 c.args.state.now c.requires.frame.closed h.1))
-
-pub returns-in-Err-Basis : goal.returns-in-Err-Basis
-returns-in-Err-Basis c =
-    let k = c.args.task.now in
-    let is = c.recall.ensures in
-    let first = subst (IsOpenFault c.args.reading.sums) c.in-Err-Basis.field-0-is c.in-Err-Basis.ensures.refused in
-    c.refusals_are_causes.ensures k.declarations k.given k.first is.is_given k.table is.well_made is.table_of (class_of c.args.state.now) c.requires.frame.partition c.args.reading c.requires.reading c.in-Err-Basis.f c.in-Err-Basis.system first
-
 pub open-requires-clause-ready : goal.open-requires-clause-ready
-open-requires-clause-ready c = is_ready c.args.task.now c.recall.ensures c.args.state.now c.requires.frame (c.are_of_one_kind.ensures.0 c.if-not-are_of_one_kind.false)
+open-requires-clause-ready c = is_ready c.args.task.now c.recall.ensures c.args.state.now c.requires.frame c.requires.kinds
 
 pub returns : goal.returns
 returns c = (
-  c.in_ok-frame-in-Ok.ensures.opened,
-  covers_admitted c.args.task.now c.recall.ensures c.args.state.now c.frames_cover.ensures c.readings_tell.ensures c.bases_make_systems.ensures c.in_ok-frame-in-Ok.frame c.in_ok-frame-in-Ok.ensures.opened c.in_ok-frame-in-Ok.ensures.all,
-  c.in_ok-frame-in-Ok.ensures.few,
+  c.in_ok-frame.ensures.opened,
+  covers_admitted c.args.task.now c.recall.ensures c.args.state.now c.frames_cover.ensures c.readings_tell.ensures c.bases_make_systems.ensures c.in_ok-frame.frame c.in_ok-frame.ensures.opened c.in_ok-frame.ensures.all,
+  c.in_ok-frame.ensures.few,
 )

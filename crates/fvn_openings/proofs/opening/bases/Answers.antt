@@ -2,7 +2,7 @@
 use Rattle.std.proofs.Common.{List, subst}
 use Rattle.fvn_nodes.specs.States.{class_of}
 use Rattle.fvn_frames.specs.declared.reading.Sums.{Sums}
-use Rattle.fvn_openings.specs.Bases.{AreBases}
+use Rattle.fvn_frames.specs.Bases.{AreBases}
 use Rattle.fvn_openings.proofs.Systems.{few_bases}
 use Rattle.fvn_openings.proofs.opening.bases.Goals as goal
 
