@@ -5,7 +5,6 @@ use Rattle.std.proofs.lemmas.Bool.{cases_eq, cases_lt, eq-eqb, ne_eqb}
 use Rattle.std.proofs.lemmas.List.{get_or-map, get_or_default, length-map, ext_get_or}
 use Rattle.std.proofs.lemmas.List.Elements.{All-contains, All-contains_itself, All-weaker, Contains-get_or}
 use Rattle.std.proofs.lemmas.List.Sums.{sum_by-cons}
-use Rattle.core.proofs.slice.Indexed.{get_or_beyond}
 use Rattle.fvn_base.proofs.Membership.{contains_cases, contains_none, contains_map, map_contains}
 use Rattle.fvn_terms.specs.declared.plain.OpId.{OpId}
 use Rattle.fvn_lindio.specs.declared.system.System.{System}
@@ -30,15 +29,21 @@ mapped g (c ∷ ks) k = elim (cases_eq c k) [
   ]
 ]
 
+-- beyond a list there is 0
+get_or_beyond : (xs : List ℕ) (i : ℕ) → length xs ≤ i → get_or xs i 0 ≡ 0
+get_or_beyond [] i l = refl
+get_or_beyond (x ∷ xs) zero l = absurd (omega (arith, l))
+get_or_beyond (x ∷ xs) (suc i) l = get_or_beyond xs i (omega (arith, l))
+
 -- a component is at most the sum
 component_le : (ks x : List ℕ) (k : ℕ) → component ks x k ≤ sum x
 component_le [] x k = omega arith
 component_le (c ∷ ks) [] k = omega arith
-component_le (c ∷ ks) (a ∷ x) k = go (nat_eq c k)
+component_le (c ∷ ks) (a ∷ x) k = go (nat_eq c k) (component_le ks x k) (sum_by-cons (λ (n : ℕ). n) a x)
   where
-    go : (b : Bool) → (if b then a else component ks x k) ≤ sum (a ∷ x)
-    go true = let s = sum_by-cons (λ (n : ℕ). n) a x in omega (arith, s)
-    go false = let s = sum_by-cons (λ (n : ℕ). n) a x in let rest = component_le ks x k in omega (arith, s, rest)
+    go : (b : Bool) → component ks x k ≤ sum x → sum (a ∷ x) ≡ a + sum x → (if b then a else component ks x k) ≤ sum (a ∷ x)
+    go true rest s = omega (arith, s)
+    go false rest s = omega (arith, s, rest)
 
 -- a vector other than zero has a component other than zero
 nonzero_at : (x : List ℕ) → 0 < sum x → (i : ℕ) × (i < length x) × (0 < get_or x i 0)
@@ -54,11 +59,11 @@ component_below : (ks x y : List ℕ) (k : ℕ) → IsAtOrBelow x y → componen
 component_below [] x y k h = omega arith
 component_below (c ∷ ks) [] y k h = omega arith
 component_below (c ∷ ks) (a ∷ x) [] k h = absurd h
-component_below (c ∷ ks) (a ∷ x) (b ∷ y) k h = go (nat_eq c k)
+component_below (c ∷ ks) (a ∷ x) (b ∷ y) k h = go (nat_eq c k) h.0 (component_below ks x y k h.1)
   where
-    go : (t : Bool) → (if t then a else component ks x k) ≤ (if t then b else component ks y k)
-    go true = h.0
-    go false = component_below ks x y k h.1
+    go : (t : Bool) → a ≤ b → component ks x k ≤ component ks y k → (if t then a else component ks x k) ≤ (if t then b else component ks y k)
+    go true own rest = own
+    go false own rest = rest
 
 -- values of functions of which one is below the other
 below_map : (f g : ℕ → ℕ) → ((k : ℕ) → f k ≤ g k) → (ks : List ℕ) → IsAtOrBelow (map f ks) (map g ks)
@@ -66,7 +71,7 @@ below_map f g h [] = tt
 below_map f g h (k ∷ ks) = (h k, below_map f g h ks)
 
 -- the components, in the order of other columns
-pub carry : (columns others x : List ℕ) → List ℕ
+abbrev pub carry : (columns others x : List ℕ) → List ℕ
 carry columns others x = map (component columns x) others
 
 module _ (t : NodeTable) (class : ℕ → ℕ) (f : OpId) where
@@ -129,7 +134,7 @@ module _ (t : NodeTable) (class : ℕ → ℕ) (f : OpId) where
         | inl l ↦
             let p = place j l in
             get_or-map (component columns x) others j 0 0 l ∙ ap (component columns x) (sym p.2) ∙ component_at columns x one.distinct p.0 p.1 ∙ h.unused p.0 (unused_back j l u)
-        | inr above ↦ get_or_beyond (carry columns others x) j 0 (let n = length-map others (component columns x) in omega (arith, n, above))
+        | inr above ↦ get_or_beyond (carry columns others x) j (let n = length-map others (component columns x) in omega (arith, n, above))
       ];
     }
 

@@ -1,6 +1,6 @@
 //! Questions whether two classes are one that may be constants of one operator, and that a minimal
 //! solution has both of.
-ghost use Rattle.std.specs.Prelude.{◌≡◌, ◌↔◌, ◌<◌, ◌×◌, length, IsTrue};
+ghost use Rattle.std.specs.Prelude.{◌≡◌, ◌↔◌, ◌<◌, length, IsTrue};
 ghost use Rattle.fvn_nodes.specs.States.{IsNaming};
 ghost use Rattle.fvn_frames.specs.inner.Users.{IsWholeSums, IsWhole, IsOpenPairOr};
 ghost use Rattle.fvn_frames.specs.inner.Touched.{
