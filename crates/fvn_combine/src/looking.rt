@@ -6,7 +6,6 @@ ghost use Rattle.fvn_frames.specs.Bases.{AreBases};
 ghost use Rattle.fvn_frames.specs.Frames.{IsNearFrame, IsFrame};
 ghost use Rattle.fvn_frames.specs.Readings.{IsReading};
 ghost use Rattle.fvn_plans.specs.Plans.{AreOfOneKind};
-ghost use Rattle.fvn_openings.specs.Refusals.{IsFirstRefused};
 ghost use Rattle.fvn_combine.specs.inner.Found.{IsLooked, IsLookedAt};
 
 use crate::kinds::are_of_one_kind;
@@ -58,21 +57,6 @@ fn look_at_frame(
     Ok(Looked::Framed(frame))
 }
 
-// What is asked for where the system of an operator is refused.
-fn look_at_refused(task: &Task, state: &State, reading: &Reading, f: OpId, system: System) -> Looked
-    requires near { IsNearFrame task.now.declarations task.now.table state.now }
-    requires reading { IsReading task.now.declarations task.now.table (class_of state.now) reading.now }
-    requires refused { IsFirstRefused reading.now.sums f system }
-    ensures { IsLookedAt task.now state.now result }
-{
-    task.recall();
-    refusals_are_causes();
-    match question_on_all(task.sig, &task.table, state, reading) {
-        Some((i, j)) => Looked::Open(i, j),
-        None => Looked::Refused(f, system),
-    }
-}
-
 // What is asked for by a state that is nearly a frame.
 fn look_at_near_frame(task: &Task, state: &State, reading: Reading) -> Result<Looked, NoMemory>
     requires near { IsNearFrame task.now.declarations task.now.table state.now }
@@ -80,13 +64,19 @@ fn look_at_near_frame(task: &Task, state: &State, reading: Reading) -> Result<Lo
     ensures { IfOk result (IsLookedAt task.now state.now) }
 {
     task.recall();
+    refusals_are_causes();
     classes_have_one_kind();
     if !are_of_one_kind(task, state) {
         return Ok(Looked::Passed);
     }
     match bases(task.alloc, task.sig, &task.table, state, &reading) {
         Err(OpenFault::NoMemory) => Err(NoMemory),
-        Err(OpenFault::Basis(f, system)) => Ok(look_at_refused(task, state, &reading, f, system)),
+        Err(OpenFault::Basis(f, system)) => {
+            match question_on_all(task.sig, &task.table, state, &reading) {
+                Some(pair) => Ok(Looked::Open(pair.0, pair.1)),
+                None => Ok(Looked::Refused(f, system)),
+            }
+        }
         Ok(bases) => {
             match question_on_touched(task.sig, &task.table, state, &reading, bases.as_slice()) {
                 Some(pair) => Ok(Looked::Open(pair.0, pair.1)),
