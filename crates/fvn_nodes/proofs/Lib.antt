@@ -12,6 +12,7 @@ pub mod Admitting
 mod Moves
 mod Joining
 mod Alike
+mod Chaining
 mod Settling
 mod Openness
 mod Starting

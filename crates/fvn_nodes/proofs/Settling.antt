@@ -1,6 +1,5 @@
 -- What is settled of two nodes, and what partitions ask of them.
-use Rattle.std.proofs.Common.{◌≡◌, ◌≢◌, ℕ, ◌<◌, ◌≤◌, ◌-◌, Bool, true, false, not, ◌&&◌, ◌||◌, nat_eq, List, [], ◌∷◌, length, map, refl, sym, ap, ◌∙◌, subst, inl, inr, arith, All, Some, slice_get}
-use Rattle.std.specs.Prelude.{cond}
+use Rattle.std.proofs.Common.{◌≡◌, ◌≢◌, ℕ, ◌%◌, ◌<◌, zero-le, Bool, true, false, not, ◌&&◌, ◌||◌, nat_eq, List, [], ◌∷◌, length, map, refl, sym, ap, ◌∙◌, subst, inl, inr, arith, All, Some, slice_get}
 use Rattle.std.specs.List.{list_any}
 use Rattle.std.proofs.lemmas.Bool.{cases_eq, cases_order, eqb-true, eq-eqb, ne_eqb, both_ways, or_parts}
 use Rattle.std.proofs.lemmas.List.Elements.{All-nil, All-cons}
@@ -16,7 +15,11 @@ use Rattle.fvn_nodes.specs.States.{Admits, IsNaming, class_of, is_same, is_apart
 use Rattle.fvn_nodes.specs.declared.state.State.{State}
 use Rattle.fvn_nodes.specs.declared.table.Node.{Node}
 use Rattle.fvn_nodes.specs.declared.table.Node.TheVariants.{Var, App}
-use Rattle.fvn_nodes.specs.inner.Rounds.{AreSettled, IsRowSettled, IsAllSettled}
+use Rattle.fvn_nodes.specs.declared.chains.By.TheVariants.{Class, Arguments}
+use Rattle.fvn_nodes.specs.inner.Chains.{AreKeys, key_of, mixed_all}
+use Rattle.fvn_nodes.specs.inner.Rounds.{AreSettled, AreChainsSettled, IsSettledBy, IsAllSettled}
+use Rattle.fvn_nodes.specs.declared.chains.By.{By}
+use Rattle.fvn_nodes.proofs.Chaining.{mixed_together}
 use Rattle.fvn_nodes.proofs.Admitting.{admits_same, admits_together}
 
 -- a node is one operator over one list
@@ -135,20 +138,18 @@ module _ (d : Declarations) (t : NodeTable) (s : State) where
     pub known_congruent : (class : ℕ → ℕ) → Admits s class → IsNodePartition d t class → All (λ k. k < length s.names) ks → All (λ k. k < length s.names) ls → f ≡ g → AreTogether (class_of s) ks ls → class i ≡ class j
     known_congruent class h partition a b same e = (partition.nodes i j f g ks ls left right).congruent same (admits_together s class h ks ls a b e)
 
--- the row that is looked at in the k-th place: from the first up, or from the last down
-abbrev pub row_number : Bool → ℕ → ℕ → ℕ
-row_number up count k = cond up k (count - 1 - k)
+-- chains by keys have all that has alike what is said
+pub settled_by : (d : Declarations) (t : NodeTable) (s : State) (by : By) (keys : List ℕ) → AreKeys t.nodes s.names by keys → AreChainsSettled d t keys (length t.nodes) s → IsSettledBy d t by s
+settled_by d t s by keys are h i j f g ks ls l a b e = h i (slice_get_within t.nodes i (App f ks) a) j zero-le l (are j g ls b ∙ e ∙ sym (are i f ks a))
 
-pub row_within : (up : Bool) (count k : ℕ) → k < count → row_number up count k < count
-row_within true count k h = h
-row_within false count k h = omega arith
-
--- each row has its place
-pub all_rows : (d : Declarations) (t : NodeTable) (s : State) (up : Bool) (count k : ℕ) → count ≡ length t.nodes → count ≤ k → ((n : ℕ) → n < k → IsRowSettled d t (row_number up count n) (row_number up count n) s) → IsAllSettled d t s
-all_rows d t s true count k whole end h i l = h i (omega arith)
-all_rows d t s false count k whole end h i l =
-    let back : count - 1 - (count - 1 - i) ≡ i = omega arith in
-    subst (λ n. IsRowSettled d t n n s) back (h (count - 1 - i) (omega arith))
+-- nodes ask nothing of one another, but of those in one class and of those with one operator over arguments in the same classes
+pub all_settled : (d : Declarations) (t : NodeTable) (s : State) → IsSettledBy d t Class s → IsSettledBy d t Arguments s → IsAllSettled d t s
+all_settled d t s one other i l j m f g ks ls a b = record {
+  congruent = λ same e.
+      let keys : key_of s.names Arguments j g ls ≡ key_of s.names Arguments i f ks = ap (λ (o : OpId). mixed_all (class_of s) o.0 ls % length s.names) (sym same) ∙ ap (λ n. n % length s.names) (sym (mixed_together (class_of s) f.0 ks ls e)) in
+      (other i j f g ks ls m a b keys f g ks ls a b).congruent same e;
+  alike = λ e. (one i j f g ks ls m a b (sym e) f g ks ls a b).alike e;
+}
 
 -- where nodes that are kept apart are in one class, there is no partition
 pub apart_clash : (s : State) (class : ℕ → ℕ) → IsNaming s → Admits s class → list_any (λ p. is_same s p.0 p.1) s.apart ≡ true → ⊥

@@ -5,6 +5,7 @@ ghost use Rattle.fvn_nodes.specs.Questions.{IsStart, IsAnswer, AreAnswers};
 ghost use Rattle.fvn_nodes.specs.inner.Closing.{state_of};
 ghost use Rattle.fvn_nodes.specs.inner.Starts.{IsSingles, IsJoinedFrom};
 
+use crate::chains::Chains;
 use crate::closing::{Closing, close};
 use crate::state::State;
 use crate::table::Table;
@@ -50,8 +51,9 @@ pub fn start(alloc: Global, sig: &Signature, table: &Table) -> Result<Option<Sta
 {
     table.recall_well_made();
     let mut closing = singles(alloc, table.nodes().len())?;
+    let chains = Chains::new(alloc, table.nodes().len())?;
     join_sides(&mut closing, table.sides());
-    let state = close(sig, table, closing);
+    let state = close(sig, table, closing, chains);
     Ok(state)
 }
 
@@ -87,8 +89,9 @@ fn ask_same(
 {
     table.recall_well_made();
     let mut closing = opened(alloc, state)?;
+    let chains = Chains::new(alloc, table.nodes().len())?;
     let _moved = closing.join(i, j);
-    let left = close(sig, table, closing);
+    let left = close(sig, table, closing, chains);
     Ok(left)
 }
 
@@ -109,8 +112,9 @@ fn ask_apart(
 {
     table.recall_well_made();
     let mut closing = opened(alloc, state)?;
+    let chains = Chains::new(alloc, table.nodes().len())?;
     closing.apart.push((i, j))?;
-    let left = close(sig, table, closing);
+    let left = close(sig, table, closing, chains);
     Ok(left)
 }
 

@@ -6,8 +6,10 @@ ghost use Rattle.fvn_forms.specs.Canon.{identity};
 ghost use Rattle.fvn_nodes.specs.Classes.{AreTogether, MeetEitherWay, AreAlike, FitTogether, IsNodePartition, MeetInPairs};
 ghost use Rattle.fvn_nodes.specs.States.{class_of, is_same, is_apart, IsOpen, IsNaming};
 ghost use Rattle.fvn_nodes.specs.inner.Closing.{state_of, renamed, is_straight, then_move, HasMoved, IsClosureOf};
-ghost use Rattle.fvn_nodes.specs.inner.Rounds.{AreSettled, IsRowSettled, IsAllSettled, IsSettledFrom};
+ghost use Rattle.fvn_nodes.specs.inner.Chains.{HasRoom, IsChained};
+ghost use Rattle.fvn_nodes.specs.inner.Rounds.{AreSettled, IsChainSettled, AreChainsSettled, IsSettledBy, IsAllSettled, IsSettledFrom};
 
+use crate::chains::{By, Chains};
 use crate::state::{State, is_kept_apart};
 use crate::table::{Node, Table};
 use fvn_base::Seq;
@@ -53,6 +55,17 @@ fn rename(names: &mut [usize], from: usize, to: usize)
             *name = to;
         }
     }
+}
+
+// The node that is looked at in the k-th place: from the first up, or from the last down.
+fn row(up: bool, count: usize, k: usize) -> usize
+    requires { k < count }
+    ensures { result < count }
+{
+    if up {
+        return k;
+    }
+    count - 1 - k
 }
 
 // Whether operators with these axioms have an identity.
@@ -267,37 +280,44 @@ impl Closing {
         }
     }
 
-    // Looks at node i and all before it.
-    fn settle_row(&mut self, sig: &Signature, table: &Table, i: usize) -> Move
+    // Looks at node i and all before it with its key.
+    fn settle_chain(&mut self, sig: &Signature, table: &Table, chains: &Chains, i: usize) -> Move
         requires naming { IsNaming (state_of self.old) }
         requires whole { length self.old.names.items ≡ length table.now.nodes }
+        requires room { HasRoom (length table.now.nodes) chains.now }
+        requires chained { IsChained (length table.now.nodes) chains.now.keys.items chains.now.before.items }
         requires within { i < length table.now.nodes }
-        ensures { HasMoved (IsNodePartition sig.now table.now) (IsRowSettled sig.now table.now i i)
-            (state_of self.old) (state_of self.new) result }
+        ensures { HasMoved (IsNodePartition sig.now table.now)
+            (IsChainSettled sig.now table.now chains.now.keys.items i 0) (state_of self.old) (state_of self.new) result }
     {
+        let count = table.nodes().len();
         let mut whole = Move::Stays;
-        for j in 0..i {
+        let mut end = chains.end(count, i, i);
+        while end > 0 {
+            let j = end - 1;
             let one = self.settle(sig, table, i, j);
             whole = then(whole, one);
             if let Move::Clashes = whole {
                 return whole;
             }
+            end = chains.end(count, i, j);
         }
         whole
     }
 
-    // Looks at all pairs of nodes, from the first node up or from the last down.
-    fn settle_all(&mut self, sig: &Signature, table: &Table, up: bool) -> Move
+    // Looks at each node and those before it with its key.
+    fn settle_chains(&mut self, sig: &Signature, table: &Table, chains: &Chains) -> Move
         requires naming { IsNaming (state_of self.old) }
         requires whole { length self.old.names.items ≡ length table.now.nodes }
-        ensures { HasMoved (IsNodePartition sig.now table.now) (IsAllSettled sig.now table.now)
+        requires room { HasRoom (length table.now.nodes) chains.now }
+        requires chained { IsChained (length table.now.nodes) chains.now.keys.items chains.now.before.items }
+        ensures { HasMoved (IsNodePartition sig.now table.now)
+            (AreChainsSettled sig.now table.now chains.now.keys.items (length table.now.nodes))
             (state_of self.old) (state_of self.new) result }
     {
-        let count = self.names.len();
         let mut whole = Move::Stays;
-        for k in 0..count {
-            let i = if up { k } else { count - 1 - k };
-            let one = self.settle_row(sig, table, i);
+        for i in 0..table.nodes().len() {
+            let one = self.settle_chain(sig, table, chains, i);
             whole = then(whole, one);
             if let Move::Clashes = whole {
                 return whole;
@@ -306,15 +326,92 @@ impl Closing {
         whole
     }
 
-    // Looks at all pairs until all is settled; false where there is no partition.
-    fn settle_fully(&mut self, sig: &Signature, table: &Table) -> bool
+    // Looks at all pairs of nodes that have alike what is said.
+    fn settle_by(&mut self, sig: &Signature, table: &Table, chains: &mut Chains, by: By) -> Move
         requires naming { IsNaming (state_of self.old) }
         requires whole { length self.old.names.items ≡ length table.now.nodes }
+        requires room { HasRoom (length table.now.nodes) chains.old }
+        ensures room { HasRoom (length table.now.nodes) chains.new }
+        ensures moved { HasMoved (IsNodePartition sig.now table.now) (IsSettledBy sig.now table.now by)
+            (state_of self.old) (state_of self.new) result }
+    {
+        chains.chain(table, self.names.as_slice(), by);
+        self.settle_chains(sig, table, chains)
+    }
+
+    // Looks at all pairs of nodes that may ask something of one another.
+    fn settle_all(&mut self, sig: &Signature, table: &Table, chains: &mut Chains) -> Move
+        requires naming { IsNaming (state_of self.old) }
+        requires whole { length self.old.names.items ≡ length table.now.nodes }
+        requires room { HasRoom (length table.now.nodes) chains.old }
+        ensures room { HasRoom (length table.now.nodes) chains.new }
+        ensures moved { HasMoved (IsNodePartition sig.now table.now) (IsAllSettled sig.now table.now)
+            (state_of self.old) (state_of self.new) result }
+    {
+        let one = self.settle_by(sig, table, chains, By::Class);
+        let other = self.settle_by(sig, table, chains, By::Arguments);
+        then(one, other)
+    }
+
+    // Looks at each node and the head of its class, from the first node up or from the last down.
+    fn settle_heads(
+        &mut self,
+        sig: &Signature,
+        table: &Table,
+        chains: &mut Chains,
+        up: bool,
+    ) -> Move
+        requires naming { IsNaming (state_of self.old) }
+        requires whole { length self.old.names.items ≡ length table.now.nodes }
+        requires room { HasRoom (length table.now.nodes) chains.old }
+        ensures room { HasRoom (length table.now.nodes) chains.new }
+        ensures moved { HasMoved (IsNodePartition sig.now table.now) IsNaming
+            (state_of self.old) (state_of self.new) result }
+    {
+        let count = self.names.len();
+        chains.lead_all(table, self.names.as_slice());
+        let mut whole = Move::Stays;
+        for k in 0..count {
+            let i = row(up, count, k);
+            let head = chains.head(table, self.names.as_slice(), i);
+            let one = self.settle(sig, table, i, head);
+            whole = then(whole, one);
+        }
+        whole
+    }
+
+    // Looks at the heads of classes, and at all that may ask something where these are settled.
+    fn settle_round(
+        &mut self,
+        sig: &Signature,
+        table: &Table,
+        chains: &mut Chains,
+        up: bool,
+    ) -> Move
+        requires naming { IsNaming (state_of self.old) }
+        requires whole { length self.old.names.items ≡ length table.now.nodes }
+        requires room { HasRoom (length table.now.nodes) chains.old }
+        ensures room { HasRoom (length table.now.nodes) chains.new }
+        ensures moved { HasMoved (IsNodePartition sig.now table.now) (IsAllSettled sig.now table.now)
+            (state_of self.old) (state_of self.new) result }
+    {
+        match self.settle_heads(sig, table, chains, up) {
+            Move::Stays => self.settle_all(sig, table, chains),
+            Move::Changes => Move::Changes,
+            Move::Clashes => Move::Clashes,
+        }
+    }
+
+    // Looks at nodes until all is settled; false where there is no partition.
+    fn settle_fully(&mut self, sig: &Signature, table: &Table, chains: &mut Chains) -> bool
+        requires naming { IsNaming (state_of self.old) }
+        requires whole { length self.old.names.items ≡ length table.now.nodes }
+        requires room { HasRoom (length table.now.nodes) chains.old }
         ensures { IsSettledFrom sig.now table.now (state_of self.old) (state_of self.new) result }
     {
         let mut up = false;
         'rounds: loop {
-            match self.settle_all(sig, table, up) {
+            match self.settle_round(sig, table, chains, up) {
                 Move::Stays => return true,
                 Move::Changes => up = !up,
                 Move::Clashes => return false,
@@ -337,14 +434,20 @@ impl Closing {
 }
 
 /// Joins nodes until nothing more is asked; none where there is no partition.
-pub fn close(sig: &Signature, table: &Table, mut closing: Closing) -> Option<State>
+pub fn close(
+    sig: &Signature,
+    table: &Table,
+    mut closing: Closing,
+    mut chains: Chains,
+) -> Option<State>
     requires naming { IsNaming (state_of closing) }
     requires whole { length closing.names.items ≡ length table.now.nodes }
     requires sides { All (λ p. class_of (state_of closing) p.0 ≡ class_of (state_of closing) p.1) table.now.sides }
+    requires room { HasRoom (length table.now.nodes) chains }
     ensures { IsClosureOf sig.now table.now (state_of closing) result }
 {
     table.recall_well_made();
-    if closing.settle_fully(sig, table) {
+    if closing.settle_fully(sig, table, &mut chains) {
         if closing.meets_apart() {
             return None;
         }

@@ -3,6 +3,7 @@
 
 mod asking;
 mod building;
+mod chains;
 mod closing;
 mod laws;
 mod state;

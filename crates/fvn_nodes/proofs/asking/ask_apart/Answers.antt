@@ -1,6 +1,7 @@
 -- The pair is kept apart, and the state is closed again.
-use Rattle.std.proofs.Common.{◌≡◌, [], ◌∷◌, ◌++◌, length, ap, ◌∙◌}
+use Rattle.std.proofs.Common.{◌≡◌, [], ◌∷◌, ◌++◌, length, ap, ◌∙◌, subst}
 use Rattle.fvn_nodes.specs.declared.state.State.{State}
+use Rattle.fvn_nodes.specs.inner.Chains.{HasRoom}
 use Rattle.fvn_nodes.proofs.Starting.{parted_naming, parted_sides, apart_is}
 use Rattle.fvn_nodes.proofs.asking.ask_apart.Goals as goal
 use Rattle.fvn_nodes.proofs.asking.ask_apart.Goals.{In_ok-push}
@@ -22,6 +23,7 @@ close-left-requires c =
       naming = parted_naming c.args.sig.now c.args.table.now c.recall_well_made.ensures c.args.state.now c.requires.closed c.args.i c.args.j c.requires.left c.requires.right c.requires.open (parted at) (names_are at) (apart_are at);
       whole = ap length (names_are at) ∙ c.requires.closed.whole;
       sides = parted_sides c.args.sig.now c.args.table.now c.recall_well_made.ensures c.args.state.now c.requires.closed c.args.i c.args.j c.requires.left c.requires.right c.requires.open (parted at) (names_are at) (apart_are at);
+      room = subst (λ n. HasRoom n c.in_ok-chains.chains) (ap length c.nodes.ensures) c.in_ok-chains.ensures;
     }
 
 pub returns : goal.returns

@@ -1,8 +1,9 @@
 -- The nodes are joined, and the state is closed again.
-use Rattle.std.proofs.Common.{◌≡◌, ℕ, sym, ◌∙◌, subst}
+use Rattle.std.proofs.Common.{◌≡◌, ℕ, length, sym, ap, ◌∙◌, subst}
 use Rattle.fvn_nodes.specs.States.{IsNaming, class_of}
 use Rattle.fvn_nodes.specs.declared.state.State.{State}
 use Rattle.fvn_nodes.specs.inner.Closing.{state_of, HasSameNodes, IsForced}
+use Rattle.fvn_nodes.specs.inner.Chains.{HasRoom}
 use Rattle.fvn_nodes.proofs.Starting.{moved_forced, joined_sides, same_is}
 use Rattle.fvn_nodes.proofs.asking.ask_same.Goals as goal
 use Rattle.fvn_nodes.proofs.asking.ask_same.Goals.{After-join-moved}
@@ -22,6 +23,7 @@ close-left-requires c =
       naming = (moved at).0.naming;
       whole = (moved at).0.whole ∙ c.requires.closed.whole;
       sides = joined_sides c.args.sig.now c.args.table.now c.recall_well_made.ensures c.args.state.now c.requires.closed c.args.i c.args.j c.requires.left c.requires.right c.requires.open (state_of c.join-moved.new.self) (moved at).0 (moved at).1 c.join-moved.ensures.together;
+      room = subst (λ n. HasRoom n c.in_ok-chains.chains) (ap length c.nodes.ensures) c.in_ok-chains.ensures;
     }
 
 pub returns : goal.returns

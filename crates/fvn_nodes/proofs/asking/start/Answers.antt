@@ -1,7 +1,8 @@
 -- What every partition has, closed.
-use Rattle.std.proofs.Common.{◌<◌, length, All, sym, ◌∙◌, subst}
+use Rattle.std.proofs.Common.{◌<◌, length, All, sym, ap, ◌∙◌, subst}
 use Rattle.fvn_nodes.specs.inner.Closing.{state_of}
 use Rattle.fvn_nodes.specs.inner.Starts.{IsSingles, IsJoinedFrom}
+use Rattle.fvn_nodes.specs.inner.Chains.{HasRoom}
 use Rattle.fvn_nodes.proofs.Starting.{singles_naming, started_sides, start_is}
 use Rattle.fvn_nodes.proofs.asking.start.Goals as goal
 use Rattle.fvn_nodes.proofs.asking.start.Goals.{After-nodes, After-join_sides}
@@ -30,6 +31,7 @@ close-state-requires c =
       naming = (joined at).nodes.naming;
       whole = (joined at).nodes.whole ∙ (begun at).whole;
       sides = started_sides c.args.sig.now c.args.table.now (state_of c.in_ok-closing.closing) (state_of c.join_sides.new.closing) (begun at) (joined at);
+      room = subst (λ n. HasRoom n c.in_ok-chains.chains) (ap length c.nodes-2.ensures) c.in_ok-chains.ensures;
     }
 
 pub returns : goal.returns
