@@ -1,13 +1,14 @@
 #!/usr/bin/env python3
 """Prints what is held of small problems before any question is asked, by the definitions alone.
 
-    python3 bench/openings.py < PROBLEMS
+    python3 bench/openings.py [elements] < PROBLEMS
 
 Each line of the input is a problem as `bench/partitions.py` reads it, in which no two nodes are in one class but the
 sides of its pairs. The program adds how many minimal solutions each sum operator has; each shared class, as the
 number of its node, with the operators that use it; and for each list of tags of the shared classes how many choices
 of minimal solutions are on the wheels, and how many of these leave no shared class a sum of a constant alone. There is
-one sort, so that a sum with an identity is neutral, and its choices take every solution without a constant. Minimal
+one sort, so that a sum with an identity is neutral, and its choices take every solution without a constant; with
+`elements` there is one more sort below it, so that none is neutral, and all valid choices are on the wheels. Minimal
 solutions are found by trying all vectors with components up to 4, and choices by trying all sets of solutions.
 """
 
@@ -30,10 +31,11 @@ def partitions_module():
 
 TABLES = partitions_module()
 SUMS = {"sum", "unital"}
+NEUTRAL = sys.argv[1:] != ["elements"]
 
 
 def axioms(f):
-    return "free" if f[0] == "A" else TABLES.AXIOMS[f]
+    return "free" if f[0] in "AB" else TABLES.AXIOMS[f]
 
 
 def class_of(nodes, problem):
@@ -55,7 +57,7 @@ class Frame:
         self.rows = {f: [t for t in sums if t[0] == f] for f in self.operators}
         self.identity = {f: self.names[e] for f, e in units}
         self.columns = {f: self.columns_of(f) for f in self.operators}
-        self.heads = {self.names[t]: t[0] for t in self.nodes if t[0][0] != "A" and axioms(t[0]) != "unital"}
+        self.heads = {self.names[t]: t[0] for t in self.nodes if t[0][0] not in "AB" and axioms(t[0]) != "unital"}
         self.bases = {f: self.basis(f) for f in self.operators}
 
     def columns_of(self, f):
@@ -121,7 +123,8 @@ class Frame:
                     continue
                 if any(sum(x[j] > 0 for j in constants) > 1 for x in taken):
                     continue
-                if axioms(f) == "unital" and not all(x in taken or any(x[j] for j in constants) for x in self.bases[f]):
+                full = all(x in taken or any(x[j] for j in constants) for x in self.bases[f])
+                if axioms(f) == "unital" and NEUTRAL and not full:
                     continue
                 found.append(
                     not any(

@@ -21,7 +21,7 @@ IDENTITY = {"l": "g"}
 def parsed(text):
     terms = []
     for word in text.split():
-        if word[0] == "A":
+        if word[0] in "AB":
             terms.append((word,))
         else:
             count = ARITY[word]
@@ -92,7 +92,7 @@ def is_partition(nodes, problem, names):
     def same(t, u):
         return names[place[t]] == names[place[u]]
 
-    applied = [t for t in nodes if t[0][0] != "A"]
+    applied = [t for t in nodes if t[0][0] not in "AB"]
     return all(same(*pair) for pair in problem) and all(meets(t, u, same) for t in applied for u in applied)
 
 

@@ -4,7 +4,7 @@ mod signatures;
 mod terms;
 mod unifying;
 
-use self::signatures::collected;
+use self::signatures::{collected, with_elements};
 use self::unifying::shown;
 use fvn_sorts::Signature;
 use fvn_terms::NoMemory;
@@ -32,7 +32,7 @@ A0 = A0 f k => 0
 A0 = A0 A1 l => 1 | A0 A1; A1 g
 A0 A1 l = f => 2 | A0 f; A1 g & A0 g; A1 f
 A0 A1 l = g => 1 | A0 g; A1 g
-A0 A1 l = A2 A3 l => 16 | A0 A1 A3 l; A1 A2 A4 l; A2 A1 A2 l; A3 A3 A4 l
+A0 A1 l = A2 A3 l => 1 | A0 A1 A3 l; A1 A2 A4 l; A2 A1 A2 l; A3 A3 A4 l
 A0 = A0 h A1 l => 0
 A0 A1 l A2 h l = f h => 1 | A0 g; A1 g; A2 f
 A0 A1 l = A0 A1 m =>  | A0 A1; A1 g & A0 g; A1 A1
@@ -41,7 +41,7 @@ A0 = A1 A2 l; A1 = A0 A3 m =>  | A0 A1; A1 A1; A2 g; A3 g & A0 g; A1 g; A2 g; A3
 A0 A1 k A0 A1 l i = A2 A2 i => 0
 A0 A1 k = A2 f k; A0 A3 n = A4 g n =>  | A0 f A2 k; A1 A1; A2 A1 A2 k; A3 g A3 n; A4 A3 f A2 k n & A0 f A2 k; A1 A1; A2 A1 A2 k; A3 g; A4 f A2 k & A0 f; A1 A1; A2 A1; A3 g A2 n; A4 f A2 n & A0 f; A1 A1; A2 A1; A3 g; A4 f
 A0 A1 n A2 k = A3 A4 n A5 k => 9 | A0 A1; A1 A2; A2 A5 A3 A4 n k; A3 A3; A4 A4; A5 A5 A1 A2 n k & A0 A2 A3 n; A1 A4 A5 n; A2 A1; A3 A2 A4 n; A4 A3 A5 n; A5 A1 & A0 A3 A4 n; A1 A1; A2 A2; A3 A1 A4 n; A4 A3; A5 A2 & A0 A3 A4 n; A1 A1; A2 A2; A3 A3; A4 A1 A4 n; A5 A2
-A0 A1 k A2 l = A3 A4 l => 8 | A0 A1; A1 A2; A2 A3 A4 l; A3 A4 A1 A2 k l; A4 A3 & A0 A1; A1 A2; A2 A3 A4 l; A3 A3; A4 A4 A1 A2 k l
+A0 A1 k A2 l = A3 A4 l => 2 | A0 A1; A1 A2; A2 A3 A4 l; A3 A4 A1 A2 k l; A4 A3 & A0 A1; A1 A2; A2 A3 A4 l; A3 A3; A4 A4 A1 A2 k l
 A0 A1 j A2 k = A2 f g j k => 2 | A0 f; A1 g; A2 A1 & A0 g; A1 f; A2 A1
 A0 A1 k = f => 0
 A0 A1 l = A2 h; A0 = f; A1 = f => 0
@@ -60,6 +60,17 @@ A0 A0 i = A1; A1 A1 i = A2; A2 A2 i = A3; A3 A3 i = A4; A4 A4 i = A5; A5 A5 i = 
 A0 A1 j = f f h h h h h h h h h h j; A0 A0 i = A2; A2 A2 i = A3; A3 A3 i = A4; A4 A4 i = A5; A5 A5 i = A6 => size size 1 | A0 f; A1 f h h h h h h h h h h; A2 f f i
 A0 A1 k A2 k A3 k A4 k = A5 A6 k A7 k A8 k A9 k => basis basis 0
 A0 A0 i = A1; A1 A1 i = A2; A2 A2 i = A3; A3 A3 i = A4; A4 A4 i = A5; A5 A5 i = A6; A6 A6 i = A7 => size size 0";
+
+// The same, where a variable B is of a sort of elements, o is one, and no identity leaves elements alone: a choice
+// without a solution is no instance of the one with it.
+const UNIFIED_WITH_ELEMENTS: &str = "A0 A1 l = A2 A3 l => 16 | A0 A1 A3 l; A1 A2 A4 l; A2 A1 A2 l; A3 A3 A4 l
+A0 A1 k A2 l = A3 A4 l => 8 | A0 A1; A1 A2; A2 A3 A4 l; A3 A4 A1 A2 k l; A4 A3 & A0 A1; A1 A2; A2 A3 A4 l; A3 A3; A4 A4 A1 A2 k l
+B0 A1 l = B2 A3 l => 16 | B0 B1; A1 A3 B2 l; B2 B2; A3 A3 B1 l & B0 B2; A1 A1; B2 B2; A3 A1
+B0 B1 l = B2 B3 l => 16 | B0 B2; B1 B1; B2 B1; B3 B2 & B0 B1; B1 B2; B2 B1; B3 B2
+B0 o l = B1 A2 l => 8 | B0 B1; B1 o; A2 B1 & B0 B1; B1 B1; A2 o
+A0 A1 l = B2 => 4 | A0 B1; A1 g; B2 B1 & A0 g; A1 B1; B2 B1
+A0 A1 l = o => 2 | A0 o; A1 g & A0 g; A1 o
+B0 A1 k = B2 A3 k => 7 | B0 B1; A1 B2; B2 B2; A3 B1";
 
 fn assert_shown(
     rt: &impl Abort,
@@ -81,6 +92,16 @@ fn problems_are_unified(rt: HostRuntime) -> Result<(), NoMemory> {
     let alloc = rt.alloc();
     match collected(alloc)?.finish(alloc) {
         Ok(sig) => assert_shown(&rt, alloc, &sig, UNIFIED)?,
+        Err(_) => assert!(rt; false),
+    }
+    Ok(())
+}
+
+#[test]
+fn problems_with_elements_are_unified(rt: HostRuntime) -> Result<(), NoMemory> {
+    let alloc = rt.alloc();
+    match with_elements(alloc)?.finish(alloc) {
+        Ok(sig) => assert_shown(&rt, alloc, &sig, UNIFIED_WITH_ELEMENTS)?,
         Err(_) => assert!(rt; false),
     }
     Ok(())

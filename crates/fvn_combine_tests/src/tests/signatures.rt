@@ -43,7 +43,10 @@ fn with(
 
 /// One sort A; constants f and g, free operators h and i, a commutative operator j, sums k and n, and sums
 /// l and m with the identity g.
-pub fn collected(alloc: Global) -> Result<SignatureBuilder, NoMemory> {
+pub fn collected(alloc: Global) -> Result<SignatureBuilder, NoMemory>
+    ensures sorts { IfOk result (λ b. b.sorts ≡ 1) }
+    ensures next { IfOk result (λ b. b.operators ≡ 9) }
+{
     let sorted = SignatureBuilder::new(alloc).sort()?;
     let f = with(alloc, sorted, 0, 0, Axioms::Free)?;
     let g = with(alloc, f, 1, 0, Axioms::Free)?;
@@ -55,4 +58,18 @@ pub fn collected(alloc: Global) -> Result<SignatureBuilder, NoMemory> {
     let m = with(alloc, l, 7, 2, Axioms::AssocCommId(OpId(1)))?;
     let n = with(alloc, m, 8, 2, Axioms::AssocComm)?;
     Ok(n)
+}
+
+/// The same, and a sort B of elements below A with a constant o; a sum with g is no element, so that l and m are
+/// not neutral.
+pub fn with_elements(alloc: Global) -> Result<SignatureBuilder, NoMemory> {
+    let operators = collected(alloc)?;
+    let sorted = operators.sort()?;
+    let ordered = sorted.subsort(SortId(1), SortId(0))?;
+    let rank = Rank {
+        args: Seq::new(alloc),
+        result: SortId(1),
+    };
+    let more = ordered.op(OpId(9), rank, false, Axioms::Free)?;
+    Ok(more)
 }

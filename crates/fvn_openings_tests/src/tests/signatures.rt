@@ -43,7 +43,10 @@ fn with(
 
 /// One sort A; constants f and g, free operators h and i, a commutative operator j, a sum k, and a sum l
 /// with the identity g.
-pub fn collected(alloc: Global) -> Result<SignatureBuilder, NoMemory> {
+pub fn collected(alloc: Global) -> Result<SignatureBuilder, NoMemory>
+    ensures sorts { IfOk result (λ b. b.sorts ≡ 1) }
+    ensures next { IfOk result (λ b. b.operators ≡ 7) }
+{
     let sorted = SignatureBuilder::new(alloc).sort()?;
     let f = with(alloc, sorted, 0, 0, Axioms::Free)?;
     let g = with(alloc, f, 1, 0, Axioms::Free)?;
@@ -53,4 +56,12 @@ pub fn collected(alloc: Global) -> Result<SignatureBuilder, NoMemory> {
     let k = with(alloc, j, 5, 2, Axioms::AssocComm)?;
     let l = with(alloc, k, 6, 2, Axioms::AssocCommId(OpId(1)))?;
     Ok(l)
+}
+
+/// The same, and a sort B of elements below A; a sum with g is no element, so that l is not neutral.
+pub fn with_elements(alloc: Global) -> Result<SignatureBuilder, NoMemory> {
+    let operators = collected(alloc)?;
+    let sorted = operators.sort()?;
+    let more = sorted.subsort(SortId(1), SortId(0))?;
+    Ok(more)
 }

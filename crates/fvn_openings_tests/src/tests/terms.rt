@@ -109,7 +109,7 @@ fn number(word: &str, first: u8) -> u16 {
     }
 }
 
-/// A variable is the letter A and its number.
+/// A variable is the letter of its sort and its number.
 fn var_of(word: &str) -> Var {
     let name = match word.as_bytes().last() {
         Some(digit) => u32::from(digit.wrapping_sub(b'0')),
@@ -117,7 +117,7 @@ fn var_of(word: &str) -> Var {
     };
     Var {
         name,
-        sort: SortId(0),
+        sort: SortId(number(word, b'A')),
         fresh: false,
     }
 }
