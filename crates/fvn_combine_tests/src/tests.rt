@@ -1,10 +1,12 @@
 //! Tests of small problems with their unifiers.
 mod given;
 mod signatures;
+mod solving;
 mod terms;
 mod unifying;
 
 use self::signatures::{collected, with_elements};
+use self::solving::solved;
 use self::unifying::shown;
 use fvn_sorts::Signature;
 use fvn_terms::NoMemory;
@@ -63,7 +65,8 @@ A0 A0 i = A1; A1 A1 i = A2; A2 A2 i = A3; A3 A3 i = A4; A4 A4 i = A5; A5 A5 i = 
 
 // The same, where a variable B is of a sort of elements, o is one, and no identity leaves elements alone: a choice
 // without a solution is no instance of the one with it.
-const UNIFIED_WITH_ELEMENTS: &str = "A0 A1 l = A2 A3 l => 16 | A0 A1 A3 l; A1 A2 A4 l; A2 A1 A2 l; A3 A3 A4 l
+const UNIFIED_WITH_ELEMENTS: &str =
+    "A0 A1 l = A2 A3 l => 16 | A0 A1 A3 l; A1 A2 A4 l; A2 A1 A2 l; A3 A3 A4 l
 A0 A1 k A2 l = A3 A4 l => 8 | A0 A1; A1 A2; A2 A3 A4 l; A3 A4 A1 A2 k l; A4 A3 & A0 A1; A1 A2; A2 A3 A4 l; A3 A3; A4 A4 A1 A2 k l
 B0 A1 l = B2 A3 l => 16 | B0 B1; A1 A3 B2 l; B2 B2; A3 A3 B1 l & B0 B2; A1 A1; B2 B2; A3 A1
 B0 B1 l = B2 B3 l => 16 | B0 B2; B1 B1; B2 B1; B3 B2 & B0 B1; B1 B2; B2 B1; B3 B2
@@ -71,6 +74,19 @@ B0 o l = B1 A2 l => 8 | B0 B1; B1 o; A2 B1 & B0 B1; B1 B1; A2 o
 A0 A1 l = B2 => 4 | A0 B1; A1 g; B2 B1 & A0 g; A1 B1; B2 B1
 A0 A1 l = o => 2 | A0 o; A1 g & A0 g; A1 o
 B0 A1 k = B2 A3 k => 7 | B0 B1; A1 B2; B2 B2; A3 B1";
+
+// A problem, and how a solver ends with it that stops at four unifiers and at terms of more than 20 symbols.
+const SOLVED: &str = "A0 A1 k = A2 A3 k => unifiers 4
+A0 A0 k = A1 A2 k => unifiers 4
+A0 A1 j = f g j => complete 2
+A0 f k = A1 g k => complete 2
+A0 A1 l = A2 A3 l => complete 1
+A0 = A0 f k => complete 0
+f h = g h => complete 0
+A0 A0 i = A1; A1 A1 i = A2; A2 A2 i = A3 => complete 1
+A0 A0 i = A1; A1 A1 i = A2; A2 A2 i = A3; A3 A3 i = A4 => size 0
+f f i f f i i f f i f f i i i = f f i f f i i f f i f f i i i => problem 0
+A0 A1 k A2 k A3 k A4 k = A5 A6 k A7 k A8 k A9 k => basis 0";
 
 fn assert_shown(
     rt: &impl Abort,
@@ -83,6 +99,30 @@ fn assert_shown(
         let (want, texts) = rest.split_once(" | ").unwrap_or((rest, ""));
         let out = shown(rt, alloc, sig, text, texts, !want.is_empty())?;
         assert_eq!(rt; out.as_str(), want, "at {text}");
+    }
+    Ok(())
+}
+
+fn assert_solved(
+    rt: &impl Abort,
+    alloc: Global,
+    sig: &Signature,
+    lines: &str,
+) -> Result<(), NoMemory> {
+    for line in lines.lines() {
+        let (text, want) = line.split_once(" => ").unwrap_or((line, ""));
+        let out = solved(rt, alloc, sig, text, 4, 20)?;
+        assert_eq!(rt; out.as_str(), want, "at {text}");
+    }
+    Ok(())
+}
+
+#[test]
+fn problems_are_solved_within_limits(rt: HostRuntime) -> Result<(), NoMemory> {
+    let alloc = rt.alloc();
+    match collected(alloc)?.finish(alloc) {
+        Ok(sig) => assert_solved(&rt, alloc, &sig, SOLVED)?,
+        Err(_) => assert!(rt; false),
     }
     Ok(())
 }

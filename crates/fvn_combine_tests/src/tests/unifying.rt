@@ -166,7 +166,7 @@ fn push_digit(out: &mut String, number: usize) -> Result<(), NoMemory> {
 }
 
 /// The last two digits.
-fn push_number(out: &mut String, number: usize) -> Result<(), NoMemory> {
+pub fn push_number(out: &mut String, number: usize) -> Result<(), NoMemory> {
     if number >= 10 {
         push_digit(out, number / 10)?;
     }
