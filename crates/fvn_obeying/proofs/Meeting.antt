@@ -28,7 +28,6 @@ use Rattle.fvn_plans.specs.Tables.{HasSums}
 use Rattle.fvn_obeying.specs.Obeying.{IsTold, GoWith, ObeyTags}
 use Rattle.fvn_obeying.specs.Laws.{CountsMeet}
 use Rattle.fvn_obeying.proofs.Values.{constant_alone, constants_differ, may_be, bound_used, required_some}
-
 pub use Rattle.fvn_sums.proofs.Weighing.{component_at}
 
 all_from : {X : Type 0} (P : X → Type 0) (xs : List X) → ((x : X) → Contains xs x → P x) → All P xs

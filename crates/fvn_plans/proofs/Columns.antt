@@ -9,11 +9,10 @@ use Rattle.fvn_base.proofs.Membership.{contains_here, contains_later, contains_c
 use Rattle.fvn_base.proofs.Pigeonhole.{AllPairs-tail, AllPairs-first, AllPairs-cons}
 use Rattle.fvn_acunify.specs.ValidChoice.{chosen, column_sum}
 use Rattle.fvn_flat.specs.SolvedLists.{component}
+pub use Rattle.fvn_sums.proofs.Weighing.{component_at}
 
 pub all_from : {X : Type 0} (P : X → Type 0) (xs : List X) → ((x : X) → Contains xs x → P x) → All P xs
 all_from P xs h = All-weaker (Contains xs) P h xs (All-contains_itself xs)
-
-pub use Rattle.fvn_sums.proofs.Weighing.{component_at}
 
 -- a class with a component other than 0 has a column
 pub column_listed : (columns v : List ℕ) (k : ℕ) → 0 < component columns v k → Contains columns k
