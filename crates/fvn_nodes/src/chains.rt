@@ -1,5 +1,5 @@
 //! Chains of nodes with one key, so that nodes that ask nothing of one another are not looked at together.
-ghost use Rattle.std.specs.Prelude.{◌≡◌, ℕ, ◌<◌, ◌≤◌, List, length, slice_index, slice_set, IfOk, All};
+ghost use Rattle.std.specs.Prelude.{◌≡◌, ℕ, ◌<◌, ◌≤◌, List, length, slice_index, slice_set, IfOk, IfSome, All};
 ghost use Rattle.fvn_terms.specs.declared.plain.OpId.{OpId};
 ghost use Rattle.fvn_nodes.specs.Table.{IsOver};
 ghost use Rattle.fvn_nodes.specs.inner.Chains.{HasRoom, IsChained, IsEndFor, AreKeys, mixed, mixed_all, key_of};
@@ -97,6 +97,23 @@ fn is_application(table: &Table, i: usize) -> bool
         Node::Var(_) => false,
         Node::App(_, _) => true,
     }
+}
+
+// The first places of two lists of nodes that are in two classes.
+fn first_apart(names: &[usize], ks: &[usize], ls: &[usize]) -> Option<(usize, usize)>
+    requires left { All (λ k. k < length names.now) ks.now }
+    requires right { All (λ k. k < length names.now) ls.now }
+    ensures { IfSome result (λ p. (p.0 < length names.now) × (p.1 < length names.now)) }
+{
+    if ks.len() != ls.len() {
+        return None;
+    }
+    for i in 0..ks.len() {
+        if names[ks[i]] != names[ls[i]] {
+            return Some((ks[i], ls[i]));
+        }
+    }
+    None
 }
 
 impl Chains {
@@ -229,5 +246,45 @@ impl Chains {
             return i;
         }
         head - 1
+    }
+    // The head of the class of node i; the node itself where it has none.
+    fn head_of(&self, names: &[usize], i: usize) -> usize
+        requires room { HasRoom (length names.now) self.now }
+        requires within { i < length names.now }
+        ensures { result < length names.now }
+    {
+        let head = match self.last.as_slice().get(names[i]) {
+            Some(head) => *head,
+            None => return i,
+        };
+        if head == 0 {
+            return i;
+        }
+        if head > names.len() {
+            return i;
+        }
+        head - 1
+    }
+
+    /// The heads of the classes of the first arguments of nodes i and j that are in two classes; these nodes themselves
+    /// where there are no such arguments.
+    pub fn beneath(&self, table: &Table, names: &[usize], i: usize, j: usize) -> (usize, usize)
+        requires room { HasRoom (length names.now) self.now }
+        requires whole { length names.now ≡ length table.now.nodes }
+        requires left { i < length names.now }
+        requires right { j < length names.now }
+        ensures { (result.0 < length names.now) × (result.1 < length names.now) }
+    {
+        table.recall_well_made();
+        match table.node(i) {
+            Node::Var(_) => (i, j),
+            Node::App(_, ks) => match table.node(j) {
+                Node::Var(_) => (i, j),
+                Node::App(_, ls) => match first_apart(names, ks.as_slice(), ls.as_slice()) {
+                    None => (i, j),
+                    Some((k, l)) => (self.head_of(names, k), self.head_of(names, l)),
+                },
+            },
+        }
     }
 }

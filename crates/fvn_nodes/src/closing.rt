@@ -353,7 +353,38 @@ impl Closing {
         then(one, other)
     }
 
-    // Looks at each node and the head of its class, from the first node up or from the last down.
+    // Looks at nodes i and j and, as long as something is joined, at the heads of classes beneath them.
+    fn settle_down(
+        &mut self,
+        sig: &Signature,
+        table: &Table,
+        chains: &Chains,
+        i: usize,
+        j: usize,
+    ) -> Move
+        requires naming { IsNaming (state_of self.old) }
+        requires whole { length self.old.names.items ≡ length table.now.nodes }
+        requires room { HasRoom (length table.now.nodes) chains.now }
+        requires left { i < length table.now.nodes }
+        requires right { j < length table.now.nodes }
+        ensures { HasMoved (IsNodePartition sig.now table.now) IsNaming
+            (state_of self.old) (state_of self.new) result }
+    {
+        let mut pair = (i, j);
+        let mut whole = Move::Stays;
+        'down: loop {
+            let next = chains.beneath(table, self.names.as_slice(), pair.0, pair.1);
+            let one = self.settle(sig, table, pair.0, pair.1);
+            whole = then(whole, one);
+            match one {
+                Move::Changes => pair = next,
+                Move::Stays => return whole,
+                Move::Clashes => return whole,
+            }
+        }
+    }
+
+    // Looks down from each node and the head of its class, from the first node up or from the last down.
     fn settle_heads(
         &mut self,
         sig: &Signature,
@@ -374,7 +405,7 @@ impl Closing {
         for k in 0..count {
             let i = row(up, count, k);
             let head = chains.head(table, self.names.as_slice(), i);
-            let one = self.settle(sig, table, i, head);
+            let one = self.settle_down(sig, table, chains, i, head);
             whole = then(whole, one);
         }
         whole
