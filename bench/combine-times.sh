@@ -6,7 +6,7 @@ there=$(mktemp -d)
 trap 'rm -rf "$there"' EXIT
 mkdir -p "$there/crates"
 cp "$here/HANDLES" "$there/HANDLES"
-for crate in base lindio acunify terms forms drafts sorts flat match nodes sums frames supports plans asking unfolding binding obeying wheels openings drawing combine combine_tests; do
+for crate in base lindio acunify terms forms drafts sorts flat match counts cover nodes sums frames supports plans asking unfolding binding obeying wheels openings drawing combine refine axunify combine_tests; do
   cp -r "$here/crates/fvn_$crate" "$there/crates/"
   rm -rf "$there/crates/fvn_$crate/must-fail"
   grep "^fvn_$crate:" "$here/crates.txt" >> "$there/crates.txt"
