@@ -48,7 +48,7 @@ A0 A1 j A2 A3 j j = A4 A5 j A6 A7 j j
 PROBLEMS
 if [ -n "$PROBLEMS" ]; then cp "$PROBLEMS" "$there/problems"; fi
 cd "$there/crates/fvn_combine_tests"
-rm -r src/tests/unifying.rt proofs/tests/unifying proofs/Givens.antt
+rm -r src/tests/solving.rt src/tests/unifying.rt proofs/tests/unifying proofs/Givens.antt
 printf -- '-- The lemmas of the crate.\n' > proofs/Lib.antt
 cat > src/tests.rt <<'PROGRAM'
 //! Times of combined unification.
