@@ -7,7 +7,7 @@ use Rattle.std.proofs.lemmas.List.Elements.{All-head, All-tail, All-cons, All-sa
 use Rattle.std.proofs.lemmas.List.Sums.{sum_by-append}
 use Rattle.fvn_lindio.specs.Systems.{vectors_of}
 use Rattle.fvn_lindio.specs.declared.system.Solution.{Solution}
-use Rattle.fvn_acunify.specs.ValidChoice.{IsValid, IsListed, chosen, column_sum, touched}
+use Rattle.fvn_acunify.specs.ValidChoice.{IsListed, chosen, column_sum, touched}
 use Rattle.fvn_acunify.specs.inner.Prefix.{IsBounded, IsDead, IsOpen}
 use Rattle.fvn_acunify.proofs.ColumnSums.{column_sum-cons}
 

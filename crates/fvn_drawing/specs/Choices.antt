@@ -13,7 +13,7 @@ use Rattle.fvn_openings.specs.Tags.{AreTags}
 use Rattle.fvn_openings.specs.Turning.{AreWheels}
 use Rattle.fvn_openings.specs.declared.sharing.SharedClass.{SharedClass}
 
--- tags of the shared classes by some options, and for each sum operator a number that is valid for what is asked under these tags
+-- tags of the shared classes by some options, and for each sum operator a choice of its operator's wheel
 pub record IsListedChoice (d : Declarations) (t : NodeTable) (class : ℕ → ℕ) (r : Reading) (bases : List (List Solution)) (tags : List (Option OpId)) (numbers : List ℕ) : Type 0 where
   pub shared : List SharedClass
   pub are_shared : AreSharedClasses d t class shared

@@ -3,8 +3,8 @@ use Rattle.fvn_terms.specs.declared.plain.OpId.{OpId}
 use Rattle.std.specs.Prelude.{Bool}
 use Rattle.fvn_forms.specs.Flat.{FlatTerm, FlatTerms, fapp, fmore}
 
--- the second form is the first in which u, at one place, is replaced by v
 mutual
+  -- the second form is the first in which u, at one place, is replaced by v
   pub data IsReplaced (u v : FlatTerm) : FlatTerm → FlatTerm → Type 0 where
     here : IsReplaced u v u v
     inside : {f : OpId} {joined : Bool} {ts us : FlatTerms} → IsReplacedAmong u v ts us → IsReplaced u v (fapp f joined ts) (fapp f joined us)

@@ -6,9 +6,9 @@ use Rattle.fvn_terms.specs.declared.plain.OpId.{OpId}
 use Rattle.fvn_terms.specs.Term.{Term, Terms, var, app, none, more, nodes}
 use Rattle.fvn_terms.specs.Equality.{two}
 
--- a flat form is a variable, or an operator over a list of flat forms;
--- the mark is true at a joined sum, which stands for the operator used between its arguments
 mutual
+  -- a flat form is a variable, or an operator over a list of flat forms;
+  -- the mark is true at a joined sum, which stands for the operator used between its arguments
   pub data FlatTerm : Type 0 where
     fvar : Var → FlatTerm
     fapp : OpId → Bool → FlatTerms → FlatTerm

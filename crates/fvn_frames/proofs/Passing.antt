@@ -1,8 +1,7 @@
 -- What holds of the numbers so far.
-use Rattle.std.proofs.Common.{◌≡◌, ℕ, ◌+◌, ◌<◌, ◌≤◌, List, [], length, get_or, slice_get, sym, ap, ◌∙◌, subst, subst₂, inl, inr, arith, All, Some}
+use Rattle.std.proofs.Common.{◌≡◌, ℕ, ◌+◌, ◌<◌, ◌≤◌, List, [], length, get_or, slice_get, sym, ap, ◌∙◌, subst, subst₂, inl, inr, arith, Some}
 use Rattle.std.proofs.lemmas.Bool.{cases_lt}
 use Rattle.std.proofs.lemmas.List.{get_or_default}
-use Rattle.std.proofs.lemmas.List.Elements.{All-contains, Contains-get_or}
 use Rattle.std.proofs.lemmas.Option.{slice_get_within, slice_get-get_or}
 use Rattle.fvn_base.proofs.Options.{Some-injective}
 use Rattle.fvn_lindio.specs.declared.system.Solution.{Solution}
@@ -16,10 +15,6 @@ more_below P i h own k l = elim (cases_lt k i) [
       let is : i ≡ k = omega arith in
       subst P is own
 ]
-
--- an element of a list whose elements are below
-pub within_at : (n : ℕ) (xs ys : List ℕ) → xs ≡ ys → All (λ c. c < n) ys → (j : ℕ) → j < length xs → get_or xs j 0 < n
-within_at n xs ys e h j l = subst (λ k. k < n) (sym (ap (λ zs. get_or zs j 0) e)) (All-contains (λ c. c < n) ys (get_or ys j 0) h (Contains-get_or ys j 0 (subst (λ zs. j < length zs) e l)))
 
 -- the operators so far, and one more
 pub more_operators : (P : ℕ → Sums → Type 0) (sums : List Sums) (i : ℕ) (item : Sums) → i < length sums → item ≡ get_or sums i item → ((k : ℕ) (e : Sums) → k < i → slice_get sums k ≡ Some e → P k e) → P i item → (k : ℕ) (e : Sums) → k < i + 1 → slice_get sums k ≡ Some e → P k e

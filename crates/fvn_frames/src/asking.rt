@@ -54,7 +54,7 @@ pub fn question_on_all(
 }
 
 /// A question on two classes that may be constants of one operator, and that one of its minimal
-/// solutions has both of; none where the state is a frame.
+/// solutions has both of; none only where the state is a frame.
 pub fn question_on_touched(
     sig: &Signature,
     table: &Table,

@@ -45,7 +45,7 @@ fn join_sides(closing: &mut Closing, sides: &[(usize, usize)])
     }
 }
 
-/// The state that every partition of the nodes has; none where there is no partition.
+/// The state that every partition of the nodes has; none only where no partition has what the state has.
 pub fn start(alloc: Global, sig: &Signature, table: &Table) -> Result<Option<State>, NoMemory>
     ensures { IfOk result (IsStart sig.now table.now) }
 {

@@ -464,7 +464,7 @@ impl Closing {
     }
 }
 
-/// Joins nodes until nothing more is asked; none where there is no partition.
+/// Joins nodes until nothing more is asked; none only where no partition has what the state has.
 pub fn close(
     sig: &Signature,
     table: &Table,

@@ -9,10 +9,10 @@ use Rattle.fvn_terms.specs.declared.plain.SortId.{SortId}
 use Rattle.fvn_terms.specs.declared.declarations.Axioms.TheVariants.{AssocCommId}
 use Rattle.fvn_terms.specs.declared.declarations.Rank.{Rank}
 use Rattle.fvn_terms.specs.declared.declarations.Declarations.{Declarations}
-use Rattle.fvn_terms.specs.Signature.{kind, declared, axioms, unknown}
+use Rattle.fvn_terms.specs.Signature.{kind, declared, axioms}
 use Rattle.fvn_forms.specs.Good.{IsGood, IsOfKind}
 use Rattle.fvn_forms.specs.SortOrder.{sort_number}
-use Rattle.fvn_sorts.specs.Queries.{IsKind, IsCompleted}
+use Rattle.fvn_sorts.specs.Queries.{IsCompleted}
 use Rattle.fvn_obeying.specs.Neutral.{Absorbs, IsNeutral}
 
 module _ (d : Declarations) where

@@ -17,7 +17,7 @@ pub record IsFirstRefused (sums : List Sums) (f : OpId) (system : System) : Type
   pub refused : IsRefused system
   pub first : (i : ℕ) (e : Sums) → i < place → slice_get sums i ≡ Some e → IsRefused e.system → ⊥
 
--- why a frame is not opened
+-- why there are no minimal solutions of all sum operators
 abbrev pub IsOpenFault : List Sums → OpenFault → Type 0
 IsOpenFault sums (Basis f system) = IsFirstRefused sums f system
 IsOpenFault sums NoMemory = Unit {0}

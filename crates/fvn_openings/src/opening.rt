@@ -22,7 +22,7 @@ use fvn_sorts::Signature;
 use fvn_terms::OpId;
 use std::alloc::{AllocFailed, Global};
 
-/// Why a frame is not opened.
+/// Why there are no minimal solutions of all sum operators.
 #[derive(Drop)]
 pub enum OpenFault {
     /// The system of the sum operator has too many minimal solutions, or too large ones.

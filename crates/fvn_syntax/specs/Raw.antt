@@ -15,9 +15,9 @@ abbrev pub spell_sort : RawSort → List Piece
 spell_sort (Name s) = word s ∷ []
 spell_sort (Kind s ss) = left_bracket ∷ word s ∷ spell_others ss
 
--- A written term: a name, an operator with arguments in parentheses, a term in parentheses, or a variable of
--- a kind, X:[A,B], whose name is written with its colon.
 mutual
+  -- A written term: a name, an operator with arguments in parentheses, a term in parentheses, or a variable of
+  -- a kind, X:[A,B], whose name is written with its colon.
   pub data RawTerm : Type 0 where
     name : Text → RawTerm
     call : Text → RawTerms → RawTerm

@@ -2,8 +2,8 @@
 use Rattle.fvn_terms.specs.declared.plain.OpId.{OpId}
 use Rattle.fvn_terms.specs.Term.{Term, Terms, app, more}
 
--- the second term is the first with one subterm replaced by one that R relates to it
 mutual
+  -- the second term is the first with one subterm replaced by one that R relates to it
   pub data AtOnePlace (R : Term → Term → Type 0) : Term → Term → Type 0 where
     here : {t u : Term} → R t u → AtOnePlace R t u
     inside : {f : OpId} {ts us : Terms} → AmongOnePlace R ts us → AtOnePlace R (app f ts) (app f us)

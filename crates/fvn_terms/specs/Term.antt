@@ -4,8 +4,8 @@ use Rattle.std.specs.Prelude.{ℕ, ◌+◌, List, [], ◌∷◌}
 use Rattle.fvn_terms.specs.declared.plain.Var.{Var}
 use Rattle.fvn_terms.specs.declared.plain.OpId.{OpId}
 
--- a term is a variable, or an operator over a list of terms
 mutual
+  -- a term is a variable, or an operator over a list of terms
   pub data Term : Type 0 where
     var : Var → Term
     app : OpId → Terms → Term

@@ -72,7 +72,7 @@ module _ (k : Combining) where
   abbrev pub IsAdmittedBy : State → Substitution → Type 0
   IsAdmittedBy s u = IsKindUnifier k.declarations (problem_of k.given) u × Admits s (kernel k.declarations u k.table.nodes)
 
-  -- a question is open in the state; it admits no unifier; its systems are refused; or it is a frame, which is opened
+  -- a question is open in the state; it admits no unifier; a sum system of the problem under a partition is refused; or it is a frame, which is opened
   abbrev pub IsLookedAt : State → Looked → Type 0
   IsLookedAt s Over = ⊥
   IsLookedAt s (Open i j) = (i < length k.table.nodes) × (j < length k.table.nodes) × IsOpen s i j

@@ -31,7 +31,7 @@ module _ (d : Declarations) (t : NodeTable) where
   abbrev pub IsAllSettled : State → Type 0
   IsAllSettled s = (i : ℕ) → i < length t.nodes → (j : ℕ) → j < i → AreSettled i j s
 
-  -- all is settled, and nothing is joined but what every partition has in one class; or there is no partition
+  -- all is settled, and nothing is joined but what every partition has in one class; or no partition has what the state has
   abbrev pub IsSettledFrom : (before after : State) → Bool → Type 0
   IsSettledFrom before after true = HasSameNodes before after × IsForced (IsNodePartition d t) before after × IsAllSettled after
   IsSettledFrom before after false = IsImpossible d t before

@@ -1,10 +1,10 @@
 -- One more column.
-use Rattle.std.proofs.Common.{◌⊎◌, ℕ, List, get_or, sym, ap, ◌∙◌, subst, inl, inr}
+use Rattle.std.proofs.Common.{◌⊎◌, ℕ, List, get_or, sym, ◌∙◌, subst, inl, inr}
 use Rattle.std.proofs.lemmas.Bool.{false≢true}
 use Rattle.fvn_nodes.specs.States.{IsOpen}
 use Rattle.fvn_frames.specs.inner.Users.{CanBeConstant, HaveHeads}
 use Rattle.fvn_frames.specs.inner.Touched.{IsPastColumn}
-use Rattle.fvn_frames.proofs.Passing.{more_below, within_at}
+use Rattle.fvn_frames.proofs.Passing.{more_below}
 use Rattle.fvn_frames.proofs.touched.open_column.Goals as goal
 
 pub loop-j-preserved-then-not-may_be_constant : goal.loop-j-preserved-then-not-may_be_constant

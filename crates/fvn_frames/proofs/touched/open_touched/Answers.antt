@@ -1,7 +1,6 @@
 -- One more operator.
-use Rattle.std.proofs.Common.{◌≡◌, ℕ, ◌<◌, List, [], length, get_or, sym, ap, ◌∙◌, subst, refl, arith, ◌≤◌}
+use Rattle.std.proofs.Common.{◌≡◌, ◌<◌, List, [], length, get_or, sym, ◌∙◌, subst, refl, arith, ◌≤◌}
 use Rattle.std.proofs.lemmas.Option.{slice_get_read}
-use Rattle.fvn_lindio.specs.declared.system.Solution.{Solution}
 use Rattle.fvn_frames.specs.declared.reading.Sums.{Sums}
 use Rattle.fvn_frames.specs.inner.Touched.{AreWide, ArePastTouched}
 use Rattle.fvn_frames.proofs.Passing.{more_operators, all_operators, basis_at}
