@@ -1,0 +1,89 @@
+-- Laws of rewriting modulo the axioms.
+use Rattle.std.specs.Prelude.{◌≡◌, ◌+◌, ◌↔◌, ℕ, List, [], map, All}
+use Rattle.std.specs.List.{AllZip}
+use Rattle.fvn_terms.specs.declared.plain.Var.{Var}
+use Rattle.fvn_terms.specs.declared.plain.SortId.{SortId}
+use Rattle.fvn_terms.specs.declared.declarations.Declarations.{Declarations}
+use Rattle.fvn_terms.specs.Term.{Term, var}
+use Rattle.fvn_terms.specs.Substitution.{Substitution, apply, followed_by, Occurs}
+use Rattle.fvn_terms.specs.Signature.{IsTerm, HasKind}
+use Rattle.fvn_terms.specs.Places.{AtOnePlace}
+use Rattle.fvn_terms.specs.Equality.{BEqual}
+use Rattle.fvn_terms.specs.Sorts.{IsWellSorted}
+use Rattle.fvn_terms.specs.Unifiers.{Problem, IsUnifier}
+use Rattle.fvn_terms.specs.Theory.{Equations, TEqual}
+use Rattle.fvn_terms.specs.Rewriting.{Rewrites, TermSequence, ListSequence, IsReducible, IsIrreducible, IsIrreducibleList, IsConfluent, AreJoinable}
+use Rattle.fvn_terms.specs.Variants.{IsVariant, IsWithin, Covers, OccursInSome}
+use Rattle.fvn_forms.specs.FitsKinds.{FitsKinds}
+use Rattle.fvn_rewriting.specs.Lists.{EachHasSequence}
+use Rattle.fvn_rewriting.specs.Agreement.{AgreeOn, AgreeOnAll, AgreeOnVariables, TakesBack}
+use Rattle.fvn_rewriting.specs.Kinds.{HaveOneKind}
+
+-- sequences of terms lead between classes of equal terms, and inside terms
+pub record SequenceLaws (d : Declarations) (equations : Equations) : Type 0 where
+  -- the first and the last term may be exchanged for equal ones
+  pub before : (k : ℕ) (t v u : Term) → BEqual d t v → TermSequence d equations k t u → TermSequence d equations k v u
+  pub after : (k : ℕ) (t u v : Term) → TermSequence d equations k t u → BEqual d u v → TermSequence d equations k t v
+  -- a step is a sequence of one step
+  pub one : (t u : Term) → Rewrites d equations t u → TermSequence d equations 1 t u
+  -- a sequence of a subterm is one of the term
+  pub inside : (k : ℕ) (t u : Term) → AtOnePlace (TermSequence d equations k) t u → TermSequence d equations k t u
+  -- what is equal to a reducible or an irreducible term is so too
+  pub reducible : (t u : Term) → BEqual d t u → IsReducible d equations t → IsReducible d equations u
+  pub irreducible : (t u : Term) → BEqual d t u → IsIrreducible d equations t → IsIrreducible d equations u
+  -- a term with an irreducible instance is irreducible
+  pub instances : (s : Substitution) → IsWellSorted d s → (t : Term) → IsIrreducible d equations (apply s t) → IsIrreducible d equations t
+  -- an instance that a well-sorted substitution takes back is irreducible where the term is
+  pub taken_back : (r back : Substitution) → IsWellSorted d back → (t : Term) → TakesBack d back r t → IsIrreducible d equations t → IsIrreducible d equations (apply r t)
+
+-- sequences of terms keep to these laws, whatever the signature and the equations
+abbrev pub SequencesAreLawful : Type 0
+SequencesAreLawful = (d : Declarations) (equations : Equations) → SequenceLaws d equations
+
+-- sequences of lists are sequences of their members
+pub record ListLaws (d : Declarations) (equations : Equations) : Type 0 where
+  -- a list has a sequence exactly where its members have such whose lengths add up
+  pub members : (k : ℕ) (ts us : List Term) → ListSequence d equations k ts us ↔ EachHasSequence d equations k ts us
+  -- instances of a sequence are sequences
+  pub instances : (s : Substitution) → IsWellSorted d s → (k : ℕ) (ts us : List Term) → ListSequence d equations k ts us → ListSequence d equations k (map (apply s) ts) (map (apply s) us)
+  -- from an irreducible list only the sequence without a step leads on
+  pub ended : (k : ℕ) (ts us : List Term) → IsIrreducibleList d equations ts → ListSequence d equations k ts us → (k ≡ 0) × AllZip (BEqual d) ts us
+
+-- sequences of lists keep to these laws, whatever the signature and the equations
+abbrev pub ListsAreLawful : Type 0
+ListsAreLawful = (d : Declarations) (equations : Equations) → ListLaws d equations
+
+-- variants, bounds and covering speak of the values of the terms' variables alone, modulo the axioms
+pub record AgreementLaws (d : Declarations) (equations : Equations) : Type 0 where
+  -- a term has equal instances by substitutions that agree on it
+  pub terms : (s c : Substitution) (t : Term) → AgreeOn d t s c → BEqual d (apply s t) (apply c t)
+  -- a well-sorted substitution that agrees with a unifier on the problem is one
+  pub unifiers : (problem : Problem) (s c : Substitution) → IsUnifier d problem s → IsWellSorted d c → All (λ p. AgreeOn d p.0 s c × AgreeOn d p.1 s c) problem → IsUnifier d problem c
+  pub variants : (fixed ts us : List Term) (s c : Substitution) → IsVariant d equations fixed ts us s → IsWellSorted d c → AgreeOnAll d ts s c → AgreeOnAll d fixed s c → IsVariant d equations fixed ts us c
+  pub within : (most : ℕ) (ts : List Term) (s c : Substitution) → IsWithin d equations most ts s → AgreeOnAll d ts s c → IsWithin d equations most ts c
+  pub covered : (vars : List Var) (ts : List Term) (s : Substitution) (us : List Term) (c e : Substitution) → Covers d vars ts s us c → AgreeOnVariables d vars c e → Covers d vars ts s us e
+  -- a variant whose terms and values are renamed is a variant
+  pub renamed : (fixed ts us : List Term) (s r back : Substitution) → IsVariant d equations fixed ts us s → IsWellSorted d r → IsWellSorted d back →
+      ((x : Var) → OccursInSome x ts → TakesBack d back r (s x)) → All (λ t. TakesBack d back r (apply s t)) fixed → All (TakesBack d back r) us →
+      IsVariant d equations fixed ts (map (apply r) us) (followed_by s r)
+
+-- the values of the terms' variables decide, whatever the signature and the equations
+abbrev pub AgreementIsLawful : Type 0
+AgreementIsLawful = (d : Declarations) (equations : Equations) → AgreementLaws d equations
+
+-- what holds of the theory of equations whose sides have one kind
+pub record KindedLaws (d : Declarations) (equations : Equations) : Type 0 where
+  -- steps and equality in the theory keep kinds
+  pub steps : (t u : Term) → Rewrites d equations t u → (k : SortId) → HasKind d t k → HasKind d u k
+  pub sequences : (n : ℕ) (t u : Term) → TermSequence d equations n t u → (k : SortId) → HasKind d t k → HasKind d u k
+  pub theory : (t u : Term) → TEqual d equations t u → (k : SortId) → HasKind d t k → HasKind d u k
+  -- terms whose sequences meet are equal in the theory, and the other way round where the equations are confluent
+  pub joinable_equal : (t u : Term) → AreJoinable d equations t u → TEqual d equations t u
+  pub equal_joinable : IsConfluent d equations → (t u : Term) → IsTerm d t → TEqual d equations t u → AreJoinable d equations t u
+  -- where the equations are confluent, terms that are equal in the theory have one irreducible form modulo the axioms
+  pub one_normal_form : IsConfluent d equations → (t u v w : Term) (j k : ℕ) → IsTerm d t → TEqual d equations t u →
+      TermSequence d equations j t v → TermSequence d equations k u w → IsIrreducible d equations v → IsIrreducible d equations w → BEqual d v w
+
+-- in a signature that fits, for equations whose sides have one kind each
+abbrev pub KindedTheoriesAreLawful : Type 0
+KindedTheoriesAreLawful = (d : Declarations) → FitsKinds d → (equations : Equations) → HaveOneKind d equations → KindedLaws d equations
