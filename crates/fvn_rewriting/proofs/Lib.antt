@@ -3,3 +3,10 @@ pub mod Sequences
 pub mod Lists
 pub mod Agreement
 pub mod Kinded
+pub mod Shaping
+pub mod Identities
+pub mod Trimming
+pub mod Listing
+pub mod Choosing
+pub mod Losing
+pub mod Collapsing

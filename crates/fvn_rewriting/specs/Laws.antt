@@ -1,23 +1,33 @@
 -- Laws of rewriting modulo the axioms.
-use Rattle.std.specs.Prelude.{◌≡◌, ◌+◌, ◌↔◌, ℕ, List, [], map, All}
+use Rattle.std.specs.Prelude.{◌≡◌, ◌+◌, ◌↔◌, ℕ, List, [], map, All, Contains}
 use Rattle.std.specs.List.{AllZip}
 use Rattle.fvn_terms.specs.declared.plain.Var.{Var}
+use Rattle.fvn_terms.specs.declared.plain.OpId.{OpId}
 use Rattle.fvn_terms.specs.declared.plain.SortId.{SortId}
 use Rattle.fvn_terms.specs.declared.declarations.Declarations.{Declarations}
 use Rattle.fvn_terms.specs.Term.{Term, var}
 use Rattle.fvn_terms.specs.Substitution.{Substitution, apply, followed_by, Occurs}
-use Rattle.fvn_terms.specs.Signature.{IsTerm, HasKind}
+use Rattle.fvn_terms.specs.Signature.{IsTerm, HasKind, KeepsKinds, AtOrBelow}
 use Rattle.fvn_terms.specs.Places.{AtOnePlace}
 use Rattle.fvn_terms.specs.Equality.{BEqual}
 use Rattle.fvn_terms.specs.Sorts.{IsWellSorted}
 use Rattle.fvn_terms.specs.Unifiers.{Problem, IsUnifier}
 use Rattle.fvn_terms.specs.Theory.{Equations, TEqual}
-use Rattle.fvn_terms.specs.Rewriting.{Rewrites, TermSequence, ListSequence, IsReducible, IsIrreducible, IsIrreducibleList, IsConfluent, AreJoinable}
+use Rattle.fvn_terms.specs.Rewriting.{Rewrites, TermSequence, ListSequence, IsReducible, IsIrreducible, IsIrreducibleList, IsConfluent, AreJoinable, IsSortDecreasing}
 use Rattle.fvn_terms.specs.Variants.{IsVariant, IsWithin, Covers, OccursInSome}
 use Rattle.fvn_forms.specs.FitsKinds.{FitsKinds}
+use Rattle.fvn_forms.specs.Canon.{canon}
+use Rattle.fvn_forms.specs.Good.{IsGood}
+use Rattle.fvn_rewriting.specs.Shapes.{shape_of, shape_in}
+use Rattle.fvn_sorts.specs.Queries.{IsCompleted}
+use Rattle.fvn_rewriting.specs.declared.shapes.Face.TheVariants.{Variable, Constant}
+use Rattle.fvn_rewriting.specs.declared.shapes.Shape.{Shape}
+use Rattle.fvn_rewriting.specs.Identities.{identities}
+use Rattle.fvn_rewriting.specs.Choices.{sort_choices, identity_choices, IsChoice}
+use Rattle.fvn_rewriting.specs.Admissible.{IsLoss, CollapsesToVariable, CollapsesToIdentity}
 use Rattle.fvn_rewriting.specs.Lists.{EachHasSequence}
 use Rattle.fvn_rewriting.specs.Agreement.{AgreeOn, AgreeOnAll, AgreeOnVariables, TakesBack}
-use Rattle.fvn_rewriting.specs.Kinds.{HaveOneKind}
+use Rattle.fvn_rewriting.specs.Kinds.{HasOneKind, HaveOneKind}
 
 -- sequences of terms lead between classes of equal terms, and inside terms
 pub record SequenceLaws (d : Declarations) (equations : Equations) : Type 0 where
@@ -87,3 +97,24 @@ pub record KindedLaws (d : Declarations) (equations : Equations) : Type 0 where
 -- in a signature that fits, for equations whose sides have one kind each
 abbrev pub KindedTheoriesAreLawful : Type 0
 KindedTheoriesAreLawful = (d : Declarations) → FitsKinds d → (equations : Equations) → HaveOneKind d equations → KindedLaws d equations
+
+-- the shape of an instance is computed from the shapes of the values, whatever they are
+abbrev pub ShapesAreExact : Type 0
+ShapesAreExact = (d : Declarations) → IsGood d → (s : Substitution) → KeepsKinds d s → (t : Term) → IsTerm d t → shape_of d (canon d (apply s t)) ≡ shape_in d (λ x. shape_of d (canon d (s x))) t
+
+-- finitely many choices tell whether an equation loses a sort, and whether a term collapses
+pub record ChoiceLaws (d : Declarations) : Type 0 where
+  -- an equation is sort-decreasing exactly where under each choice of sorts and identities its right side has a sort at or below that of its left side
+  pub decreasing : (left right : Term) → HasOneKind d (left, right) → ((x : Var) → Occurs x right → Occurs x left) →
+      IsSortDecreasing d left right ↔ ((env : Var → Shape) → IsChoice (sort_choices d) left env → AtOrBelow d (shape_in d env right).sort (shape_in d env left).sort)
+  -- a choice under which it has not makes an instance that loses a sort
+  pub losing : (left right : Term) → HasOneKind d (left, right) → ((x : Var) → Occurs x right → Occurs x left) →
+      (env : Var → Shape) → IsChoice (sort_choices d) left env → (AtOrBelow d (shape_in d env right).sort (shape_in d env left).sort → ⊥) → IsLoss d left right
+  -- a term collapses to a variable exactly where some choice of identities gives it the shape of one
+  pub to_variable : (t : Term) → IsTerm d t → CollapsesToVariable d t ↔ ((env : Var → Shape) × IsChoice (identity_choices d) t env × ((shape_in d env t).face ≡ Variable))
+  -- and to an identity exactly where one gives it the shape of an identity
+  pub to_identity : (t : Term) → IsTerm d t → CollapsesToIdentity d t ↔ ((env : Var → Shape) × IsChoice (identity_choices d) t env × ((e : OpId) × Contains (identities d) e × ((shape_in d env t).face ≡ Constant e)))
+
+-- in a good signature
+abbrev pub ChoicesAreEnough : Type 0
+ChoicesAreEnough = (d : Declarations) → IsGood d → IsCompleted d → ChoiceLaws d

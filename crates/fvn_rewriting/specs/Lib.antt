@@ -2,4 +2,8 @@
 pub mod Lists
 pub mod Agreement
 pub mod Kinds
+pub mod Shapes
+pub mod Identities
+pub mod Choices
+pub mod Admissible
 pub mod Laws

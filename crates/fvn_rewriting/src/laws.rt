@@ -4,6 +4,8 @@ ghost use Rattle.fvn_rewriting.specs.Laws.{
   ListsAreLawful,
   AgreementIsLawful,
   KindedTheoriesAreLawful,
+  ShapesAreExact,
+  ChoicesAreEnough,
 };
 
 use fvn_terms::rewriting_is_lawful;
@@ -35,3 +37,13 @@ pub fn kinded_theories_are_lawful()
 {
     rewriting_is_lawful();
 }
+
+/// The shape of an instance is computed from the shapes of the values.
+pub fn shapes_are_exact()
+    ensures { ShapesAreExact }
+{}
+
+/// Finitely many choices of sorts and identities tell whether an equation loses a sort, and whether a term collapses.
+pub fn choices_are_enough()
+    ensures { ChoicesAreEnough }
+{}

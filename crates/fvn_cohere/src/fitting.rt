@@ -1,0 +1,54 @@
+//! Whether the instances of an equation are within the limits.
+ghost use Rattle.std.specs.Prelude.{◌≡◌, ◌*◌, ◌-◌, ◌^◌, ◌↔◌, ◌+◌, min, map, length, IsTrue, IfOk};
+ghost use Rattle.fvn_terms.specs.declared.plain.Var.{Var};
+ghost use Rattle.fvn_terms.specs.Plain.{term};
+ghost use Rattle.fvn_rewriting.specs.Identities.{identities};
+ghost use Rattle.fvn_rewriting.specs.Choices.{identities_below, sorts_below, InstancesFit};
+
+use crate::identities::{identities, identities_below, sorts_below};
+use crate::variables::distinct_variables;
+use fvn_base::limits::{IDENTITY_INSTANCES, SORT_INSTANCES};
+use fvn_sorts::Signature;
+use fvn_terms::{NoMemory, OpId, Plain, SortId};
+use std::alloc::Global;
+
+// How many identities and how many sorts stand at or below a sort.
+fn counts(
+    alloc: Global,
+    sig: &Signature,
+    es: &[OpId],
+    s: SortId,
+) -> Result<(usize, usize), NoMemory>
+    requires { es.now ≡ identities sig.now }
+    ensures { IfOk result (λ n. (n.0 ≡ length (identities_below sig.now s)) × (n.1 ≡ length (sorts_below sig.now s))) }
+{
+    let below = identities_below(alloc, sig, es, s)?;
+    let sorts = sorts_below(alloc, sig, s)?;
+    Ok((below.len(), sorts.len()))
+}
+
+// The product, or the greatest number.
+fn times(count: u64, more: usize) -> u64
+    ensures { result ≡ min (count * more) (2 ^ 64 - 1) }
+{
+    count.saturating_mul(more as u64)
+}
+
+/// Whether the identity instances of the left side of an equation, and its instances by sorts and identities, are
+/// within the limits.
+///
+/// It takes the products of the choices of its variables, each in one pass.
+pub fn instances_fit(alloc: Global, sig: &Signature, left: &Plain) -> Result<bool, NoMemory>
+    ensures { IfOk result (λ fit. IsTrue fit ↔ InstancesFit sig.now (term left.now)) }
+{
+    let es = identities(alloc, sig)?;
+    let vars = distinct_variables(alloc, left)?;
+    let mut by_identities: u64 = 1;
+    let mut by_sorts: u64 = 1;
+    for x in vars.as_slice() {
+        let n = counts(alloc, sig, es.as_slice(), x.sort)?;
+        by_identities = times(by_identities, n.0.saturating_add(1));
+        by_sorts = times(by_sorts, n.1.saturating_add(n.0));
+    }
+    Ok(by_identities <= IDENTITY_INSTANCES && by_sorts <= SORT_INSTANCES)
+}

@@ -1,0 +1,67 @@
+//! Equations that lose a sort.
+ghost use Rattle.std.specs.Prelude.{◌≡◌, IfOk, OnOk, MatchOption, All};
+ghost use Rattle.fvn_terms.specs.Plain.{term};
+ghost use Rattle.fvn_cohere.specs.Promises.{sides_of, IsFitEquation, LosesAs, IsFirstLoss, AreDecreasing};
+
+use crate::choosing::unchosen;
+use crate::identities::identities;
+use crate::searching::{Search, Sought};
+use crate::shapes::Chosen;
+use crate::variables::distinct_variables;
+use fvn_sorts::Signature;
+use fvn_terms::{NoMemory, Plain};
+use std::alloc::Global;
+
+/// The sides of an equation.
+#[derive(Drop)]
+pub struct Sides {
+    pub left: Plain,
+    pub right: Plain,
+}
+
+/// Whether an equation loses a sort: some instance of its left side has a sort that the same instance of its right side
+/// has not.
+///
+/// It goes through the choices of sorts and identities for its variables, one by one; `instances_fit` says how many
+/// there are.
+pub fn loses_sort(
+    alloc: Global,
+    sig: &Signature,
+    left: &Plain,
+    right: &Plain,
+) -> Result<bool, NoMemory>
+    requires { IsFitEquation sig.now (term left.now) (term right.now) }
+    ensures { IfOk result (LosesAs sig.now (term left.now) (term right.now)) }
+{
+    sig.recall_good();
+    sig.recall_completed();
+    let es = identities(alloc, sig)?;
+    let vars = distinct_variables(alloc, left)?;
+    let all = unchosen(alloc, sig, es.as_slice(), Sought::Loss, vars.as_slice())?;
+    let search = Search {
+        sig,
+        identities: es.as_slice(),
+        sought: Sought::Loss,
+        left,
+        right,
+        unchosen: all.as_slice(),
+    };
+    Ok(search.find(0, &Chosen::Nothing))
+}
+
+/// The number, from 1, of the first equation that is not sort-decreasing.
+pub fn sort_loss(
+    alloc: Global,
+    sig: &Signature,
+    equations: &[Sides],
+) -> Result<Option<usize>, NoMemory>
+    requires { All (λ e. IsFitEquation sig.now (term e.left) (term e.right)) equations.now }
+    ensures { IfOk result (λ n. MatchOption n (AreDecreasing sig.now equations.now) (IsFirstLoss sig.now equations.now)) }
+{
+    for (i, e) in equations.iter().enumerate() {
+        if loses_sort(alloc, sig, &e.left, &e.right)? {
+            return Ok(Some(i + 1));
+        }
+    }
+    Ok(None)
+}
