@@ -1,9 +1,10 @@
 //! Whether the instances of an equation are within the limits.
-ghost use Rattle.std.specs.Prelude.{◌≡◌, ◌*◌, ◌-◌, ◌^◌, ◌↔◌, ◌+◌, min, map, length, IsTrue, IfOk};
-ghost use Rattle.fvn_terms.specs.declared.plain.Var.{Var};
+ghost use Rattle.std.specs.Prelude.{◌≡◌, ◌≤◌, ◌*◌, ◌↔◌, ◌+◌, length, IsTrue, IfOk};
+ghost use Rattle.fvn_base.specs.declared.limits.TheConstants.{IDENTITY_INSTANCES, SORT_INSTANCES};
 ghost use Rattle.fvn_terms.specs.Plain.{term};
 ghost use Rattle.fvn_rewriting.specs.Identities.{identities};
 ghost use Rattle.fvn_rewriting.specs.Choices.{identities_below, sorts_below, InstancesFit};
+ghost use Rattle.fvn_cohere.specs.inner.Capped.{capped};
 
 use crate::identities::{identities, identities_below, sorts_below};
 use crate::variables::distinct_variables;
@@ -24,14 +25,25 @@ fn counts(
 {
     let below = identities_below(alloc, sig, es, s)?;
     let sorts = sorts_below(alloc, sig, s)?;
-    Ok((below.len(), sorts.len()))
+    Ok((below.as_slice().len(), sorts.as_slice().len()))
 }
 
-// The product, or the greatest number.
-fn times(count: u64, more: usize) -> u64
-    ensures { result ≡ min (count * more) (2 ^ 64 - 1) }
+// The product with a sum, or the greatest number.
+fn times(count: u64, more: usize, others: usize) -> u64
+    ensures { result ≡ capped (count * capped (more + others)) }
 {
-    count.saturating_mul(more as u64)
+    let sum = (more as u64).saturating_add(others as u64);
+    count.saturating_mul(sum)
+}
+
+// Whether both products are within the limits.
+fn are_within(by_identities: u64, by_sorts: u64) -> bool
+    ensures { IsTrue result ↔ ((by_identities ≤ IDENTITY_INSTANCES) × (by_sorts ≤ SORT_INSTANCES)) }
+{
+    if IDENTITY_INSTANCES < by_identities {
+        return false;
+    }
+    by_sorts <= SORT_INSTANCES
 }
 
 /// Whether the identity instances of the left side of an equation, and its instances by sorts and identities, are
@@ -47,8 +59,8 @@ pub fn instances_fit(alloc: Global, sig: &Signature, left: &Plain) -> Result<boo
     let mut by_sorts: u64 = 1;
     for x in vars.as_slice() {
         let n = counts(alloc, sig, es.as_slice(), x.sort)?;
-        by_identities = times(by_identities, n.0.saturating_add(1));
-        by_sorts = times(by_sorts, n.1.saturating_add(n.0));
+        by_identities = times(by_identities, 1, n.0);
+        by_sorts = times(by_sorts, n.1, n.0);
     }
-    Ok(by_identities <= IDENTITY_INSTANCES && by_sorts <= SORT_INSTANCES)
+    Ok(are_within(by_identities, by_sorts))
 }

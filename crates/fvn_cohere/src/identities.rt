@@ -90,9 +90,10 @@ pub(crate) fn identities_below(
 {
     let mut all = Vec::new(alloc);
     for e in es {
-        if is_at_or_below(sig, sig.result(*e, &[]), s) {
-            all.push(*e)?;
+        if !is_at_or_below(sig, sig.result(*e, &[]), s) {
+            continue;
         }
+        all.push(*e)?;
     }
     Ok(all)
 }
