@@ -3,4 +3,7 @@ mod Tests
 mod Steps
 mod Products
 mod Arguments
+mod Overs
+mod Sifting
+mod Firsts
 mod Found

@@ -2,13 +2,13 @@
 use Rattle.std.proofs.Common.{◌≡◌, ◌≤◌, ◌<◌, ◌+◌, ◌*◌, ◌-◌, ◌^◌, ◌↔◌, ℕ, zero, suc, min, List, [], ◌∷◌, ◌++◌, map, length, take, get_or, refl, sym, ap, subst, ◌∙◌, ◌⊎◌, inl, inr, arith}
 use Rattle.std.proofs.lemmas.Bool.{cases_lt}
 use Rattle.std.proofs.lemmas.List.{take_more, map_more}
-use Rattle.std.proofs.Math.Nat.{min-le_left, min-le_right, min-eq_left, min-eq_right, le-mul_of_pos_right, le-mul_of_pos_left, mul-assoc}
+use Rattle.std.proofs.Math.Nat.{min-le_left, min-le_right, min-eq_left, min-eq_right, le-mul_of_pos_right, mul_comm, mul_assoc}
 use Rattle.fvn_rewriting.specs.Choices.{product}
 use Rattle.fvn_cohere.specs.inner.Capped.{capped}
 
 product-push : (ns : List ℕ) (n : ℕ) → product (ns ++ n ∷ []) ≡ product ns * n
 product-push [] n = omega arith
-product-push (m ∷ ns) n = ap (λ p. m * p) (product-push ns n) ∙ sym (mul-assoc m (product ns) n)
+product-push (m ∷ ns) n = ap (λ p. m * p) (product-push ns n) ∙ sym (mul_assoc m (product ns) n)
 
 module _ (m : ℕ) (some : 1 ≤ m) where
   small : (a : ℕ) → a ≤ m → min a m ≡ a
@@ -27,9 +27,9 @@ module _ (m : ℕ) (some : 1 ≤ m) where
     zero_right k = omega arith
   stops (suc a) (suc n) = elim (cases_lt m (suc a)) as (λ _. min (min (suc a) m * min (suc n) m) m ≡ min (suc a * suc n) m) [
     | inl high ↦
-      ap (λ z. min (z * min (suc n) m) m) (great (suc a) (omega (arith, high)))
-      ∙ great (m * min (suc n) m) (at_least_left m (min (suc n) m) (positive (suc n) (omega arith)))
-      ∙ sym (great (suc a * suc n) (let q = at_least_left (suc a) (suc n) (omega arith) in omega (arith, high, q)))
+        ap (λ z. min (z * min (suc n) m) m) (great (suc a) (omega (arith, high)))
+        ∙ great (m * min (suc n) m) (at_least_left m (min (suc n) m) (positive (suc n) (omega arith)))
+        ∙ sym (great (suc a * suc n) (let q = at_least_left (suc a) (suc n) (omega arith) in omega (arith, high, q)))
     | inr low ↦ ap (λ z. min (z * min (suc n) m) m) (small (suc a) low) ∙ right (cases_lt m (suc n))
   ]
     where
@@ -37,7 +37,7 @@ module _ (m : ℕ) (some : 1 ≤ m) where
       at_least_left x y h = le-mul_of_pos_right x h
 
       at_least_right : (x y : ℕ) → 1 ≤ x → y ≤ x * y
-      at_least_right x y h = le-mul_of_pos_left y h
+      at_least_right x y h = subst (λ z. y ≤ z) (mul_comm y x) (le-mul_of_pos_right y h)
 
       positive : (k : ℕ) → 1 ≤ k → 1 ≤ min k m
       positive k h = elim (cases_lt m k) as (λ _. 1 ≤ min k m) [

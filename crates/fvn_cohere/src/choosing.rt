@@ -1,5 +1,5 @@
 //! What the variables of a term may stand for.
-ghost use Rattle.std.specs.Prelude.{◌≡◌, ◌×◌, ◌++◌, map, IfOk};
+ghost use Rattle.std.specs.Prelude.{◌≡◌, [], ◌++◌, map, IfOk};
 ghost use Rattle.fvn_terms.specs.declared.plain.Var.{Var};
 ghost use Rattle.fvn_rewriting.specs.Identities.{identities};
 ghost use Rattle.fvn_rewriting.specs.Choices.{variable_shape, identity_shape};

@@ -34,32 +34,29 @@ pub fn left_collapses(
     sig.recall_good();
     sig.recall_completed();
     let es = identities(alloc, sig)?;
+    let ids = es.as_slice();
     let vars = distinct_variables(alloc, left)?;
-    let all = unchosen(
-        alloc,
-        sig,
-        es.as_slice(),
-        Sought::ToVariable,
-        vars.as_slice(),
-    )?;
+    let list = vars.as_slice();
+    let all = unchosen(alloc, sig, ids, Sought::ToVariable, list)?;
+    let left_over = all.as_slice();
     let search = Search {
         sig,
-        identities: es.as_slice(),
+        identities: ids,
         sought: Sought::ToVariable,
         left,
         right: left,
-        unchosen: all.as_slice(),
+        unchosen: left_over,
     };
     if search.find(0, &Chosen::Nothing) {
         return Ok(Some(Collapse::Variable));
     }
     let again = Search {
         sig,
-        identities: es.as_slice(),
+        identities: ids,
         sought: Sought::ToIdentity,
         left,
         right: left,
-        unchosen: all.as_slice(),
+        unchosen: left_over,
     };
     if again.find(0, &Chosen::Nothing) {
         return Ok(Some(Collapse::Identity));

@@ -36,17 +36,21 @@ pub fn loses_sort(
     sig.recall_good();
     sig.recall_completed();
     let es = identities(alloc, sig)?;
+    let ids = es.as_slice();
     let vars = distinct_variables(alloc, left)?;
-    let all = unchosen(alloc, sig, es.as_slice(), Sought::Loss, vars.as_slice())?;
+    let list = vars.as_slice();
+    let all = unchosen(alloc, sig, ids, Sought::Loss, list)?;
+    let left_over = all.as_slice();
     let search = Search {
         sig,
-        identities: es.as_slice(),
+        identities: ids,
         sought: Sought::Loss,
         left,
         right,
-        unchosen: all.as_slice(),
+        unchosen: left_over,
     };
-    Ok(search.find(0, &Chosen::Nothing))
+    let loses = search.find(0, &Chosen::Nothing);
+    Ok(loses)
 }
 
 /// The number, from 1, of the first equation that is not sort-decreasing.
@@ -58,8 +62,10 @@ pub fn sort_loss(
     requires { All (λ e. IsFitEquation sig.now (term e.left) (term e.right)) equations.now }
     ensures { IfOk result (λ n. MatchOption n (AreDecreasing sig.now equations.now) (IsFirstLoss sig.now equations.now)) }
 {
-    for (i, e) in equations.iter().enumerate() {
-        if loses_sort(alloc, sig, &e.left, &e.right)? {
+    for i in 0..equations.len() {
+        let e = &equations[i];
+        let loses = loses_sort(alloc, sig, &e.left, &e.right)?;
+        if loses {
             return Ok(Some(i + 1));
         }
     }

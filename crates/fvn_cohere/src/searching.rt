@@ -1,8 +1,9 @@
 //! A search through the choices for the variables of a term.
-ghost use Rattle.std.specs.Prelude.{◌≡◌, ◌≤◌, length, drop, not};
+ghost use Rattle.std.specs.Prelude.{◌≡◌, ◌≤◌, ◌<◌, ◌+◌, length, drop};
+ghost use Rattle.std.specs.List.{list_any};
 ghost use Rattle.fvn_terms.specs.Plain.{term};
 ghost use Rattle.fvn_terms.specs.Signature.{IsTerm};
-ghost use Rattle.fvn_cohere.specs.inner.Searching.{shapes_by, is_variable_face, is_identity_face, is_met, some_choice};
+ghost use Rattle.fvn_cohere.specs.inner.Searching.{shapes_by, is_variable_face, is_identity_face, is_met, with_shape, some_choice};
 
 use crate::identities::{is_at_or_below, is_listed};
 use crate::shapes::{Chosen, shape};
@@ -70,6 +71,7 @@ impl Search<'_> {
     }
 
     // Whether one of the choices that are left, from a number on, is sought.
+    #[cycle(find)]
     pub(crate) fn find(&self, from: usize, chosen: &Chosen<'_>) -> bool
         requires within { from ≤ length self.now.unchosen.now }
         requires left { IsTerm self.now.sig.now (term self.now.left.now) }
@@ -78,12 +80,26 @@ impl Search<'_> {
             (is_met self.now.sig.now self.now.sought self.now.identities.now (term self.now.left.now) (term self.now.right.now))
             (drop from self.now.unchosen.now) (shapes_by chosen.now) }
     {
-        if from == self.unchosen.len() {
+        let all = self.unchosen;
+        if from == all.len() {
             return self.is_met(chosen);
         }
-        let (x, shapes) = &self.unchosen[from];
-        for o in shapes.as_slice() {
-            let more = Chosen::Choose(*x, *o, &*chosen);
+        let v = &all[from];
+        self.find_for(v.0, v.1.as_slice(), from, chosen)
+    }
+
+    // Whether one of the choices that are left is sought in which the variable stands for one of these shapes.
+    #[cycle(find)]
+    fn find_for(&self, x: Var, shapes: &[Shape], from: usize, chosen: &Chosen<'_>) -> bool
+        requires within { from < length self.now.unchosen.now }
+        requires left { IsTerm self.now.sig.now (term self.now.left.now) }
+        requires right { IsTerm self.now.sig.now (term self.now.right.now) }
+        ensures { result ≡ list_any (λ o. some_choice
+            (is_met self.now.sig.now self.now.sought self.now.identities.now (term self.now.left.now) (term self.now.right.now))
+            (drop (from + 1) self.now.unchosen.now) (with_shape (shapes_by chosen.now) x o)) shapes.now }
+    {
+        for o in shapes {
+            let more = Chosen::Choose(x, *o, &*chosen);
             if self.find(from + 1, &more) {
                 return true;
             }

@@ -1,5 +1,5 @@
 //! Shapes of terms in which each variable stands for a chosen shape.
-ghost use Rattle.std.specs.Prelude.{◌≡◌, ◌≤◌, length};
+ghost use Rattle.std.specs.Prelude.{◌≡◌, ◌≤◌, ◌<◌, length, slice_index_or};
 ghost use Rattle.fvn_terms.specs.Plain.{term};
 ghost use Rattle.fvn_terms.specs.Term.{app};
 ghost use Rattle.fvn_terms.specs.Signature.{IsTerm};
@@ -73,25 +73,36 @@ fn compound(sig: &Signature, f: OpId, shapes: &[Shape]) -> Shape
     }
 }
 
+// One of the shapes.
+fn at(shapes: &[Shape], i: usize) -> Shape
+    requires { i < length shapes.now }
+    ensures { slice_index_or shapes.now i result ≡ result }
+{
+    shapes[i]
+}
+
 // The shape of the operator over arguments of these shapes.
 fn shape_over(sig: &Signature, f: OpId, shapes: &[Shape]) -> Shape
     requires { length shapes.now ≤ 8 }
     ensures { result ≡ shape_over sig.now f shapes.now }
 {
-    if shapes.is_empty() {
+    if shapes.len() == 0 {
         return Shape {
             face: Face::Constant(f),
             sort: sig.result(f, &[]),
         };
     }
-    if shapes.len() == 2 {
-        let e = identity_in(sig.axioms(f));
-        if is_face_of(e, shapes[0].face) {
-            return shapes[1];
-        }
-        if is_face_of(e, shapes[1].face) {
-            return shapes[0];
-        }
+    if shapes.len() != 2 {
+        return compound(sig, f, shapes);
+    }
+    let a = at(shapes, 0);
+    let b = at(shapes, 1);
+    let e = identity_in(sig.axioms(f));
+    if is_face_of(e, a.face) {
+        return b;
+    }
+    if is_face_of(e, b.face) {
+        return a;
     }
     compound(sig, f, shapes)
 }

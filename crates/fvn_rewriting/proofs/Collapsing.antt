@@ -48,7 +48,7 @@ module _ (d : Declarations) (good : IsGood d) (completed : IsCompleted d) (t : T
 
   -- a choice of identities, by a substitution
   module _ (s : Substitution) (choice : IsIdentityChoice d t s) where
-    keeps : KeepsKinds d s
+    pub keeps : KeepsKinds d s
     keeps x i = go (choice x) where
       go : (s x ≡ var x) ⊎ (Occurs x t × GoesToIdentity d s x) → HasKind d (s x) (kind d x.sort)
       go (inl e) = subst (λ u. HasKind d u (kind d x.sort)) (sym e) (i, refl)

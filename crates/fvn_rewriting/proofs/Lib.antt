@@ -10,3 +10,4 @@ pub mod Listing
 pub mod Choosing
 pub mod Losing
 pub mod Collapsing
+pub mod RuleSteps

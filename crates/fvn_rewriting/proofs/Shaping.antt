@@ -151,7 +151,7 @@ module _ (d : Declarations) where
               (sum_face f assoc a b (λ e. not_left p ((parts_none_iff d f a (canon_settled d t)).0 e)) (λ e. not_right q ((parts_none_iff d f b (canon_settled d u)).0 e)))
               (least_sort_of_app d good f (more t (more u none)) k h (not_left p, (not_right q, tt)))
 
-    two_terms : (f : OpId) → IsAssociative (axioms d f) → (ts : Terms) (k : SortId) → HasKind d (app f ts) k → (t : Term) × (u : Term) × (ts ≡ more t (more u none))
+    pub two_terms : (f : OpId) → IsAssociative (axioms d f) → (ts : Terms) (k : SortId) → HasKind d (app f ts) k → (t : Term) × (u : Term) × (ts ≡ more t (more u none))
     two_terms f assoc ts k h = go _ _ ts (subst (HaveKinds d ts) (good.fits.associative f h.rank assoc h.listed) h.args)
       where
         go : (p q : SortId) (ts : Terms) → HaveKinds d ts (p ∷ q ∷ []) → (t : Term) × (u : Term) × (ts ≡ more t (more u none))

@@ -13,7 +13,7 @@ use Rattle.fvn_terms.specs.Equality.{BEqual}
 use Rattle.fvn_terms.specs.Sorts.{IsWellSorted}
 use Rattle.fvn_terms.specs.Unifiers.{Problem, IsUnifier}
 use Rattle.fvn_terms.specs.Theory.{Equations, TEqual}
-use Rattle.fvn_terms.specs.Rewriting.{Rewrites, TermSequence, ListSequence, IsReducible, IsIrreducible, IsIrreducibleList, IsConfluent, AreJoinable, IsSortDecreasing}
+use Rattle.fvn_terms.specs.Rewriting.{Rewrites, TermSequence, ListSequence, IsReducible, IsIrreducible, IsIrreducibleList, IsConfluent, AreJoinable, IsSortDecreasing, BringsNoVariable}
 use Rattle.fvn_terms.specs.Variants.{IsVariant, IsWithin, Covers, OccursInSome}
 use Rattle.fvn_forms.specs.FitsKinds.{FitsKinds}
 use Rattle.fvn_forms.specs.Canon.{canon}
@@ -26,6 +26,8 @@ use Rattle.fvn_rewriting.specs.Identities.{identities}
 use Rattle.fvn_rewriting.specs.Choices.{sort_choices, identity_choices, IsChoice}
 use Rattle.fvn_rewriting.specs.Admissible.{IsLoss, CollapsesToVariable, CollapsesToIdentity}
 use Rattle.fvn_rewriting.specs.Lists.{EachHasSequence}
+use Rattle.fvn_forms.specs.Flat.{FlatTerm, plain}
+use Rattle.fvn_flat.specs.Rules.{IsRuleOf}
 use Rattle.fvn_rewriting.specs.Agreement.{AgreeOn, AgreeOnAll, AgreeOnVariables, TakesBack}
 use Rattle.fvn_rewriting.specs.Kinds.{HasOneKind, HaveOneKind}
 
@@ -118,3 +120,16 @@ pub record ChoiceLaws (d : Declarations) : Type 0 where
 -- in a good signature
 abbrev pub ChoicesAreEnough : Type 0
 ChoicesAreEnough = (d : Declarations) → IsGood d → IsCompleted d → ChoiceLaws d
+
+-- what holds of the rules that are made from equations: their identity instances, and the extensions of these
+pub record RuleLaws (d : Declarations) (equations : Equations) : Type 0 where
+  -- an instance of a rule is a step
+  pub steps : (l r : FlatTerm) → IsRuleOf d equations l r → (s : Substitution) → IsWellSorted d s → Rewrites d equations (apply s (plain l)) (apply s (plain r))
+  -- the right side of a rule brings no variable, where those of the equations bring none
+  pub variables : BringsNoVariable equations → (l r : FlatTerm) → IsRuleOf d equations l r → (x : Var) → Occurs x (plain r) → Occurs x (plain l)
+  -- both sides of a rule have one kind
+  pub kinds : (l r : FlatTerm) → IsRuleOf d equations l r → HasOneKind d (plain l, plain r)
+
+-- in a good signature, for equations whose sides have one kind each
+abbrev pub RulesAreLawful : Type 0
+RulesAreLawful = (d : Declarations) → IsGood d → IsCompleted d → (equations : Equations) → HaveOneKind d equations → RuleLaws d equations

@@ -6,6 +6,7 @@ ghost use Rattle.fvn_rewriting.specs.Laws.{
   KindedTheoriesAreLawful,
   ShapesAreExact,
   ChoicesAreEnough,
+  RulesAreLawful,
 };
 
 use fvn_terms::rewriting_is_lawful;
@@ -47,3 +48,10 @@ pub fn shapes_are_exact()
 pub fn choices_are_enough()
     ensures { ChoicesAreEnough }
 {}
+
+/// Instances of the rules that are made from equations are steps, and bring no variable.
+pub fn rules_are_lawful()
+    ensures { RulesAreLawful }
+{
+    rewriting_is_lawful();
+}

@@ -6,6 +6,6 @@ mod shapes;
 
 pub use laws::{
     agreement_is_lawful, choices_are_enough, kinded_theories_are_lawful, lists_are_lawful,
-    sequences_are_lawful, shapes_are_exact,
+    rules_are_lawful, sequences_are_lawful, shapes_are_exact,
 };
 pub use shapes::{Face, Shape};
