@@ -11,7 +11,7 @@ use Rattle.fvn_rewriting.specs.declared.shapes.Shape.{Shape}
 use Rattle.fvn_rewriting.specs.Shapes.{is_face_of, sorts_of, compound, shape_over}
 
 module _ (d : Declarations) (f : OpId) where
-  pub over_none : (ss : List Shape) → length ss ≡ 0 → record { face = Constant f; sort = result d f [] } ≡ shape_over d f ss
+  pub over_none : (ss : List Shape) → length ss ≡ 0 → shape_over d f [] ≡ shape_over d f ss
   over_none [] e = refl
   over_none (s ∷ ss) e = absurd (omega (arith, e))
 

@@ -1,6 +1,6 @@
 -- Lists that grow by one step of a loop.
 use Rattle.std.proofs.Common.{◌≡◌, ◌<◌, ◌+◌, ℕ, Bool, List, [], ◌∷◌, ◌++◌, map, length, take, get_or, refl, sym, ap, ◌∙◌}
-use Rattle.std.proofs.lemmas.List.{take_more}
+use Rattle.std.proofs.lemmas.List.{take_more, map_more, append_assoc}
 use Rattle.fvn_terms.specs.declared.plain.Plain.{Plain}
 use Rattle.fvn_terms.specs.declared.plain.Var.{Var}
 use Rattle.fvn_terms.specs.declared.plain.OpId.{OpId}
@@ -28,3 +28,10 @@ with_variables-push (t ∷ us) u vars = with_variables-push us u (with_variables
 pub with_variables-step : (us : List Plain) (i : ℕ) (u : Plain) (vars : List Var) → i < length us → u ≡ get_or us i u → with_variables_among (terms (take (i + 1) us)) vars ≡ with_variables_of (term u) (with_variables_among (terms (take i us)) vars)
 with_variables-step us i u vars within is =
     ap (λ l. with_variables_among (terms l) vars) (take_more us i u within ∙ ap (λ p. take i us ++ p ∷ []) (sym is)) ∙ with_variables-push (take i us) u vars
+
+-- one element more at the end, after others
+pub map-append-step : {A B : Type 0} (f : A → B) (xs : List B) (ys : List A) (i : ℕ) (y : A) (z : B) → i < length ys → y ≡ get_or ys i y → z ≡ f y → (xs ++ map f (take i ys)) ++ z ∷ [] ≡ xs ++ map f (take (i + 1) ys)
+map-append-step f xs ys i y z within is e =
+    append_assoc xs (map f (take i ys)) (z ∷ [])
+    ∙ ap (λ v. xs ++ (map f (take i ys) ++ v ∷ [])) (e ∙ ap f is)
+    ∙ ap (λ l. xs ++ l) (sym (map_more f ys i y within))

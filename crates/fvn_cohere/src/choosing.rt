@@ -1,8 +1,7 @@
 //! What the variables of a term may stand for.
-ghost use Rattle.std.specs.Prelude.{◌≡◌, [], ◌++◌, map, IfOk};
-ghost use Rattle.fvn_terms.specs.declared.plain.Var.{Var};
+ghost use Rattle.std.specs.Prelude.{◌≡◌, ◌∷◌, ◌++◌, map, IfOk};
 ghost use Rattle.fvn_rewriting.specs.Identities.{identities};
-ghost use Rattle.fvn_rewriting.specs.Choices.{variable_shape, identity_shape};
+ghost use Rattle.fvn_rewriting.specs.Choices.{variable_shape, identity_shape, sorts_below};
 ghost use Rattle.fvn_cohere.specs.inner.Searching.{choices_for, unchosen_of};
 
 use crate::identities::{identities_below, sorts_below};
@@ -27,6 +26,17 @@ fn variable_shapes(alloc: Global, sorts: &[SortId]) -> Result<Vec<Shape>, NoMemo
     Ok(all)
 }
 
+// The identity as a shape.
+fn identity_shape(sig: &Signature, e: OpId) -> Shape
+    ensures { result ≡ identity_shape sig.now e }
+{
+    let sort = sig.result(e, &[]);
+    Shape {
+        face: Face::Constant(e),
+        sort,
+    }
+}
+
 // Some shapes, and then those of these identities.
 fn with_identity_shapes(
     sig: &Signature,
@@ -37,11 +47,38 @@ fn with_identity_shapes(
 {
     let mut all = shapes;
     for e in es {
-        all.push(Shape {
-            face: Face::Constant(*e),
-            sort: sig.result(*e, &[]),
-        })?;
+        let shape = identity_shape(sig, *e);
+        all.push(shape)?;
     }
+    Ok(all)
+}
+
+// A variable of a sort at or below this one, or one of these identities.
+fn lower_or_identities(
+    alloc: Global,
+    sig: &Signature,
+    es: &[OpId],
+    s: SortId,
+) -> Result<Vec<Shape>, NoMemory>
+    ensures { IfOk result (λ all. all.items ≡ map variable_shape (sorts_below sig.now s) ++ map (identity_shape sig.now) es.now) }
+{
+    let sorts = sorts_below(alloc, sig, s)?;
+    let first = variable_shapes(alloc, sorts.as_slice())?;
+    let all = with_identity_shapes(sig, first, es)?;
+    Ok(all)
+}
+
+// A variable of this sort, or one of these identities.
+fn itself_or_identities(
+    alloc: Global,
+    sig: &Signature,
+    es: &[OpId],
+    s: SortId,
+) -> Result<Vec<Shape>, NoMemory>
+    ensures { IfOk result (λ all. all.items ≡ variable_shape s ∷ map (identity_shape sig.now) es.now) }
+{
+    let first = variable_shapes(alloc, &[s])?;
+    let all = with_identity_shapes(sig, first, es)?;
     Ok(all)
 }
 
@@ -57,15 +94,21 @@ fn choices(
     ensures { IfOk result (λ all. all.items ≡ choices_for sig.now sought s) }
 {
     let below = identities_below(alloc, sig, es, s)?;
-    if sought == Sought::Loss {
-        let sorts = sorts_below(alloc, sig, s)?;
-        let first = variable_shapes(alloc, sorts.as_slice())?;
-        let all = with_identity_shapes(sig, first, below.as_slice())?;
-        return Ok(all);
+    let ids = below.as_slice();
+    match sought {
+        Sought::Loss => {
+            let all = lower_or_identities(alloc, sig, ids, s)?;
+            Ok(all)
+        }
+        Sought::ToVariable => {
+            let all = itself_or_identities(alloc, sig, ids, s)?;
+            Ok(all)
+        }
+        Sought::ToIdentity => {
+            let all = itself_or_identities(alloc, sig, ids, s)?;
+            Ok(all)
+        }
     }
-    let first = variable_shapes(alloc, &[s])?;
-    let all = with_identity_shapes(sig, first, below.as_slice())?;
-    Ok(all)
 }
 
 // The variables with their choices.

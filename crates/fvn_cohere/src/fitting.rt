@@ -59,8 +59,10 @@ pub fn instances_fit(alloc: Global, sig: &Signature, left: &Plain) -> Result<boo
     let mut by_sorts: u64 = 1;
     for x in vars.as_slice() {
         let n = counts(alloc, sig, es.as_slice(), x.sort)?;
-        by_identities = times(by_identities, 1, n.0);
-        by_sorts = times(by_sorts, n.1, n.0);
+        let few = times(by_identities, 1, n.0);
+        let many = times(by_sorts, n.1, n.0);
+        by_identities = few;
+        by_sorts = many;
     }
     Ok(are_within(by_identities, by_sorts))
 }

@@ -1,5 +1,5 @@
 //! The identities of a signature, and the sorts and identities at or below a sort.
-ghost use Rattle.std.specs.Prelude.{◌≡◌, [], filter, IfOk};
+ghost use Rattle.std.specs.Prelude.{◌≡◌, [], filter, nat_lt, IfOk};
 ghost use Rattle.fvn_terms.specs.declared.plain.OpId.{OpId};
 ghost use Rattle.fvn_forms.specs.Canon.{identity};
 ghost use Rattle.fvn_forms.specs.SortOrder.{at_or_below};
@@ -79,6 +79,14 @@ pub(crate) fn identities(alloc: Global, sig: &Signature) -> Result<Vec<OpId>, No
     Ok(all)
 }
 
+// Whether the sort of a constant is this one or below it.
+fn stands_below(sig: &Signature, e: OpId, s: SortId) -> bool
+    ensures { result ≡ at_or_below sig.now (least_result sig.now e []) s }
+{
+    let low = sig.result(e, &[]);
+    is_at_or_below(sig, low, s)
+}
+
 // Those whose sort is this one or below it.
 pub(crate) fn identities_below(
     alloc: Global,
@@ -90,7 +98,7 @@ pub(crate) fn identities_below(
 {
     let mut all = Vec::new(alloc);
     for e in es {
-        if !is_at_or_below(sig, sig.result(*e, &[]), s) {
+        if !stands_below(sig, *e, s) {
             continue;
         }
         all.push(*e)?;
@@ -111,6 +119,14 @@ fn declared_below(alloc: Global, sig: &Signature, s: SortId) -> Result<Vec<SortI
     Ok(all)
 }
 
+// Whether the sort is declared, and so no kind.
+fn is_declared(sig: &Signature, s: SortId) -> bool
+    ensures { result ≡ nat_lt s.0 sig.now.sorts }
+{
+    let sorts = sig.declarations().sorts;
+    s.0 < sorts
+}
+
 // The sorts at or below a sort.
 pub(crate) fn sorts_below(
     alloc: Global,
@@ -120,7 +136,7 @@ pub(crate) fn sorts_below(
     ensures { IfOk result (λ all. all.items ≡ sorts_below sig.now s) }
 {
     let mut all = declared_below(alloc, sig, s)?;
-    if s.0 < sig.declarations().sorts {
+    if is_declared(sig, s) {
         return Ok(all);
     }
     all.push(s)?;

@@ -74,7 +74,7 @@ fn compound(sig: &Signature, f: OpId, shapes: &[Shape]) -> Shape
 }
 
 // One of the shapes.
-fn at(shapes: &[Shape], i: usize) -> Shape
+fn shape_at(shapes: &[Shape], i: usize) -> Shape
     requires { i < length shapes.now }
     ensures { slice_index_or shapes.now i result ≡ result }
 {
@@ -95,8 +95,8 @@ fn shape_over(sig: &Signature, f: OpId, shapes: &[Shape]) -> Shape
     if shapes.len() != 2 {
         return compound(sig, f, shapes);
     }
-    let a = at(shapes, 0);
-    let b = at(shapes, 1);
+    let a = shape_at(shapes, 0);
+    let b = shape_at(shapes, 1);
     let e = identity_in(sig.axioms(f));
     if is_face_of(e, a.face) {
         return b;

@@ -1,8 +1,8 @@
 -- Lemmas of rewriting; the public ones are for callers.
-pub mod Sequences
+mod Sequences
 pub mod Lists
 pub mod Agreement
-pub mod Kinded
+mod Kinded
 pub mod Shaping
 pub mod Identities
 pub mod Trimming

@@ -17,11 +17,11 @@ loop-x-preserved c =
     let items : List Var = c.as_slice-x-items.result.now in
     record {
       identity_instances =
-          c.times.ensures
+          c.times-few.ensures
           ∙ ap (λ k. capped (c.loop-x.by_identities * capped (1 + k))) c.in_ok-n.ensures.0
           ∙ product-step (λ (x : Var). 1 + length (identities_below d x.sort)) items c.loop-x.x-index c.x-item.result c.loop-x.by_identities c.loop-x-test.true c.x-item.is c.loop-x.invariant.identity_instances;
       sort_instances =
-          c.times-2.ensures
+          c.times-many.ensures
           ∙ ap (λ k. capped (c.loop-x.by_sorts * capped (k + c.in_ok-n.n.0))) c.in_ok-n.ensures.1
           ∙ ap (λ k. capped (c.loop-x.by_sorts * capped (length (sorts_below d c.x-item.result.sort) + k))) c.in_ok-n.ensures.0
           ∙ product-step (λ (x : Var). length (sorts_below d x.sort) + length (identities_below d x.sort)) items c.loop-x.x-index c.x-item.result c.loop-x.by_sorts c.loop-x-test.true c.x-item.is c.loop-x.invariant.sort_instances;

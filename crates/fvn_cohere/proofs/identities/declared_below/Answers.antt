@@ -1,5 +1,5 @@
 -- One sort more.
-use Rattle.std.proofs.Common.{◌++◌, [], ◌∷◌, Bool, cond, sym, ap, ◌∙◌, arith}
+use Rattle.std.proofs.Common.{◌≡◌, ◌++◌, [], ◌∷◌, Bool, cond, sym, ap, ◌∙◌, arith}
 use Rattle.std.specs.Prelude.{filter}
 use Rattle.std.proofs.lemmas.List.{append-nil}
 use Rattle.std.proofs.lemmas.List.FromFn.{filter_of_map_range_with_len_more}
@@ -21,4 +21,6 @@ loop-n-preserved c =
     ]
 
 pub returns : goal.returns
-returns c = c.loop-n.invariant ∙ ap (λ n. filter (λ (q : SortId). at_or_below c.args.sig.now q c.args.s) (first_sorts n)) (omega arith)
+returns c =
+    let at : c.loop-n.n ≡ c.declarations.result.now.sorts = omega (arith, c.loop-n-test.false, c.loop-n.auto.n-end) in
+    c.loop-n.invariant ∙ ap (λ n. filter (λ (q : SortId). at_or_below c.args.sig.now q c.args.s) (first_sorts n)) (at ∙ ap (λ q. q.sorts) c.declarations.ensures)

@@ -15,18 +15,18 @@ returns-then-shapes-ne2 c = c.compound.ensures ∙ over_others c.args.sig.now c.
 
 pub returns-then-is_face_of : goal.returns-then-is_face_of
 returns-then-is_face_of c =
-    over_left c.args.sig.now c.args.f c.args.shapes.now c.at-a.result c.at-b.result c.if-shapes-ne2.false (sym c.at-a.ensures) (sym c.at-b.ensures)
-    (ap (λ i. is_face_of i c.at-a.result.face) (sym (c.identity_in-e.ensures ∙ ap identity c.axioms.ensures)) ∙ sym c.is_face_of.ensures ∙ c.if-is_face_of.true)
+    over_left c.args.sig.now c.args.f c.args.shapes.now c.shape_at-a.result c.shape_at-b.result c.if-shapes-ne2.false (sym c.shape_at-a.ensures) (sym c.shape_at-b.ensures)
+    (ap (λ i. is_face_of i c.shape_at-a.result.face) (sym (c.identity_in-e.ensures ∙ ap identity c.axioms.ensures)) ∙ sym c.is_face_of.ensures ∙ c.if-is_face_of.true)
 
 pub returns-then-is_face_of-2 : goal.returns-then-is_face_of-2
 returns-then-is_face_of-2 c =
-    over_right c.args.sig.now c.args.f c.args.shapes.now c.at-a.result c.at-b.result c.if-shapes-ne2.false (sym c.at-a.ensures) (sym c.at-b.ensures)
-    (ap (λ i. is_face_of i c.at-a.result.face) (sym (c.identity_in-e.ensures ∙ ap identity c.axioms.ensures)) ∙ sym c.is_face_of.ensures ∙ c.if-is_face_of.false)
-    (ap (λ i. is_face_of i c.at-b.result.face) (sym (c.identity_in-e.ensures ∙ ap identity c.axioms.ensures)) ∙ sym c.is_face_of-2.ensures ∙ c.if-is_face_of-2.true)
+    over_right c.args.sig.now c.args.f c.args.shapes.now c.shape_at-a.result c.shape_at-b.result c.if-shapes-ne2.false (sym c.shape_at-a.ensures) (sym c.shape_at-b.ensures)
+    (ap (λ i. is_face_of i c.shape_at-a.result.face) (sym (c.identity_in-e.ensures ∙ ap identity c.axioms.ensures)) ∙ sym c.is_face_of.ensures ∙ c.if-is_face_of.false)
+    (ap (λ i. is_face_of i c.shape_at-b.result.face) (sym (c.identity_in-e.ensures ∙ ap identity c.axioms.ensures)) ∙ sym c.is_face_of-2.ensures ∙ c.if-is_face_of-2.true)
 
 pub returns : goal.returns
 returns c =
     c.compound.ensures
-    ∙ over_two c.args.sig.now c.args.f c.args.shapes.now c.at-a.result c.at-b.result c.if-shapes-ne2.false (sym c.at-a.ensures) (sym c.at-b.ensures)
-    (ap (λ i. is_face_of i c.at-a.result.face) (sym (c.identity_in-e.ensures ∙ ap identity c.axioms.ensures)) ∙ sym c.is_face_of.ensures ∙ c.if-is_face_of.false)
-    (ap (λ i. is_face_of i c.at-b.result.face) (sym (c.identity_in-e.ensures ∙ ap identity c.axioms.ensures)) ∙ sym c.is_face_of-2.ensures ∙ c.if-is_face_of-2.false)
+    ∙ over_two c.args.sig.now c.args.f c.args.shapes.now c.shape_at-a.result c.shape_at-b.result c.if-shapes-ne2.false (sym c.shape_at-a.ensures) (sym c.shape_at-b.ensures)
+    (ap (λ i. is_face_of i c.shape_at-a.result.face) (sym (c.identity_in-e.ensures ∙ ap identity c.axioms.ensures)) ∙ sym c.is_face_of.ensures ∙ c.if-is_face_of.false)
+    (ap (λ i. is_face_of i c.shape_at-b.result.face) (sym (c.identity_in-e.ensures ∙ ap identity c.axioms.ensures)) ∙ sym c.is_face_of-2.ensures ∙ c.if-is_face_of-2.false)
