@@ -1,5 +1,5 @@
 -- What is promised of the equations of a module.
-use Rattle.std.specs.Prelude.{◌≡◌, ◌≤◌, ◌+◌, ℕ, Bool, true, false, List, map, take, All, Contains, Option, Some, None, slice_get}
+use Rattle.std.specs.Prelude.{◌≡◌, ◌+◌, ℕ, Bool, true, false, List, take, All, Option, Some, None, slice_get}
 use Rattle.fvn_terms.specs.declared.plain.Var.{Var}
 use Rattle.fvn_terms.specs.declared.declarations.Declarations.{Declarations}
 use Rattle.fvn_terms.specs.Term.{Term}
@@ -12,10 +12,6 @@ use Rattle.fvn_cohere.specs.declared.collapsing.Collapse.{Collapse}
 use Rattle.fvn_cohere.specs.declared.collapsing.Collapse.TheVariants.{Variable, Identity}
 use Rattle.fvn_cohere.specs.declared.losing.Sides.{Sides}
 
--- the sides of an equation, as terms
-abbrev pub sides_of : Sides → Term × Term
-sides_of e = (term e.left, term e.right)
-
 module _ (d : Declarations) where
   -- the term collapses to a variable, or else to an identity, or to neither
   abbrev pub CollapsesAs : Term → Option Collapse → Type 0
@@ -27,6 +23,10 @@ module _ (d : Declarations) where
   pub record IsFitEquation (left right : Term) : Type 0 where
     pub kinds : HasOneKind d (left, right)
     pub brings_none : (x : Var) → Occurs x right → Occurs x left
+
+  -- each of these equations has sides of one kind, and brings no variable
+  abbrev pub AreFitEquations : List Sides → Type 0
+  AreFitEquations equations = All (λ (e : Sides). IsFitEquation (term e.left) (term e.right)) equations
 
   -- where it is told so, an instance loses a sort; else the equation is sort-decreasing
   abbrev pub LosesAs : Term → Term → Bool → Type 0

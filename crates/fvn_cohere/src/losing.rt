@@ -1,7 +1,7 @@
 //! Equations that lose a sort.
-ghost use Rattle.std.specs.Prelude.{◌≡◌, IfOk, OnOk, MatchOption, All};
+ghost use Rattle.std.specs.Prelude.{MatchOption, IfOk};
 ghost use Rattle.fvn_terms.specs.Plain.{term};
-ghost use Rattle.fvn_cohere.specs.Promises.{sides_of, IsFitEquation, LosesAs, IsFirstLoss, AreDecreasing};
+ghost use Rattle.fvn_cohere.specs.Promises.{IsFitEquation, AreFitEquations, LosesAs, IsFirstLoss, AreDecreasing};
 
 use crate::choosing::unchosen;
 use crate::identities::identities;
@@ -59,7 +59,7 @@ pub fn sort_loss(
     sig: &Signature,
     equations: &[Sides],
 ) -> Result<Option<usize>, NoMemory>
-    requires { All (λ e. IsFitEquation sig.now (term e.left) (term e.right)) equations.now }
+    requires { AreFitEquations sig.now equations.now }
     ensures { IfOk result (λ n. MatchOption n (AreDecreasing sig.now equations.now) (IsFirstLoss sig.now equations.now)) }
 {
     for i in 0..equations.len() {
