@@ -1,6 +1,7 @@
 -- Arguments of terms: their nodes, their kinds, and how many there are.
-use Rattle.std.proofs.Common.{◌≡◌, ℕ, zero, suc, ◌<◌, ◌≤◌, List, [], ◌∷◌, map, length, get_or, refl, sym, ap, subst, ◌∙◌, arith}
-use Rattle.std.proofs.lemmas.List.{length-map}
+use Rattle.std.proofs.Common.{◌≡◌, ℕ, zero, suc, ◌<◌, ◌≤◌, List, [], ◌∷◌, map, length, take, get_or, refl, sym, ap, subst, ◌∙◌, arith}
+use Rattle.std.proofs.lemmas.List.{length-map, length-take}
+use Rattle.std.proofs.Math.Nat.{min-le_right}
 use Rattle.fvn_terms.specs.declared.plain.OpId.{OpId}
 use Rattle.fvn_terms.specs.declared.plain.SortId.{SortId}
 use Rattle.fvn_terms.specs.declared.plain.Plain.{Plain}
@@ -9,6 +10,10 @@ use Rattle.fvn_terms.specs.Term.{Terms, app, none, more, nodes, nodes_all}
 use Rattle.fvn_terms.specs.Plain.{term, terms}
 use Rattle.fvn_terms.specs.Signature.{kind, HaveKinds, IsTerm}
 use Rattle.fvn_forms.specs.Good.{IsGood}
+
+-- the front of a list is no longer than the list
+pub take_short : {A : Type 0} (i : ℕ) (l : List A) (n : ℕ) → length l ≡ n → length (take i l) ≤ n
+take_short i l n e = subst (λ m. length (take i l) ≤ m) e (subst (λ m. m ≤ length l) (sym (length-take i l)) (min-le_right i (length l)))
 
 -- an argument has no more nodes than all
 pub nodes_at : (items : List Plain) (us : Terms) (i : ℕ) (t : Plain) → terms items ≡ us → i < length items → t ≡ get_or items i t → nodes (term t) ≤ nodes_all us

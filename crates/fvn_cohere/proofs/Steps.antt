@@ -5,9 +5,11 @@ use Rattle.fvn_terms.specs.declared.plain.Plain.{Plain}
 use Rattle.fvn_terms.specs.declared.plain.Var.{Var}
 use Rattle.fvn_terms.specs.declared.plain.OpId.{OpId}
 use Rattle.fvn_terms.specs.declared.declarations.OpDecl.{OpDecl}
+use Rattle.fvn_terms.specs.declared.plain.SortId.{SortId}
 use Rattle.fvn_terms.specs.Term.{Terms}
 use Rattle.fvn_terms.specs.Plain.{term, terms}
 use Rattle.fvn_forms.specs.Canon.{identity}
+use Rattle.fvn_rewriting.specs.declared.shapes.Shape.{Shape}
 use Rattle.fvn_rewriting.specs.Identities.{with_some_operator, with_identities}
 use Rattle.fvn_rewriting.specs.Choices.{with_variables_of, with_variables_among}
 
@@ -30,8 +32,13 @@ with_variables-step us i u vars within is =
     ap (λ l. with_variables_among (terms l) vars) (take_more us i u within ∙ ap (λ p. take i us ++ p ∷ []) (sym is)) ∙ with_variables-push (take i us) u vars
 
 -- one element more at the end, after others
-pub map-append-step : {A B : Type 0} (f : A → B) (xs : List B) (ys : List A) (i : ℕ) (y : A) (z : B) → i < length ys → y ≡ get_or ys i y → z ≡ f y → (xs ++ map f (take i ys)) ++ z ∷ [] ≡ xs ++ map f (take (i + 1) ys)
-map-append-step f xs ys i y z within is e =
+pub map-append-step : {A B : Type 0} (f : A → B) (xs : List B) (ys : List A) (i : ℕ) (d : A) (z : B) → i < length ys → z ≡ f (get_or ys i d) → (xs ++ map f (take i ys)) ++ z ∷ [] ≡ xs ++ map f (take (i + 1) ys)
+map-append-step f xs ys i d z within e =
     append_assoc xs (map f (take i ys)) (z ∷ [])
-    ∙ ap (λ v. xs ++ (map f (take i ys) ++ v ∷ [])) (e ∙ ap f is)
-    ∙ ap (λ l. xs ++ l) (sym (map_more f ys i y within))
+    ∙ ap (λ v. xs ++ (map f (take i ys) ++ v ∷ [])) e
+    ∙ ap (λ l. xs ++ l) (sym (map_more f ys i d within))
+
+-- the sort of one shape more
+pub sorts-step : (list : List Shape) (front : List SortId) (i : ℕ) (d : Shape) (s : SortId) → i < length list → front ≡ map (λ (z : Shape). z.sort) (take i list) → s ≡ (get_or list i d).sort → front ++ s ∷ [] ≡ map (λ (z : Shape). z.sort) (take (i + 1) list)
+sorts-step list front i d s within e is =
+    ap (λ l. l ++ s ∷ []) e ∙ ap (λ q. map (λ (z : Shape). z.sort) (take i list) ++ q ∷ []) is ∙ sym (map_more (λ (z : Shape). z.sort) list i d within)

@@ -9,7 +9,7 @@ pub loop-e-preserved : goal.loop-e-preserved
 loop-e-preserved c =
     c.in_ok-push.ensures.items
     ∙ ap (λ l. l ++ c.identity_shape-shape.result ∷ []) c.loop-e.invariant
-    ∙ map-append-step (identity_shape c.args.sig.now) c.args.shapes.items c.args.es.now c.loop-e.e-index c.e-item.result c.identity_shape-shape.result c.loop-e-test.true c.e-item.is c.identity_shape-shape.ensures
+    ∙ map-append-step (identity_shape c.args.sig.now) c.args.shapes.items c.args.es.now c.loop-e.e-index _ c.identity_shape-shape.result c.loop-e-test.true c.identity_shape-shape.ensures
 
 pub returns : goal.returns
 returns c = c.loop-e.invariant ∙ ap (λ l. c.args.shapes.items ++ map (identity_shape c.args.sig.now) l) (take_all c.loop-e.e-index c.args.es.now c.loop-e-test.false)

@@ -9,11 +9,11 @@ use Rattle.fvn_cohere.proofs.losing.loses_sort.Goals as goal
 pub unchosen-requires : goal.unchosen-requires
 unchosen-requires c = c.as_slice-ids.ensures.value ∙ c.in_ok-es.ensures
 
-pub find-requires-clause-left : goal.find-requires-clause-left
-find-requires-clause-left c = (c.requires.kinds.kind, c.requires.kinds.left)
+pub find-loses-requires-clause-left : goal.find-loses-requires-clause-left
+find-loses-requires-clause-left c = (c.requires.kinds.kind, c.requires.kinds.left)
 
-pub find-requires-clause-right : goal.find-requires-clause-right
-find-requires-clause-right c = (c.requires.kinds.kind, c.requires.kinds.right)
+pub find-loses-requires-clause-right : goal.find-loses-requires-clause-right
+find-loses-requires-clause-right c = (c.requires.kinds.kind, c.requires.kinds.right)
 
 pub returns : goal.returns
 returns c =

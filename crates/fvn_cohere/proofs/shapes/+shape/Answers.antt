@@ -10,7 +10,7 @@ use Rattle.fvn_terms.specs.Signature.{IsTerm}
 use Rattle.fvn_rewriting.specs.declared.shapes.Shape.{Shape}
 use Rattle.fvn_rewriting.specs.Shapes.{shape_over, shape_in, shapes_in}
 use Rattle.fvn_cohere.specs.inner.Searching.{shapes_by}
-use Rattle.fvn_cohere.proofs.Arguments.{argument, few}
+use Rattle.fvn_cohere.proofs.Arguments.{take_short, argument, few}
 use Rattle.fvn_cohere.proofs.shapes.+shape.Goals as goal
 
 shapes_of_terms : (d : Declarations) (env : Var → Shape) (items : List Plain) → map (λ (t : Plain). shape_in d env (term t)) items ≡ shapes_in d env (terms items)
@@ -48,9 +48,7 @@ shape_app-loop-u-preserved t c =
     }
 
 pub shape_app-shape_over-requires : goal.shape_app-shape_over-requires
-shape_app-shape_over-requires t c =
-    let whole : terms c.deref-u-items.result.now ≡ c.args.us.now = ap terms c.deref-u-items.ensures.value ∙ c.us.view_is in
-    omega (arith, few c.args.sig.now c.args.f c.deref-u-items.result.now c.args.us.now whole c.requires c.recall_good.ensures)
+shape_app-shape_over-requires t c = take_short c.loop-u.i c.loop-u.shapes 8 c.loop-u.invariant.room
 
 pub shape_app-returns : goal.shape_app-returns
 shape_app-returns t c =

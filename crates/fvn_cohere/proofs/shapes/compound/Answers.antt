@@ -1,9 +1,10 @@
 -- One sort more, and all of them.
-use Rattle.std.proofs.Common.{◌≡◌, ◌<◌, ◌++◌, List, [], ◌∷◌, map, length, take, sym, ap, ◌∙◌, arith}
-use Rattle.std.proofs.lemmas.List.{take_more_set, map_more, take_all, length-set}
+use Rattle.std.proofs.Common.{◌≡◌, ◌<◌, List, map, length, take, refl, ap, ◌∙◌, arith}
+use Rattle.std.proofs.lemmas.List.{take_more_set, take_all, length-set}
 use Rattle.fvn_forms.specs.Ranks.{result}
 use Rattle.fvn_rewriting.specs.declared.shapes.Shape.{Shape}
 use Rattle.fvn_rewriting.specs.Shapes.{compound}
+use Rattle.fvn_cohere.proofs.Steps.{sorts-step}
 use Rattle.fvn_cohere.proofs.shapes.compound.Goals as goal
 
 pub bounds-sorts-i : goal.bounds-sorts-i
@@ -12,17 +13,12 @@ bounds-sorts-i c = omega (arith, c.requires)
 pub loop-shape-preserved : goal.loop-shape-preserved
 loop-shape-preserved c =
     let list : List Shape = c.args.shapes.now in
-    let of = λ (s : Shape). s.sort in
     let room : length c.loop-shape.sorts ≡ 8 = c.loop-shape.invariant.room in
     let within : c.loop-shape.i < length c.loop-shape.sorts = omega (arith, c.requires) in
     record {
       count = omega arith;
-      room = length-set c.loop-shape.sorts c.loop-shape.i c.shape-item.result.sort ∙ room;
-      sorts =
-          take_more_set c.loop-shape.sorts c.loop-shape.i c.shape-item.result.sort within
-          ∙ ap (λ l. l ++ c.shape-item.result.sort ∷ []) c.loop-shape.invariant.sorts
-          ∙ ap (λ s. map of (take c.loop-shape.shape-index list) ++ s ∷ []) (ap of c.shape-item.is)
-          ∙ sym (map_more of list c.loop-shape.shape-index c.shape-item.result c.loop-shape-test.true);
+      room = length-set c.loop-shape.sorts c.loop-shape.i _ ∙ room;
+      sorts = take_more_set c.loop-shape.sorts c.loop-shape.i _ within ∙ sorts-step list (take c.loop-shape.i c.loop-shape.sorts) c.loop-shape.shape-index _ _ c.loop-shape-test.true c.loop-shape.invariant.sorts refl;
     }
 
 pub returns : goal.returns

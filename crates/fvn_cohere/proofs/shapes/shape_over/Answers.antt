@@ -26,7 +26,7 @@ returns-then-is_face_of-2 c =
 
 pub returns : goal.returns
 returns c =
-    c.compound.ensures
+    c.compound-2.ensures
     ∙ over_two c.args.sig.now c.args.f c.args.shapes.now c.shape_at-a.result c.shape_at-b.result c.if-shapes-ne2.false (sym c.shape_at-a.ensures) (sym c.shape_at-b.ensures)
     (ap (λ i. is_face_of i c.shape_at-a.result.face) (sym (c.identity_in-e.ensures ∙ ap identity c.axioms.ensures)) ∙ sym c.is_face_of.ensures ∙ c.if-is_face_of.false)
     (ap (λ i. is_face_of i c.shape_at-b.result.face) (sym (c.identity_in-e.ensures ∙ ap identity c.axioms.ensures)) ∙ sym c.is_face_of-2.ensures ∙ c.if-is_face_of-2.false)
