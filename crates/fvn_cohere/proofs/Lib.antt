@@ -1,0 +1,9 @@
+-- Lemmas on searches through choices.
+mod Tests
+mod Steps
+mod Products
+mod Arguments
+mod Overs
+mod Sifting
+mod Firsts
+mod Found

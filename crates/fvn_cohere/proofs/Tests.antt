@@ -1,0 +1,41 @@
+-- What tests tell.
+use Rattle.std.proofs.Common.{◌≡◌, ◌↔◌, Bool, true, false, List, [], ◌∷◌, refl, sym, ap, ◌∙◌, subst, inl, inr, IsTrue}
+use Rattle.std.specs.Prelude.{◌||◌}
+use Rattle.std.specs.List.{Contains, list_any}
+use Rattle.fvn_base.proofs.Membership.{contains_here, contains_later, contains_cases, contains_none}
+use Rattle.std.proofs.lemmas.Bool.{false≢true, true≢false}
+use Rattle.fvn_terms.specs.declared.plain.SortId.{SortId}
+use Rattle.fvn_terms.specs.declared.declarations.Declarations.{Declarations}
+use Rattle.fvn_terms.specs.Signature.{AtOrBelow}
+use Rattle.fvn_forms.specs.SortOrder.{at_or_below}
+use Rattle.fvn_forms.proofs.SortTests.{at_or_below-true, at_or_below-complete}
+
+-- a test that tells what holds is the test of the definition
+pub below_test : (d : Declarations) (s q : SortId) (r : Bool) → IsTrue r ↔ AtOrBelow d s q → r ≡ at_or_below d s q
+below_test d s q true h = sym (at_or_below-complete d (h.0 refl))
+below_test d s q false h = go (at_or_below d s q) refl
+  where
+    go : (b : Bool) → at_or_below d s q ≡ b → false ≡ at_or_below d s q
+    go true e = absurd (false≢true (h.1 (at_or_below-true d s q e)))
+    go false e = sym e
+
+-- a test that some element passes
+module _ {A : Type 0} (p : A → Bool) where
+  pub any_true : (xs : List A) → list_any p xs ≡ true → (x : A) × (Contains xs x × (p x ≡ true))
+  any_true [] e = absurd (false≢true e)
+  any_true (x ∷ xs) e = go (p x) refl (any_true xs)
+    where
+      go : (b : Bool) → p x ≡ b → (list_any p xs ≡ true → (y : A) × (Contains xs y × (p y ≡ true))) → (y : A) × (Contains (x ∷ xs) y × (p y ≡ true))
+      go true h rest = (x, (contains_here x xs, h))
+      go false h rest = let r = rest (ap (λ b. b || list_any p xs) (sym h) ∙ e) in (r.0, (contains_later x xs r.0 r.1.0, r.1.1))
+
+  pub any_false : (xs : List A) → list_any p xs ≡ false → (x : A) → Contains xs x → p x ≡ false
+  any_false [] e x c = absurd (contains_none x c)
+  any_false (y ∷ xs) e x c = go (p y) refl (any_false xs)
+    where
+      go : (b : Bool) → p y ≡ b → (list_any p xs ≡ false → (z : A) → Contains xs z → p z ≡ false) → p x ≡ false
+      go true h rest = absurd (true≢false (ap (λ b. b || list_any p xs) (sym h) ∙ e))
+      go false h rest = elim (contains_cases y xs x c) [
+        | inl q ↦ subst (λ z. p z ≡ false) q h
+        | inr i ↦ rest (ap (λ b. b || list_any p xs) (sym h) ∙ e) x i
+      ]

@@ -1,0 +1,3 @@
+-- What mirrors the code.
+pub mod Capped
+pub mod Searching

@@ -1,0 +1,15 @@
+//! What the equations of a module lose and collapse to.
+#![tactic(auto)]
+
+mod choosing;
+mod collapsing;
+mod fitting;
+mod identities;
+mod losing;
+mod searching;
+mod shapes;
+mod variables;
+
+pub use collapsing::{Collapse, left_collapses};
+pub use fitting::instances_fit;
+pub use losing::{Sides, loses_sort, sort_loss};

@@ -1,0 +1,69 @@
+//! The variables of a term, each once.
+ghost use Rattle.std.specs.Prelude.{◌≡◌, IfOk};
+ghost use Rattle.fvn_terms.specs.Plain.{term};
+ghost use Rattle.fvn_flat.specs.Variables.{listed, with_variable};
+ghost use Rattle.fvn_rewriting.specs.Choices.{with_variables_of, with_variables_among, distinct_variables_of};
+
+use fvn_terms::{Args, NoMemory, Plain, Var};
+use std::alloc::Global;
+
+// Whether the variable stands in the list.
+fn is_listed(vars: &[Var], x: Var) -> bool
+    ensures { result ≡ listed vars.now x }
+{
+    for y in vars {
+        if *y == x {
+            return true;
+        }
+    }
+    false
+}
+
+// The variables with one more at the end, if it is not there yet.
+fn with_variable(vars: Vec<Var>, x: Var) -> Result<Vec<Var>, NoMemory>
+    ensures { IfOk result (λ all. all.items ≡ with_variable vars.items x) }
+{
+    let mut all = vars;
+    if is_listed(all.as_slice(), x) {
+        return Ok(all);
+    }
+    all.push(x)?;
+    Ok(all)
+}
+
+// The variables with those of a term that are not there yet.
+#[cycle(with_variables)]
+fn with_variables(vars: Vec<Var>, t: &Plain) -> Result<Vec<Var>, NoMemory>
+    ensures { IfOk result (λ all. all.items ≡ with_variables_of (term t.now) vars.items) }
+{
+    match t {
+        Plain::Var(x) => {
+            let all = with_variable(vars, *x)?;
+            Ok(all)
+        }
+        Plain::App(_, us) => {
+            let all = with_variables_among(vars, us)?;
+            Ok(all)
+        }
+    }
+}
+
+// The same for arguments, one after another.
+#[cycle(with_variables)]
+fn with_variables_among(vars: Vec<Var>, us: &Args) -> Result<Vec<Var>, NoMemory>
+    ensures { IfOk result (λ all. all.items ≡ with_variables_among us.now vars.items) }
+{
+    let mut all = vars;
+    for u in &us.items {
+        all = with_variables(all, u)?;
+    }
+    Ok(all)
+}
+
+// The variables of a term, each once, in order of first occurrence.
+pub(crate) fn distinct_variables(alloc: Global, t: &Plain) -> Result<Vec<Var>, NoMemory>
+    ensures { IfOk result (λ all. all.items ≡ distinct_variables_of (term t.now)) }
+{
+    let all = with_variables(Vec::new(alloc), t)?;
+    Ok(all)
+}

@@ -1,0 +1,23 @@
+-- Equations whose sides have one kind.
+use Rattle.std.specs.Prelude.{Contains}
+use Rattle.fvn_terms.specs.declared.plain.SortId.{SortId}
+use Rattle.fvn_terms.specs.declared.declarations.Declarations.{Declarations}
+use Rattle.fvn_terms.specs.Term.{Term}
+use Rattle.fvn_terms.specs.Signature.{HasKind}
+use Rattle.fvn_terms.specs.Theory.{Equations}
+use Rattle.fvn_terms.specs.Rewriting.{IsSortDecreasing}
+
+module _ (d : Declarations) where
+  -- both sides are well-kinded terms of one kind
+  pub record HasOneKind (equation : Term × Term) : Type 0 where
+    pub kind : SortId
+    pub left : HasKind d equation.0 kind
+    pub right : HasKind d equation.1 kind
+
+  -- each equation has sides of one kind
+  abbrev pub HaveOneKind : Equations → Type 0
+  HaveOneKind equations = (equation : Term × Term) → Contains equations equation → HasOneKind equation
+
+  -- each equation is sort-decreasing
+  abbrev pub AreSortDecreasing : Equations → Type 0
+  AreSortDecreasing equations = (equation : Term × Term) → Contains equations equation → IsSortDecreasing d equation.0 equation.1
