@@ -1,3 +1,4 @@
 -- What is promised of equations and their rules.
 pub mod Promises
+pub mod Given
 pub mod inner

@@ -11,3 +11,5 @@ pub mod Choosing
 pub mod Losing
 pub mod Collapsing
 pub mod RuleSteps
+pub mod Faces
+mod StepSorts
