@@ -1,4 +1,3 @@
 -- What is promised of equations and their rules.
 pub mod Promises
-pub mod Given
 pub mod inner

@@ -11,5 +11,3 @@ pub mod Choosing
 pub mod Losing
 pub mod Collapsing
 pub mod RuleSteps
-pub mod Faces
-mod StepSorts
