@@ -1,29 +1,61 @@
 -- Equations up to the first that loses a sort.
-use Rattle.std.proofs.Common.{◌≡◌, ◌≤◌, ◌<◌, ◌+◌, ℕ, Bool, true, false, List, [], ◌∷◌, ◌++◌, length, take, get_or, Option, Some, refl, sym, ap, ◌∙◌, subst, arith}
-use Rattle.std.specs.Prelude.{slice_get}
-use Rattle.std.specs.List.{All}
+use Rattle.std.proofs.Common.{◌≡◌, ◌≤◌, ◌<◌, ◌+◌, ℕ, zero, suc, Bool, true, false, List, [], ◌∷◌, ◌++◌, map, length, take, get_or, refl, sym, ap, ◌∙◌, subst, arith}
+use Rattle.std.specs.List.{All, Contains}
 use Rattle.std.proofs.lemmas.List.{take_more, take_all}
-use Rattle.std.proofs.lemmas.Option.{slice_get_read}
-use Rattle.std.proofs.lemmas.List.Elements.{All-push}
+use Rattle.std.proofs.lemmas.List.Elements.{All-push, All-contains}
+use Rattle.fvn_base.proofs.Membership.{map_contains}
 use Rattle.fvn_terms.specs.declared.declarations.Declarations.{Declarations}
 use Rattle.fvn_terms.specs.Plain.{term}
+use Rattle.fvn_terms.specs.Theory.{Equations}
 use Rattle.fvn_terms.specs.Rewriting.{IsSortDecreasing}
-use Rattle.fvn_cohere.specs.declared.losing.Sides.{Sides}
-use Rattle.fvn_cohere.specs.Promises.{LosesAs, AreDecreasing, IsFirstLoss}
+use Rattle.fvn_rewriting.specs.Kinds.{IsKindedEquation}
+use Rattle.fvn_rewriting.specs.Losses.{AreSortDecreasing, IsFirstLoss}
+use Rattle.fvn_module.specs.declared.equation.Equation.{Equation}
+use Rattle.fvn_module.specs.Readable.{IsReadableEquation}
+use Rattle.fvn_cohere.specs.Promises.{sides_of, equations_of, LosesAs}
 
-pub got : (equations : List Sides) (i : ℕ) (e : Sides) → i < length equations → e ≡ get_or equations i e → slice_get equations i ≡ Some e
-got equations i e within is = slice_get_read equations (length equations) i e refl within is
+-- the equations before one of them, it, and those after it
+split_at : (list : List Equation) (i : ℕ) (e : Equation) → i < length list → e ≡ get_or list i e → (after : Equations) × ((equations_of list ≡ equations_of (take i list) ++ (sides_of e ∷ after)) × (length (equations_of (take i list)) ≡ i))
+split_at [] i e within is = absurd (omega (arith, within))
+split_at (q ∷ list) zero e within is = (equations_of list, (ap (λ z. sides_of z ∷ equations_of list) (sym is), refl))
+split_at (q ∷ list) (suc i) e within is =
+    let r = split_at list i e (omega (arith, within)) is in
+    (r.0, (ap (λ l. sides_of q ∷ l) r.1.0, ap suc r.1.1))
 
-module _ (d : Declarations) (equations : List Sides) where
-  -- one equation more
-  pub decreasing_more : (i : ℕ) (e : Sides) → i < length equations → e ≡ get_or equations i e → AreDecreasing d (take i equations) → (b : Bool) → b ≡ false → LosesAs d (term e.left) (term e.right) b → AreDecreasing d (take (i + 1) equations)
-  decreasing_more i e within is h b no l =
-      subst (AreDecreasing d) (sym (take_more equations i e within ∙ ap (λ (z : Sides). take i equations ++ z ∷ []) (sym is)))
-      (All-push (λ (e : Sides). IsSortDecreasing d (term e.left) (term e.right)) (take i equations) e h (subst (LosesAs d (term e.left) (term e.right)) no l))
+module _ (d : Declarations) where
+  -- what was read of an equation is what is asked of it
+  pub kinded : (e : Equation) → IsReadableEquation d e → IsKindedEquation d (sides_of e)
+  kinded e h = record { kinds = record { kind = h.kind; left = h.left; right = h.right }; brings_none = h.brings_none }
 
-  -- the first that loses
-  pub first_loss : (i : ℕ) (e : Sides) → slice_get equations i ≡ Some e → AreDecreasing d (take i equations) → (b : Bool) → b ≡ true → LosesAs d (term e.left) (term e.right) b → IsFirstLoss d equations (i + 1)
-  first_loss i e is h b yes l = record { before = i; number = refl; equation = e; is = is; loses = subst (LosesAs d (term e.left) (term e.right)) yes l; earlier = h }
+  -- each of these equations is sort-decreasing
+  abbrev pub AreDecreasing : List Equation → Type 0
+  AreDecreasing list = All (λ (e : Equation). IsSortDecreasing d (term e.left) (term e.right)) list
 
-  pub all_decreasing : (i : ℕ) → length equations ≤ i → AreDecreasing d (take i equations) → AreDecreasing d equations
-  all_decreasing i past h = subst (AreDecreasing d) (take_all i equations past) h
+  pub decreasing_sides : (list : List Equation) → AreDecreasing list → AreSortDecreasing d (equations_of list)
+  decreasing_sides list h q c =
+      let w = map_contains sides_of list q c in
+      subst (λ z. IsSortDecreasing d z.0 z.1) w.1.1 (All-contains (λ (e : Equation). IsSortDecreasing d (term e.left) (term e.right)) list w.0 h w.1.0)
+
+  module _ (list : List Equation) where
+    -- one equation more
+    pub decreasing_more : (i : ℕ) (e : Equation) → i < length list → e ≡ get_or list i e → AreDecreasing (take i list) → (b : Bool) → b ≡ false → LosesAs d (term e.left) (term e.right) b → AreDecreasing (take (i + 1) list)
+    decreasing_more i e within is h b no l =
+        subst AreDecreasing (sym (take_more list i e within ∙ ap (λ (z : Equation). take i list ++ z ∷ []) (sym is)))
+        (All-push (λ (e : Equation). IsSortDecreasing d (term e.left) (term e.right)) (take i list) e h (subst (LosesAs d (term e.left) (term e.right)) no l))
+
+    -- the first that loses
+    pub first_loss : (i : ℕ) (e : Equation) → i < length list → e ≡ get_or list i e → AreDecreasing (take i list) → (b : Bool) → b ≡ true → LosesAs d (term e.left) (term e.right) b → IsFirstLoss d (equations_of list) (i + 1)
+    first_loss i e within is h b yes l =
+        let w = split_at list i e within is in
+        record {
+          before = equations_of (take i list);
+          equation = sides_of e;
+          after = w.0;
+          split = w.1.0;
+          number = ap (λ n. n + 1) (sym w.1.1);
+          earlier = decreasing_sides (take i list) h;
+          loses = subst (LosesAs d (term e.left) (term e.right)) yes l;
+        }
+
+    pub all_decreasing : (i : ℕ) → length list ≤ i → AreDecreasing (take i list) → AreSortDecreasing d (equations_of list)
+    all_decreasing i past h = decreasing_sides list (subst AreDecreasing (take_all i list past) h)

@@ -17,22 +17,24 @@ use Rattle.fvn_forms.specs.Good.{IsGood}
 use Rattle.fvn_forms.proofs.SortTests.{at_or_below-true, at_or_below-complete}
 use Rattle.fvn_sorts.specs.Queries.{IsCompleted}
 use Rattle.fvn_flat.proofs.Binding.{same_var_is, same_var_itself}
-use Rattle.fvn_rewriting.specs.declared.shapes.Face.{Face}
-use Rattle.fvn_rewriting.specs.declared.shapes.Face.TheVariants.{Variable, Constant, Compound}
+use Rattle.fvn_rewriting.specs.declared.shapes.Root.{Root}
+use Rattle.fvn_rewriting.specs.declared.shapes.Root.TheVariants.{Variable, Constant, Compound}
 use Rattle.fvn_rewriting.specs.declared.shapes.Shape.{Shape}
 use Rattle.fvn_rewriting.specs.Shapes.{shape_in}
 use Rattle.fvn_rewriting.specs.Identities.{is_listed_op, identities}
 use Rattle.fvn_rewriting.specs.Choices.{distinct_variables_of, sort_choices, identity_choices, IsChoice}
-use Rattle.fvn_rewriting.specs.Admissible.{CollapsesToVariable, CollapsesToIdentity, IsLoss}
+use Rattle.fvn_rewriting.specs.Kinds.{IsKindedEquation}
+use Rattle.fvn_rewriting.specs.Collapses.{CollapsesToVariable, CollapsesToIdentity}
+use Rattle.fvn_rewriting.specs.Losses.{IsLoss}
 use Rattle.fvn_rewriting.proofs.Identities.{op_listed, listed_op}
 use Rattle.fvn_rewriting.proofs.Listing.{distinct_listed, distinct_occurs}
 use Rattle.fvn_rewriting.proofs.Trimming.{shape_agrees}
 use Rattle.fvn_rewriting.proofs.Losing.{choice_loses, choices_decrease}
 use Rattle.fvn_rewriting.proofs.Collapsing.{variable_choice, identity_choice, choice_to_variable, choice_to_identity}
-use Rattle.fvn_cohere.specs.Promises.{IsFitEquation, LosesAs}
+use Rattle.fvn_cohere.specs.Promises.{LosesAs}
 use Rattle.fvn_cohere.specs.declared.searching.Sought.{Sought}
 use Rattle.fvn_cohere.specs.declared.searching.Sought.TheVariants.{Loss, ToVariable, ToIdentity}
-use Rattle.fvn_cohere.specs.inner.Searching.{with_shape, some_choice, unchosen_of, is_variable_face, is_identity_face, choices_for, is_met}
+use Rattle.fvn_cohere.specs.inner.Searching.{with_shape, some_choice, unchosen_of, is_variable_root, is_identity_root, choices_for, is_met}
 use Rattle.fvn_cohere.proofs.Tests.{any_true, any_false}
 
 module _ (choices : SortId → List Shape) (test : (Var → Shape) → Bool) where
@@ -107,15 +109,15 @@ module _ (choices : SortId → List Shape) (test : (Var → Shape) → Bool) whe
     ),
   )
 
-variable_face : (f : Face) → is_variable_face f ≡ true → f ≡ Variable
-variable_face Variable h = refl
-variable_face (Constant g) h = absurd (false≢true h)
-variable_face Compound h = absurd (false≢true h)
+variable_root : (f : Root) → is_variable_root f ≡ true → f ≡ Variable
+variable_root Variable h = refl
+variable_root (Constant g) h = absurd (false≢true h)
+variable_root Compound h = absurd (false≢true h)
 
-identity_face : (es : List OpId) (f : Face) → is_identity_face es f ≡ true → (e : OpId) × (Contains es e × (f ≡ Constant e))
-identity_face es Variable h = absurd (false≢true h)
-identity_face es (Constant g) h = (g, (op_listed es g h, refl))
-identity_face es Compound h = absurd (false≢true h)
+identity_root : (es : List OpId) (f : Root) → is_identity_root es f ≡ true → (e : OpId) × (Contains es e × (f ≡ Constant e))
+identity_root es Variable h = absurd (false≢true h)
+identity_root es (Constant g) h = (g, (op_listed es g h, refl))
+identity_root es Compound h = absurd (false≢true h)
 
 module _ (d : Declarations) (good : IsGood d) (completed : IsCompleted d) (env : Var → Shape) where
   module _ (t : Term) (is_term : IsTerm d t) where
@@ -135,29 +137,29 @@ module _ (d : Declarations) (good : IsGood d) (completed : IsCompleted d) (env :
     pub variable_found : searched ToVariable ≡ true → CollapsesToVariable d t
     variable_found h =
         let w = found_choice (identity_choices d) (is_met d ToVariable (identities d) t t) t env h in
-        choice_to_variable d good completed t is_term.0 is_term.1 w.0 w.1.0 (variable_face (shape_in d w.0 t).face w.1.1)
+        choice_to_variable d good completed t is_term.0 is_term.1 w.0 w.1.0 (variable_root (shape_in d w.0 t).root w.1.1)
 
     pub no_variable : searched ToVariable ≡ false → CollapsesToVariable d t → ⊥
     no_variable h c =
         let v = variable_choice d good completed t is_term.0 is_term.1 c in
         let n = no_choice (identity_choices d) (is_met d ToVariable (identities d) t t) t env h v.env v.choice in
-        let e : (shape_in d n.0 t).face ≡ Variable = ap (λ (s : Shape). s.face) (shape_agrees d n.0 v.env t n.1.0) ∙ v.is in
-        true≢false (sym (ap is_variable_face e) ∙ n.1.1)
+        let e : (shape_in d n.0 t).root ≡ Variable = ap (λ (s : Shape). s.root) (shape_agrees d n.0 v.env t n.1.0) ∙ v.is in
+        true≢false (sym (ap is_variable_root e) ∙ n.1.1)
 
     pub identity_found : searched ToIdentity ≡ true → CollapsesToIdentity d t
     identity_found h =
         let w = found_choice (identity_choices d) (is_met d ToIdentity (identities d) t t) t env h in
-        let g = identity_face (identities d) (shape_in d w.0 t).face w.1.1 in
+        let g = identity_root (identities d) (shape_in d w.0 t).root w.1.1 in
         choice_to_identity d good completed t is_term.0 is_term.1 w.0 w.1.0 g.0 g.1.0 g.1.1
 
     pub no_identity : searched ToIdentity ≡ false → CollapsesToIdentity d t → ⊥
     no_identity h c =
         let v = identity_choice d good completed t is_term.0 is_term.1 c in
         let n = no_choice (identity_choices d) (is_met d ToIdentity (identities d) t t) t env h v.env v.choice in
-        let e : (shape_in d n.0 t).face ≡ Constant v.is.0 = ap (λ (s : Shape). s.face) (shape_agrees d n.0 v.env t n.1.0) ∙ v.is.1.1 in
-        true≢false (sym (ap (is_identity_face (identities d)) e ∙ listed_op (identities d) v.is.0 v.is.1.0) ∙ n.1.1)
+        let e : (shape_in d n.0 t).root ≡ Constant v.is.0 = ap (λ (s : Shape). s.root) (shape_agrees d n.0 v.env t n.1.0) ∙ v.is.1.1 in
+        true≢false (sym (ap (is_identity_root (identities d)) e ∙ listed_op (identities d) v.is.0 v.is.1.0) ∙ n.1.1)
 
-  module _ (left right : Term) (fit : IsFitEquation d left right) where
+  module _ (left right : Term) (kinded : IsKindedEquation d (left, right)) where
     abbrev pub searched_loss : Bool
     searched_loss = some_choice (is_met d Loss (identities d) left right) (unchosen_of (sort_choices d) (distinct_variables_of left)) env
 
@@ -182,14 +184,14 @@ module _ (d : Declarations) (good : IsGood d) (completed : IsCompleted d) (env :
     pub loss_found : searched_loss ≡ true → IsLoss d left right
     loss_found h =
         let w = found_choice (sort_choices d) (is_met d Loss (identities d) left right) left env h in
-        choice_loses d good completed left right fit.kinds fit.brings_none w.0 w.1.0 (not_below (shape_in d w.0 right).sort (shape_in d w.0 left).sort w.1.1)
+        choice_loses d good completed left right kinded.kinds kinded.brings_none w.0 w.1.0 (not_below (shape_in d w.0 right).sort (shape_in d w.0 left).sort w.1.1)
 
     pub no_loss : searched_loss ≡ false → IsSortDecreasing d left right
-    no_loss h = choices_decrease d good completed left right fit.kinds fit.brings_none each where
+    no_loss h = choices_decrease d good completed left right kinded.kinds kinded.brings_none each where
       each : (e : Var → Shape) → IsChoice (sort_choices d) left e → AtOrBelow d (shape_in d e right).sort (shape_in d e left).sort
       each e choice =
           let n = no_choice (sort_choices d) (is_met d Loss (identities d) left right) left env h e choice in
-          rw (shape_agrees d n.0 e right (λ x o. n.1.0 x (fit.brings_none x o)), shape_agrees d n.0 e left n.1.0) at (is_below (shape_in d n.0 right).sort (shape_in d n.0 left).sort n.1.1)
+          rw (shape_agrees d n.0 e right (λ x o. n.1.0 x (kinded.brings_none x o)), shape_agrees d n.0 e left n.1.0) at (is_below (shape_in d n.0 right).sort (shape_in d n.0 left).sort n.1.1)
 
     -- what the answer says
     pub answered : (b : Bool) → b ≡ searched_loss → LosesAs d left right b

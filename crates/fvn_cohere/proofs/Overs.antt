@@ -6,9 +6,9 @@ use Rattle.fvn_terms.specs.declared.declarations.Declarations.{Declarations}
 use Rattle.fvn_terms.specs.Signature.{axioms}
 use Rattle.fvn_forms.specs.Canon.{identity}
 use Rattle.fvn_forms.specs.Ranks.{result}
-use Rattle.fvn_rewriting.specs.declared.shapes.Face.TheVariants.{Constant}
+use Rattle.fvn_rewriting.specs.declared.shapes.Root.TheVariants.{Constant}
 use Rattle.fvn_rewriting.specs.declared.shapes.Shape.{Shape}
-use Rattle.fvn_rewriting.specs.Shapes.{is_face_of, sorts_of, compound, shape_over}
+use Rattle.fvn_rewriting.specs.Shapes.{is_root_of, sorts_of, compound, shape_over}
 
 module _ (d : Declarations) (f : OpId) where
   pub over_none : (ss : List Shape) → length ss ≡ 0 → shape_over d f [] ≡ shape_over d f ss
@@ -16,29 +16,29 @@ module _ (d : Declarations) (f : OpId) where
   over_none (s ∷ ss) e = absurd (omega (arith, e))
 
   -- where the first of two is the identity, or else the second
-  pub over_left : (ss : List Shape) (a b : Shape) → length ss ≡ 2 → a ≡ get_or ss 0 a → b ≡ get_or ss 1 b → is_face_of (identity (axioms d f)) a.face ≡ true → b ≡ shape_over d f ss
+  pub over_left : (ss : List Shape) (a b : Shape) → length ss ≡ 2 → a ≡ get_or ss 0 a → b ≡ get_or ss 1 b → is_root_of (identity (axioms d f)) a.root ≡ true → b ≡ shape_over d f ss
   over_left [] a b e p q t = absurd (omega (arith, e))
   over_left (x ∷ []) a b e p q t = absurd (omega (arith, e))
-  over_left (x ∷ y ∷ []) a b e p q t = q ∙ sym (ap (λ c. if c then y else if is_face_of (identity (axioms d f)) y.face then x else compound (result d f (x.sort ∷ y.sort ∷ []))) (ap (λ (s : Shape). is_face_of (identity (axioms d f)) s.face) (sym p) ∙ t))
+  over_left (x ∷ y ∷ []) a b e p q t = q ∙ sym (ap (λ c. if c then y else if is_root_of (identity (axioms d f)) y.root then x else compound (result d f (x.sort ∷ y.sort ∷ []))) (ap (λ (s : Shape). is_root_of (identity (axioms d f)) s.root) (sym p) ∙ t))
   over_left (x ∷ y ∷ z ∷ ss) a b e p q t = absurd (omega (arith, e))
 
-  pub over_right : (ss : List Shape) (a b : Shape) → length ss ≡ 2 → a ≡ get_or ss 0 a → b ≡ get_or ss 1 b → is_face_of (identity (axioms d f)) a.face ≡ false → is_face_of (identity (axioms d f)) b.face ≡ true → a ≡ shape_over d f ss
+  pub over_right : (ss : List Shape) (a b : Shape) → length ss ≡ 2 → a ≡ get_or ss 0 a → b ≡ get_or ss 1 b → is_root_of (identity (axioms d f)) a.root ≡ false → is_root_of (identity (axioms d f)) b.root ≡ true → a ≡ shape_over d f ss
   over_right [] a b e p q n t = absurd (omega (arith, e))
   over_right (x ∷ []) a b e p q n t = absurd (omega (arith, e))
   over_right (x ∷ y ∷ []) a b e p q n t =
       p ∙ sym (
-      ap (λ c. if c then y else if is_face_of (identity (axioms d f)) y.face then x else compound (result d f (x.sort ∷ y.sort ∷ []))) (ap (λ (s : Shape). is_face_of (identity (axioms d f)) s.face) (sym p) ∙ n)
-      ∙ ap (λ c. if c then x else compound (result d f (x.sort ∷ y.sort ∷ []))) (ap (λ (s : Shape). is_face_of (identity (axioms d f)) s.face) (sym q) ∙ t))
+      ap (λ c. if c then y else if is_root_of (identity (axioms d f)) y.root then x else compound (result d f (x.sort ∷ y.sort ∷ []))) (ap (λ (s : Shape). is_root_of (identity (axioms d f)) s.root) (sym p) ∙ n)
+      ∙ ap (λ c. if c then x else compound (result d f (x.sort ∷ y.sort ∷ []))) (ap (λ (s : Shape). is_root_of (identity (axioms d f)) s.root) (sym q) ∙ t))
   over_right (x ∷ y ∷ z ∷ ss) a b e p q n t = absurd (omega (arith, e))
 
   -- two that are not
-  pub over_two : (ss : List Shape) (a b : Shape) → length ss ≡ 2 → a ≡ get_or ss 0 a → b ≡ get_or ss 1 b → is_face_of (identity (axioms d f)) a.face ≡ false → is_face_of (identity (axioms d f)) b.face ≡ false → compound (result d f (sorts_of ss)) ≡ shape_over d f ss
+  pub over_two : (ss : List Shape) (a b : Shape) → length ss ≡ 2 → a ≡ get_or ss 0 a → b ≡ get_or ss 1 b → is_root_of (identity (axioms d f)) a.root ≡ false → is_root_of (identity (axioms d f)) b.root ≡ false → compound (result d f (sorts_of ss)) ≡ shape_over d f ss
   over_two [] a b e p q n m = absurd (omega (arith, e))
   over_two (x ∷ []) a b e p q n m = absurd (omega (arith, e))
   over_two (x ∷ y ∷ []) a b e p q n m =
       sym (
-      ap (λ c. if c then y else if is_face_of (identity (axioms d f)) y.face then x else compound (result d f (x.sort ∷ y.sort ∷ []))) (ap (λ (s : Shape). is_face_of (identity (axioms d f)) s.face) (sym p) ∙ n)
-      ∙ ap (λ c. if c then x else compound (result d f (x.sort ∷ y.sort ∷ []))) (ap (λ (s : Shape). is_face_of (identity (axioms d f)) s.face) (sym q) ∙ m))
+      ap (λ c. if c then y else if is_root_of (identity (axioms d f)) y.root then x else compound (result d f (x.sort ∷ y.sort ∷ []))) (ap (λ (s : Shape). is_root_of (identity (axioms d f)) s.root) (sym p) ∙ n)
+      ∙ ap (λ c. if c then x else compound (result d f (x.sort ∷ y.sort ∷ []))) (ap (λ (s : Shape). is_root_of (identity (axioms d f)) s.root) (sym q) ∙ m))
   over_two (x ∷ y ∷ z ∷ ss) a b e p q n m = absurd (omega (arith, e))
 
   -- one, or more than two

@@ -11,7 +11,7 @@ use Rattle.fvn_rewriting.specs.declared.shapes.Shape.{Shape}
 use Rattle.fvn_rewriting.specs.Shapes.{shape_in}
 use Rattle.fvn_cohere.specs.declared.searching.Sought.{Sought}
 use Rattle.fvn_cohere.specs.declared.searching.Sought.TheVariants.{Loss, ToVariable, ToIdentity}
-use Rattle.fvn_cohere.specs.inner.Searching.{with_shape, some_choice, is_variable_face, is_identity_face, is_met}
+use Rattle.fvn_cohere.specs.inner.Searching.{with_shape, some_choice, is_variable_root, is_identity_root, is_met}
 
 -- whether a choice is what is sought, by the shapes of the sides
 module _ (d : Declarations) (es : List OpId) (left right : Term) (env : Var → Shape) where
@@ -20,11 +20,11 @@ module _ (d : Declarations) (es : List OpId) (left right : Term) (env : Var → 
       ap not e ∙ ap (λ (z : Shape). not (at_or_below d b.sort z.sort)) p ∙ ap (λ (z : Shape). not (at_or_below d z.sort (shape_in d env left).sort)) q
       ∙ sym (ap (λ z. is_met d z es left right env) s)
 
-  pub met_variable : (sought : Sought) (a : Shape) (is : Bool) → sought ≡ ToVariable → a ≡ shape_in d env left → is ≡ is_variable_face a.face → is ≡ is_met d sought es left right env
-  met_variable sought a is s p e = e ∙ ap (λ (z : Shape). is_variable_face z.face) p ∙ sym (ap (λ z. is_met d z es left right env) s)
+  pub met_variable : (sought : Sought) (a : Shape) (is : Bool) → sought ≡ ToVariable → a ≡ shape_in d env left → is ≡ is_variable_root a.root → is ≡ is_met d sought es left right env
+  met_variable sought a is s p e = e ∙ ap (λ (z : Shape). is_variable_root z.root) p ∙ sym (ap (λ z. is_met d z es left right env) s)
 
-  pub met_identity : (sought : Sought) (a : Shape) (is : Bool) → sought ≡ ToIdentity → a ≡ shape_in d env left → is ≡ is_identity_face es a.face → is ≡ is_met d sought es left right env
-  met_identity sought a is s p e = e ∙ ap (λ (z : Shape). is_identity_face es z.face) p ∙ sym (ap (λ z. is_met d z es left right env) s)
+  pub met_identity : (sought : Sought) (a : Shape) (is : Bool) → sought ≡ ToIdentity → a ≡ shape_in d env left → is ≡ is_identity_root es a.root → is ≡ is_met d sought es left right env
+  met_identity sought a is s p e = e ∙ ap (λ (z : Shape). is_identity_root es z.root) p ∙ sym (ap (λ z. is_met d z es left right env) s)
 
 module _ (test : (Var → Shape) → Bool) where
   -- with nothing left, the choice itself

@@ -1,35 +1,33 @@
 -- Lists that grow by one step of a loop.
 use Rattle.std.proofs.Common.{◌≡◌, ◌<◌, ◌+◌, ℕ, Bool, List, [], ◌∷◌, ◌++◌, map, length, take, get_or, refl, sym, ap, ◌∙◌}
-use Rattle.std.proofs.lemmas.List.{take_more, map_more, append_assoc}
+use Rattle.std.specs.Prelude.{fold}
+use Rattle.std.proofs.lemmas.List.{take_more, map_more, append_assoc, append-nil}
+use Rattle.std.proofs.lemmas.List.Sums.{fold-append, fold_more}
 use Rattle.fvn_terms.specs.declared.plain.Plain.{Plain}
 use Rattle.fvn_terms.specs.declared.plain.Var.{Var}
 use Rattle.fvn_terms.specs.declared.plain.OpId.{OpId}
 use Rattle.fvn_terms.specs.declared.declarations.OpDecl.{OpDecl}
 use Rattle.fvn_terms.specs.declared.plain.SortId.{SortId}
-use Rattle.fvn_terms.specs.Term.{Terms}
 use Rattle.fvn_terms.specs.Plain.{term, terms}
-use Rattle.fvn_forms.specs.Canon.{identity}
 use Rattle.fvn_rewriting.specs.declared.shapes.Shape.{Shape}
-use Rattle.fvn_rewriting.specs.Identities.{with_some_operator, with_identities}
-use Rattle.fvn_rewriting.specs.Choices.{with_variables_of, with_variables_among}
-
-with_identities-push : (es : List OpId) (ops : List OpDecl) (o : OpDecl) → with_identities es (ops ++ o ∷ []) ≡ with_some_operator (with_identities es ops) (identity o.axioms)
-with_identities-push es [] o = refl
-with_identities-push es (q ∷ ops) o = with_identities-push (with_some_operator es (identity q.axioms)) ops o
+use Rattle.fvn_flat.specs.Problems.{variables, variables_among}
+use Rattle.fvn_flat.specs.Variables.{with_variable}
+use Rattle.fvn_rewriting.specs.Identities.{with_identity_of}
 
 -- the identity of one more operator
-pub with_identities-step : (es : List OpId) (ops : List OpDecl) (i : ℕ) (o : OpDecl) → i < length ops → o ≡ get_or ops i o → with_identities es (take (i + 1) ops) ≡ with_some_operator (with_identities es (take i ops)) (identity o.axioms)
-with_identities-step es ops i o within is =
-    ap (with_identities es) (take_more ops i o within ∙ ap (λ p. take i ops ++ p ∷ []) (sym is)) ∙ with_identities-push es (take i ops) o
+pub identity-step : (ops : List OpDecl) (i : ℕ) (o : OpDecl) → i < length ops → o ≡ get_or ops i o → fold with_identity_of [] (take (i + 1) ops) ≡ with_identity_of (fold with_identity_of [] (take i ops)) o
+identity-step ops i o within is = fold_more with_identity_of [] ops i o within ∙ ap (with_identity_of (fold with_identity_of [] (take i ops))) (sym is)
 
-with_variables-push : (us : List Plain) (u : Plain) (vars : List Var) → with_variables_among (terms (us ++ u ∷ [])) vars ≡ with_variables_of (term u) (with_variables_among (terms us) vars)
-with_variables-push [] u vars = refl
-with_variables-push (t ∷ us) u vars = with_variables-push us u (with_variables_of (term t) vars)
+variables-push : (us : List Plain) (u : Plain) → variables_among (terms (us ++ u ∷ [])) ≡ variables_among (terms us) ++ variables (term u)
+variables-push [] u = append-nil (variables (term u))
+variables-push (t ∷ us) u = ap (λ l. variables (term t) ++ l) (variables-push us u) ∙ sym (append_assoc (variables (term t)) (variables_among (terms us)) (variables (term u)))
 
 -- the variables of one more argument
-pub with_variables-step : (us : List Plain) (i : ℕ) (u : Plain) (vars : List Var) → i < length us → u ≡ get_or us i u → with_variables_among (terms (take (i + 1) us)) vars ≡ with_variables_of (term u) (with_variables_among (terms (take i us)) vars)
-with_variables-step us i u vars within is =
-    ap (λ l. with_variables_among (terms l) vars) (take_more us i u within ∙ ap (λ p. take i us ++ p ∷ []) (sym is)) ∙ with_variables-push (take i us) u vars
+pub variables-step : (us : List Plain) (i : ℕ) (u : Plain) (vars : List Var) → i < length us → u ≡ get_or us i u → fold with_variable vars (variables_among (terms (take (i + 1) us))) ≡ fold with_variable (fold with_variable vars (variables_among (terms (take i us)))) (variables (term u))
+variables-step us i u vars within is =
+    ap (λ l. fold with_variable vars (variables_among (terms l))) (take_more us i u within ∙ ap (λ p. take i us ++ p ∷ []) (sym is))
+    ∙ ap (fold with_variable vars) (variables-push (take i us) u)
+    ∙ fold-append with_variable vars (variables_among (terms (take i us))) (variables (term u))
 
 -- one element more at the end, after others
 pub map-append-step : {A B : Type 0} (f : A → B) (xs : List B) (ys : List A) (i : ℕ) (d : A) (z : B) → i < length ys → z ≡ f (get_or ys i d) → (xs ++ map f (take i ys)) ++ z ∷ [] ≡ xs ++ map f (take (i + 1) ys)

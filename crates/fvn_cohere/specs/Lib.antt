@@ -1,3 +1,3 @@
--- What is promised of equations and their rules.
+-- What is promised of equations.
 pub mod Promises
 pub mod inner

@@ -7,7 +7,7 @@ ghost use Rattle.fvn_cohere.specs.inner.Searching.{choices_for, unchosen_of};
 use crate::identities::{identities_below, sorts_below};
 use crate::searching::Sought;
 use fvn_base::Seq;
-use fvn_rewriting::{Face, Shape};
+use fvn_rewriting::{Root, Shape};
 use fvn_sorts::Signature;
 use fvn_terms::{NoMemory, OpId, SortId, Var};
 use std::alloc::Global;
@@ -19,7 +19,7 @@ fn variable_shapes(alloc: Global, sorts: &[SortId]) -> Result<Vec<Shape>, NoMemo
     let mut all = Vec::new(alloc);
     for s in sorts {
         all.push(Shape {
-            face: Face::Variable,
+            root: Root::Variable,
             sort: *s,
         })?;
     }
@@ -32,7 +32,7 @@ fn identity_shape(sig: &Signature, e: OpId) -> Shape
 {
     let sort = sig.result(e, &[]);
     Shape {
-        face: Face::Constant(e),
+        root: Root::Constant(e),
         sort,
     }
 }

@@ -22,7 +22,8 @@ pub enum Collapse {
 
 /// What a left side collapses to: to a variable, or else to an identity.
 ///
-/// It goes through the choices of identities for its variables, one by one; `instances_fit` says how many there are.
+/// It goes through the choices of identities for its variables, one by one; `instances_fit` says whether they are few
+/// enough.
 pub fn left_collapses(
     alloc: Global,
     sig: &Signature,

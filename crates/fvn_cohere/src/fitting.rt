@@ -49,7 +49,7 @@ fn are_within(by_identities: u64, by_sorts: u64) -> bool
 /// Whether the identity instances of the left side of an equation, and its instances by sorts and identities, are
 /// within the limits.
 ///
-/// It takes the products of the choices of its variables, each in one pass.
+/// It takes both products of the choices of its variables in one pass.
 pub fn instances_fit(alloc: Global, sig: &Signature, left: &Plain) -> Result<bool, NoMemory>
     ensures { IfOk result (λ fit. IsTrue fit ↔ InstancesFit sig.now (term left.now)) }
 {

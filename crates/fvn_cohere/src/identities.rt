@@ -1,10 +1,10 @@
 //! The identities of a signature, and the sorts and identities at or below a sort.
-ghost use Rattle.std.specs.Prelude.{◌≡◌, [], filter, nat_lt, IfOk};
+ghost use Rattle.std.specs.Prelude.{◌≡◌, [], filter, nat_lt, Some, IfOk};
 ghost use Rattle.fvn_terms.specs.declared.plain.OpId.{OpId};
 ghost use Rattle.fvn_forms.specs.Canon.{identity};
 ghost use Rattle.fvn_forms.specs.SortOrder.{at_or_below};
 ghost use Rattle.fvn_forms.specs.Ranks.{result as least_result};
-ghost use Rattle.fvn_rewriting.specs.Identities.{is_listed_op, with_operator, with_some_operator, identities};
+ghost use Rattle.fvn_rewriting.specs.Identities.{is_listed_op, with_operator, identities};
 ghost use Rattle.fvn_drafts.specs.Collected.{first_sorts};
 ghost use Rattle.fvn_rewriting.specs.Choices.{sorts_below};
 
@@ -44,8 +44,8 @@ pub(crate) fn is_listed(es: &[OpId], e: OpId) -> bool
 }
 
 // The operators with one more at the end, if it is not there yet.
-fn with_operator(es: Vec<OpId>, e: OpId) -> Result<Vec<OpId>, NoMemory>
-    ensures { IfOk result (λ all. all.items ≡ with_operator es.items e) }
+fn with_one(es: Vec<OpId>, e: OpId) -> Result<Vec<OpId>, NoMemory>
+    ensures { IfOk result (λ all. all.items ≡ with_operator es.items (Some e)) }
 {
     let mut all = es;
     if is_listed(all.as_slice(), e) {
@@ -56,13 +56,13 @@ fn with_operator(es: Vec<OpId>, e: OpId) -> Result<Vec<OpId>, NoMemory>
 }
 
 // The same, where there is one.
-fn with_some_operator(es: Vec<OpId>, e: Option<OpId>) -> Result<Vec<OpId>, NoMemory>
-    ensures { IfOk result (λ all. all.items ≡ with_some_operator es.items e) }
+fn with_operator(es: Vec<OpId>, e: Option<OpId>) -> Result<Vec<OpId>, NoMemory>
+    ensures { IfOk result (λ all. all.items ≡ with_operator es.items e) }
 {
     match e {
         None => Ok(es),
         Some(g) => {
-            let all = with_operator(es, g)?;
+            let all = with_one(es, g)?;
             Ok(all)
         }
     }
@@ -74,7 +74,7 @@ pub(crate) fn identities(alloc: Global, sig: &Signature) -> Result<Vec<OpId>, No
 {
     let mut all = Vec::new(alloc);
     for op in sig.declarations().ops.as_slice() {
-        all = with_some_operator(all, identity_in(op.axioms))?;
+        all = with_operator(all, identity_in(op.axioms))?;
     }
     Ok(all)
 }

@@ -1,36 +1,32 @@
 //! Equations that lose a sort.
 ghost use Rattle.std.specs.Prelude.{MatchOption, IfOk};
 ghost use Rattle.fvn_terms.specs.Plain.{term};
-ghost use Rattle.fvn_cohere.specs.Promises.{IsFitEquation, AreFitEquations, LosesAs, IsFirstLoss, AreDecreasing};
+ghost use Rattle.fvn_rewriting.specs.Kinds.{IsKindedEquation};
+ghost use Rattle.fvn_rewriting.specs.Losses.{AreSortDecreasing, IsFirstLoss};
+ghost use Rattle.fvn_cohere.specs.Promises.{LosesAs, equations_of};
 
 use crate::choosing::unchosen;
 use crate::identities::identities;
 use crate::searching::{Search, Sought};
 use crate::shapes::Chosen;
 use crate::variables::distinct_variables;
+use fvn_module::Module;
 use fvn_sorts::Signature;
 use fvn_terms::{NoMemory, Plain};
 use std::alloc::Global;
 
-/// The sides of an equation.
-#[derive(Drop)]
-pub struct Sides {
-    pub left: Plain,
-    pub right: Plain,
-}
-
 /// Whether an equation loses a sort: some instance of its left side has a sort that the same instance of its right side
 /// has not.
 ///
-/// It goes through the choices of sorts and identities for its variables, one by one; `instances_fit` says how many
-/// there are.
+/// It goes through the choices of sorts and identities for its variables, one by one; `instances_fit` says whether they
+/// are few enough.
 pub fn loses_sort(
     alloc: Global,
     sig: &Signature,
     left: &Plain,
     right: &Plain,
 ) -> Result<bool, NoMemory>
-    requires { IsFitEquation sig.now (term left.now) (term right.now) }
+    requires { IsKindedEquation sig.now (term left.now, term right.now) }
     ensures { IfOk result (LosesAs sig.now (term left.now) (term right.now)) }
 {
     sig.recall_good();
@@ -53,17 +49,17 @@ pub fn loses_sort(
     Ok(loses)
 }
 
-/// The number, from 1, of the first equation that is not sort-decreasing.
-pub fn sort_loss(
-    alloc: Global,
-    sig: &Signature,
-    equations: &[Sides],
-) -> Result<Option<usize>, NoMemory>
-    requires { AreFitEquations sig.now equations.now }
-    ensures { IfOk result (λ n. MatchOption n (AreDecreasing sig.now equations.now) (IsFirstLoss sig.now equations.now)) }
+/// The number, from 1, of the first equation of the module that is not sort-decreasing; none where each is.
+pub fn sort_loss(alloc: Global, module: &Module) -> Result<Option<usize>, NoMemory>
+    ensures { IfOk result (λ n. MatchOption n
+        (AreSortDecreasing module.now.signature (equations_of module.now.equations))
+        (IsFirstLoss module.now.signature (equations_of module.now.equations))) }
 {
-    for i in 0..equations.len() {
-        let e = &equations[i];
+    module.recall_readable();
+    let sig = module.signature();
+    let list = module.equations();
+    for i in 0..list.len() {
+        let e = &list[i];
         let loses = loses_sort(alloc, sig, &e.left, &e.right)?;
         if loses {
             return Ok(Some(i + 1));

@@ -3,12 +3,12 @@ ghost use Rattle.std.specs.Prelude.{◌≡◌, ◌≤◌, ◌<◌, ◌+◌, leng
 ghost use Rattle.std.specs.List.{list_any};
 ghost use Rattle.fvn_terms.specs.Plain.{term};
 ghost use Rattle.fvn_terms.specs.Signature.{IsTerm};
-ghost use Rattle.fvn_cohere.specs.inner.Searching.{shapes_by, is_variable_face, is_identity_face, is_met, with_shape, some_choice};
+ghost use Rattle.fvn_cohere.specs.inner.Searching.{shapes_by, is_variable_root, is_identity_root, is_met, with_shape, some_choice};
 
 use crate::identities::{is_at_or_below, is_listed};
 use crate::shapes::{Chosen, shape};
 use fvn_base::Seq;
-use fvn_rewriting::{Face, Shape};
+use fvn_rewriting::{Root, Shape};
 use fvn_sorts::Signature;
 use fvn_terms::{OpId, Plain, Var};
 
@@ -32,23 +32,23 @@ pub(crate) struct Search<'s> {
     pub(crate) unchosen: &'s [(Var, Seq<Shape>)],
 }
 
-fn is_variable_face(face: Face) -> bool
-    ensures { result ≡ is_variable_face face }
+fn is_variable_root(root: Root) -> bool
+    ensures { result ≡ is_variable_root root }
 {
-    match face {
-        Face::Variable => true,
-        Face::Constant(_) => false,
-        Face::Compound => false,
+    match root {
+        Root::Variable => true,
+        Root::Constant(_) => false,
+        Root::Compound => false,
     }
 }
 
-fn is_identity_face(es: &[OpId], face: Face) -> bool
-    ensures { result ≡ is_identity_face es.now face }
+fn is_identity_root(es: &[OpId], root: Root) -> bool
+    ensures { result ≡ is_identity_root es.now root }
 {
-    match face {
-        Face::Variable => false,
-        Face::Constant(e) => is_listed(es, e),
-        Face::Compound => false,
+    match root {
+        Root::Variable => false,
+        Root::Constant(e) => is_listed(es, e),
+        Root::Compound => false,
     }
 }
 
@@ -65,8 +65,8 @@ impl Search<'_> {
                 let right = shape(self.sig, chosen, self.right);
                 !is_at_or_below(self.sig, right.sort, left.sort)
             }
-            Sought::ToVariable => is_variable_face(left.face),
-            Sought::ToIdentity => is_identity_face(self.identities, left.face),
+            Sought::ToVariable => is_variable_root(left.root),
+            Sought::ToIdentity => is_identity_root(self.identities, left.root),
         }
     }
 

@@ -3,13 +3,13 @@ ghost use Rattle.std.specs.Prelude.{◌≡◌, ◌≤◌, ◌<◌, length, slice
 ghost use Rattle.fvn_terms.specs.Plain.{term};
 ghost use Rattle.fvn_terms.specs.Term.{app};
 ghost use Rattle.fvn_terms.specs.Signature.{IsTerm};
-ghost use Rattle.fvn_rewriting.specs.Shapes.{is_face_of, sorts_of, compound, shape_over, shape_in};
+ghost use Rattle.fvn_rewriting.specs.Shapes.{is_root_of, sorts_of, compound, shape_over, shape_in};
 ghost use Rattle.fvn_forms.specs.Ranks.{result as least_result};
 ghost use Rattle.fvn_cohere.specs.inner.Searching.{shapes_by};
 
 use crate::identities::identity_in;
 use fvn_base::limits::ARGUMENTS;
-use fvn_rewriting::{Face, Shape};
+use fvn_rewriting::{Root, Shape};
 use fvn_sorts::Signature;
 use fvn_terms::{Args, OpId, Plain, SortId, Var};
 
@@ -29,7 +29,7 @@ impl Chosen<'_> {
     {
         match self {
             Chosen::Nothing => Shape {
-                face: Face::Variable,
+                root: Root::Variable,
                 sort: y.sort,
             },
             Chosen::Choose(x, shape, rest) => {
@@ -43,15 +43,15 @@ impl Chosen<'_> {
 }
 
 // Whether this is the root of the constant.
-fn is_face_of(e: Option<OpId>, face: Face) -> bool
-    ensures { result ≡ is_face_of e face }
+fn is_root_of(e: Option<OpId>, root: Root) -> bool
+    ensures { result ≡ is_root_of e root }
 {
     match e {
         None => false,
-        Some(e) => match face {
-            Face::Variable => false,
-            Face::Constant(g) => e == g,
-            Face::Compound => false,
+        Some(e) => match root {
+            Root::Variable => false,
+            Root::Constant(g) => e == g,
+            Root::Compound => false,
         },
     }
 }
@@ -68,7 +68,7 @@ fn compound(sig: &Signature, f: OpId, shapes: &[Shape]) -> Shape
         i += 1;
     }
     Shape {
-        face: Face::Compound,
+        root: Root::Compound,
         sort: sig.result(f, &sorts[..i]),
     }
 }
@@ -88,7 +88,7 @@ fn shape_over(sig: &Signature, f: OpId, shapes: &[Shape]) -> Shape
 {
     if shapes.len() == 0 {
         return Shape {
-            face: Face::Constant(f),
+            root: Root::Constant(f),
             sort: sig.result(f, &[]),
         };
     }
@@ -98,10 +98,10 @@ fn shape_over(sig: &Signature, f: OpId, shapes: &[Shape]) -> Shape
     let a = shape_at(shapes, 0);
     let b = shape_at(shapes, 1);
     let e = identity_in(sig.axioms(f));
-    if is_face_of(e, a.face) {
+    if is_root_of(e, a.root) {
         return b;
     }
-    if is_face_of(e, b.face) {
+    if is_root_of(e, b.root) {
         return a;
     }
     compound(sig, f, shapes)
@@ -126,7 +126,7 @@ fn shape_app(sig: &Signature, chosen: &Chosen<'_>, f: OpId, us: &Args) -> Shape
 {
     sig.recall_good();
     let blank = Shape {
-        face: Face::Compound,
+        root: Root::Compound,
         sort: SortId(0),
     };
     let mut shapes = [blank; ARGUMENTS];

@@ -1,8 +1,9 @@
 //! The variables of a term, each once.
-ghost use Rattle.std.specs.Prelude.{◌≡◌, IfOk};
+ghost use Rattle.std.specs.Prelude.{◌≡◌, fold, IfOk};
 ghost use Rattle.fvn_terms.specs.Plain.{term};
 ghost use Rattle.fvn_flat.specs.Variables.{listed, with_variable};
-ghost use Rattle.fvn_rewriting.specs.Choices.{with_variables_of, with_variables_among, distinct_variables_of};
+ghost use Rattle.fvn_flat.specs.Problems.{variables, variables_among};
+ghost use Rattle.fvn_rewriting.specs.Choices.{distinct_variables_of};
 
 use fvn_terms::{Args, NoMemory, Plain, Var};
 use std::alloc::Global;
@@ -34,7 +35,7 @@ fn with_variable(vars: Vec<Var>, x: Var) -> Result<Vec<Var>, NoMemory>
 // The variables with those of a term that are not there yet.
 #[cycle(with_variables)]
 fn with_variables(vars: Vec<Var>, t: &Plain) -> Result<Vec<Var>, NoMemory>
-    ensures { IfOk result (λ all. all.items ≡ with_variables_of (term t.now) vars.items) }
+    ensures { IfOk result (λ all. all.items ≡ fold with_variable vars.items (variables (term t.now))) }
 {
     match t {
         Plain::Var(x) => {
@@ -51,7 +52,7 @@ fn with_variables(vars: Vec<Var>, t: &Plain) -> Result<Vec<Var>, NoMemory>
 // The same for arguments, one after another.
 #[cycle(with_variables)]
 fn with_variables_among(vars: Vec<Var>, us: &Args) -> Result<Vec<Var>, NoMemory>
-    ensures { IfOk result (λ all. all.items ≡ with_variables_among us.now vars.items) }
+    ensures { IfOk result (λ all. all.items ≡ fold with_variable vars.items (variables_among us.now)) }
 {
     let mut all = vars;
     for u in &us.items {

@@ -31,8 +31,8 @@ use Rattle.fvn_sorts.specs.Queries.{IsKind, IsCompleted}
 use Rattle.fvn_flat.specs.Problems.{variables}
 use Rattle.fvn_flat.proofs.VariableLists.{variables_list, variables_occur}
 use Rattle.fvn_flat.specs.Rules.{IsIdentity}
-use Rattle.fvn_rewriting.specs.declared.shapes.Face.{Face}
-use Rattle.fvn_rewriting.specs.declared.shapes.Face.TheVariants.{Variable, Constant, Compound}
+use Rattle.fvn_rewriting.specs.declared.shapes.Root.{Root}
+use Rattle.fvn_rewriting.specs.declared.shapes.Root.TheVariants.{Variable, Constant, Compound}
 use Rattle.fvn_rewriting.specs.declared.shapes.Shape.{Shape}
 use Rattle.fvn_rewriting.specs.Shapes.{shape_of, shape_in}
 use Rattle.fvn_rewriting.specs.Identities.{is_listed_op, identities}
@@ -115,7 +115,7 @@ module _ (d : Declarations) where
             Contains-append_right (map variable_shape (sorts_below d s)) (map (identity_shape d) (identities_below d s)) (identity_shape d e)
             (contains_map (identity_shape d) (identities_below d s) e (below_identity e s (op_listed (identities d) e p) b))
 
-        at : (e : OpId) → AtOrBelow d (result d e []) s → (b : Bool) → is_listed_op (identities d) e ≡ b → Contains (sort_choices d s) (record { face = if b then Constant e else Variable; sort = result d e [] })
+        at : (e : OpId) → AtOrBelow d (result d e []) s → (b : Bool) → is_listed_op (identities d) e ≡ b → Contains (sort_choices d s) (record { root = if b then Constant e else Variable; sort = result d e [] })
         at e b true p = identity e p b
         at e b false p = variable (result d e []) b
 
@@ -126,7 +126,7 @@ module _ (d : Declarations) where
         go (fapp g false (fmore u us)) b = variable (least_sort d (fapp g false (fmore u us))) b
 
     -- a term of this shape for a variable
-    abbrev pub made : Face → SortId → Var → Term
+    abbrev pub made : Root → SortId → Var → Term
     made Variable s x = var (record { name = x.name; sort = s; fresh = x.fresh })
     made (Constant e) s x = constant e
     made Compound s x = var x
@@ -152,16 +152,16 @@ module _ (d : Declarations) where
           of_shape = refl;
         }
 
-    pub made_shape : (x : Var) (o shape : Shape) → o ≡ shape → IsMade x o (made o.face o.sort x) → IsMade x shape (made shape.face shape.sort x)
-    made_shape x o shape e h = subst (λ (z : Shape). IsMade x z (made z.face z.sort x)) e h
+    pub made_shape : (x : Var) (o shape : Shape) → o ≡ shape → IsMade x o (made o.root o.sort x) → IsMade x shape (made shape.root shape.sort x)
+    made_shape x o shape e h = subst (λ (z : Shape). IsMade x z (made z.root z.sort x)) e h
 
-    pub made_choice : (x : Var) (shape : Shape) → IsSort d x.sort → Contains (sort_choices d x.sort) shape → IsMade x shape (made shape.face shape.sort x)
-    made_choice x shape h c = elim (Contains-append_cases (map variable_shape (sorts_below d x.sort)) (map (identity_shape d) (identities_below d x.sort)) shape c) as (λ _. IsMade x shape (made shape.face shape.sort x)) [
+    pub made_choice : (x : Var) (shape : Shape) → IsSort d x.sort → Contains (sort_choices d x.sort) shape → IsMade x shape (made shape.root shape.sort x)
+    made_choice x shape h c = elim (Contains-append_cases (map variable_shape (sorts_below d x.sort)) (map (identity_shape d) (identities_below d x.sort)) shape c) as (λ _. IsMade x shape (made shape.root shape.sort x)) [
       | inl i ↦ let w = map_contains variable_shape (sorts_below d x.sort) shape i in made_shape x (variable_shape w.0) shape w.1.1 (made_variable x w.0 h (listed_below w.0 x.sort w.1.0))
       | inr i ↦ identity_case i
     ]
       where
-        identity_case : Contains (map (identity_shape d) (identities_below d x.sort)) shape → IsMade x shape (made shape.face shape.sort x)
+        identity_case : Contains (map (identity_shape d) (identities_below d x.sort)) shape → IsMade x shape (made shape.root shape.sort x)
         identity_case i =
             let w = map_contains (identity_shape d) (identities_below d x.sort) shape i in
             let p = identity_below w.0 x.sort w.1.0 in
@@ -170,7 +170,7 @@ module _ (d : Declarations) where
     -- the substitution that makes a choice for the variables of a term
     module _ (t : Term) (env : Var → Shape) where
       abbrev pub made_if : Var → Bool → Term
-      made_if x true = made (env x).face (env x).sort x
+      made_if x true = made (env x).root (env x).sort x
       made_if x false = var x
 
       abbrev pub choosing : Substitution
@@ -179,7 +179,7 @@ module _ (d : Declarations) where
       made_stays : (x : Var) → HasSort d (var x) x.sort
       made_stays x = record { form = var x; equal = stop; gets = record { sort = x.sort; gets = refl; below = same } }
 
-      module _ (each : (x : Var) → Occurs x t → IsMade x (env x) (made (env x).face (env x).sort x)) where
+      module _ (each : (x : Var) → Occurs x t → IsMade x (env x) (made (env x).root (env x).sort x)) where
         pub choosing_keeps : KeepsKinds d choosing
         choosing_keeps x i = go (occurs_test x t) refl where
           go : (b : Bool) → occurs_test x t ≡ b → HasKind d (made_if x b) (kind d x.sort)
@@ -200,5 +200,5 @@ module _ (d : Declarations) where
         choosing_shape u k h within = shape_exact d good choosing choosing_keeps u k h ∙ shape_agrees d (λ x. shape_of d (canon d (choosing x))) env u (λ x o. choosing_at x (within x o))
 
     -- choices of sorts and identities are made
-    pub each_sort_choice : (t : Term) (k : SortId) → HasKind d t k → (env : Var → Shape) → IsChoice (sort_choices d) t env → (x : Var) → Occurs x t → IsMade x (env x) (made (env x).face (env x).sort x)
+    pub each_sort_choice : (t : Term) (k : SortId) → HasKind d t k → (env : Var → Shape) → IsChoice (sort_choices d) t env → (x : Var) → Occurs x t → IsMade x (env x) (made (env x).root (env x).sort x)
     each_sort_choice t k h env choice x o = made_choice x (env x) (occurring_sort x t k h o) (choice x o)

@@ -1,6 +1,6 @@
 -- The list of identities has just the identities, and these are constants of a kind.
 use Rattle.std.proofs.Common.{◌≡◌, ◌<◌, ◌≤◌, ◌⊎◌, Bool, true, false, List, [], ◌∷◌, ◌++◌, length, get_or, Option, Some, None, refl, sym, ap, ◌∙◌, subst, inl, inr, arith}
-use Rattle.std.specs.Prelude.{if◌then◌else◌, ◌||◌}
+use Rattle.std.specs.Prelude.{if◌then◌else◌, ◌||◌, fold}
 use Rattle.std.specs.List.{Contains, list_any}
 use Rattle.std.proofs.lemmas.Bool.{or_cases, or_left, or_right, false≢true, cases_lt}
 use Rattle.std.proofs.lemmas.List.{get_or_past, get_or_default}
@@ -23,7 +23,7 @@ use Rattle.fvn_forms.proofs.ToCanon.{identity_is}
 use Rattle.fvn_forms.proofs.LeastSort.{sort_in-kind}
 use Rattle.fvn_sorts.specs.Queries.{IsCompleted}
 use Rattle.fvn_flat.specs.Rules.{IsIdentity}
-use Rattle.fvn_rewriting.specs.Identities.{is_listed_op, with_operator, with_some_operator, with_identities, identities}
+use Rattle.fvn_rewriting.specs.Identities.{is_listed_op, with_operator, with_identity_of, identities}
 
 pub op_listed : (es : List OpId) (e : OpId) → is_listed_op es e ≡ true → Contains es e
 op_listed [] e h = absurd (false≢true h)
@@ -39,54 +39,54 @@ listed_op (g ∷ es) e h = elim (contains_cases g es e h) as (λ _. is_listed_op
   | inr i ↦ or_right (same_op e g) (list_any (same_op e) es) (listed_op es e i)
 ]
 
-still_listed : (es : List OpId) (g e : OpId) → Contains es e → Contains (with_operator es g) e
+still_listed : (es : List OpId) (g e : OpId) → Contains es e → Contains (with_operator es (Some g)) e
 still_listed es g e h = go (is_listed_op es g) where
   go : (b : Bool) → Contains (if b then es else es ++ g ∷ []) e
   go true = h
   go false = Contains-append_left es (g ∷ []) e h
 
-now_listed : (es : List OpId) (e : OpId) → Contains (with_operator es e) e
+now_listed : (es : List OpId) (e : OpId) → Contains (with_operator es (Some e)) e
 now_listed es e = go (is_listed_op es e) refl where
   go : (b : Bool) → is_listed_op es e ≡ b → Contains (if b then es else es ++ e ∷ []) e
   go true p = op_listed es e p
   go false p = Contains-push es e
 
-only_listed : (es : List OpId) (g e : OpId) → Contains (with_operator es g) e → Contains es e ⊎ (g ≡ e)
+only_listed : (es : List OpId) (g e : OpId) → Contains (with_operator es (Some g)) e → Contains es e ⊎ (g ≡ e)
 only_listed es g e h = go (is_listed_op es g) h where
   go : (b : Bool) → Contains (if b then es else es ++ g ∷ []) e → Contains es e ⊎ (g ≡ e)
   go true c = inl c
   go false c = Contains-push_cases es g e c
 
-still_some : (es : List OpId) (i : Option OpId) (e : OpId) → Contains es e → Contains (with_some_operator es i) e
+still_some : (es : List OpId) (i : Option OpId) (e : OpId) → Contains es e → Contains (with_operator es i) e
 still_some es None e h = h
 still_some es (Some g) e h = still_listed es g e h
 
-now_some : (es : List OpId) (i : Option OpId) (e : OpId) → i ≡ Some e → Contains (with_some_operator es i) e
-now_some es i e p = subst (λ j. Contains (with_some_operator es j) e) (sym p) (now_listed es e)
+now_some : (es : List OpId) (i : Option OpId) (e : OpId) → i ≡ Some e → Contains (with_operator es i) e
+now_some es i e p = subst (λ j. Contains (with_operator es j) e) (sym p) (now_listed es e)
 
-only_some : (es : List OpId) (i : Option OpId) (e : OpId) → Contains (with_some_operator es i) e → Contains es e ⊎ (i ≡ Some e)
+only_some : (es : List OpId) (i : Option OpId) (e : OpId) → Contains (with_operator es i) e → Contains es e ⊎ (i ≡ Some e)
 only_some es None e h = inl h
 only_some es (Some g) e h = elim (only_listed es g e h) as (λ _. Contains es e ⊎ (Some g ≡ Some e)) [ inl c ↦ inl c | inr q ↦ inr (ap Some q) ]
 
-kept_identity : (ops : List OpDecl) (es : List OpId) (e : OpId) → Contains es e → Contains (with_identities es ops) e
+kept_identity : (ops : List OpDecl) (es : List OpId) (e : OpId) → Contains es e → Contains (fold with_identity_of es ops) e
 kept_identity [] es e h = h
-kept_identity (o ∷ ops) es e h = kept_identity ops (with_some_operator es (identity o.axioms)) e (still_some es (identity o.axioms) e h)
+kept_identity (o ∷ ops) es e h = kept_identity ops (with_identity_of es o) e (still_some es (identity o.axioms) e h)
 
-identity_of_op : (ops : List OpDecl) (es : List OpId) (o : OpDecl) (e : OpId) → Contains ops o → identity o.axioms ≡ Some e → Contains (with_identities es ops) e
+identity_of_op : (ops : List OpDecl) (es : List OpId) (o : OpDecl) (e : OpId) → Contains ops o → identity o.axioms ≡ Some e → Contains (fold with_identity_of es ops) e
 identity_of_op [] es o e h p = absurd (contains_none o h)
-identity_of_op (q ∷ ops) es o e h p = elim (contains_cases q ops o h) as (λ _. Contains (with_identities es (q ∷ ops)) e) [
-  | inl s ↦ kept_identity ops (with_some_operator es (identity q.axioms)) e (now_some es (identity q.axioms) e (ap (λ (z : OpDecl). identity z.axioms) s ∙ p))
-  | inr i ↦ identity_of_op ops (with_some_operator es (identity q.axioms)) o e i p
+identity_of_op (q ∷ ops) es o e h p = elim (contains_cases q ops o h) as (λ _. Contains (fold with_identity_of es (q ∷ ops)) e) [
+  | inl s ↦ kept_identity ops (with_identity_of es q) e (now_some es (identity q.axioms) e (ap (λ (z : OpDecl). identity z.axioms) s ∙ p))
+  | inr i ↦ identity_of_op ops (with_identity_of es q) o e i p
 ]
 
-op_of_identity : (ops : List OpDecl) (es : List OpId) (e : OpId) → Contains (with_identities es ops) e → Contains es e ⊎ ((o : OpDecl) × (Contains ops o × (identity o.axioms ≡ Some e)))
+op_of_identity : (ops : List OpDecl) (es : List OpId) (e : OpId) → Contains (fold with_identity_of es ops) e → Contains es e ⊎ ((o : OpDecl) × (Contains ops o × (identity o.axioms ≡ Some e)))
 op_of_identity [] es e h = inl h
-op_of_identity (q ∷ ops) es e h = go (op_of_identity ops (with_some_operator es (identity q.axioms)) e h) where
+op_of_identity (q ∷ ops) es e h = go (op_of_identity ops (with_identity_of es q) e h) where
   at : Contains es e ⊎ (identity q.axioms ≡ Some e) → Contains es e ⊎ ((o : OpDecl) × (Contains (q ∷ ops) o × (identity o.axioms ≡ Some e)))
   at (inl c) = inl c
   at (inr p) = inr (q, (contains_here q ops, p))
 
-  go : Contains (with_some_operator es (identity q.axioms)) e ⊎ ((o : OpDecl) × (Contains ops o × (identity o.axioms ≡ Some e))) → Contains es e ⊎ ((o : OpDecl) × (Contains (q ∷ ops) o × (identity o.axioms ≡ Some e)))
+  go : Contains (with_identity_of es q) e ⊎ ((o : OpDecl) × (Contains ops o × (identity o.axioms ≡ Some e))) → Contains es e ⊎ ((o : OpDecl) × (Contains (q ∷ ops) o × (identity o.axioms ≡ Some e)))
   go (inl c) = at (only_some es (identity q.axioms) e c)
   go (inr w) = inr (w.0, (contains_later q ops w.0 w.1.0, w.1.1))
 

@@ -1,18 +1,18 @@
 -- The variables of a term, listed.
 use Rattle.std.proofs.Common.{◌≡◌, ◌⊎◌, Bool, true, false, List, [], ◌∷◌, ◌++◌, refl, sym, ap, ◌∙◌, subst, inl, inr}
-use Rattle.std.specs.Prelude.{if◌then◌else◌, ◌||◌}
+use Rattle.std.specs.Prelude.{if◌then◌else◌, ◌||◌, fold}
 use Rattle.std.specs.List.{Contains, list_any}
 use Rattle.std.proofs.lemmas.Bool.{or_cases, or_left, or_right, false≢true}
 use Rattle.std.proofs.lemmas.List.Elements.{Contains-append_left, Contains-push, Contains-push_cases}
 use Rattle.fvn_base.proofs.Membership.{contains_here, contains_later, contains_cases, contains_none}
 use Rattle.fvn_terms.specs.declared.plain.Var.{Var}
-use Rattle.fvn_terms.specs.Term.{Term, Terms, var, app, none, more}
-use Rattle.fvn_terms.specs.Substitution.{same_var, Occurs, OccursAmong}
+use Rattle.fvn_terms.specs.Term.{Term}
+use Rattle.fvn_terms.specs.Substitution.{same_var, Occurs}
 use Rattle.fvn_flat.specs.Problems.{variables}
 use Rattle.fvn_flat.specs.Variables.{listed, with_variable}
 use Rattle.fvn_flat.proofs.Binding.{same_var_is, same_var_itself}
 use Rattle.fvn_flat.proofs.VariableLists.{variables_list, variables_occur}
-use Rattle.fvn_rewriting.specs.Choices.{with_variables_of, with_variables_among, distinct_variables_of}
+use Rattle.fvn_rewriting.specs.Choices.{distinct_variables_of}
 
 pub var_listed : (vars : List Var) (x : Var) → listed vars x ≡ true → Contains vars x
 var_listed [] x h = absurd (false≢true h)
@@ -56,44 +56,31 @@ only_listed vars y x h = go (listed vars y) h where
   go true c = inl c
   go false c = elim (Contains-push_cases vars y x c) as (λ _. Contains vars x ⊎ (x ≡ y)) [ inl i ↦ inl i | inr e ↦ inr (sym e) ]
 
-mutual
-  kept_listed : (t : Term) (vars : List Var) (x : Var) → Contains vars x → Contains (with_variables_of t vars) x
-  kept_listed (var y) vars x h = still_listed vars y x h
-  kept_listed (app f ts) vars x h = kept_listed_among ts vars x h
+kept_listed : (xs vars : List Var) (x : Var) → Contains vars x → Contains (fold with_variable vars xs) x
+kept_listed [] vars x h = h
+kept_listed (y ∷ xs) vars x h = kept_listed xs (with_variable vars y) x (still_listed vars y x h)
 
-  kept_listed_among : (ts : Terms) (vars : List Var) (x : Var) → Contains vars x → Contains (with_variables_among ts vars) x
-  kept_listed_among none vars x h = h
-  kept_listed_among (more t ts) vars x h = kept_listed_among ts (with_variables_of t vars) x (kept_listed t vars x h)
+each_listed : (xs vars : List Var) (x : Var) → Contains xs x → Contains (fold with_variable vars xs) x
+each_listed [] vars x h = absurd (contains_none x h)
+each_listed (y ∷ xs) vars x h = elim (contains_cases y xs x h) as (λ _. Contains (fold with_variable vars (y ∷ xs)) x) [
+  | inl e ↦ kept_listed xs (with_variable vars y) x (subst (Contains (with_variable vars y)) e (now_listed vars y))
+  | inr i ↦ each_listed xs (with_variable vars y) x i
+]
 
-mutual
-  occurring_listed : (t : Term) (vars : List Var) (x : Var) → Occurs x t → Contains (with_variables_of t vars) x
-  occurring_listed (var y) vars x e = subst (λ z. Contains (with_variable vars z) x) e (now_listed vars x)
-  occurring_listed (app f ts) vars x o = occurring_listed_among ts vars x o
+none_else_listed : (xs vars : List Var) (x : Var) → Contains (fold with_variable vars xs) x → Contains vars x ⊎ Contains xs x
+none_else_listed [] vars x h = inl h
+none_else_listed (y ∷ xs) vars x h = go (none_else_listed xs (with_variable vars y) x h) where
+  at : Contains vars x ⊎ (x ≡ y) → Contains vars x ⊎ Contains (y ∷ xs) x
+  at (inl c) = inl c
+  at (inr e) = inr (subst (Contains (y ∷ xs)) (sym e) (contains_here y xs))
 
-  occurring_listed_among : (ts : Terms) (vars : List Var) (x : Var) → OccursAmong x ts → Contains (with_variables_among ts vars) x
-  occurring_listed_among none vars x o = absurd o
-  occurring_listed_among (more t ts) vars x (inl o) = kept_listed_among ts (with_variables_of t vars) x (occurring_listed t vars x o)
-  occurring_listed_among (more t ts) vars x (inr o) = occurring_listed_among ts (with_variables_of t vars) x o
-
-mutual
-  listed_occurring : (t : Term) (vars : List Var) (x : Var) → Contains (with_variables_of t vars) x → Contains vars x ⊎ Occurs x t
-  listed_occurring (var y) vars x h = only_listed vars y x h
-  listed_occurring (app f ts) vars x h = listed_occurring_among ts vars x h
-
-  listed_occurring_among : (ts : Terms) (vars : List Var) (x : Var) → Contains (with_variables_among ts vars) x → Contains vars x ⊎ OccursAmong x ts
-  listed_occurring_among none vars x h = inl h
-  listed_occurring_among (more t ts) vars x h = go (listed_occurring_among ts (with_variables_of t vars) x h) (listed_occurring t vars x) where
-    at : Contains vars x ⊎ Occurs x t → Contains vars x ⊎ (Occurs x t ⊎ OccursAmong x ts)
-    at (inl c) = inl c
-    at (inr o) = inr (inl o)
-
-    go : Contains (with_variables_of t vars) x ⊎ OccursAmong x ts → (Contains (with_variables_of t vars) x → Contains vars x ⊎ Occurs x t) → Contains vars x ⊎ (Occurs x t ⊎ OccursAmong x ts)
-    go (inl c) first = at (first c)
-    go (inr o) first = inr (inr o)
+  go : Contains (with_variable vars y) x ⊎ Contains xs x → Contains vars x ⊎ Contains (y ∷ xs) x
+  go (inl c) = at (only_listed vars y x c)
+  go (inr i) = inr (contains_later y xs x i)
 
 -- the distinct variables of a term are those that occur
 pub distinct_listed : (t : Term) (x : Var) → Occurs x t → Contains (distinct_variables_of t) x
-distinct_listed t x o = occurring_listed t [] x o
+distinct_listed t x o = each_listed (variables t) [] x (variables_list x t o)
 
 pub distinct_occurs : (t : Term) (x : Var) → Contains (distinct_variables_of t) x → Occurs x t
-distinct_occurs t x h = elim (listed_occurring t [] x h) as (λ _. Occurs x t) [ inl c ↦ absurd (contains_none x c) | inr o ↦ o ]
+distinct_occurs t x h = variables_occur x t (elim (none_else_listed (variables t) [] x h) as (λ _. Contains (variables t) x) [ inl c ↦ absurd (contains_none x c) | inr i ↦ i ])

@@ -19,7 +19,7 @@ use Rattle.fvn_rewriting.specs.declared.shapes.Shape.{Shape}
 use Rattle.fvn_rewriting.specs.Shapes.{shape_of, shape_in}
 use Rattle.fvn_rewriting.specs.Kinds.{HasOneKind}
 use Rattle.fvn_rewriting.specs.Choices.{sort_choices, IsChoice}
-use Rattle.fvn_rewriting.specs.Admissible.{IsLoss}
+use Rattle.fvn_rewriting.specs.Losses.{IsLoss}
 use Rattle.fvn_rewriting.proofs.Shaping.{shape_exact}
 use Rattle.fvn_rewriting.proofs.Trimming.{trimmed, sort_trimmed}
 use Rattle.fvn_rewriting.proofs.Choosing.{made, IsMade, occurring_sort, trimmed_choice, choosing, choosing_keeps, choosing_sorted, choosing_shape, each_sort_choice}
@@ -38,7 +38,7 @@ module _ (d : Declarations) (good : IsGood d) (completed : IsCompleted d) (left 
     left_has = has_least_sort d good (apply s left) (kinds.kind, left_kind);
     right_has_not = λ h. loses (rw (sorts right (kinds.right) within, sorts left (kinds.left) (λ x o. o)) at (least_sort_below d good (apply s right) (kinds.kind, right_kind) low h));
   } where
-    each : (x : Var) → Occurs x left → IsMade d good completed x (env x) (made d good completed (env x).face (env x).sort x)
+    each : (x : Var) → Occurs x left → IsMade d good completed x (env x) (made d good completed (env x).root (env x).sort x)
     each = each_sort_choice d good completed left kinds.kind kinds.left env choice
 
     s : Substitution
@@ -82,7 +82,7 @@ module _ (d : Declarations) (good : IsGood d) (completed : IsCompleted d) (left 
   decreases_by_choice decreasing env choice =
       rw (sorts right kinds.right within, sorts left kinds.left (λ x o. o)) at (least_sort_below d good (apply s right) (kinds.kind, kept right kinds.right) low (decreasing s (choosing_sorted d good completed left env each) low (has_least_sort d good (apply s left) (kinds.kind, kept left kinds.left))))
     where
-      each : (x : Var) → Occurs x left → IsMade d good completed x (env x) (made d good completed (env x).face (env x).sort x)
+      each : (x : Var) → Occurs x left → IsMade d good completed x (env x) (made d good completed (env x).root (env x).sort x)
       each = each_sort_choice d good completed left kinds.kind kinds.left env choice
 
       s : Substitution

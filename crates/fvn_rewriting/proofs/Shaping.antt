@@ -25,10 +25,10 @@ use Rattle.fvn_forms.proofs.Sums.{same_op_itself, same_op_is}
 use Rattle.fvn_forms.proofs.Build.{sort_is_nil, parts_none_iff, build_sum}
 use Rattle.fvn_forms.proofs.Eval.{canon_settled}
 use Rattle.fvn_forms.proofs.LeastSortOf.{IsIdentityOf, canon_left_identity, canon_right_identity, least_sort_of_app}
-use Rattle.fvn_rewriting.specs.declared.shapes.Face.{Face}
-use Rattle.fvn_rewriting.specs.declared.shapes.Face.TheVariants.{Variable, Constant, Compound}
+use Rattle.fvn_rewriting.specs.declared.shapes.Root.{Root}
+use Rattle.fvn_rewriting.specs.declared.shapes.Root.TheVariants.{Variable, Constant, Compound}
 use Rattle.fvn_rewriting.specs.declared.shapes.Shape.{Shape}
-use Rattle.fvn_rewriting.specs.Shapes.{face_of, is_face_of, sorts_of, compound, shape_of, shape_beside, shape_over, shape_in, shapes_in}
+use Rattle.fvn_rewriting.specs.Shapes.{root_of, is_root_of, sorts_of, compound, shape_of, shape_beside, shape_over, shape_in, shapes_in}
 
 each : {A : Type 0} (P : A → Type 0) → ((a : A) → P a) → (l : List A) → AllByRecursion P l
 each P h [] = tt
@@ -47,30 +47,30 @@ identity_none AssocComm n = absurd (n tt)
 identity_none (AssocCommId g) n = absurd (n tt)
 
 -- the root of a constant
-face_true : (i : Option OpId) (t : FlatTerm) → is_face_of i (face_of t) ≡ true → (e : OpId) × (i ≡ Some e) × (as_constant t ≡ Some e)
-face_true None t h = cc
-face_true (Some e) (fvar x) h = cc
-face_true (Some e) (fapp g true ts) h = cc
-face_true (Some e) (fapp g false fnone) h = (e, refl, ap Some (sym (same_op_is e g h)))
-face_true (Some e) (fapp g false (fmore t ts)) h = cc
+root_true : (i : Option OpId) (t : FlatTerm) → is_root_of i (root_of t) ≡ true → (e : OpId) × (i ≡ Some e) × (as_constant t ≡ Some e)
+root_true None t h = cc
+root_true (Some e) (fvar x) h = cc
+root_true (Some e) (fapp g true ts) h = cc
+root_true (Some e) (fapp g false fnone) h = (e, refl, ap Some (sym (same_op_is e g h)))
+root_true (Some e) (fapp g false (fmore t ts)) h = cc
 
-face_from : (i : Option OpId) (t : FlatTerm) (e : OpId) → i ≡ Some e → as_constant t ≡ Some e → is_face_of i (face_of t) ≡ true
-face_from i t e p q = rw p (go t q) where
-  go : (t : FlatTerm) → as_constant t ≡ Some e → is_face_of (Some e) (face_of t) ≡ true
+root_from : (i : Option OpId) (t : FlatTerm) (e : OpId) → i ≡ Some e → as_constant t ≡ Some e → is_root_of i (root_of t) ≡ true
+root_from i t e p q = rw p (go t q) where
+  go : (t : FlatTerm) → as_constant t ≡ Some e → is_root_of (Some e) (root_of t) ≡ true
   go (fvar x) q = cc
   go (fapp g true ts) q = cc
   go (fapp g false fnone) q = let s : g ≡ e = cc in rw s (same_op_itself e)
   go (fapp g false (fmore t ts)) q = cc
 
 -- a sum of two or more summands, and an operator over some forms, is no variable and no constant
-joined_face : (d : Declarations) (f : OpId) (l : List FlatTerm) → 2 ≤ length l → face_of (joined d f l) ≡ Compound
-joined_face d f [] n = absurd (omega arith)
-joined_face d f (t ∷ []) n = absurd (omega arith)
-joined_face d f (t ∷ u ∷ us) n = refl
+joined_root : (d : Declarations) (f : OpId) (l : List FlatTerm) → 2 ≤ length l → root_of (joined d f l) ≡ Compound
+joined_root d f [] n = absurd (omega arith)
+joined_root d f (t ∷ []) n = absurd (omega arith)
+joined_root d f (t ∷ u ∷ us) n = refl
 
-packed_face : (f : OpId) (l : List FlatTerm) → (l ≡ [] → ⊥) → face_of (fapp f false (fpack l)) ≡ Compound
-packed_face f [] n = absurd (n refl)
-packed_face f (t ∷ l) n = refl
+packed_root : (f : OpId) (l : List FlatTerm) → (l ≡ [] → ⊥) → root_of (fapp f false (fpack l)) ≡ Compound
+packed_root f [] n = absurd (n refl)
+packed_root f (t ∷ l) n = refl
 
 some_length : (l : List FlatTerm) → (l ≡ [] → ⊥) → 1 ≤ length l
 some_length [] n = absurd (n refl)
@@ -87,18 +87,18 @@ module _ (d : Declarations) where
   sorts_of_shapes [] = refl
   sorts_of_shapes (t ∷ l) = ap (λ ss. least_sort d t ∷ ss) (sorts_of_shapes l)
 
-  unjoined_face : (f : OpId) → (IsAssociative (axioms d f) → ⊥) → (t : FlatTerm) (ts : List FlatTerm) → face_of (build d f (t ∷ ts)) ≡ Compound
-  unjoined_face f n t ts = go (axioms d f) n
+  unjoined_root : (f : OpId) → (IsAssociative (axioms d f) → ⊥) → (t : FlatTerm) (ts : List FlatTerm) → root_of (build d f (t ∷ ts)) ≡ Compound
+  unjoined_root f n t ts = go (axioms d f) n
     where
-      go : (a : Axioms) → (IsAssociative a → ⊥) → face_of (built d a f (t ∷ ts)) ≡ Compound
+      go : (a : Axioms) → (IsAssociative a → ⊥) → root_of (built d a f (t ∷ ts)) ≡ Compound
       go Free m = refl
-      go Comm m = packed_face f (sort (t ∷ ts)) (λ e. let q = sort_is_nil (t ∷ ts) e in cc)
+      go Comm m = packed_root f (sort (t ∷ ts)) (λ e. let q = sort_is_nil (t ∷ ts) e in cc)
       go AssocComm m = absurd (m tt)
       go (AssocCommId o) m = absurd (m tt)
 
-  sum_face : (f : OpId) → IsAssociative (axioms d f) → (a b : FlatTerm) → (parts d f a ≡ [] → ⊥) → (parts d f b ≡ [] → ⊥) → face_of (build d f (a ∷ b ∷ [])) ≡ Compound
-  sum_face f assoc a b na nb =
-      ap face_of (build_sum d f assoc a (b ∷ []))
+  sum_root : (f : OpId) → IsAssociative (axioms d f) → (a b : FlatTerm) → (parts d f a ≡ [] → ⊥) → (parts d f b ≡ [] → ⊥) → root_of (build d f (a ∷ b ∷ [])) ≡ Compound
+  sum_root f assoc a b na nb =
+      ap root_of (build_sum d f assoc a (b ∷ []))
       ∙ (
       let x = some_length (parts d f a) na in
       let y = some_length (parts d f b) nb in
@@ -106,16 +106,16 @@ module _ (d : Declarations) where
       let m = length-append (parts d f b) [] in
       let s = length_sort (all_parts d f (a ∷ b ∷ [])) in
       let two : 2 ≤ length (sort (all_parts d f (a ∷ b ∷ []))) = omega arith in
-      joined_face d f (sort (all_parts d f (a ∷ b ∷ []))) two)
+      joined_root d f (sort (all_parts d f (a ∷ b ∷ []))) two)
 
-  shape_is : (t : FlatTerm) (s : SortId) → face_of t ≡ Compound → least_sort d t ≡ s → shape_of d t ≡ compound s
-  shape_is t s p q = ap (λ g. record { face = g; sort = least_sort d t }) p ∙ ap compound q
+  shape_is : (t : FlatTerm) (s : SortId) → root_of t ≡ Compound → least_sort d t ≡ s → shape_of d t ≡ compound s
+  shape_is t s p q = ap (λ g. record { root = g; sort = least_sort d t }) p ∙ ap compound q
 
   module _ (good : IsGood d) where
     shape_unjoined : (f : OpId) → (IsAssociative (axioms d f) → ⊥) → (t : Term) (ts : Terms) (k : SortId) → HasKind d (app f (more t ts)) k → shape_of d (canon d (app f (more t ts))) ≡ shape_over d f (map (shape_of d) (eval_all d fvar (more t ts)))
     shape_unjoined f n t ts k h =
         shape_is (canon d (app f (more t ts))) (result d f (map (least_sort d) (eval_all d fvar (more t ts))))
-        (unjoined_face f n (canon d t) (eval_all d fvar ts))
+        (unjoined_root f n (canon d t) (eval_all d fvar ts))
         (least_sort_of_app d good f (more t ts) k h (each (λ t. IsIdentityOf d f t → ⊥) (λ t w. no_identity (axioms d f) w.0 n w.1) (eval_all d fvar (more t ts))))
         ∙ ap (λ ss. compound (result d f ss)) (sym (sorts_of_shapes (eval_all d fvar (more t ts))))
         ∙ sym (beside_none d f (shape_of d (canon d t)) (map (shape_of d) (eval_all d fvar ts)))
@@ -128,27 +128,27 @@ module _ (d : Declarations) where
       abbrev b : FlatTerm
       b = canon d u
 
-      is_left : is_face_of (identity (axioms d f)) (face_of a) ≡ true → IsIdentityOf d f a
-      is_left e = face_true (identity (axioms d f)) a e
+      is_left : is_root_of (identity (axioms d f)) (root_of a) ≡ true → IsIdentityOf d f a
+      is_left e = root_true (identity (axioms d f)) a e
 
-      is_right : is_face_of (identity (axioms d f)) (face_of b) ≡ true → IsIdentityOf d f b
-      is_right e = face_true (identity (axioms d f)) b e
+      is_right : is_root_of (identity (axioms d f)) (root_of b) ≡ true → IsIdentityOf d f b
+      is_right e = root_true (identity (axioms d f)) b e
 
-      not_left : is_face_of (identity (axioms d f)) (face_of a) ≡ false → IsIdentityOf d f a → ⊥
-      not_left e w = let q = face_from (identity (axioms d f)) a w.0 w.1 w.2 in let r : true ≡ false = sym q ∙ e in cc
+      not_left : is_root_of (identity (axioms d f)) (root_of a) ≡ false → IsIdentityOf d f a → ⊥
+      not_left e w = let q = root_from (identity (axioms d f)) a w.0 w.1 w.2 in let r : true ≡ false = sym q ∙ e in cc
 
-      not_right : is_face_of (identity (axioms d f)) (face_of b) ≡ false → IsIdentityOf d f b → ⊥
-      not_right e w = let q = face_from (identity (axioms d f)) b w.0 w.1 w.2 in let r : true ≡ false = sym q ∙ e in cc
+      not_right : is_root_of (identity (axioms d f)) (root_of b) ≡ false → IsIdentityOf d f b → ⊥
+      not_right e w = let q = root_from (identity (axioms d f)) b w.0 w.1 w.2 in let r : true ≡ false = sym q ∙ e in cc
 
       shape_sum : shape_of d (canon d (two f t u)) ≡ shape_over d f (shape_of d a ∷ shape_of d b ∷ [])
-      shape_sum = go (is_face_of (identity (axioms d f)) (face_of a)) refl (is_face_of (identity (axioms d f)) (face_of b)) refl
+      shape_sum = go (is_root_of (identity (axioms d f)) (root_of a)) refl (is_root_of (identity (axioms d f)) (root_of b)) refl
         where
-          go : (x : Bool) → is_face_of (identity (axioms d f)) (face_of a) ≡ x → (y : Bool) → is_face_of (identity (axioms d f)) (face_of b) ≡ y → shape_of d (canon d (two f t u)) ≡ (if x then shape_of d b else if y then shape_of d a else compound (result d f (least_sort d a ∷ least_sort d b ∷ [])))
+          go : (x : Bool) → is_root_of (identity (axioms d f)) (root_of a) ≡ x → (y : Bool) → is_root_of (identity (axioms d f)) (root_of b) ≡ y → shape_of d (canon d (two f t u)) ≡ (if x then shape_of d b else if y then shape_of d a else compound (result d f (least_sort d a ∷ least_sort d b ∷ [])))
           go true p y q = ap (shape_of d) (canon_left_identity d f t u (is_left p))
           go false p true q = ap (shape_of d) (canon_right_identity d f t u (is_right q))
           go false p false q =
               shape_is (canon d (two f t u)) (result d f (least_sort d a ∷ least_sort d b ∷ []))
-              (sum_face f assoc a b (λ e. not_left p ((parts_none_iff d f a (canon_settled d t)).0 e)) (λ e. not_right q ((parts_none_iff d f b (canon_settled d u)).0 e)))
+              (sum_root f assoc a b (λ e. not_left p ((parts_none_iff d f a (canon_settled d t)).0 e)) (λ e. not_right q ((parts_none_iff d f b (canon_settled d u)).0 e)))
               (least_sort_of_app d good f (more t (more u none)) k h (not_left p, (not_right q, tt)))
 
     pub two_terms : (f : OpId) → IsAssociative (axioms d f) → (ts : Terms) (k : SortId) → HasKind d (app f ts) k → (t : Term) × (u : Term) × (ts ≡ more t (more u none))

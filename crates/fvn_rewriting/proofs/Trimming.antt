@@ -11,57 +11,57 @@ use Rattle.fvn_forms.specs.Canon.{same_op, identity}
 use Rattle.fvn_forms.specs.Ranks.{result}
 use Rattle.fvn_forms.proofs.Sums.{same_op_is}
 use Rattle.fvn_forms.proofs.ToCanon.{identity_is}
-use Rattle.fvn_rewriting.specs.declared.shapes.Face.{Face}
-use Rattle.fvn_rewriting.specs.declared.shapes.Face.TheVariants.{Variable, Constant, Compound}
+use Rattle.fvn_rewriting.specs.declared.shapes.Root.{Root}
+use Rattle.fvn_rewriting.specs.declared.shapes.Root.TheVariants.{Variable, Constant, Compound}
 use Rattle.fvn_rewriting.specs.declared.shapes.Shape.{Shape}
-use Rattle.fvn_rewriting.specs.Shapes.{is_face_of, sorts_of, compound, shape_beside, shape_over, shape_in, shapes_in}
+use Rattle.fvn_rewriting.specs.Shapes.{is_root_of, sorts_of, compound, shape_beside, shape_over, shape_in, shapes_in}
 use Rattle.fvn_rewriting.specs.Identities.{is_listed_op, identities}
 use Rattle.fvn_rewriting.proofs.Identities.{listed_op, identity_listed}
 
 module _ (d : Declarations) where
   -- what is no identity stands as a variable
-  abbrev pub trimmed_face : Face → Face
-  trimmed_face Variable = Variable
-  trimmed_face (Constant g) = if is_listed_op (identities d) g then Constant g else Variable
-  trimmed_face Compound = Variable
+  abbrev pub trimmed_root : Root → Root
+  trimmed_root Variable = Variable
+  trimmed_root (Constant g) = if is_listed_op (identities d) g then Constant g else Variable
+  trimmed_root Compound = Variable
 
   abbrev pub trimmed : Shape → Shape
-  trimmed s = record { face = trimmed_face s.face; sort = s.sort }
+  trimmed s = record { root = trimmed_root s.root; sort = s.sort }
 
-  is_identity_listed : (f : OpId) (g : OpId) → is_face_of (identity (axioms d f)) (Constant g) ≡ true → is_listed_op (identities d) g ≡ true
+  is_identity_listed : (f : OpId) (g : OpId) → is_root_of (identity (axioms d f)) (Constant g) ≡ true → is_listed_op (identities d) g ≡ true
   is_identity_listed f g h = go (identity (axioms d f)) refl h where
-    go : (i : Option OpId) → identity (axioms d f) ≡ i → is_face_of i (Constant g) ≡ true → is_listed_op (identities d) g ≡ true
+    go : (i : Option OpId) → identity (axioms d f) ≡ i → is_root_of i (Constant g) ≡ true → is_listed_op (identities d) g ≡ true
     go None p q = cc
     go (Some e) p q = subst (λ z. is_listed_op (identities d) z ≡ true) (same_op_is e g q) (listed_op (identities d) e (identity_listed d f e (identity_is (axioms d f) e p)))
 
-  face_none : (i : Option OpId) → is_face_of i Variable ≡ false
-  face_none None = refl
-  face_none (Some e) = refl
+  root_none : (i : Option OpId) → is_root_of i Variable ≡ false
+  root_none None = refl
+  root_none (Some e) = refl
 
-  face_compound : (i : Option OpId) → is_face_of i Compound ≡ false
-  face_compound None = refl
-  face_compound (Some e) = refl
+  root_compound : (i : Option OpId) → is_root_of i Compound ≡ false
+  root_compound None = refl
+  root_compound (Some e) = refl
 
-  -- trimmed or not, a face is that of an operator's identity
-  face_trimmed : (f : OpId) (face : Face) → is_face_of (identity (axioms d f)) (trimmed_face face) ≡ is_face_of (identity (axioms d f)) face
-  face_trimmed f Variable = refl
-  face_trimmed f Compound = face_none (identity (axioms d f)) ∙ sym (face_compound (identity (axioms d f)))
-  face_trimmed f (Constant g) = go (is_listed_op (identities d) g) refl (is_face_of (identity (axioms d f)) (Constant g)) refl where
-    go : (b : Bool) → is_listed_op (identities d) g ≡ b → (c : Bool) → is_face_of (identity (axioms d f)) (Constant g) ≡ c → is_face_of (identity (axioms d f)) (if b then Constant g else Variable) ≡ is_face_of (identity (axioms d f)) (Constant g)
+  -- trimmed or not, a root is that of an operator's identity
+  root_trimmed : (f : OpId) (root : Root) → is_root_of (identity (axioms d f)) (trimmed_root root) ≡ is_root_of (identity (axioms d f)) root
+  root_trimmed f Variable = refl
+  root_trimmed f Compound = root_none (identity (axioms d f)) ∙ sym (root_compound (identity (axioms d f)))
+  root_trimmed f (Constant g) = go (is_listed_op (identities d) g) refl (is_root_of (identity (axioms d f)) (Constant g)) refl where
+    go : (b : Bool) → is_listed_op (identities d) g ≡ b → (c : Bool) → is_root_of (identity (axioms d f)) (Constant g) ≡ c → is_root_of (identity (axioms d f)) (if b then Constant g else Variable) ≡ is_root_of (identity (axioms d f)) (Constant g)
     go true p c q = refl
     go false p true q = let r : false ≡ true = sym p ∙ is_identity_listed f g q in cc
-    go false p false q = face_none (identity (axioms d f)) ∙ sym q
+    go false p false q = root_none (identity (axioms d f)) ∙ sym q
 
-  trimmed_face_twice : (face : Face) → trimmed_face (trimmed_face face) ≡ trimmed_face face
-  trimmed_face_twice Variable = refl
-  trimmed_face_twice Compound = refl
-  trimmed_face_twice (Constant g) = go (is_listed_op (identities d) g) refl where
-    go : (b : Bool) → is_listed_op (identities d) g ≡ b → trimmed_face (if b then Constant g else Variable) ≡ (if b then Constant g else Variable)
+  trimmed_root_twice : (root : Root) → trimmed_root (trimmed_root root) ≡ trimmed_root root
+  trimmed_root_twice Variable = refl
+  trimmed_root_twice Compound = refl
+  trimmed_root_twice (Constant g) = go (is_listed_op (identities d) g) refl where
+    go : (b : Bool) → is_listed_op (identities d) g ≡ b → trimmed_root (if b then Constant g else Variable) ≡ (if b then Constant g else Variable)
     go true p = ap (λ (b : Bool). if b then Constant g else Variable) p
     go false p = refl
 
   trimmed_twice : (s : Shape) → trimmed (trimmed s) ≡ trimmed s
-  trimmed_twice s = ap (λ face. record { face = face; sort = s.sort }) (trimmed_face_twice s.face)
+  trimmed_twice s = ap (λ root. record { root = root; sort = s.sort }) (trimmed_root_twice s.root)
 
   sorts_trimmed : (ss : List Shape) → sorts_of (map trimmed ss) ≡ sorts_of ss
   sorts_trimmed [] = refl
@@ -71,7 +71,7 @@ module _ (d : Declarations) where
   beside_trimmed f a [] = refl
   beside_trimmed f a (b ∷ c ∷ ss) = ap (λ l. trimmed (compound (result d f (a.sort ∷ b.sort ∷ c.sort ∷ l)))) (sym (sorts_trimmed ss))
   beside_trimmed f a (b ∷ []) =
-      rw (face_trimmed f a.face, face_trimmed f b.face) (go (is_face_of (identity (axioms d f)) a.face) (is_face_of (identity (axioms d f)) b.face))
+      rw (root_trimmed f a.root, root_trimmed f b.root) (go (is_root_of (identity (axioms d f)) a.root) (is_root_of (identity (axioms d f)) b.root))
     where
       go : (x y : Bool) →
           trimmed (if x then b else if y then a else compound (result d f (a.sort ∷ b.sort ∷ [])))

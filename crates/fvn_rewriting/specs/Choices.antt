@@ -1,35 +1,25 @@
 -- What the variables of a term may stand for: variables of lower sorts, and identities.
 -- J. A. Goguen and J. Meseguer, Order-sorted algebra I, 1992.
-use Rattle.std.specs.Prelude.{◌≤◌, ◌+◌, ◌*◌, ℕ, Bool, true, false, nat_lt, if◌then◌else◌, List, [], ◌∷◌, ◌++◌, map, length, filter, Contains}
+use Rattle.std.specs.Prelude.{◌≤◌, ◌+◌, ◌*◌, ℕ, nat_lt, if◌then◌else◌, List, [], ◌∷◌, ◌++◌, map, length, filter, fold, Contains}
 use Rattle.fvn_base.specs.declared.limits.TheConstants.{IDENTITY_INSTANCES, SORT_INSTANCES}
 use Rattle.fvn_terms.specs.declared.plain.Var.{Var}
 use Rattle.fvn_terms.specs.declared.plain.OpId.{OpId}
 use Rattle.fvn_terms.specs.declared.plain.SortId.{SortId}
 use Rattle.fvn_terms.specs.declared.declarations.Declarations.{Declarations}
-use Rattle.fvn_terms.specs.Term.{Term, Terms, var, app, none, more}
+use Rattle.fvn_terms.specs.Term.{Term}
 use Rattle.fvn_terms.specs.Substitution.{Occurs}
 use Rattle.fvn_forms.specs.SortOrder.{at_or_below}
 use Rattle.fvn_forms.specs.Ranks.{result}
 use Rattle.fvn_drafts.specs.Collected.{first_sorts}
+use Rattle.fvn_flat.specs.Problems.{variables}
 use Rattle.fvn_flat.specs.Variables.{with_variable}
-use Rattle.fvn_rewriting.specs.declared.shapes.Face.TheVariants.{Variable, Constant}
+use Rattle.fvn_rewriting.specs.declared.shapes.Root.TheVariants.{Variable, Constant}
 use Rattle.fvn_rewriting.specs.declared.shapes.Shape.{Shape}
 use Rattle.fvn_rewriting.specs.Identities.{identities}
 
--- the list with the variables of a term that are not there yet, in order of first occurrence
-abbrev mutual
-  pub with_variables_of : Term → List Var → List Var
-  with_variables_of (var x) vars = with_variable vars x
-  with_variables_of (app f ts) vars = with_variables_among ts vars
-
-  -- the same for a list of terms, one after another
-  pub with_variables_among : Terms → List Var → List Var
-  with_variables_among none vars = vars
-  with_variables_among (more t ts) vars = with_variables_among ts (with_variables_of t vars)
-
 -- the variables of a term, each once, in order of first occurrence
 abbrev pub distinct_variables_of : Term → List Var
-distinct_variables_of t = with_variables_of t []
+distinct_variables_of t = fold with_variable [] (variables t)
 
 -- the product of numbers
 abbrev pub product : List ℕ → ℕ
@@ -38,16 +28,16 @@ product (n ∷ ns) = n * product ns
 
 -- a variable of this sort
 abbrev pub variable_shape : SortId → Shape
-variable_shape s = record { face = Variable; sort = s }
+variable_shape s = record { root = Variable; sort = s }
 
--- where a variable of a sort has so many choices, in how many ways the variables of the term may choose
+-- the product, over the distinct variables of the term, of this number for their sorts
 abbrev pub ways_to_choose : (SortId → ℕ) → Term → ℕ
 ways_to_choose number t = product (map (λ (x : Var). number x.sort) (distinct_variables_of t))
 
 module _ (d : Declarations) where
   -- the identity e
   abbrev pub identity_shape : OpId → Shape
-  identity_shape e = record { face = Constant e; sort = result d e [] }
+  identity_shape e = record { root = Constant e; sort = result d e [] }
 
   -- the identities whose sort is s or below it
   abbrev pub identities_below : SortId → List OpId
@@ -65,7 +55,7 @@ module _ (d : Declarations) where
   abbrev pub identity_choices : SortId → List Shape
   identity_choices s = variable_shape s ∷ map identity_shape (identities_below s)
 
-  -- the instances of a term by these choices are within the limits
+  -- there are few choices for the variables of the term: of identities, and of sorts and identities
   pub record InstancesFit (t : Term) : Type 0 where
     pub identity_instances : ways_to_choose (λ s. 1 + length (identities_below s)) t ≤ IDENTITY_INSTANCES
     pub sort_instances : ways_to_choose (λ s. length (sorts_below s) + length (identities_below s)) t ≤ SORT_INSTANCES

@@ -1,11 +1,12 @@
 -- Equations whose sides have one kind.
 use Rattle.std.specs.Prelude.{Contains}
+use Rattle.fvn_terms.specs.declared.plain.Var.{Var}
 use Rattle.fvn_terms.specs.declared.plain.SortId.{SortId}
 use Rattle.fvn_terms.specs.declared.declarations.Declarations.{Declarations}
 use Rattle.fvn_terms.specs.Term.{Term}
+use Rattle.fvn_terms.specs.Substitution.{Occurs}
 use Rattle.fvn_terms.specs.Signature.{HasKind}
 use Rattle.fvn_terms.specs.Theory.{Equations}
-use Rattle.fvn_terms.specs.Rewriting.{IsSortDecreasing}
 
 module _ (d : Declarations) where
   -- both sides are well-kinded terms of one kind
@@ -18,6 +19,7 @@ module _ (d : Declarations) where
   abbrev pub HaveOneKind : Equations → Type 0
   HaveOneKind equations = (equation : Term × Term) → Contains equations equation → HasOneKind equation
 
-  -- each equation is sort-decreasing
-  abbrev pub AreSortDecreasing : Equations → Type 0
-  AreSortDecreasing equations = (equation : Term × Term) → Contains equations equation → IsSortDecreasing d equation.0 equation.1
+  -- the sides have one kind, and the right side has no variable of its own
+  pub record IsKindedEquation (equation : Term × Term) : Type 0 where
+    pub kinds : HasOneKind equation
+    pub brings_none : (x : Var) → Occurs x equation.1 → Occurs x equation.0

@@ -20,11 +20,12 @@ use Rattle.fvn_forms.specs.Canon.{canon}
 use Rattle.fvn_forms.specs.Good.{IsGood}
 use Rattle.fvn_rewriting.specs.Shapes.{shape_of, shape_in}
 use Rattle.fvn_sorts.specs.Queries.{IsCompleted}
-use Rattle.fvn_rewriting.specs.declared.shapes.Face.TheVariants.{Variable, Constant}
+use Rattle.fvn_rewriting.specs.declared.shapes.Root.TheVariants.{Variable, Constant}
 use Rattle.fvn_rewriting.specs.declared.shapes.Shape.{Shape}
 use Rattle.fvn_rewriting.specs.Identities.{identities}
 use Rattle.fvn_rewriting.specs.Choices.{sort_choices, identity_choices, IsChoice}
-use Rattle.fvn_rewriting.specs.Admissible.{IsLoss, CollapsesToVariable, CollapsesToIdentity}
+use Rattle.fvn_rewriting.specs.Losses.{IsLoss}
+use Rattle.fvn_rewriting.specs.Collapses.{CollapsesToVariable, CollapsesToIdentity}
 use Rattle.fvn_rewriting.specs.Lists.{EachHasSequence}
 use Rattle.fvn_forms.specs.Flat.{FlatTerm, plain}
 use Rattle.fvn_flat.specs.Rules.{IsRuleOf}
@@ -71,6 +72,7 @@ pub record AgreementLaws (d : Declarations) (equations : Equations) : Type 0 whe
   pub terms : (s c : Substitution) (t : Term) → AgreeOn d t s c → BEqual d (apply s t) (apply c t)
   -- a well-sorted substitution that agrees with a unifier on the problem is one
   pub unifiers : (problem : Problem) (s c : Substitution) → IsUnifier d problem s → IsWellSorted d c → All (λ p. AgreeOn d p.0 s c × AgreeOn d p.1 s c) problem → IsUnifier d problem c
+  -- the same of variants, of bounds on sequences, and of covering
   pub variants : (fixed ts us : List Term) (s c : Substitution) → IsVariant d equations fixed ts us s → IsWellSorted d c → AgreeOnAll d ts s c → AgreeOnAll d fixed s c → IsVariant d equations fixed ts us c
   pub within : (most : ℕ) (ts : List Term) (s c : Substitution) → IsWithin d equations most ts s → AgreeOnAll d ts s c → IsWithin d equations most ts c
   pub covered : (vars : List Var) (ts : List Term) (s : Substitution) (us : List Term) (c e : Substitution) → Covers d vars ts s us c → AgreeOnVariables d vars c e → Covers d vars ts s us e
@@ -100,7 +102,7 @@ pub record KindedLaws (d : Declarations) (equations : Equations) : Type 0 where
 abbrev pub KindedTheoriesAreLawful : Type 0
 KindedTheoriesAreLawful = (d : Declarations) → FitsKinds d → (equations : Equations) → HaveOneKind d equations → KindedLaws d equations
 
--- the shape of an instance is computed from the shapes of the values, whatever they are
+-- in a good signature the shape of an instance is computed from the shapes of the values, whatever these are, where they keep kinds
 abbrev pub ShapesAreExact : Type 0
 ShapesAreExact = (d : Declarations) → IsGood d → (s : Substitution) → KeepsKinds d s → (t : Term) → IsTerm d t → shape_of d (canon d (apply s t)) ≡ shape_in d (λ x. shape_of d (canon d (s x))) t
 
@@ -113,11 +115,11 @@ pub record ChoiceLaws (d : Declarations) : Type 0 where
   pub losing : (left right : Term) → HasOneKind d (left, right) → ((x : Var) → Occurs x right → Occurs x left) →
       (env : Var → Shape) → IsChoice (sort_choices d) left env → (AtOrBelow d (shape_in d env right).sort (shape_in d env left).sort → ⊥) → IsLoss d left right
   -- a term collapses to a variable exactly where some choice of identities gives it the shape of one
-  pub to_variable : (t : Term) → IsTerm d t → CollapsesToVariable d t ↔ ((env : Var → Shape) × IsChoice (identity_choices d) t env × ((shape_in d env t).face ≡ Variable))
+  pub to_variable : (t : Term) → IsTerm d t → CollapsesToVariable d t ↔ ((env : Var → Shape) × IsChoice (identity_choices d) t env × ((shape_in d env t).root ≡ Variable))
   -- and to an identity exactly where one gives it the shape of an identity
-  pub to_identity : (t : Term) → IsTerm d t → CollapsesToIdentity d t ↔ ((env : Var → Shape) × IsChoice (identity_choices d) t env × ((e : OpId) × Contains (identities d) e × ((shape_in d env t).face ≡ Constant e)))
+  pub to_identity : (t : Term) → IsTerm d t → CollapsesToIdentity d t ↔ ((env : Var → Shape) × IsChoice (identity_choices d) t env × ((e : OpId) × Contains (identities d) e × ((shape_in d env t).root ≡ Constant e)))
 
--- in a good signature
+-- in a good signature with all that its queries need
 abbrev pub ChoicesAreEnough : Type 0
 ChoicesAreEnough = (d : Declarations) → IsGood d → IsCompleted d → ChoiceLaws d
 
@@ -130,6 +132,6 @@ pub record RuleLaws (d : Declarations) (equations : Equations) : Type 0 where
   -- both sides of a rule have one kind
   pub kinds : (l r : FlatTerm) → IsRuleOf d equations l r → HasOneKind d (plain l, plain r)
 
--- in a good signature, for equations whose sides have one kind each
+-- in a good signature with all that its queries need, for equations whose sides have one kind each
 abbrev pub RulesAreLawful : Type 0
 RulesAreLawful = (d : Declarations) → IsGood d → IsCompleted d → (equations : Equations) → HaveOneKind d equations → RuleLaws d equations

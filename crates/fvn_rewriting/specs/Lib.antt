@@ -5,5 +5,7 @@ pub mod Kinds
 pub mod Shapes
 pub mod Identities
 pub mod Choices
+pub mod Collapses
+pub mod Losses
 pub mod Admissible
 pub mod Laws

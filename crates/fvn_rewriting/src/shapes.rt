@@ -3,7 +3,7 @@ use fvn_terms::{OpId, SortId};
 
 /// What a flat form is at its root: a variable, a constant, or an operator over arguments.
 #[derive(Debug, Clone, Copy, PartialEq, Eq)]
-pub enum Face {
+pub enum Root {
     Variable,
     Constant(OpId),
     Compound,
@@ -12,6 +12,6 @@ pub enum Face {
 /// The root of the flat form of a term, and the term's least sort.
 #[derive(Debug, Clone, Copy, PartialEq, Eq)]
 pub struct Shape {
-    pub face: Face,
+    pub root: Root,
     pub sort: SortId,
 }

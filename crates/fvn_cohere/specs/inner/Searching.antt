@@ -8,8 +8,8 @@ use Rattle.fvn_terms.specs.declared.declarations.Declarations.{Declarations}
 use Rattle.fvn_terms.specs.Term.{Term}
 use Rattle.fvn_terms.specs.Substitution.{same_var}
 use Rattle.fvn_forms.specs.SortOrder.{at_or_below}
-use Rattle.fvn_rewriting.specs.declared.shapes.Face.{Face}
-use Rattle.fvn_rewriting.specs.declared.shapes.Face.TheVariants.{Variable, Constant, Compound}
+use Rattle.fvn_rewriting.specs.declared.shapes.Root.{Root}
+use Rattle.fvn_rewriting.specs.declared.shapes.Root.TheVariants.{Variable, Constant, Compound}
 use Rattle.fvn_rewriting.specs.declared.shapes.Shape.{Shape}
 use Rattle.fvn_rewriting.specs.Shapes.{shape_in}
 use Rattle.fvn_rewriting.specs.Identities.{is_listed_op}
@@ -37,16 +37,16 @@ abbrev pub unchosen_of : (SortId → List Shape) → List Var → List (Var × L
 unchosen_of choices vars = map (λ (x : Var). (x, choices x.sort)) vars
 
 -- whether this is the root of a variable
-abbrev pub is_variable_face : Face → Bool
-is_variable_face Variable = true
-is_variable_face (Constant g) = false
-is_variable_face Compound = false
+abbrev pub is_variable_root : Root → Bool
+is_variable_root Variable = true
+is_variable_root (Constant g) = false
+is_variable_root Compound = false
 
 -- whether this is the root of one of these constants
-abbrev pub is_identity_face : List OpId → Face → Bool
-is_identity_face es Variable = false
-is_identity_face es (Constant g) = is_listed_op es g
-is_identity_face es Compound = false
+abbrev pub is_identity_root : List OpId → Root → Bool
+is_identity_root es Variable = false
+is_identity_root es (Constant g) = is_listed_op es g
+is_identity_root es Compound = false
 
 module _ (d : Declarations) where
   -- what variables may stand for in a search
@@ -58,5 +58,5 @@ module _ (d : Declarations) where
   -- whether a choice is what is sought
   abbrev pub is_met : Sought → List OpId → Term → Term → (Var → Shape) → Bool
   is_met Loss es left right env = not (at_or_below d (shape_in d env right).sort (shape_in d env left).sort)
-  is_met ToVariable es left right env = is_variable_face (shape_in d env left).face
-  is_met ToIdentity es left right env = is_identity_face es (shape_in d env left).face
+  is_met ToVariable es left right env = is_variable_root (shape_in d env left).root
+  is_met ToIdentity es left right env = is_identity_root es (shape_in d env left).root

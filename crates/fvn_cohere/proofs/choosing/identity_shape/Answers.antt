@@ -1,9 +1,9 @@
 -- The least sort of the constant.
 use Rattle.std.proofs.Common.{ap}
 use Rattle.fvn_terms.specs.declared.plain.SortId.{SortId}
-use Rattle.fvn_rewriting.specs.declared.shapes.Face.TheVariants.{Constant}
+use Rattle.fvn_rewriting.specs.declared.shapes.Root.TheVariants.{Constant}
 use Rattle.fvn_rewriting.specs.declared.shapes.Shape.{Shape}
 use Rattle.fvn_cohere.proofs.choosing.identity_shape.Goals as goal
 
 pub returns : goal.returns
-returns c = ap (λ (s : SortId). record { face = Constant c.args.e; sort = s }) c.result-sort.ensures.exact
+returns c = ap (λ (s : SortId). record { root = Constant c.args.e; sort = s }) c.result-sort.ensures.exact

@@ -1,21 +1,41 @@
 -- One equation more.
-use Rattle.std.proofs.Common.{sym, subst}
+use Rattle.std.proofs.Common.{◌≡◌, ◌<◌, ◌≤◌, List, length, get_or, sym, subst}
 use Rattle.fvn_terms.specs.Plain.{term}
-use Rattle.fvn_cohere.specs.declared.losing.Sides.{Sides}
-use Rattle.fvn_cohere.specs.Promises.{IsFitEquation}
-use Rattle.fvn_cohere.proofs.Firsts.{decreasing_more, first_loss, all_decreasing, got}
+use Rattle.fvn_module.specs.declared.equation.Equation.{Equation}
+use Rattle.fvn_module.specs.Readable.{IsReadableEquation}
+use Rattle.fvn_rewriting.specs.Kinds.{IsKindedEquation}
+use Rattle.fvn_cohere.specs.Promises.{sides_of, LosesAs}
+use Rattle.fvn_cohere.proofs.Firsts.{kinded, decreasing_more, first_loss, all_decreasing}
 use Rattle.fvn_cohere.proofs.losing.sort_loss.Goals as goal
 
 pub loses_sort-requires : goal.loses_sort-requires
-loses_sort-requires c = subst (λ (e : Sides). IsFitEquation c.args.sig.now (term e.left) (term e.right)) (sym c.index-equations-i.is) (c.requires c.loop-i.i c.index-equations-i.result c.loop-i-test.true)
+loses_sort-requires c =
+    let m = c.args.module.now in
+    let e : Equation = c.index-list-i.result in
+    let within : c.loop-i.i < length m.equations = subst (λ (l : List Equation). c.loop-i.i < length l) c.equations-list.ensures c.loop-i-test.true in
+    let is : e ≡ get_or m.equations c.loop-i.i e = subst (λ (l : List Equation). e ≡ get_or l c.loop-i.i e) c.equations-list.ensures c.index-list-i.is in
+    subst (λ d. IsKindedEquation d (sides_of e)) (sym c.signature-sig.ensures)
+    (kinded m.signature e (subst (IsReadableEquation m.signature) (sym is) (c.recall_readable.ensures.equations c.loop-i.i e within)))
 
 pub loop-i-preserved : goal.loop-i-preserved
 loop-i-preserved c =
-    decreasing_more c.args.sig.now c.args.equations.now c.loop-i.i c.index-equations-i.result c.loop-i-test.true c.index-equations-i.is c.loop-i.invariant c.in_ok-loses.loses c.if-loses.false c.in_ok-loses.ensures
+    let m = c.args.module.now in
+    let e : Equation = c.index-list-i.result in
+    let within : c.loop-i.i < length m.equations = subst (λ (l : List Equation). c.loop-i.i < length l) c.equations-list.ensures c.loop-i-test.true in
+    let is : e ≡ get_or m.equations c.loop-i.i e = subst (λ (l : List Equation). e ≡ get_or l c.loop-i.i e) c.equations-list.ensures c.index-list-i.is in
+    decreasing_more m.signature m.equations c.loop-i.i e within is c.loop-i.invariant c.in_ok-loses.loses c.if-loses.false
+    (subst (λ d. LosesAs d (term e.left) (term e.right) c.in_ok-loses.loses) c.signature-sig.ensures c.in_ok-loses.ensures)
 
 pub returns-then-loses : goal.returns-then-loses
 returns-then-loses c =
-    first_loss c.args.sig.now c.args.equations.now c.loop-i.i c.index-equations-i.result (got c.args.equations.now c.loop-i.i c.index-equations-i.result c.loop-i-test.true c.index-equations-i.is) c.loop-i.invariant c.in_ok-loses.loses c.if-loses.true c.in_ok-loses.ensures
+    let m = c.args.module.now in
+    let e : Equation = c.index-list-i.result in
+    let within : c.loop-i.i < length m.equations = subst (λ (l : List Equation). c.loop-i.i < length l) c.equations-list.ensures c.loop-i-test.true in
+    let is : e ≡ get_or m.equations c.loop-i.i e = subst (λ (l : List Equation). e ≡ get_or l c.loop-i.i e) c.equations-list.ensures c.index-list-i.is in
+    first_loss m.signature m.equations c.loop-i.i e within is c.loop-i.invariant c.in_ok-loses.loses c.if-loses.true
+    (subst (λ d. LosesAs d (term e.left) (term e.right) c.in_ok-loses.loses) c.signature-sig.ensures c.in_ok-loses.ensures)
 
 pub returns : goal.returns
-returns c = all_decreasing c.args.sig.now c.args.equations.now c.loop-i.i c.loop-i-test.false c.loop-i.invariant
+returns c =
+    let m = c.args.module.now in
+    all_decreasing m.signature m.equations c.loop-i.i (subst (λ (l : List Equation). length l ≤ c.loop-i.i) c.equations-list.ensures c.loop-i-test.false) c.loop-i.invariant

@@ -12,9 +12,9 @@ returns-in-Loss c =
 pub returns-in-ToVariable : goal.returns-in-ToVariable
 returns-in-ToVariable c =
     met_variable c.args.self.now.sig.now c.args.self.now.identities.now (term c.args.self.now.left.now) (term c.args.self.now.right.now) (shapes_by c.args.chosen.now)
-    c.args.self.now.sought c.shape-left.result c.is_variable_face.result c.in-ToVariable.is c.shape-left.ensures c.is_variable_face.ensures
+    c.args.self.now.sought c.shape-left.result c.is_variable_root.result c.in-ToVariable.is c.shape-left.ensures c.is_variable_root.ensures
 
 pub returns-in-ToIdentity : goal.returns-in-ToIdentity
 returns-in-ToIdentity c =
     met_identity c.args.self.now.sig.now c.args.self.now.identities.now (term c.args.self.now.left.now) (term c.args.self.now.right.now) (shapes_by c.args.chosen.now)
-    c.args.self.now.sought c.shape-left.result c.is_identity_face.result c.in-ToIdentity.is c.shape-left.ensures c.is_identity_face.ensures
+    c.args.self.now.sought c.shape-left.result c.is_identity_root.result c.in-ToIdentity.is c.shape-left.ensures c.is_identity_root.ensures
