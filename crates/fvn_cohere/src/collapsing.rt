@@ -2,13 +2,14 @@
 ghost use Rattle.std.specs.Prelude.{IfOk};
 ghost use Rattle.fvn_terms.specs.Plain.{term};
 ghost use Rattle.fvn_terms.specs.Signature.{IsTerm};
-ghost use Rattle.fvn_cohere.specs.Promises.{CollapsesAs};
+ghost use Rattle.fvn_cohere.specs.Promises.{IsNumberIn, OfEquation, CollapsesAs};
 
 use crate::choosing::unchosen;
 use crate::identities::identities;
 use crate::searching::{Search, Sought};
 use crate::shapes::Chosen;
 use crate::variables::distinct_variables;
+use fvn_module::Module;
 use fvn_sorts::Signature;
 use fvn_terms::{NoMemory, Plain};
 use std::alloc::Global;
@@ -20,15 +21,8 @@ pub enum Collapse {
     Identity,
 }
 
-/// What a left side collapses to: to a variable, or else to an identity.
-///
-/// It goes through the choices of identities for its variables, one by one; `instances_fit` says whether they are few
-/// enough.
-pub fn left_collapses(
-    alloc: Global,
-    sig: &Signature,
-    left: &Plain,
-) -> Result<Option<Collapse>, NoMemory>
+// What a left side collapses to.
+fn collapses(alloc: Global, sig: &Signature, left: &Plain) -> Result<Option<Collapse>, NoMemory>
     requires { IsTerm sig.now (term left.now) }
     ensures { IfOk result (CollapsesAs sig.now (term left.now)) }
 {
@@ -63,4 +57,24 @@ pub fn left_collapses(
         return Ok(Some(Collapse::Identity));
     }
     Ok(None)
+}
+
+/// What the left side of an equation, by its number from 1, collapses to: to a variable, or else to an identity.
+///
+/// It goes through the choices of identities for its variables, one by one; `instances_fit` says whether they are few
+/// enough.
+pub fn left_collapses(
+    alloc: Global,
+    module: &Module,
+    number: usize,
+) -> Result<Option<Collapse>, NoMemory>
+    requires { IsNumberIn module.now number }
+    ensures { IfOk result (λ c. OfEquation module.now number (λ e. CollapsesAs module.now.signature (term e.left) c)) }
+{
+    module.recall_readable();
+    let sig = module.signature();
+    let list = module.equations();
+    let e = &list[number - 1];
+    let collapse = collapses(alloc, sig, &e.left)?;
+    Ok(collapse)
 }

@@ -4,11 +4,13 @@ ghost use Rattle.fvn_base.specs.declared.limits.TheConstants.{IDENTITY_INSTANCES
 ghost use Rattle.fvn_terms.specs.Plain.{term};
 ghost use Rattle.fvn_rewriting.specs.Identities.{identities};
 ghost use Rattle.fvn_rewriting.specs.Choices.{identities_below, sorts_below, InstancesFit};
+ghost use Rattle.fvn_cohere.specs.Promises.{IsNumberIn, OfEquation};
 ghost use Rattle.fvn_cohere.specs.inner.Capped.{capped};
 
 use crate::identities::{identities, identities_below, sorts_below};
 use crate::variables::distinct_variables;
 use fvn_base::limits::{IDENTITY_INSTANCES, SORT_INSTANCES};
+use fvn_module::Module;
 use fvn_sorts::Signature;
 use fvn_terms::{NoMemory, OpId, Plain, SortId};
 use std::alloc::Global;
@@ -46,11 +48,8 @@ fn are_within(by_identities: u64, by_sorts: u64) -> bool
     by_sorts <= SORT_INSTANCES
 }
 
-/// Whether the identity instances of the left side of an equation, and its instances by sorts and identities, are
-/// within the limits.
-///
-/// It takes both products of the choices of its variables in one pass.
-pub fn instances_fit(alloc: Global, sig: &Signature, left: &Plain) -> Result<bool, NoMemory>
+// Whether both products are within their limits for the left side.
+fn fits(alloc: Global, sig: &Signature, left: &Plain) -> Result<bool, NoMemory>
     ensures { IfOk result (λ fit. IsTrue fit ↔ InstancesFit sig.now (term left.now)) }
 {
     let es = identities(alloc, sig)?;
@@ -65,4 +64,19 @@ pub fn instances_fit(alloc: Global, sig: &Signature, left: &Plain) -> Result<boo
         by_sorts = many;
     }
     Ok(are_within(by_identities, by_sorts))
+}
+
+/// Whether the left side of an equation, by its number from 1, has at most 4,096 instances by identities, and at most
+/// 16,777,216 by sorts and identities.
+///
+/// It takes both products of the choices of its variables in one pass.
+pub fn instances_fit(alloc: Global, module: &Module, number: usize) -> Result<bool, NoMemory>
+    requires { IsNumberIn module.now number }
+    ensures { IfOk result (λ fit. OfEquation module.now number (λ e. IsTrue fit ↔ InstancesFit module.now.signature (term e.left))) }
+{
+    let sig = module.signature();
+    let list = module.equations();
+    let e = &list[number - 1];
+    let fit = fits(alloc, sig, &e.left)?;
+    Ok(fit)
 }

@@ -12,4 +12,4 @@ mod variables;
 
 pub use collapsing::{Collapse, left_collapses};
 pub use fitting::instances_fit;
-pub use losing::{loses_sort, sort_loss};
+pub use losing::sort_loss;

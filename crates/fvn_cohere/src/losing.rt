@@ -15,17 +15,8 @@ use fvn_sorts::Signature;
 use fvn_terms::{NoMemory, Plain};
 use std::alloc::Global;
 
-/// Whether an equation loses a sort: some instance of its left side has a sort that the same instance of its right side
-/// has not.
-///
-/// It goes through the choices of sorts and identities for its variables, one by one; `instances_fit` says whether they
-/// are few enough.
-pub fn loses_sort(
-    alloc: Global,
-    sig: &Signature,
-    left: &Plain,
-    right: &Plain,
-) -> Result<bool, NoMemory>
+// Whether an equation loses a sort.
+fn loses(alloc: Global, sig: &Signature, left: &Plain, right: &Plain) -> Result<bool, NoMemory>
     requires { IsKindedEquation sig.now (term left.now, term right.now) }
     ensures { IfOk result (LosesAs sig.now (term left.now) (term right.now)) }
 {
@@ -45,11 +36,14 @@ pub fn loses_sort(
         right,
         unchosen: left_over,
     };
-    let loses = search.find(0, &Chosen::Nothing);
-    Ok(loses)
+    let found = search.find(0, &Chosen::Nothing);
+    Ok(found)
 }
 
 /// The number, from 1, of the first equation of the module that is not sort-decreasing; none where each is.
+///
+/// It goes through the choices of sorts and identities for the variables of each equation, one by one; `instances_fit`
+/// says whether they are few enough.
 pub fn sort_loss(alloc: Global, module: &Module) -> Result<Option<usize>, NoMemory>
     ensures { IfOk result (λ n. MatchOption n
         (AreSortDecreasing module.now.signature (equations_of module.now.equations))
@@ -60,8 +54,8 @@ pub fn sort_loss(alloc: Global, module: &Module) -> Result<Option<usize>, NoMemo
     let list = module.equations();
     for i in 0..list.len() {
         let e = &list[i];
-        let loses = loses_sort(alloc, sig, &e.left, &e.right)?;
-        if loses {
+        let found = loses(alloc, sig, &e.left, &e.right)?;
+        if found {
             return Ok(Some(i + 1));
         }
     }

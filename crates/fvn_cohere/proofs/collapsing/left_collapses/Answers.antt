@@ -1,42 +1,30 @@
--- What the searches find.
-use Rattle.std.proofs.Common.{refl, sym, ◌∙◌}
+-- The equation of the number.
+use Rattle.std.proofs.Common.{◌≡◌, ◌-◌, ◌<◌, List, length, get_or, sym, subst, arith}
 use Rattle.fvn_terms.specs.Plain.{term}
-use Rattle.fvn_cohere.specs.declared.shapes.Chosen.{Nothing}
-use Rattle.fvn_cohere.specs.declared.searching.Sought.TheVariants.{ToVariable, ToIdentity}
-use Rattle.fvn_cohere.specs.inner.Searching.{shapes_by}
-use Rattle.fvn_cohere.proofs.Found.{variable_found, no_variable, identity_found, no_identity, searched_by}
+use Rattle.fvn_terms.specs.Signature.{IsTerm}
+use Rattle.fvn_module.specs.declared.equation.Equation.{Equation}
+use Rattle.fvn_module.specs.Readable.{IsReadableEquation}
+use Rattle.fvn_cohere.specs.Promises.{CollapsesAs}
+use Rattle.fvn_cohere.proofs.Firsts.{at_number}
 use Rattle.fvn_cohere.proofs.collapsing.left_collapses.Goals as goal
 
-pub unchosen-requires : goal.unchosen-requires
-unchosen-requires c = c.as_slice-ids.ensures.value ∙ c.in_ok-es.ensures
+pub bounds-list-number-sub-1 : goal.bounds-list-number-sub-1
+bounds-list-number-sub-1 c = ?
 
-pub returns-then-find : goal.returns-then-find
-returns-then-find c =
-    variable_found c.args.sig.now c.recall_good.ensures c.recall_completed.ensures (shapes_by Nothing) (term c.args.left.now) c.requires
-    (sym (searched_by c.args.sig.now c.recall_good.ensures c.recall_completed.ensures (shapes_by Nothing) (term c.args.left.now) c.requires ToVariable ToVariable c.as_slice-ids.result.now c.as_slice-list.result.now c.as_slice-left_over.result.now c.find.result
-    (c.as_slice-ids.ensures.value ∙ c.in_ok-es.ensures) (c.as_slice-list.ensures.value ∙ c.in_ok-vars.ensures) (c.as_slice-left_over.ensures.value ∙ c.in_ok-all.ensures) refl c.find.ensures)
-    ∙ c.if-find.true)
-
-pub returns-then-find-2 : goal.returns-then-find-2
-returns-then-find-2 c = (
-  no_variable c.args.sig.now c.recall_good.ensures c.recall_completed.ensures (shapes_by Nothing) (term c.args.left.now) c.requires
-      (sym (searched_by c.args.sig.now c.recall_good.ensures c.recall_completed.ensures (shapes_by Nothing) (term c.args.left.now) c.requires ToVariable ToVariable c.as_slice-ids.result.now c.as_slice-list.result.now c.as_slice-left_over.result.now c.find.result
-      (c.as_slice-ids.ensures.value ∙ c.in_ok-es.ensures) (c.as_slice-list.ensures.value ∙ c.in_ok-vars.ensures) (c.as_slice-left_over.ensures.value ∙ c.in_ok-all.ensures) refl c.find.ensures)
-      ∙ c.if-find.false),
-  identity_found c.args.sig.now c.recall_good.ensures c.recall_completed.ensures (shapes_by Nothing) (term c.args.left.now) c.requires
-      (sym (searched_by c.args.sig.now c.recall_good.ensures c.recall_completed.ensures (shapes_by Nothing) (term c.args.left.now) c.requires ToVariable ToIdentity c.as_slice-ids.result.now c.as_slice-list.result.now c.as_slice-left_over.result.now c.find-2.result
-      (c.as_slice-ids.ensures.value ∙ c.in_ok-es.ensures) (c.as_slice-list.ensures.value ∙ c.in_ok-vars.ensures) (c.as_slice-left_over.ensures.value ∙ c.in_ok-all.ensures) refl c.find-2.ensures)
-      ∙ c.if-find-2.true),
-)
+pub collapses-requires : goal.collapses-requires
+collapses-requires c =
+    let m = c.args.module.now in
+    let n = c.args.number in
+    let e : Equation = c.index-list.result in
+    let within : n - 1 < length m.equations = omega (arith, c.requires.from_one, c.requires.listed) in
+    let is : e ≡ get_or m.equations (n - 1) e = subst (λ (l : List Equation). e ≡ get_or l (n - 1) e) c.equations-list.ensures c.index-list.is in
+    let h = subst (IsReadableEquation m.signature) (sym is) (c.recall_readable.ensures.equations (n - 1) e within) in
+    subst (λ d. IsTerm d (term e.left)) (sym c.signature-sig.ensures) (h.kind, h.left)
 
 pub returns : goal.returns
-returns c = (
-  no_variable c.args.sig.now c.recall_good.ensures c.recall_completed.ensures (shapes_by Nothing) (term c.args.left.now) c.requires
-      (sym (searched_by c.args.sig.now c.recall_good.ensures c.recall_completed.ensures (shapes_by Nothing) (term c.args.left.now) c.requires ToVariable ToVariable c.as_slice-ids.result.now c.as_slice-list.result.now c.as_slice-left_over.result.now c.find.result
-      (c.as_slice-ids.ensures.value ∙ c.in_ok-es.ensures) (c.as_slice-list.ensures.value ∙ c.in_ok-vars.ensures) (c.as_slice-left_over.ensures.value ∙ c.in_ok-all.ensures) refl c.find.ensures)
-      ∙ c.if-find.false),
-  no_identity c.args.sig.now c.recall_good.ensures c.recall_completed.ensures (shapes_by Nothing) (term c.args.left.now) c.requires
-      (sym (searched_by c.args.sig.now c.recall_good.ensures c.recall_completed.ensures (shapes_by Nothing) (term c.args.left.now) c.requires ToVariable ToIdentity c.as_slice-ids.result.now c.as_slice-list.result.now c.as_slice-left_over.result.now c.find-2.result
-      (c.as_slice-ids.ensures.value ∙ c.in_ok-es.ensures) (c.as_slice-list.ensures.value ∙ c.in_ok-vars.ensures) (c.as_slice-left_over.ensures.value ∙ c.in_ok-all.ensures) refl c.find-2.ensures)
-      ∙ c.if-find-2.false),
-)
+returns c =
+    let m = c.args.module.now in
+    let n = c.args.number in
+    let e : Equation = c.index-list.result in
+    at_number (λ (q : Equation). CollapsesAs m.signature (term q.left) c.in_ok-collapse.collapse) m n e c.requires (subst (λ (l : List Equation). e ≡ get_or l (n - 1) e) c.equations-list.ensures c.index-list.is)
+    (subst (λ d. CollapsesAs d (term e.left) c.in_ok-collapse.collapse) c.signature-sig.ensures c.in_ok-collapse.ensures)

@@ -8,8 +8,8 @@ use Rattle.fvn_cohere.specs.Promises.{sides_of, LosesAs}
 use Rattle.fvn_cohere.proofs.Firsts.{kinded, decreasing_more, first_loss, all_decreasing}
 use Rattle.fvn_cohere.proofs.losing.sort_loss.Goals as goal
 
-pub loses_sort-requires : goal.loses_sort-requires
-loses_sort-requires c =
+pub loses-requires : goal.loses-requires
+loses-requires c =
     let m = c.args.module.now in
     let e : Equation = c.index-list-i.result in
     let within : c.loop-i.i < length m.equations = subst (λ (l : List Equation). c.loop-i.i < length l) c.equations-list.ensures c.loop-i-test.true in
@@ -23,17 +23,17 @@ loop-i-preserved c =
     let e : Equation = c.index-list-i.result in
     let within : c.loop-i.i < length m.equations = subst (λ (l : List Equation). c.loop-i.i < length l) c.equations-list.ensures c.loop-i-test.true in
     let is : e ≡ get_or m.equations c.loop-i.i e = subst (λ (l : List Equation). e ≡ get_or l c.loop-i.i e) c.equations-list.ensures c.index-list-i.is in
-    decreasing_more m.signature m.equations c.loop-i.i e within is c.loop-i.invariant c.in_ok-loses.loses c.if-loses.false
-    (subst (λ d. LosesAs d (term e.left) (term e.right) c.in_ok-loses.loses) c.signature-sig.ensures c.in_ok-loses.ensures)
+    decreasing_more m.signature m.equations c.loop-i.i e within is c.loop-i.invariant c.in_ok-found.found c.if-found.false
+    (subst (λ d. LosesAs d (term e.left) (term e.right) c.in_ok-found.found) c.signature-sig.ensures c.in_ok-found.ensures)
 
-pub returns-then-loses : goal.returns-then-loses
-returns-then-loses c =
+pub returns-then-found : goal.returns-then-found
+returns-then-found c =
     let m = c.args.module.now in
     let e : Equation = c.index-list-i.result in
     let within : c.loop-i.i < length m.equations = subst (λ (l : List Equation). c.loop-i.i < length l) c.equations-list.ensures c.loop-i-test.true in
     let is : e ≡ get_or m.equations c.loop-i.i e = subst (λ (l : List Equation). e ≡ get_or l c.loop-i.i e) c.equations-list.ensures c.index-list-i.is in
-    first_loss m.signature m.equations c.loop-i.i e within is c.loop-i.invariant c.in_ok-loses.loses c.if-loses.true
-    (subst (λ d. LosesAs d (term e.left) (term e.right) c.in_ok-loses.loses) c.signature-sig.ensures c.in_ok-loses.ensures)
+    first_loss m.signature m.equations c.loop-i.i e within is c.loop-i.invariant c.in_ok-found.found c.if-found.true
+    (subst (λ d. LosesAs d (term e.left) (term e.right) c.in_ok-found.found) c.signature-sig.ensures c.in_ok-found.ensures)
 
 pub returns : goal.returns
 returns c =

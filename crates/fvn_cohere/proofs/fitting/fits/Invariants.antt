@@ -3,7 +3,7 @@ use Rattle.std.proofs.Common.{◌≡◌, ◌+◌, map, length, take}
 use Rattle.fvn_terms.specs.declared.plain.Var.{Var}
 use Rattle.fvn_rewriting.specs.Choices.{product, identities_below, sorts_below}
 use Rattle.fvn_cohere.specs.inner.Capped.{capped}
-use Rattle.fvn_cohere.proofs.fitting.instances_fit.Given as goal
+use Rattle.fvn_cohere.proofs.fitting.fits.Given as goal
 
 abbrev pub invariant-loop-x : goal.invariant-loop-x
 invariant-loop-x l = record {

@@ -1,0 +1,217 @@
+#!/usr/bin/env python3
+"""Prints what becomes of the equations of small modules, by the definitions alone.
+
+    python3 bench/equations.py < MODULES
+
+Each line of the input has the statements of a module. The program adds for each equation `v` where some of the variables
+of its left side may be replaced by identities so that it becomes a variable, `i` where it becomes an identity and no
+variable, and `-` else; then `!` where an instance of it loses a sort; `x` where there are too many instances to ask.
+Behind a bar comes the number of the first equation that loses a sort, or 0. Instances replace variables by variables of
+lower sorts, by constants, and by operators over these; sorts are read after identities are removed.
+"""
+
+import itertools
+import re
+import sys
+
+IDENTITY_INSTANCES = 4096
+SORT_INSTANCES = 16777216
+
+
+class Module:
+    def __init__(self, text):
+        self.sorts, self.pairs, self.ops, self.vars, self.equations = [], set(), {}, {}, []
+        for statement in re.split(r" \.(?: |$)", text.strip()):
+            if statement.strip():
+                self.read(statement.split())
+        self.order()
+
+    def read(self, w):
+        key, rest = w[0], w[1:]
+        if key in ("sort", "sorts"):
+            self.sorts += [s for s in rest if s not in self.sorts]
+        elif key in ("subsort", "subsorts"):
+            groups, group = [], []
+            for s in rest + ["<"]:
+                if s == "<":
+                    groups.append(group)
+                    group = []
+                else:
+                    group.append(s)
+            for low, high in zip(groups, groups[1:]):
+                self.pairs |= {(a, b) for a in low for b in high}
+        elif key in ("op", "ops"):
+            colon = rest.index(":")
+            arrow = rest.index("->")
+            marks = " ".join(rest[arrow + 2 :])
+            for name in rest[:colon]:
+                op = self.ops.setdefault(name, {"ranks": [], "sum": False, "comm": False, "id": None})
+                op["ranks"].append((tuple(rest[colon + 1 : arrow]), rest[arrow + 1]))
+                if "comm" in marks:
+                    op["comm"] = True
+                if "assoc" in marks:
+                    op["sum"] = True
+                found = re.search(r"id: (\S+?)(?: |\])", marks)
+                if found:
+                    op["id"] = found.group(1)
+        elif key in ("var", "vars"):
+            for name in rest[: rest.index(":")]:
+                self.vars[name] = rest[rest.index(":") + 1]
+        elif key == "eq":
+            text = " ".join(w[1:])
+            text = re.sub(r"^\[[^]]*\] : ", "", text)
+            text = re.sub(r" \[variant\]$", "", text)
+            left, right = text.split(" = ")
+            self.equations.append((left, right))
+
+    def order(self):
+        up = {s: {s} for s in self.sorts}
+        changed = True
+        while changed:
+            changed = False
+            for a, b in self.pairs:
+                for s in self.sorts:
+                    if a in up[s] and b not in up[s]:
+                        up[s].add(b)
+                        changed = True
+        kind = {s: s for s in self.sorts}
+        for a, b in list(self.pairs) * len(self.sorts):
+            first = min(kind[a], kind[b], key=self.sorts.index)
+            for s in self.sorts:
+                if kind[s] in (kind[a], kind[b]):
+                    kind[s] = first
+        self.kind = {s: "[" + kind[s] + "]" for s in self.sorts}
+        self.up = {s: up[s] | {self.kind[s]} for s in self.sorts}
+        for k in set(self.kind.values()):
+            self.up[k] = {k}
+            self.kind[k] = k
+        for op in self.ops.values():
+            ranks = list(op["ranks"])
+            if op["comm"]:
+                ranks += [(args[::-1], r) for args, r in ranks]
+            ranks += [(tuple(self.kind[a] for a in args), self.kind[r]) for args, r in ranks]
+            op["all"] = ranks
+        self.identities = sorted({o["id"] for o in self.ops.values() if o["id"]})
+
+    def parse(self, text):
+        pos = 0
+
+        def term():
+            nonlocal pos
+            name = re.match(r"[^(),]+", text[pos:]).group(0)
+            pos += len(name)
+            args = []
+            if pos < len(text) and text[pos] == "(":
+                pos += 1
+                while True:
+                    args.append(term())
+                    pos += 1
+                    if text[pos - 1] == ")":
+                        break
+            if name in self.vars:
+                return ("var", name, self.sort(self.vars[name]))
+            if name in self.ops:
+                if self.ops[name]["sum"]:
+                    while len(args) > 2:
+                        args[-2:] = [(name, [args[-2], args[-1]])]
+                return (name, args)
+            name, sort = name.split(":", 1)
+            return ("var", name, self.sort(sort))
+
+        return term()
+
+    def sort(self, text):
+        return self.kind[text.strip("[]").split(",")[0]] if text[0] == "[" else text
+
+    def plain(self, t):
+        """The term without identities."""
+        if t[0] == "var":
+            return t
+        args = [self.plain(a) for a in t[1]]
+        e = self.ops[t[0]]["id"]
+        if e is not None and len(args) == 2:
+            if args[0] == (e, []):
+                return args[1]
+            if args[1] == (e, []):
+                return args[0]
+        return (t[0], args)
+
+    def least(self, t):
+        """The least sort of a term without identities."""
+        if t[0] == "var":
+            return t[2]
+        low = [self.least(a) for a in t[1]]
+        results = [r for args, r in self.ops[t[0]]["all"] if len(args) == len(low) and all(a in self.up[s] for a, s in zip(args, low))]
+        least = [r for r in results if all(q in self.up[r] for q in results)]
+        assert least, (t, results)
+        return least[0]
+
+    def variables(self, t, seen):
+        if t[0] == "var":
+            if t not in seen:
+                seen.append(t)
+        else:
+            for a in t[1]:
+                self.variables(a, seen)
+        return seen
+
+    def apply(self, t, values):
+        if t[0] == "var":
+            return values[t]
+        return (t[0], [self.apply(a, values) for a in t[1]])
+
+    def below(self, s):
+        return [q for q in self.up if s in self.up[q]]
+
+    def values(self, x):
+        """Values of a variable: variables of lower sorts, constants, and operators over these."""
+        simple = [("var", x[1] + q, q) for q in self.up if self.kind[q] == self.kind[x[2]]]
+        constants = [(c, []) for c, o in self.ops.items() if o["ranks"][0][0] == ()]
+        found = simple + constants
+        for f, o in self.ops.items():
+            places = o["ranks"][0][0]
+            if len(places) in (1, 2):
+                of = [[v for v in [("var", x[1] + str(i) + q, q) for q in self.up] + constants if self.kind[self.least(v)] == self.kind[p]] for i, p in enumerate(places)]
+                found += [self.plain((f, list(args))) for args in itertools.product(*of)]
+        return [v for v in found if x[2] in self.up[self.least(v)]]
+
+    def few(self, vars):
+        ids = [sum(x[2] in self.up[self.least((e, []))] for e in self.identities) for x in vars]
+        first = second = 1
+        for x, n in zip(vars, ids):
+            first *= 1 + n
+            second *= len(self.below(x[2])) + n
+        return first <= IDENTITY_INSTANCES and second <= SORT_INSTANCES
+
+    def told(self, left, right):
+        vars = self.variables(left, [])
+        if not self.few(vars):
+            return "x", False
+        becomes = set()
+        ids = [[x] + [(e, []) for e in self.identities if x[2] in self.up[self.least((e, []))]] for x in vars]
+        for choice in itertools.product(*ids):
+            t = self.plain(self.apply(left, dict(zip(vars, choice))))
+            becomes.add("v" if t[0] == "var" else "i" if t[1] == [] and t[0] in self.identities else "-")
+        loses = False
+        for choice in itertools.product(*[self.values(x) for x in vars]):
+            by = dict(zip(vars, choice))
+            low, high = self.least(self.plain(self.apply(left, by))), self.least(self.plain(self.apply(right, by)))
+            if low not in self.up[high]:
+                loses = True
+                break
+        return ("v" if "v" in becomes else "i" if "i" in becomes else "-") + ("!" if loses else ""), loses
+
+
+def main():
+    for line in sys.stdin:
+        module = Module(line)
+        out, first = [], 0
+        for n, (left, right) in enumerate(module.equations, 1):
+            told, loses = module.told(module.parse(left), module.parse(right))
+            out.append(told)
+            if loses and not first:
+                first = n
+        print(f"{line.rstrip()} => {' '.join(out)} | {first}")
+
+
+main()
