@@ -5,17 +5,13 @@
 
 Each line of the input has the statements of a module. The program adds for each equation `v` where some of the variables
 of its left side may be replaced by identities so that it becomes a variable, `i` where it becomes an identity and no
-variable, and `-` else; then `!` where an instance of it loses a sort; `x` where there are too many instances to ask.
-Behind a bar comes the number of the first equation that loses a sort, or 0. Instances replace variables by variables of
+variable, and `-` else. Behind a bar comes the number of the first equation that loses a sort, or 0. Instances replace variables by variables of
 lower sorts, by constants, and by operators over these; sorts are read after identities are removed.
 """
 
 import itertools
 import re
 import sys
-
-IDENTITY_INSTANCES = 4096
-SORT_INSTANCES = 16777216
 
 
 class Module:
@@ -160,9 +156,6 @@ class Module:
             return values[t]
         return (t[0], [self.apply(a, values) for a in t[1]])
 
-    def below(self, s):
-        return [q for q in self.up if s in self.up[q]]
-
     def values(self, x):
         """Values of a variable: variables of lower sorts, constants, and operators over these."""
         simple = [("var", x[1] + q, q) for q in self.up if self.kind[q] == self.kind[x[2]]]
@@ -175,18 +168,8 @@ class Module:
                 found += [self.plain((f, list(args))) for args in itertools.product(*of)]
         return [v for v in found if x[2] in self.up[self.least(v)]]
 
-    def few(self, vars):
-        ids = [sum(x[2] in self.up[self.least((e, []))] for e in self.identities) for x in vars]
-        first = second = 1
-        for x, n in zip(vars, ids):
-            first *= 1 + n
-            second *= len(self.below(x[2])) + n
-        return first <= IDENTITY_INSTANCES and second <= SORT_INSTANCES
-
     def told(self, left, right):
         vars = self.variables(left, [])
-        if not self.few(vars):
-            return "x", False
         becomes = set()
         ids = [[x] + [(e, []) for e in self.identities if x[2] in self.up[self.least((e, []))]] for x in vars]
         for choice in itertools.product(*ids):
@@ -199,7 +182,7 @@ class Module:
             if low not in self.up[high]:
                 loses = True
                 break
-        return ("v" if "v" in becomes else "i" if "i" in becomes else "-") + ("!" if loses else ""), loses
+        return "v" if "v" in becomes else "i" if "i" in becomes else "-", loses
 
 
 def main():

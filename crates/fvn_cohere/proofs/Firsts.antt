@@ -1,9 +1,9 @@
 -- Equations up to the first that loses a sort.
-use Rattle.std.proofs.Common.{◌≡◌, ◌≤◌, ◌<◌, ◌+◌, ◌-◌, ℕ, zero, suc, Bool, true, false, List, [], ◌∷◌, ◌++◌, map, length, take, get_or, refl, sym, ap, ◌∙◌, subst, arith}
+use Rattle.std.proofs.Common.{◌≡◌, ◌≤◌, ◌<◌, ◌+◌, ◌-◌, ℕ, zero, suc, Bool, true, false, List, [], ◌∷◌, ◌++◌, map, length, take, get_or, Some, refl, sym, ap, ◌∙◌, subst, arith}
+use Rattle.std.specs.Prelude.{slice_get}
 use Rattle.std.specs.List.{All, Contains}
 use Rattle.std.proofs.lemmas.List.{take_more, take_all}
 use Rattle.std.proofs.lemmas.List.Elements.{All-push, All-contains}
-use Rattle.std.proofs.lemmas.Option.{slice_get_read}
 use Rattle.fvn_base.proofs.Membership.{map_contains}
 use Rattle.fvn_base.proofs.Options.{Some-injective}
 use Rattle.fvn_terms.specs.declared.declarations.Declarations.{Declarations}
@@ -15,7 +15,7 @@ use Rattle.fvn_rewriting.specs.Losses.{AreSortDecreasing, IsFirstLoss}
 use Rattle.fvn_module.specs.declared.equation.Equation.{Equation}
 use Rattle.fvn_module.specs.Readable.{IsReadableEquation}
 use Rattle.fvn_module.specs.Contents.{Contents}
-use Rattle.fvn_cohere.specs.Promises.{sides_of, equations_of, IsNumberIn, OfEquation, LosesAs}
+use Rattle.fvn_cohere.specs.Promises.{sides_of, equations_of, OfEquation, LosesAs}
 
 -- the equations before one of them, it, and those after it
 split_at : (list : List Equation) (i : ℕ) (e : Equation) → i < length list → e ≡ get_or list i e → (after : Equations) × ((equations_of list ≡ equations_of (take i list) ++ (sides_of e ∷ after)) × (length (equations_of (take i list)) ≡ i))
@@ -25,11 +25,9 @@ split_at (q ∷ list) (suc i) e within is =
     let r = split_at list i e (omega (arith, within)) is in
     (r.0, (ap (λ l. sides_of q ∷ l) r.1.0, ap suc r.1.1))
 
--- the equation of a number is the one at its place
-pub at_number : (P : Equation → Type 0) (m : Contents) (number : ℕ) (e : Equation) → IsNumberIn m number → e ≡ get_or m.equations (number - 1) e → P e → OfEquation m number P
-at_number P m number e within is h q p =
-    let place : number - 1 < length m.equations = omega (arith, within.from_one, within.listed) in
-    subst P (Some-injective (sym (slice_get_read m.equations (length m.equations) (number - 1) e refl place is) ∙ p)) h
+-- what holds of the equation that is found at its number
+pub of_found : (P : Equation → Type 0) (m : Contents) (number : ℕ) (e : Equation) → slice_get m.equations (number - 1) ≡ Some e → P e → OfEquation m number P
+of_found P m number e is h q p = subst P (Some-injective (sym is ∙ p)) h
 
 module _ (d : Declarations) where
   -- what was read of an equation is what is asked of it

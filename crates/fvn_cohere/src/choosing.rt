@@ -63,8 +63,8 @@ fn lower_or_identities(
     ensures { IfOk result (λ all. all.items ≡ map variable_shape (sorts_below sig.now s) ++ map (identity_shape sig.now) es.now) }
 {
     let sorts = sorts_below(alloc, sig, s)?;
-    let first = variable_shapes(alloc, sorts.as_slice())?;
-    let all = with_identity_shapes(sig, first, es)?;
+    let lower = variable_shapes(alloc, sorts.as_slice())?;
+    let all = with_identity_shapes(sig, lower, es)?;
     Ok(all)
 }
 

@@ -5,6 +5,7 @@ ghost use Rattle.fvn_terms.specs.Signature.{IsTerm};
 ghost use Rattle.fvn_cohere.specs.Promises.{IsNumberIn, OfEquation, CollapsesAs};
 
 use crate::choosing::unchosen;
+use crate::equations::equation_at;
 use crate::identities::identities;
 use crate::searching::{Search, Sought};
 use crate::shapes::Chosen;
@@ -71,10 +72,8 @@ pub fn left_collapses(
     requires { IsNumberIn module.now number }
     ensures { IfOk result (λ c. OfEquation module.now number (λ e. CollapsesAs module.now.signature (term e.left) c)) }
 {
-    module.recall_readable();
     let sig = module.signature();
-    let list = module.equations();
-    let e = &list[number - 1];
+    let e = equation_at(module, number);
     let collapse = collapses(alloc, sig, &e.left)?;
     Ok(collapse)
 }

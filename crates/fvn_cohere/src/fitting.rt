@@ -7,6 +7,7 @@ ghost use Rattle.fvn_rewriting.specs.Choices.{identities_below, sorts_below, Ins
 ghost use Rattle.fvn_cohere.specs.Promises.{IsNumberIn, OfEquation};
 ghost use Rattle.fvn_cohere.specs.inner.Capped.{capped};
 
+use crate::equations::equation_at;
 use crate::identities::{identities, identities_below, sorts_below};
 use crate::variables::distinct_variables;
 use fvn_base::limits::{IDENTITY_INSTANCES, SORT_INSTANCES};
@@ -75,8 +76,7 @@ pub fn instances_fit(alloc: Global, module: &Module, number: usize) -> Result<bo
     ensures { IfOk result (λ fit. OfEquation module.now number (λ e. IsTrue fit ↔ InstancesFit module.now.signature (term e.left))) }
 {
     let sig = module.signature();
-    let list = module.equations();
-    let e = &list[number - 1];
+    let e = equation_at(module, number);
     let fit = fits(alloc, sig, &e.left)?;
     Ok(fit)
 }

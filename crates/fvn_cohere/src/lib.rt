@@ -3,6 +3,7 @@
 
 mod choosing;
 mod collapsing;
+mod equations;
 mod fitting;
 mod identities;
 mod losing;

@@ -1,0 +1,18 @@
+//! Equations by their numbers.
+ghost use Rattle.std.specs.Prelude.{◌≡◌, ◌-◌, Some, slice_get};
+ghost use Rattle.fvn_module.specs.Readable.{IsReadableEquation};
+ghost use Rattle.fvn_cohere.specs.Promises.{IsNumberIn};
+
+use fvn_module::{Equation, Module};
+
+// The equation of a number from 1.
+pub(crate) fn equation_at(module: &Module, number: usize) -> &Equation
+    requires { IsNumberIn module.now number }
+    ensures is { slice_get module.now.equations (number - 1) ≡ Some result.now }
+    ensures readable { IsReadableEquation module.now.signature result.now }
+{
+    module.recall_readable();
+    let list = module.equations();
+    let place = number - 1;
+    &list[place]
+}
