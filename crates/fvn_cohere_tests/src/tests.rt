@@ -12,7 +12,8 @@ use std::string::String;
 // some of its variables are identities, i where it becomes an identity, and - else; and behind a bar the number of the
 // first equation that loses a sort, or 0. `bench/equations.py` prints these lines from the modules, by the definitions
 // alone.
-const EQUATIONS: &str = "sorts A B . subsort A < B . op f : B -> A . op g : B -> B . var X : B . eq f(X) = g(X) [variant] . eq g(X) = f(X) [variant] . eq g(f(X)) = X [variant] . eq f(g(X)) = f(X) [variant] . eq f(f(X)) = f(X) [variant] . => - - - - - | 1
+const EQUATIONS: &str =
+    "sorts A B . subsort A < B . op f : B -> A . op g : B -> B . var X : B . eq f(X) = g(X) [variant] . eq g(X) = f(X) [variant] . eq g(f(X)) = X [variant] . eq f(g(X)) = f(X) [variant] . eq f(f(X)) = f(X) [variant] . => - - - - - | 1
 sort S . op mt : -> S . op _*_ : S S -> S [assoc comm id: mt] . vars X Y : S . eq _*_(X,X) = mt [variant] . eq _*_(X,Y) = X [variant] . eq _*_(X,X,Y) = Y [variant] . eq mt = mt [variant] . => i v v i | 0
 sorts Nat NatSet . subsort Nat < NatSet . op 0 : -> Nat . op s : Nat -> Nat . op mt : -> NatSet . op _*_ : NatSet NatSet -> NatSet [assoc comm] . vars X Y Z : [NatSet] . eq _*_(X,X) = mt [variant] . eq _*_(X,X,Z) = Z [variant] . eq _*_(X,mt) = X [variant] . eq s(X) = s(X) [variant] . eq s(s(X)) = X [variant] . => - - - - - | 0
 sort S . ops a b c d e : -> S . op h : S S -> S [assoc comm id: e] . op f : S S -> S [assoc comm] . vars X Y : S . eq h(X,f(a,b)) = c [variant] . eq h(X,Y) = Y [variant] . eq f(X,h(X,Y)) = X [variant] . eq h(X,e) = X [variant] . eq f(e,e) = e [variant] . => - v - v - | 0

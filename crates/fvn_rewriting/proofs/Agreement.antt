@@ -1,24 +1,23 @@
 -- Substitutions that agree on terms.
-use Rattle.std.proofs.Common.{◌≡◌, ◌<◌, ◌≤◌, ℕ, zero, suc, List, [], ◌∷◌, map, refl, sym, subst, inl, inr, arith, get_or}
-use Rattle.std.specs.List.{AllZip, Contains, All}
+use Rattle.std.proofs.Common.{◌≡◌, ℕ, suc, List, [], ◌∷◌, map, refl, subst, inl, inr, arith}
+use Rattle.std.specs.List.{AllZip, All}
 use Rattle.std.proofs.lemmas.List.Elements.{All-nil, All-cons, All-head, All-tail}
 use Rattle.fvn_terms.specs.declared.plain.Var.{Var}
 use Rattle.fvn_terms.specs.declared.declarations.Declarations.{Declarations}
 use Rattle.fvn_terms.specs.Term.{Term, Terms, var, app, none, more}
-use Rattle.fvn_terms.specs.Substitution.{Substitution, apply, apply_all, followed_by, Occurs, OccursAmong}
-use Rattle.fvn_terms.specs.Places.{stop}
+use Rattle.fvn_terms.specs.Substitution.{Substitution, apply, apply_all, followed_by, OccursAmong}
 use Rattle.fvn_terms.specs.Equality.{IsAxiomEitherWay, BEqual}
 use Rattle.fvn_terms.specs.Sorts.{IsWellSorted}
 use Rattle.fvn_terms.specs.Unifiers.{Problem, IsUnifier, Solves}
 use Rattle.fvn_terms.specs.Theory.{Equations}
-use Rattle.fvn_terms.specs.Rewriting.{IsIrreducible, IsIrreducibleList, ListSequence}
-use Rattle.fvn_terms.specs.Variants.{IsVariant, IsWithin, Covers, OccursInSome}
+use Rattle.fvn_terms.specs.Rewriting.{IsIrreducible, ListSequence}
+use Rattle.fvn_terms.specs.Variants.{IsVariant, IsWithin, OccursInSome}
 use Rattle.fvn_terms.specs.Laws.{RewritingLaws}
 use Rattle.fvn_terms.proofs.Substitutions.{apply-apply}
 use Rattle.fvn_terms.proofs.Steps.{EachLeads, each_none, each_more}
 use Rattle.fvn_terms.proofs.Equal.{BEqual-trans, BEqual-sym, BEqual-inside}
 use Rattle.fvn_terms.proofs.WellSorted.{IsWellSorted-followed_by}
-use Rattle.fvn_rewriting.specs.Agreement.{AgreeOn, AgreeOnAll, AgreeOnVariables, TakesBack}
+use Rattle.fvn_rewriting.specs.Agreement.{AgreeOn, AgreeOnAll, TakesBack}
 use Rattle.fvn_rewriting.specs.Laws.{AgreementLaws}
 use Rattle.fvn_rewriting.proofs.Sequences.{irreducible_modulo, irreducible_taken_back}
 use Rattle.fvn_rewriting.proofs.Lists.{each_equal_back, list_before, list_instance}

@@ -1,22 +1,22 @@
 -- Choices of shapes, and the substitutions that make them.
-use Rattle.std.proofs.Common.{◌≡◌, ◌<◌, ◌≤◌, ◌⊎◌, ℕ, Bool, true, false, List, [], ◌∷◌, ◌++◌, map, length, get_or, Option, Some, None, refl, sym, ap, ◌∙◌, subst, inl, inr, arith}
+use Rattle.std.proofs.Common.{◌≡◌, ◌<◌, ◌≤◌, Bool, true, false, List, [], ◌∷◌, map, length, refl, sym, ap, ◌∙◌, subst, inl, inr}
 use Rattle.std.specs.Prelude.{if◌then◌else◌, nat_lt, filter}
 use Rattle.std.specs.List.{Contains}
-use Rattle.std.proofs.lemmas.Bool.{cases_lt, cases_Bool, le-ltb}
+use Rattle.std.proofs.lemmas.Bool.{cases_lt, le-ltb}
 use Rattle.std.proofs.lemmas.List.{get_or_past}
 use Rattle.std.proofs.lemmas.List.Elements.{All-contains, Contains-append_left, Contains-append_right, Contains-append_cases}
-use Rattle.fvn_base.proofs.Membership.{contains_here, contains_later, contains_cases, contains_none, filter_contains, contains_filter, contains_map, map_contains}
+use Rattle.fvn_base.proofs.Membership.{contains_here, contains_cases, contains_none, filter_contains, contains_filter, contains_map, map_contains}
 use Rattle.fvn_terms.specs.declared.plain.Var.{Var}
 use Rattle.fvn_terms.specs.declared.plain.OpId.{OpId}
 use Rattle.fvn_terms.specs.declared.plain.SortId.{SortId}
 use Rattle.fvn_terms.specs.declared.declarations.Declarations.{Declarations}
 use Rattle.fvn_terms.specs.Term.{Term, Terms, var, app, none, more}
 use Rattle.fvn_terms.specs.Substitution.{Substitution, apply, Occurs, OccursAmong}
-use Rattle.fvn_terms.specs.Signature.{kind, IsSort, AtOrBelow, same, up, to_kind, HasKind, HaveKinds, KeepsKinds, IsTerm}
+use Rattle.fvn_terms.specs.Signature.{kind, IsSort, AtOrBelow, same, up, to_kind, HasKind, HaveKinds, KeepsKinds}
 use Rattle.fvn_terms.specs.Places.{stop}
 use Rattle.fvn_terms.specs.Equality.{constant}
 use Rattle.fvn_terms.specs.Sorts.{HasSort, IsWellSorted}
-use Rattle.fvn_forms.specs.Flat.{FlatTerm, FlatTerms, fvar, fapp, fnone, fmore, fconstant}
+use Rattle.fvn_forms.specs.Flat.{FlatTerm, fvar, fapp, fnone, fmore}
 use Rattle.fvn_forms.specs.SortOrder.{at_or_below}
 use Rattle.fvn_forms.specs.Canon.{canon}
 use Rattle.fvn_forms.specs.Ranks.{result}
@@ -26,18 +26,16 @@ use Rattle.fvn_forms.proofs.SortOrder.{AtOrBelow-one_kind, AtOrBelow-from_same, 
 use Rattle.fvn_forms.proofs.SortTests.{at_or_below-true, at_or_below-complete}
 use Rattle.fvn_forms.proofs.LeastSort.{least_sort_exact}
 use Rattle.fvn_drafts.specs.Collected.{first_sorts}
-use Rattle.fvn_drafts.proofs.Parts.{contains_first_sorts, first_sorts_contains}
-use Rattle.fvn_sorts.specs.Queries.{IsKind, IsCompleted}
-use Rattle.fvn_flat.specs.Problems.{variables}
-use Rattle.fvn_flat.proofs.VariableLists.{variables_list, variables_occur}
+use Rattle.fvn_drafts.proofs.Parts.{contains_first_sorts}
+use Rattle.fvn_sorts.specs.Queries.{IsCompleted}
 use Rattle.fvn_flat.specs.Rules.{IsIdentity}
 use Rattle.fvn_rewriting.specs.declared.shapes.Root.{Root}
 use Rattle.fvn_rewriting.specs.declared.shapes.Root.TheVariants.{Variable, Constant, Compound}
 use Rattle.fvn_rewriting.specs.declared.shapes.Shape.{Shape}
 use Rattle.fvn_rewriting.specs.Shapes.{shape_of, shape_in}
 use Rattle.fvn_rewriting.specs.Identities.{is_listed_op, identities}
-use Rattle.fvn_rewriting.specs.Choices.{variable_shape, identity_shape, identities_below, sorts_below, sort_choices, identity_choices, IsChoice}
-use Rattle.fvn_rewriting.proofs.Identities.{op_listed, identity_listed, listed_identity, identity_kind}
+use Rattle.fvn_rewriting.specs.Choices.{variable_shape, identity_shape, identities_below, sorts_below, sort_choices, IsChoice}
+use Rattle.fvn_rewriting.proofs.Identities.{op_listed, listed_identity, identity_kind}
 use Rattle.fvn_rewriting.proofs.Shaping.{shape_exact}
 use Rattle.fvn_rewriting.proofs.Trimming.{trimmed, shape_agrees}
 use Rattle.fvn_rewriting.proofs.Listing.{occurs_test, occurs_if, test_if}

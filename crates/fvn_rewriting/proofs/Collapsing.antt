@@ -1,5 +1,5 @@
 -- A term collapses exactly where a choice of identities for its variables gives it the shape of a variable or of an identity.
-use Rattle.std.proofs.Common.{◌≡◌, ◌⊎◌, Bool, true, false, List, [], ◌∷◌, map, refl, sym, ap, ◌∙◌, subst, inl, inr}
+use Rattle.std.proofs.Common.{◌≡◌, ◌⊎◌, Bool, true, false, [], map, refl, sym, ap, ◌∙◌, subst, inl, inr}
 use Rattle.std.specs.List.{Contains}
 use Rattle.fvn_base.proofs.Membership.{contains_here, contains_later, contains_cases, contains_map, map_contains}
 use Rattle.fvn_terms.specs.declared.plain.Var.{Var}
@@ -8,18 +8,17 @@ use Rattle.fvn_terms.specs.declared.plain.SortId.{SortId}
 use Rattle.fvn_terms.specs.declared.declarations.Declarations.{Declarations}
 use Rattle.fvn_terms.specs.Term.{Term, var}
 use Rattle.fvn_terms.specs.Substitution.{Substitution, apply, Occurs}
-use Rattle.fvn_terms.specs.Signature.{AtOrBelow, same, kind, IsSort, HasKind, KeepsKinds}
+use Rattle.fvn_terms.specs.Signature.{AtOrBelow, same, kind, HasKind, KeepsKinds}
 use Rattle.fvn_terms.specs.Equality.{constant}
-use Rattle.fvn_forms.specs.Flat.{FlatTerm, FlatTerms, fvar, fapp, fnone, fmore, fconstant}
+use Rattle.fvn_forms.specs.Flat.{FlatTerm, fvar, fapp, fnone, fmore, fconstant}
 use Rattle.fvn_forms.specs.Canon.{canon}
 use Rattle.fvn_forms.specs.Ranks.{result}
 use Rattle.fvn_forms.specs.Good.{IsGood}
-use Rattle.fvn_forms.proofs.SortOrder.{AtOrBelow-one_kind}
 use Rattle.fvn_forms.proofs.LeastSort.{least_sort_below}
 use Rattle.fvn_sorts.specs.Queries.{IsCompleted}
 use Rattle.fvn_flat.specs.Rules.{IsIdentity, GoesToIdentity, IsIdentityChoice}
 use Rattle.fvn_rewriting.specs.declared.shapes.Root.{Root}
-use Rattle.fvn_rewriting.specs.declared.shapes.Root.TheVariants.{Variable, Constant, Compound}
+use Rattle.fvn_rewriting.specs.declared.shapes.Root.TheVariants.{Variable, Constant}
 use Rattle.fvn_rewriting.specs.declared.shapes.Shape.{Shape}
 use Rattle.fvn_rewriting.specs.Shapes.{root_of, shape_of, shape_in}
 use Rattle.fvn_rewriting.specs.Identities.{identities}

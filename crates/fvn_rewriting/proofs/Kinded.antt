@@ -1,12 +1,11 @@
 -- Steps keep kinds, and equality in the theory of confluent equations is meeting of sequences.
-use Rattle.std.proofs.Common.{◌≡◌, ◌+◌, ◌⊎◌, ℕ, zero, suc, List, [], ◌∷◌, refl, sym, subst, ◌∙◌, inl, inr, arith}
-use Rattle.std.specs.List.{Contains}
+use Rattle.std.proofs.Common.{◌+◌, ◌⊎◌, ℕ, zero, suc, List, [], ◌∷◌, sym, subst, inl, inr}
 use Rattle.fvn_terms.specs.declared.plain.SortId.{SortId}
 use Rattle.fvn_terms.specs.declared.declarations.Declarations.{Declarations}
-use Rattle.fvn_terms.specs.Term.{Term, Terms, app, none, more}
+use Rattle.fvn_terms.specs.Term.{Term, Terms, app, more}
 use Rattle.fvn_terms.specs.Substitution.{Substitution, apply}
 use Rattle.fvn_terms.specs.Signature.{HasKind, HaveKinds, IsTerm}
-use Rattle.fvn_terms.specs.Places.{AtOnePlace, AmongOnePlace, here, inside, first, later, Leads, stop, step}
+use Rattle.fvn_terms.specs.Places.{AtOnePlace, AmongOnePlace, here, inside, first, later, stop, step}
 use Rattle.fvn_terms.specs.Equality.{IsAxiomEitherWay, BEqual}
 use Rattle.fvn_terms.specs.Theory.{Equations, IsRule, IsLaw, TEqual}
 use Rattle.fvn_terms.specs.Rewriting.{Rewrites, TermSequence, IsIrreducible, IsConfluent, AreJoinable}
@@ -17,7 +16,7 @@ use Rattle.fvn_forms.specs.FitsKinds.{FitsKinds}
 use Rattle.fvn_forms.proofs.KindsKept.{kind_unique, b_equal_keeps_kind}
 use Rattle.fvn_rewriting.specs.Kinds.{HaveOneKind}
 use Rattle.fvn_rewriting.specs.Laws.{KindedLaws}
-use Rattle.fvn_rewriting.proofs.Sequences.{sequence_before, sequence_after}
+use Rattle.fvn_rewriting.proofs.Sequences.{sequence_before}
 
 -- a step at one place by one of two relations
 mutual

@@ -1,12 +1,11 @@
 -- An equation is sort-decreasing exactly where no choice for its variables loses a sort.
-use Rattle.std.proofs.Common.{◌≡◌, refl, sym, ap, ◌∙◌, subst}
+use Rattle.std.proofs.Common.{◌≡◌, sym, ap, ◌∙◌, subst}
 use Rattle.fvn_terms.specs.declared.plain.Var.{Var}
 use Rattle.fvn_terms.specs.declared.plain.SortId.{SortId}
 use Rattle.fvn_terms.specs.declared.declarations.Declarations.{Declarations}
 use Rattle.fvn_terms.specs.Term.{Term}
 use Rattle.fvn_terms.specs.Substitution.{Substitution, apply, Occurs}
-use Rattle.fvn_terms.specs.Signature.{AtOrBelow, kind, HasKind, IsTerm}
-use Rattle.fvn_terms.specs.Sorts.{HasSort, IsWellSorted}
+use Rattle.fvn_terms.specs.Signature.{AtOrBelow, kind, HasKind}
 use Rattle.fvn_terms.specs.Rewriting.{IsSortDecreasing}
 use Rattle.fvn_terms.proofs.Equal.{HasKind-apply}
 use Rattle.fvn_forms.specs.Canon.{canon}

@@ -1,25 +1,24 @@
 -- Instances of the rules of a module are steps.
-use Rattle.std.proofs.Common.{◌≡◌, ◌⊎◌, List, refl, sym, ap, ◌∙◌, subst, inl, inr}
+use Rattle.std.proofs.Common.{◌≡◌, ◌⊎◌, refl, sym, subst, inl, inr}
 use Rattle.std.specs.List.{Contains}
 use Rattle.fvn_terms.specs.declared.plain.Var.{Var}
 use Rattle.fvn_terms.specs.declared.plain.OpId.{OpId}
 use Rattle.fvn_terms.specs.declared.plain.SortId.{SortId}
 use Rattle.fvn_terms.specs.declared.declarations.Declarations.{Declarations}
-use Rattle.fvn_terms.specs.Term.{Term, Terms, var, app, none, more}
+use Rattle.fvn_terms.specs.Term.{Term, var, app}
 use Rattle.fvn_terms.specs.Substitution.{Substitution, apply, followed_by, Occurs}
-use Rattle.fvn_terms.specs.Signature.{kind, IsSort, axioms, same, HasKind, KeepsKinds}
-use Rattle.fvn_terms.specs.Places.{AtOnePlace, here, inside, first, stop}
-use Rattle.fvn_terms.specs.Equality.{two, BEqual, IsAssociative}
+use Rattle.fvn_terms.specs.Signature.{IsSort, same, HasKind}
+use Rattle.fvn_terms.specs.Places.{here, inside, first, stop}
+use Rattle.fvn_terms.specs.Equality.{two, BEqual}
 use Rattle.fvn_terms.specs.Sorts.{HasSort, IsWellSorted}
-use Rattle.fvn_terms.specs.Theory.{Equations, IsRule}
+use Rattle.fvn_terms.specs.Theory.{Equations}
 use Rattle.fvn_terms.specs.Rewriting.{Rewrites, BringsNoVariable}
 use Rattle.fvn_terms.specs.Laws.{RewritingLaws}
 use Rattle.fvn_terms.proofs.Substitutions.{apply-apply}
-use Rattle.fvn_terms.proofs.Equal.{HasKind-apply, BEqual-apply, BEqual-trans, BEqual-sym}
+use Rattle.fvn_terms.proofs.Equal.{HasKind-apply, BEqual-apply, BEqual-sym}
 use Rattle.fvn_terms.proofs.WellSorted.{IsWellSorted-followed_by}
 use Rattle.fvn_terms.proofs.Occurrences.{occurs_value, occurs_instance, BEqual-occurs}
 use Rattle.fvn_forms.specs.Flat.{FlatTerm, plain}
-use Rattle.fvn_forms.specs.Canon.{canon}
 use Rattle.fvn_forms.specs.Good.{IsGood}
 use Rattle.fvn_forms.proofs.KindsKept.{sum_of_kind, kind_unique}
 use Rattle.fvn_forms.proofs.ToCanon.{to_canon, canon_of_kind}

@@ -1,5 +1,5 @@
 -- The shape of an instance, by the shapes of the values.
-use Rattle.std.proofs.Common.{◌≡◌, ◌≤◌, ◌+◌, Bool, true, false, List, [], ◌∷◌, ◌++◌, map, length, Option, Some, None, refl, sym, ap, ◌∙◌, subst, arith}
+use Rattle.std.proofs.Common.{◌≡◌, ◌≤◌, Bool, true, false, List, [], ◌∷◌, ◌++◌, map, length, Option, Some, None, refl, sym, ap, ◌∙◌, subst, arith}
 use Rattle.std.specs.Prelude.{if◌then◌else◌}
 use Rattle.std.specs.List.{AllByRecursion}
 use Rattle.std.proofs.lemmas.List.{length-append}
@@ -14,9 +14,9 @@ use Rattle.fvn_terms.specs.Substitution.{Substitution, apply, apply_all}
 use Rattle.fvn_terms.specs.Signature.{axioms, HasKind, HaveKinds, KeepsKinds}
 use Rattle.fvn_terms.specs.Equality.{two, IsAssociative}
 use Rattle.fvn_terms.proofs.Equal.{HasKind-apply}
-use Rattle.fvn_forms.specs.Flat.{FlatTerm, FlatTerms, fvar, fapp, fnone, fmore, fpack}
+use Rattle.fvn_forms.specs.Flat.{FlatTerm, fvar, fapp, fnone, fmore, fpack}
 use Rattle.fvn_forms.specs.InOrder.{sort}
-use Rattle.fvn_forms.specs.Canon.{same_op, identity, as_constant, parts, all_parts, joined, built, build, eval_all, canon}
+use Rattle.fvn_forms.specs.Canon.{identity, as_constant, parts, all_parts, joined, built, build, eval_all, canon}
 use Rattle.fvn_forms.specs.Ranks.{result}
 use Rattle.fvn_forms.specs.Good.{IsGood}
 use Rattle.fvn_forms.specs.LeastSort.{least_sort}
@@ -25,8 +25,7 @@ use Rattle.fvn_forms.proofs.Sums.{same_op_itself, same_op_is}
 use Rattle.fvn_forms.proofs.Build.{sort_is_nil, parts_none_iff, build_sum}
 use Rattle.fvn_forms.proofs.Eval.{canon_settled}
 use Rattle.fvn_forms.proofs.LeastSortOf.{IsIdentityOf, canon_left_identity, canon_right_identity, least_sort_of_app}
-use Rattle.fvn_rewriting.specs.declared.shapes.Root.{Root}
-use Rattle.fvn_rewriting.specs.declared.shapes.Root.TheVariants.{Variable, Constant, Compound}
+use Rattle.fvn_rewriting.specs.declared.shapes.Root.TheVariants.{Compound}
 use Rattle.fvn_rewriting.specs.declared.shapes.Shape.{Shape}
 use Rattle.fvn_rewriting.specs.Shapes.{root_of, is_root_of, sorts_of, compound, shape_of, shape_beside, shape_over, shape_in, shapes_in}
 
