@@ -1,12 +1,12 @@
 -- Arguments of terms: their nodes, their kinds, and how many there are.
-use Rattle.std.proofs.Common.{◌≡◌, ℕ, zero, suc, ◌<◌, ◌≤◌, List, [], ◌∷◌, map, length, take, get_or, refl, sym, ap, subst, ◌∙◌, arith}
+use Rattle.std.proofs.Common.{◌≡◌, ℕ, zero, suc, ◌<◌, ◌≤◌, List, [], ◌∷◌, map, length, take, get_or, refl, sym, ap, subst, arith}
 use Rattle.std.proofs.lemmas.List.{length-map, length-take}
 use Rattle.std.proofs.Math.Nat.{min-le_right}
 use Rattle.fvn_terms.specs.declared.plain.OpId.{OpId}
 use Rattle.fvn_terms.specs.declared.plain.SortId.{SortId}
 use Rattle.fvn_terms.specs.declared.plain.Plain.{Plain}
 use Rattle.fvn_terms.specs.declared.declarations.Declarations.{Declarations}
-use Rattle.fvn_terms.specs.Term.{Terms, app, none, more, nodes, nodes_all}
+use Rattle.fvn_terms.specs.Term.{Terms, app, nodes, nodes_all}
 use Rattle.fvn_terms.specs.Plain.{term, terms}
 use Rattle.fvn_terms.specs.Signature.{kind, HaveKinds, IsTerm}
 use Rattle.fvn_forms.specs.Good.{IsGood}

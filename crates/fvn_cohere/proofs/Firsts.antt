@@ -1,7 +1,7 @@
 -- Equations up to the first that loses a sort.
-use Rattle.std.proofs.Common.{◌≡◌, ◌≤◌, ◌<◌, ◌+◌, ◌-◌, ℕ, zero, suc, Bool, true, false, List, [], ◌∷◌, ◌++◌, map, length, take, get_or, Some, refl, sym, ap, ◌∙◌, subst, arith}
+use Rattle.std.proofs.Common.{◌≡◌, ◌≤◌, ◌<◌, ◌+◌, ◌-◌, ℕ, zero, suc, Bool, true, false, List, [], ◌∷◌, ◌++◌, length, take, get_or, Some, refl, sym, ap, ◌∙◌, subst, arith}
 use Rattle.std.specs.Prelude.{slice_get}
-use Rattle.std.specs.List.{All, Contains}
+use Rattle.std.specs.List.{All}
 use Rattle.std.proofs.lemmas.List.{take_more, take_all}
 use Rattle.std.proofs.lemmas.List.Elements.{All-push, All-contains}
 use Rattle.fvn_base.proofs.Membership.{map_contains}
@@ -46,13 +46,13 @@ module _ (d : Declarations) where
   module _ (list : List Equation) where
     -- one equation more
     pub decreasing_more : (i : ℕ) (e : Equation) → i < length list → e ≡ get_or list i e → AreDecreasing (take i list) → (b : Bool) → b ≡ false → LosesAs d (term e.left) (term e.right) b → AreDecreasing (take (i + 1) list)
-    decreasing_more i e within is h b no l =
+    decreasing_more i e within is h b e_is l =
         subst AreDecreasing (sym (take_more list i e within ∙ ap (λ (z : Equation). take i list ++ z ∷ []) (sym is)))
-        (All-push (λ (e : Equation). IsSortDecreasing d (term e.left) (term e.right)) (take i list) e h (subst (LosesAs d (term e.left) (term e.right)) no l))
+        (All-push (λ (e : Equation). IsSortDecreasing d (term e.left) (term e.right)) (take i list) e h (subst (LosesAs d (term e.left) (term e.right)) e_is l))
 
     -- the first that loses
     pub first_loss : (i : ℕ) (e : Equation) → i < length list → e ≡ get_or list i e → AreDecreasing (take i list) → (b : Bool) → b ≡ true → LosesAs d (term e.left) (term e.right) b → IsFirstLoss d (equations_of list) (i + 1)
-    first_loss i e within is h b yes l =
+    first_loss i e within is h b e_is l =
         let w = split_at list i e within is in
         record {
           before = equations_of (take i list);
@@ -61,7 +61,7 @@ module _ (d : Declarations) where
           split = w.1.0;
           number = ap (λ n. n + 1) (sym w.1.1);
           earlier = decreasing_sides (take i list) h;
-          loses = subst (LosesAs d (term e.left) (term e.right)) yes l;
+          loses = subst (LosesAs d (term e.left) (term e.right)) e_is l;
         }
 
     pub all_decreasing : (i : ℕ) → length list ≤ i → AreDecreasing (take i list) → AreSortDecreasing d (equations_of list)

@@ -1,7 +1,7 @@
 -- What a search through all choices finds.
-use Rattle.std.proofs.Common.{◌≡◌, ◌⊎◌, Bool, true, false, not, List, [], ◌∷◌, map, drop, refl, sym, ap, ◌∙◌, subst, inl, inr}
+use Rattle.std.proofs.Common.{◌≡◌, ◌⊎◌, Bool, true, false, not, List, [], ◌∷◌, drop, refl, sym, ap, ◌∙◌, subst, inl, inr}
 use Rattle.std.specs.Prelude.{if◌then◌else◌}
-use Rattle.std.specs.List.{Contains, list_any}
+use Rattle.std.specs.List.{Contains}
 use Rattle.std.proofs.lemmas.Bool.{true≢false, false≢true}
 use Rattle.fvn_base.proofs.Membership.{contains_here, contains_later, contains_cases, contains_none}
 use Rattle.fvn_terms.specs.declared.plain.Var.{Var}
@@ -10,7 +10,7 @@ use Rattle.fvn_terms.specs.declared.plain.SortId.{SortId}
 use Rattle.fvn_terms.specs.declared.declarations.Declarations.{Declarations}
 use Rattle.fvn_terms.specs.Term.{Term}
 use Rattle.fvn_terms.specs.Substitution.{same_var, Occurs}
-use Rattle.fvn_terms.specs.Signature.{AtOrBelow, HasKind, IsTerm}
+use Rattle.fvn_terms.specs.Signature.{AtOrBelow, IsTerm}
 use Rattle.fvn_terms.specs.Rewriting.{IsSortDecreasing}
 use Rattle.fvn_forms.specs.SortOrder.{at_or_below}
 use Rattle.fvn_forms.specs.Good.{IsGood}
@@ -21,7 +21,7 @@ use Rattle.fvn_rewriting.specs.declared.shapes.Root.{Root}
 use Rattle.fvn_rewriting.specs.declared.shapes.Root.TheVariants.{Variable, Constant, Compound}
 use Rattle.fvn_rewriting.specs.declared.shapes.Shape.{Shape}
 use Rattle.fvn_rewriting.specs.Shapes.{shape_in}
-use Rattle.fvn_rewriting.specs.Identities.{is_listed_op, identities}
+use Rattle.fvn_rewriting.specs.Identities.{identities}
 use Rattle.fvn_rewriting.specs.Choices.{distinct_variables_of, sort_choices, identity_choices, IsChoice}
 use Rattle.fvn_rewriting.specs.Kinds.{IsKindedEquation}
 use Rattle.fvn_rewriting.specs.Collapses.{CollapsesToVariable, CollapsesToIdentity}

@@ -1,12 +1,11 @@
 -- The shape of an operator over so many shapes.
-use Rattle.std.proofs.Common.{◌≡◌, ◌<◌, ℕ, Bool, true, false, List, [], ◌∷◌, length, get_or, Option, refl, sym, ap, ◌∙◌, subst, arith}
+use Rattle.std.proofs.Common.{◌≡◌, true, false, List, [], ◌∷◌, length, get_or, refl, sym, ap, ◌∙◌, arith}
 use Rattle.std.specs.Prelude.{if◌then◌else◌}
 use Rattle.fvn_terms.specs.declared.plain.OpId.{OpId}
 use Rattle.fvn_terms.specs.declared.declarations.Declarations.{Declarations}
 use Rattle.fvn_terms.specs.Signature.{axioms}
 use Rattle.fvn_forms.specs.Canon.{identity}
 use Rattle.fvn_forms.specs.Ranks.{result}
-use Rattle.fvn_rewriting.specs.declared.shapes.Root.TheVariants.{Constant}
 use Rattle.fvn_rewriting.specs.declared.shapes.Shape.{Shape}
 use Rattle.fvn_rewriting.specs.Shapes.{is_root_of, sorts_of, compound, shape_over}
 

@@ -1,8 +1,8 @@
 -- Products of counts that stop at the greatest number.
-use Rattle.std.proofs.Common.{◌≡◌, ◌≤◌, ◌<◌, ◌+◌, ◌*◌, ◌-◌, ◌^◌, ◌↔◌, ℕ, zero, suc, min, List, [], ◌∷◌, ◌++◌, map, length, take, get_or, refl, sym, ap, subst, ◌∙◌, ◌⊎◌, inl, inr, arith}
+use Rattle.std.proofs.Common.{◌≡◌, ◌≤◌, ◌<◌, ◌+◌, ◌*◌, ◌-◌, ◌^◌, ◌↔◌, ℕ, zero, suc, min, List, [], ◌∷◌, ◌++◌, map, length, take, get_or, sym, ap, subst, ◌∙◌, ◌⊎◌, inl, inr, arith}
 use Rattle.std.proofs.lemmas.Bool.{cases_lt}
-use Rattle.std.proofs.lemmas.List.{take_more, map_more}
-use Rattle.std.proofs.Math.Nat.{min-le_left, min-le_right, min-eq_left, min-eq_right, le-mul_of_pos_right, mul_comm, mul_assoc}
+use Rattle.std.proofs.lemmas.List.{map_more}
+use Rattle.std.proofs.Math.Nat.{min-le_left, min-eq_left, min-eq_right, le-mul_of_pos_right, mul_comm, mul_assoc}
 use Rattle.fvn_rewriting.specs.Choices.{product}
 use Rattle.fvn_cohere.specs.inner.Capped.{capped}
 
@@ -56,12 +56,19 @@ abbrev top : ℕ
 top = 2 ^ 64 - 1
 
 -- one more factor
-pub product-step : {A : Type 0} (n : A → ℕ) (xs : List A) (i : ℕ) (x : A) (so_far : ℕ) → i < length xs → x ≡ get_or xs i x → so_far ≡ capped (product (map n (take i xs))) → capped (so_far * capped (n x)) ≡ capped (product (map n (take (i + 1) xs)))
-product-step n xs i x so_far within is e =
-    ap (λ p. capped (p * capped (n x))) e
-    ∙ stops top (omega arith) (product (map n (take i xs))) (n x)
-    ∙ ap capped (sym (product-push (map n (take i xs)) (n x)))
-    ∙ ap (λ l. capped (product l)) (ap (λ y. map n (take i xs) ++ n y ∷ []) is ∙ sym (map_more n xs i x within))
+pub product-step : {A : Type 0} (n : A → ℕ) (xs : List A) (i : ℕ) (x : A) (so_far : ℕ) → i < length xs → so_far ≡ capped (product (map n (take i xs))) → capped (so_far * capped (n (get_or xs i x))) ≡ capped (product (map n (take (i + 1) xs)))
+product-step n xs i x so_far within e =
+    ap (λ p. capped (p * capped (n (get_or xs i x)))) e
+    ∙ stops top (omega arith) (product (map n (take i xs))) (n (get_or xs i x))
+    ∙ ap capped (sym (product-push (map n (take i xs)) (n (get_or xs i x))))
+    ∙ ap (λ l. capped (product l)) (sym (map_more n xs i x within))
+
+-- one more factor that is a sum
+pub sum-step : {A : Type 0} (a b : A → ℕ) (xs : List A) (i : ℕ) (x : A) (so_far k l : ℕ) → i < length xs → k ≡ a (get_or xs i x) → l ≡ b (get_or xs i x) → so_far ≡ capped (product (map (λ y. a y + b y) (take i xs))) → capped (so_far * capped (k + l)) ≡ capped (product (map (λ y. a y + b y) (take (i + 1) xs)))
+sum-step a b xs i x so_far k l within p q e =
+    ap (λ m. capped (so_far * capped (m + l))) p
+    ∙ ap (λ m. capped (so_far * capped (a (get_or xs i x) + m))) q
+    ∙ product-step (λ y. a y + b y) xs i x so_far within e
 
 -- within a limit below the greatest number, or not
 pub within_capped : (p limit : ℕ) → limit < 2 ^ 64 - 1 → (capped p ≤ limit) ↔ (p ≤ limit)

@@ -2,7 +2,6 @@
 use Rattle.std.proofs.Common.{ap}
 use Rattle.fvn_terms.specs.declared.plain.SortId.{SortId}
 use Rattle.fvn_rewriting.specs.declared.shapes.Root.TheVariants.{Constant}
-use Rattle.fvn_rewriting.specs.declared.shapes.Shape.{Shape}
 use Rattle.fvn_cohere.proofs.choosing.identity_shape.Goals as goal
 
 pub returns : goal.returns

@@ -9,6 +9,6 @@ use Rattle.fvn_cohere.proofs.fitting.counts.Goals as goal
 pub returns : goal.returns
 returns c =
     let d = c.args.sig.now in (
-      c.len.ensures ∙ ap length (c.as_slice.ensures.value ∙ c.in_ok-below.ensures ∙ ap (filter (λ (e : OpId). at_or_below d (result d e []) c.args.s)) c.requires),
-      c.len-2.ensures ∙ ap length (c.as_slice-2.ensures.value ∙ c.in_ok-sorts.ensures),
+      ap length (c.as_slice.ensures.value ∙ c.in_ok-below.ensures ∙ ap (filter (λ (e : OpId). at_or_below d (result d e []) c.args.s)) c.requires),
+      ap length (c.as_slice-2.ensures.value ∙ c.in_ok-sorts.ensures),
     )

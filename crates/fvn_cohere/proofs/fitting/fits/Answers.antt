@@ -1,11 +1,11 @@
 -- One more variable, and the products of all.
-use Rattle.std.proofs.Common.{◌≡◌, ◌≤◌, ◌+◌, ◌*◌, ℕ, List, map, length, take, ap, ◌∙◌, subst, arith}
+use Rattle.std.proofs.Common.{◌≡◌, ◌≤◌, ◌+◌, ℕ, List, map, length, take, refl, ap, ◌∙◌, subst, arith}
 use Rattle.std.proofs.lemmas.List.{take_all}
 use Rattle.fvn_base.specs.declared.limits.TheConstants.{IDENTITY_INSTANCES, SORT_INSTANCES}
 use Rattle.fvn_terms.specs.declared.plain.Var.{Var}
 use Rattle.fvn_rewriting.specs.Choices.{product, identities_below, sorts_below}
 use Rattle.fvn_cohere.specs.inner.Capped.{capped}
-use Rattle.fvn_cohere.proofs.Products.{product-step, within_capped}
+use Rattle.fvn_cohere.proofs.Products.{sum-step, within_capped}
 use Rattle.fvn_cohere.proofs.fitting.fits.Goals as goal
 
 pub counts-requires : goal.counts-requires
@@ -18,13 +18,10 @@ loop-x-preserved c =
     record {
       identity_instances =
           c.times-few.ensures
-          ∙ ap (λ k. capped (c.loop-x.by_identities * capped (1 + k))) c.in_ok-n.ensures.0
-          ∙ product-step (λ (x : Var). 1 + length (identities_below d x.sort)) items c.loop-x.x-index c.x-item.result c.loop-x.by_identities c.loop-x-test.true c.x-item.is c.loop-x.invariant.identity_instances;
+          ∙ sum-step (λ (x : Var). 1) (λ (x : Var). length (identities_below d x.sort)) items c.loop-x.x-index _ c.loop-x.by_identities 1 c.in_ok-n.n.0 c.loop-x-test.true refl c.in_ok-n.ensures.0 c.loop-x.invariant.identity_instances;
       sort_instances =
           c.times-many.ensures
-          ∙ ap (λ k. capped (c.loop-x.by_sorts * capped (k + c.in_ok-n.n.0))) c.in_ok-n.ensures.1
-          ∙ ap (λ k. capped (c.loop-x.by_sorts * capped (length (sorts_below d c.x-item.result.sort) + k))) c.in_ok-n.ensures.0
-          ∙ product-step (λ (x : Var). length (sorts_below d x.sort) + length (identities_below d x.sort)) items c.loop-x.x-index c.x-item.result c.loop-x.by_sorts c.loop-x-test.true c.x-item.is c.loop-x.invariant.sort_instances;
+          ∙ sum-step (λ (x : Var). length (sorts_below d x.sort)) (λ (x : Var). length (identities_below d x.sort)) items c.loop-x.x-index _ c.loop-x.by_sorts c.in_ok-n.n.1 c.in_ok-n.n.0 c.loop-x-test.true c.in_ok-n.ensures.1 c.in_ok-n.ensures.0 c.loop-x.invariant.sort_instances;
     }
 
 -- a product over all variables that is within a limit

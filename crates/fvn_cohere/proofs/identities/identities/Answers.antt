@@ -1,5 +1,5 @@
 -- The identity of one more operator.
-use Rattle.std.proofs.Common.{◌≡◌, [], take, sym, ap, ◌∙◌}
+use Rattle.std.proofs.Common.{[], take, sym, ap, ◌∙◌}
 use Rattle.std.specs.Prelude.{fold}
 use Rattle.std.proofs.lemmas.List.{take_all}
 use Rattle.fvn_terms.specs.declared.declarations.Declarations.{Declarations}

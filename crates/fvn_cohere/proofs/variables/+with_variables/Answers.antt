@@ -1,5 +1,5 @@
 -- The variables of one more argument.
-use Rattle.std.proofs.Common.{◌≡◌, take, sym, ap, ◌∙◌, arith}
+use Rattle.std.proofs.Common.{◌≡◌, sym, ap, ◌∙◌, arith}
 use Rattle.std.specs.Prelude.{fold}
 use Rattle.std.proofs.lemmas.List.{take_all}
 use Rattle.fvn_terms.specs.Term.{Terms}

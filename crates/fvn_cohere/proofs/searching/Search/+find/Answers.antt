@@ -1,5 +1,5 @@
 -- One variable, and one shape for it.
-use Rattle.std.proofs.Common.{◌≡◌, ◌+◌, ◌-◌, ◌*◌, ◌<◌, length, drop, sym, ap, ◌∙◌, arith}
+use Rattle.std.proofs.Common.{◌+◌, drop, ap, ◌∙◌, arith}
 use Rattle.std.specs.List.{list_any}
 use Rattle.fvn_terms.specs.Plain.{term}
 use Rattle.fvn_cohere.specs.inner.Searching.{shapes_by, is_met, with_shape, some_choice}
