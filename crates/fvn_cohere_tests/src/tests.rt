@@ -62,12 +62,24 @@ fn shown(alloc: Global, module: &Module) -> Result<String, NoMemory> {
         let word = told(alloc, module, i + 1)?;
         text.push_str(word)?;
     }
-    let first = match sort_loss(alloc, module)? {
-        None => 0,
-        Some(number) => number,
-    };
+    let first = sort_loss(alloc, module)?.unwrap_or(0);
     text.push_str(&format!(in alloc; "| {first}")?)?;
     Ok(text)
+}
+
+// The module of these statements.
+fn module_of(rt: &impl Abort, alloc: Global, statements: &str) -> Result<Module, NoMemory> {
+    let mut text = String::new(alloc);
+    text.push_str("fmod M is ")?;
+    text.push_str(statements)?;
+    text.push_str(" endfm")?;
+    match read_module(alloc, text.as_bytes()) {
+        Ok(module) => Ok(module),
+        Err(_) => {
+            assert!(rt; false, "at {statements}");
+            Err(NoMemory)
+        }
+    }
 }
 
 fn assert_shown(
@@ -76,14 +88,9 @@ fn assert_shown(
     statements: &str,
     want: &str,
 ) -> Result<(), NoMemory> {
-    let text = format!(in alloc; "fmod M is {statements} endfm")?;
-    match read_module(alloc, text.as_bytes()) {
-        Ok(module) => {
-            let out = shown(alloc, &module)?;
-            assert_eq!(rt; out.as_str(), want, "{statements}");
-        }
-        Err(_) => assert!(rt; false, "{statements}"),
-    }
+    let module = module_of(rt, alloc, statements)?;
+    let out = shown(alloc, &module)?;
+    assert_eq!(rt; out.as_str(), want, "at {statements}");
     Ok(())
 }
 
@@ -98,14 +105,49 @@ fn equations_collapse_and_lose_sorts(rt: HostRuntime) -> Result<(), NoMemory> {
 }
 
 // A sum of so many variables of a sort.
-fn sum_of(alloc: Global, sort: &str, count: usize) -> Result<String, NoMemory> {
-    let mut text = String::from_str(alloc, "+(")?;
+fn push_sum(text: &mut String, sort: &str, count: usize) -> Result<(), NoMemory> {
+    text.push_str("+(")?;
     for i in 0..count {
-        let comma = if i == 0 { "" } else { "," };
-        text.push_str(&format!(in alloc; "{comma}X{i}:{sort}")?)?;
+        if i > 0 {
+            text.push_str(",")?;
+        }
+        text.push('A')?;
+        for _ in 0..i {
+            text.push('x')?;
+        }
+        text.push_str(":")?;
+        text.push_str(sort)?;
     }
     text.push_str(")")?;
+    Ok(())
+}
+
+// The statements, and an equation between a sum and the same sum.
+fn statements_of(
+    alloc: Global,
+    statements: &str,
+    sort: &str,
+    count: usize,
+) -> Result<String, NoMemory> {
+    let mut text = String::new(alloc);
+    text.push_str(statements)?;
+    text.push_str(" eq ")?;
+    push_sum(&mut text, sort, count)?;
+    text.push_str(" = ")?;
+    push_sum(&mut text, sort, count)?;
+    text.push_str(" [variant] .")?;
     Ok(text)
+}
+
+// Whether the instances of the first equation are few enough.
+fn fit_of(alloc: Global, module: &Module) -> Result<&'static str, NoMemory> {
+    if module.equations().len() == 0 {
+        return Ok("none");
+    }
+    if instances_fit(alloc, module, 1)? {
+        return Ok("yes");
+    }
+    Ok("no")
 }
 
 fn assert_limit(
@@ -117,18 +159,10 @@ fn assert_limit(
     let (sort, rest) = want.split_once(" ").unwrap_or((want, ""));
     let (number, few) = rest.split_once(" ").unwrap_or((rest, ""));
     let count = number.parse::<usize>().unwrap_or(0);
-    let sum = sum_of(alloc, sort, count)?;
-    let side = sum.as_str();
-    let text = format!(in alloc; "fmod M is {statements} eq {side} = {side} [variant] . endfm")?;
-    match read_module(alloc, text.as_bytes()) {
-        Ok(module) => {
-            if module.equations().len() == 1 {
-                let fit = instances_fit(alloc, &module, 1)?;
-                assert!(rt; fit == (few == "yes"), "{statements} {want}");
-            }
-        }
-        Err(_) => assert!(rt; false, "{statements}"),
-    }
+    let text = statements_of(alloc, statements, sort, count)?;
+    let module = module_of(rt, alloc, text.as_str())?;
+    let fit = fit_of(alloc, &module)?;
+    assert_eq!(rt; fit, few, "at {statements}");
     Ok(())
 }
 
