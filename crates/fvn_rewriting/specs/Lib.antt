@@ -7,5 +7,4 @@ pub mod Identities
 pub mod Choices
 pub mod Collapses
 pub mod Losses
-pub mod Admissible
 pub mod Laws
