@@ -18,7 +18,7 @@ use Rattle.fvn_module.specs.Contents.{Contents}
 use Rattle.fvn_cohere.specs.Promises.{sides_of, equations_of, OfEquation, LosesAs}
 
 -- the equations before one of them, it, and those after it
-split_at : (list : List Equation) (i : ℕ) (e : Equation) → i < length list → e ≡ get_or list i e → (after : Equations) × ((equations_of list ≡ equations_of (take i list) ++ (sides_of e ∷ after)) × (length (equations_of (take i list)) ≡ i))
+pub split_at : (list : List Equation) (i : ℕ) (e : Equation) → i < length list → e ≡ get_or list i e → (after : Equations) × ((equations_of list ≡ equations_of (take i list) ++ (sides_of e ∷ after)) × (length (equations_of (take i list)) ≡ i))
 split_at [] i e within is = absurd (omega (arith, within))
 split_at (q ∷ list) zero e within is = (equations_of list, (ap (λ z. sides_of z ∷ equations_of list) (sym is), refl))
 split_at (q ∷ list) (suc i) e within is =

@@ -7,3 +7,4 @@ mod Overs
 mod Sifting
 mod Firsts
 mod Found
+mod Harmless

@@ -1,3 +1,4 @@
 -- What is promised of equations.
 pub mod Promises
+pub mod LeftFaults
 pub mod inner

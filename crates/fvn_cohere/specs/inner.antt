@@ -1,3 +1,4 @@
 -- What mirrors the code.
 pub mod Capped
 pub mod Searching
+pub mod Collapsing

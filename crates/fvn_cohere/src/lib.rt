@@ -4,6 +4,7 @@
 mod choosing;
 mod collapsing;
 mod equations;
+mod faults;
 mod fitting;
 mod identities;
 mod losing;
@@ -12,5 +13,6 @@ mod shapes;
 mod variables;
 
 pub use collapsing::{Collapse, left_collapses};
+pub use faults::{LeftFault, first_left_fault};
 pub use fitting::instances_fit;
 pub use losing::sort_loss;

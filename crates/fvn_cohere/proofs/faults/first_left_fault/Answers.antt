@@ -1,0 +1,17 @@
+-- One equation more.
+use Rattle.std.proofs.Common.{◌≤◌, ◌<◌, List, length, subst}
+use Rattle.fvn_module.specs.declared.equation.Equation.{Equation}
+use Rattle.fvn_cohere.proofs.Harmless.{harmless_step, fault_step, all_harmless}
+use Rattle.fvn_cohere.proofs.faults.first_left_fault.Goals as goal
+
+pub loop-i-preserved : goal.loop-i-preserved
+loop-i-preserved c =
+    harmless_step c.args.module.now c.loop-i.i c.in_ok-fault.fault (subst (λ (l : List Equation). c.loop-i.i < length l) c.equations-list.ensures c.loop-i-test.true) c.loop-i.invariant c.in_default.is c.in_ok-fault.ensures
+
+pub returns-in-Some : goal.returns-in-Some
+returns-in-Some c =
+    fault_step c.args.module.now c.loop-i.i c.in_ok-fault.fault c.in-Some.wrong (subst (λ (l : List Equation). c.loop-i.i < length l) c.equations-list.ensures c.loop-i-test.true) c.loop-i.invariant c.in-Some.is c.in_ok-fault.ensures
+
+pub returns : goal.returns
+returns c =
+    all_harmless c.args.module.now.signature c.args.module.now.equations c.loop-i.i (subst (λ (l : List Equation). length l ≤ c.loop-i.i) c.equations-list.ensures c.loop-i-test.false) c.loop-i.invariant

@@ -1,0 +1,67 @@
+//! Left sides that are at fault.
+ghost use Rattle.std.specs.Prelude.{◌≡◌, MatchOption, IfOk};
+ghost use Rattle.fvn_terms.specs.Plain.{term};
+ghost use Rattle.fvn_cohere.specs.Promises.{IsNumberIn, OfEquation, equations_of};
+ghost use Rattle.fvn_cohere.specs.LeftFaults.{IsHarmless, AreHarmless, IsLeftFault, IsFirstLeftFault};
+ghost use Rattle.fvn_cohere.specs.inner.Collapsing.{fault_of_collapse};
+
+use crate::collapsing::{Collapse, left_collapses};
+use crate::fitting::instances_fit;
+use fvn_module::Module;
+use fvn_terms::NoMemory;
+use std::alloc::Global;
+
+/// What is wrong with the left side of an equation, by the number of the equation from 1.
+#[derive(Debug, Clone, Copy, PartialEq, Eq)]
+pub enum LeftFault {
+    TooManyInstances(usize),
+    BecomesVariable(usize),
+    BecomesIdentity(usize),
+}
+
+// What is wrong where the left side of the equation of this number collapses so.
+fn fault_of_collapse(number: usize, collapse: Option<Collapse>) -> Option<LeftFault>
+    ensures { result ≡ fault_of_collapse number collapse }
+{
+    match collapse {
+        None => None,
+        Some(c) => match c {
+            Collapse::Variable => Some(LeftFault::BecomesVariable(number)),
+            Collapse::Identity => Some(LeftFault::BecomesIdentity(number)),
+        },
+    }
+}
+
+// What is wrong with the left side of the equation of this number.
+fn left_fault(alloc: Global, module: &Module, number: usize) -> Result<Option<LeftFault>, NoMemory>
+    requires { IsNumberIn module.now number }
+    ensures { IfOk result (λ f. OfEquation module.now number (λ e. MatchOption f
+        (IsHarmless module.now.signature (term e.left))
+        (IsLeftFault module.now.signature number (term e.left)))) }
+{
+    let fit = instances_fit(alloc, module, number)?;
+    if !fit {
+        return Ok(Some(LeftFault::TooManyInstances(number)));
+    }
+    let collapse = left_collapses(alloc, module, number)?;
+    Ok(fault_of_collapse(number, collapse))
+}
+
+/// What is wrong with the first left side of the module that is at fault: it has too many instances, or becomes a
+/// variable, or becomes an identity, where some of its variables are identities. None where no left side is.
+///
+/// Of each equation it is asked in this order, so that collapses are sought among few instances.
+pub fn first_left_fault(alloc: Global, module: &Module) -> Result<Option<LeftFault>, NoMemory>
+    ensures { IfOk result (λ f. MatchOption f
+        (AreHarmless module.now.signature (equations_of module.now.equations))
+        (IsFirstLeftFault module.now.signature (equations_of module.now.equations))) }
+{
+    let list = module.equations();
+    for i in 0..list.len() {
+        let fault = left_fault(alloc, module, i + 1)?;
+        if let Some(wrong) = fault {
+            return Ok(Some(wrong));
+        }
+    }
+    Ok(None)
+}
