@@ -1,12 +1,13 @@
 #!/usr/bin/env python3
-"""Prints what becomes of the equations of small modules, by the definitions alone.
+"""Prints what becomes of the equations of small modules, by trying instances.
 
     python3 bench/equations.py < MODULES
 
-Each line of the input has the statements of a module. The program adds for each equation `v` where some of the variables
-of its left side may be replaced by identities so that it becomes a variable, `i` where it becomes an identity and no
-variable, and `-` else. Behind a bar comes the number of the first equation that loses a sort, or 0. Instances replace variables by variables of
-lower sorts, by constants, and by operators over these; sorts are read after identities are removed.
+Each line of the input has the statements of a module. The program adds for each equation `v` where some, perhaps none,
+of the variables of its left side may be replaced by identities so that it becomes a variable, `i` where it becomes an
+identity and never a variable, and `-` else. Behind a bar comes the number of the first equation that loses a sort, or
+0, and behind another the first left side that becomes a variable or an identity. Instances replace variables by
+variables of lower sorts, by constants, and by operators over these; sorts are read after identities are removed.
 """
 
 import itertools
@@ -188,13 +189,15 @@ class Module:
 def main():
     for line in sys.stdin:
         module = Module(line)
-        out, first = [], 0
+        out, first, fault = [], 0, "none 0"
         for n, (left, right) in enumerate(module.equations, 1):
             told, loses = module.told(module.parse(left), module.parse(right))
             out.append(told)
             if loses and not first:
                 first = n
-        print(f"{line.rstrip()} => {' '.join(out)} | {first}")
+            if told != "-" and fault == "none 0":
+                fault = f"{'variable' if told == 'v' else 'identity'} {n}"
+        print(f"{line.rstrip()} => {' '.join(out)} | {first} | {fault}")
 
 
 main()

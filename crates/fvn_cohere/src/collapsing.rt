@@ -15,7 +15,7 @@ use fvn_sorts::Signature;
 use fvn_terms::{NoMemory, Plain};
 use std::alloc::Global;
 
-/// What a left side collapses to where some of its variables are identities.
+/// What a left side collapses to where some, perhaps none, of its variables are identities.
 #[derive(Debug, Clone, Copy, PartialEq, Eq)]
 pub enum Collapse {
     Variable,

@@ -48,7 +48,8 @@ fn left_fault(alloc: Global, module: &Module, number: usize) -> Result<Option<Le
 }
 
 /// What is wrong with the first left side of the module that is at fault: it has too many instances, or becomes a
-/// variable, or becomes an identity, where some of its variables are identities. None where no left side is.
+/// variable, or becomes an identity, where some, perhaps none, of its variables are identities. None where no left side
+/// is.
 ///
 /// Of each equation it is asked in this order, so that collapses are sought among few instances.
 pub fn first_left_fault(alloc: Global, module: &Module) -> Result<Option<LeftFault>, NoMemory>

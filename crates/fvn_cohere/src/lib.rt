@@ -1,4 +1,4 @@
-//! What the equations of a module lose and collapse to.
+//! Which equations of a module lose a sort, and what their left sides collapse to.
 #![tactic(auto)]
 
 mod choosing;

@@ -1,7 +1,7 @@
 //! What becomes of the equations of modules.
 ghost use Rattle.fvn_cohere.specs.Promises.{IsNumberIn};
 
-use fvn_cohere::{Collapse, instances_fit, left_collapses, sort_loss};
+use fvn_cohere::{Collapse, LeftFault, first_left_fault, instances_fit, left_collapses, sort_loss};
 use fvn_module::{Module, read_module};
 use fvn_terms::NoMemory;
 use std::alloc::{AllocError, Global};
@@ -9,50 +9,66 @@ use std::process::Abort;
 use std::string::String;
 
 // Each line has the statements of a module. Then comes for each equation v where its left side becomes a variable when
-// some of its variables are identities, i where it becomes an identity, and - else; and behind a bar the number of the
-// first equation that loses a sort, or 0. `bench/equations.py` prints these lines from the modules, by the definitions
-// alone.
+// some, perhaps none, of its variables are identities, i where it becomes an identity and never a variable, and - else;
+// behind a bar the number of the first equation that loses a sort, or 0; and behind another the first left side that is
+// at fault. `bench/equations.py` prints these lines from the modules, by trying instances.
 const EQUATIONS: &str =
-    "sorts A B . subsort A < B . op f : B -> A . op g : B -> B . var X : B . eq f(X) = g(X) [variant] . eq g(X) = f(X) [variant] . eq g(f(X)) = X [variant] . eq f(g(X)) = f(X) [variant] . eq f(f(X)) = f(X) [variant] . => - - - - - | 1
-sort S . op mt : -> S . op _*_ : S S -> S [assoc comm id: mt] . vars X Y : S . eq _*_(X,X) = mt [variant] . eq _*_(X,Y) = X [variant] . eq _*_(X,X,Y) = Y [variant] . eq mt = mt [variant] . => i v v i | 0
-sorts Nat NatSet . subsort Nat < NatSet . op 0 : -> Nat . op s : Nat -> Nat . op mt : -> NatSet . op _*_ : NatSet NatSet -> NatSet [assoc comm] . vars X Y Z : [NatSet] . eq _*_(X,X) = mt [variant] . eq _*_(X,X,Z) = Z [variant] . eq _*_(X,mt) = X [variant] . eq s(X) = s(X) [variant] . eq s(s(X)) = X [variant] . => - - - - - | 0
-sort S . ops a b c d e : -> S . op h : S S -> S [assoc comm id: e] . op f : S S -> S [assoc comm] . vars X Y : S . eq h(X,f(a,b)) = c [variant] . eq h(X,Y) = Y [variant] . eq f(X,h(X,Y)) = X [variant] . eq h(X,e) = X [variant] . eq f(e,e) = e [variant] . => - v - v - | 0
-sorts Even Odd Nat . subsorts Even Odd < Nat . op + : Nat Nat -> Nat . op + : Even Even -> Even . op + : Odd Odd -> Even . op + : Even Odd -> Odd . op + : Odd Even -> Odd . vars X Y : Nat . vars E F : Even . eq +(X,Y) = +(Y,X) [variant] . eq +(X,X) = X [variant] . eq +(E,F) = +(F,E) [variant] . eq +(E,X) = X [variant] . eq +(X,+(Y,Y)) = X [variant] . => - - - - - | 2
-sorts Elt Set . subsort Elt < Set . ops a b : -> Elt . op mt : -> Set . op u : Set Set -> Set [assoc comm id: mt] . vars X Y : Set . vars E F : Elt . eq u(X,E) = E [variant] . eq u(E,F) = E [variant] . eq u(X,Y) = u(X,Y) [variant] . eq u(E,E,X) = u(E,X) [variant] . eq u(a,X) = a [variant] . => v - v - - | 0
-sorts Elt Set . subsort Elt < Set . op o : -> Elt . op u : Set Set -> Set [assoc comm id: o] . op n : Set Set -> Set [comm] . vars X Y : Set . vars E F : Elt . eq u(E,F) = F [variant] . eq n(E,X) = E [variant] . eq n(u(X,Y),Y) = X [variant] . eq u(n(X,X),E) = n(X,E) [variant] . eq n(o,X) = o [variant] . => v - - - - | 0
-sorts A B C . subsorts A < B < C . ops e : -> A . ops i : -> C . op p : C C -> C [assoc comm id: e] . op q : C C -> C [assoc comm id: i] . op r : A -> B . vars X : A . vars Y : B . vars Z : C . eq p(X,Y) = Y [variant] . eq q(X,Y) = X [variant] . eq q(Y,Z) = Z [variant] . eq r(X) = X [variant] . eq p(r(X),Z) = q(X,Z) [variant] . => v - v - - | 3
-sorts L R T . subsorts L R < T . ops l : -> L . ops r : -> R . op s : T T -> T [assoc comm] . op s : L L -> L [ditto] . op s : R R -> R [ditto] . vars X Y : T . vars A : L . vars B : R . eq s(A,A) = A [variant] . eq s(X,X) = l [variant] . eq s(A,B) = A [variant] . eq s(B,X) = s(X,r) [variant] . eq s(X,Y) = X [variant] . => - - - - - | 2
-sorts M K . ops k : -> K . op enc : M K -> M . op dec : M K -> M . op inv : K -> K . vars X : M . vars Y : K . eq dec(enc(X,Y),Y) = X [variant] . eq enc(dec(X,Y),Y) = X [variant] . eq inv(inv(Y)) = Y [variant] . eq enc(X,inv(k)) = X [variant] . eq inv(k) = k [variant] . => - - - - - | 0
-sorts Z N P . subsorts Z P < N . op 0 : -> Z . op s : N -> P . op + : N N -> N [assoc comm id: 0] . op + : P N -> P [ditto] . vars X Y : N . vars U : P . eq +(X,s(Y)) = s(+(X,Y)) [variant] . eq +(X,Y) = Y [variant] . eq s(X) = X [variant] . eq +(U,X) = U [variant] . eq s(s(X)) = s(X) [variant] . => - v - v - | 2
-sorts G H . subsort G < H . op 1 : -> G . op * : H H -> H [assoc comm id: 1] . op * : G G -> G [ditto] . op - : H -> H . op - : G -> G . vars X Y : H . vars V W : G . eq *(X,-(X)) = 1 [variant] . eq -(-(X)) = X [variant] . eq -(1) = 1 [variant] . eq *(V,X) = X [variant] . eq -(*(X,Y)) = *(-(X),-(Y)) [variant] . => - - - v - | 0
-sorts A B . subsort A < B . op f : B -> A . op g : B -> B . vars X : B . var Y : A . eq g(X) = f(X) [variant] . eq f(Y) = Y [variant] . eq g(Y) = f(g(Y)) [variant] . eq f(f(X)) = g(X) [variant] . => - - - - | 4
-sorts A B . subsort A < B . op e : -> A . op f : B B -> B [assoc comm id: e] . op h : B -> A . var X : A . vars Y Z : B . eq h(f(X,Y)) = X [variant] . eq f(X,h(Y)) = h(Y) [variant] . eq f(h(Y),h(Z)) = f(Y,Z) [variant] . => - - - | 0
-sorts E N . subsort E < N . op z : -> E . op s : N -> N . op d : N -> E . op + : N N -> N [assoc comm id: z] . op + : E E -> E [ditto] . vars X Y : N . vars U V : E . eq d(+(X,Y)) = +(d(X),d(Y)) [variant] . eq +(d(X),U) = s(U) [variant] . eq +(U,V) = U [variant] . => - - v | 2
-sorts P Q R S . subsorts P < Q R < S . op a : -> P . op m : Q Q -> Q [comm] . op m : R R -> R [comm] . op m : P P -> P [comm] . op m : S S -> S [comm] . vars X Y : S . var B : Q . var C : R . var D : P . eq m(X,Y) = m(Y,X) [variant] . eq m(B,B) = B [variant] . eq m(B,D) = B [variant] . eq m(B,C) = m(C,B) [variant] . eq m(X,X) = X [variant] . => - - - - - | 0
-sorts F . op 0 : -> F . op 1 : -> F . op + : F F -> F [assoc comm id: 0] . op * : F F -> F [assoc comm id: 1] . vars X Y Z : F . eq *(X,+(Y,Z)) = +(*(X,Y),*(X,Z)) [variant] . eq *(X,0) = 0 [variant] . eq *(+(X,Y),+(X,Y)) = 1 [variant] . eq *(X,+(Y,Y)) = 0 [variant] . eq +(1,1) = 0 [variant] . => v i i i - | 0";
+    "sorts A B . subsort A < B . op f : B -> A . op g : B -> B . var X : B . eq f(X) = g(X) [variant] . eq g(X) = f(X) [variant] . eq g(f(X)) = X [variant] . eq f(g(X)) = f(X) [variant] . eq f(f(X)) = f(X) [variant] . => - - - - - | 1 | none 0
+sort S . op mt : -> S . op _*_ : S S -> S [assoc comm id: mt] . vars X Y : S . eq _*_(X,X) = mt [variant] . eq _*_(X,Y) = X [variant] . eq _*_(X,X,Y) = Y [variant] . eq mt = mt [variant] . => i v v i | 0 | identity 1
+sorts Nat NatSet . subsort Nat < NatSet . op 0 : -> Nat . op s : Nat -> Nat . op mt : -> NatSet . op _*_ : NatSet NatSet -> NatSet [assoc comm] . vars X Y Z : [NatSet] . eq _*_(X,X) = mt [variant] . eq _*_(X,X,Z) = Z [variant] . eq _*_(X,mt) = X [variant] . eq s(X) = s(X) [variant] . eq s(s(X)) = X [variant] . => - - - - - | 0 | none 0
+sort S . ops a b c d e : -> S . op h : S S -> S [assoc comm id: e] . op f : S S -> S [assoc comm] . vars X Y : S . eq h(X,f(a,b)) = c [variant] . eq h(X,Y) = Y [variant] . eq f(X,h(X,Y)) = X [variant] . eq h(X,e) = X [variant] . eq f(e,e) = e [variant] . => - v - v - | 0 | variable 2
+sorts Even Odd Nat . subsorts Even Odd < Nat . op + : Nat Nat -> Nat . op + : Even Even -> Even . op + : Odd Odd -> Even . op + : Even Odd -> Odd . op + : Odd Even -> Odd . vars X Y : Nat . vars E F : Even . eq +(X,Y) = +(Y,X) [variant] . eq +(X,X) = X [variant] . eq +(E,F) = +(F,E) [variant] . eq +(E,X) = X [variant] . eq +(X,+(Y,Y)) = X [variant] . => - - - - - | 2 | none 0
+sorts Elt Set . subsort Elt < Set . ops a b : -> Elt . op mt : -> Set . op u : Set Set -> Set [assoc comm id: mt] . vars X Y : Set . vars E F : Elt . eq u(X,E) = E [variant] . eq u(E,F) = E [variant] . eq u(X,Y) = u(X,Y) [variant] . eq u(E,E,X) = u(E,X) [variant] . eq u(a,X) = a [variant] . => v - v - - | 0 | variable 1
+sorts Elt Set . subsort Elt < Set . op o : -> Elt . op u : Set Set -> Set [assoc comm id: o] . op n : Set Set -> Set [comm] . vars X Y : Set . vars E F : Elt . eq u(E,F) = F [variant] . eq n(E,X) = E [variant] . eq n(u(X,Y),Y) = X [variant] . eq u(n(X,X),E) = n(X,E) [variant] . eq n(o,X) = o [variant] . => v - - - - | 0 | variable 1
+sorts A B C . subsorts A < B < C . ops e : -> A . ops i : -> C . op p : C C -> C [assoc comm id: e] . op q : C C -> C [assoc comm id: i] . op r : A -> B . vars X : A . vars Y : B . vars Z : C . eq p(X,Y) = Y [variant] . eq q(X,Y) = X [variant] . eq q(Y,Z) = Z [variant] . eq r(X) = X [variant] . eq p(r(X),Z) = q(X,Z) [variant] . => v - v - - | 3 | variable 1
+sorts L R T . subsorts L R < T . ops l : -> L . ops r : -> R . op s : T T -> T [assoc comm] . op s : L L -> L [ditto] . op s : R R -> R [ditto] . vars X Y : T . vars A : L . vars B : R . eq s(A,A) = A [variant] . eq s(X,X) = l [variant] . eq s(A,B) = A [variant] . eq s(B,X) = s(X,r) [variant] . eq s(X,Y) = X [variant] . => - - - - - | 2 | none 0
+sorts M K . ops k : -> K . op enc : M K -> M . op dec : M K -> M . op inv : K -> K . vars X : M . vars Y : K . eq dec(enc(X,Y),Y) = X [variant] . eq enc(dec(X,Y),Y) = X [variant] . eq inv(inv(Y)) = Y [variant] . eq enc(X,inv(k)) = X [variant] . eq inv(k) = k [variant] . => - - - - - | 0 | none 0
+sorts Z N P . subsorts Z P < N . op 0 : -> Z . op s : N -> P . op + : N N -> N [assoc comm id: 0] . op + : P N -> P [ditto] . vars X Y : N . vars U : P . eq +(X,s(Y)) = s(+(X,Y)) [variant] . eq +(X,Y) = Y [variant] . eq s(X) = X [variant] . eq +(U,X) = U [variant] . eq s(s(X)) = s(X) [variant] . => - v - v - | 2 | variable 2
+sorts G H . subsort G < H . op 1 : -> G . op * : H H -> H [assoc comm id: 1] . op * : G G -> G [ditto] . op - : H -> H . op - : G -> G . vars X Y : H . vars V W : G . eq *(X,-(X)) = 1 [variant] . eq -(-(X)) = X [variant] . eq -(1) = 1 [variant] . eq *(V,X) = X [variant] . eq -(*(X,Y)) = *(-(X),-(Y)) [variant] . => - - - v - | 0 | variable 4
+sorts A B . subsort A < B . op f : B -> A . op g : B -> B . vars X : B . var Y : A . eq g(X) = f(X) [variant] . eq f(Y) = Y [variant] . eq g(Y) = f(g(Y)) [variant] . eq f(f(X)) = g(X) [variant] . => - - - - | 4 | none 0
+sorts A B . subsort A < B . op e : -> A . op f : B B -> B [assoc comm id: e] . op h : B -> A . var X : A . vars Y Z : B . eq h(f(X,Y)) = X [variant] . eq f(X,h(Y)) = h(Y) [variant] . eq f(h(Y),h(Z)) = f(Y,Z) [variant] . => - - - | 0 | none 0
+sorts E N . subsort E < N . op z : -> E . op s : N -> N . op d : N -> E . op + : N N -> N [assoc comm id: z] . op + : E E -> E [ditto] . vars X Y : N . vars U V : E . eq d(+(X,Y)) = +(d(X),d(Y)) [variant] . eq +(d(X),U) = s(U) [variant] . eq +(U,V) = U [variant] . => - - v | 2 | variable 3
+sorts P Q R S . subsorts P < Q R < S . op a : -> P . op m : Q Q -> Q [comm] . op m : R R -> R [comm] . op m : P P -> P [comm] . op m : S S -> S [comm] . vars X Y : S . var B : Q . var C : R . var D : P . eq m(X,Y) = m(Y,X) [variant] . eq m(B,B) = B [variant] . eq m(B,D) = B [variant] . eq m(B,C) = m(C,B) [variant] . eq m(X,X) = X [variant] . => - - - - - | 0 | none 0
+sorts F . op 0 : -> F . op 1 : -> F . op + : F F -> F [assoc comm id: 0] . op * : F F -> F [assoc comm id: 1] . vars X Y Z : F . eq *(X,+(Y,Z)) = +(*(X,Y),*(X,Z)) [variant] . eq *(X,0) = 0 [variant] . eq *(+(X,Y),+(X,Y)) = 1 [variant] . eq *(X,+(Y,Y)) = 0 [variant] . eq +(1,1) = 0 [variant] . => v i i i - | 0 | variable 1
+sort A . op f : [A] -> A . op g : A -> A . var X : [A] . eq f(X) = g(X) [variant] . => - | 1 | none 0";
 
-// Each line has statements, how many variables there are, and whether the instances of the left side, their sum by an
-// operator, are few enough: of identities at most 4,096, of sorts and identities at most 16,777,216.
-const LIMITS: &str = "sort S . op e : -> S . op + : S S -> S [assoc comm id: e] . => S 12 yes
-sort S . op e : -> S . op + : S S -> S [assoc comm id: e] . => S 13 no
-sort S . op + : S S -> S [assoc comm] . => [S] 24 yes
-sort S . op + : S S -> S [assoc comm] . => [S] 25 no
-sort S . op + : S S -> S [assoc comm] . => S 100 yes
-sorts A B C D E F G H I J K L M N O . subsorts A B C D E F G H I J K L M N < O . op + : O O -> O [assoc comm] . => [O] 6 yes
-sorts A B C D E F G H I J K L M N O . subsorts A B C D E F G H I J K L M N < O . op + : O O -> O [assoc comm] . => [O] 7 no
-sorts A B . subsort A < B . ops d e : -> A . op + : B B -> B [assoc comm id: d] . op * : B B -> B [assoc comm id: e] . => B 7 yes
-sorts A B . subsort A < B . ops d e : -> A . op + : B B -> B [assoc comm id: d] . op * : B B -> B [assoc comm id: e] . => B 8 no
-sorts A B . subsort A < B . op d : -> B . op + : B B -> B [assoc comm id: d] . => A 100 yes";
+// Each line has statements, a sort and a number, and what is wrong with the sum of so many variables of the sort as a
+// left side: with many its instances are more than 4,096 by identities, or 16,777,216 by sorts and identities.
+const LIMITS: &str = "sort S . op e : -> S . op + : S S -> S [assoc comm id: e] . => S 12 variable 1
+sort S . op e : -> S . op + : S S -> S [assoc comm id: e] . => S 13 many 1
+sort S . op + : S S -> S [assoc comm] . => [S] 24 none 0
+sort S . op + : S S -> S [assoc comm] . => [S] 25 many 1
+sort S . op + : S S -> S [assoc comm] . => [S] 100 many 1
+sort S . op + : S S -> S [assoc comm] . => S 100 none 0
+sorts A B C D E F G H I J K L M N O . subsorts A B C D E F G H I J K L M N < O . op + : O O -> O [assoc comm] . => [O] 6 none 0
+sorts A B C D E F G H I J K L M N O . subsorts A B C D E F G H I J K L M N < O . op + : O O -> O [assoc comm] . => [O] 7 many 1
+sorts A B . subsort A < B . ops d e : -> A . op + : B B -> B [assoc comm id: d] . op * : B B -> B [assoc comm id: e] . => B 7 variable 1
+sorts A B . subsort A < B . ops d e : -> A . op + : B B -> B [assoc comm id: d] . op * : B B -> B [assoc comm id: e] . => B 8 many 1
+sorts A B . subsort A < B . op d : -> B . op + : B B -> B [assoc comm id: d] . => A 100 none 0";
 
 // What the left side of an equation becomes.
 fn told(alloc: Global, module: &Module, number: usize) -> Result<&'static str, NoMemory>
     requires { IsNumberIn module.now number }
 {
+    if !instances_fit(alloc, module, number)? {
+        return Ok("x ");
+    }
     match left_collapses(alloc, module, number)? {
         Some(Collapse::Variable) => Ok("v "),
         Some(Collapse::Identity) => Ok("i "),
         None => Ok("- "),
     }
+}
+
+// The first left side that is at fault, and how.
+fn fault_of(alloc: Global, module: &Module) -> Result<String, NoMemory> {
+    let (word, number) = match first_left_fault(alloc, module)? {
+        None => ("none", 0),
+        Some(LeftFault::TooManyInstances(number)) => ("many", number),
+        Some(LeftFault::BecomesVariable(number)) => ("variable", number),
+        Some(LeftFault::BecomesIdentity(number)) => ("identity", number),
+    };
+    Ok(format!(in alloc; "{word} {number}")?)
 }
 
 // What becomes of all equations.
@@ -63,7 +79,8 @@ fn shown(alloc: Global, module: &Module) -> Result<String, NoMemory> {
         text.push_str(word)?;
     }
     let first = sort_loss(alloc, module)?.unwrap_or(0);
-    text.push_str(&format!(in alloc; "| {first}")?)?;
+    let fault = fault_of(alloc, module)?;
+    text.push_str(&format!(in alloc; "| {first} | {fault}")?)?;
     Ok(text)
 }
 
@@ -141,22 +158,11 @@ fn statements_of(
     Ok(text)
 }
 
-// Whether the instances of the first equation are few enough.
-fn fit_of(alloc: Global, module: &Module) -> Result<&'static str, NoMemory> {
-    if module.equations().len() == 0 {
-        return Ok("none");
-    }
-    if instances_fit(alloc, module, 1)? {
-        return Ok("yes");
-    }
-    Ok("no")
-}
-
-// The same for the first equation of a text.
-fn first_fit_of(alloc: Global, bytes: &[u8]) -> Result<&'static str, NoMemory> {
+// The same of the left sides of a text.
+fn fault_of_text(alloc: Global, bytes: &[u8]) -> Result<String, NoMemory> {
     match read_module(alloc, bytes) {
-        Ok(module) => fit_of(alloc, &module),
-        Err(_) => Ok("no module"),
+        Ok(module) => fault_of(alloc, &module),
+        Err(_) => Ok(String::new(alloc)),
     }
 }
 
@@ -167,12 +173,12 @@ fn assert_limit(
     want: &str,
 ) -> Result<(), NoMemory> {
     let (sort, rest) = want.split_once(" ").unwrap_or((want, ""));
-    let (number, few) = rest.split_once(" ").unwrap_or((rest, ""));
+    let (number, said) = rest.split_once(" ").unwrap_or((rest, ""));
     let count = number.parse::<usize>().unwrap_or(0);
     let equation = statements_of(alloc, statements, sort, count)?;
     let text = text_of(alloc, equation.as_str())?;
-    let fit = first_fit_of(alloc, text.as_bytes())?;
-    assert_eq!(rt; fit, few, "at {statements}");
+    let fault = fault_of_text(alloc, text.as_bytes())?;
+    assert_eq!(rt; fault.as_str(), said, "at {statements}");
     Ok(())
 }
 

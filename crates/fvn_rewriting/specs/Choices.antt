@@ -51,11 +51,11 @@ module _ (d : Declarations) where
   abbrev pub sort_choices : SortId → List Shape
   sort_choices s = map variable_shape (sorts_below s) ++ map identity_shape (identities_below s)
 
-  -- it stays, or stands for an identity at or below s
+  -- a variable of sort s may stay, or stand for an identity at or below s
   abbrev pub identity_choices : SortId → List Shape
   identity_choices s = variable_shape s ∷ map identity_shape (identities_below s)
 
-  -- there are few choices for the variables of the term: of identities, and of sorts and identities
+  -- the variables of the term have at most IDENTITY_INSTANCES choices of identities, and at most SORT_INSTANCES of sorts and identities
   pub record InstancesFit (t : Term) : Type 0 where
     pub identity_instances : ways_to_choose (λ s. 1 + length (identities_below s)) t ≤ IDENTITY_INSTANCES
     pub sort_instances : ways_to_choose (λ s. length (sorts_below s) + length (identities_below s)) t ≤ SORT_INSTANCES

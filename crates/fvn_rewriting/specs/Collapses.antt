@@ -1,4 +1,4 @@
--- Left sides that become a variable or an identity when some of their variables are identities.
+-- Left sides that become a variable or an identity when some, perhaps none, of their variables are identities.
 use Rattle.std.specs.Prelude.{◌≡◌}
 use Rattle.fvn_terms.specs.declared.plain.Var.{Var}
 use Rattle.fvn_terms.specs.declared.plain.OpId.{OpId}
@@ -10,7 +10,7 @@ use Rattle.fvn_forms.specs.Canon.{canon}
 use Rattle.fvn_flat.specs.Rules.{IsIdentity, IsIdentityChoice}
 
 module _ (d : Declarations) where
-  -- l is an identity instance of the term: some of its variables replaced by identities, and then without identities
+  -- l is an identity instance of the term: some, perhaps none, of its variables replaced by identities, and then without identities
   pub record IsIdentityInstanceOf (t : Term) (l : FlatTerm) : Type 0 where
     pub by : Substitution
     pub choice : IsIdentityChoice d t by

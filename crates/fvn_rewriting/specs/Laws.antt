@@ -44,7 +44,7 @@ pub record SequenceLaws (d : Declarations) (equations : Equations) : Type 0 wher
   -- what is equal to a reducible or an irreducible term is so too
   pub reducible : (t u : Term) → BEqual d t u → IsReducible d equations t → IsReducible d equations u
   pub irreducible : (t u : Term) → BEqual d t u → IsIrreducible d equations t → IsIrreducible d equations u
-  -- a term with an irreducible instance is irreducible
+  -- a term with an irreducible well-sorted instance is irreducible
   pub instances : (s : Substitution) → IsWellSorted d s → (t : Term) → IsIrreducible d equations (apply s t) → IsIrreducible d equations t
   -- an instance that a well-sorted substitution takes back is irreducible where the term is
   pub taken_back : (r back : Substitution) → IsWellSorted d back → (t : Term) → TakesBack d back r t → IsIrreducible d equations t → IsIrreducible d equations (apply r t)
@@ -57,7 +57,7 @@ SequencesAreLawful = (d : Declarations) (equations : Equations) → SequenceLaws
 pub record ListLaws (d : Declarations) (equations : Equations) : Type 0 where
   -- a list has a sequence exactly where its members have such whose lengths add up
   pub members : (k : ℕ) (ts us : List Term) → ListSequence d equations k ts us ↔ EachHasSequence d equations k ts us
-  -- instances of a sequence are sequences
+  -- well-sorted instances of a sequence are sequences
   pub instances : (s : Substitution) → IsWellSorted d s → (k : ℕ) (ts us : List Term) → ListSequence d equations k ts us → ListSequence d equations k (map (apply s) ts) (map (apply s) us)
   -- from an irreducible list only the sequence without a step leads on
   pub ended : (k : ℕ) (ts us : List Term) → IsIrreducibleList d equations ts → ListSequence d equations k ts us → (k ≡ 0) × AllZip (BEqual d) ts us
@@ -94,7 +94,7 @@ pub record KindedLaws (d : Declarations) (equations : Equations) : Type 0 where
   -- terms whose sequences meet are equal in the theory, and the other way round where the equations are confluent
   pub joinable_equal : (t u : Term) → AreJoinable d equations t u → TEqual d equations t u
   pub equal_joinable : IsConfluent d equations → (t u : Term) → IsTerm d t → TEqual d equations t u → AreJoinable d equations t u
-  -- where the equations are confluent, terms that are equal in the theory have one irreducible form modulo the axioms
+  -- where the equations are confluent, terms that are equal in the theory have at most one irreducible form modulo the axioms
   pub one_normal_form : IsConfluent d equations → (t u v w : Term) (j k : ℕ) → IsTerm d t → TEqual d equations t u →
       TermSequence d equations j t v → TermSequence d equations k u w → IsIrreducible d equations v → IsIrreducible d equations w → BEqual d v w
 
@@ -125,7 +125,7 @@ ChoicesAreEnough = (d : Declarations) → IsGood d → IsCompleted d → ChoiceL
 
 -- what holds of the rules that are made from equations: their identity instances, and the extensions of these
 pub record RuleLaws (d : Declarations) (equations : Equations) : Type 0 where
-  -- an instance of a rule is a step
+  -- a well-sorted instance of a rule is a step
   pub steps : (l r : FlatTerm) → IsRuleOf d equations l r → (s : Substitution) → IsWellSorted d s → Rewrites d equations (apply s (plain l)) (apply s (plain r))
   -- the right side of a rule brings no variable, where those of the equations bring none
   pub variables : BringsNoVariable equations → (l r : FlatTerm) → IsRuleOf d equations l r → (x : Var) → Occurs x (plain r) → Occurs x (plain l)
