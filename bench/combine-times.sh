@@ -1,5 +1,5 @@
 #!/usr/bin/env bash
-# How many unifiers problems modulo C, AC and ACU are given, and in how many microseconds; where Maude is installed, how many its `unify` gives, and its times. Code as LLVM builds it: run at the top of the repository; it works in a copy, which it proves first. With `try` it proves nothing, and times code with checks, which is over a hundred times slower. PROBLEMS=FILE takes other problems.
+# How many unifiers problems modulo C, AC and ACU are given, and in how many microseconds; where Maude is installed, how many its `unify` gives, and its times. Code as LLVM builds it: run at the top of the repository; it works in a copy, which it proves first. With `try` it proves nothing, and times code with checks, which is over a hundred times slower. PROBLEMS=FILE takes other problems than those of bench/combine-problems.txt.
 set -e
 here=$(cd "$(dirname "$0")/.." && pwd)
 there=$(mktemp -d)
@@ -13,40 +13,7 @@ for crate in base lindio acunify terms forms drafts sorts flat match counts cove
 done
 # A term is written with each operator after its arguments: constants f and g, free operators h and i, a commutative
 # operator j, sums k and n, and sums l and m with the identity g.
-cat > "$there/problems" <<'PROBLEMS'
-A0 A1 k = A2 A3 k
-A0 A1 k = A2 A3 k A4 k
-A0 A1 k = A2 A3 k A4 k A5 k
-A0 A1 k = A2 A3 k A4 k A5 k A6 k
-A0 A1 k A2 k = A3 A4 k A5 k
-A0 A1 k A2 k = A3 A4 k A5 k A6 k
-A0 A0 k A1 k = A2 A3 k A4 k
-A0 f k A1 k = A2 g k A3 k
-A0 h A1 k = A2 A3 k
-A0 h A1 h k = A2 h A3 k
-A0 h A1 k A2 k = A3 h A4 k A5 k
-A0 h A1 h k A2 k = A3 h A4 k A5 k
-A0 h A1 h k A2 k = A3 h A4 h k A5 k
-A0 h A1 h k A2 h k A3 k = A4 h A5 k A6 k
-A0 A1 l = A2 A3 l
-A0 A1 l = A2 A3 l A4 l
-A0 A1 l A2 l = A3 A4 l A5 l
-A0 h A1 l = A2 h A3 l
-A0 h A1 l A2 l = A3 h A4 l A5 l
-A0 h A1 h l A2 l = A3 h A4 l A5 l
-A0 A1 n A2 k = A3 A4 n A5 k
-A0 A1 n A2 n A3 k = A4 A5 n A6 n A7 k
-A0 A1 k = A2 A3 k; A0 A4 n = A5 f n
-A0 A1 k = A2 A3 k; A0 A4 n = A5 A2 n
-A0 A1 k = A2 A3 k; A0 A1 n = A4 A5 n
-A0 A1 l = A2 A3 m
-A0 A1 l A2 l = A3 A4 m
-A0 A1 k A2 l = A3 A4 k A5 l
-A0 A1 l = A2 f l; A0 A3 m = A4 g m
-A0 A1 j A2 j A3 j = A4 A5 j A6 j A7 j
-A0 A1 j A2 A3 j j = A4 A5 j A6 A7 j j
-PROBLEMS
-if [ -n "$PROBLEMS" ]; then cp "$PROBLEMS" "$there/problems"; fi
+cp "${PROBLEMS:-$here/bench/combine-problems.txt}" "$there/problems"
 cd "$there/crates/fvn_combine_tests"
 rm -r src/tests/solving.rt src/tests/unifying.rt proofs/tests/unifying proofs/Givens.antt
 printf -- '-- The lemmas of the crate.\n' > proofs/Lib.antt

@@ -1,0 +1,142 @@
+#!/usr/bin/env bash
+# How many states, frames, plans and choices the search for unifiers modulo C, AC and ACU goes through. A state is a set of decisions which nodes of the problem are in one class; a frame is one in which nothing more is asked; a plan is a frame with an operator, or none, for each class that several operators use; a choice is a set of minimal solutions for each sum operator of a plan. It proves nothing: run at the top of the repository, it works in a copy. PROBLEMS=FILE takes other problems than those of bench/combine-problems.txt, written as in bench/combine-times.sh.
+set -e
+here=$(cd "$(dirname "$0")/.." && pwd)
+there=$(mktemp -d)
+trap 'rm -rf "$there"' EXIT
+mkdir -p "$there/crates"
+cp "$here/HANDLES" "$there/HANDLES"
+for crate in base lindio acunify terms forms drafts sorts flat match counts cover nodes sums frames supports plans asking unfolding binding obeying wheels openings drawing combine refine axunify combine_tests; do
+  cp -r "$here/crates/fvn_$crate" "$there/crates/"
+  rm -rf "$there/crates/fvn_$crate/must-fail"
+  grep "^fvn_$crate:" "$here/crates.txt" >> "$there/crates.txt"
+done
+sed -i 's/^fvn_combine_tests: .*/& fvn_frames fvn_lindio fvn_openings fvn_wheels/' "$there/crates.txt"
+cp "${PROBLEMS:-$here/bench/combine-problems.txt}" "$there/problems"
+cd "$there/crates/fvn_combine_tests"
+rm -r src/tests/solving.rt src/tests/unifying.rt proofs/tests/unifying proofs/Givens.antt
+printf -- '-- The lemmas of the crate.\n' > proofs/Lib.antt
+cat > src/tests.rt <<'PROGRAM'
+//! How much the search goes through.
+mod given;
+mod signatures;
+mod terms;
+
+use self::given::is_given;
+use self::signatures::collected;
+use self::terms::read_problem;
+use fvn_base::Seq;
+use fvn_flat::Pairs;
+use fvn_frames::{Reading, first_question, question_on_all, question_on_touched, read};
+use fvn_lindio::Solution;
+use fvn_nodes::{State, Table, Tree, table_of};
+use fvn_openings::{bases, option_counts, shared, tags_of, wheels};
+use fvn_sorts::Signature;
+use fvn_terms::NoMemory;
+use fvn_wheels::Tags;
+use std::alloc::Global;
+use std::process::Abort;
+
+const PROBLEMS: &str = "@PROBLEMS@";
+
+/// What a state asks for, or how many plans and choices it has.
+enum Looked {
+    Question(usize, usize),
+    Refused,
+    Frame(u64, u64),
+}
+
+/// How many plans and choices a frame has.
+fn opened(
+    alloc: Global,
+    sig: &Signature,
+    table: &Table,
+    state: &State,
+    reading: &Reading,
+    lists: &[Seq<Solution>],
+) -> Result<Looked, NoMemory> {
+    let classes = shared(alloc, sig, table, state, reading)?;
+    let counts = option_counts(alloc, classes.as_slice())?;
+    let mut tags = Tags::new(alloc, counts)?;
+    let mut plans: u64 = 0;
+    let mut choices: u64 = 0;
+    while let Some(numbers) = tags.current() {
+        plans = plans.saturating_add(1);
+        let named = tags_of(alloc, table.nodes().len(), classes.as_slice(), numbers)?;
+        let mut odometer = wheels(alloc, sig, table, state, reading, lists, named.as_slice())?;
+        while let Some(_) = odometer.current() {
+            choices = choices.saturating_add(1);
+            odometer.advance();
+        }
+        tags.advance();
+    }
+    Ok(Looked::Frame(plans, choices))
+}
+
+fn look(alloc: Global, sig: &Signature, table: &Table, state: &State) -> Result<Looked, NoMemory> {
+    let reading = read(alloc, sig, table, state)?;
+    if let Some((i, j)) = first_question(sig, table, state, &reading) {
+        return Ok(Looked::Question(i, j));
+    }
+    match bases(alloc, sig, table, state, &reading) {
+        Err(_) => match question_on_all(sig, table, state, &reading) {
+            Some((i, j)) => Ok(Looked::Question(i, j)),
+            None => Ok(Looked::Refused),
+        },
+        Ok(lists) => match question_on_touched(sig, table, state, &reading, lists.as_slice()) {
+            Some((i, j)) => Ok(Looked::Question(i, j)),
+            None => opened(alloc, sig, table, state, &reading, lists.as_slice()),
+        },
+    }
+}
+
+/// How many states, frames, plans and choices there are, and whether a sum system is refused.
+fn counted(alloc: Global, sig: &Signature, problem: &Pairs) -> Result<([u64; 4], bool), NoMemory> {
+    let table = table_of(alloc, sig, problem)?;
+    let mut tree = Tree::new(alloc, sig, &table)?;
+    let mut counts: [u64; 4] = [0; 4];
+    while let Some(state) = tree.top() {
+        counts[0] = counts[0].saturating_add(1);
+        match look(alloc, sig, &table, state)? {
+            Looked::Question(i, j) => tree.ask(alloc, sig, &table, i, j)?,
+            Looked::Refused => return Ok((counts, true)),
+            Looked::Frame(plans, choices) => {
+                counts[1] = counts[1].saturating_add(1);
+                counts[2] = counts[2].saturating_add(plans);
+                counts[3] = counts[3].saturating_add(choices);
+                let _ = tree.take_top();
+            }
+        }
+    }
+    Ok((counts, false))
+}
+
+fn all_counted(abort: &impl Abort, rt: &HostRuntime, sig: &Signature) -> Result<(), NoMemory> {
+    let alloc = rt.alloc();
+    for text in PROBLEMS.lines() {
+        let problem = read_problem(abort, alloc, sig, text)?;
+        assert!(abort; is_given(alloc, sig, &problem)?);
+        let (c, refused) = counted(alloc, sig, &problem)?;
+        let end = if refused { ", and an end" } else { "" };
+        let _ = println!(rt; "{text}: states {}, frames {}, plans {}, choices {}{end}", c[0], c[1], c[2], c[3]);
+    }
+    Ok(())
+}
+
+#[test]
+fn counts(rt: HostRuntime) -> Result<(), NoMemory> {
+    let alloc = rt.alloc();
+    match collected(alloc)?.finish(alloc) {
+        Ok(sig) => all_counted(&rt, &rt, &sig)?,
+        Err(_) => assert!(rt; false),
+    }
+    Ok(())
+}
+PROGRAM
+python3 - "$there/problems" <<'FILL'
+import sys
+text = open('src/tests.rt').read()
+open('src/tests.rt', 'w').write(text.replace('@' + 'PROBLEMS@', open(sys.argv[1]).read().strip()))
+FILL
+rt fmt > /dev/null
+rt try --test --steps 1000
