@@ -1,0 +1,1 @@
+-- Lemmas of normal forms; the public ones are for callers.

@@ -1,0 +1,3 @@
+-- The words of normal forms.
+pub mod NormalForms
+pub mod Laws
