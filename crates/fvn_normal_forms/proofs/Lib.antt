@@ -1,1 +1,4 @@
 -- Lemmas of normal forms; the public ones are for callers.
+mod Searching
+mod Kinding
+mod Bounding
