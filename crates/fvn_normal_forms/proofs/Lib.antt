@@ -2,3 +2,5 @@
 mod Searching
 mod Kinding
 mod Bounding
+mod Assigning
+mod Matching
