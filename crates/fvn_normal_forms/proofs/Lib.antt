@@ -4,3 +4,4 @@ mod Kinding
 mod Bounding
 mod Assigning
 mod Matching
+mod Redexes

@@ -51,7 +51,7 @@ module _ (d : Declarations) (good : IsGood d) where
     go (inl h) = sorts h (has_sort_or_not d good t (kind d x.sort, h) x.sort)
     go (inr n) = inr (λ w. n w.kinded)
 
-  variable_has_sort : (x : Var) → HasSort d (var x) x.sort
+  pub variable_has_sort : (x : Var) → HasSort d (var x) x.sort
   variable_has_sort x = record { form = var x; equal = stop; gets = record { sort = x.sort; gets = refl; below = same } }
 
   module _ (vars : List Var) (n : ℕ) where
