@@ -5,3 +5,4 @@ mod Bounding
 mod Assigning
 mod Matching
 mod Redexes
+mod Deciding
