@@ -1,5 +1,5 @@
 -- Laws of normal forms: reducibility is decided, and solutions may be taken with irreducible values.
-use Rattle.std.specs.Prelude.{◌⊎◌, ℕ, List, All}
+use Rattle.std.specs.Prelude.{◌⊎◌, ◌≤◌, ℕ, List, All}
 use Rattle.fvn_terms.specs.declared.declarations.Declarations.{Declarations}
 use Rattle.fvn_terms.specs.Term.{Term}
 use Rattle.fvn_terms.specs.Substitution.{Substitution, apply}
@@ -7,13 +7,13 @@ use Rattle.fvn_terms.specs.Signature.{IsTerm}
 use Rattle.fvn_terms.specs.Sorts.{IsWellSorted}
 use Rattle.fvn_terms.specs.Unifiers.{Problem}
 use Rattle.fvn_terms.specs.Theory.{Equations, IsTheoryUnifier}
-use Rattle.fvn_terms.specs.Rewriting.{ListRewrites, IsReducible, IsIrreducible, IsIrreducibleList, IsTerminating}
+use Rattle.fvn_terms.specs.Rewriting.{ListRewrites, ListSequence, IsReducible, IsIrreducible, IsIrreducibleList, IsTerminating}
 use Rattle.fvn_terms.specs.Variants.{IsWithin}
 use Rattle.fvn_forms.specs.Good.{IsGood}
 use Rattle.fvn_sorts.specs.Queries.{IsCompleted}
 use Rattle.fvn_rewriting.specs.Losses.{AreSortDecreasing}
 use Rattle.fvn_coherence.specs.Admissible.{AreAdmissible}
-use Rattle.fvn_normal_forms.specs.NormalForms.{HasNormalForm, IsNormalisedFrom}
+use Rattle.fvn_normal_forms.specs.NormalForms.{HasNormalForm, HaveNormalForms, IsNormalisedFrom}
 
 -- what is decided of terms, and what their normal forms keep
 pub record NormalFormLaws (d : Declarations) (equations : Equations) : Type 0 where
@@ -22,7 +22,9 @@ pub record NormalFormLaws (d : Declarations) (equations : Equations) : Type 0 wh
   pub lists : (ts : List Term) → All (IsTerm d) ts → ((us : List Term) × ListRewrites d equations ts us) ⊎ IsIrreducibleList d equations ts
   -- where the equations terminate, each well-kinded term has a normal form
   pub normal_forms : IsTerminating d equations → (t : Term) → IsTerm d t → HasNormalForm d equations t
-  -- where they are sort-decreasing too, each well-sorted substitution is brought to one with irreducible values
+  -- a list of well-kinded terms has one where its sequences are bounded
+  pub list_normal_forms : (most : ℕ) (ts : List Term) → All (IsTerm d) ts → ((k : ℕ) (us : List Term) → ListSequence d equations k ts us → k ≤ most) → HaveNormalForms d equations ts
+  -- where the equations terminate and are sort-decreasing, each well-sorted substitution is brought to one with irreducible values
   pub normalised : IsTerminating d equations → AreSortDecreasing d equations → (s : Substitution) → IsWellSorted d s → (c : Substitution) × IsNormalisedFrom d equations s c
   -- which solves what the first solves in the theory
   pub solutions : (s c : Substitution) → IsNormalisedFrom d equations s c → (problem : Problem) → IsTheoryUnifier d equations problem s → IsTheoryUnifier d equations problem c
