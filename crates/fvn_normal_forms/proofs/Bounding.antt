@@ -1,6 +1,6 @@
 -- What a term stands for is no smaller than its variables' values.
-use Rattle.std.proofs.Common.{◌≡◌, ℕ, zero, suc, ◌+◌, ◌≤◌, ◌<◌, false, List, [], ◌∷◌, ◌++◌, length, refl, sym, ap, ◌∙◌, subst, arith, inl, inr}
-use Rattle.std.specs.List.{Contains, AllByRecursion}
+use Rattle.std.proofs.Common.{◌≡◌, ℕ, zero, suc, ◌+◌, ◌≤◌, false, List, [], ◌∷◌, ◌++◌, length, refl, sym, ap, ◌∙◌, subst, arith, inl, inr}
+use Rattle.std.specs.List.{Contains}
 use Rattle.std.proofs.Math.Nat.{le_trans, le_refl}
 use Rattle.std.proofs.lemmas.List.{length-append}
 use Rattle.fvn_base.proofs.Membership.{contains_here, contains_later, contains_cases, contains_none}
@@ -14,14 +14,14 @@ use Rattle.fvn_terms.specs.Term.{Term, Terms, var, app, none, more, nodes, nodes
 use Rattle.fvn_terms.specs.Substitution.{Substitution, apply, Occurs, OccursAmong}
 use Rattle.fvn_terms.specs.Signature.{axioms, HasKind, HaveKinds}
 use Rattle.fvn_terms.specs.Equality.{IsAssociative, two}
-use Rattle.fvn_forms.specs.Flat.{FlatTerm, fapp, fpack, fconstant, plain, symbols}
+use Rattle.fvn_forms.specs.Flat.{FlatTerm, fapp, fpack, plain, symbols}
 use Rattle.fvn_forms.specs.InOrder.{sort}
 use Rattle.fvn_forms.specs.Canon.{parts, all_parts, sum, built, build, eval, eval_all, canon}
 use Rattle.fvn_forms.specs.Settled.{Settled, SettledValues}
 use Rattle.fvn_forms.proofs.Sizes.{all_symbols, some_nodes, all_symbols-sort, symbols_unjoined, symbols_sum}
 use Rattle.fvn_forms.proofs.Sums.{funpack-fpack, sum_parts}
 use Rattle.fvn_forms.proofs.Build.{parts_none, build_sum}
-use Rattle.fvn_forms.proofs.Eval.{eval_all_settled, eval_settled, canon_settled, fvar_settled, eval_apply}
+use Rattle.fvn_forms.proofs.Eval.{eval_settled, canon_settled, eval_apply}
 use Rattle.fvn_normal_forms.proofs.Searching.{AreWithin, IsTermWithin}
 use Rattle.fvn_normal_forms.proofs.Kinding.{operator_known}
 

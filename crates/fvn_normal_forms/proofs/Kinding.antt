@@ -1,7 +1,6 @@
 -- Kinds and sorts of terms are decided.
-use Rattle.std.proofs.Common.{◌≡◌, ◌<◌, ◌≤◌, true, List, [], ◌∷◌, map, length, sym, ap, ◌∙◌, subst, arith, ◌⊎◌, inl, inr}
+use Rattle.std.proofs.Common.{◌≡◌, ◌<◌, true, List, [], ◌∷◌, map, length, subst, arith, ◌⊎◌, inl, inr}
 use Rattle.std.specs.List.{Contains}
-use Rattle.std.specs.Prelude.{nat_lt}
 use Rattle.std.proofs.lemmas.Bool.{cases_lt}
 use Rattle.std.proofs.lemmas.List.{get_or_past}
 use Rattle.fvn_base.specs.Decided.{Decided}
@@ -13,7 +12,7 @@ use Rattle.fvn_terms.specs.declared.declarations.Rank.{Rank}
 use Rattle.fvn_terms.specs.declared.declarations.OpDecl.{OpDecl}
 use Rattle.fvn_terms.specs.declared.declarations.Declarations.{Declarations}
 use Rattle.fvn_terms.specs.Term.{Term, Terms, var, app, none, more}
-use Rattle.fvn_terms.specs.Signature.{unknown, kind, declared, IsSort, AtOrBelow, HasKind, HaveKinds, IsTerm}
+use Rattle.fvn_terms.specs.Signature.{unknown, kind, declared, IsSort, HasKind, HaveKinds, IsTerm}
 use Rattle.fvn_terms.specs.Sorts.{HasSort}
 use Rattle.fvn_forms.specs.Canon.{canon}
 use Rattle.fvn_forms.specs.SortOrder.{same_sort, at_or_below}

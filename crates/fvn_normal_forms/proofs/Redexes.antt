@@ -1,5 +1,5 @@
 -- Whether a flat form is an instance of a left side, or of one beside another term.
-use Rattle.std.proofs.Common.{◌≡◌, ◌⊎◌, ◌≤◌, ◌<◌, List, [], ◌∷◌, length, refl, sym, ap, ◌∙◌, subst, arith, inl, inr}
+use Rattle.std.proofs.Common.{◌≡◌, ◌⊎◌, ◌≤◌, List, [], ◌∷◌, length, refl, sym, ap, ◌∙◌, subst, inl, inr}
 use Rattle.std.specs.List.{Contains}
 use Rattle.std.proofs.Math.Nat.{le_trans, le_refl}
 use Rattle.fvn_base.specs.Decided.{Decided}
@@ -8,21 +8,21 @@ use Rattle.fvn_terms.specs.declared.plain.Var.{Var}
 use Rattle.fvn_terms.specs.declared.plain.OpId.{OpId}
 use Rattle.fvn_terms.specs.declared.plain.SortId.{SortId}
 use Rattle.fvn_terms.specs.declared.declarations.Declarations.{Declarations}
-use Rattle.fvn_terms.specs.Term.{Term, Terms, var, app, none, more}
+use Rattle.fvn_terms.specs.Term.{Term, var, app, none, more}
 use Rattle.fvn_terms.specs.Substitution.{Substitution, apply, followed_by, Occurs}
-use Rattle.fvn_terms.specs.Signature.{axioms, kind, IsSort, HasKind, HaveKinds, IsTerm}
+use Rattle.fvn_terms.specs.Signature.{kind, IsSort, HasKind, HaveKinds, IsTerm}
 use Rattle.fvn_terms.specs.Places.{here, inside, first, stop}
 use Rattle.fvn_terms.specs.Equality.{two, BEqual}
 use Rattle.fvn_terms.specs.Sorts.{HasSort, IsWellSorted}
 use Rattle.fvn_terms.specs.Theory.{Equations}
-use Rattle.fvn_terms.specs.Rewriting.{Rewrites, IsReducible}
+use Rattle.fvn_terms.specs.Rewriting.{IsReducible}
 use Rattle.fvn_terms.proofs.Substitutions.{apply-apply}
 use Rattle.fvn_terms.proofs.Steps.{each_none, each_more}
-use Rattle.fvn_terms.proofs.Equal.{HasKind-apply, BEqual-sym, BEqual-trans, BEqual-apply, BEqual-inside}
+use Rattle.fvn_terms.proofs.Equal.{HasKind-apply, BEqual-sym, BEqual-inside}
 use Rattle.fvn_terms.proofs.WellSorted.{IsWellSorted-followed_by}
 use Rattle.fvn_terms.proofs.Occurrences.{BEqual-occurs}
 use Rattle.fvn_forms.specs.Flat.{FlatTerm, fvar, plain, symbols}
-use Rattle.fvn_forms.specs.Canon.{canon, build, eval}
+use Rattle.fvn_forms.specs.Canon.{canon, build}
 use Rattle.fvn_forms.specs.Good.{IsGood}
 use Rattle.fvn_forms.proofs.Order.{flat_equal_decided}
 use Rattle.fvn_forms.proofs.KindsKept.{kind_unique, b_equal_keeps_kind}
@@ -33,12 +33,12 @@ use Rattle.fvn_forms.proofs.ToCanon.{to_canon, canon_of_kind}
 use Rattle.fvn_sorts.specs.Queries.{IsCompleted}
 use Rattle.fvn_flat.specs.Fits.{Fits}
 use Rattle.fvn_flat.specs.Problems.{variables}
-use Rattle.fvn_flat.specs.Rules.{GoesToIdentity, IsIdentityChoice, IsIdentityInstance, IsExtension, IsRuleFrom, IsRuleOf}
+use Rattle.fvn_flat.specs.Rules.{GoesToIdentity, IsIdentityChoice, IsIdentityInstance, IsExtension, IsRuleOf}
 use Rattle.fvn_flat.proofs.VariableLists.{variables_list}
 use Rattle.fvn_rewriting.specs.Kinds.{HasOneKind, HaveOneKind}
 use Rattle.fvn_rewriting.proofs.Collapsing.{keeps}
 use Rattle.fvn_coherence.specs.PlacedSteps.{IsRedex}
-use Rattle.fvn_normal_forms.proofs.Searching.{Found, IsSearched, searched_list, searched_operators, IsOperatorBelow, IsTermWithin, searched_terms}
+use Rattle.fvn_normal_forms.proofs.Searching.{Found, searched_list, searched_operators, IsOperatorBelow, IsTermWithin, searched_terms}
 use Rattle.fvn_normal_forms.proofs.Kinding.{kind_or_not, operator_known}
 use Rattle.fvn_normal_forms.proofs.Bounding.{first_is_smaller, second_is_smaller, term_within}
 use Rattle.fvn_normal_forms.proofs.Matching.{variable_has_sort, instance_or_none}

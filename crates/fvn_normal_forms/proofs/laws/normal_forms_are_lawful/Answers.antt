@@ -1,7 +1,4 @@
 -- The law, by its lemmas.
-use Rattle.fvn_terms.specs.Laws.{RewritingLaws}
-use Rattle.fvn_rewriting.specs.Laws.{SequenceLaws, KindedLaws}
-use Rattle.fvn_coherence.specs.Laws.{CoherenceLaws}
 use Rattle.fvn_rewriting.specs.Kinds.{HaveOneKind}
 use Rattle.fvn_normal_forms.proofs.Deciding.{reducible_or_not, list_reducible_or_not}
 use Rattle.fvn_normal_forms.proofs.Normalising.{normal_form, normal_forms_within, normalised_substitution, unifier_too, within_too, stays_too}
