@@ -16,7 +16,7 @@ use Rattle.fvn_terms.specs.Signature.{axioms, HasKind, HaveKinds}
 use Rattle.fvn_terms.specs.Equality.{IsAssociative, two}
 use Rattle.fvn_forms.specs.Flat.{FlatTerm, fapp, fpack, plain, symbols}
 use Rattle.fvn_forms.specs.InOrder.{sort}
-use Rattle.fvn_forms.specs.Canon.{parts, all_parts, sum, built, build, eval, eval_all, canon}
+use Rattle.fvn_forms.specs.Canon.{parts, all_parts, sum, build, eval, eval_all, canon}
 use Rattle.fvn_forms.specs.Settled.{Settled, SettledValues}
 use Rattle.fvn_forms.proofs.Sizes.{all_symbols, some_nodes, all_symbols-sort, symbols_unjoined, symbols_sum}
 use Rattle.fvn_forms.proofs.Sums.{funpack-fpack, sum_parts}

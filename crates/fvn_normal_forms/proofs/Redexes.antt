@@ -10,7 +10,7 @@ use Rattle.fvn_terms.specs.declared.plain.SortId.{SortId}
 use Rattle.fvn_terms.specs.declared.declarations.Declarations.{Declarations}
 use Rattle.fvn_terms.specs.Term.{Term, var, app, none, more}
 use Rattle.fvn_terms.specs.Substitution.{Substitution, apply, followed_by, Occurs}
-use Rattle.fvn_terms.specs.Signature.{kind, IsSort, HasKind, HaveKinds, IsTerm}
+use Rattle.fvn_terms.specs.Signature.{IsSort, HasKind, HaveKinds, IsTerm}
 use Rattle.fvn_terms.specs.Places.{here, inside, first, stop}
 use Rattle.fvn_terms.specs.Equality.{two, BEqual}
 use Rattle.fvn_terms.specs.Sorts.{HasSort, IsWellSorted}
