@@ -59,20 +59,28 @@ module _ (d : Declarations) (good : IsGood d) (completed : IsCompleted d) (equat
   abbrev SomeReduces : Terms → Type 0
   SomeReduces ts = (us : Terms) × AmongOnePlace (Rewrites d equations) ts us
 
-  top : (t : FlatTerm) → Fits d t → IsReducible d equations (plain t) ⊎ ((r : Term) → IsRedex d equations t r → ⊥)
+  -- the form is reducible, or it is no redex
+  abbrev TopCase : FlatTerm → Type 0
+  TopCase t = IsReducible d equations (plain t) ⊎ ((r : Term) → IsRedex d equations t r → ⊥)
+
+  -- the form is reducible, or no redex stands at its places
+  abbrev PlaceCase : FlatTerm → Type 0
+  PlaceCase t = IsReducible d equations (plain t) ⊎ IsWithoutRedex t
+
+  top : (t : FlatTerm) → Fits d t → TopCase t
   top t fit = go (left_side_or_not d good t fit equations kinds) where
-    go : Decided (IsLeftSide d good t fit equations kinds) → IsReducible d equations (plain t) ⊎ ((r : Term) → IsRedex d equations t r → ⊥)
+    go : Decided (IsLeftSide d good t fit equations kinds) → TopCase t
     go (inl w) = inl (left_side_reduces d good t fit equations kinds w)
     go (inr n) = inr (λ r x. n (redex_is_left_side d good completed t fit equations kinds r x))
 
   mutual
-    form_reduces_or_not : (t : FlatTerm) → Fits d t → IsReducible d equations (plain t) ⊎ IsWithoutRedex t
+    form_reduces_or_not : (t : FlatTerm) → Fits d t → PlaceCase t
     form_reduces_or_not (fvar x) fit = go (top (fvar x) fit) where
-      go : IsReducible d equations (plain (fvar x)) ⊎ ((r : Term) → IsRedex d equations (fvar x) r → ⊥) → IsReducible d equations (plain (fvar x)) ⊎ IsWithoutRedex (fvar x)
+      go : TopCase (fvar x) → PlaceCase (fvar x)
       go (inl w) = inl w
       go (inr n) = inr (λ u v w p r x. n r (subst (λ f. IsRedex d equations f r) (place_of_variable _ w p) x))
     form_reduces_or_not (fapp f joined ts) fit = go (top (fapp f joined ts) fit) (forms_reduce_or_not ts (args_fit (fapp f joined ts) d good.fits fit)) where
-      go : IsReducible d equations (plain (fapp f joined ts)) ⊎ ((r : Term) → IsRedex d equations (fapp f joined ts) r → ⊥) → SomeReduces (plain_all ts) ⊎ AreWithoutRedex ts → IsReducible d equations (plain (fapp f joined ts)) ⊎ IsWithoutRedex (fapp f joined ts)
+      go : TopCase (fapp f joined ts) → SomeReduces (plain_all ts) ⊎ AreWithoutRedex ts → PlaceCase (fapp f joined ts)
       go (inl w) rest = inl w
       go (inr n) (inl w) = inl (over f joined w.0, laws.inside (plain (fapp f joined ts)) (over f joined w.0) (among_over f joined w.1))
       go (inr n) (inr m) = inr (λ u v w p r x. elim (place_cases f joined ts w p) as (λ _. ⊥) [ inl e ↦ n r (subst (λ f. IsRedex d equations f r) e x) | inr q ↦ m u v q.0 q.1 r x ])
@@ -86,7 +94,7 @@ module _ (d : Declarations) (good : IsGood d) (completed : IsCompleted d) (equat
       neither n m u v _ (first {w = w} p) r x = n u v w p r x
       neither n m u v _ (later {us = us} p) r x = m u v us p r x
 
-      go : IsReducible d equations (plain t) ⊎ IsWithoutRedex t → SomeReduces (plain_all ts) ⊎ AreWithoutRedex ts → SomeReduces (plain_all (fmore t ts)) ⊎ AreWithoutRedex (fmore t ts)
+      go : PlaceCase t → SomeReduces (plain_all ts) ⊎ AreWithoutRedex ts → SomeReduces (plain_all (fmore t ts)) ⊎ AreWithoutRedex (fmore t ts)
       go (inl w) rest = inl (more w.0 (plain_all ts), first (here w.1))
       go (inr n) (inl w) = inl (more (plain t) w.0, later w.1)
       go (inr n) (inr m) = inr (neither n m)
