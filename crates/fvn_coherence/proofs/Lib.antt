@@ -1,1 +1,4 @@
 -- Lemmas of coherence; the public ones are for callers.
+mod Tight
+mod Members
+mod TightSteps

@@ -1,0 +1,116 @@
+-- Steps at places of flat forms, by instances of equations under which no variable becomes an identity.
+use Rattle.std.proofs.Common.{◌≡◌, ◌⊎◌, ◌≤◌, true, [], ◌∷◌, ◌++◌, length, None, Some, refl, sym, ap, ◌∙◌, subst, inl, inr, arith}
+use Rattle.std.specs.Prelude.{Contains}
+use Rattle.std.proofs.lemmas.List.{length-append}
+use Rattle.fvn_terms.specs.declared.plain.Var.{Var}
+use Rattle.fvn_terms.specs.declared.plain.OpId.{OpId}
+use Rattle.fvn_terms.specs.declared.plain.SortId.{SortId}
+use Rattle.fvn_terms.specs.declared.declarations.Declarations.{Declarations}
+use Rattle.fvn_terms.specs.Term.{Term}
+use Rattle.fvn_terms.specs.Substitution.{Substitution}
+use Rattle.fvn_terms.specs.Signature.{axioms, HasKind}
+use Rattle.fvn_terms.specs.Equality.{two, IsAssociative}
+use Rattle.fvn_terms.specs.Sorts.{IsWellSorted}
+use Rattle.fvn_terms.specs.Theory.{Equations}
+use Rattle.fvn_forms.specs.Flat.{FlatTerm, FlatTerms, fvar, fapp, fpack, plain}
+use Rattle.fvn_forms.specs.InOrder.{sort}
+use Rattle.fvn_forms.specs.Canon.{as_constant, parts, all_parts, build, canon, inst}
+use Rattle.fvn_forms.specs.Settled.{Settled, SettledValues}
+use Rattle.fvn_forms.specs.Good.{IsGood}
+use Rattle.fvn_forms.proofs.Build.{is_constant, build_settled, build_sum, build_shift}
+use Rattle.fvn_forms.proofs.Eval.{canon_settled}
+use Rattle.fvn_forms.proofs.KindsKept.{kind_unique, both_of_kind, sum_of_kind}
+use Rattle.fvn_forms.proofs.KindsOfSums.{build_of_kind}
+use Rattle.fvn_forms.proofs.Instances.{inst_settled}
+use Rattle.fvn_forms.proofs.ToCanon.{identity_is}
+use Rattle.fvn_flat.specs.FlatPlaces.{IsReplaced}
+use Rattle.fvn_flat.specs.Rules.{IsIdentityInstance}
+use Rattle.fvn_coherence.specs.Admissible.{AreAdmissible}
+use Rattle.fvn_coherence.proofs.Tight.{some_length, IsIdentityForm, sum_form, IsTight, identity_back, joined_back, inst_joined_form}
+
+-- the flat forms of the values of a substitution
+abbrev pub values : Declarations → Substitution → Var → FlatTerm
+values d s x = canon d (s x)
+
+pub values_settled : (d : Declarations) (s : Substitution) → SettledValues d (values d s)
+values_settled d s x = canon_settled d (s x)
+
+module _ (d : Declarations) (equations : Equations) where
+  -- the two forms are instances of the sides of an equation, some of whose variables are identities, and no others become such
+  pub record IsTightInstance (t u : FlatTerm) : Type 0 where
+    pub equation : Term × Term
+    pub listed : Contains equations equation
+    pub left : FlatTerm
+    pub right : FlatTerm
+    pub instance_of : IsIdentityInstance d equation left right
+    pub by : Substitution
+    pub well_sorted : IsWellSorted d by
+    pub tight : IsTight d (values d by) left
+    pub from : t ≡ inst d (values d by) left
+    pub to : u ≡ inst d (values d by) right
+
+  -- the same of two forms beside another summand
+  pub record IsBeside (f : OpId) (t u : FlatTerm) : Type 0 where
+    pub inner_from : FlatTerm
+    pub inner_to : FlatTerm
+    pub inner : IsTightInstance inner_from inner_to
+    pub arguments : FlatTerms
+    pub joined : inner.left ≡ fapp f true arguments
+    pub other : FlatTerm
+    pub settled : Settled d other
+    pub kind : SortId
+    pub of_kind : HasKind d (two f (plain inner_from) (plain other)) kind
+    pub from : t ≡ build d f (inner_from ∷ other ∷ [])
+    pub to : u ≡ build d f (inner_to ∷ other ∷ [])
+
+  -- alone, or beside another summand
+  abbrev pub IsTightRedex : FlatTerm → FlatTerm → Type 0
+  IsTightRedex t u = IsTightInstance t u ⊎ ((f : OpId) × IsBeside f t u)
+
+  -- one such form at a place is replaced, which makes a term of this flat form
+  pub record StepsTightly (t u : FlatTerm) : Type 0 where
+    pub at : FlatTerm
+    pub given : FlatTerm
+    pub redex : IsTightRedex at given
+    pub replaced : FlatTerm
+    pub replaces : IsReplaced at given t replaced
+    pub makes : canon d (plain replaced) ≡ u
+
+  instance_settled : (t u : FlatTerm) (i : IsTightInstance t u) → Settled d t × Settled d u
+  instance_settled t u i = (
+    subst (Settled d) (sym i.from) (inst_settled d (values d i.by) (values_settled d i.by) i.left),
+    subst (Settled d) (sym i.to) (inst_settled d (values d i.by) (values_settled d i.by) i.right),
+  )
+
+  left_settled : (t u : FlatTerm) (i : IsTightInstance t u) → Settled d i.left
+  left_settled t u i = subst (Settled d) (sym i.instance_of.left) (canon_settled d _)
+
+  beside_settled : (f : OpId) (t u : FlatTerm) (b : IsBeside f t u) → Settled d t × Settled d u
+  beside_settled f t u b =
+      let w = instance_settled b.inner_from b.inner_to b.inner in (
+        subst (Settled d) (sym b.from) (build_settled d f (b.inner_from ∷ b.other ∷ []) (w.0, (b.settled, tt))),
+        subst (Settled d) (sym b.to) (build_settled d f (b.inner_to ∷ b.other ∷ []) (w.1, (b.settled, tt))),
+      )
+
+  -- both forms of a redex are settled
+  pub redex_settled : (t u : FlatTerm) → IsTightRedex t u → Settled d t × Settled d u
+  redex_settled t u (inl i) = instance_settled t u i
+  redex_settled t u (inr b) = beside_settled b.0 t u b.1
+
+  beside_associative : (f : OpId) (t u : FlatTerm) (b : IsBeside f t u) → IsAssociative (axioms d f)
+  beside_associative f t u b = (subst (Settled d) b.joined (left_settled b.inner_from b.inner_to b.inner)).0.associative
+
+  module _ (admissible : AreAdmissible d equations) where
+    left_no_variable : (t u : FlatTerm) (i : IsTightInstance t u) → (x : Var) → i.left ≡ fvar x → ⊥
+    left_no_variable t u i x e =
+        (admissible i.equation i.listed).no_variable (x, record { by = i.instance_of.by; choice = i.instance_of.choice; is = sym e ∙ i.instance_of.left })
+
+    -- such an instance is no identity
+    pub instance_no_identity : (t u : FlatTerm) → IsTightInstance t u → IsIdentityForm d t → ⊥
+    instance_no_identity t u i w =
+        let back = identity_back d (values d i.by) (values_settled d i.by) w.0 i.left (left_settled t u i) i.tight (subst (IsIdentityForm d) i.from w).1 in
+        (admissible i.equation i.listed).no_identity
+        (back.0, (w.0, identity_is (axioms d w.0) back.0 back.1), record { by = i.instance_of.by; choice = i.instance_of.choice; is = sym (is_constant i.left back.0 back.2) ∙ i.instance_of.left })
+
+    instance_joined : (f : OpId) (ts : FlatTerms) (t u : FlatTerm) (i : IsTightInstance t u) → t ≡ fapp f true ts → (us : FlatTerms) × (i.left ≡ fapp f true us)
+    instance_joined f ts t u i e = joined_back d (values d i.by) (values_settled d i.by) f ts i.left (left_settled t u i) i.tight (sym i.from ∙ e) (left_no_variable t u i)
