@@ -2,3 +2,4 @@
 mod Tight
 mod Members
 mod TightSteps
+mod SumSteps

@@ -15,6 +15,7 @@ use Rattle.fvn_forms.specs.InOrder.{sort}
 use Rattle.fvn_forms.specs.Canon.{as_constant, parts, all_parts, joined, sum, built, build, eval_all, inst}
 use Rattle.fvn_forms.specs.Settled.{IsPiece, FitsUnjoined, Settled, SettledAll, SettledValues}
 use Rattle.fvn_forms.proofs.InOrder.{length_sort}
+use Rattle.fvn_forms.proofs.Sums.{funpack-fpack, same_op_itself}
 use Rattle.fvn_forms.proofs.Build.{sort_is_nil, parts_none_iff, build_unjoined_some}
 use Rattle.fvn_forms.proofs.Eval.{eval_nest}
 use Rattle.fvn_forms.proofs.Instances.{inst_settled}
@@ -40,6 +41,10 @@ module _ (d : Declarations) where
   -- a sum of two or more summands
   pub sum_form : (f : OpId) (l : List FlatTerm) → 2 ≤ length l → sum d f l ≡ fapp f true (fpack (sort l))
   sum_form f l n = let e = length_sort l in joined_form f (sort l) (omega arith)
+
+  -- the summands of a joined sum
+  pub parts_joined : (f : OpId) (ts : FlatTerms) → parts d f (fapp f true ts) ≡ funpack ts
+  parts_joined f ts = rw (same_op_itself f) refl
 
   unjoined_free : (f : OpId) (a : Axioms) (t : FlatTerm) (l : List FlatTerm) → FitsUnjoined d a (t ∷ l) → IsAssociative a → ⊥
   unjoined_free f Free t l h i = i
@@ -112,6 +117,17 @@ module _ (d : Declarations) where
           let few = enough_parts g (fmore t ts) h.1 n h.0.pieces in
           let two = h.0.two_or_more in
           joined_instance g h.0.associative t ts (omega arith)
+
+      -- so it has at least two summands
+      pub instance_parts : (g : OpId) (ts : FlatTerms) → Settled d (fapp g true ts) → IsTight (fapp g true ts) → 2 ≤ length (parts d g (inst d v (fapp g true ts)))
+      instance_parts g fnone h n = let m : 2 ≤ 0 = h.0.two_or_more in absurd (omega arith)
+      instance_parts g (fmore t ts) h n =
+          let few = enough_parts g (fmore t ts) h.1 n h.0.pieces in
+          let two = h.0.two_or_more in
+          let all = all_parts d g (eval_all d v (plain_all (fmore t ts))) in
+          let e = ap length (ap (parts d g) (inst_joined_form g t ts h n) ∙ parts_joined g (fpack (sort all)) ∙ funpack-fpack (sort all)) in
+          let s = length_sort all in
+          omega arith
 
       inst_unjoined_form : (g : OpId) (t : FlatTerm) (ts : FlatTerms) → Settled d (fapp g false (fmore t ts)) → (us : FlatTerms) × (inst d v (fapp g false (fmore t ts)) ≡ fapp g false us)
       inst_unjoined_form g t ts h = built_head g (axioms d g) (inst d v t) (eval_all d v (plain_all ts)) (unjoined_free g (axioms d g) t (funpack ts) h.0)

@@ -26,7 +26,7 @@ use Rattle.fvn_forms.proofs.ToCanon.{identity_is}
 use Rattle.fvn_flat.specs.FlatPlaces.{IsReplaced}
 use Rattle.fvn_flat.specs.Rules.{IsIdentityInstance}
 use Rattle.fvn_coherence.specs.Admissible.{AreAdmissible}
-use Rattle.fvn_coherence.proofs.Tight.{some_length, IsIdentityForm, sum_form, IsTight, identity_back, joined_back, inst_joined_form}
+use Rattle.fvn_coherence.proofs.Tight.{some_length, IsIdentityForm, sum_form, IsTight, identity_back, joined_back, instance_parts}
 
 -- the flat forms of the values of a substitution
 abbrev pub values : Declarations → Substitution → Var → FlatTerm
@@ -114,3 +114,54 @@ module _ (d : Declarations) (equations : Equations) where
 
     instance_joined : (f : OpId) (ts : FlatTerms) (t u : FlatTerm) (i : IsTightInstance t u) → t ≡ fapp f true ts → (us : FlatTerms) × (i.left ≡ fapp f true us)
     instance_joined f ts t u i e = joined_back d (values d i.by) (values_settled d i.by) f ts i.left (left_settled t u i) i.tight (sym i.from ∙ e) (left_no_variable t u i)
+
+    module _ (good : IsGood d) where
+      -- two summands of which one is joined already
+      pub sum_of_two_form : (f : OpId) → IsAssociative (axioms d f) → (a o : FlatTerm) → 2 ≤ length (all_parts d f (a ∷ o ∷ [])) → build d f (a ∷ o ∷ []) ≡ fapp f true (fpack (sort (all_parts d f (a ∷ o ∷ []))))
+      sum_of_two_form f assoc a o two = build_sum d f assoc a (o ∷ []) ∙ sum_form d f (all_parts d f (a ∷ o ∷ [])) two
+
+      -- what stands beside another summand is a sum
+      pub beside_form : (f : OpId) (t u : FlatTerm) → IsBeside f t u → (ts : FlatTerms) × (t ≡ fapp f true ts)
+      beside_form f t u b =
+          let i = b.inner in
+          let many = instance_parts d (values d i.by) (values_settled d i.by) f b.arguments (subst (Settled d) b.joined (left_settled b.inner_from b.inner_to i)) (subst (IsTight d (values d i.by)) b.joined i.tight) in
+          let same_parts : length (parts d f (inst d (values d i.by) (fapp f true b.arguments))) ≡ length (parts d f b.inner_from) = ap (λ z. length (parts d f z)) (sym (i.from ∙ ap (inst d (values d i.by)) b.joined)) in
+          let all = length-append (parts d f b.inner_from) (parts d f b.other ++ []) in
+          (fpack (sort (all_parts d f (b.inner_from ∷ b.other ∷ []))), b.from ∙ sum_of_two_form f (beside_associative f t u b) b.inner_from b.other (omega arith))
+
+      -- beside one more summand
+      beside_more : (f : OpId) (t u o : FlatTerm) (k : SortId) → IsBeside f t u → Settled d o → HasKind d (two f (plain t) (plain o)) k → IsBeside f (build d f (t ∷ o ∷ [])) (build d f (u ∷ o ∷ []))
+      beside_more f t u o k b settled of_kind =
+          let assoc = beside_associative f t u b in
+          let both = instance_settled b.inner_from b.inner_to b.inner in
+          let inner = both_of_kind d good.fits f assoc (plain b.inner_from) (plain b.other) b.kind b.of_kind in
+          let outer = both_of_kind d good.fits f assoc (plain t) (plain o) k of_kind in
+          let built = build_of_kind d good.fits f (b.inner_from ∷ b.other ∷ []) (both.0, (b.settled, tt)) b.kind b.of_kind in
+          let one : k ≡ b.kind = kind_unique d good.fits (plain t) k b.kind outer.0 (subst (λ z. HasKind d (plain z) b.kind) (sym b.from) built) in
+          let last = subst (HasKind d (plain o)) one outer.1 in
+          let pair = sum_of_kind d good.fits f assoc (plain b.inner_from) (plain b.other) (plain b.other) (plain o) b.kind b.of_kind inner.1 last in
+          let others = build_of_kind d good.fits f (b.other ∷ o ∷ []) (b.settled, (settled, tt)) b.kind pair in
+          record {
+            inner_from = b.inner_from;
+            inner_to = b.inner_to;
+            inner = b.inner;
+            arguments = b.arguments;
+            joined = b.joined;
+            other = build d f (b.other ∷ o ∷ []);
+            settled = build_settled d f (b.other ∷ o ∷ []) (b.settled, (settled, tt));
+            kind = b.kind;
+            of_kind = sum_of_kind d good.fits f assoc (plain b.inner_from) (plain b.other) (plain b.inner_from) (plain (build d f (b.other ∷ o ∷ []))) b.kind b.of_kind inner.0 others;
+            from = ap (λ z. build d f (z ∷ o ∷ [])) b.from ∙ build_shift d f assoc b.inner_from b.other o both.0 b.settled settled;
+            to = ap (λ z. build d f (z ∷ o ∷ [])) b.to ∙ build_shift d f assoc b.inner_to b.other o both.1 b.settled settled;
+          }
+
+      -- a redex that is a sum is one beside another summand
+      pub redex_beside : (f : OpId) (ts : FlatTerms) (t u o : FlatTerm) (k : SortId) → IsTightRedex t u → t ≡ fapp f true ts → Settled d o → HasKind d (two f (plain t) (plain o)) k → IsTightRedex (build d f (t ∷ o ∷ [])) (build d f (u ∷ o ∷ []))
+      redex_beside f ts t u o k (inl i) e settled of_kind =
+          let w = instance_joined f ts t u i e in
+          inr (f, record { inner_from = t; inner_to = u; inner = i; arguments = w.0; joined = w.1; other = o; settled = settled; kind = k; of_kind = of_kind; from = refl; to = refl })
+      redex_beside f ts t u o k (inr b) e settled of_kind =
+          let w = beside_form b.0 t u b.1 in
+          let p : fapp b.0 true w.0 ≡ fapp f true ts = sym w.1 ∙ e in
+          let one : b.0 ≡ f = cc in
+          inr (f, beside_more f t u o k (subst (λ g. IsBeside g t u) one b.1) settled of_kind)
