@@ -3,3 +3,6 @@ mod Tight
 mod Members
 mod TightSteps
 mod SumSteps
+mod ArgumentSteps
+mod Tightening
+mod InsideSteps

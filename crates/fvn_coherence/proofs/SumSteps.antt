@@ -81,6 +81,12 @@ module _ (d : Declarations) where
     go false e = inl (alone f u v (fconstant g) w r (rw e refl))
   part_or_whole f u v (fapp g false (fmore t ts)) w h n r = inl (alone f u v (fapp g false (fmore t ts)) w r refl)
 
+  -- beside what has no summands the other form is the sum
+  pub sum_with_nothing : (f : OpId) (o : FlatTerm) → Settled d o → parts d f o ≡ [] → (a : FlatTerm) → Settled d a → build d f (a ∷ o ∷ []) ≡ a
+  sum_with_nothing f o ho e a ha =
+      let w = parts_none d f o ho e in
+      ap (λ z. build d f (a ∷ z ∷ [])) w.2 ∙ build_right_identity d f w.0 (identity_is (axioms d f) w.0 w.1) a ha
+
   module _ (equations : Equations) (f : OpId) (assoc : IsAssociative (axioms d f)) (a b o : FlatTerm) (ha : Settled d a) (ho : Settled d o) where
     abbrev all : List FlatTerm
     all = all_parts d f (a ∷ o ∷ [])
@@ -138,11 +144,8 @@ module _ (d : Declarations) where
       sum_step s = go (parts d f o) refl where
         go : (l : List FlatTerm) → parts d f o ≡ l → StepsTightly d equations (build d f (a ∷ o ∷ [])) (build d f (b ∷ o ∷ []))
         go [] e =
-            let w = parts_none d f o ho e in
-            let i = identity_is (axioms d f) w.0 w.1 in
-            let from : build d f (a ∷ o ∷ []) ≡ a = ap (λ z. build d f (a ∷ z ∷ [])) w.2 ∙ build_right_identity d f w.0 i a ha in
-            let to : build d f (b ∷ o ∷ []) ≡ b = ap (λ z. build d f (b ∷ z ∷ [])) w.2 ∙ build_right_identity d f w.0 i b (subst (Settled d) s.makes (canon_settled d (plain s.replaced))) in
-            subst (λ z. StepsTightly d equations z (build d f (b ∷ o ∷ []))) (sym from) (subst (StepsTightly d equations a) (sym to) s)
+            let to = sum_with_nothing f o ho e b (subst (Settled d) s.makes (canon_settled d (plain s.replaced))) in
+            subst (λ z. StepsTightly d equations z (build d f (b ∷ o ∷ []))) (sym (sum_with_nothing f o ho e a ha)) (subst (StepsTightly d equations a) (sym to) s)
         go (x ∷ l) e =
             let one = some_length (parts d f a) some in
             let other = ap length e in

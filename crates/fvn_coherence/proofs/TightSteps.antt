@@ -18,12 +18,12 @@ use Rattle.fvn_forms.specs.Canon.{as_constant, parts, all_parts, build, canon, i
 use Rattle.fvn_forms.specs.Settled.{Settled, SettledValues}
 use Rattle.fvn_forms.specs.Good.{IsGood}
 use Rattle.fvn_forms.proofs.Build.{is_constant, build_settled, build_sum, build_shift}
-use Rattle.fvn_forms.proofs.Eval.{canon_settled}
+use Rattle.fvn_forms.proofs.Eval.{canon_settled, canon_plain}
 use Rattle.fvn_forms.proofs.KindsKept.{kind_unique, both_of_kind, sum_of_kind}
 use Rattle.fvn_forms.proofs.KindsOfSums.{build_of_kind}
 use Rattle.fvn_forms.proofs.Instances.{inst_settled}
 use Rattle.fvn_forms.proofs.ToCanon.{identity_is}
-use Rattle.fvn_flat.specs.FlatPlaces.{IsReplaced}
+use Rattle.fvn_flat.specs.FlatPlaces.{IsReplaced, here}
 use Rattle.fvn_flat.specs.Rules.{IsIdentityInstance}
 use Rattle.fvn_coherence.specs.Admissible.{AreAdmissible}
 use Rattle.fvn_coherence.proofs.Tight.{some_length, IsIdentityForm, sum_form, IsTight, identity_back, joined_back, instance_parts}
@@ -81,6 +81,10 @@ module _ (d : Declarations) (equations : Equations) where
     subst (Settled d) (sym i.from) (inst_settled d (values d i.by) (values_settled d i.by) i.left),
     subst (Settled d) (sym i.to) (inst_settled d (values d i.by) (values_settled d i.by) i.right),
   )
+
+  -- a redex by itself steps
+  pub whole_step : (t u : FlatTerm) → IsTightInstance t u → StepsTightly t u
+  whole_step t u i = record { at = t; given = u; redex = inl i; replaced = u; replaces = here; makes = canon_plain d u (instance_settled t u i).1 }
 
   left_settled : (t u : FlatTerm) (i : IsTightInstance t u) → Settled d i.left
   left_settled t u i = subst (Settled d) (sym i.instance_of.left) (canon_settled d _)
