@@ -6,3 +6,6 @@ mod SumSteps
 mod ArgumentSteps
 mod Tightening
 mod InsideSteps
+mod Extending
+mod Redexes
+mod Coherence

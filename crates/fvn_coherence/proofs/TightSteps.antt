@@ -86,7 +86,8 @@ module _ (d : Declarations) (equations : Equations) where
   pub whole_step : (t u : FlatTerm) → IsTightInstance t u → StepsTightly t u
   whole_step t u i = record { at = t; given = u; redex = inl i; replaced = u; replaces = here; makes = canon_plain d u (instance_settled t u i).1 }
 
-  left_settled : (t u : FlatTerm) (i : IsTightInstance t u) → Settled d i.left
+  -- the left side of a redex is settled
+  pub left_settled : (t u : FlatTerm) (i : IsTightInstance t u) → Settled d i.left
   left_settled t u i = subst (Settled d) (sym i.instance_of.left) (canon_settled d _)
 
   beside_settled : (f : OpId) (t u : FlatTerm) (b : IsBeside f t u) → Settled d t × Settled d u
@@ -101,11 +102,12 @@ module _ (d : Declarations) (equations : Equations) where
   redex_settled t u (inl i) = instance_settled t u i
   redex_settled t u (inr b) = beside_settled b.0 t u b.1
 
-  beside_associative : (f : OpId) (t u : FlatTerm) (b : IsBeside f t u) → IsAssociative (axioms d f)
+  pub beside_associative : (f : OpId) (t u : FlatTerm) (b : IsBeside f t u) → IsAssociative (axioms d f)
   beside_associative f t u b = (subst (Settled d) b.joined (left_settled b.inner_from b.inner_to b.inner)).0.associative
 
   module _ (admissible : AreAdmissible d equations) where
-    left_no_variable : (t u : FlatTerm) (i : IsTightInstance t u) → (x : Var) → i.left ≡ fvar x → ⊥
+    -- and no variable
+    pub left_no_variable : (t u : FlatTerm) (i : IsTightInstance t u) → (x : Var) → i.left ≡ fvar x → ⊥
     left_no_variable t u i x e =
         (admissible i.equation i.listed).no_variable (x, record { by = i.instance_of.by; choice = i.instance_of.choice; is = sym e ∙ i.instance_of.left })
 
