@@ -4,8 +4,10 @@ mod Members
 mod TightSteps
 mod SumSteps
 mod ArgumentSteps
+mod PlaceInduction
 mod Tightening
 mod InsideSteps
 mod Extending
 mod Redexes
 mod Coherence
+mod SortSteps
