@@ -22,7 +22,7 @@ use Rattle.fvn_forms.proofs.ToCanon.{identity_is}
 use Rattle.fvn_flat.specs.FlatPlaces.{IsReplaced, here, inside}
 use Rattle.fvn_coherence.specs.Admissible.{AreAdmissible}
 use Rattle.fvn_coherence.proofs.Tight.{some_length, parts_joined}
-use Rattle.fvn_coherence.proofs.Members.{stands_among, count_around, each_around, replaced_among, replaced_member, count_parts_around, canon_replaced}
+use Rattle.fvn_coherence.proofs.Members.{StandsAmong, stands_among, count_around, each_around, replaced_among, replaced_member, count_parts_around, canon_replaced}
 use Rattle.fvn_coherence.proofs.TightSteps.{IsTightRedex, StepsTightly, redex_settled, sum_of_two_form, redex_beside}
 
 module _ (d : Declarations) where
@@ -91,39 +91,60 @@ module _ (d : Declarations) where
     abbrev all : List FlatTerm
     all = all_parts d f (a ∷ o ∷ [])
 
-    step_of_part : (u v : FlatTerm) → IsTightRedex d equations u v → (r : ReplacesPart f u v a b) → build d f (a ∷ o ∷ []) ≡ fapp f true (fpack (sort all)) → StepsTightly d equations (build d f (a ∷ o ∷ [])) (build d f (b ∷ o ∷ []))
-    step_of_part u v redex r form =
-        let m = stands_among r.part (sort all) (r.others ++ parts d f o) (λ q.
+    all_settled : AllByRecursion (Settled d) (sort all)
+    all_settled = each_sort (Settled d) all (all_parts_are_settled d f (a ∷ o ∷ []) (ha, (ho, tt)))
+
+    all_pieces : AllByRecursion (IsPiece d f) (sort all)
+    all_pieces = each_sort (IsPiece d f) all (all_parts_are_pieces d f (a ∷ o ∷ []) (ha, (ho, tt)))
+
+    -- a summand of the first form stands among all, beside its others and those of the second
+    among_all : (part : FlatTerm) (others : List FlatTerm) → SameCounts (parts d f a) (part ∷ others) → StandsAmong part (sort all) (others ++ parts d f o)
+    among_all part others was = stands_among part (sort all) (others ++ parts d f o) (λ q.
         let e = count_sort q all in
         let g = count_append q (parts d f a) (parts d f o ++ []) in
         let i = count_append q (parts d f o) [] in
-        let j = r.was q in
-        let l = count_append q r.others (parts d f o) in
-        omega arith) in
-        let c = canon d (plain r.new) in
-        let settled = each_around (Settled d) m.before r.part m.after (subst (AllByRecursion (Settled d)) m.is (each_sort (Settled d) all (all_parts_are_settled d f (a ∷ o ∷ []) (ha, (ho, tt))))) in
-        let pieces = each_around (IsPiece d f) m.before r.part m.after (subst (AllByRecursion (IsPiece d f)) m.is (each_sort (IsPiece d f) all (all_parts_are_pieces d f (a ∷ o ∷ []) (ha, (ho, tt))))) in
-        let replaced = fapp f true (fpack (m.before ++ r.new ∷ m.after)) in
-        record {
-          at = u;
-          given = v;
-          redex = redex;
-          replaced = replaced;
-          replaces = subst (λ z. IsReplaced u v z replaced) (sym (form ∙ ap (λ l. fapp f true (fpack l)) m.is)) (inside (replaced_among r.replaced m.before m.after));
-          makes =
-              canon_replaced d f assoc m.before r.new c m.after settled.0 settled.1.1 refl
-              ∙ sum_same_counts d f (all_parts d f (m.before ++ c ∷ m.after)) (all_parts d f (b ∷ o ∷ []))
-              (λ q.
-              let e = count_parts_around d f q m.before c m.after pieces.0 pieces.1.1 in
-              let g = m.beside q in
-              let i = count_append q r.others (parts d f o) in
-              let j = r.is q in
-              let l = count_append q (parts d f c) r.others in
-              let n = count_append q (parts d f b) (parts d f o ++ []) in
-              let p = count_append q (parts d f o) [] in
-              omega arith)
-              ∙ sym (build_sum d f assoc b (o ∷ []));
-        }
+        let j = was q in
+        let l = count_append q others (parts d f o) in
+        omega arith)
+
+    module _ (part new : FlatTerm) (others before after : List FlatTerm) (split : sort all ≡ before ++ part ∷ after) (beside : SameCounts (before ++ after) (others ++ parts d f o)) where
+      split_settled : AllByRecursion (Settled d) before × (Settled d part × AllByRecursion (Settled d) after)
+      split_settled = each_around (Settled d) before part after (subst (AllByRecursion (Settled d)) split all_settled)
+
+      split_pieces : AllByRecursion (IsPiece d f) before × (IsPiece d f part × AllByRecursion (IsPiece d f) after)
+      split_pieces = each_around (IsPiece d f) before part after (subst (AllByRecursion (IsPiece d f)) split all_pieces)
+
+      makes_sum : SameCounts (parts d f b) (parts d f (canon d (plain new)) ++ others) → canon d (plain (fapp f true (fpack (before ++ new ∷ after)))) ≡ build d f (b ∷ o ∷ [])
+      makes_sum is =
+          let c = canon d (plain new) in
+          canon_replaced d f assoc before new c after split_settled.0 split_settled.1.1 refl
+          ∙ sum_same_counts d f (all_parts d f (before ++ c ∷ after)) (all_parts d f (b ∷ o ∷ []))
+          (λ q.
+          let e = count_parts_around d f q before c after split_pieces.0 split_pieces.1.1 in
+          let g = beside q in
+          let i = count_append q others (parts d f o) in
+          let j = is q in
+          let l = count_append q (parts d f c) others in
+          let n = count_append q (parts d f b) (parts d f o ++ []) in
+          let p = count_append q (parts d f o) [] in
+          omega arith)
+          ∙ sym (build_sum d f assoc b (o ∷ []))
+
+      step_at_summand : (u v : FlatTerm) → IsTightRedex d equations u v → IsReplaced u v part new → SameCounts (parts d f b) (parts d f (canon d (plain new)) ++ others) → build d f (a ∷ o ∷ []) ≡ fapp f true (fpack (sort all)) →
+          StepsTightly d equations (build d f (a ∷ o ∷ [])) (build d f (b ∷ o ∷ []))
+      step_at_summand u v redex replaced is form = record {
+        at = u;
+        given = v;
+        redex = redex;
+        replaced = fapp f true (fpack (before ++ new ∷ after));
+        replaces = subst (λ z. IsReplaced u v z (fapp f true (fpack (before ++ new ∷ after)))) (sym (form ∙ ap (λ l. fapp f true (fpack l)) split)) (inside (replaced_among replaced before after));
+        makes = makes_sum is;
+      }
+
+    step_of_part : (u v : FlatTerm) → IsTightRedex d equations u v → (r : ReplacesPart f u v a b) → build d f (a ∷ o ∷ []) ≡ fapp f true (fpack (sort all)) → StepsTightly d equations (build d f (a ∷ o ∷ [])) (build d f (b ∷ o ∷ []))
+    step_of_part u v redex r form =
+        let m = among_all r.part r.others r.was in
+        step_at_summand r.part r.new r.others m.before m.after m.is m.beside u v redex r.replaced r.is form
 
     module _ (admissible : AreAdmissible d equations) (good : IsGood d) (k : SortId) (of_kind : HasKind d (two f (plain a) (plain o)) k) (some : parts d f a ≡ [] → ⊥) where
       step_of_whole : (s : StepsTightly d equations a b) → IsWhole f s.at s.given a s.replaced → StepsTightly d equations (build d f (a ∷ o ∷ [])) (build d f (b ∷ o ∷ []))
