@@ -1,11 +1,10 @@
 -- Tight instances, alone and beside another summand, are redexes of rules.
-use Rattle.std.proofs.Common.{◌≡◌, ◌⊎◌, ◌≤◌, true, [], ◌∷◌, ◌++◌, length, Some, refl, sym, ap, ◌∙◌, subst, inl, inr, arith}
+use Rattle.std.proofs.Common.{◌≡◌, ◌⊎◌, ◌≤◌, true, [], ◌∷◌, length, Some, refl, sym, ap, ◌∙◌, subst, inl, inr, arith}
 use Rattle.std.proofs.lemmas.List.{length-append}
 use Rattle.fvn_terms.specs.declared.plain.Var.{Var}
 use Rattle.fvn_terms.specs.declared.plain.OpId.{OpId}
-use Rattle.fvn_terms.specs.declared.plain.SortId.{SortId}
 use Rattle.fvn_terms.specs.declared.declarations.Declarations.{Declarations}
-use Rattle.fvn_terms.specs.Term.{Term, Terms, var, app, none, more}
+use Rattle.fvn_terms.specs.Term.{Term, Terms, var, app, none}
 use Rattle.fvn_terms.specs.Substitution.{Substitution, apply, Occurs}
 use Rattle.fvn_terms.specs.Signature.{HasKind}
 use Rattle.fvn_terms.specs.Equality.{two, BEqual}
@@ -14,8 +13,8 @@ use Rattle.fvn_terms.specs.Theory.{Equations}
 use Rattle.fvn_terms.proofs.Substitutions.{apply-agree}
 use Rattle.fvn_terms.proofs.Equal.{HasKind-apply, BEqual-sym}
 use Rattle.fvn_terms.proofs.Occurrences.{occurs_value, BEqual-occurs}
-use Rattle.fvn_forms.specs.Flat.{FlatTerm, FlatTerms, fvar, fapp, fnone, fmore, funpack, plain}
-use Rattle.fvn_forms.specs.Canon.{parts, all_parts, build, canon, inst}
+use Rattle.fvn_forms.specs.Flat.{FlatTerm, FlatTerms, fvar, fapp, fnone, fmore, plain}
+use Rattle.fvn_forms.specs.Canon.{parts, build, canon, inst}
 use Rattle.fvn_forms.specs.Settled.{Settled}
 use Rattle.fvn_forms.specs.Good.{IsGood}
 use Rattle.fvn_forms.proofs.Eval.{canon_plain, eval_apply}

@@ -1,5 +1,5 @@
 -- Steps with sort-decreasing equations keep sorts, where no left side collapses.
-use Rattle.std.proofs.Common.{◌≡◌, ℕ, zero, suc, List, [], ◌∷◌, ◌++◌, map, Option, Some, None, refl, sym, ap, ◌∙◌, subst}
+use Rattle.std.proofs.Common.{◌≡◌, ℕ, zero, suc, List, [], ◌∷◌, ◌++◌, map, Some, None, refl, sym, ap, ◌∙◌, subst}
 use Rattle.std.specs.List.{AllByRecursion, AllZip}
 use Rattle.fvn_terms.specs.declared.plain.OpId.{OpId}
 use Rattle.fvn_terms.specs.declared.plain.SortId.{SortId}
@@ -8,14 +8,14 @@ use Rattle.fvn_terms.specs.declared.declarations.Axioms.TheVariants.{Free, Comm,
 use Rattle.fvn_terms.specs.declared.declarations.Declarations.{Declarations}
 use Rattle.fvn_terms.specs.Term.{Term}
 use Rattle.fvn_terms.specs.Signature.{kind, axioms, AtOrBelow, same, IsTerm, HasKind, HaveKinds}
-use Rattle.fvn_terms.specs.Places.{AtOnePlace, here, stop}
+use Rattle.fvn_terms.specs.Places.{AtOnePlace, here}
 use Rattle.fvn_terms.specs.Equality.{two, IsAssociative, BEqual}
 use Rattle.fvn_terms.specs.Sorts.{HasSort}
 use Rattle.fvn_terms.specs.Theory.{Equations, IsRule}
 use Rattle.fvn_terms.specs.Rewriting.{Rewrites, TermSequence}
 use Rattle.fvn_terms.specs.Laws.{RewritingLaws}
 use Rattle.fvn_terms.proofs.Equal.{BEqual-trans, BEqual-sym}
-use Rattle.fvn_forms.specs.Flat.{FlatTerm, fpack, fconstant, plain, plain_all}
+use Rattle.fvn_forms.specs.Flat.{FlatTerm, fpack, plain, plain_all}
 use Rattle.fvn_forms.specs.Canon.{identity, parts, build, canon}
 use Rattle.fvn_forms.specs.Settled.{Settled}
 use Rattle.fvn_forms.specs.Ranks.{result}

@@ -1,6 +1,5 @@
 -- A step of one summand is a step of the sum.
-use Rattle.std.proofs.Common.{◌≡◌, ◌⊎◌, ◌+◌, ◌≤◌, Bool, true, false, List, [], ◌∷◌, ◌++◌, length, refl, sym, ap, ◌∙◌, subst, inl, inr, arith}
-use Rattle.std.specs.Prelude.{if◌then◌else◌}
+use Rattle.std.proofs.Common.{◌≡◌, ◌⊎◌, Bool, true, false, List, [], ◌∷◌, ◌++◌, length, refl, sym, ap, ◌∙◌, subst, inl, inr, arith}
 use Rattle.std.specs.List.{AllByRecursion}
 use Rattle.std.proofs.lemmas.List.{length-append, append-nil}
 use Rattle.fvn_terms.specs.declared.plain.OpId.{OpId}
@@ -9,7 +8,7 @@ use Rattle.fvn_terms.specs.declared.declarations.Declarations.{Declarations}
 use Rattle.fvn_terms.specs.Signature.{axioms, HasKind}
 use Rattle.fvn_terms.specs.Equality.{two, IsAssociative}
 use Rattle.fvn_terms.specs.Theory.{Equations}
-use Rattle.fvn_forms.specs.Flat.{FlatTerm, FlatTerms, fvar, fapp, fnone, fmore, fpack, funpack, fconstant, plain}
+use Rattle.fvn_forms.specs.Flat.{FlatTerm, FlatTerms, fvar, fapp, fnone, fmore, fpack, fconstant, plain}
 use Rattle.fvn_forms.specs.InOrder.{sort, count, SameCounts}
 use Rattle.fvn_forms.specs.Canon.{same_op, identity, is_identity, parts, all_parts, sum, build, canon}
 use Rattle.fvn_forms.specs.Settled.{IsPiece, Settled}

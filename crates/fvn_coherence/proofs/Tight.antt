@@ -1,5 +1,5 @@
 -- Instances by values that are no identities: their heads stay, and none becomes an identity that was none.
-use Rattle.std.proofs.Common.{◌≡◌, ◌≤◌, Bool, true, false, List, [], ◌∷◌, ◌++◌, length, Option, Some, None, refl, sym, ap, ◌∙◌, subst, inl, inr, arith}
+use Rattle.std.proofs.Common.{◌≡◌, ◌≤◌, true, false, List, [], ◌∷◌, length, Some, None, refl, sym, ap, ◌∙◌, inl, inr, arith}
 use Rattle.std.specs.List.{AllByRecursion}
 use Rattle.std.proofs.lemmas.List.{length-append}
 use Rattle.fvn_terms.specs.declared.plain.Var.{Var}
@@ -12,11 +12,11 @@ use Rattle.fvn_terms.specs.Signature.{axioms}
 use Rattle.fvn_terms.specs.Equality.{IsAssociative}
 use Rattle.fvn_forms.specs.Flat.{FlatTerm, FlatTerms, fvar, fapp, fnone, fmore, fpack, funpack, fconstant, plain, plain_all}
 use Rattle.fvn_forms.specs.InOrder.{sort}
-use Rattle.fvn_forms.specs.Canon.{as_constant, parts, all_parts, joined, sum, built, build, eval_all, inst}
+use Rattle.fvn_forms.specs.Canon.{as_constant, parts, all_parts, joined, sum, built, eval_all, inst}
 use Rattle.fvn_forms.specs.Settled.{IsPiece, FitsUnjoined, Settled, SettledAll, SettledValues}
 use Rattle.fvn_forms.proofs.InOrder.{length_sort}
 use Rattle.fvn_forms.proofs.Sums.{funpack-fpack, same_op_itself}
-use Rattle.fvn_forms.proofs.Build.{sort_is_nil, parts_none_iff, build_unjoined_some}
+use Rattle.fvn_forms.proofs.Build.{parts_none_iff, build_unjoined_some}
 use Rattle.fvn_forms.proofs.Eval.{eval_nest}
 use Rattle.fvn_forms.proofs.Instances.{inst_settled}
 use Rattle.fvn_forms.proofs.LeastSortOf.{IsIdentityOf}

@@ -1,5 +1,5 @@
 -- Steps at places of flat forms, by instances of equations under which no variable becomes an identity.
-use Rattle.std.proofs.Common.{◌≡◌, ◌⊎◌, ◌≤◌, true, [], ◌∷◌, ◌++◌, length, None, Some, refl, sym, ap, ◌∙◌, subst, inl, inr, arith}
+use Rattle.std.proofs.Common.{◌≡◌, ◌⊎◌, ◌≤◌, true, [], ◌∷◌, ◌++◌, length, refl, sym, ap, ◌∙◌, subst, inl, inr, arith}
 use Rattle.std.specs.Prelude.{Contains}
 use Rattle.std.proofs.lemmas.List.{length-append}
 use Rattle.fvn_terms.specs.declared.plain.Var.{Var}
@@ -14,7 +14,7 @@ use Rattle.fvn_terms.specs.Sorts.{IsWellSorted}
 use Rattle.fvn_terms.specs.Theory.{Equations}
 use Rattle.fvn_forms.specs.Flat.{FlatTerm, FlatTerms, fvar, fapp, fpack, plain}
 use Rattle.fvn_forms.specs.InOrder.{sort}
-use Rattle.fvn_forms.specs.Canon.{as_constant, parts, all_parts, build, canon, inst}
+use Rattle.fvn_forms.specs.Canon.{parts, all_parts, build, canon, inst}
 use Rattle.fvn_forms.specs.Settled.{Settled, SettledValues}
 use Rattle.fvn_forms.specs.Good.{IsGood}
 use Rattle.fvn_forms.proofs.Build.{is_constant, build_settled, build_sum, build_shift}
@@ -26,7 +26,7 @@ use Rattle.fvn_forms.proofs.ToCanon.{identity_is}
 use Rattle.fvn_flat.specs.FlatPlaces.{IsReplaced, here}
 use Rattle.fvn_flat.specs.Rules.{IsIdentityInstance}
 use Rattle.fvn_coherence.specs.Admissible.{AreAdmissible}
-use Rattle.fvn_coherence.proofs.Tight.{some_length, IsIdentityForm, sum_form, IsTight, identity_back, joined_back, instance_parts}
+use Rattle.fvn_coherence.proofs.Tight.{IsIdentityForm, sum_form, IsTight, identity_back, joined_back, instance_parts}
 
 -- the flat forms of the values of a substitution
 abbrev pub values : Declarations → Substitution → Var → FlatTerm
