@@ -73,7 +73,7 @@ module _ (d : Declarations) (good : IsGood d) (completed : IsCompleted d) (equat
   inner_step : (t u : Term) → IsTerm d t → (r : Rewrites d equations t u) → StepsInside d equations (canon d t) (canon d r.to)
   inner_step t u h r =
       subst (λ z. StepsInside d equations z (canon d r.to)) (sym (canon_respects d r.before))
-      (rule_inside d good equations admissible completed kinded r.replaced h.0 (b_equal_keeps_kind d good.fits r.before h.0 h.1))
+      (rule_inside d good equations admissible kinded completed r.replaced h.0 (b_equal_keeps_kind d good.fits r.before h.0 h.1))
 
   placed : (t u : Term) → IsTerm d t → Rewrites d equations t u → StepsAtPlace d equations (canon d t) u
   placed t u h r =

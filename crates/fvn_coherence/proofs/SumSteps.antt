@@ -20,9 +20,9 @@ use Rattle.fvn_forms.proofs.Eval.{canon_settled, canon_plain}
 use Rattle.fvn_forms.proofs.ToCanon.{identity_is}
 use Rattle.fvn_flat.specs.FlatPlaces.{IsReplaced, here, inside}
 use Rattle.fvn_coherence.specs.Admissible.{AreAdmissible}
-use Rattle.fvn_coherence.proofs.Tight.{some_length, parts_joined}
+use Rattle.fvn_coherence.proofs.Tight.{some_length, sum_of_two_form, parts_joined}
 use Rattle.fvn_coherence.proofs.Members.{StandsAmong, stands_among, count_around, each_around, replaced_among, replaced_member, count_parts_around, canon_replaced}
-use Rattle.fvn_coherence.proofs.TightSteps.{IsTightRedex, StepsTightly, redex_settled, sum_of_two_form, redex_beside}
+use Rattle.fvn_coherence.proofs.TightSteps.{IsTightRedex, StepsTightly, redex_settled, redex_beside}
 
 module _ (d : Declarations) where
   -- at one place of one summand of t stands u, and v makes a form whose flat form is c
@@ -171,7 +171,7 @@ module _ (d : Declarations) where
             let other = ap length e in
             let n = length-append (parts d f a) (parts d f o ++ []) in
             let m = length-append (parts d f o) [] in
-            let form = sum_of_two_form d equations admissible good f assoc a o (omega arith) in
+            let form = sum_of_two_form d f assoc a o (omega arith) in
             at (part_or_whole f s.at s.given a s.replaced ha some s.replaces) form
           where
             at : ReplacesPart f s.at s.given a (canon d (plain s.replaced)) ⊎ IsWhole f s.at s.given a s.replaced → build d f (a ∷ o ∷ []) ≡ fapp f true (fpack (sort all)) → StepsTightly d equations (build d f (a ∷ o ∷ [])) (build d f (b ∷ o ∷ []))
