@@ -21,7 +21,7 @@ use Rattle.fvn_coherence.specs.PlacedSteps.{StepsAtPlace}
 
 -- the rules of equations reach, at the places of flat forms, just what the equations reach modulo the axioms
 pub record CoherenceLaws (d : Declarations) (equations : Equations) : Type 0 where
-  -- each step of a term is a step at a place of its flat form, by a rule that the operator there heads
+  -- each step of a term is a step at a place of its flat form, by a rule whose left side the operator there heads
   pub placed : (t u : Term) → IsTerm d t → Rewrites d equations t u → StepsAtPlace d equations (canon d t) u
   -- and each step at a place of a form is one of the term that it stands for
   pub steps : (t : FlatTerm) (u : Term) → StepsAtPlace d equations t u → Rewrites d equations (plain t) u
@@ -33,7 +33,7 @@ pub record CoherenceLaws (d : Declarations) (equations : Equations) : Type 0 whe
 abbrev pub RulesAreCoherent : Type 0
 RulesAreCoherent = (d : Declarations) → IsGood d → IsCompleted d → (equations : Equations) → AreAdmissible d equations → CoherenceLaws d equations
 
--- sequences with admissible sort-decreasing equations keep the sorts of terms
+-- along sequences with admissible sort-decreasing equations each sort of the first term is one of the last
 abbrev pub SequencesKeepSorts : Type 0
 SequencesKeepSorts = (d : Declarations) → IsGood d → IsCompleted d → (equations : Equations) → AreAdmissible d equations → AreSortDecreasing d equations →
     (n : ℕ) (t u : Term) → IsTerm d t → TermSequence d equations n t u → (s : SortId) → HasSort d t s → HasSort d u s

@@ -4,8 +4,8 @@ ghost use Rattle.fvn_coherence.specs.Laws.{RulesAreCoherent, SequencesKeepSorts}
 use fvn_rewriting::{kinded_theories_are_lawful, rules_are_lawful};
 use fvn_terms::rewriting_is_lawful;
 
-/// Each step of a term is a step at a place of its flat form by a rule that the operator there heads, and the other way
-/// round; variables and identities are irreducible.
+/// Each step of a term is a step at a place of its flat form by a rule whose left side the operator there heads, and the
+/// other way round; variables and identities are irreducible.
 pub fn rules_are_coherent()
     ensures { RulesAreCoherent }
 {
@@ -14,7 +14,7 @@ pub fn rules_are_coherent()
     rules_are_lawful();
 }
 
-/// Sequences with sort-decreasing equations keep the sorts of terms.
+/// Along sequences with admissible sort-decreasing equations each sort of the first term is one of the last.
 pub fn sequences_keep_sorts()
     ensures { SequencesKeepSorts }
 {
