@@ -1,5 +1,6 @@
 -- A text is loaded as one module at most, and has one first fault at most.
-use Rattle.std.proofs.Common.{◌≡◌, ◌⊎◌, ℕ, List, inl, inr, sym, ap, ◌∙◌, subst}
+use Rattle.std.proofs.Common.{◌≡◌, ◌⊎◌, ℕ, List, Option, Some, None, Result, Ok, Err, IfOk, IfErr, inl, inr, sym, ap, ◌∙◌, subst}
+use Rattle.std.specs.Prelude.{MatchOption}
 use Rattle.fvn_module.specs.declared.fault.ModuleFault.{ModuleFault}
 use Rattle.fvn_module.specs.declared.fault.ModuleFault.TheVariants.{NoMemory}
 use Rattle.fvn_module.specs.Contents.{Contents}
@@ -25,26 +26,53 @@ side-once m k e f g a b =
 side-harmful : (m k : Contents) → k ≡ m → (f : ModuleFault) → HasLeftFault m f → HasHarmlessSides k → ⊥
 side-harmful m k e f a h = first_harmful m.signature (equations_of m.equations) a.left a.first (subst HasHarmlessSides e h)
 
--- what is read
+-- the first left side at fault, where there is one
+
+abbrev Found : Contents → Option LeftFault → Type 0
+Found m found = MatchOption found (HasHarmlessSides m) (Firsts m)
+
+pub no_left : (m : Contents) (found : Option LeftFault) → found ≡ None → Found m found → HasHarmlessSides m
+no_left m found e h = subst (Found m) e h
+
+pub told_left : (m : Contents) (found : Option LeftFault) (left : LeftFault) → found ≡ Some left → Found m found → (f : ModuleFault) → f ≡ fault_of_left left → HasLeftFault m f
+told_left m found left e h f is = record { left = left; first = subst (Found m) e h; fault_is = is }
+
+-- what is read, and then judged
 
 module _ (bytes : List ℕ) where
-  pub loaded : (m : Contents) → IsModule bytes m → HasHarmlessSides m → IsLoaded bytes m
-  loaded m h sides = record { is_module = h; harmless = sides }
-
-  pub loaded_alone : (m : Contents) → IsOnlyModule bytes m → IsLoadedAlone bytes m
-  loaded_alone m only = λ other h. only other h.is_module
+  pub read_fault : (f : ModuleFault) → Refuses bytes f → IsLoadFault bytes f
+  read_fault f h = inl h
 
   pub not_read : (f : ModuleFault) → HasNoModule bytes f → HasNoLoad bytes f
   not_read f (inl e) = inl e
   not_read f (inr none) = inr (λ m h. none m h.is_module)
 
-  pub at_fault : (m : Contents) → IsModule bytes m → (f : ModuleFault) → (f ≡ NoMemory) ⊎ HasLeftFault m f → IsLoadFault bytes f
-  at_fault m h f (inl e) = inl (subst (Refuses bytes) (sym e) tt)
-  at_fault m h f (inr w) = inr (record { contents = m; is_module = h; left_fault = w })
+  module _ (m : Contents) where
+    -- the same module, with harmless left sides
+    abbrev IsJudged : Contents → Type 0
+    IsJudged k = (k ≡ m) × HasHarmlessSides m
 
-  pub not_harmless : (m : Contents) → IsOnlyModule bytes m → (f : ModuleFault) → (f ≡ NoMemory) ⊎ HasLeftFault m f → HasNoLoad bytes f
-  not_harmless m only f (inl e) = inl e
-  not_harmless m only f (inr w) = inr (λ k h. side-harmful m k (only k h.is_module) f w h.harmless)
+    -- want of memory, or the fault of its first left side at fault
+    abbrev IsFaultOf : ModuleFault → Type 0
+    IsFaultOf f = (f ≡ NoMemory) ⊎ HasLeftFault m f
+
+    pub judged_ok : IsModule bytes m → (r : Result Contents ModuleFault) → IfOk r IsJudged → IfOk r (IsLoaded bytes)
+    judged_ok h (Ok k) j = record { is_module = subst (IsModule bytes) (sym j.0) h; harmless = subst HasHarmlessSides (sym j.0) j.1 }
+    judged_ok h (Err f) j = tt
+
+    pub judged_alone : IsOnlyModule bytes m → (r : Result Contents ModuleFault) → IfOk r IsJudged → IfOk r (IsLoadedAlone bytes)
+    judged_alone only (Ok k) j = λ other h. only other h.is_module ∙ sym j.0
+    judged_alone only (Err f) j = tt
+
+    pub judged_fault : IsModule bytes m → (r : Result Contents ModuleFault) → IfErr r IsFaultOf → IfErr r (IsLoadFault bytes)
+    judged_fault h (Ok k) j = tt
+    judged_fault h (Err f) (inl e) = inl (subst (Refuses bytes) (sym e) tt)
+    judged_fault h (Err f) (inr w) = inr (record { contents = m; is_module = h; left_fault = w })
+
+    pub judged_none : IsOnlyModule bytes m → (r : Result Contents ModuleFault) → IfErr r IsFaultOf → IfErr r (HasNoLoad bytes)
+    judged_none only (Ok k) j = tt
+    judged_none only (Err f) (inl e) = inl e
+    judged_none only (Err f) (inr w) = inr (λ k h. side-harmful m k (only k h.is_module) f w h.harmless)
 
 -- the laws
 

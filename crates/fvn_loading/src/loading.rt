@@ -13,6 +13,7 @@ ghost use Rattle.fvn_loading.specs.Loading.{
 
 use fvn_cohere::{LeftFault, first_left_fault};
 use fvn_module::{Module, ModuleFault, Place, read_module};
+use fvn_terms::NoMemory;
 use std::alloc::Global;
 
 // What is wrong with a left side, as a fault of its module.
@@ -26,16 +27,15 @@ fn fault_of_left(left: LeftFault) -> ModuleFault
     }
 }
 
-// Whether the left sides of a module are harmless, or the fault of the first that is not.
-fn judge_sides(alloc: Global, declared: &Module) -> Result<(), ModuleFault>
-    ensures ok { IfOk result (λ nothing. HasHarmlessSides declared.now) }
-    ensures err { IfErr result (λ fault.
-        (fault ≡ OutOfMemory) ⊎ HasLeftFault declared.now fault) }
+// The module, where its left sides are harmless, or the fault of the first that is not.
+fn judged(alloc: Global, declared: Module) -> Result<Module, ModuleFault>
+    ensures ok { IfOk result (λ m. (m ≡ declared) × HasHarmlessSides declared) }
+    ensures err { IfErr result (λ fault. (fault ≡ OutOfMemory) ⊎ HasLeftFault declared fault) }
 {
-    let found = first_left_fault(alloc, declared)?;
-    match found {
-        None => Ok(()),
-        Some(left) => Err(fault_of_left(left)),
+    match first_left_fault(alloc, &declared) {
+        Ok(None) => Ok(declared),
+        Ok(Some(left)) => Err(fault_of_left(left)),
+        Err(NoMemory) => Err(ModuleFault::NoMemory),
     }
 }
 
@@ -49,10 +49,7 @@ pub fn load(alloc: Global, bytes: &[u8]) -> Result<Module, ModuleFault>
     ensures none { IfErr result (HasNoLoad bytes.now) }
 {
     match read_module(alloc, bytes) {
+        Ok(declared) => judged(alloc, declared),
         Err(fault) => Err(fault),
-        Ok(declared) => match judge_sides(alloc, &declared) {
-            Err(fault) => Err(fault),
-            Ok(()) => Ok(declared),
-        },
     }
 }
