@@ -1,5 +1,5 @@
 //! Answers: a status and a text.
-ghost use Rattle.std.specs.Prelude.{◌≡◌, IfOk};
+ghost use Rattle.std.specs.Prelude.{◌≡◌, ◌++◌, IfOk};
 ghost use Rattle.fvn_commands.specs.Texts.{bytes_of, line};
 
 use crate::status::Status;
@@ -48,6 +48,21 @@ impl Answer {
         ensures status { IfOk result (λ a. a.status ≡ status) }
         ensures text { IfOk result (λ a. bytes_of a.text ≡ line text.items) }
     {
+        text.push(b'\n')?;
+        Ok(Answer {
+            status,
+            text: Text::Made(text),
+        })
+    }
+
+    /// An answer of two lines, each of which ends with a line feed.
+    pub fn two_lines(status: Status, mut text: Vec<u8>, second: &[u8]) -> Result<Answer, NoMemory>
+        ensures status { IfOk result (λ a. a.status ≡ status) }
+        ensures text { IfOk result (λ a.
+            bytes_of a.text ≡ line text.items ++ line second.now) }
+    {
+        text.push(b'\n')?;
+        text.extend_from_slice(second)?;
         text.push(b'\n')?;
         Ok(Answer {
             status,

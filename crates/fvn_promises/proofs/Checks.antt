@@ -4,14 +4,14 @@ use Rattle.fvn_base.proofs.Options.{Some-injective}
 use Rattle.fvn_module.specs.declared.fault.ModuleFault.{ModuleFault}
 use Rattle.fvn_module.specs.declared.fault.ModuleFault.TheVariants.{NoMemory}
 use Rattle.fvn_module.specs.Contents.{Contents}
-use Rattle.fvn_module.specs.ModuleText.{IsModule}
-use Rattle.fvn_module.specs.Laws.{ModulesAreDetermined, RefusalsAreDetermined, RefusedTextsDeclareNothing}
+use Rattle.fvn_loading.specs.Loading.{IsLoaded, AreNotLoaded}
+use Rattle.fvn_loading.specs.Laws.{LoadedModulesAreDetermined, LoadFaultsAreDetermined, FaultyTextsAreNotLoaded}
 use Rattle.fvn_reply.specs.Refusals.{refusal_text}
 use Rattle.fvn_commands.specs.declared.status.Status.{Status}
 use Rattle.fvn_commands.specs.declared.status.Status.TheVariants.{Solved, Usage, ModuleRefused}
 use Rattle.fvn_commands.specs.Statuses.{IsSpoken}
 use Rattle.fvn_commands.specs.Texts.{line, Is}
-use Rattle.fvn_commands.specs.Checks.{IsRefusalLine, summary_line, AreNoModule, IsFirstRefusal, IsFirstRefusalOf, IsCheckText, IsCheckReply, refused, summed}
+use Rattle.fvn_commands.specs.Checks.{IsRefusalLine, summary_line, IsFirstRefusal, IsFirstRefusalOf, IsCheckText, IsCheckReply, refused, summed}
 
 -- Want of memory has no line, and a fault has one line.
 
@@ -35,27 +35,27 @@ module _ (bytes : List ℕ) where
   check_not_usage s t e (refused first) = cc
   check_not_usage s t e (summed m h is) = cc
 
-  pub check_no_module : AreNoModule bytes → (s : Status) (t : List ℕ) → IsCheckReply bytes s t → IsFirstRefusalOf bytes s t
-  check_no_module none s t (refused first) = (refl, first)
-  check_no_module none s t (summed m h is) = absurd (none m h)
+  pub check_not_loaded : AreNotLoaded bytes → (s : Status) (t : List ℕ) → IsCheckReply bytes s t → IsFirstRefusalOf bytes s t
+  check_not_loaded none s t (refused first) = (refl, first)
+  check_not_loaded none s t (summed m h is) = absurd (none m h)
 
-  pub check_tells : (s : Status) (t : List ℕ) → s ≡ Solved → IsCheckReply bytes s t → (m : Contents) × IsModule bytes m
+  pub check_tells : (s : Status) (t : List ℕ) → s ≡ Solved → IsCheckReply bytes s t → (m : Contents) × IsLoaded bytes m
   check_tells s t e (refused first) = cc
   check_tells s t e (summed m h is) = (m, h)
 
-  module _ (determined : ModulesAreDetermined) (nothing : RefusedTextsDeclareNothing) where
-    pub refused_declares_nothing : (t : List ℕ) → IsFirstRefusal bytes t → AreNoModule bytes
-    refused_declares_nothing t a m h = not_memory a.fault t a.line_of (nothing bytes a.fault m a.first h)
+  module _ (determined : LoadedModulesAreDetermined) (nothing : FaultyTextsAreNotLoaded) where
+    pub refused_not_loaded : (t : List ℕ) → IsFirstRefusal bytes t → AreNotLoaded bytes
+    refused_not_loaded t a m h = not_memory a.fault t a.line_of (nothing bytes a.fault m a.first h)
 
-    pub check_refuses : (s : Status) (t : List ℕ) → s ≡ ModuleRefused → IsCheckReply bytes s t → AreNoModule bytes
-    check_refuses s t e (refused first) = refused_declares_nothing t first
+    pub check_refuses : (s : Status) (t : List ℕ) → s ≡ ModuleRefused → IsCheckReply bytes s t → AreNotLoaded bytes
+    check_refuses s t e (refused first) = refused_not_loaded t first
     check_refuses s t e (summed m h is) = cc
 
-    pub check_module : (m : Contents) → IsModule bytes m → (s : Status) (t : List ℕ) → IsCheckReply bytes s t → Is Solved (summary_line m) s t
-    check_module m h s t (refused first) = absurd (refused_declares_nothing t first m h)
+    pub check_module : (m : Contents) → IsLoaded bytes m → (s : Status) (t : List ℕ) → IsCheckReply bytes s t → Is Solved (summary_line m) s t
+    check_module m h s t (refused first) = absurd (refused_not_loaded t first m h)
     check_module m h s t (summed k g is) = (refl, is ∙ ap summary_line (determined bytes k m g h))
 
-    module _ (refusals : RefusalsAreDetermined) where
+    module _ (refusals : LoadFaultsAreDetermined) where
       -- first faults have one line
       pub refusals_alike : (t v : List ℕ) → IsFirstRefusal bytes t → IsFirstRefusal bytes v → v ≡ t
       refusals_alike t v a b =
@@ -69,5 +69,5 @@ module _ (bytes : List ℕ) where
 
       pub check_determined : (s : Status) (t : List ℕ) → IsCheckReply bytes s t → (u : Status) (v : List ℕ) → IsCheckReply bytes u v → Is s t u v
       check_determined s t (refused first) u v (refused second) = (refl, refusals_alike t v first second)
-      check_determined s t (refused first) u v (summed m h is) = absurd (refused_declares_nothing t first m h)
+      check_determined s t (refused first) u v (summed m h is) = absurd (refused_not_loaded t first m h)
       check_determined s t (summed m h is) u v k = let r = check_module m h u v k in (r.0, r.1 ∙ sym is)

@@ -14,7 +14,7 @@ use Rattle.fvn_problems.specs.declared.problem.Problem.{Problem}
 use Rattle.fvn_problems.specs.Problems.{IsProblem, RefusesProblem, AreOfOneKind, HasVariables}
 use Rattle.fvn_module.specs.declared.fault.ModuleFault.{ModuleFault}
 use Rattle.fvn_module.specs.Contents.{Contents}
-use Rattle.fvn_module.specs.Refusals.{Refuses}
+use Rattle.fvn_loading.specs.Loading.{IsLoadFault}
 use Rattle.fvn_answer.specs.Answers.{FitsEnd, IsAnswerText}
 use Rattle.fvn_answer.specs.Laws.{EqualLinesAreInstances}
 use Rattle.fvn_answer.specs.declared.end.End.{End}
@@ -48,7 +48,7 @@ module _ (m : Contents) (p : Problem) (kinded : All (AreOfOneKind m.signature) p
         status_is = is ∙ ap status_of_end end_is;
       }
 
-pub module-refused : (bytes word : List ℕ) (fault : ModuleFault) → Refuses bytes fault → (s : Status) (t : List ℕ) → s ≡ ModuleRefused → IsRefusalLine fault t → IsUnifyReply bytes word s t
+pub module-refused : (bytes word : List ℕ) (fault : ModuleFault) → IsLoadFault bytes fault → (s : Status) (t : List ℕ) → s ≡ ModuleRefused → IsRefusalLine fault t → IsUnifyReply bytes word s t
 module-refused bytes word fault h s t e is = subst (λ x. IsUnifyReply bytes word x t) (sym e) (module_refused (record { fault = fault; first = h; line_of = is }))
 
 module _ (m : Contents) (d : Declarations) (names : Names) (signature_is : d ≡ m.signature) (names_are : names ≡ m.names) where
