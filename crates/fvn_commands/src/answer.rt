@@ -56,17 +56,17 @@ impl Answer {
     }
 
     /// An answer of two lines, each of which ends with a line feed.
-    pub fn two_lines(status: Status, mut text: Vec<u8>, second: &[u8]) -> Result<Answer, NoMemory>
+    pub fn two_lines(status: Status, mut first: Vec<u8>, second: &[u8]) -> Result<Answer, NoMemory>
         ensures status { IfOk result (λ a. a.status ≡ status) }
         ensures text { IfOk result (λ a.
-            bytes_of a.text ≡ line text.items ++ line second.now) }
+            bytes_of a.text ≡ line first.items ++ line second.now) }
     {
-        text.push(b'\n')?;
-        text.extend_from_slice(second)?;
-        text.push(b'\n')?;
+        first.push(b'\n')?;
+        first.extend_from_slice(second)?;
+        first.push(b'\n')?;
         Ok(Answer {
             status,
-            text: Text::Made(text),
+            text: Text::Made(first),
         })
     }
 }

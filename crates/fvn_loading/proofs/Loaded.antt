@@ -10,7 +10,7 @@ use Rattle.fvn_module.specs.Laws.{ModulesAreDetermined, RefusalsAreDetermined, R
 use Rattle.fvn_cohere.specs.declared.faults.LeftFault.{LeftFault}
 use Rattle.fvn_cohere.specs.LeftFaults.{IsFirstLeftFault}
 use Rattle.fvn_cohere.specs.Promises.{equations_of}
-use Rattle.fvn_loading.specs.Loading.{fault_of_left, HasHarmlessSides, HasLeftFault, IsLoaded, IsModuleWithFault, IsLoadFault, IsLoadedAlone, AreNotLoaded, HasNoLoad}
+use Rattle.fvn_loading.specs.Loading.{fault_of_left, HasHarmlessSides, HasLeftFault, IsLoaded, IsLoadFault, IsLoadedAlone, HasNoLoad}
 use Rattle.fvn_loading.proofs.LeftFaults.{first_harmful, first_once}
 
 -- what is wrong with a left side of a module

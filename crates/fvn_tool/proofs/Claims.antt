@@ -7,7 +7,8 @@ use Rattle.fvn_terms.specs.Substitution.{Substitution}
 use Rattle.fvn_outside.specs.Source.{Takes, TakesCount}
 use Rattle.fvn_module.specs.Contents.{Contents}
 use Rattle.fvn_loading.specs.Loading.{IsLoaded, AreNotLoaded}
-use Rattle.fvn_loading.specs.Laws.{LoadedModulesAreDetermined, FaultyTextsAreNotLoaded}
+use Rattle.fvn_loading.specs.Losses.{IsLossOf}
+use Rattle.fvn_loading.specs.Laws.{LoadedModulesAreDetermined, FaultyTextsAreNotLoaded, LossesAreDetermined}
 use Rattle.fvn_problems.specs.declared.problem.Problem.{Problem}
 use Rattle.fvn_problems.specs.declared.bindings.Bindings.{Bindings}
 use Rattle.fvn_answer.specs.declared.end.End.{End}
@@ -16,11 +17,11 @@ use Rattle.fvn_commands.specs.declared.status.Status.TheVariants.{Solved, Nothin
 use Rattle.fvn_commands.specs.Statuses.{IsSilent, IsSpoken, IsAnswering}
 use Rattle.fvn_commands.specs.Laws.{ReadersAreLawful}
 use Rattle.fvn_commands.specs.Texts.{Is}
-use Rattle.fvn_commands.specs.Checks.{IsFirstRefusalOf, summary_line}
+use Rattle.fvn_commands.specs.Checks.{IsFirstRefusalOf, told_lines, TellsSorts}
 use Rattle.fvn_commands.specs.Verifying.{HasEquations, later_line, AreSolvedBy, TellsVerdict, AsksNoProblem, AreNoBindings, IsProblemRefusalOf, IsBindingRefusalOf, IsModuleOfAxioms, IsAskedIn, IsAskedOf}
 use Rattle.fvn_unify.specs.Replies.{IsAnswer, IsToBeUnified}
 use Rattle.fvn_promises.specs.Unified.{AnswersSo, IsNothingExact, EndsComplete}
-use Rattle.fvn_promises.proofs.Checks.{check_one_text, check_not_usage, check_refuses, check_not_loaded, check_tells, check_module}
+use Rattle.fvn_promises.proofs.Checks.{check_one_text, check_not_usage, check_refuses, check_not_loaded, check_tells, check_module, check_sorts}
 use Rattle.fvn_promises.proofs.Verified.{verify_one_text, verify_not_usage, verify_not_loaded, verify_answers, verify_yes, verify_refuses, verify_later, verify_refuses_words, verify_no_problem, verify_no_bindings, verify_verdict}
 use Rattle.fvn_promises.proofs.Unified.{unify_one_text, unify_not_usage, unify_not_loaded, unify_answers, unify_refuses, unify_refuses_word, unify_no_problem, unify_answer, nothing_exact, ends_complete}
 use Rattle.fvn_tool.specs.Words.{Command, check, unify, verify, command_of}
@@ -122,7 +123,7 @@ module _ (run : Run) (h : Leaves (IsOutcome run.words run.source) run.status run
   refuses_long : RefusesLongText run
   refuses_long command bytes asks l = weaker command bytes asks (Is ModuleRefused too_long_line) (long_text command bytes asks l)
 
-  module _ (bytes : List ℕ) (asks : Asks run check bytes) (one : LoadedModulesAreDetermined) (nothing : FaultyTextsAreNotLoaded) where
+  module _ (bytes : List ℕ) (asks : Asks run check bytes) (one : LoadedModulesAreDetermined) (nothing : FaultyTextsAreNotLoaded) (losses : LossesAreDetermined) where
     text_only : run.status ≡ ModuleRefused → (t : List ℕ) → Comes bytes check run.status t → (MODULE_BYTES < length bytes) ⊎ ((length bytes ≤ MODULE_BYTES) × AreNotLoaded bytes)
     text_only e t (comes_long i l is) = inl l
     text_only e t (comes_reply f r) = inr (f, check_refuses bytes one nothing run.status t e r)
@@ -135,9 +136,13 @@ module _ (run : Run) (h : Leaves (IsOutcome run.words run.source) run.status run
     told_only e t (comes_long i l is) = cc
     told_only e t (comes_reply f r) = (f, check_tells bytes run.status t e r)
 
-    told_always : length bytes ≤ MODULE_BYTES → (m : Contents) → IsLoaded bytes m → (u : Status) (t : List ℕ) → Comes bytes check u t → Is Solved (summary_line m) u t
+    told_always : length bytes ≤ MODULE_BYTES → (m : Contents) → IsLoaded bytes m → (u : Status) (t : List ℕ) → Comes bytes check u t → TellsSorts m u t
     told_always f m is_loaded u t (comes_long i k is) = absurd (omega (arith, f, k))
     told_always f m is_loaded u t (comes_reply g r) = check_module bytes one nothing m is_loaded u t r
+
+    told_sorts : length bytes ≤ MODULE_BYTES → (m : Contents) → IsLoaded bytes m → (loss : Option ℕ) → IsLossOf m loss → (u : Status) (t : List ℕ) → Comes bytes check u t → Is Solved (told_lines m loss) u t
+    told_sorts f m is_loaded loss k u t (comes_long i l is) = absurd (omega (arith, f, l))
+    told_sorts f m is_loaded loss k u t (comes_reply g r) = check_sorts bytes one nothing losses m is_loaded loss k u t r
 
     refuses_text : RefusesText bytes run
     refuses_text = record {
@@ -148,7 +153,8 @@ module _ (run : Run) (h : Leaves (IsOutcome run.words run.source) run.status run
     tells_module : TellsModule bytes run
     tells_module = record {
       only = λ e. let g = came check bytes asks (subst IsSpoken (sym e) tt) in told_only e g.0 g.1;
-      always = λ f m is_loaded. weaker check bytes asks (Is Solved (summary_line m)) (told_always f m is_loaded);
+      always = λ f m is_loaded. weaker check bytes asks (TellsSorts m) (told_always f m is_loaded);
+      sorts = λ f m is_loaded loss k. weaker check bytes asks (Is Solved (told_lines m loss)) (told_sorts f m is_loaded loss k);
     }
 
     answers_check : AnswersCheck bytes run
@@ -295,7 +301,7 @@ module _ (run : Run) (h : Leaves (IsOutcome run.words run.source) run.status run
     write_fault = write;
     usage = refuses_words always;
     too_long = refuses_long;
-    check = λ bytes asks. answers_check bytes asks laws.loaded laws.not_loaded;
+    check = λ bytes asks. answers_check bytes asks laws.loaded laws.not_loaded laws.losses;
     unify = λ word bytes asks. answers_unify word bytes asks laws read write;
     verify = λ problem bindings bytes asks. answers_verify problem bindings bytes asks laws;
   }

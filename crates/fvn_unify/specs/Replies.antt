@@ -22,7 +22,7 @@ pub record IsAnswer (m : Contents) (p : Problem) (status : Status) (text : List 
   pub status_is : status ≡ status_of_end end
 
 module _ (bytes : List ℕ) where
-  -- the bytes are this module, and in it the word is this problem
+  -- the bytes are loaded as this module, and in it the word is this problem
   pub record IsToBeUnified (word : List ℕ) (m : Contents) (p : Problem) : Type 0 where
     pub module_text : IsLoaded bytes m
     pub problem_text : IsProblem m.signature m.names word p

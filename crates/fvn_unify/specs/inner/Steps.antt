@@ -19,6 +19,6 @@ pub record IsSolved (m : Contents) (p : Problem) (r : Solved) : Type 0 where
   pub answer : IsSolvedAs m.signature given 0 UNIFIERS TERM_SYMBOLS r
   pub exact : IsExact given 0 UNIFIERS TERM_SYMBOLS r
 
--- replies to a word, whichever bytes are this module
+-- replies to a word, whichever bytes are loaded as this module
 abbrev pub RepliesIn : Contents → List ℕ → Status → List ℕ → Type 0
 RepliesIn m word status text = (bytes : List ℕ) → IsLoaded bytes m → IsUnifyReply bytes word status text
