@@ -27,8 +27,8 @@ beside-requires-clause-takes c =
     takes d c.recall_good.ensures c.args.f rule.left k c.requires.kinds.left c.requires.kinds.kinds.left c.requires.head (joins_associative (axioms d c.args.f) c.requires.associative)
     c.new_variable-z.result sort rule.left c.requires.kinds.left c.requires.kinds.kinds.left
 
-pub beside-2-requires-clause-fit : goal.beside-2-requires-clause-fit
-beside-2-requires-clause-fit c =
+pub beside-requires-2-clause-fit : goal.beside-requires-2-clause-fit
+beside-requires-2-clause-fit c =
     let d = c.args.sig.now in
     let rule = c.args.rule.now in
     let k = c.requires.kinds.kinds.kind in
@@ -36,8 +36,8 @@ beside-2-requires-clause-fit c =
     fit d c.recall_good.ensures c.args.f rule.left k c.requires.kinds.left c.requires.kinds.kinds.left c.requires.head (joins_associative (axioms d c.args.f) c.requires.associative)
     c.new_variable-z.result sort rule.right c.requires.kinds.right c.requires.kinds.kinds.right
 
-pub beside-2-requires-clause-takes : goal.beside-2-requires-clause-takes
-beside-2-requires-clause-takes c =
+pub beside-requires-2-clause-takes : goal.beside-requires-2-clause-takes
+beside-requires-2-clause-takes c =
     let d = c.args.sig.now in
     let rule = c.args.rule.now in
     let k = c.requires.kinds.kinds.kind in

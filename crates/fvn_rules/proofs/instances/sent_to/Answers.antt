@@ -20,7 +20,7 @@ pub returns-clause-is : goal.returns-clause-is
 returns-clause-is c =
     let d = c.args.sig.now in
     let x = c.args.x in
-    ap (λ (l : Bindings). l ++ (x, c.in_ok-form.form) ∷ []) c.empty.ensures ∙ ap (λ (f : FlatTerm). (x, f) ∷ []) (c.in_ok-form.ensures.exact ∙ ap (canon d) c.constant-t.ensures)
+    c.in_ok-s.ensures ∙ ap (λ (l : Bindings). l ++ (x, c.in_ok-form.form) ∷ []) c.empty.ensures ∙ ap (λ (f : FlatTerm). (x, f) ∷ []) (c.in_ok-form.ensures.exact ∙ ap (canon d) c.constant-t.ensures)
 
 pub returns-clause-fits : goal.returns-clause-fits
 returns-clause-fits c =
