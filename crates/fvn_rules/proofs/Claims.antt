@@ -1,6 +1,6 @@
 -- What is promised of the rules, from what was made.
-use Rattle.std.proofs.Common.{◌≡◌, ◌⊎◌, ◌<◌, ◌≤◌, ℕ, List, [], length, get_or, Some, None, sym, ap, ◌∙◌, subst, inl, inr}
-use Rattle.std.specs.Prelude.{All, slice_get}
+use Rattle.std.proofs.Common.{◌≡◌, ◌⊎◌, ◌<◌, ◌≤◌, ℕ, List, [], length, get_or, Some, None, sym, ap, ◌∙◌, subst, inl, inr, arith}
+use Rattle.std.specs.Prelude.{All, AllPairs, slice_get}
 use Rattle.std.specs.List.{Contains}
 use Rattle.std.proofs.lemmas.Bool.{cases_lt}
 use Rattle.std.proofs.lemmas.List.{get_or_past}
@@ -25,7 +25,7 @@ use Rattle.fvn_cohere.specs.Promises.{sides_of, equations_of}
 use Rattle.fvn_rewriting.specs.Kinds.{HasOneKind, HaveOneKind}
 use Rattle.fvn_rewriting.specs.Laws.{RuleLaws}
 use Rattle.fvn_rules.specs.declared.rule.Rule.{Rule}
-use Rattle.fvn_rules.specs.Given.{RuleLists, IsNumberedRule, AreGivenUnder, AreEnoughUnder, AreRules}
+use Rattle.fvn_rules.specs.Given.{RuleLists, IsNumberedRule, HaveNoInstances, AreGivenUnder, AreEnoughUnder, AreApartUnder, AreRules}
 use Rattle.fvn_rules.specs.inner.Making.{IsKindedRule}
 use Rattle.fvn_rules.specs.inner.Collecting.{AreRulesUpTo}
 use Rattle.fvn_rules.specs.inner.Heads.{IsTable}
@@ -110,6 +110,12 @@ module _ (d : Declarations) where
           let n = (tabled.needed f known).enough rule g.1.0 heads in
           (n.0, (n.1.0, HasInstance-trans d n.0 rule l r n.1.1 stands.instance))
 
+      apart_under : (f : OpId) → AreApartUnder d lists f
+      apart_under f = elim (cases_lt f.0 (length table)) as (λ _. AreApartUnder d lists f) [
+        | inl lt ↦ (tabled.needed f (subst (λ n. f.0 < n) tabled.all lt)).apart
+        | inr m ↦ subst (AllPairs (HaveNoInstances d)) (sym (get_or_past table f.0 [] m)) (λ i j r lt within. absurd (omega (arith, within)))
+      ]
+
       pub all_promises : AreRules d lists
       all_promises = record {
         sound = All-contained (IsNumberedRule d equations) rules made.sound;
@@ -119,6 +125,7 @@ module _ (d : Declarations) where
         ordered = made.ordered;
         given = given_under;
         enough = enough_under;
+        apart = apart_under;
       }
         where
           within : (before : ℕ) (e : Equation) → slice_get equations before ≡ Some e → before < length equations

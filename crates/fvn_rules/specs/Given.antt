@@ -44,6 +44,11 @@ module _ (d : Declarations) where
     pub left : BEqual d (apply by (plain rule.left)) (plain l)
     pub right : BEqual d (apply by (plain rule.right)) (plain r)
 
+  -- neither rule is an instance of the other
+  pub record HaveNoInstances (a b : Rule) : Type 0 where
+    pub first : HasInstance a b.left b.right → ⊥
+    pub second : HasInstance b a.left a.right → ⊥
+
   -- the rule is made from the equation whose number, from 1, it has
   pub record IsNumberedRule (equations : List Equation) (rule : Rule) : Type 0 where
     pub before : ℕ
@@ -75,6 +80,10 @@ module _ (d : Declarations) where
         IsRuleOf d (equations_of lists.equations) l r → head_of l ≡ Some f →
         (rule : Rule) × (Contains (headed lists f) rule × HasInstance rule l r)
 
+    -- none of them is an instance of another one
+    abbrev pub AreApartUnder : Type 0
+    AreApartUnder = AllPairs HaveNoInstances (headed lists f)
+
   -- the rules of the equations, up to renaming, in the order of the equations, with a table by heads
   pub record AreRules (lists : RuleLists) : Type 0 where
     pub sound : All (IsNumberedRule lists.equations) lists.rules
@@ -82,3 +91,4 @@ module _ (d : Declarations) where
     pub ordered : AreOrdered lists.rules
     pub given : (f : OpId) → AreGivenUnder lists f
     pub enough : (f : OpId) → AreEnoughUnder lists f
+    pub apart : (f : OpId) → AreApartUnder lists f

@@ -34,7 +34,7 @@ fn some_has_instance(
 ) -> Result<bool, NoMemory>
     requires rules { All (IsKindedRule sig.now) rules.now }
     requires rule { IsKindedRule sig.now rule.now }
-    ensures { IfOk result (λ b. IsTrue b → SomeHasInstance sig.now rules.now rule.now) }
+    ensures { IfOk result (λ b. IsTrue b ↔ SomeHasInstance sig.now rules.now rule.now) }
 {
     for general in rules {
         let found = has_instance(alloc, sig, general, rule)?;

@@ -5,7 +5,7 @@ use Rattle.fvn_rules.specs.declared.rule.Rule.{Rule}
 use Rattle.fvn_rules.specs.inner.Making.{IsKindedRule}
 use Rattle.fvn_rules.specs.inner.Heads.{AreLeft}
 use Rattle.fvn_rules.proofs.Steps.{take-step, All-item}
-use Rattle.fvn_rules.proofs.Needed.{none_left, left_more, left_out}
+use Rattle.fvn_rules.proofs.Needed.{not_told, none_left, left_more, left_out}
 use Rattle.fvn_rules.proofs.heads.without_instances.Goals as goal
 
 pub has_instance-requires-clause-other : goal.has_instance-requires-clause-other
@@ -23,7 +23,7 @@ loop-rule-preserved c =
     let left = c.loop-rule.all.items in
     let rule : Rule = c.rule-item.result in
     subst (AreLeft d general (take (i + 1) rules)) (sym (c.in_ok-push.ensures.items ∙ ap (λ (r : Rule). left ++ r ∷ []) c.in_ok-copy.ensures))
-    (subst (λ (l : List Rule). AreLeft d general l (left ++ rule ∷ [])) (sym (take-step rules i rule c.loop-rule-test.true c.rule-item.is)) (left_more d general (take i rules) left c.loop-rule.invariant rule))
+    (subst (λ (l : List Rule). AreLeft d general l (left ++ rule ∷ [])) (sym (take-step rules i rule c.loop-rule-test.true c.rule-item.is)) (left_more d general (take i rules) left c.loop-rule.invariant rule (λ h. not_told (c.in_ok-found.ensures.1 h) c.if-found.false)))
 
 pub loop-rule-preserved-then-found : goal.loop-rule-preserved-then-found
 loop-rule-preserved-then-found c =
