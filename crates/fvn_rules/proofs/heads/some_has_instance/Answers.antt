@@ -1,5 +1,5 @@
 -- A rule that has it as an instance is one of them.
-use Rattle.std.proofs.Common.{◌+◌, List, false, refl, take, sym, subst}
+use Rattle.std.proofs.Common.{◌+◌, List, refl, take, sym, subst}
 use Rattle.std.specs.List.{Contains}
 use Rattle.std.proofs.lemmas.List.{take_all}
 use Rattle.std.proofs.lemmas.List.Elements.{Contains-get_or}
