@@ -68,8 +68,8 @@ fn with_operator(es: Vec<OpId>, e: Option<OpId>) -> Result<Vec<OpId>, NoMemory>
     }
 }
 
-// The identities of the operators, each once.
-pub(crate) fn identities(alloc: Global, sig: &Signature) -> Result<Vec<OpId>, NoMemory>
+/// The identities of the operators, each once, in the order in which the operators are declared.
+pub fn identities(alloc: Global, sig: &Signature) -> Result<Vec<OpId>, NoMemory>
     ensures { IfOk result (λ all. all.items ≡ identities sig.now) }
 {
     let mut all = Vec::new(alloc);
@@ -87,8 +87,8 @@ fn stands_below(sig: &Signature, e: OpId, s: SortId) -> bool
     is_at_or_below(sig, low, s)
 }
 
-// Those whose sort is this one or below it.
-pub(crate) fn identities_below(
+/// Those of the constants whose sort is this one or below it.
+pub fn identities_below(
     alloc: Global,
     sig: &Signature,
     es: &[OpId],

@@ -15,4 +15,6 @@ mod variables;
 pub use collapsing::{Collapse, left_collapses};
 pub use faults::{LeftFault, first_left_fault};
 pub use fitting::instances_fit;
+pub use identities::{identities as all_identities, identities_below};
 pub use losing::sort_loss;
+pub use variables::distinct_variables;

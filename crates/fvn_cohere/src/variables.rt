@@ -61,8 +61,8 @@ fn with_variables_among(vars: Vec<Var>, us: &Args) -> Result<Vec<Var>, NoMemory>
     Ok(all)
 }
 
-// The variables of a term, each once, in order of first occurrence.
-pub(crate) fn distinct_variables(alloc: Global, t: &Plain) -> Result<Vec<Var>, NoMemory>
+/// The variables of a term, each once, in order of first occurrence.
+pub fn distinct_variables(alloc: Global, t: &Plain) -> Result<Vec<Var>, NoMemory>
     ensures { IfOk result (λ all. all.items ≡ distinct_variables_of (term t.now)) }
 {
     let all = with_variables(Vec::new(alloc), t)?;

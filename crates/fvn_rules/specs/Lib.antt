@@ -1,0 +1,3 @@
+-- What is promised of the rules of a module.
+pub mod Given
+pub mod inner
