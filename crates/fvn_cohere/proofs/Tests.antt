@@ -39,3 +39,10 @@ module _ {A : Type 0} (p : A → Bool) where
         | inl q ↦ subst (λ z. p z ≡ false) q h
         | inr i ↦ rest (ap (λ b. b || list_any p xs) (sym h) ∙ e) x i
       ]
+
+  pub any_from : (xs : List A) (x : A) → Contains xs x → p x ≡ true → list_any p xs ≡ true
+  any_from xs x c h = go (list_any p xs) refl
+    where
+      go : (b : Bool) → list_any p xs ≡ b → list_any p xs ≡ true
+      go true e = e
+      go false e = absurd (true≢false (sym h ∙ any_false xs e x c))

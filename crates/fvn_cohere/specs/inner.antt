@@ -1,4 +1,5 @@
 -- What mirrors the code.
 pub mod Capped
 pub mod Searching
+pub mod Outlooks
 pub mod Collapsing

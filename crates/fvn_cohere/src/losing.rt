@@ -9,7 +9,7 @@ use crate::choosing::unchosen;
 use crate::identities::identities;
 use crate::searching::{Search, Sought};
 use crate::shapes::Chosen;
-use crate::variables::distinct_variables;
+use crate::variables::variables_of_both;
 use fvn_module::Module;
 use fvn_sorts::Signature;
 use fvn_terms::{NoMemory, Plain};
@@ -24,7 +24,7 @@ fn loses(alloc: Global, sig: &Signature, left: &Plain, right: &Plain) -> Result<
     sig.recall_completed();
     let es = identities(alloc, sig)?;
     let ids = es.as_slice();
-    let vars = distinct_variables(alloc, left)?;
+    let vars = variables_of_both(alloc, right, left)?;
     let list = vars.as_slice();
     let all = unchosen(alloc, sig, ids, Sought::Loss, list)?;
     let left_over = all.as_slice();

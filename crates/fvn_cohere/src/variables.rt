@@ -68,3 +68,16 @@ pub(crate) fn distinct_variables(alloc: Global, t: &Plain) -> Result<Vec<Var>, N
     let all = with_variables(Vec::new(alloc), t)?;
     Ok(all)
 }
+
+// The variables of two terms, each once, those of the first term first.
+pub(crate) fn variables_of_both(
+    alloc: Global,
+    first: &Plain,
+    second: &Plain,
+) -> Result<Vec<Var>, NoMemory>
+    ensures { IfOk result (λ all. all.items ≡ fold with_variable (distinct_variables_of (term first.now)) (variables (term second.now))) }
+{
+    let own = distinct_variables(alloc, first)?;
+    let all = with_variables(own, second)?;
+    Ok(all)
+}
