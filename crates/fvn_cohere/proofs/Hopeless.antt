@@ -31,7 +31,7 @@ use Rattle.fvn_cohere.specs.declared.searching.Sought.{Sought}
 use Rattle.fvn_cohere.specs.declared.searching.Sought.TheVariants.{Loss, ToVariable, ToIdentity}
 use Rattle.fvn_cohere.specs.declared.outlooks.Outlook.{Outlook}
 use Rattle.fvn_cohere.specs.inner.Searching.{is_variable_root, is_identity_root, is_met, with_shape, some_choice, unchosen_of, choices_for}
-use Rattle.fvn_cohere.specs.inner.Outlooks.{offered, IsAllowed, AreAllowed, IsLow, Suits, Fills, Excludes, Offers}
+use Rattle.fvn_cohere.specs.inner.Outlooks.{offered, IsAllowed, AreAllowed, IsLow, Suits, Fills, Offers}
 use Rattle.fvn_cohere.proofs.Tests.{any_true}
 
 -- a test that is passed only where it cannot be is not passed

@@ -2,4 +2,5 @@
 pub mod Capped
 pub mod Searching
 pub mod Outlooks
+pub mod Posed
 pub mod Collapsing

@@ -1,5 +1,5 @@
 //! What can be said of the shape of a term before all its variables are chosen.
-ghost use Rattle.std.specs.Prelude.{◌≡◌, ◌≤◌, ◌<◌, ◌⊎◌, ◌||◌, ◌&&◌, List, [], length, Contains, Some, None, MatchOption, IsTrue, slice_index_or};
+ghost use Rattle.std.specs.Prelude.{◌≡◌, ◌≤◌, ◌<◌, ◌⊎◌, ◌||◌, ◌&&◌, List, [], length, Contains, Some, None, MatchOption, false, IsTrue, slice_index_or};
 ghost use Rattle.std.specs.List.{list_any, list_all, AllZip};
 ghost use Rattle.fvn_terms.specs.declared.plain.Var.{Var};
 ghost use Rattle.fvn_terms.specs.declared.plain.SortId.{SortId};
@@ -12,8 +12,9 @@ ghost use Rattle.fvn_forms.specs.SortOrder.{at_or_below};
 ghost use Rattle.fvn_rewriting.specs.declared.shapes.Shape.{Shape};
 ghost use Rattle.fvn_rewriting.specs.Shapes.{shape_in, shape_over};
 ghost use Rattle.fvn_rewriting.specs.Identities.{identities};
-ghost use Rattle.fvn_cohere.specs.inner.Searching.{shapes_by};
-ghost use Rattle.fvn_cohere.specs.inner.Outlooks.{is_constant_root, offered, lows_of, highs_of, IsLow, Suits, AreArguments, IsJoined, Fills, Excludes};
+ghost use Rattle.fvn_cohere.specs.inner.Searching.{is_met};
+ghost use Rattle.fvn_cohere.specs.inner.Outlooks.{is_constant_root, offered, lows_of, highs_of, IsLow, Suits, AreArguments, IsJoined};
+ghost use Rattle.fvn_cohere.specs.inner.Posed.{ForEachFilled};
 
 use crate::identities::{is_at_or_below, is_listed};
 use crate::searching::{Sought, is_variable_root};
@@ -24,8 +25,8 @@ use fvn_rewriting::{Root, Shape};
 use fvn_sorts::Signature;
 use fvn_terms::{Args, OpId, Plain, SortId, Var};
 
-// What the shape of a term may be: whether a variable, whether an identity, and bounds of its sort, of which the lower
-// one may be unknown.
+// What the shape of a term may be: whether a variable, whether an identity, and bounds of its
+// sort, of which the lower one may be unknown.
 #[derive(Clone, Copy)]
 pub(crate) struct Outlook {
     pub(crate) variable: bool,
@@ -45,7 +46,9 @@ pub(crate) struct PartialChoice<'c> {
 
 // The choices of a variable that is not chosen yet.
 fn offered(unchosen: &[(Var, Seq<Shape>)], x: Var) -> Option<&[Shape]>
-    ensures { MatchOption result (offered unchosen.now x ≡ None) (λ shapes. offered unchosen.now x ≡ Some shapes.now) }
+    ensures { MatchOption result
+        (offered unchosen.now x ≡ None)
+        (λ shapes. offered unchosen.now x ≡ Some shapes.now) }
 {
     for v in unchosen {
         if v.0 == x {
@@ -124,7 +127,8 @@ fn low_among(sig: &Signature, shapes: &[Shape]) -> Option<SortId>
 
 // The lower one of two sorts, if one is.
 fn lower(sig: &Signature, p: SortId, q: SortId) -> Option<SortId>
-    ensures { (s : SortId) → AtOrBelow sig.now p s ⊎ AtOrBelow sig.now q s → IsLow sig.now result s }
+    ensures { (s : SortId) →
+        AtOrBelow sig.now p s ⊎ AtOrBelow sig.now q s → IsLow sig.now result s }
 {
     if sig.leq(p, q) {
         return Some(p);
@@ -156,7 +160,8 @@ fn low_with(
     other: Option<SortId>,
 ) -> Option<SortId>
     ensures stays { (s : SortId) → IsLow sig.now low s → IsLow sig.now result s }
-    ensures lowered { (s : SortId) → IsTrue counts → IsLow sig.now other s → IsLow sig.now result s }
+    ensures lowered { (s : SortId) →
+        IsTrue counts → IsLow sig.now other s → IsLow sig.now result s }
 {
     if !counts {
         return low;
@@ -188,7 +193,8 @@ fn are_identities(a: Outlook, b: Outlook) -> bool
     false
 }
 
-// The outlook of an operator with an identity over two arguments, where without identities the sort has these bounds.
+// The outlook of an operator with an identity over two arguments, where the sort has these bounds if
+// none of them is the identity.
 fn joined(sig: &Signature, a: Outlook, b: Outlook, low: Option<SortId>, high: SortId) -> Outlook
     ensures { IsJoined sig.now a b low high result }
 {
@@ -221,7 +227,9 @@ fn high_over(sig: &Signature, f: OpId, parts: &[Outlook]) -> SortId
 // The lower bound of an operator over arguments, if theirs are known.
 fn low_over(sig: &Signature, f: OpId, parts: &[Outlook]) -> Option<SortId>
     requires { length parts.now ≤ 8 }
-    ensures { (ss : List SortId) → AllZip (IsLow sig.now) (lows_of parts.now) ss → TakesKinds sig.now f ss → IsLow sig.now result (least_result sig.now f ss) }
+    ensures { (ss : List SortId) →
+        AllZip (IsLow sig.now) (lows_of parts.now) ss → TakesKinds sig.now f ss →
+        IsLow sig.now result (least_result sig.now f ss) }
 {
     sig.recall_good();
     let mut sorts = [SortId(0); ARGUMENTS];
@@ -264,7 +272,9 @@ fn constant_outlook(sig: &Signature, es: &[OpId], f: OpId) -> Outlook
 fn outlook_over(sig: &Signature, es: &[OpId], f: OpId, parts: &[Outlook]) -> Outlook
     requires few { length parts.now ≤ 8 }
     requires identities { es.now ≡ identities sig.now }
-    ensures { (shapes : List Shape) → AllZip (Suits sig.now) parts.now shapes → AreArguments sig.now f shapes → Suits sig.now result (shape_over sig.now f shapes) }
+    ensures { (shapes : List Shape) →
+        AllZip (Suits sig.now) parts.now shapes → AreArguments sig.now f shapes →
+        Suits sig.now result (shape_over sig.now f shapes) }
 {
     sig.recall_good();
     if parts.len() == 0 {
@@ -318,7 +328,7 @@ fn is_below_low(sig: &Signature, s: SortId, low: Option<SortId>) -> bool
 impl PartialChoice<'_> {
     // The outlook of a variable.
     fn variable_outlook(&self, x: Var) -> Outlook
-        ensures { (filled : Var → Shape) → Fills self.now.sig.now self.now.unchosen.now (shapes_by self.now.chosen.now) filled → Suits self.now.sig.now result (filled x) }
+        ensures { ForEachFilled self.now (λ filled. Suits self.now.sig.now result (filled x)) }
     {
         match offered(self.unchosen, x) {
             None => {
@@ -343,8 +353,8 @@ impl PartialChoice<'_> {
     pub(crate) fn outlook(&self, t: &Plain) -> Outlook
         requires identities { self.now.identities.now ≡ identities self.now.sig.now }
         requires term { IsTerm self.now.sig.now (term t.now) }
-        ensures { (filled : Var → Shape) → Fills self.now.sig.now self.now.unchosen.now (shapes_by self.now.chosen.now) filled →
-            Suits self.now.sig.now result (shape_in self.now.sig.now filled (term t.now)) }
+        ensures { ForEachFilled self.now (λ filled.
+            Suits self.now.sig.now result (shape_in self.now.sig.now filled (term t.now))) }
     {
         match t {
             Plain::Var(x) => self.variable_outlook(*x),
@@ -356,8 +366,8 @@ impl PartialChoice<'_> {
     fn outlook_app(&self, f: OpId, us: &Args) -> Outlook
         requires identities { self.now.identities.now ≡ identities self.now.sig.now }
         requires term { IsTerm self.now.sig.now (app f us.now) }
-        ensures { (filled : Var → Shape) → Fills self.now.sig.now self.now.unchosen.now (shapes_by self.now.chosen.now) filled →
-            Suits self.now.sig.now result (shape_in self.now.sig.now filled (app f us.now)) }
+        ensures { ForEachFilled self.now (λ filled.
+            Suits self.now.sig.now result (shape_in self.now.sig.now filled (app f us.now))) }
     {
         self.sig.recall_good();
         let blank = Outlook {
@@ -379,8 +389,9 @@ impl PartialChoice<'_> {
         requires identities { self.now.identities.now ≡ identities self.now.sig.now }
         requires left { IsTerm self.now.sig.now (term left.now) }
         requires right { IsTerm self.now.sig.now (term right.now) }
-        ensures { IsTrue result → Excludes self.now.sig.now sought self.now.identities.now (term left.now) (term right.now)
-            self.now.unchosen.now (shapes_by self.now.chosen.now) }
+        ensures { IsTrue result → ForEachFilled self.now (λ filled.
+            is_met self.now.sig.now sought self.now.identities.now (term left.now) (term right.now) filled
+            ≡ false) }
     {
         let low_side = self.outlook(left);
         match sought {

@@ -5,9 +5,8 @@ use Rattle.fvn_terms.specs.declared.plain.Var.{Var}
 use Rattle.fvn_terms.specs.declared.plain.OpId.{OpId}
 use Rattle.fvn_terms.specs.declared.plain.SortId.{SortId}
 use Rattle.fvn_terms.specs.declared.declarations.Declarations.{Declarations}
-use Rattle.fvn_terms.specs.Term.{Term}
 use Rattle.fvn_terms.specs.Substitution.{same_var}
-use Rattle.fvn_terms.specs.Signature.{AtOrBelow, IsTerm}
+use Rattle.fvn_terms.specs.Signature.{AtOrBelow}
 use Rattle.fvn_forms.specs.Good.{TakesKinds}
 use Rattle.fvn_forms.specs.Ranks.{result}
 use Rattle.fvn_rewriting.specs.declared.shapes.Root.{Root}
@@ -17,7 +16,7 @@ use Rattle.fvn_rewriting.specs.Identities.{identities}
 use Rattle.fvn_rewriting.specs.Shapes.{sorts_of, compound}
 use Rattle.fvn_cohere.specs.declared.searching.Sought.{Sought}
 use Rattle.fvn_cohere.specs.declared.outlooks.Outlook.{Outlook}
-use Rattle.fvn_cohere.specs.inner.Searching.{choices_for, is_met}
+use Rattle.fvn_cohere.specs.inner.Searching.{choices_for}
 
 -- whether this is the root of a constant
 abbrev pub is_constant_root : Root → Bool
@@ -68,28 +67,17 @@ module _ (d : Declarations) where
     pub kinds : TakesKinds d f (sorts_of shapes)
     pub constants : All HasConstantSort shapes
 
-  -- the outlook of f over two arguments of these outlooks, of which one may be its identity, where without identities the sort is within these bounds
+  -- the outlook of f over two arguments of which one may be its identity, where the sort is within these bounds if none is
   pub record IsJoined (a b : Outlook) (low : Option SortId) (high : SortId) (o : Outlook) : Type 0 where
     pub stays : (s : SortId) → IsLow low s → AtOrBelow d s high → Suits o (compound s)
     pub first_vanishes : (s : Shape) → IsTrue a.identity → Suits b s → AtOrBelow d s.sort high → Suits o s
     pub second_vanishes : (s : Shape) → IsTrue b.identity → Suits a s → AtOrBelow d s.sort high → Suits o s
 
-  -- a choice for all variables: for those that are not chosen one of their choices, for others what they stand for
+  -- a choice for all variables: one of their choices for those that are left, for others what they stand for
   pub record Fills (unchosen : List (Var × List Shape)) (env filled : Var → Shape) : Type 0 where
     pub allowed : AreAllowed filled
     pub each : (y : Var) → MatchOption (offered unchosen y) (filled y ≡ env y) (λ shapes. Contains shapes (filled y))
 
-  -- no choice for all variables is what is sought
-  abbrev pub Excludes : Sought → List OpId → Term → Term → List (Var × List Shape) → (Var → Shape) → Type 0
-  Excludes sought es left right unchosen env = (filled : Var → Shape) → Fills unchosen env filled → is_met d sought es left right filled ≡ false
-
   -- each variable that is not chosen has the choices of its sort
   abbrev pub Offers : Sought → List (Var × List Shape) → Type 0
   Offers sought unchosen = (v : Var × List Shape) → Contains unchosen v → v.1 ≡ choices_for d sought v.0.sort
-
-  -- a search between terms, with the choices that belong to what is sought
-  pub record IsPosed (sought : Sought) (es : List OpId) (unchosen : List (Var × List Shape)) (left right : Term) : Type 0 where
-    pub identities_are : es ≡ identities d
-    pub left_term : IsTerm d left
-    pub right_term : IsTerm d right
-    pub offers : Offers sought unchosen
