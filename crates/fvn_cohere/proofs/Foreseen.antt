@@ -1,10 +1,10 @@
 -- What outlooks say of the shapes of terms.
-use Rattle.std.proofs.Common.{◌≡◌, ◌≢◌, ◌⊎◌, Bool, true, false, not, IsTrue, List, [], ◌∷◌, ◌++◌, map, length, get_or, arith, Option, Some, None, refl, sym, ap, ◌∙◌, subst, inl, inr}
+use Rattle.std.proofs.Common.{◌≡◌, suc, ◌≢◌, ◌⊎◌, Bool, true, false, not, IsTrue, List, [], ◌∷◌, ◌++◌, map, length, get_or, arith, Option, Some, None, refl, sym, ap, ◌∙◌, subst, inl, inr}
 use Rattle.std.specs.Prelude.{if◌then◌else◌, MatchOption}
-use Rattle.std.specs.List.{Contains, All, AllZip, list_any}
-use Rattle.std.proofs.lemmas.Bool.{false≢true}
+use Rattle.std.specs.List.{Contains, All, AllZip, list_any, list_all}
+use Rattle.std.proofs.lemmas.Bool.{false≢true, and_from, and_right}
 use Rattle.std.proofs.lemmas.List.Elements.{All-cons, All-nil, All-head, All-tail}
-use Rattle.fvn_base.proofs.Options.{Some-injective}
+use Rattle.fvn_base.proofs.Membership.{list_all_gives}
 use Rattle.fvn_terms.specs.declared.plain.Var.{Var}
 use Rattle.fvn_terms.specs.declared.plain.OpId.{OpId}
 use Rattle.fvn_terms.specs.declared.plain.SortId.{SortId}
@@ -18,10 +18,12 @@ use Rattle.fvn_terms.specs.Plain.{term, terms}
 use Rattle.fvn_terms.specs.Signature.{kind, declared, axioms, AtOrBelow, same, HasKind, HaveKinds}
 use Rattle.fvn_terms.specs.Equality.{IsAssociative, IsCommutative}
 use Rattle.fvn_forms.specs.Canon.{identity}
-use Rattle.fvn_forms.specs.Ranks.{result}
+use Rattle.fvn_forms.specs.SortOrder.{at_or_below}
+use Rattle.fvn_forms.specs.Ranks.{result, ranks_of}
 use Rattle.fvn_forms.specs.Good.{IsGood, TakesKinds, IsOfKind}
 use Rattle.fvn_forms.proofs.SortOrder.{AtOrBelow-trans, AtOrBelow-one_kind}
-use Rattle.fvn_forms.proofs.Results.{result_monotone, result_swap, result-kind, TakesKinds-lower}
+use Rattle.fvn_forms.proofs.SortTests.{at_or_below-true, at_or_below-complete}
+use Rattle.fvn_forms.proofs.Results.{result_monotone, result_swap, result-kind, result-is}
 use Rattle.fvn_forms.proofs.Sums.{same_op_is}
 use Rattle.fvn_forms.proofs.ToCanon.{identity_is}
 use Rattle.fvn_rewriting.specs.declared.shapes.Root.{Root}
@@ -32,7 +34,7 @@ use Rattle.fvn_rewriting.specs.Identities.{identities, is_listed_op}
 use Rattle.fvn_rewriting.proofs.Identities.{identity_listed, listed_op}
 use Rattle.fvn_cohere.specs.declared.outlooks.Outlook.{Outlook}
 use Rattle.fvn_cohere.specs.inner.Searching.{is_variable_root}
-use Rattle.fvn_cohere.specs.inner.Outlooks.{is_constant_root, lows_of, highs_of, HasConstantSort, AreAllowed, IsLow, Suits, AreArguments, IsJoined, Fills, offered}
+use Rattle.fvn_cohere.specs.inner.Outlooks.{is_constant_root, is_at_least, may_serve, is_below_rank, lows_of, highs_of, HasConstantSort, AreAllowed, IsLow, Suits, AreArguments, IsJoined, Fills, offered}
 use Rattle.fvn_cohere.proofs.Tests.{any_from}
 
 -- the root of an operator's identity
@@ -78,6 +80,13 @@ module _ (d : Declarations) where
   highs_suit [] (s ∷ ss) h = absurd h
   highs_suit (o ∷ os) [] h = absurd h
   highs_suit (o ∷ os) (s ∷ ss) h = (h.0.high, highs_suit os ss h.1)
+
+  -- a rank with another number of arguments does not serve
+  pub none_serves : (parts : List Outlook) (qs : List SortId) → (length parts ≡ length qs → ⊥) → may_serve d (lows_of parts) qs ≡ false
+  none_serves [] [] h = absurd (h refl)
+  none_serves [] (q ∷ qs) h = refl
+  none_serves (p ∷ ps) [] h = refl
+  none_serves (p ∷ ps) (q ∷ qs) h = and_right (is_at_least d p.low q) (may_serve d (lows_of ps) qs) (none_serves ps qs (λ e. h (ap suc e)))
 
   constant_compound : (s : SortId) → HasConstantSort d (compound s)
   constant_compound s e h = absurd (compound_constant e h)
@@ -142,6 +151,27 @@ module _ (d : Declarations) where
     -- lower bounds of the arguments that are known give one of the result
     pub low_result : (f : OpId) (qs ss : List SortId) (low : Option SortId) → low ≡ Some (result d f qs) → AllZip (IsLow d) (map Some qs) ss → TakesKinds d f ss → IsLow d low (result d f ss)
     low_result f qs ss low e h t = subst (λ l. IsLow d l (result d f ss)) (sym e) (result_monotone d good f qs ss (known_lows qs ss h) t)
+
+    -- a rank that serves may serve
+    serving : (lows : List (Option SortId)) (ss qs : List SortId) → AllZip (IsLow d) lows ss → AllZip (AtOrBelow d) ss qs → may_serve d lows qs ≡ true
+    serving [] [] [] h k = refl
+    serving [] [] (q ∷ qs) h k = absurd k
+    serving [] (s ∷ ss) qs h k = absurd h
+    serving (l ∷ lows) [] qs h k = absurd h
+    serving (l ∷ lows) (s ∷ ss) [] h k = absurd k
+    serving (l ∷ lows) (s ∷ ss) (q ∷ qs) h k = and_from (is_at_least d l q) (may_serve d lows qs) (above l h.0) (serving lows ss qs h.1 k.1) where
+      above : (l : Option SortId) → IsLow d l s → is_at_least d l q ≡ true
+      above None i = refl
+      above (Some p) i = at_or_below-complete d (AtOrBelow-trans d i k.0)
+
+    -- a sort at or below the results of all ranks that may serve is one of the result
+    pub low_by_rank : (f : OpId) (lows : List (Option SortId)) (low : SortId) (ss : List SortId) → list_all (is_below_rank d lows low) (ranks_of d f) ≡ true → AllZip (IsLow d) lows ss → TakesKinds d f ss → AtOrBelow d low (result d f ss)
+    low_by_rank f lows low ss all h t =
+        let r = (result-is d good f ss t).serves in
+        let below : is_below_rank d lows low r.rank ≡ true = list_all_gives (is_below_rank d lows low) (ranks_of d f) r.rank all r.listed in
+        subst (AtOrBelow d low) r.gives
+        (at_or_below-true d low r.rank.result
+        (sym (ap (λ b. if b then at_or_below d low r.rank.result else true) (serving lows ss r.rank.args h r.fits)) ∙ below))
 
     -- upper bounds of the arguments give one
     pub high_result : (f : OpId) (ss hs : List SortId) → AllZip (AtOrBelow d) ss hs → TakesKinds d f ss → AtOrBelow d (result d f ss) (result d f hs)

@@ -7,13 +7,13 @@ ghost use Rattle.fvn_terms.specs.Plain.{term};
 ghost use Rattle.fvn_terms.specs.Term.{app};
 ghost use Rattle.fvn_terms.specs.Signature.{AtOrBelow, IsTerm};
 ghost use Rattle.fvn_forms.specs.Good.{TakesKinds};
-ghost use Rattle.fvn_forms.specs.Ranks.{result as least_result};
+ghost use Rattle.fvn_forms.specs.Ranks.{result as least_result, ranks_of};
 ghost use Rattle.fvn_forms.specs.SortOrder.{at_or_below};
 ghost use Rattle.fvn_rewriting.specs.declared.shapes.Shape.{Shape};
 ghost use Rattle.fvn_rewriting.specs.Shapes.{shape_in, shape_over};
 ghost use Rattle.fvn_rewriting.specs.Identities.{identities};
 ghost use Rattle.fvn_cohere.specs.inner.Searching.{is_met};
-ghost use Rattle.fvn_cohere.specs.inner.Outlooks.{is_constant_root, offered, lows_of, highs_of, IsLow, Suits, AreArguments, IsJoined};
+ghost use Rattle.fvn_cohere.specs.inner.Outlooks.{is_constant_root, offered, is_at_least, may_serve, is_below_rank, lows_of, highs_of, IsLow, Suits, AreArguments, IsJoined};
 ghost use Rattle.fvn_cohere.specs.inner.Posed.{ForEachFilled};
 
 use crate::identities::{is_at_or_below, is_listed};
@@ -23,7 +23,10 @@ use fvn_base::Seq;
 use fvn_base::limits::ARGUMENTS;
 use fvn_rewriting::{Root, Shape};
 use fvn_sorts::Signature;
-use fvn_terms::{Args, OpId, Plain, SortId, Var};
+use fvn_terms::{Args, OpId, Plain, Rank, SortId, Var};
+
+// An operator with more ranks is not asked which of them may serve.
+const FEW_RANKS: usize = 32;
 
 // What the shape of a term may be: whether a variable, whether an identity, and bounds of its
 // sort, of which the lower one may be unknown.
@@ -224,7 +227,87 @@ fn high_over(sig: &Signature, f: OpId, parts: &[Outlook]) -> SortId
     sig.result(f, &sorts[..i])
 }
 
-// The lower bound of an operator over arguments, if theirs are known.
+// Whether a rank with these arguments may serve arguments of these outlooks, by their lower bounds.
+fn may_serve(sig: &Signature, parts: &[Outlook], args: &[SortId]) -> bool
+    ensures { result ≡ may_serve sig.now (lows_of parts.now) args.now }
+{
+    if parts.len() != args.len() {
+        return false;
+    }
+    for (part, q) in parts.iter().zip(args.iter()) {
+        if !is_at_least(sig, part.low, *q) {
+            return false;
+        }
+    }
+    true
+}
+
+// Whether the sort is at or above the bound, where this is known.
+fn is_at_least(sig: &Signature, low: Option<SortId>, q: SortId) -> bool
+    ensures { result ≡ is_at_least sig.now low q }
+{
+    match low {
+        None => true,
+        Some(l) => is_at_or_below(sig, l, q),
+    }
+}
+
+// A result of a rank that may serve which is the lowest of these, if there is a lowest.
+fn result_candidate(sig: &Signature, f: OpId, parts: &[Outlook]) -> Option<SortId> {
+    let mut low: Option<SortId> = None;
+    for i in 0..sig.rank_count(f) {
+        let rank = sig.rank(f, i);
+        if may_serve(sig, parts, rank.args.as_slice()) {
+            low = lower_candidate(sig, low, rank.result);
+        }
+    }
+    low
+}
+
+// Whether the sort is at or below the result of the rank, where this may serve.
+fn is_below_rank(sig: &Signature, parts: &[Outlook], low: SortId, rank: &Rank) -> bool
+    ensures { result ≡ is_below_rank sig.now (lows_of parts.now) low rank.now }
+{
+    if may_serve(sig, parts, rank.args.as_slice()) {
+        return is_at_or_below(sig, low, rank.result);
+    }
+    true
+}
+
+// Whether the sort is at or below the results of all ranks that may serve.
+fn is_below_ranks(sig: &Signature, f: OpId, parts: &[Outlook], low: SortId) -> bool
+    ensures { result ≡ list_all (is_below_rank sig.now (lows_of parts.now) low) (ranks_of sig.now f) }
+{
+    for i in 0..sig.rank_count(f) {
+        if !is_below_rank(sig, parts, low, sig.rank(f, i)) {
+            return false;
+        }
+    }
+    true
+}
+
+// The lower bound of an operator over arguments, by the ranks that may serve.
+fn low_by_ranks(sig: &Signature, f: OpId, parts: &[Outlook]) -> Option<SortId>
+    ensures { (ss : List SortId) →
+        AllZip (IsLow sig.now) (lows_of parts.now) ss → TakesKinds sig.now f ss →
+        IsLow sig.now result (least_result sig.now f ss) }
+{
+    sig.recall_good();
+    if sig.rank_count(f) > FEW_RANKS {
+        return None;
+    }
+    match result_candidate(sig, f, parts) {
+        None => None,
+        Some(low) => {
+            if is_below_ranks(sig, f, parts, low) {
+                return Some(low);
+            }
+            None
+        }
+    }
+}
+
+// The lower bound of an operator over arguments.
 fn low_over(sig: &Signature, f: OpId, parts: &[Outlook]) -> Option<SortId>
     requires { length parts.now ≤ 8 }
     ensures { (ss : List SortId) →
@@ -236,7 +319,7 @@ fn low_over(sig: &Signature, f: OpId, parts: &[Outlook]) -> Option<SortId>
     let mut i: usize = 0;
     for part in parts {
         match part.low {
-            None => return None,
+            None => return low_by_ranks(sig, f, parts),
             Some(q) => {
                 sorts[i] = q;
                 i += 1;

@@ -1,12 +1,14 @@
 -- What can be said of the shape of a term before all its variables are chosen.
-use Rattle.std.specs.Prelude.{◌≡◌, Bool, true, false, IsTrue, if◌then◌else◌, List, [], ◌∷◌, map, Option, Some, None, MatchOption, Contains, All}
+use Rattle.std.specs.Prelude.{◌≡◌, Bool, true, false, IsTrue, if◌then◌else◌, ◌&&◌, List, [], ◌∷◌, map, Option, Some, None, MatchOption, Contains, All}
 use Rattle.std.specs.List.{AllZip}
 use Rattle.fvn_terms.specs.declared.plain.Var.{Var}
 use Rattle.fvn_terms.specs.declared.plain.OpId.{OpId}
 use Rattle.fvn_terms.specs.declared.plain.SortId.{SortId}
+use Rattle.fvn_terms.specs.declared.declarations.Rank.{Rank}
 use Rattle.fvn_terms.specs.declared.declarations.Declarations.{Declarations}
 use Rattle.fvn_terms.specs.Substitution.{same_var}
 use Rattle.fvn_terms.specs.Signature.{AtOrBelow}
+use Rattle.fvn_forms.specs.SortOrder.{at_or_below}
 use Rattle.fvn_forms.specs.Good.{TakesKinds}
 use Rattle.fvn_forms.specs.Ranks.{result}
 use Rattle.fvn_rewriting.specs.declared.shapes.Root.{Root}
@@ -54,6 +56,22 @@ module _ (d : Declarations) where
   -- the lower bound, where there is one, is at or below the sort
   abbrev pub IsLow : Option SortId → SortId → Type 0
   IsLow low s = MatchOption low (Unit {0}) (λ q. AtOrBelow d q s)
+
+  -- the sort is at or above the bound, where this is known
+  abbrev pub is_at_least : Option SortId → SortId → Bool
+  is_at_least None q = true
+  is_at_least (Some l) q = at_or_below d l q
+
+  -- a rank with these arguments may serve where these are the lower bounds
+  abbrev pub may_serve : List (Option SortId) → List SortId → Bool
+  may_serve [] [] = true
+  may_serve [] (q ∷ qs) = false
+  may_serve (low ∷ lows) [] = false
+  may_serve (low ∷ lows) (q ∷ qs) = is_at_least low q && may_serve lows qs
+
+  -- the sort is at or below the result of the rank, if this may serve
+  abbrev pub is_below_rank : List (Option SortId) → SortId → Rank → Bool
+  is_below_rank lows s r = if may_serve lows r.args then at_or_below d s r.result else true
 
   -- the outlook is right for the shape
   pub record Suits (o : Outlook) (s : Shape) : Type 0 where
