@@ -1,5 +1,5 @@
 #!/usr/bin/env bash
-# Times of `sort_loss` and `first_left_fault` on equations with as many instances as the limits let through: sums, nested operators of eight arguments and chains of 24 variables over two sorts, of 15 over three, and of 12 with an identity. It proves nothing: run at the top of the repository, it works in a copy. ROWS=WORD takes only the rows with the word in their name.
+# Times of `sort_loss` and `first_left_fault` on equations with as many instances as the limits let through: sums, nested operators of eight arguments and chains of 24 variables over two sorts, of 15 over three, and of 12 with an identity. It proves nothing: run at the top of the repository, it works in a copy. ROWS=WORD takes only the rows with the word in their name, and SIZE=N as many variables of each kind as N is to 24.
 set -e
 here=$(cd "$(dirname "$0")/.." && pwd)
 there=$(mktemp -d)
@@ -69,10 +69,10 @@ fn main(rt: HostRuntime) -> io::Result<()> {
     Ok(())
 }
 PROGRAM
-python3 - "${ROWS:-}" <<'FILL'
+python3 - "${ROWS:-}" "${SIZE:-24}" <<'FILL'
 import sys
 
-word = sys.argv[1]
+word, size = sys.argv[1], int(sys.argv[2])
 TWO, TURNED = "sorts A B . subsort A < B . ", "sorts B A . subsort A < B . "
 THREE = "sorts A C D . subsorts A C < D . "
 SUM, LOW = "op + : B B -> B [assoc comm] . ", "op + : A A -> A [ditto] . "
@@ -94,7 +94,8 @@ def chain(vars):
 
 
 def nested(vars):
-    return "f(f(%s),f(%s),f(%s),%s)" % (",".join(vars[:8]), ",".join(vars[8:16]), ",".join(vars[16:24]), ",".join(vars[19:24]))
+    all = (vars * 24)[:24]
+    return "f(f(%s),f(%s),f(%s),%s)" % (",".join(all[:8]), ",".join(all[8:16]), ",".join(all[16:]), ",".join(all[19:]))
 
 
 rows = []
@@ -105,7 +106,7 @@ def row(name, declared, left, right):
         rows.append("%s => fmod M is %seq %s = %s [variant] . endfm" % (name, declared, left, right))
 
 
-B, A = names("B", 24), names("A", 24)
+B = names("B", size)
 for title, form, high, low in (("sum", total, SUM, LOW), ("chain", chain, PAIR, LOW_PAIR), ("nested", nested, EIGHT, LOW_EIGHT)):
     row(title + ", its first", TWO + high, form(B), B[0])
     row(title + ", its last", TWO + high, form(B), B[-1])
@@ -115,9 +116,9 @@ for title, form, high, low in (("sum", total, SUM, LOW), ("chain", chain, PAIR, 
     row(title + " of two ranks, turned round", TWO + high + low, form(B), form(B[::-1]))
     row(title + " of two ranks, one sort high", TWO + high + low + G, form(B), "g(%s)" % B[-1])
     row(title + " of two ranks, high sort first", TURNED + high + low + G, form(B), "g(%s)" % B[-1])
-K = ["X%d:[B]" % i for i in range(15)]
+K = ["X%d:[B]" % i for i in range(size * 5 // 8)]
 row("sum of kinds", TWO + SUM, total(K), K[0])
-D = names("D", 15)
+D = names("D", size * 5 // 8)
 RANKS = "op + : D D -> D [assoc comm] . "
 row("sum of three sorts", THREE + RANKS, total(D), D[-1])
 row("sum of three sorts, turned round", THREE + RANKS, total(D), total(D[::-1]))
@@ -127,7 +128,7 @@ row("sum of three sorts and ranks, turned round", THREE + RANKS, total(D), total
 RANKS = "op + : D D -> D [assoc comm] . op + : A A -> A [ditto] . op + : A C -> C [ditto] . op + : C C -> A [ditto] . "
 row("sum of parities, its last", THREE + RANKS, total(D), D[-1])
 row("sum of parities, turned round", THREE + RANKS, total(D), total(D[::-1]))
-E = names("B", 12)
+E = names("B", size // 2)
 UNIT = "op e : -> A . op + : B B -> B [assoc comm id: e] . "
 row("sum with an identity, its last", TWO + UNIT, total(E), E[-1])
 row("sum with an identity, turned round", TWO + UNIT, total(E), total(E[::-1]))
