@@ -1,14 +1,16 @@
 -- What a search through all choices finds.
-use Rattle.std.proofs.Common.{◌≡◌, ◌⊎◌, Bool, true, false, not, List, [], ◌∷◌, drop, refl, sym, ap, ◌∙◌, subst, inl, inr}
-use Rattle.std.specs.Prelude.{if◌then◌else◌}
+use Rattle.std.proofs.Common.{◌≡◌, ◌⊎◌, Bool, true, false, not, List, [], ◌∷◌, ◌++◌, drop, refl, sym, ap, ◌∙◌, subst, inl, inr}
+use Rattle.std.specs.Prelude.{if◌then◌else◌, fold}
 use Rattle.std.specs.List.{Contains}
 use Rattle.std.proofs.lemmas.Bool.{true≢false, false≢true}
+use Rattle.std.proofs.lemmas.List.{append-nil}
+use Rattle.std.proofs.lemmas.List.Sums.{fold-append}
 use Rattle.fvn_base.proofs.Membership.{contains_here, contains_later, contains_cases, contains_none}
 use Rattle.fvn_terms.specs.declared.plain.Var.{Var}
 use Rattle.fvn_terms.specs.declared.plain.OpId.{OpId}
 use Rattle.fvn_terms.specs.declared.plain.SortId.{SortId}
 use Rattle.fvn_terms.specs.declared.declarations.Declarations.{Declarations}
-use Rattle.fvn_terms.specs.Term.{Term}
+use Rattle.fvn_terms.specs.Term.{Term, app, more, none as no_terms}
 use Rattle.fvn_terms.specs.Substitution.{same_var, Occurs}
 use Rattle.fvn_terms.specs.Signature.{AtOrBelow, IsTerm}
 use Rattle.fvn_terms.specs.Rewriting.{IsSortDecreasing}
@@ -16,6 +18,8 @@ use Rattle.fvn_forms.specs.SortOrder.{at_or_below}
 use Rattle.fvn_forms.specs.Good.{IsGood}
 use Rattle.fvn_forms.proofs.SortTests.{at_or_below-true, at_or_below-complete}
 use Rattle.fvn_sorts.specs.Queries.{IsCompleted}
+use Rattle.fvn_flat.specs.Problems.{variables}
+use Rattle.fvn_flat.specs.Variables.{with_variable}
 use Rattle.fvn_flat.proofs.Binding.{same_var_is, same_var_itself}
 use Rattle.fvn_rewriting.specs.declared.shapes.Root.{Root}
 use Rattle.fvn_rewriting.specs.declared.shapes.Root.TheVariants.{Variable, Constant, Compound}
@@ -94,20 +98,43 @@ module _ (choices : SortId → List Shape) (test : (Var → Shape) → Bool) whe
       (any_false (λ o. some_choice test (unchosen_of choices vars) (with_shape env x o)) (choices x.sort) f (e x) (h x (contains_here x vars)))
 
   -- the same for the variables of a term
-  pub found_choice : (t : Term) (env : Var → Shape) → some_choice test (unchosen_of choices (distinct_variables_of t)) env ≡ true → (e : Var → Shape) × (IsChoice choices t e × (test e ≡ true))
-  found_choice t env h =
-      let w = found (distinct_variables_of t) [] env (λ y m. absurd (contains_none y m)) h in
-      (w.0, (λ x o. w.1.0 x (inl (distinct_listed t x o)), w.1.1))
+  module _ (t : Term) (vars : List Var) (listed : (x : Var) → Occurs x t → Contains vars x) (env : Var → Shape) where
+    pub found_choice : some_choice test (unchosen_of choices vars) env ≡ true → (e : Var → Shape) × (IsChoice choices t e × (test e ≡ true))
+    found_choice h =
+        let w = found vars [] env (λ y m. absurd (contains_none y m)) h in
+        (w.0, (λ x o. w.1.0 x (inl (listed x o)), w.1.1))
 
-  pub no_choice : (t : Term) (env : Var → Shape) → some_choice test (unchosen_of choices (distinct_variables_of t)) env ≡ false → (e : Var → Shape) → IsChoice choices t e →
-      (other : Var → Shape) × (((x : Var) → Occurs x t → other x ≡ e x) × (test other ≡ false))
-  no_choice t env h e choice = (
-    follow e (distinct_variables_of t) env,
-    (
-      λ x o. follow_is e (distinct_variables_of t) env x (distinct_listed t x o),
-      none e (distinct_variables_of t) env (λ y m. choice y (distinct_occurs t y m)) h,
-    ),
-  )
+    pub no_choice : ((x : Var) → Contains vars x → Occurs x t) → some_choice test (unchosen_of choices vars) env ≡ false → (e : Var → Shape) → IsChoice choices t e →
+        (other : Var → Shape) × (((x : Var) → Occurs x t → other x ≡ e x) × (test other ≡ false))
+    no_choice only h e choice = (
+      follow e vars env,
+      (
+        λ x o. follow_is e vars env x (listed x o),
+        none e vars env (λ y m. choice y (only y m)) h,
+      ),
+    )
+
+-- the variables of two terms, those of the first one first
+abbrev pub variables_of_both : Term → Term → List Var
+variables_of_both first second = fold with_variable (distinct_variables_of first) (variables second)
+
+-- they are those of a term over both
+module _ (first second : Term) where
+  abbrev pair : Term
+  pair = app (record { 0 = 0 }) (more first (more second no_terms))
+
+  both_is : variables_of_both first second ≡ distinct_variables_of pair
+  both_is = ap (λ l. fold with_variable (distinct_variables_of first) l) (sym (append-nil (variables second))) ∙ sym (fold-append with_variable [] (variables first) (variables second ++ []))
+
+  both_listed : (x : Var) → Occurs x second → Contains (variables_of_both first second) x
+  both_listed x o = subst (λ l. Contains l x) (sym both_is) (distinct_listed pair x (inr (inl o)))
+
+  both_occur : ((x : Var) → Occurs x first → Occurs x second) → (x : Var) → Contains (variables_of_both first second) x → Occurs x second
+  both_occur within x c = go (distinct_occurs pair x (subst (λ l. Contains l x) both_is c)) where
+    go : Occurs x pair → Occurs x second
+    go (inl o) = within x o
+    go (inr (inl o)) = o
+    go (inr (inr o)) = absurd o
 
 variable_root : (f : Root) → is_variable_root f ≡ true → f ≡ Variable
 variable_root Variable h = refl
@@ -136,36 +163,36 @@ module _ (d : Declarations) (good : IsGood d) (completed : IsCompleted d) (env :
 
     pub variable_found : searched ToVariable ≡ true → CollapsesToVariable d t
     variable_found h =
-        let w = found_choice (identity_choices d) (is_met d ToVariable (identities d) t t) t env h in
+        let w = found_choice (identity_choices d) (is_met d ToVariable (identities d) t t) t (distinct_variables_of t) (distinct_listed t) env h in
         choice_to_variable d good completed t is_term.0 is_term.1 w.0 w.1.0 (variable_root (shape_in d w.0 t).root w.1.1)
 
     pub no_variable : searched ToVariable ≡ false → CollapsesToVariable d t → ⊥
     no_variable h c =
         let v = variable_choice d good completed t is_term.0 is_term.1 c in
-        let n = no_choice (identity_choices d) (is_met d ToVariable (identities d) t t) t env h v.env v.choice in
+        let n = no_choice (identity_choices d) (is_met d ToVariable (identities d) t t) t (distinct_variables_of t) (distinct_listed t) env (distinct_occurs t) h v.env v.choice in
         let e : (shape_in d n.0 t).root ≡ Variable = ap (λ (s : Shape). s.root) (shape_agrees d n.0 v.env t n.1.0) ∙ v.is in
         true≢false (sym (ap is_variable_root e) ∙ n.1.1)
 
     pub identity_found : searched ToIdentity ≡ true → CollapsesToIdentity d t
     identity_found h =
-        let w = found_choice (identity_choices d) (is_met d ToIdentity (identities d) t t) t env h in
+        let w = found_choice (identity_choices d) (is_met d ToIdentity (identities d) t t) t (distinct_variables_of t) (distinct_listed t) env h in
         let g = identity_root (identities d) (shape_in d w.0 t).root w.1.1 in
         choice_to_identity d good completed t is_term.0 is_term.1 w.0 w.1.0 g.0 g.1.0 g.1.1
 
     pub no_identity : searched ToIdentity ≡ false → CollapsesToIdentity d t → ⊥
     no_identity h c =
         let v = identity_choice d good completed t is_term.0 is_term.1 c in
-        let n = no_choice (identity_choices d) (is_met d ToIdentity (identities d) t t) t env h v.env v.choice in
+        let n = no_choice (identity_choices d) (is_met d ToIdentity (identities d) t t) t (distinct_variables_of t) (distinct_listed t) env (distinct_occurs t) h v.env v.choice in
         let e : (shape_in d n.0 t).root ≡ Constant v.is.0 = ap (λ (s : Shape). s.root) (shape_agrees d n.0 v.env t n.1.0) ∙ v.is.1.1 in
         true≢false (sym (ap (is_identity_root (identities d)) e ∙ listed_op (identities d) v.is.0 v.is.1.0) ∙ n.1.1)
 
   module _ (left right : Term) (kinded : IsKindedEquation d (left, right)) where
     abbrev pub searched_loss : Bool
-    searched_loss = some_choice (is_met d Loss (identities d) left right) (unchosen_of (sort_choices d) (distinct_variables_of left)) env
+    searched_loss = some_choice (is_met d Loss (identities d) left right) (unchosen_of (sort_choices d) (variables_of_both right left)) env
 
     -- the answer of a search whose lists are made so
     pub searched_loss_by : (es : List OpId) (vars : List Var) (left_over : List (Var × List Shape)) (b : Bool) →
-        es ≡ identities d → vars ≡ distinct_variables_of left → left_over ≡ unchosen_of (sort_choices d) vars →
+        es ≡ identities d → vars ≡ variables_of_both right left → left_over ≡ unchosen_of (sort_choices d) vars →
         b ≡ some_choice (is_met d Loss es left right) (drop 0 left_over) env → b ≡ searched_loss
     searched_loss_by es vars left_over b p q r e =
         e
@@ -183,14 +210,14 @@ module _ (d : Declarations) (good : IsGood d) (completed : IsCompleted d) (env :
 
     pub loss_found : searched_loss ≡ true → IsLoss d left right
     loss_found h =
-        let w = found_choice (sort_choices d) (is_met d Loss (identities d) left right) left env h in
+        let w = found_choice (sort_choices d) (is_met d Loss (identities d) left right) left (variables_of_both right left) (both_listed right left) env h in
         choice_loses d good completed left right kinded.kinds kinded.brings_none w.0 w.1.0 (not_below (shape_in d w.0 right).sort (shape_in d w.0 left).sort w.1.1)
 
     pub no_loss : searched_loss ≡ false → IsSortDecreasing d left right
     no_loss h = choices_decrease d good completed left right kinded.kinds kinded.brings_none each where
       each : (e : Var → Shape) → IsChoice (sort_choices d) left e → AtOrBelow d (shape_in d e right).sort (shape_in d e left).sort
       each e choice =
-          let n = no_choice (sort_choices d) (is_met d Loss (identities d) left right) left env h e choice in
+          let n = no_choice (sort_choices d) (is_met d Loss (identities d) left right) left (variables_of_both right left) (both_listed right left) env (both_occur right left kinded.brings_none) h e choice in
           rw (shape_agrees d n.0 e right (λ x o. n.1.0 x (kinded.brings_none x o)), shape_agrees d n.0 e left n.1.0) at (is_below (shape_in d n.0 right).sort (shape_in d n.0 left).sort n.1.1)
 
     -- what the answer says

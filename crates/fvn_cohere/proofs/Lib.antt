@@ -6,5 +6,7 @@ mod Arguments
 mod Overs
 mod Sifting
 mod Firsts
+mod Foreseen
+mod Hopeless
 mod Found
 mod Harmless

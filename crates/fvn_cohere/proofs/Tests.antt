@@ -1,7 +1,8 @@
 -- What tests tell.
-use Rattle.std.proofs.Common.{◌≡◌, ◌↔◌, Bool, true, false, List, [], ◌∷◌, refl, sym, ap, ◌∙◌, subst, inl, inr, IsTrue}
-use Rattle.std.specs.Prelude.{◌||◌}
-use Rattle.std.specs.List.{Contains, list_any}
+use Rattle.std.proofs.Common.{◌≡◌, ◌↔◌, ℕ, zero, suc, ◌+◌, Option, Some, None, drop, Bool, true, false, List, [], ◌∷◌, refl, sym, ap, ◌∙◌, subst, arith, inl, inr, IsTrue}
+use Rattle.std.specs.Prelude.{◌||◌, ◌&&◌, slice_get}
+use Rattle.std.specs.List.{Contains, list_any, list_all}
+use Rattle.fvn_base.proofs.Options.{Some-injective}
 use Rattle.fvn_base.proofs.Membership.{contains_here, contains_later, contains_cases, contains_none}
 use Rattle.std.proofs.lemmas.Bool.{false≢true, true≢false}
 use Rattle.fvn_terms.specs.declared.plain.SortId.{SortId}
@@ -39,3 +40,26 @@ module _ {A : Type 0} (p : A → Bool) where
         | inl q ↦ subst (λ z. p z ≡ false) q h
         | inr i ↦ rest (ap (λ b. b || list_any p xs) (sym h) ∙ e) x i
       ]
+
+  pub any_from : (xs : List A) (x : A) → Contains xs x → p x ≡ true → list_any p xs ≡ true
+  any_from xs x c h = go (list_any p xs) refl
+    where
+      go : (b : Bool) → list_any p xs ≡ b → list_any p xs ≡ true
+      go true e = e
+      go false e = absurd (true≢false (sym h ∙ any_false xs e x c))
+
+  -- a test that each element from a place on passes
+  all_at : (xs : List A) (i : ℕ) (x : A) → slice_get xs i ≡ Some x → list_all p (drop i xs) ≡ (p x && list_all p (drop (suc i) xs))
+  all_at [] i x e = let q : None ≡ Some x = e in cc
+  all_at (y ∷ xs) zero x e = ap (λ z. p z && list_all p xs) (Some-injective e)
+  all_at (y ∷ xs) (suc i) x e = all_at xs i x e
+
+  next : (i : ℕ) → suc i ≡ i + 1
+  next i = omega arith
+
+  -- one more that passes, and one that does not
+  pub all_passed : (xs : List A) (i : ℕ) (x : A) (b : Bool) → list_all p xs ≡ list_all p (drop i xs) → slice_get xs i ≡ Some x → b ≡ p x → b ≡ true → list_all p xs ≡ list_all p (drop (i + 1) xs)
+  all_passed xs i x b h is t e = h ∙ all_at xs i x is ∙ ap (λ c. c && list_all p (drop (suc i) xs)) (sym t ∙ e) ∙ ap (λ n. list_all p (drop n xs)) (next i)
+
+  pub not_passed : (xs : List A) (i : ℕ) (x : A) (b : Bool) → list_all p xs ≡ list_all p (drop i xs) → slice_get xs i ≡ Some x → b ≡ p x → b ≡ false → false ≡ list_all p xs
+  not_passed xs i x b h is t e = sym (h ∙ all_at xs i x is ∙ ap (λ c. c && list_all p (drop (suc i) xs)) (sym t ∙ e))

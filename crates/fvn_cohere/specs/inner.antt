@@ -1,4 +1,6 @@
 -- What mirrors the code.
 pub mod Capped
 pub mod Searching
+pub mod Outlooks
+pub mod Posed
 pub mod Collapsing

@@ -60,7 +60,8 @@ fn lower_or_identities(
     es: &[OpId],
     s: SortId,
 ) -> Result<Vec<Shape>, NoMemory>
-    ensures { IfOk result (λ all. all.items ≡ map variable_shape (sorts_below sig.now s) ++ map (identity_shape sig.now) es.now) }
+    ensures { IfOk result (λ all. all.items ≡
+        map variable_shape (sorts_below sig.now s) ++ map (identity_shape sig.now) es.now) }
 {
     let sorts = sorts_below(alloc, sig, s)?;
     let lower = variable_shapes(alloc, sorts.as_slice())?;
@@ -75,7 +76,8 @@ fn itself_or_identities(
     es: &[OpId],
     s: SortId,
 ) -> Result<Vec<Shape>, NoMemory>
-    ensures { IfOk result (λ all. all.items ≡ variable_shape s ∷ map (identity_shape sig.now) es.now) }
+    ensures { IfOk result (λ all. all.items ≡
+        variable_shape s ∷ map (identity_shape sig.now) es.now) }
 {
     let first = variable_shapes(alloc, &[s])?;
     let all = with_identity_shapes(sig, first, es)?;

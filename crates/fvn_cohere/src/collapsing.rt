@@ -60,20 +60,22 @@ fn collapses(alloc: Global, sig: &Signature, left: &Plain) -> Result<Option<Coll
     Ok(None)
 }
 
-/// What the left side of an equation, by its number from 1, collapses to: to a variable, or else to an identity.
+/// What the left side of an equation, by its number from 1, collapses to: to a variable, or else to an
+/// identity.
 ///
-/// It goes through the choices of identities for its variables, one by one; `instances_fit` says whether they are few
-/// enough.
+/// It goes through the choices of identities for its variables, and leaves a branch where the left side
+/// can be neither in it; `instances_fit` says whether they are few enough at worst.
 pub fn left_collapses(
     alloc: Global,
-    module: &Module,
+    declared: &Module,
     number: usize,
 ) -> Result<Option<Collapse>, NoMemory>
-    requires { IsNumberIn module.now number }
-    ensures { IfOk result (λ c. OfEquation module.now number (λ e. CollapsesAs module.now.signature (term e.left) c)) }
+    requires { IsNumberIn declared.now number }
+    ensures { IfOk result (λ c.
+        OfEquation declared.now number (λ e. CollapsesAs declared.now.signature (term e.left) c)) }
 {
-    let sig = module.signature();
-    let e = equation_at(module, number);
+    let sig = declared.signature();
+    let e = equation_at(declared, number);
     let collapse = collapses(alloc, sig, &e.left)?;
     Ok(collapse)
 }

@@ -33,33 +33,37 @@ fn fault_of_collapse(number: usize, collapse: Option<Collapse>) -> Option<LeftFa
 }
 
 // What is wrong with the left side of the equation of this number.
-fn left_fault(alloc: Global, module: &Module, number: usize) -> Result<Option<LeftFault>, NoMemory>
-    requires { IsNumberIn module.now number }
-    ensures { IfOk result (λ f. OfEquation module.now number (λ e. MatchOption f
-        (IsHarmless module.now.signature (term e.left))
-        (IsLeftFault module.now.signature number (term e.left)))) }
+fn left_fault(
+    alloc: Global,
+    declared: &Module,
+    number: usize,
+) -> Result<Option<LeftFault>, NoMemory>
+    requires { IsNumberIn declared.now number }
+    ensures { IfOk result (λ f. OfEquation declared.now number (λ e. MatchOption f
+        (IsHarmless declared.now.signature (term e.left))
+        (IsLeftFault declared.now.signature number (term e.left)))) }
 {
-    let fit = instances_fit(alloc, module, number)?;
+    let fit = instances_fit(alloc, declared, number)?;
     if !fit {
         return Ok(Some(LeftFault::TooManyInstances(number)));
     }
-    let collapse = left_collapses(alloc, module, number)?;
+    let collapse = left_collapses(alloc, declared, number)?;
     Ok(fault_of_collapse(number, collapse))
 }
 
-/// What is wrong with the first left side of the module that is at fault: it has too many instances, or becomes a
-/// variable, or becomes an identity, where some, perhaps none, of its variables are identities. None where no left side
-/// is.
+/// What is wrong with the first left side of the module that is at fault: it has too many instances, or
+/// becomes a variable, or becomes an identity, where some, perhaps none, of its variables are
+/// identities. None where no left side is.
 ///
 /// Of each equation it is asked in this order, so that collapses are sought among few instances.
-pub fn first_left_fault(alloc: Global, module: &Module) -> Result<Option<LeftFault>, NoMemory>
+pub fn first_left_fault(alloc: Global, declared: &Module) -> Result<Option<LeftFault>, NoMemory>
     ensures { IfOk result (λ f. MatchOption f
-        (AreHarmless module.now.signature (equations_of module.now.equations))
-        (IsFirstLeftFault module.now.signature (equations_of module.now.equations))) }
+        (AreHarmless declared.now.signature (equations_of declared.now.equations))
+        (IsFirstLeftFault declared.now.signature (equations_of declared.now.equations))) }
 {
-    let list = module.equations();
+    let list = declared.equations();
     for i in 0..list.len() {
-        let fault = left_fault(alloc, module, i + 1)?;
+        let fault = left_fault(alloc, declared, i + 1)?;
         if let Some(wrong) = fault {
             return Ok(Some(wrong));
         }

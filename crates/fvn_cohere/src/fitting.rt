@@ -24,7 +24,8 @@ fn counts(
     s: SortId,
 ) -> Result<(usize, usize), NoMemory>
     requires { es.now ≡ identities sig.now }
-    ensures { IfOk result (λ n. (n.0 ≡ length (identities_below sig.now s)) × (n.1 ≡ length (sorts_below sig.now s))) }
+    ensures { IfOk result (λ n.
+        (n.0 ≡ length (identities_below sig.now s)) × (n.1 ≡ length (sorts_below sig.now s))) }
 {
     let below = identities_below(alloc, sig, es, s)?;
     let sorts = sorts_below(alloc, sig, s)?;
@@ -67,16 +68,18 @@ fn fits(alloc: Global, sig: &Signature, left: &Plain) -> Result<bool, NoMemory>
     Ok(are_within(by_identities, by_sorts))
 }
 
-/// Whether the left side of an equation, by its number from 1, has at most 4,096 instances by identities, and at most
-/// 16,777,216 by sorts and identities.
+/// Whether the left side of an equation, by its number from 1, has at most 4,096 instances by
+/// identities, and at most 16,777,216 by sorts and identities.
 ///
 /// It takes both products of the choices of its variables in one pass.
-pub fn instances_fit(alloc: Global, module: &Module, number: usize) -> Result<bool, NoMemory>
-    requires { IsNumberIn module.now number }
-    ensures { IfOk result (λ fit. OfEquation module.now number (λ e. IsTrue fit ↔ InstancesFit module.now.signature (term e.left))) }
+pub fn instances_fit(alloc: Global, declared: &Module, number: usize) -> Result<bool, NoMemory>
+    requires { IsNumberIn declared.now number }
+    ensures { IfOk result (λ fit.
+        OfEquation declared.now number (λ e.
+        IsTrue fit ↔ InstancesFit declared.now.signature (term e.left))) }
 {
-    let sig = module.signature();
-    let e = equation_at(module, number);
+    let sig = declared.signature();
+    let e = equation_at(declared, number);
     let fit = fits(alloc, sig, &e.left)?;
     Ok(fit)
 }

@@ -94,7 +94,8 @@ pub fn identities_below(
     es: &[OpId],
     s: SortId,
 ) -> Result<Vec<OpId>, NoMemory>
-    ensures { IfOk result (λ all. all.items ≡ filter (λ e. at_or_below sig.now (least_result sig.now e []) s) es.now) }
+    ensures { IfOk result (λ all. all.items ≡
+        filter (λ e. at_or_below sig.now (least_result sig.now e []) s) es.now) }
 {
     let mut all = Vec::new(alloc);
     for e in es {
@@ -108,7 +109,8 @@ pub fn identities_below(
 
 // The declared sorts at or below a sort.
 fn declared_below(alloc: Global, sig: &Signature, s: SortId) -> Result<Vec<SortId>, NoMemory>
-    ensures { IfOk result (λ all. all.items ≡ filter (λ q. at_or_below sig.now q s) (first_sorts sig.now.sorts)) }
+    ensures { IfOk result (λ all. all.items ≡
+        filter (λ q. at_or_below sig.now q s) (first_sorts sig.now.sorts)) }
 {
     let mut all = Vec::new(alloc);
     for n in 0..sig.declarations().sorts {

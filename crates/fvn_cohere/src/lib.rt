@@ -8,6 +8,7 @@ mod faults;
 mod fitting;
 mod identities;
 mod losing;
+mod outlooks;
 mod searching;
 mod shapes;
 mod variables;

@@ -9,7 +9,7 @@ use crate::choosing::unchosen;
 use crate::identities::identities;
 use crate::searching::{Search, Sought};
 use crate::shapes::Chosen;
-use crate::variables::distinct_variables;
+use crate::variables::variables_of_both;
 use fvn_module::Module;
 use fvn_sorts::Signature;
 use fvn_terms::{NoMemory, Plain};
@@ -24,7 +24,7 @@ fn loses(alloc: Global, sig: &Signature, left: &Plain, right: &Plain) -> Result<
     sig.recall_completed();
     let es = identities(alloc, sig)?;
     let ids = es.as_slice();
-    let vars = distinct_variables(alloc, left)?;
+    let vars = variables_of_both(alloc, right, left)?;
     let list = vars.as_slice();
     let all = unchosen(alloc, sig, ids, Sought::Loss, list)?;
     let left_over = all.as_slice();
@@ -40,18 +40,20 @@ fn loses(alloc: Global, sig: &Signature, left: &Plain, right: &Plain) -> Result<
     Ok(found)
 }
 
-/// The number, from 1, of the first equation of the module that is not sort-decreasing; none where each is.
+/// The number, from 1, of the first equation of the module that is not sort-decreasing; none where each
+/// is.
 ///
-/// It goes through the choices of sorts and identities for the variables of each equation, one by one; `instances_fit`
-/// says whether they are few enough.
-pub fn sort_loss(alloc: Global, module: &Module) -> Result<Option<usize>, NoMemory>
+/// It goes through the choices of sorts and identities for the variables of each equation, those of its
+/// right side first, and leaves a branch where bounds of the sorts of both sides show that nothing is
+/// lost in it. `instances_fit` says whether they are few enough at worst.
+pub fn sort_loss(alloc: Global, declared: &Module) -> Result<Option<usize>, NoMemory>
     ensures { IfOk result (λ n. MatchOption n
-        (AreSortDecreasing module.now.signature (equations_of module.now.equations))
-        (IsFirstLoss module.now.signature (equations_of module.now.equations))) }
+        (AreSortDecreasing declared.now.signature (equations_of declared.now.equations))
+        (IsFirstLoss declared.now.signature (equations_of declared.now.equations))) }
 {
-    module.recall_readable();
-    let sig = module.signature();
-    let list = module.equations();
+    declared.recall_readable();
+    let sig = declared.signature();
+    let list = declared.equations();
     for i in 0..list.len() {
         let e = &list[i];
         let found = loses(alloc, sig, &e.left, &e.right)?;

@@ -1,19 +1,26 @@
 //! A search through the choices for the variables of a term.
-ghost use Rattle.std.specs.Prelude.{◌≡◌, ◌≤◌, ◌<◌, ◌+◌, length, drop};
+ghost use Rattle.std.specs.Prelude.{◌≡◌, ◌≤◌, ◌<◌, ◌+◌, length, drop, false, Contains, IsTrue};
 ghost use Rattle.std.specs.List.{list_any};
 ghost use Rattle.fvn_terms.specs.Plain.{term};
 ghost use Rattle.fvn_terms.specs.Signature.{IsTerm};
-ghost use Rattle.fvn_cohere.specs.inner.Searching.{shapes_by, is_variable_root, is_identity_root, is_met, with_shape, some_choice};
+ghost use Rattle.fvn_cohere.specs.inner.Searching.{shapes_by, is_variable_root, is_identity_root, with_shape, some_choice};
+ghost use Rattle.fvn_cohere.specs.inner.Outlooks.{AreAllowed, IsAllowed};
+ghost use Rattle.fvn_cohere.specs.inner.Posed.{IsPosed, is_sought};
+ghost use Rattle.fvn_rewriting.specs.declared.shapes.Shape.{Shape};
 
 use crate::identities::{is_at_or_below, is_listed};
+use crate::outlooks::PartialChoice;
 use crate::shapes::{Chosen, shape};
 use fvn_base::Seq;
 use fvn_rewriting::{Root, Shape};
 use fvn_sorts::Signature;
 use fvn_terms::{OpId, Plain, Var};
 
-// What is sought: a choice under which the right side has a sort that is not at or below that of the left side,
-// or one under which the left side is a variable, or an identity.
+// So many instances make it worth asking, before they are tried, what can come of them.
+const MANY: usize = 64;
+
+// What is sought: a choice under which the right side has a sort that is not at or below that of the
+// left side, or one under which the left side is a variable, or an identity.
 #[derive(Clone, Copy, PartialEq, Eq)]
 pub(crate) enum Sought {
     Loss,
@@ -32,7 +39,7 @@ pub(crate) struct Search<'s> {
     pub(crate) unchosen: &'s [(Var, Seq<Shape>)],
 }
 
-fn is_variable_root(root: Root) -> bool
+pub(crate) fn is_variable_root(root: Root) -> bool
     ensures { result ≡ is_variable_root root }
 {
     match root {
@@ -42,7 +49,7 @@ fn is_variable_root(root: Root) -> bool
     }
 }
 
-fn is_identity_root(es: &[OpId], root: Root) -> bool
+pub(crate) fn is_identity_root(es: &[OpId], root: Root) -> bool
     ensures { result ≡ is_identity_root es.now root }
 {
     match root {
@@ -57,7 +64,7 @@ impl Search<'_> {
     fn is_met(&self, chosen: &Chosen<'_>) -> bool
         requires left { IsTerm self.now.sig.now (term self.now.left.now) }
         requires right { IsTerm self.now.sig.now (term self.now.right.now) }
-        ensures { result ≡ is_met self.now.sig.now self.now.sought self.now.identities.now (term self.now.left.now) (term self.now.right.now) (shapes_by chosen.now) }
+        ensures { result ≡ is_sought self.now (shapes_by chosen.now) }
     {
         let left = shape(self.sig, chosen, self.left);
         match self.sought {
@@ -70,33 +77,79 @@ impl Search<'_> {
         }
     }
 
+    // Whether the choices that are left, from a number on, make so many instances that it pays to
+    // ask what can come of them.
+    fn are_many(&self, from: usize) -> bool
+        requires { from < length self.now.unchosen.now }
+    {
+        if self.unchosen[from].1.len() < 2 {
+            return false;
+        }
+        let mut count: usize = 1;
+        for v in &self.unchosen[from..] {
+            count = count.saturating_mul(v.1.len());
+            if count >= MANY {
+                return true;
+            }
+        }
+        false
+    }
+
+    // Whether it is seen that none of the choices that are left, from a number on, is sought.
+    fn is_hopeless(&self, from: usize, chosen: &Chosen<'_>) -> bool
+        requires within { from < length self.now.unchosen.now }
+        requires posed { IsPosed self.now }
+        requires allowed { AreAllowed self.now.sig.now (shapes_by chosen.now) }
+        ensures { IsTrue result →
+            some_choice (is_sought self.now) (drop from self.now.unchosen.now) (shapes_by chosen.now) ≡ false }
+    {
+        self.sig.recall_good();
+        self.sig.recall_completed();
+        if !self.are_many(from) {
+            return false;
+        }
+        let partial = PartialChoice {
+            sig: self.sig,
+            identities: self.identities,
+            unchosen: &self.unchosen[from..],
+            chosen,
+        };
+        partial.excludes(self.sought, self.left, self.right)
+    }
+
     // Whether one of the choices that are left, from a number on, is sought.
     #[cycle(find)]
     pub(crate) fn find(&self, from: usize, chosen: &Chosen<'_>) -> bool
         requires within { from ≤ length self.now.unchosen.now }
-        requires left { IsTerm self.now.sig.now (term self.now.left.now) }
-        requires right { IsTerm self.now.sig.now (term self.now.right.now) }
-        ensures { result ≡ some_choice
-            (is_met self.now.sig.now self.now.sought self.now.identities.now (term self.now.left.now) (term self.now.right.now))
-            (drop from self.now.unchosen.now) (shapes_by chosen.now) }
+        requires posed { IsPosed self.now }
+        requires allowed { AreAllowed self.now.sig.now (shapes_by chosen.now) }
+        ensures { result ≡
+            some_choice (is_sought self.now) (drop from self.now.unchosen.now) (shapes_by chosen.now) }
     {
         let all = self.unchosen;
         if from == all.len() {
             return self.is_met(chosen);
         }
+        self.sig.recall_good();
+        self.sig.recall_completed();
+        if self.is_hopeless(from, chosen) {
+            return false;
+        }
         let v = &all[from];
         self.find_for(v.0, v.1.as_slice(), from, chosen)
     }
 
-    // Whether one of the choices that are left is sought in which the variable stands for one of these shapes.
+    // Whether one of the choices that are left is sought in which the variable stands for one of
+    // these shapes.
     #[cycle(find)]
     fn find_for(&self, x: Var, shapes: &[Shape], from: usize, chosen: &Chosen<'_>) -> bool
         requires within { from < length self.now.unchosen.now }
-        requires left { IsTerm self.now.sig.now (term self.now.left.now) }
-        requires right { IsTerm self.now.sig.now (term self.now.right.now) }
-        ensures { result ≡ list_any (λ o. some_choice
-            (is_met self.now.sig.now self.now.sought self.now.identities.now (term self.now.left.now) (term self.now.right.now))
-            (drop (from + 1) self.now.unchosen.now) (with_shape (shapes_by chosen.now) x o)) shapes.now }
+        requires posed { IsPosed self.now }
+        requires allowed { AreAllowed self.now.sig.now (shapes_by chosen.now) }
+        requires shapes { (o : Shape) → Contains shapes.now o → IsAllowed self.now.sig.now x o }
+        ensures { result ≡ list_any (λ o.
+            some_choice (is_sought self.now) (drop (from + 1) self.now.unchosen.now)
+            (with_shape (shapes_by chosen.now) x o)) shapes.now }
     {
         for o in shapes {
             let more = Chosen::Choose(x, *o, &*chosen);

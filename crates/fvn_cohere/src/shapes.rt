@@ -7,7 +7,6 @@ ghost use Rattle.fvn_rewriting.specs.Shapes.{is_root_of, sorts_of, compound, sha
 ghost use Rattle.fvn_forms.specs.Ranks.{result as least_result};
 ghost use Rattle.fvn_cohere.specs.inner.Searching.{shapes_by};
 
-use crate::identities::identity_in;
 use fvn_base::limits::ARGUMENTS;
 use fvn_rewriting::{Root, Shape};
 use fvn_sorts::Signature;
@@ -97,7 +96,7 @@ fn shape_over(sig: &Signature, f: OpId, shapes: &[Shape]) -> Shape
     }
     let a = shape_at(shapes, 0);
     let b = shape_at(shapes, 1);
-    let e = identity_in(sig.axioms(f));
+    let e = sig.identity(f);
     if is_root_of(e, a.root) {
         return b;
     }

@@ -35,7 +35,8 @@ fn with_variable(vars: Vec<Var>, x: Var) -> Result<Vec<Var>, NoMemory>
 // The variables with those of a term that are not there yet.
 #[cycle(with_variables)]
 fn with_variables(vars: Vec<Var>, t: &Plain) -> Result<Vec<Var>, NoMemory>
-    ensures { IfOk result (λ all. all.items ≡ fold with_variable vars.items (variables (term t.now))) }
+    ensures { IfOk result (λ all. all.items ≡
+        fold with_variable vars.items (variables (term t.now))) }
 {
     match t {
         Plain::Var(x) => {
@@ -52,7 +53,8 @@ fn with_variables(vars: Vec<Var>, t: &Plain) -> Result<Vec<Var>, NoMemory>
 // The same for arguments, one after another.
 #[cycle(with_variables)]
 fn with_variables_among(vars: Vec<Var>, us: &Args) -> Result<Vec<Var>, NoMemory>
-    ensures { IfOk result (λ all. all.items ≡ fold with_variable vars.items (variables_among us.now)) }
+    ensures { IfOk result (λ all. all.items ≡
+        fold with_variable vars.items (variables_among us.now)) }
 {
     let mut all = vars;
     for u in &us.items {
@@ -66,5 +68,19 @@ pub fn distinct_variables(alloc: Global, t: &Plain) -> Result<Vec<Var>, NoMemory
     ensures { IfOk result (λ all. all.items ≡ distinct_variables_of (term t.now)) }
 {
     let all = with_variables(Vec::new(alloc), t)?;
+    Ok(all)
+}
+
+// The variables of two terms, each once, those of the first term first.
+pub(crate) fn variables_of_both(
+    alloc: Global,
+    first: &Plain,
+    second: &Plain,
+) -> Result<Vec<Var>, NoMemory>
+    ensures { IfOk result (λ all. all.items ≡
+        fold with_variable (distinct_variables_of (term first.now)) (variables (term second.now))) }
+{
+    let own = distinct_variables(alloc, first)?;
+    let all = with_variables(own, second)?;
     Ok(all)
 }

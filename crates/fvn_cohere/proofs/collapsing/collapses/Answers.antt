@@ -4,11 +4,34 @@ use Rattle.fvn_terms.specs.Plain.{term}
 use Rattle.fvn_cohere.specs.declared.shapes.Chosen.{Nothing}
 use Rattle.fvn_cohere.specs.declared.searching.Sought.TheVariants.{ToVariable, ToIdentity}
 use Rattle.fvn_cohere.specs.inner.Searching.{shapes_by}
+use Rattle.fvn_cohere.proofs.Hopeless.{stays_allowed, offers_of}
 use Rattle.fvn_cohere.proofs.Found.{variable_found, no_variable, identity_found, no_identity, searched_by}
 use Rattle.fvn_cohere.proofs.collapsing.collapses.Goals as goal
 
 pub unchosen-requires : goal.unchosen-requires
 unchosen-requires c = c.as_slice-ids.ensures.value ∙ c.in_ok-es.ensures
+
+pub find-requires-clause-posed : goal.find-requires-clause-posed
+find-requires-clause-posed c = record {
+  identities_are = c.as_slice-ids.ensures.value ∙ c.in_ok-es.ensures;
+  left_term = c.requires;
+  right_term = c.requires;
+  offers = offers_of c.args.sig.now ToVariable ToVariable c.as_slice-list.result.now c.as_slice-left_over.result.now (c.as_slice-left_over.ensures.value ∙ c.in_ok-all.ensures) refl;
+}
+
+pub find-requires-clause-allowed : goal.find-requires-clause-allowed
+find-requires-clause-allowed c = stays_allowed c.args.sig.now
+
+pub find-requires-2-clause-posed : goal.find-requires-2-clause-posed
+find-requires-2-clause-posed c = record {
+  identities_are = c.as_slice-ids.ensures.value ∙ c.in_ok-es.ensures;
+  left_term = c.requires;
+  right_term = c.requires;
+  offers = offers_of c.args.sig.now ToVariable ToIdentity c.as_slice-list.result.now c.as_slice-left_over.result.now (c.as_slice-left_over.ensures.value ∙ c.in_ok-all.ensures) refl;
+}
+
+pub find-requires-2-clause-allowed : goal.find-requires-2-clause-allowed
+find-requires-2-clause-allowed c = stays_allowed c.args.sig.now
 
 pub returns-then-find : goal.returns-then-find
 returns-then-find c =

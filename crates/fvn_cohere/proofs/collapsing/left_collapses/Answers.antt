@@ -14,7 +14,7 @@ collapses-requires c =
 
 pub returns : goal.returns
 returns c =
-    let m = c.args.module.now in
+    let m = c.args.declared.now in
     let e : Equation = c.equation_at-e.result.now in
     of_found (λ (q : Equation). CollapsesAs m.signature (term q.left) c.in_ok-collapse.collapse) m c.args.number e c.equation_at-e.ensures.is
     (subst (λ d. CollapsesAs d (term e.left) c.in_ok-collapse.collapse) c.signature-sig.ensures c.in_ok-collapse.ensures)

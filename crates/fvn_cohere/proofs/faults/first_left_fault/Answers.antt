@@ -6,12 +6,12 @@ use Rattle.fvn_cohere.proofs.faults.first_left_fault.Goals as goal
 
 pub loop-i-preserved : goal.loop-i-preserved
 loop-i-preserved c =
-    harmless_step c.args.module.now c.loop-i.i c.in_ok-fault.fault (subst (λ (l : List Equation). c.loop-i.i < length l) c.equations-list.ensures c.loop-i-test.true) c.loop-i.invariant c.in_default.is c.in_ok-fault.ensures
+    harmless_step c.args.declared.now c.loop-i.i c.in_ok-fault.fault (subst (λ (l : List Equation). c.loop-i.i < length l) c.equations-list.ensures c.loop-i-test.true) c.loop-i.invariant c.in_default.is c.in_ok-fault.ensures
 
 pub returns-in-Some : goal.returns-in-Some
 returns-in-Some c =
-    fault_step c.args.module.now c.loop-i.i c.in_ok-fault.fault c.in-Some.wrong (subst (λ (l : List Equation). c.loop-i.i < length l) c.equations-list.ensures c.loop-i-test.true) c.loop-i.invariant c.in-Some.is c.in_ok-fault.ensures
+    fault_step c.args.declared.now c.loop-i.i c.in_ok-fault.fault c.in-Some.wrong (subst (λ (l : List Equation). c.loop-i.i < length l) c.equations-list.ensures c.loop-i-test.true) c.loop-i.invariant c.in-Some.is c.in_ok-fault.ensures
 
 pub returns : goal.returns
 returns c =
-    all_harmless c.args.module.now.signature c.args.module.now.equations c.loop-i.i (subst (λ (l : List Equation). length l ≤ c.loop-i.i) c.equations-list.ensures c.loop-i-test.false) c.loop-i.invariant
+    all_harmless c.args.declared.now.signature c.args.declared.now.equations c.loop-i.i (subst (λ (l : List Equation). length l ≤ c.loop-i.i) c.equations-list.ensures c.loop-i-test.false) c.loop-i.invariant

@@ -8,7 +8,7 @@ use Rattle.fvn_cohere.proofs.fitting.instances_fit.Goals as goal
 
 pub returns : goal.returns
 returns c =
-    let m = c.args.module.now in
+    let m = c.args.declared.now in
     let e : Equation = c.equation_at-e.result.now in
     of_found (λ (q : Equation). IsTrue c.in_ok-fit.fit ↔ InstancesFit m.signature (term q.left)) m c.args.number e c.equation_at-e.ensures.is
     (subst (λ d. IsTrue c.in_ok-fit.fit ↔ InstancesFit d (term e.left)) c.signature-sig.ensures c.in_ok-fit.ensures)

@@ -10,7 +10,7 @@ use Rattle.fvn_cohere.proofs.losing.sort_loss.Goals as goal
 
 pub loses-requires : goal.loses-requires
 loses-requires c =
-    let m = c.args.module.now in
+    let m = c.args.declared.now in
     let e : Equation = c.index-list-i.result in
     let within : c.loop-i.i < length m.equations = subst (λ (l : List Equation). c.loop-i.i < length l) c.equations-list.ensures c.loop-i-test.true in
     let is : e ≡ get_or m.equations c.loop-i.i e = subst (λ (l : List Equation). e ≡ get_or l c.loop-i.i e) c.equations-list.ensures c.index-list-i.is in
@@ -19,7 +19,7 @@ loses-requires c =
 
 pub loop-i-preserved : goal.loop-i-preserved
 loop-i-preserved c =
-    let m = c.args.module.now in
+    let m = c.args.declared.now in
     let e : Equation = c.index-list-i.result in
     let within : c.loop-i.i < length m.equations = subst (λ (l : List Equation). c.loop-i.i < length l) c.equations-list.ensures c.loop-i-test.true in
     let is : e ≡ get_or m.equations c.loop-i.i e = subst (λ (l : List Equation). e ≡ get_or l c.loop-i.i e) c.equations-list.ensures c.index-list-i.is in
@@ -28,7 +28,7 @@ loop-i-preserved c =
 
 pub returns-then-found : goal.returns-then-found
 returns-then-found c =
-    let m = c.args.module.now in
+    let m = c.args.declared.now in
     let e : Equation = c.index-list-i.result in
     let within : c.loop-i.i < length m.equations = subst (λ (l : List Equation). c.loop-i.i < length l) c.equations-list.ensures c.loop-i-test.true in
     let is : e ≡ get_or m.equations c.loop-i.i e = subst (λ (l : List Equation). e ≡ get_or l c.loop-i.i e) c.equations-list.ensures c.index-list-i.is in
@@ -37,5 +37,5 @@ returns-then-found c =
 
 pub returns : goal.returns
 returns c =
-    let m = c.args.module.now in
+    let m = c.args.declared.now in
     all_decreasing m.signature m.equations c.loop-i.i (subst (λ (l : List Equation). length l ≤ c.loop-i.i) c.equations-list.ensures c.loop-i-test.false) c.loop-i.invariant
