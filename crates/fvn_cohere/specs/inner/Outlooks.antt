@@ -1,6 +1,5 @@
 -- What can be said of the shape of a term before all its variables are chosen.
 use Rattle.std.specs.Prelude.{◌≡◌, Bool, true, false, IsTrue, if◌then◌else◌, ◌&&◌, List, [], ◌∷◌, map, Option, Some, None, MatchOption, Contains, All}
-use Rattle.std.specs.List.{AllZip}
 use Rattle.fvn_terms.specs.declared.plain.Var.{Var}
 use Rattle.fvn_terms.specs.declared.plain.OpId.{OpId}
 use Rattle.fvn_terms.specs.declared.plain.SortId.{SortId}
