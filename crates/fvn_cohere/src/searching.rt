@@ -101,7 +101,8 @@ impl Search<'_> {
         requires posed { IsPosed self.now }
         requires allowed { AreAllowed self.now.sig.now (shapes_by chosen.now) }
         ensures { IsTrue result →
-            some_choice (is_sought self.now) (drop from self.now.unchosen.now) (shapes_by chosen.now) ≡ false }
+            some_choice (is_sought self.now) (drop from self.now.unchosen.now) (shapes_by chosen.now)
+            ≡ false }
     {
         self.sig.recall_good();
         self.sig.recall_completed();
