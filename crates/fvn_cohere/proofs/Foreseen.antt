@@ -1,5 +1,5 @@
 -- What outlooks say of the shapes of terms.
-use Rattle.std.proofs.Common.{◌≡◌, suc, ◌≢◌, ◌⊎◌, Bool, true, false, not, IsTrue, List, [], ◌∷◌, ◌++◌, map, length, get_or, arith, Option, Some, None, refl, sym, ap, ◌∙◌, subst, inl, inr}
+use Rattle.std.proofs.Common.{◌≡◌, suc, ◌⊎◌, Bool, true, false, List, [], ◌∷◌, ◌++◌, map, length, get_or, arith, Option, Some, None, refl, sym, ap, ◌∙◌, subst, inl, inr}
 use Rattle.std.specs.Prelude.{if◌then◌else◌, MatchOption}
 use Rattle.std.specs.List.{Contains, All, AllZip, list_any, list_all}
 use Rattle.std.proofs.lemmas.Bool.{false≢true, and_from, and_right}
@@ -29,7 +29,7 @@ use Rattle.fvn_forms.proofs.ToCanon.{identity_is}
 use Rattle.fvn_rewriting.specs.declared.shapes.Root.{Root}
 use Rattle.fvn_rewriting.specs.declared.shapes.Root.TheVariants.{Variable, Constant, Compound}
 use Rattle.fvn_rewriting.specs.declared.shapes.Shape.{Shape}
-use Rattle.fvn_rewriting.specs.Shapes.{is_root_of, sorts_of, compound, shape_over, shape_beside, shape_in, shapes_in}
+use Rattle.fvn_rewriting.specs.Shapes.{is_root_of, sorts_of, compound, shape_over, shape_in, shapes_in}
 use Rattle.fvn_rewriting.specs.Identities.{identities, is_listed_op}
 use Rattle.fvn_rewriting.proofs.Identities.{identity_listed, listed_op}
 use Rattle.fvn_cohere.specs.declared.outlooks.Outlook.{Outlook}

@@ -1,5 +1,5 @@
 -- What tests tell.
-use Rattle.std.proofs.Common.{◌≡◌, ◌↔◌, ℕ, zero, suc, ◌+◌, Option, Some, None, drop, Bool, true, false, List, [], ◌∷◌, refl, sym, ap, ◌∙◌, subst, arith, inl, inr, IsTrue}
+use Rattle.std.proofs.Common.{◌≡◌, ◌↔◌, ℕ, zero, suc, ◌+◌, Some, None, drop, Bool, true, false, List, [], ◌∷◌, refl, sym, ap, ◌∙◌, subst, arith, inl, inr, IsTrue}
 use Rattle.std.specs.Prelude.{◌||◌, ◌&&◌, slice_get}
 use Rattle.std.specs.List.{Contains, list_any, list_all}
 use Rattle.fvn_base.proofs.Options.{Some-injective}

@@ -17,7 +17,7 @@ use fvn_sorts::Signature;
 use fvn_terms::{OpId, Plain, Var};
 
 // So many instances make it worth asking, before they are tried, what can come of them.
-const MANY: usize = 64;
+const MANY: usize = 256;
 
 // What is sought: a choice under which the right side has a sort that is not at or below that of the
 // left side, or one under which the left side is a variable, or an identity.
@@ -101,7 +101,8 @@ impl Search<'_> {
         requires posed { IsPosed self.now }
         requires allowed { AreAllowed self.now.sig.now (shapes_by chosen.now) }
         ensures { IsTrue result →
-            some_choice (is_sought self.now) (drop from self.now.unchosen.now) (shapes_by chosen.now) ≡ false }
+            some_choice (is_sought self.now) (drop from self.now.unchosen.now) (shapes_by chosen.now)
+            ≡ false }
     {
         self.sig.recall_good();
         self.sig.recall_completed();

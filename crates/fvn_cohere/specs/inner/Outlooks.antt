@@ -1,6 +1,5 @@
 -- What can be said of the shape of a term before all its variables are chosen.
 use Rattle.std.specs.Prelude.{◌≡◌, Bool, true, false, IsTrue, if◌then◌else◌, ◌&&◌, List, [], ◌∷◌, map, Option, Some, None, MatchOption, Contains, All}
-use Rattle.std.specs.List.{AllZip}
 use Rattle.fvn_terms.specs.declared.plain.Var.{Var}
 use Rattle.fvn_terms.specs.declared.plain.OpId.{OpId}
 use Rattle.fvn_terms.specs.declared.plain.SortId.{SortId}
@@ -85,7 +84,8 @@ module _ (d : Declarations) where
     pub kinds : TakesKinds d f (sorts_of shapes)
     pub constants : All HasConstantSort shapes
 
-  -- the outlook of f over two arguments of which one may be its identity, where the sort is within these bounds if none is
+  -- the outlook of f over two arguments of which one may be its identity;
+  -- where none is, the sort is within these bounds
   pub record IsJoined (a b : Outlook) (low : Option SortId) (high : SortId) (o : Outlook) : Type 0 where
     pub stays : (s : SortId) → IsLow low s → AtOrBelow d s high → Suits o (compound s)
     pub first_vanishes : (s : Shape) → IsTrue a.identity → Suits b s → AtOrBelow d s.sort high → Suits o s
@@ -94,7 +94,8 @@ module _ (d : Declarations) where
   -- a choice for all variables: one of their choices for those that are left, for others what they stand for
   pub record Fills (unchosen : List (Var × List Shape)) (env filled : Var → Shape) : Type 0 where
     pub allowed : AreAllowed filled
-    pub each : (y : Var) → MatchOption (offered unchosen y) (filled y ≡ env y) (λ shapes. Contains shapes (filled y))
+    pub each : (y : Var) →
+        MatchOption (offered unchosen y) (filled y ≡ env y) (λ shapes. Contains shapes (filled y))
 
   -- each variable that is not chosen has the choices of its sort
   abbrev pub Offers : Sought → List (Var × List Shape) → Type 0

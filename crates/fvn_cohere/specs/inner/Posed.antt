@@ -23,4 +23,5 @@ pub record IsPosed (s : Search) : Type 0 where
 
 -- what is said of each choice for all variables
 abbrev pub ForEachFilled : PartialChoice → ((Var → Shape) → Type 0) → Type 0
-ForEachFilled p P = (filled : Var → Shape) → Fills p.sig.now p.unchosen.now (shapes_by p.chosen.now) filled → P filled
+ForEachFilled p P = (filled : Var → Shape) →
+    Fills p.sig.now p.unchosen.now (shapes_by p.chosen.now) filled → P filled

@@ -1,5 +1,4 @@
 -- One rank more.
-use Rattle.std.proofs.Common.{sym}
 use Rattle.fvn_forms.specs.Ranks.{ranks_of}
 use Rattle.fvn_cohere.specs.inner.Outlooks.{is_below_rank, lows_of}
 use Rattle.fvn_cohere.proofs.Tests.{all_passed, not_passed}

@@ -1,9 +1,7 @@
 -- One bound more, and the result over all.
-use Rattle.std.proofs.Common.{◌≡◌, ◌<◌, List, map, length, take, Some, refl, sym, ap, ◌∙◌, subst, arith}
+use Rattle.std.proofs.Common.{List, take, Some, sym, ap, ◌∙◌, subst}
 use Rattle.std.specs.List.{AllZip}
-use Rattle.std.proofs.lemmas.List.{take_more_set, take_all, length-set}
-use Rattle.fvn_terms.specs.declared.plain.SortId.{SortId}
-use Rattle.fvn_forms.specs.Ranks.{result}
+use Rattle.std.proofs.lemmas.List.{take_all}
 use Rattle.fvn_cohere.specs.declared.outlooks.Outlook.{Outlook}
 use Rattle.fvn_cohere.specs.inner.Outlooks.{lows_of, IsLow}
 use Rattle.fvn_cohere.proofs.Foreseen.{low_result}

@@ -1,5 +1,5 @@
 -- The lower one of two in order.
-use Rattle.std.proofs.Common.{◌⊎◌, inl, inr}
+use Rattle.std.proofs.Common.{inl, inr}
 use Rattle.fvn_terms.specs.Signature.{AtOrBelow}
 use Rattle.fvn_forms.proofs.SortOrder.{AtOrBelow-trans}
 use Rattle.fvn_cohere.proofs.outlooks.lower.Goals as goal

@@ -1,15 +1,11 @@
 -- The outlook of one argument more, and of the operator over all.
-use Rattle.std.proofs.Common.{◌≡◌, ◌<◌, ◌≤◌, ◌++◌, List, [], ◌∷◌, map, length, take, sym, ap, ◌∙◌, subst, arith}
+use Rattle.std.proofs.Common.{◌≡◌, ◌<◌, ◌≤◌, List, map, length, take, sym, ap, ◌∙◌, subst, arith}
 use Rattle.std.specs.List.{AllZip}
 use Rattle.std.proofs.lemmas.List.{take_more_set, map_more, take_all, length-set, length-take}
 use Rattle.std.proofs.Math.Nat.{min-eq_left}
 use Rattle.fvn_terms.specs.declared.plain.Plain.{Plain}
-use Rattle.fvn_terms.specs.declared.plain.Var.{Var}
 use Rattle.fvn_terms.specs.Plain.{term, terms}
-use Rattle.fvn_rewriting.specs.declared.shapes.Shape.{Shape}
-use Rattle.fvn_rewriting.specs.Shapes.{shape_over, shape_in, shapes_in}
-use Rattle.fvn_cohere.specs.declared.outlooks.Outlook.{Outlook}
-use Rattle.fvn_cohere.specs.inner.Searching.{shapes_by}
+use Rattle.fvn_rewriting.specs.Shapes.{shape_in, shapes_in}
 use Rattle.fvn_cohere.specs.inner.Outlooks.{Suits}
 use Rattle.fvn_cohere.proofs.Arguments.{take_short, argument, few}
 use Rattle.fvn_cohere.proofs.Foreseen.{suits_push, arguments_fit, shapes_of_terms}

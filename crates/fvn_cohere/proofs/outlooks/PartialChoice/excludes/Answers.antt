@@ -1,6 +1,5 @@
 -- What is sought, and the outlooks that rule it out.
 use Rattle.fvn_terms.specs.Plain.{term}
-use Rattle.fvn_cohere.specs.inner.Searching.{shapes_by}
 use Rattle.fvn_cohere.proofs.Hopeless.{excludes_loss, excludes_variable, excludes_identity}
 use Rattle.fvn_cohere.proofs.outlooks.PartialChoice.excludes.Goals as goal
 

@@ -3,8 +3,7 @@ use Rattle.std.proofs.Common.{◌+◌, drop, sym, ap, ◌∙◌, arith, subst}
 use Rattle.std.specs.List.{list_any, Contains}
 use Rattle.std.proofs.lemmas.List.Elements.{Contains-get_or}
 use Rattle.fvn_terms.specs.Plain.{term}
-use Rattle.fvn_rewriting.specs.declared.shapes.Shape.{Shape}
-use Rattle.fvn_cohere.specs.inner.Searching.{shapes_by, is_met, with_shape, some_choice, choices_for}
+use Rattle.fvn_cohere.specs.inner.Searching.{shapes_by, is_met, with_shape, some_choice}
 use Rattle.fvn_cohere.proofs.Sifting.{last_choice, one_variable}
 use Rattle.fvn_cohere.proofs.Hopeless.{allowed_more, entry_allowed}
 use Rattle.fvn_cohere.proofs.searching.Search.+find.Goals as goal
