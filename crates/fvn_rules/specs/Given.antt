@@ -66,7 +66,7 @@ module _ (d : Declarations) where
       (Contains rules rule × ((rule.equation ≡ before + 1) × IsRenamedRule l r rule))
 
   module _ (lists : RuleLists) (f : OpId) where
-    -- what is needed where f heads a term are given rules whose left sides f heads
+    -- those that are needed where f heads a term are given rules whose left sides f heads
     abbrev pub AreGivenUnder : Type 0
     AreGivenUnder =
         (rule : Rule) → Contains (headed lists f) rule →
