@@ -1,0 +1,1 @@
+-- Lemmas of coherence; the public ones are for callers.
