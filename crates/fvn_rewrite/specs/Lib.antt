@@ -1,0 +1,3 @@
+-- What is promised of steps and normal forms.
+pub mod Normalised
+pub mod inner
