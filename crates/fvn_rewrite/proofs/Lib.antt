@@ -1,1 +1,6 @@
 -- Lemmas on steps and normal forms.
+mod Roots
+mod Placed
+mod Found
+mod Replacing
+mod Reaching

@@ -1,10 +1,10 @@
 //! Rewriting with the rules of a module: one step, and normal forms.
 #![tactic(auto)]
 
-mod normal;
+mod normalising;
 mod root;
-mod step;
-mod walk;
+mod stepping;
+mod walking;
 
-pub use normal::normal;
-pub use step::step;
+pub use normalising::normal;
+pub use stepping::step;

@@ -1,5 +1,5 @@
 -- What comes of trying rules, one after another, at the root of a form.
-use Rattle.std.specs.Prelude.{List, [], ◌∷◌, Option, Some, None, Contains}
+use Rattle.std.specs.Prelude.{List, [], ◌∷◌, Option, Some, None, All, Contains}
 use Rattle.fvn_terms.specs.declared.declarations.Declarations.{Declarations}
 use Rattle.fvn_terms.specs.Substitution.{Substitution, apply}
 use Rattle.fvn_terms.specs.Equality.{BEqual}
@@ -17,11 +17,15 @@ module _ (d : Declarations) where
 
   -- so do those of each rule
   abbrev pub AllSidesFit : List Rule → Type 0
-  AllSidesFit rules = (rule : Rule) → Contains rules rule → SidesFit rule
+  AllSidesFit = All SidesFit
 
-  -- the left side of no rule has the form as an instance
-  abbrev pub NoneMatches : List Rule → FlatTerm → Type 0
-  NoneMatches rules t = (rule : Rule) → Contains rules rule → HasNoMatcher d (rule.left ∷ []) (t ∷ [])
+  -- the left side of the rule has not the form as an instance
+  abbrev pub HasNoMatch : FlatTerm → Rule → Type 0
+  HasNoMatch t rule = HasNoMatcher d (rule.left ∷ []) (t ∷ [])
+
+  -- that of no rule has
+  abbrev pub NoneMatches : FlatTerm → List Rule → Type 0
+  NoneMatches t = All (HasNoMatch t)
 
   -- one well-sorted substitution makes the left side of a rule the first form, modulo the axioms, and its right side the second
   pub record IsGivenBy (rules : List Rule) (t u : FlatTerm) : Type 0 where
@@ -35,5 +39,5 @@ module _ (d : Declarations) where
 
   -- what comes of trying the rules
   abbrev pub TriesAs : List Rule → FlatTerm → Option FlatTerm → Type 0
-  TriesAs rules t None = NoneMatches rules t
+  TriesAs rules t None = NoneMatches t rules
   TriesAs rules t (Some u) = IsGivenBy rules t u

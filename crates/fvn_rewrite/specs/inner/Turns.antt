@@ -3,8 +3,8 @@ use Rattle.std.specs.Prelude.{◌≤◌, ◌<◌, ℕ}
 use Rattle.fvn_terms.specs.declared.declarations.Declarations.{Declarations}
 use Rattle.fvn_terms.specs.Theory.{Equations}
 use Rattle.fvn_forms.specs.Flat.{FlatTerm}
-use Rattle.fvn_rewrite.specs.declared.normal.Turn.{Turn}
-use Rattle.fvn_rewrite.specs.declared.normal.Turn.TheVariants.{Large, Irreducible, Next}
+use Rattle.fvn_rewrite.specs.declared.normalising.Turn.{Turn}
+use Rattle.fvn_rewrite.specs.declared.normalising.Turn.TheVariants.{Large, Irreducible, Next}
 use Rattle.fvn_rewrite.specs.Normalised.{counted, IsNormalForm}
 use Rattle.fvn_rewrite.specs.inner.Walking.{IsNext}
 

@@ -7,7 +7,7 @@ ghost use Rattle.fvn_rules.specs.Given.{AreRules};
 ghost use Rattle.fvn_rewrite.specs.Normalised.{IsNormalised};
 ghost use Rattle.fvn_rewrite.specs.inner.Turns.{TurnAs};
 
-use crate::step::step;
+use crate::stepping::step;
 use fvn_flat::{Flat, Normal};
 use fvn_rules::Rules;
 use fvn_sorts::Signature;
@@ -23,7 +23,7 @@ pub(crate) enum Turn {
 }
 
 // One turn.
-fn turn(
+fn take_turn(
     alloc: Global,
     sig: &Signature,
     rules: &Rules,
@@ -65,14 +65,14 @@ pub fn normal(
 {
     let mut reached = t.copy(alloc)?;
     for _ in 0..steps {
-        let now = turn(alloc, sig, rules, &reached, size)?;
+        let now = take_turn(alloc, sig, rules, &reached, size)?;
         match now {
             Turn::Large => return Ok(Normal::Size(reached)),
             Turn::Irreducible => return Ok(Normal::Form(reached)),
             Turn::Next(u) => reached = u,
         }
     }
-    let last = turn(alloc, sig, rules, &reached, size)?;
+    let last = take_turn(alloc, sig, rules, &reached, size)?;
     match last {
         Turn::Large => Ok(Normal::Size(reached)),
         Turn::Irreducible => Ok(Normal::Form(reached)),

@@ -6,7 +6,7 @@ ghost use Rattle.fvn_coherence.specs.Admissible.{AreAdmissible};
 ghost use Rattle.fvn_rules.specs.Given.{AreRules};
 ghost use Rattle.fvn_rewrite.specs.Normalised.{Steps, IsNormalForm};
 
-use crate::walk::walk;
+use crate::walking::walk;
 use fvn_coherence::rules_are_coherent;
 use fvn_flat::Flat;
 use fvn_rules::Rules;
