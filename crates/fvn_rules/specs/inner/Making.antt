@@ -1,5 +1,5 @@
 -- How rules are made: instances by one variable after another, and a new variable beside both sides.
-use Rattle.std.specs.Prelude.{◌≡◌, ◌×◌, ℕ, true, if◌then◌else◌, List, [], ◌∷◌, ◌++◌, map, fold, filter_map, Contains, Option, Some, None}
+use Rattle.std.specs.Prelude.{◌≡◌, ℕ, true, if◌then◌else◌, List, [], ◌∷◌, ◌++◌, map, fold, filter_map, Contains, Option, Some, None}
 use Rattle.fvn_terms.specs.declared.plain.Var.{Var}
 use Rattle.fvn_terms.specs.declared.plain.OpId.{OpId}
 use Rattle.fvn_terms.specs.declared.declarations.Declarations.{Declarations}
@@ -67,6 +67,12 @@ module _ (d : Declarations) where
   abbrev pub extension_of : Rule → Option Rule
   extension_of rule = extension_under rule (head_of rule.left)
 
+  -- the rule stands for l = r: a renaming of it, of which it is an instance, under the same head
+  pub record StandsFor (l r : FlatTerm) (rule : Rule) : Type 0 where
+    pub renamed : IsRenamedRule d l r rule
+    pub instance : HasInstance d rule l r
+    pub head : head_of rule.left ≡ head_of l
+
   module _ (number : ℕ) (equation : Term × Term) where
     -- the rule is the equation under the substitution, in flat form
     pub record IsUnder (by : Substitution) (rule : Rule) : Type 0 where
@@ -82,12 +88,6 @@ module _ (d : Declarations) where
     pub record AreInstances (rules : List Rule) : Type 0 where
       pub sound : (rule : Rule) → Contains rules rule → (rule.equation ≡ number) × IsIdentityInstance d equation rule.left rule.right
       pub complete : (by : Substitution) → IsIdentityChoice d equation.0 by → (rule : Rule) × (Contains rules rule × IsUnder by rule)
-
-    -- the rule stands for l = r: a renaming of it, of which it is an instance, under the same head
-    pub record StandsFor (l r : FlatTerm) (rule : Rule) : Type 0 where
-      pub renamed : IsRenamedRule d l r rule
-      pub instance : HasInstance d rule l r
-      pub head : head_of rule.left ≡ head_of l
 
     -- all rules of the equation, with its number
     pub record AreRulesFrom (rules : List Rule) : Type 0 where
