@@ -22,5 +22,5 @@ module _ (d : Declarations) (equations : Equations) (t : FlatTerm) where
 
   -- a form without redexes is irreducible, since each step of it is one at a place
   pub found_none : (o : Option FlatTerm) → CoherenceLaws d equations → Fits d t → WalkAs d equations t o → o ≡ None → IsNormalForm d equations t
-  found_none None laws fits h e u r = h u (subst (λ v. StepsAtPlace d equations v u) (canon_plain d t fits.flat) (laws.placed (plain t) u fits.kinded r))
+  found_none None laws fits h e = λ u r. h u (subst (λ v. StepsAtPlace d equations v u) (canon_plain d t fits.flat) (laws.placed (plain t) u fits.kinded r))
   found_none (Some u) laws fits h e = cc

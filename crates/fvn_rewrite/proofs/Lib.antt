@@ -4,3 +4,4 @@ mod Placed
 mod Found
 mod Replacing
 mod Reaching
+mod Ending

@@ -11,7 +11,7 @@ use crate::stepping::step;
 use fvn_flat::{Flat, Normal};
 use fvn_rules::Rules;
 use fvn_sorts::Signature;
-use fvn_terms::NoMemory;
+use fvn_terms::{NoMemory, rewriting_is_lawful};
 use std::alloc::Global;
 
 // What comes of one turn: the form is too large, or irreducible, or one step leads on.
@@ -63,6 +63,7 @@ pub fn normal(
     ensures { IfOk result
         (IsNormalised sig.now (equations_of rules.now.equations) t.now steps size) }
 {
+    rewriting_is_lawful();
     let mut reached = t.copy(alloc)?;
     for _ in 0..steps {
         let now = take_turn(alloc, sig, rules, &reached, size)?;
