@@ -65,21 +65,20 @@ pub fn normal(
 {
     rewriting_is_lawful();
     let mut reached = t.copy(alloc)?;
-    for _ in 0..steps {
+    let mut left = steps;
+    loop {
         let now = take_turn(alloc, sig, rules, &reached, size)?;
         match now {
             Turn::Large => return Ok(Normal::Size(reached)),
             Turn::Irreducible => return Ok(Normal::Form(reached)),
-            Turn::Next(u) => reached = u,
-        }
-    }
-    let last = take_turn(alloc, sig, rules, &reached, size)?;
-    match last {
-        Turn::Large => Ok(Normal::Size(reached)),
-        Turn::Irreducible => Ok(Normal::Form(reached)),
-        Turn::Next(_) => {
-            let start = t.copy(alloc)?;
-            Ok(Normal::Steps(start, reached))
+            Turn::Next(u) => {
+                if left == 0 {
+                    let start = t.copy(alloc)?;
+                    return Ok(Normal::Steps(start, reached));
+                }
+                left -= 1;
+                reached = u;
+            }
         }
     }
 }
