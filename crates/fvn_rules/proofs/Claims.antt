@@ -10,7 +10,9 @@ use Rattle.fvn_base.proofs.Membership.{contains_none, contains_map, map_contains
 use Rattle.fvn_terms.specs.declared.plain.OpId.{OpId}
 use Rattle.fvn_terms.specs.declared.declarations.Rank.{Rank}
 use Rattle.fvn_terms.specs.declared.declarations.Declarations.{Declarations}
-use Rattle.fvn_terms.specs.Term.{Term, app}
+use Rattle.fvn_terms.specs.Term.{Term, var, app}
+use Rattle.fvn_terms.specs.Substitution.{apply}
+use Rattle.fvn_terms.specs.Equality.{two}
 use Rattle.fvn_terms.specs.Signature.{unknown, declared, HasKind}
 use Rattle.fvn_forms.specs.Flat.{FlatTerm, plain}
 use Rattle.fvn_forms.specs.Settled.{Settled}
@@ -51,8 +53,11 @@ kinds_of d equations all sides c =
 module _ (d : Declarations) where
   -- the sides of a rule are flat
   settled_sides : (equation : Term × Term) (l r : FlatTerm) → IsRuleFrom d equation l r → Settled d l × Settled d r
-  settled_sides equation l r (inl i) = (subst (Settled d) (sym i.left) (canon_settled d _), subst (Settled d) (sym i.right) (canon_settled d _))
-  settled_sides equation l r (inr e) = (subst (Settled d) (sym e.left) (canon_settled d _), subst (Settled d) (sym e.right) (canon_settled d _))
+  settled_sides equation l r (inl i) = (subst (Settled d) (sym i.left) (canon_settled d (apply i.by equation.0)), subst (Settled d) (sym i.right) (canon_settled d (apply i.by equation.1)))
+  settled_sides equation l r (inr e) = (
+    subst (Settled d) (sym e.left) (canon_settled d (two e.operator (plain e.inner_left) (var e.beside))),
+    subst (Settled d) (sym e.right) (canon_settled d (two e.operator (plain e.inner_right) (var e.beside))),
+  )
 
   -- an operator that heads a term is one of the signature
   operator_known : (f : OpId) (t : FlatTerm) → Settled d t → head_of t ≡ Some f → (k : _) → HasKind d (plain t) k → f.0 < length d.ops

@@ -51,16 +51,16 @@ filter_map_contains {A} {B} h (a ∷ xs) x y c e = go (h a) refl (filter_map_con
 
 pub contains_filter_map : {A B : Type 0} (h : A → Option B) (xs : List A) (y : B) → Contains (filter_map h xs) y → (x : A) × (Contains xs x × (h x ≡ Some y))
 contains_filter_map h [] y c = absurd (contains_none y c)
-contains_filter_map {A} {B} h (a ∷ xs) y c = go (h a) refl where
+contains_filter_map {A} {B} h (a ∷ xs) y c = go (h a) refl (contains_filter_map h xs y) where
   later : (x : A) × (Contains xs x × (h x ≡ Some y)) → (x : A) × (Contains (a ∷ xs) x × (h x ≡ Some y))
   later w = (w.0, (contains_later a xs w.0 w.1.0, w.1.1))
 
-  go : (o : Option B) → h a ≡ o → (x : A) × (Contains (a ∷ xs) x × (h x ≡ Some y))
-  go None p = later (contains_filter_map h xs y (rw p at c))
-  go (Some z) p = at (contains_cases z (filter_map h xs) y (rw p at c)) where
-    at : (z ≡ y) ⊎ Contains (filter_map h xs) y → (x : A) × (Contains (a ∷ xs) x × (h x ≡ Some y))
-    at (inl q) = (a, (contains_here a xs, p ∙ ap Some q))
-    at (inr i) = later (contains_filter_map h xs y i)
+  go : (o : Option B) → h a ≡ o → (Contains (filter_map h xs) y → (x : A) × (Contains xs x × (h x ≡ Some y))) → (x : A) × (Contains (a ∷ xs) x × (h x ≡ Some y))
+  go None p rest = later (rest (rw p at c))
+  go (Some z) p rest = elim (contains_cases z (filter_map h xs) y (rw p at c)) as (λ _. (x : A) × (Contains (a ∷ xs) x × (h x ≡ Some y))) [
+    | inl q ↦ (a, (contains_here a xs, p ∙ ap Some q))
+    | inr i ↦ later (rest i)
+  ]
 
 module _ (d : Declarations) where
   -- the extension of a rule, by its head

@@ -22,10 +22,8 @@ fn has_instance(alloc: Global, sig: &Signature, rule: &Rule, other: &Rule) -> Re
     let patterns = (from_ref(&rule.left), from_ref(&rule.right));
     let targets = (from_ref(&other.left), from_ref(&other.right));
     let found = matches_both(alloc, sig, patterns, targets)?;
-    match found {
-        Some(_) => Ok(true),
-        None => Ok(false),
-    }
+    let is = found.is_some();
+    Ok(is)
 }
 
 // Whether one of the rules has this one as an instance.
@@ -62,10 +60,11 @@ fn without_instances(
     let mut all = Vec::new(alloc);
     for rule in rules {
         let found = has_instance(alloc, sig, general, rule)?;
-        if !found {
-            let copy = rule.copy(alloc)?;
-            all.push(copy)?;
+        if found {
+            continue;
         }
+        let copy = rule.copy(alloc)?;
+        all.push(copy)?;
     }
     Ok(all)
 }
