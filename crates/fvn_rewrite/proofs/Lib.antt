@@ -5,3 +5,4 @@ mod Found
 mod Replacing
 mod Reaching
 mod Ending
+mod Harmless

@@ -45,10 +45,10 @@ fn take_turn(
     }
 }
 
-/// The normal form that steps lead to, where no more than `steps` are needed and no form on the way has more than `size`
-/// symbols.
+/// The normal form to which at most `steps` steps lead; else what as many steps lead to, or the first form on the way with
+/// over `size` symbols.
 ///
-/// A form is tested for its size before a step is sought, the first one too.
+/// Each form is tested for its size before a step is sought, the first one too.
 pub fn normal(
     alloc: Global,
     sig: &Signature,

@@ -1,5 +1,5 @@
 -- One turn more.
-use Rattle.std.proofs.Common.{◌≡◌, ◌+◌, sym, subst, arith}
+use Rattle.std.proofs.Common.{◌+◌, sym, subst, arith}
 use Rattle.fvn_cohere.specs.Promises.{equations_of}
 use Rattle.fvn_rewrite.specs.Normalised.{IsReached}
 use Rattle.fvn_rewrite.proofs.Reaching.{reached_itself, reached_more}

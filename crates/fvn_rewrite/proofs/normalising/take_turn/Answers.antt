@@ -1,5 +1,5 @@
 -- What a turn finds.
-use Rattle.std.proofs.Common.{sym, ap, ◌∙◌, subst, arith}
+use Rattle.std.proofs.Common.{arith}
 use Rattle.fvn_rewrite.proofs.normalising.take_turn.Goals as goal
 
 pub returns-in-Some : goal.returns-in-Some

@@ -1,16 +1,10 @@
 -- What the walk finds.
 use Rattle.fvn_cohere.specs.Promises.{equations_of}
-use Rattle.fvn_rewrite.proofs.Found.{found_steps, found_fits, found_none}
+use Rattle.fvn_rewrite.proofs.Found.{found_none}
 use Rattle.fvn_rewrite.proofs.stepping.step.Goals as goal
 
 pub walk-requires : goal.walk-requires
 walk-requires c = record { rules = record { rules = c.requires.rules; admissible = c.requires.admissible }; term = c.requires.term }
-
-pub returns-clause-some : goal.returns-clause-some
-returns-clause-some c = found_steps c.args.sig.now (equations_of c.args.rules.now.equations) c.args.t.now c.in_ok-found.found c.in_ok-found.ensures
-
-pub returns-clause-fits : goal.returns-clause-fits
-returns-clause-fits c = found_fits c.args.sig.now (equations_of c.args.rules.now.equations) c.args.t.now c.in_ok-found.found c.in_ok-found.ensures
 
 pub returns-clause-none : goal.returns-clause-none
 returns-clause-none c =
