@@ -4,14 +4,14 @@ use Rattle.std.specs.Prelude.{if◌then◌else◌, fold, All, Some, None}
 use Rattle.std.specs.List.{Contains}
 use Rattle.std.proofs.lemmas.List.{take_more}
 use Rattle.std.proofs.lemmas.List.Sums.{fold_more}
-use Rattle.std.proofs.lemmas.List.Elements.{Contains-append_left, Contains-append_right, Contains-append_cases, Contains-push, Contains-push_cases, Contains-get_or}
+use Rattle.std.proofs.lemmas.List.Elements.{Contains-append_left, Contains-append_right, Contains-append_cases, Contains-push_cases, Contains-get_or}
 use Rattle.fvn_base.proofs.Membership.{contains_here, contains_later, contains_cases, contains_none, contains_map, map_contains}
 use Rattle.fvn_terms.specs.declared.plain.Var.{Var}
 use Rattle.fvn_terms.specs.declared.plain.OpId.{OpId}
 use Rattle.fvn_terms.specs.declared.declarations.Declarations.{Declarations}
 use Rattle.fvn_terms.specs.Term.{Term, var}
 use Rattle.fvn_terms.specs.Substitution.{Substitution, apply, followed_by, same_var, Occurs}
-use Rattle.fvn_terms.specs.Signature.{kind, AtOrBelow}
+use Rattle.fvn_terms.specs.Signature.{kind}
 use Rattle.fvn_terms.specs.Equality.{constant}
 use Rattle.fvn_terms.specs.Sorts.{HasSort}
 use Rattle.fvn_terms.proofs.Substitutions.{apply-apply, apply-var, apply-agree}

@@ -1,10 +1,10 @@
 -- What is promised of the rules, from what was made.
-use Rattle.std.proofs.Common.{◌≡◌, ◌⊎◌, ◌+◌, ◌<◌, ◌≤◌, ℕ, List, [], ◌∷◌, length, map, get_or, Some, None, refl, sym, ap, ◌∙◌, subst, inl, inr, arith}
+use Rattle.std.proofs.Common.{◌≡◌, ◌⊎◌, ◌<◌, ◌≤◌, ℕ, List, [], length, get_or, Some, None, sym, ap, ◌∙◌, subst, inl, inr}
 use Rattle.std.specs.Prelude.{All, slice_get}
 use Rattle.std.specs.List.{Contains}
 use Rattle.std.proofs.lemmas.Bool.{cases_lt}
 use Rattle.std.proofs.lemmas.List.{get_or_past}
-use Rattle.std.proofs.lemmas.List.Elements.{All-contains, Contains-get_or}
+use Rattle.std.proofs.lemmas.List.Elements.{All-contains}
 use Rattle.std.proofs.lemmas.Option.{slice_get-get_or, slice_get_cases}
 use Rattle.fvn_base.proofs.Membership.{contains_none, contains_map, map_contains}
 use Rattle.fvn_terms.specs.declared.plain.OpId.{OpId}
@@ -18,17 +18,17 @@ use Rattle.fvn_forms.specs.Flat.{FlatTerm, plain}
 use Rattle.fvn_forms.specs.Settled.{Settled}
 use Rattle.fvn_forms.proofs.Eval.{canon_settled}
 use Rattle.fvn_flat.specs.Forms.{head_of}
-use Rattle.fvn_flat.specs.Rules.{IsRuleFrom, IsRuleOf}
+use Rattle.fvn_flat.specs.Rules.{IsRuleFrom}
 use Rattle.fvn_module.specs.declared.equation.Equation.{Equation}
 use Rattle.fvn_module.specs.Readable.{IsReadableEquation}
 use Rattle.fvn_cohere.specs.Promises.{sides_of, equations_of}
 use Rattle.fvn_rewriting.specs.Kinds.{HasOneKind, HaveOneKind}
 use Rattle.fvn_rewriting.specs.Laws.{RuleLaws}
 use Rattle.fvn_rules.specs.declared.rule.Rule.{Rule}
-use Rattle.fvn_rules.specs.Given.{RuleLists, headed, HasInstance, IsNumberedRule, AreGivenUnder, AreEnoughUnder, AreRules}
+use Rattle.fvn_rules.specs.Given.{RuleLists, IsNumberedRule, AreGivenUnder, AreEnoughUnder, AreRules}
 use Rattle.fvn_rules.specs.inner.Making.{IsKindedRule}
 use Rattle.fvn_rules.specs.inner.Collecting.{AreRulesUpTo}
-use Rattle.fvn_rules.specs.inner.Heads.{SomeHasInstance, AreNeeded, IsTable}
+use Rattle.fvn_rules.specs.inner.Heads.{IsTable}
 use Rattle.fvn_rules.proofs.General.{HasInstance-trans}
 use Rattle.fvn_rules.proofs.Collecting.{All-contained}
 use Rattle.fvn_rules.proofs.Wide.{head_app}

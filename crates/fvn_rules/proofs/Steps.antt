@@ -1,8 +1,8 @@
 -- Lists that grow by one step of a loop.
-use Rattle.std.proofs.Common.{◌≡◌, ◌<◌, ◌+◌, ℕ, List, [], ◌∷◌, ◌++◌, map, length, take, get_or, Option, Some, None, refl, sym, ap, ◌∙◌, subst}
+use Rattle.std.proofs.Common.{◌≡◌, ◌<◌, ◌+◌, ℕ, List, [], ◌∷◌, ◌++◌, map, length, take, get_or, Option, sym, ap, ◌∙◌, subst}
 use Rattle.std.specs.Prelude.{All, filter_map}
 use Rattle.std.specs.List.{Contains, cons_option}
-use Rattle.std.proofs.lemmas.List.{take_more, map_more, append_assoc, append-nil}
+use Rattle.std.proofs.lemmas.List.{take_more, map_more, append_assoc}
 use Rattle.std.proofs.lemmas.List.Elements.{filter_map-append, Contains-get_or}
 
 module _ {A B : Type 0} where

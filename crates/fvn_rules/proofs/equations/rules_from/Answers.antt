@@ -2,7 +2,6 @@
 use Rattle.std.proofs.Common.{◌++◌, ap, sym, ◌∙◌, subst}
 use Rattle.std.specs.Prelude.{All, filter_map}
 use Rattle.fvn_cohere.specs.Promises.{sides_of}
-use Rattle.fvn_rules.specs.declared.rule.Rule.{Rule}
 use Rattle.fvn_rules.specs.inner.Making.{IsKindedRule, extension_of, AreRulesFrom}
 use Rattle.fvn_rules.proofs.Choosing.{instances_kinded}
 use Rattle.fvn_rules.proofs.Standing.{all_rules}

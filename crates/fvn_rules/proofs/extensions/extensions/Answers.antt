@@ -1,5 +1,5 @@
 -- One extension more, or none.
-use Rattle.std.proofs.Common.{◌≡◌, [], ◌∷◌, ◌++◌, List, Some, None, sym, ap, ◌∙◌}
+use Rattle.std.proofs.Common.{[], ◌++◌, List, sym, ap, ◌∙◌}
 use Rattle.std.specs.List.{cons_option}
 use Rattle.fvn_rules.specs.declared.rule.Rule.{Rule}
 use Rattle.fvn_rules.specs.inner.Making.{IsKindedRule, extension_of}

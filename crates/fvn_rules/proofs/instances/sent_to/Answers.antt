@@ -1,12 +1,11 @@
 -- The constant is a term.
-use Rattle.std.proofs.Common.{◌≡◌, [], ◌∷◌, ◌++◌, sym, ap, ◌∙◌, subst}
+use Rattle.std.proofs.Common.{[], ◌∷◌, ◌++◌, sym, ap, ◌∙◌, subst}
 use Rattle.fvn_terms.specs.Signature.{IsTerm}
 use Rattle.fvn_forms.specs.Flat.{FlatTerm}
 use Rattle.fvn_forms.specs.Canon.{canon}
 use Rattle.fvn_flat.specs.Bindings.{Bindings, BindingsFit}
 use Rattle.fvn_rewriting.proofs.Choosing.{identity_below}
 use Rattle.fvn_rewriting.proofs.Identities.{identity_kind}
-use Rattle.fvn_rules.specs.inner.Making.{goes_to}
 use Rattle.fvn_rules.proofs.Choosing.{goes_fits}
 use Rattle.fvn_rules.proofs.instances.sent_to.Goals as goal
 
