@@ -1,0 +1,8 @@
+-- Lemmas on steps and normal forms.
+mod Roots
+mod Placed
+mod Found
+mod Replacing
+mod Reaching
+mod Ending
+mod Harmless

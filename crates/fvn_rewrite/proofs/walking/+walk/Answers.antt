@@ -1,0 +1,58 @@
+-- One argument more, and the form itself.
+use Rattle.std.proofs.Common.{◌≡◌, ◌<◌, length, All, Some, refl, sym, ◌∙◌, subst, arith}
+use Rattle.std.specs.Prelude.{slice_get}
+use Rattle.std.proofs.lemmas.List.{take_all}
+use Rattle.std.proofs.lemmas.List.Elements.{All-nil, All-more}
+use Rattle.std.proofs.lemmas.Option.{slice_get_read}
+use Rattle.fvn_flat.specs.Fits.{Fits}
+use Rattle.fvn_flat.proofs.Instances.{each_at}
+use Rattle.fvn_flat.proofs.Smaller.{argument_is_smaller}
+use Rattle.fvn_cohere.specs.Promises.{equations_of}
+use Rattle.fvn_rewrite.specs.inner.Walking.{HasNoRedex}
+use Rattle.fvn_rewrite.proofs.Placed.{headless_has_no_redex, walk_as}
+use Rattle.fvn_rewrite.proofs.walking.+walk.Goals as goal
+
+pub walk-requires : goal.walk-requires
+walk-requires t c =
+    let d = c.args.sig.now in
+    let ts = c.args-ts.result.now in (
+      omega (arith, argument_is_smaller c.args.t.now ts c.loop-i.i c.index-ts-i.result c.args-ts.ensures.exact c.loop-i-test.true c.index-ts-i.is),
+      (c.requires.rules, each_at (Fits d) ts (c.args-ts.ensures.fit d c.recall_good.ensures.fits c.requires.term) c.loop-i.i c.index-ts-i.result c.loop-i-test.true c.index-ts-i.is),
+    )
+
+pub with_argument-requires : goal.with_argument-requires
+with_argument-requires t c =
+    let ts = c.args-ts.result.now in
+    let u = c.index-ts-i.result in
+    let i = c.loop-i.i in record {
+      rules = c.requires.rules;
+      term = c.requires.term;
+      head = sym c.head.ensures ∙ c.in-Some.is;
+      within = subst (λ l. i < length l) c.args-ts.ensures.exact c.loop-i-test.true;
+      step = record {
+        argument = u;
+        is = subst (λ l. slice_get l i ≡ Some u) c.args-ts.ensures.exact (slice_get_read ts (length ts) i u refl c.loop-i-test.true c.index-ts-i.is);
+        next = rw c.in-Some-found.is at c.in_ok-found-in-Some.ensures;
+      };
+    }
+
+pub loop-i-init : goal.loop-i-init
+loop-i-init t c = All-nil (HasNoRedex c.args.sig.now (equations_of c.args.rules.now.equations))
+
+pub loop-i-preserved : goal.loop-i-preserved
+loop-i-preserved t c =
+    let P = HasNoRedex c.args.sig.now (equations_of c.args.rules.now.equations) in
+    let here : P c.index-ts-i.result = rw c.in_default.is at c.in_ok-found-in-Some.ensures in
+    All-more P c.args-ts.result.now c.loop-i.i c.index-ts-i.result c.loop-i-test.true c.loop-i.invariant (subst P c.index-ts-i.is here)
+
+pub root_step-requires : goal.root_step-requires
+root_step-requires t c = record { rules = c.requires.rules; term = c.requires.term; head = sym c.head.ensures ∙ c.in-Some.is }
+
+pub returns-in-None : goal.returns-in-None
+returns-in-None t c = headless_has_no_redex c.args.sig.now (equations_of c.args.rules.now.equations) c.args.t.now (sym c.head.ensures ∙ c.in-None.is)
+
+pub returns-in_ok-given-in-Some : goal.returns-in_ok-given-in-Some
+returns-in_ok-given-in-Some t c =
+    let P = HasNoRedex c.args.sig.now (equations_of c.args.rules.now.equations) in
+    walk_as c.args.sig.now (equations_of c.args.rules.now.equations) c.args.t.now c.in_ok-given-in-Some.given c.in_ok-given-in-Some.ensures
+    (subst (All P) (take_all c.loop-i.i c.args-ts.result.now c.loop-i-test.false ∙ c.args-ts.ensures.exact) c.loop-i.invariant)

@@ -1,0 +1,4 @@
+-- What mirrors the code.
+pub mod Trying
+pub mod Walking
+pub mod Turns

@@ -1,0 +1,86 @@
+//! Normal forms.
+ghost use Rattle.std.specs.Prelude.{IfOk};
+ghost use Rattle.fvn_flat.specs.Fits.{Fits};
+ghost use Rattle.fvn_cohere.specs.Promises.{equations_of};
+ghost use Rattle.fvn_coherence.specs.Admissible.{AreAdmissible};
+ghost use Rattle.fvn_rules.specs.Given.{AreRules};
+ghost use Rattle.fvn_rewrite.specs.Normalised.{IsNormalised};
+ghost use Rattle.fvn_rewrite.specs.inner.Turns.{TurnAs};
+
+use crate::stepping::step;
+use fvn_flat::{Flat, Normal};
+use fvn_rules::Rules;
+use fvn_sorts::Signature;
+use fvn_terms::{NoMemory, rewriting_is_lawful};
+use std::alloc::Global;
+
+// What comes of one turn: the form is too large, or irreducible, or one step leads on.
+#[derive(Drop)]
+pub(crate) enum Turn {
+    Large,
+    Irreducible,
+    Next(Flat),
+}
+
+// One turn.
+fn take_turn(
+    alloc: Global,
+    sig: &Signature,
+    rules: &Rules,
+    t: &Flat,
+    size: u64,
+) -> Result<Turn, NoMemory>
+    requires term { Fits sig.now t.now }
+    requires rules { AreRules sig.now rules.now }
+    requires admissible { AreAdmissible sig.now (equations_of rules.now.equations) }
+    ensures { IfOk result (TurnAs sig.now (equations_of rules.now.equations) t.now size) }
+{
+    let large = t.size() > size;
+    if large {
+        return Ok(Turn::Large);
+    }
+    let next = step(alloc, sig, rules, t)?;
+    match next {
+        Some(u) => Ok(Turn::Next(u)),
+        None => Ok(Turn::Irreducible),
+    }
+}
+
+/// The normal form to which at most `steps` steps lead; else what as many steps lead to, or the first form on the way with
+/// over `size` symbols.
+///
+/// Each form is tested for its size before a step is sought, the first one too.
+pub fn normal(
+    alloc: Global,
+    sig: &Signature,
+    rules: &Rules,
+    t: &Flat,
+    steps: u64,
+    size: u64,
+) -> Result<Normal, NoMemory>
+    requires term { Fits sig.now t.now }
+    requires rules { AreRules sig.now rules.now }
+    requires admissible { AreAdmissible sig.now (equations_of rules.now.equations) }
+    ensures { IfOk result
+        (IsNormalised sig.now (equations_of rules.now.equations) t.now steps size) }
+{
+    rewriting_is_lawful();
+    let mut reached = t.copy(alloc)?;
+    let mut left = steps;
+    loop {
+        let now = take_turn(alloc, sig, rules, &reached, size)?;
+        match now {
+            Turn::Large => return Ok(Normal::Size(reached)),
+            Turn::Irreducible => return Ok(Normal::Form(reached)),
+            Turn::Next(u) => {
+                let spent = left == 0;
+                if spent {
+                    let start = t.copy(alloc)?;
+                    return Ok(Normal::Steps(start, reached));
+                }
+                left -= 1;
+                reached = u;
+            }
+        }
+    }
+}

@@ -1,0 +1,59 @@
+//! Steps at the root of a form.
+ghost use Rattle.std.specs.Prelude.{◌≡◌, Some, IfOk};
+ghost use Rattle.fvn_flat.specs.Forms.{head_of};
+ghost use Rattle.fvn_flat.specs.Fits.{Fits};
+ghost use Rattle.fvn_cohere.specs.Promises.{equations_of};
+ghost use Rattle.fvn_rewrite.specs.inner.Trying.{AllSidesFit, TriesAs};
+ghost use Rattle.fvn_rewrite.specs.inner.Walking.{AreUsable, RootAs};
+
+use fvn_coherence::rules_are_coherent;
+use fvn_flat::Flat;
+use fvn_match::matches;
+use fvn_rewriting::rules_are_lawful;
+use fvn_rules::{Rule, Rules};
+use fvn_sorts::Signature;
+use fvn_terms::{NoMemory, OpId};
+use std::alloc::Global;
+use std::slice::from_ref;
+
+// What the first of the rules that matches makes of the form; nothing where none does.
+fn first_match(
+    alloc: Global,
+    sig: &Signature,
+    rules: &[Rule],
+    t: &Flat,
+) -> Result<Option<Flat>, NoMemory>
+    requires rules { AllSidesFit sig.now rules.now }
+    requires term { Fits sig.now t.now }
+    ensures { IfOk result (TriesAs sig.now rules.now t.now) }
+{
+    for rule in rules {
+        let found = matches(alloc, sig, from_ref(&rule.left), from_ref(t))?;
+        if let Some(s) = found {
+            let u = s.apply(alloc, sig, &rule.right)?;
+            return Ok(Some(u));
+        }
+    }
+    Ok(None)
+}
+
+// One step at the root of a form that this operator heads.
+pub(crate) fn root_step(
+    alloc: Global,
+    sig: &Signature,
+    rules: &Rules,
+    f: OpId,
+    t: &Flat,
+) -> Result<Option<Flat>, NoMemory>
+    requires rules { AreUsable sig.now rules.now }
+    requires term { Fits sig.now t.now }
+    requires head { head_of t.now ≡ Some f }
+    ensures { IfOk result (RootAs sig.now (equations_of rules.now.equations) t.now) }
+{
+    sig.recall_good();
+    sig.recall_completed();
+    rules_are_lawful();
+    rules_are_coherent();
+    let given = first_match(alloc, sig, rules.headed(f), t)?;
+    Ok(given)
+}

@@ -1,0 +1,41 @@
+//! One step.
+ghost use Rattle.std.specs.Prelude.{◌≡◌, None, IfOk, IfSome};
+ghost use Rattle.fvn_flat.specs.Fits.{Fits};
+ghost use Rattle.fvn_cohere.specs.Promises.{equations_of};
+ghost use Rattle.fvn_coherence.specs.Admissible.{AreAdmissible};
+ghost use Rattle.fvn_rules.specs.Given.{AreRules};
+ghost use Rattle.fvn_rewrite.specs.Normalised.{Steps, IsNormalForm};
+
+use crate::walking::walk;
+use fvn_coherence::rules_are_coherent;
+use fvn_flat::Flat;
+use fvn_rules::Rules;
+use fvn_sorts::Signature;
+use fvn_terms::NoMemory;
+use std::alloc::Global;
+
+/// A form that one step leads to; nothing where no step leads on, across identities and operators.
+///
+/// Of the places at which a step is possible it takes the first, arguments before the form itself.
+pub fn step(
+    alloc: Global,
+    sig: &Signature,
+    rules: &Rules,
+    t: &Flat,
+) -> Result<Option<Flat>, NoMemory>
+    requires term { Fits sig.now t.now }
+    requires rules { AreRules sig.now rules.now }
+    requires admissible { AreAdmissible sig.now (equations_of rules.now.equations) }
+    ensures some { IfOk result (λ o.
+        IfSome o (Steps sig.now (equations_of rules.now.equations) t.now)) }
+    ensures fits { IfOk result (λ o. IfSome o (Fits sig.now)) }
+    // Nothing is given only where the term is irreducible.
+    ensures none { IfOk result (λ o.
+        o ≡ None → IsNormalForm sig.now (equations_of rules.now.equations) t.now) }
+{
+    sig.recall_good();
+    sig.recall_completed();
+    rules_are_coherent();
+    let found = walk(alloc, sig, rules, t)?;
+    Ok(found)
+}
