@@ -3,16 +3,16 @@ use Rattle.std.proofs.Common.{◌≡◌, true, false, [], None, Some, refl, sym,
 use Rattle.fvn_terms.specs.declared.plain.Var.{Var}
 use Rattle.fvn_terms.specs.declared.plain.OpId.{OpId}
 use Rattle.fvn_terms.specs.declared.declarations.Declarations.{Declarations}
-use Rattle.fvn_terms.specs.Term.{Term, Terms, var}
+use Rattle.fvn_terms.specs.Term.{Term, var}
 use Rattle.fvn_terms.specs.Substitution.{apply}
-use Rattle.fvn_terms.specs.Signature.{axioms, kind, IsTerm, HasKind}
+use Rattle.fvn_terms.specs.Signature.{kind, IsTerm}
 use Rattle.fvn_terms.specs.Places.{AtOnePlace, AmongOnePlace, here as at_term, inside as inside_term, first as first_term, later as later_term, stop}
 use Rattle.fvn_terms.specs.Equality.{constant}
 use Rattle.fvn_terms.specs.Theory.{Equations}
 use Rattle.fvn_terms.specs.Rewriting.{Rewrites, IsIrreducible}
 use Rattle.fvn_terms.specs.Laws.{RewritingLaws}
 use Rattle.fvn_terms.proofs.Equal.{BEqual-sym}
-use Rattle.fvn_forms.specs.Flat.{FlatTerm, FlatTerms, fvar, fapp, fnone, fmore, fconstant, nest, nest_all, plain, plain_all}
+use Rattle.fvn_forms.specs.Flat.{FlatTerm, FlatTerms, fvar, fnone, fmore, nest, nest_all, plain, plain_all}
 use Rattle.fvn_forms.specs.Canon.{identity, canon}
 use Rattle.fvn_forms.specs.Good.{IsGood}
 use Rattle.fvn_forms.specs.Ranks.{result}
@@ -28,8 +28,6 @@ use Rattle.fvn_rewriting.proofs.Identities.{identity_kind}
 use Rattle.fvn_coherence.specs.Admissible.{AreAdmissible}
 use Rattle.fvn_coherence.specs.PlacedSteps.{IsRedex, StepsAtPlace}
 use Rattle.fvn_coherence.specs.Laws.{CoherenceLaws}
-use Rattle.fvn_coherence.proofs.Tight.{IsIdentityForm}
-use Rattle.fvn_coherence.proofs.TightSteps.{StepsTightly}
 use Rattle.fvn_coherence.proofs.ArgumentSteps.{StepsInside}
 use Rattle.fvn_coherence.proofs.InsideSteps.{rule_inside}
 use Rattle.fvn_coherence.proofs.Redexes.{tight_redex}
@@ -75,7 +73,7 @@ module _ (d : Declarations) (good : IsGood d) (completed : IsCompleted d) (equat
   inner_step : (t u : Term) → IsTerm d t → (r : Rewrites d equations t u) → StepsInside d equations (canon d t) (canon d r.to)
   inner_step t u h r =
       subst (λ z. StepsInside d equations z (canon d r.to)) (sym (canon_respects d r.before))
-      (rule_inside d good equations admissible completed kinded r.replaced h.0 (b_equal_keeps_kind d good.fits r.before h.0 h.1))
+      (rule_inside d good equations admissible kinded completed r.replaced h.0 (b_equal_keeps_kind d good.fits r.before h.0 h.1))
 
   placed : (t u : Term) → IsTerm d t → Rewrites d equations t u → StepsAtPlace d equations (canon d t) u
   placed t u h r =

@@ -40,16 +40,17 @@ module _ (d : Declarations) (good : IsGood d) (equations : Equations) (admissibl
     go [] e = subst (λ z. IsIdentityForm d z → ⊥) (sym (sum_with_nothing d f o ho e a ha)) s.no_identity
     go (x ∷ l) e = no_constant d equations (build d f (a ∷ o ∷ [])) (build_joined d f assoc a o some (λ n. let p : [] ≡ x ∷ l = sym n ∙ e in cc))
 
-  module _ (completed : IsCompleted d) (kinded : KindedLaws d equations) where
-    pub step_at_root : (t u : Term) → IsRule d equations t u → StepsInside d equations (canon d t) (canon d u)
-    step_at_root t u r =
-        let i = tight_instance d good completed equations admissible t u r in
-        record { step = whole_step d equations (canon d t) (canon d u) i; no_identity = instance_no_identity d equations admissible (canon d t) (canon d u) i }
+  -- a step of an equation, at the root
+  pub step_at_root : IsCompleted d → (t u : Term) → IsRule d equations t u → StepsInside d equations (canon d t) (canon d u)
+  step_at_root completed t u r =
+      let i = tight_instance d good completed equations admissible t u r in
+      record { step = whole_step d equations (canon d t) (canon d u) i; no_identity = instance_no_identity d equations admissible (canon d t) (canon d u) i }
 
+  module _ (kinded : KindedLaws d equations) where
     -- a step of an equation at one place keeps the kind
     pub rule_keeps : (t u : Term) → AtOnePlace (IsRule d equations) t u → (k : SortId) → HasKind d t k → HasKind d u k
     rule_keeps t u p = kinded.steps t u record { from = t; to = u; before = stop; replaced = p; after = stop }
 
     -- a step of an equation at one place of a well-kinded term
-    pub rule_inside : {t u : Term} → AtOnePlace (IsRule d equations) t u → (k : SortId) → HasKind d t k → StepsInside d equations (canon d t) (canon d u)
-    rule_inside = at_one_place d (StepsInside d equations) good step_unjoined step_beside (IsRule d equations) rule_keeps (λ t u r k h. step_at_root t u r)
+    pub rule_inside : IsCompleted d → {t u : Term} → AtOnePlace (IsRule d equations) t u → (k : SortId) → HasKind d t k → StepsInside d equations (canon d t) (canon d u)
+    rule_inside completed = at_one_place d (StepsInside d equations) good step_unjoined step_beside (IsRule d equations) rule_keeps (λ t u r k h. step_at_root completed t u r)

@@ -1,11 +1,11 @@
 -- A member of a list of flat forms, and what stands around it; sums in which one summand is replaced.
-use Rattle.std.proofs.Common.{◌≡◌, ◌+◌, ◌≤◌, Bool, true, false, List, [], ◌∷◌, ◌++◌, length, refl, sym, ap, ◌∙◌, subst, arith}
+use Rattle.std.proofs.Common.{◌≡◌, ◌+◌, ◌≤◌, Bool, true, false, List, [], ◌∷◌, ◌++◌, refl, sym, ap, ◌∙◌, arith}
 use Rattle.std.specs.List.{AllByRecursion}
 use Rattle.fvn_terms.specs.declared.plain.OpId.{OpId}
 use Rattle.fvn_terms.specs.declared.declarations.Declarations.{Declarations}
 use Rattle.fvn_terms.specs.Signature.{axioms}
 use Rattle.fvn_terms.specs.Equality.{IsAssociative}
-use Rattle.fvn_forms.specs.Flat.{FlatTerm, FlatTerms, fvar, fapp, fnone, fmore, fpack, funpack, plain, plain_all}
+use Rattle.fvn_forms.specs.Flat.{FlatTerm, FlatTerms, fvar, fapp, fpack, funpack, plain, plain_all}
 use Rattle.fvn_forms.specs.Order.{same_flat}
 use Rattle.fvn_forms.specs.InOrder.{one_if, count, SameCounts}
 use Rattle.fvn_forms.specs.Canon.{parts, all_parts, sum, eval_all, canon}

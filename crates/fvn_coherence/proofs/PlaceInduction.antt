@@ -6,7 +6,7 @@ use Rattle.fvn_terms.specs.declared.plain.SortId.{SortId}
 use Rattle.fvn_terms.specs.declared.declarations.Axioms.{Axioms}
 use Rattle.fvn_terms.specs.declared.declarations.Axioms.TheVariants.{Free, Comm, AssocComm, AssocCommId}
 use Rattle.fvn_terms.specs.declared.declarations.Declarations.{Declarations}
-use Rattle.fvn_terms.specs.Term.{Term, Terms, app, more, none}
+use Rattle.fvn_terms.specs.Term.{Term, Terms, app}
 use Rattle.fvn_terms.specs.Signature.{kind, axioms, HasKind, HaveKinds}
 use Rattle.fvn_terms.specs.Places.{AtOnePlace, AmongOnePlace, here, inside, first, later}
 use Rattle.fvn_terms.specs.Equality.{two, IsCommutative, IsAssociative}

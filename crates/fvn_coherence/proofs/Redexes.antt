@@ -1,11 +1,10 @@
 -- Tight instances, alone and beside another summand, are redexes of rules.
-use Rattle.std.proofs.Common.{◌≡◌, ◌⊎◌, ◌≤◌, true, [], ◌∷◌, ◌++◌, length, Some, refl, sym, ap, ◌∙◌, subst, inl, inr, arith}
+use Rattle.std.proofs.Common.{◌≡◌, ◌⊎◌, ◌≤◌, true, [], ◌∷◌, length, Some, refl, sym, ap, ◌∙◌, subst, inl, inr, arith}
 use Rattle.std.proofs.lemmas.List.{length-append}
 use Rattle.fvn_terms.specs.declared.plain.Var.{Var}
 use Rattle.fvn_terms.specs.declared.plain.OpId.{OpId}
-use Rattle.fvn_terms.specs.declared.plain.SortId.{SortId}
 use Rattle.fvn_terms.specs.declared.declarations.Declarations.{Declarations}
-use Rattle.fvn_terms.specs.Term.{Term, Terms, var, app, none, more}
+use Rattle.fvn_terms.specs.Term.{Term, Terms, var, app, none}
 use Rattle.fvn_terms.specs.Substitution.{Substitution, apply, Occurs}
 use Rattle.fvn_terms.specs.Signature.{HasKind}
 use Rattle.fvn_terms.specs.Equality.{two, BEqual}
@@ -14,8 +13,8 @@ use Rattle.fvn_terms.specs.Theory.{Equations}
 use Rattle.fvn_terms.proofs.Substitutions.{apply-agree}
 use Rattle.fvn_terms.proofs.Equal.{HasKind-apply, BEqual-sym}
 use Rattle.fvn_terms.proofs.Occurrences.{occurs_value, BEqual-occurs}
-use Rattle.fvn_forms.specs.Flat.{FlatTerm, FlatTerms, fvar, fapp, fnone, fmore, funpack, plain}
-use Rattle.fvn_forms.specs.Canon.{parts, all_parts, build, canon, inst}
+use Rattle.fvn_forms.specs.Flat.{FlatTerm, FlatTerms, fvar, fapp, fnone, fmore, plain}
+use Rattle.fvn_forms.specs.Canon.{parts, build, canon, inst}
 use Rattle.fvn_forms.specs.Settled.{Settled}
 use Rattle.fvn_forms.specs.Good.{IsGood}
 use Rattle.fvn_forms.proofs.Eval.{canon_plain, eval_apply}
@@ -30,8 +29,8 @@ use Rattle.fvn_rewriting.specs.Laws.{RuleLaws}
 use Rattle.fvn_rewriting.proofs.Collapsing.{keeps}
 use Rattle.fvn_coherence.specs.Admissible.{AreAdmissible}
 use Rattle.fvn_coherence.specs.PlacedSteps.{IsRedex}
-use Rattle.fvn_coherence.proofs.Tight.{parts_joined, head_stays}
-use Rattle.fvn_coherence.proofs.TightSteps.{values, values_settled, IsTightInstance, IsBeside, IsTightRedex, left_settled, beside_associative, left_no_variable, sum_of_two_form, beside_form}
+use Rattle.fvn_coherence.proofs.Tight.{sum_of_two_form, parts_joined, head_stays}
+use Rattle.fvn_coherence.proofs.TightSteps.{values, values_settled, IsTightInstance, IsBeside, IsTightRedex, left_settled, beside_associative, left_no_variable, beside_form}
 use Rattle.fvn_coherence.proofs.Extending.{new_variable, new_in_first, new_in_second, with_value, value_there, value_elsewhere, kind_of_kind, with_value_sorted}
 
 module _ (d : Declarations) (good : IsGood d) (completed : IsCompleted d) (equations : Equations) (admissible : AreAdmissible d equations) (laws : RuleLaws d equations) where
@@ -140,7 +139,7 @@ module _ (d : Declarations) (good : IsGood d) (completed : IsCompleted d) (equat
         let e = ap length (ap (parts d f) b.joined ∙ parts_joined d f b.arguments) in
         let all = length-append (parts d f i.left) (fvar z ∷ []) in
         ap (λ w. head_of (build d f (w ∷ fvar z ∷ []))) (canon_plain d i.left (left_settled d equations b.inner_from b.inner_to i))
-        ∙ ap head_of (sum_of_two_form d equations admissible good f (beside_associative d equations f t u b) i.left (fvar z) (omega arith))
+        ∙ ap head_of (sum_of_two_form d f (beside_associative d equations f t u b) i.left (fvar z) (omega arith))
 
     beside_redex : IsRedex d equations t (plain u)
     beside_redex =
@@ -148,7 +147,7 @@ module _ (d : Declarations) (good : IsGood d) (completed : IsCompleted d) (equat
         let new_left = new_in_side i.equation.0 (new_in_first i.equation.0 i.equation.1 inner_kinds.kind) i.left kinds.left i.instance_of.left in
         let new_right = new_in_side i.equation.1 (new_in_second i.equation.0 i.equation.1 inner_kinds.kind) i.right kinds.right i.instance_of.right in
         redex_of_rule t u (wide i.left) (wide i.right) (i.equation, i.listed, inr extension) f
-        (ap head_of (beside_form d equations admissible good f t u b).1) wide_head by
+        (ap head_of (beside_form d equations f t u b).1) wide_head by
         (with_value_sorted d good i.by z (plain b.other) i.well_sorted (kind_of_kind d good (plain i.left) inner_kinds.kind inner_kinds.left) other_of_kind)
         (b.from ∙ ap (λ w. build d f (w ∷ b.other ∷ [])) i.from ∙ sym (extended_is i.left new_left))
         (b.to ∙ ap (λ w. build d f (w ∷ b.other ∷ [])) i.to ∙ sym (extended_is i.right new_right))

@@ -1,5 +1,5 @@
 -- Steps with sort-decreasing equations keep sorts, where no left side collapses.
-use Rattle.std.proofs.Common.{◌≡◌, ℕ, zero, suc, List, [], ◌∷◌, ◌++◌, map, Option, Some, None, refl, sym, ap, ◌∙◌, subst}
+use Rattle.std.proofs.Common.{◌≡◌, ℕ, zero, suc, List, [], ◌∷◌, ◌++◌, map, Some, None, refl, sym, ap, ◌∙◌, subst}
 use Rattle.std.specs.List.{AllByRecursion, AllZip}
 use Rattle.fvn_terms.specs.declared.plain.OpId.{OpId}
 use Rattle.fvn_terms.specs.declared.plain.SortId.{SortId}
@@ -8,14 +8,14 @@ use Rattle.fvn_terms.specs.declared.declarations.Axioms.TheVariants.{Free, Comm,
 use Rattle.fvn_terms.specs.declared.declarations.Declarations.{Declarations}
 use Rattle.fvn_terms.specs.Term.{Term}
 use Rattle.fvn_terms.specs.Signature.{kind, axioms, AtOrBelow, same, IsTerm, HasKind, HaveKinds}
-use Rattle.fvn_terms.specs.Places.{AtOnePlace, here, stop}
+use Rattle.fvn_terms.specs.Places.{AtOnePlace, here}
 use Rattle.fvn_terms.specs.Equality.{two, IsAssociative, BEqual}
 use Rattle.fvn_terms.specs.Sorts.{HasSort}
 use Rattle.fvn_terms.specs.Theory.{Equations, IsRule}
 use Rattle.fvn_terms.specs.Rewriting.{Rewrites, TermSequence}
 use Rattle.fvn_terms.specs.Laws.{RewritingLaws}
 use Rattle.fvn_terms.proofs.Equal.{BEqual-trans, BEqual-sym}
-use Rattle.fvn_forms.specs.Flat.{FlatTerm, fpack, fconstant, plain, plain_all}
+use Rattle.fvn_forms.specs.Flat.{FlatTerm, fpack, plain, plain_all}
 use Rattle.fvn_forms.specs.Canon.{identity, parts, build, canon}
 use Rattle.fvn_forms.specs.Settled.{Settled}
 use Rattle.fvn_forms.specs.Ranks.{result}
@@ -126,18 +126,18 @@ module _ (d : Declarations) where
       module _ (completed : IsCompleted d) (rewriting : RewritingLaws d equations) (kinded : KindedLaws d equations) (decreasing : AreSortDecreasing d equations) where
         lower_at_root : (t u : Term) → IsRule d equations t u → (k : SortId) → HasKind d t k → StepsLower (canon d t) (canon d u)
         lower_at_root t u r k h =
-            let kept = rule_keeps d good equations admissible completed kinded t u (here r) k h in record {
-              inner = step_at_root d good equations admissible completed kinded t u r;
+            let kept = rule_keeps d good equations admissible kinded t u (here r) k h in record {
+              inner = step_at_root d good equations admissible completed t u r;
               lower = least_sort_below d good u (k, kept) (least_sort d (canon d t)) (rewriting.sorts (λ l m listed. decreasing (l, m) listed) t u r (least_sort d (canon d t)) (has_least_sort d good t (k, h)));
             }
 
         rule_lowers : {t u : Term} → AtOnePlace (IsRule d equations) t u → (k : SortId) → HasKind d t k → StepsLower (canon d t) (canon d u)
-        rule_lowers = at_one_place d StepsLower good lower_unjoined lower_beside (IsRule d equations) (rule_keeps d good equations admissible completed kinded) lower_at_root
+        rule_lowers = at_one_place d StepsLower good lower_unjoined lower_beside (IsRule d equations) (rule_keeps d good equations admissible kinded) lower_at_root
 
         step_keeps_sorts : (t u : Term) → IsTerm d t → Rewrites d equations t u → (s : SortId) → HasSort d t s → HasSort d u s
         step_keeps_sorts t u h r s has =
             let from_kind = b_equal_keeps_kind d good.fits r.before h.0 h.1 in
-            let to_kind = rule_keeps d good equations admissible completed kinded r.from r.to r.replaced h.0 from_kind in
+            let to_kind = rule_keeps d good equations admissible kinded r.from r.to r.replaced h.0 from_kind in
             let low = least_sort_below d good r.from (h.0, from_kind) s (equal_has_sort t r.from r.before s has) in
             equal_has_sort r.to u r.after s ((least_sort_exact d good r.to (h.0, to_kind) s).1 (AtOrBelow-trans d (rule_lowers r.replaced h.0 from_kind).lower low))
 

@@ -1,6 +1,5 @@
 -- A step of one summand is a step of the sum.
-use Rattle.std.proofs.Common.{◌≡◌, ◌⊎◌, ◌+◌, ◌≤◌, Bool, true, false, List, [], ◌∷◌, ◌++◌, length, refl, sym, ap, ◌∙◌, subst, inl, inr, arith}
-use Rattle.std.specs.Prelude.{if◌then◌else◌}
+use Rattle.std.proofs.Common.{◌≡◌, ◌⊎◌, Bool, true, false, List, [], ◌∷◌, ◌++◌, length, refl, sym, ap, ◌∙◌, subst, inl, inr, arith}
 use Rattle.std.specs.List.{AllByRecursion}
 use Rattle.std.proofs.lemmas.List.{length-append, append-nil}
 use Rattle.fvn_terms.specs.declared.plain.OpId.{OpId}
@@ -9,7 +8,7 @@ use Rattle.fvn_terms.specs.declared.declarations.Declarations.{Declarations}
 use Rattle.fvn_terms.specs.Signature.{axioms, HasKind}
 use Rattle.fvn_terms.specs.Equality.{two, IsAssociative}
 use Rattle.fvn_terms.specs.Theory.{Equations}
-use Rattle.fvn_forms.specs.Flat.{FlatTerm, FlatTerms, fvar, fapp, fnone, fmore, fpack, funpack, fconstant, plain}
+use Rattle.fvn_forms.specs.Flat.{FlatTerm, FlatTerms, fvar, fapp, fnone, fmore, fpack, fconstant, plain}
 use Rattle.fvn_forms.specs.InOrder.{sort, count, SameCounts}
 use Rattle.fvn_forms.specs.Canon.{same_op, identity, is_identity, parts, all_parts, sum, build, canon}
 use Rattle.fvn_forms.specs.Settled.{IsPiece, Settled}
@@ -21,9 +20,9 @@ use Rattle.fvn_forms.proofs.Eval.{canon_settled, canon_plain}
 use Rattle.fvn_forms.proofs.ToCanon.{identity_is}
 use Rattle.fvn_flat.specs.FlatPlaces.{IsReplaced, here, inside}
 use Rattle.fvn_coherence.specs.Admissible.{AreAdmissible}
-use Rattle.fvn_coherence.proofs.Tight.{some_length, parts_joined}
+use Rattle.fvn_coherence.proofs.Tight.{some_length, sum_of_two_form, parts_joined}
 use Rattle.fvn_coherence.proofs.Members.{StandsAmong, stands_among, count_around, each_around, replaced_among, replaced_member, count_parts_around, canon_replaced}
-use Rattle.fvn_coherence.proofs.TightSteps.{IsTightRedex, StepsTightly, redex_settled, sum_of_two_form, redex_beside}
+use Rattle.fvn_coherence.proofs.TightSteps.{IsTightRedex, StepsTightly, redex_settled, redex_beside}
 
 module _ (d : Declarations) where
   -- at one place of one summand of t stands u, and v makes a form whose flat form is c
@@ -172,7 +171,7 @@ module _ (d : Declarations) where
             let other = ap length e in
             let n = length-append (parts d f a) (parts d f o ++ []) in
             let m = length-append (parts d f o) [] in
-            let form = sum_of_two_form d equations admissible good f assoc a o (omega arith) in
+            let form = sum_of_two_form d f assoc a o (omega arith) in
             at (part_or_whole f s.at s.given a s.replaced ha some s.replaces) form
           where
             at : ReplacesPart f s.at s.given a (canon d (plain s.replaced)) ⊎ IsWhole f s.at s.given a s.replaced → build d f (a ∷ o ∷ []) ≡ fapp f true (fpack (sort all)) → StepsTightly d equations (build d f (a ∷ o ∷ [])) (build d f (b ∷ o ∷ []))

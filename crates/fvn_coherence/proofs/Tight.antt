@@ -1,5 +1,5 @@
 -- Instances by values that are no identities: their heads stay, and none becomes an identity that was none.
-use Rattle.std.proofs.Common.{◌≡◌, ◌≤◌, Bool, true, false, List, [], ◌∷◌, ◌++◌, length, Option, Some, None, refl, sym, ap, ◌∙◌, subst, inl, inr, arith}
+use Rattle.std.proofs.Common.{◌≡◌, ◌≤◌, true, false, List, [], ◌∷◌, length, Some, None, refl, sym, ap, ◌∙◌, inl, inr, arith}
 use Rattle.std.specs.List.{AllByRecursion}
 use Rattle.std.proofs.lemmas.List.{length-append}
 use Rattle.fvn_terms.specs.declared.plain.Var.{Var}
@@ -16,7 +16,7 @@ use Rattle.fvn_forms.specs.Canon.{as_constant, parts, all_parts, joined, sum, bu
 use Rattle.fvn_forms.specs.Settled.{IsPiece, FitsUnjoined, Settled, SettledAll, SettledValues}
 use Rattle.fvn_forms.proofs.InOrder.{length_sort}
 use Rattle.fvn_forms.proofs.Sums.{funpack-fpack, same_op_itself}
-use Rattle.fvn_forms.proofs.Build.{sort_is_nil, parts_none_iff, build_unjoined_some}
+use Rattle.fvn_forms.proofs.Build.{parts_none_iff, build_sum, build_unjoined_some}
 use Rattle.fvn_forms.proofs.Eval.{eval_nest}
 use Rattle.fvn_forms.proofs.Instances.{inst_settled}
 use Rattle.fvn_forms.proofs.LeastSortOf.{IsIdentityOf}
@@ -41,6 +41,10 @@ module _ (d : Declarations) where
   -- a sum of two or more summands
   pub sum_form : (f : OpId) (l : List FlatTerm) → 2 ≤ length l → sum d f l ≡ fapp f true (fpack (sort l))
   sum_form f l n = let e = length_sort l in joined_form f (sort l) (omega arith)
+
+  -- a sum of two forms with two or more summands together
+  pub sum_of_two_form : (f : OpId) → IsAssociative (axioms d f) → (a o : FlatTerm) → 2 ≤ length (all_parts d f (a ∷ o ∷ [])) → build d f (a ∷ o ∷ []) ≡ fapp f true (fpack (sort (all_parts d f (a ∷ o ∷ []))))
+  sum_of_two_form f assoc a o two = build_sum d f assoc a (o ∷ []) ∙ sum_form f (all_parts d f (a ∷ o ∷ [])) two
 
   -- the summands of a joined sum
   pub parts_joined : (f : OpId) (ts : FlatTerms) → parts d f (fapp f true ts) ≡ funpack ts

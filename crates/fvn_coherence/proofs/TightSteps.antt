@@ -1,5 +1,5 @@
 -- Steps at places of flat forms, by instances of equations under which no variable becomes an identity.
-use Rattle.std.proofs.Common.{◌≡◌, ◌⊎◌, ◌≤◌, true, [], ◌∷◌, ◌++◌, length, None, Some, refl, sym, ap, ◌∙◌, subst, inl, inr, arith}
+use Rattle.std.proofs.Common.{◌≡◌, ◌⊎◌, true, [], ◌∷◌, ◌++◌, length, refl, sym, ap, ◌∙◌, subst, inl, inr, arith}
 use Rattle.std.specs.Prelude.{Contains}
 use Rattle.std.proofs.lemmas.List.{length-append}
 use Rattle.fvn_terms.specs.declared.plain.Var.{Var}
@@ -14,10 +14,10 @@ use Rattle.fvn_terms.specs.Sorts.{IsWellSorted}
 use Rattle.fvn_terms.specs.Theory.{Equations}
 use Rattle.fvn_forms.specs.Flat.{FlatTerm, FlatTerms, fvar, fapp, fpack, plain}
 use Rattle.fvn_forms.specs.InOrder.{sort}
-use Rattle.fvn_forms.specs.Canon.{as_constant, parts, all_parts, build, canon, inst}
+use Rattle.fvn_forms.specs.Canon.{parts, all_parts, build, canon, inst}
 use Rattle.fvn_forms.specs.Settled.{Settled, SettledValues}
 use Rattle.fvn_forms.specs.Good.{IsGood}
-use Rattle.fvn_forms.proofs.Build.{is_constant, build_settled, build_sum, build_shift}
+use Rattle.fvn_forms.proofs.Build.{is_constant, build_settled, build_shift}
 use Rattle.fvn_forms.proofs.Eval.{canon_settled, canon_plain}
 use Rattle.fvn_forms.proofs.KindsKept.{kind_unique, both_of_kind, sum_of_kind}
 use Rattle.fvn_forms.proofs.KindsOfSums.{build_of_kind}
@@ -26,7 +26,7 @@ use Rattle.fvn_forms.proofs.ToCanon.{identity_is}
 use Rattle.fvn_flat.specs.FlatPlaces.{IsReplaced, here}
 use Rattle.fvn_flat.specs.Rules.{IsIdentityInstance}
 use Rattle.fvn_coherence.specs.Admissible.{AreAdmissible}
-use Rattle.fvn_coherence.proofs.Tight.{some_length, IsIdentityForm, sum_form, IsTight, identity_back, joined_back, instance_parts}
+use Rattle.fvn_coherence.proofs.Tight.{IsIdentityForm, sum_of_two_form, IsTight, identity_back, joined_back, instance_parts}
 
 -- the flat forms of the values of a substitution
 abbrev pub values : Declarations → Substitution → Var → FlatTerm
@@ -105,6 +105,15 @@ module _ (d : Declarations) (equations : Equations) where
   pub beside_associative : (f : OpId) (t u : FlatTerm) (b : IsBeside f t u) → IsAssociative (axioms d f)
   beside_associative f t u b = (subst (Settled d) b.joined (left_settled b.inner_from b.inner_to b.inner)).0.associative
 
+  -- what stands beside another summand is a sum
+  pub beside_form : (f : OpId) (t u : FlatTerm) → IsBeside f t u → (ts : FlatTerms) × (t ≡ fapp f true ts)
+  beside_form f t u b =
+      let i = b.inner in
+      let many = instance_parts d (values d i.by) (values_settled d i.by) f b.arguments (subst (Settled d) b.joined (left_settled b.inner_from b.inner_to i)) (subst (IsTight d (values d i.by)) b.joined i.tight) in
+      let same_parts : length (parts d f (inst d (values d i.by) (fapp f true b.arguments))) ≡ length (parts d f b.inner_from) = ap (λ z. length (parts d f z)) (sym (i.from ∙ ap (inst d (values d i.by)) b.joined)) in
+      let all = length-append (parts d f b.inner_from) (parts d f b.other ++ []) in
+      (fpack (sort (all_parts d f (b.inner_from ∷ b.other ∷ []))), b.from ∙ sum_of_two_form d f (beside_associative f t u b) b.inner_from b.other (omega arith))
+
   module _ (admissible : AreAdmissible d equations) where
     -- and no variable
     pub left_no_variable : (t u : FlatTerm) (i : IsTightInstance t u) → (x : Var) → i.left ≡ fvar x → ⊥
@@ -122,19 +131,6 @@ module _ (d : Declarations) (equations : Equations) where
     instance_joined f ts t u i e = joined_back d (values d i.by) (values_settled d i.by) f ts i.left (left_settled t u i) i.tight (sym i.from ∙ e) (left_no_variable t u i)
 
     module _ (good : IsGood d) where
-      -- two summands of which one is joined already
-      pub sum_of_two_form : (f : OpId) → IsAssociative (axioms d f) → (a o : FlatTerm) → 2 ≤ length (all_parts d f (a ∷ o ∷ [])) → build d f (a ∷ o ∷ []) ≡ fapp f true (fpack (sort (all_parts d f (a ∷ o ∷ []))))
-      sum_of_two_form f assoc a o two = build_sum d f assoc a (o ∷ []) ∙ sum_form d f (all_parts d f (a ∷ o ∷ [])) two
-
-      -- what stands beside another summand is a sum
-      pub beside_form : (f : OpId) (t u : FlatTerm) → IsBeside f t u → (ts : FlatTerms) × (t ≡ fapp f true ts)
-      beside_form f t u b =
-          let i = b.inner in
-          let many = instance_parts d (values d i.by) (values_settled d i.by) f b.arguments (subst (Settled d) b.joined (left_settled b.inner_from b.inner_to i)) (subst (IsTight d (values d i.by)) b.joined i.tight) in
-          let same_parts : length (parts d f (inst d (values d i.by) (fapp f true b.arguments))) ≡ length (parts d f b.inner_from) = ap (λ z. length (parts d f z)) (sym (i.from ∙ ap (inst d (values d i.by)) b.joined)) in
-          let all = length-append (parts d f b.inner_from) (parts d f b.other ++ []) in
-          (fpack (sort (all_parts d f (b.inner_from ∷ b.other ∷ []))), b.from ∙ sum_of_two_form f (beside_associative f t u b) b.inner_from b.other (omega arith))
-
       -- beside one more summand
       beside_more : (f : OpId) (t u o : FlatTerm) (k : SortId) → IsBeside f t u → Settled d o → HasKind d (two f (plain t) (plain o)) k → IsBeside f (build d f (t ∷ o ∷ [])) (build d f (u ∷ o ∷ []))
       beside_more f t u o k b settled of_kind =

@@ -1,12 +1,12 @@
 -- An instance of an equation is a tight instance of one of its identity instances: where a value is an identity, that is chosen.
-use Rattle.std.proofs.Common.{◌≡◌, ◌⊎◌, Bool, true, false, [], ◌∷◌, Option, Some, None, refl, sym, ap, ◌∙◌, subst, inl, inr}
+use Rattle.std.proofs.Common.{◌≡◌, ◌⊎◌, Bool, true, false, Option, Some, None, refl, sym, ap, ◌∙◌, subst, inl, inr}
 use Rattle.std.specs.Prelude.{if◌then◌else◌, Contains}
 use Rattle.fvn_terms.specs.declared.plain.Var.{Var}
 use Rattle.fvn_terms.specs.declared.plain.OpId.{OpId}
 use Rattle.fvn_terms.specs.declared.declarations.Declarations.{Declarations}
 use Rattle.fvn_terms.specs.Term.{Term, var}
 use Rattle.fvn_terms.specs.Substitution.{Substitution, apply, Occurs}
-use Rattle.fvn_terms.specs.Signature.{axioms, kind, HasKind}
+use Rattle.fvn_terms.specs.Signature.{axioms, kind}
 use Rattle.fvn_terms.specs.Equality.{constant, BEqual}
 use Rattle.fvn_terms.specs.Sorts.{HasSort, IsWellSorted}
 use Rattle.fvn_terms.specs.Theory.{Equations, IsRule}
