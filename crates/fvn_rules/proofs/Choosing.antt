@@ -1,8 +1,8 @@
 -- Identity instances, by one variable after another.
-use Rattle.std.proofs.Common.{◌≡◌, ◌⊎◌, ℕ, Bool, true, false, List, [], ◌∷◌, ◌++◌, map, refl, sym, ap, ◌∙◌, subst, inl, inr}
-use Rattle.std.specs.Prelude.{if◌then◌else◌, fold, Some, None}
+use Rattle.std.proofs.Common.{◌≡◌, ◌⊎◌, ℕ, Bool, true, false, List, [], ◌∷◌, ◌++◌, map, get_or, refl, sym, ap, ◌∙◌, subst, inl, inr}
+use Rattle.std.specs.Prelude.{if◌then◌else◌, fold, All, Some, None}
 use Rattle.std.specs.List.{Contains}
-use Rattle.std.proofs.lemmas.List.Elements.{Contains-append_left, Contains-append_right, Contains-append_cases, Contains-push, Contains-push_cases}
+use Rattle.std.proofs.lemmas.List.Elements.{Contains-append_left, Contains-append_right, Contains-append_cases, Contains-push, Contains-push_cases, Contains-get_or}
 use Rattle.fvn_base.proofs.Membership.{contains_here, contains_later, contains_cases, contains_none, contains_map, map_contains}
 use Rattle.fvn_terms.specs.declared.plain.Var.{Var}
 use Rattle.fvn_terms.specs.declared.plain.OpId.{OpId}
@@ -106,14 +106,26 @@ module _ (d : Declarations) where
             right = subst (Settled d) (sym i.right) (canon_settled d (apply i.by equation.1));
           }
 
+      pub over_kinded : (vars : List Var) (rules : List Rule) → AreInstancesOver d number equation vars rules → All (IsKindedRule d) rules
+      over_kinded vars rules over k e lt = let rule = get_or rules k e in instance_kinded rule (over.sound rule (Contains-get_or rules k e lt)).1
+
+      pub instances_kinded : (rules : List Rule) → AreInstances d number equation rules → All (IsKindedRule d) rules
+      instances_kinded rules all k e lt = let rule = get_or rules k e in instance_kinded rule (all.sound rule (Contains-get_or rules k e lt)).1
+
       -- without a choice
       pub first_instance : (rule : Rule) → rule.equation ≡ number → rule.left ≡ canon d equation.0 → rule.right ≡ canon d equation.1 → AreInstancesOver d number equation [] (rule ∷ [])
       first_instance rule n l r = record {
         sound = λ u c. subst (λ (v : Rule). (v.equation ≡ number) × IsIdentityInstance d equation v.left v.right) (only_one u c) (n, record { by = var; choice = λ x. inl refl; left = l ∙ ap (canon d) (sym (apply-var equation.0)); right = r ∙ ap (canon d) (sym (apply-var equation.1)) });
-        complete = λ by choice stays. (rule, (contains_here rule [], record {
-          left = l ∙ ap (canon d) (unmoved by stays equation.0);
-          right = r ∙ ap (canon d) (unmoved by stays equation.1);
-        }));
+        complete = λ by choice stays. (
+          rule,
+          (
+            contains_here rule [],
+            record {
+              left = l ∙ ap (canon d) (unmoved by stays equation.0);
+              right = r ∙ ap (canon d) (unmoved by stays equation.1);
+            },
+          ),
+        );
       }
         where
           only_one : (u : Rule) → Contains (rule ∷ []) u → rule ≡ u
@@ -184,9 +196,9 @@ module _ (d : Declarations) where
           not_itself y p e = let q : same_var x y ≡ true = subst (λ z. same_var x z ≡ true) e (same_var_itself x) in cc
 
           but_stays : (y : Var) → (Contains vars y → ⊥) → but y ≡ var y
-          but_stays y no = go (same_var x y) refl where
+          but_stays y not_listed = go (same_var x y) refl where
             none : same_var x y ≡ false → Contains vars y ⊎ (x ≡ y) → ⊥
-            none p (inl i) = no i
+            none p (inl i) = not_listed i
             none p (inr e) = not_itself y p e
 
             go : (b : Bool) → same_var x y ≡ b → but y ≡ var y
@@ -195,7 +207,7 @@ module _ (d : Declarations) where
 
           whole : (rule : Rule) × (Contains (with_choices d rules x) rule × IsUnder d number equation by rule)
           whole = go (choice x) where
-            abbrev old : (rule : Rule) × (Contains rules rule × IsUnder d number equation but rule)
+            old : (rule : Rule) × (Contains rules rule × IsUnder d number equation but rule)
             old = over.complete but but_choice but_stays
 
             same : by x ≡ var x → (y : Var) → but y ≡ by y
@@ -222,14 +234,15 @@ module _ (d : Declarations) where
                 let e = g.operator in
                 let low = least_sort_below d good (constant e) (kind d (result d e []), identity_kind d good completed e g.identity) x.sort g.sorted in
                 let c = below_identity d good completed e x.sort (identity_listed d g.identity.0 e g.identity.1) low in
-                let u = old.1.1 in
-                (
-                instance_by d (goes_to x e) old.0,
-                (Contains-append_right rules (by_identities d x rules (identities_below d x.sort)) (instance_by d (goes_to x e) old.0) (made_by x rules (identities_below d x.sort) [] e old.0 c old.1.0),
-                record {
-                  left = then_canon e c but equation.0 old.0.left u.left ∙ ap (canon d) (apply-agree (followed_by but (sub e c)) by equation.0 (λ y o. goes e c g.is y));
-                  right = then_canon e c but equation.1 old.0.right u.right ∙ ap (canon d) (apply-agree (followed_by but (sub e c)) by equation.1 (λ y o. goes e c g.is y));
-                }),
+                let u = old.1.1 in (
+                  instance_by d (goes_to x e) old.0,
+                  (
+                    Contains-append_right rules (by_identities d x rules (identities_below d x.sort)) (instance_by d (goes_to x e) old.0) (made_by x rules (identities_below d x.sort) [] e old.0 c old.1.0),
+                    record {
+                      left = then_canon e c but equation.0 old.0.left u.left ∙ ap (canon d) (apply-agree (followed_by but (sub e c)) by equation.0 (λ y o. goes e c g.is y));
+                      right = then_canon e c but equation.1 old.0.right u.right ∙ ap (canon d) (apply-agree (followed_by but (sub e c)) by equation.1 (λ y o. goes e c g.is y));
+                    },
+                  ),
                 )
 
             go : (by x ≡ var x) ⊎ (Occurs x equation.0 × GoesToIdentity d by x) → (rule : Rule) × (Contains (with_choices d rules x) rule × IsUnder d number equation by rule)
@@ -245,8 +258,8 @@ module _ (d : Declarations) where
 
       -- with all variables of the left side
       pub all_choices : (rules : List Rule) → AreInstancesOver d number equation (distinct_variables_of equation.0) rules → AreInstances d number equation rules
-      all_choices rules over = record { sound = over.sound; complete = λ by choice. over.complete by choice (λ x no. go by x no (choice x)) }
+      all_choices rules over = record { sound = over.sound; complete = λ by choice. over.complete by choice (λ x not_listed. go by x not_listed (choice x)) }
         where
           go : (by : Substitution) (x : Var) → (Contains (distinct_variables_of equation.0) x → ⊥) → (by x ≡ var x) ⊎ (Occurs x equation.0 × GoesToIdentity d by x) → by x ≡ var x
-          go by x no (inl p) = p
-          go by x no (inr w) = absurd (no (distinct_listed equation.0 x w.0))
+          go by x not_listed (inl p) = p
+          go by x not_listed (inr w) = absurd (not_listed (distinct_listed equation.0 x w.0))

@@ -1,8 +1,10 @@
 -- The lemmas of the crate.
+mod Steps
 mod General
 mod Choosing
 mod Wide
 mod Standing
 mod Collecting
 mod Needed
+mod Matched
 mod Claims

@@ -103,11 +103,11 @@ module _ (d : Declarations) where
 
       -- one more that f does not head
       pub needed_same : (head_of r.left ≡ Some f → ⊥) → AreNeeded d f (rules ++ r ∷ []) needed
-      needed_same no = record {
+      needed_same other = record {
         given = λ rule c. let g = old.given rule c in (Contains-append_left rules (r ∷ []) rule g.0, g.1);
         enough = λ rule c g. elim (Contains-push_cases rules r rule c) as (λ _. SomeHasInstance d needed rule) [
           | inl i ↦ old.enough rule i g
-          | inr e ↦ absurd (no (subst (λ (v : Rule). head_of v.left ≡ Some f) (sym e) g))
+          | inr e ↦ absurd (other (subst (λ (v : Rule). head_of v.left ≡ Some f) (sym e) g))
         ];
       }
 
@@ -137,3 +137,7 @@ module _ (d : Declarations) where
           let same : f ≡ g = (λ i. record { 0 = (is ∙ sym e) i }) in
           let at : get_or (table ++ needed ∷ []) g.0 [] ≡ needed = get_or_push table needed [] g.0 (old.all ∙ sym e) in
           subst (AreNeeded d g rules) (sym at) (subst (λ o. AreNeeded d o rules needed) same new)
+
+  -- a table for all operators
+  pub whole_table : (rules : List Rule) (n : ℕ) (table : List (List Rule)) → n ≡ length d.ops → IsTableUpTo rules n table → IsTable d rules table
+  whole_table rules n table e h = record { all = h.all ∙ e; needed = λ f lt. h.needed f (subst (λ k. f.0 < k) (sym e) lt) }

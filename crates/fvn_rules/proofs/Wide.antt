@@ -83,7 +83,7 @@ module _ (d : Declarations) where
 
   -- a variable that does not occur may be another
   fixed : (x z : Var) (t : FlatTerm) → Settled d t → (Occurs x (plain t) → ⊥) → inst d (λ y. fvar (swapped x z y)) t ≡ t
-  fixed x z t h no =
+  fixed x z t h apart =
       sym (eval_apply d fvar (λ y. var (swapped x z y)) (plain t))
       ∙ ap (canon d) (apply-agree (λ y. var (swapped x z y)) var (plain t) same ∙ apply-var (plain t))
       ∙ canon_plain d t h
@@ -91,19 +91,16 @@ module _ (d : Declarations) where
       same : (y : Var) → Occurs y (plain t) → var (swapped x z y) ≡ var y
       same y o = go (same_var x y) refl where
         go : (b : Bool) → same_var x y ≡ b → var (swapped x z y) ≡ var y
-        go true p = absurd (no (subst (λ v. Occurs v (plain t)) (sym (same_var_is x y p)) o))
+        go true p = absurd (apart (subst (λ v. Occurs v (plain t)) (sym (same_var_is x y p)) o))
         go false p = ap (λ b. var (swapped_if z b y)) p
 
   -- another variable beside the same form
   pub renamed_beside : (f : OpId) (x z : Var) (t : FlatTerm) → Settled d t → (Occurs x (plain t) → ⊥) → renamed_form d (swapped x z) (beside d f x t) ≡ beside d f z t
-  renamed_beside f x z t h no =
+  renamed_beside f x z t h apart =
       eval_apply d fvar (λ y. var (swapped x z y)) (plain (beside d f x t))
       ∙ inst_build d (λ y. fvar (swapped x z y)) (λ y. tt) f (t ∷ fvar x ∷ []) (h, (tt, tt))
-      ∙ ap (λ u. beside_forms u (swapped x z x)) (fixed x z t h no)
-      ∙ ap (λ b. beside_forms t (swapped_if z b x)) (same_var_itself x)
-    where
-      abbrev beside_forms : FlatTerm → Var → FlatTerm
-      beside_forms u v = beside d f v u
+      ∙ ap (beside d f (swapped x z x)) (fixed x z t h apart)
+      ∙ ap (λ b. beside d f (swapped_if z b x) t) (same_var_itself x)
 
   module _ (good : IsGood d) where
     -- the sort of a new variable

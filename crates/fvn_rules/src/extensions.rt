@@ -1,5 +1,6 @@
 //! Extensions: a new variable beside both sides of a rule whose left side is headed by an associative operator.
-ghost use Rattle.std.specs.Prelude.{◌≡◌, true, [], ◌∷◌, filter_map, Some, All, IfOk};
+ghost use Rattle.std.specs.Prelude.{◌≡◌, true, [], ◌∷◌, ◌++◌, filter_map, Some, All, IfOk};
+ghost use Rattle.std.specs.List.{cons_option};
 ghost use Rattle.fvn_terms.specs.Signature.{axioms};
 ghost use Rattle.fvn_flat.specs.Fits.{Fits, AllFit, Takes};
 ghost use Rattle.fvn_flat.specs.Forms.{head_of};
@@ -88,6 +89,20 @@ fn extension(alloc: Global, sig: &Signature, rule: &Rule) -> Result<Option<Rule>
     }
 }
 
+// The rules with one more, if there is one.
+fn with_one(rules: Vec<Rule>, more: Option<Rule>) -> Result<Vec<Rule>, NoMemory>
+    ensures { IfOk result (λ all. all.items ≡ rules.items ++ cons_option more []) }
+{
+    let mut all = rules;
+    match more {
+        None => Ok(all),
+        Some(r) => {
+            all.push(r)?;
+            Ok(all)
+        }
+    }
+}
+
 // The extensions of rules.
 pub(crate) fn extensions(
     alloc: Global,
@@ -100,9 +115,7 @@ pub(crate) fn extensions(
     let mut all = Vec::new(alloc);
     for rule in rules {
         let wide = extension(alloc, sig, rule)?;
-        if let Some(r) = wide {
-            all.push(r)?;
-        }
+        all = with_one(all, wide)?;
     }
     Ok(all)
 }

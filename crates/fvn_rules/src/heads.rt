@@ -62,10 +62,11 @@ fn without_instances(
     let mut all = Vec::new(alloc);
     for rule in rules {
         let found = has_instance(alloc, sig, general, rule)?;
-        if !found {
-            let copy = rule.copy(alloc)?;
-            all.push(copy)?;
+        if found {
+            continue;
         }
+        let copy = rule.copy(alloc)?;
+        all.push(copy)?;
     }
     Ok(all)
 }

@@ -1,5 +1,7 @@
 //! Identity instances of an equation.
 ghost use Rattle.std.specs.Prelude.{◌≡◌, ◌++◌, [], map, All, Contains, IfOk};
+ghost use Rattle.fvn_terms.specs.Plain.{term};
+ghost use Rattle.fvn_terms.specs.Equality.{constant};
 ghost use Rattle.fvn_flat.specs.Bindings.{BindingsFit};
 ghost use Rattle.fvn_rewriting.specs.Kinds.{HasOneKind};
 ghost use Rattle.fvn_rewriting.specs.Identities.{identities};
@@ -15,6 +17,13 @@ use fvn_sorts::Signature;
 use fvn_terms::{Args, NoMemory, OpId, Plain, Var};
 use std::alloc::Global;
 
+// The constant as a term.
+fn constant(alloc: Global, e: OpId) -> Plain
+    ensures { term result ≡ constant e }
+{
+    Plain::App(e, Args::from_vec(Vec::new(alloc)))
+}
+
 // The substitution that sends a variable to an identity at or below its sort.
 fn sent_to(alloc: Global, sig: &Signature, x: Var, e: OpId) -> Result<Subst, NoMemory>
     requires { Contains (identities_below sig.now x.sort) e }
@@ -23,8 +32,8 @@ fn sent_to(alloc: Global, sig: &Signature, x: Var, e: OpId) -> Result<Subst, NoM
 {
     sig.recall_good();
     sig.recall_completed();
-    let constant = Plain::App(e, Args::from_vec(Vec::new(alloc)));
-    let form = flatten(alloc, sig, &constant)?;
+    let t = constant(alloc, e);
+    let form = flatten(alloc, sig, &t)?;
     let s = Subst::empty(alloc).bind(alloc, x, &form)?;
     Ok(s)
 }
@@ -113,6 +122,8 @@ fn itself(
     requires { HasOneKind sig.now (sides_of e.now) }
     ensures { IfOk result (λ all. AreInstancesOver sig.now number (sides_of e.now) [] all.items) }
 {
+    sig.recall_good();
+    sig.recall_completed();
     let left = flatten(alloc, sig, &e.left)?;
     let right = flatten(alloc, sig, &e.right)?;
     let mut all = Vec::new(alloc);
