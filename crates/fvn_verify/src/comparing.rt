@@ -15,7 +15,7 @@ use fvn_rewrite::normal;
 use fvn_rewriting::{kinded_theories_are_lawful, sequences_are_lawful};
 use fvn_rules::Rules;
 use fvn_sorts::Signature;
-use fvn_terms::{NoMemory, Plain, PlainSubst};
+use fvn_terms::{NoMemory, Plain, PlainSubst, rewriting_is_lawful, theory_equality_is_lawful};
 use std::alloc::Global;
 
 /// What comes of the two sides of a pair.
@@ -75,6 +75,8 @@ fn difference(
     signature.recall_good();
     equality_is_that_of_flat_forms();
     kinded_theories_are_lawful();
+    rewriting_is_lawful();
+    theory_equality_is_lawful();
     if left.same(&right) {
         None
     } else {

@@ -1,6 +1,6 @@
--- Of pairs there is one verdict at most.
-use Rattle.fvn_verify.proofs.OneVerdict.{one-verdict}
-use Rattle.fvn_verify.proofs.laws.verdicts_are_determined.Goals as goal
+-- Verdicts agree where the equations are confluent.
+use Rattle.fvn_verify.proofs.Agreeing.{verdicts-agree}
+use Rattle.fvn_verify.proofs.laws.verdicts_agree.Goals as goal
 
 pub returns : goal.returns
-returns c = one-verdict
+returns c = verdicts-agree c.rewriting_is_lawful.ensures c.theory_equality_is_lawful.ensures

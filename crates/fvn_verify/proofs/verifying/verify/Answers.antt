@@ -6,6 +6,9 @@ use Rattle.fvn_problems.specs.Problems.{AreOfOneKind}
 use Rattle.fvn_verify.specs.inner.Comparing.{AreKinded}
 use Rattle.fvn_verify.proofs.verifying.verify.Goals as goal
 
+pub verify_pairs-requires-clause-rules : goal.verify_pairs-requires-clause-rules
+verify_pairs-requires-clause-rules c = record { rules = c.requires.rules; admissible = c.requires.admissible }
+
 pub verify_pairs-requires-clause-kinded : goal.verify_pairs-requires-clause-kinded
 verify_pairs-requires-clause-kinded c =
     subst (All (AreKinded c.args.signature.now)) (sym c.as_slice.ensures)
