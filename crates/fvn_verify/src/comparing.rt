@@ -110,7 +110,7 @@ fn compare_right(
             signature, rules, bindings, pair, steps, size, left, form,
         ))),
         Normal::Steps(start, end) => Ok(Compared::Ended(Verdict::Steps(start, end))),
-        Normal::Size(form) => Ok(Compared::Ended(Verdict::Size(form))),
+        Normal::Size(large) => Ok(Compared::Ended(Verdict::Size(large))),
     }
 }
 
