@@ -1,5 +1,5 @@
 -- How the steps of `check` and `verify` make replies.
-use Rattle.std.proofs.Common.{◌≡◌, ℕ, List, [], ◌∷◌, slice_get, Some, refl, sym, ap, ◌∙◌, subst}
+use Rattle.std.proofs.Common.{◌≡◌, ℕ, List, [], ◌∷◌, ◌++◌, slice_get, Option, Some, Result, Ok, Err, IfOk, refl, sym, ap, ◌∙◌, subst}
 use Rattle.fvn_base.proofs.Options.{Some-injective}
 use Rattle.fvn_base.specs.declared.limits.TheConstants.{TERM_SYMBOLS}
 use Rattle.fvn_terms.specs.declared.declarations.Declarations.{Declarations}
@@ -8,8 +8,8 @@ use Rattle.fvn_syntax.specs.declared.names.Names.{Names}
 use Rattle.fvn_module.specs.declared.equation.Equation.{Equation}
 use Rattle.fvn_module.specs.declared.fault.ModuleFault.{ModuleFault}
 use Rattle.fvn_module.specs.Contents.{Contents}
-use Rattle.fvn_module.specs.ModuleText.{IsModule}
-use Rattle.fvn_module.specs.Refusals.{Refuses}
+use Rattle.fvn_loading.specs.Loading.{IsLoaded, IsLoadFault}
+use Rattle.fvn_loading.specs.Losses.{IsLossOf}
 use Rattle.fvn_problems.specs.declared.fault.ProblemFault.{ProblemFault}
 use Rattle.fvn_problems.specs.declared.problem.Problem.{Problem}
 use Rattle.fvn_problems.specs.declared.bindings.Bindings.{Bindings}
@@ -17,23 +17,44 @@ use Rattle.fvn_problems.specs.Problems.{IsProblem, RefusesProblem}
 use Rattle.fvn_problems.specs.Bindings.{IsBindings, RefusesBindings}
 use Rattle.fvn_verify.specs.declared.verdict.Verdict.{Verdict}
 use Rattle.fvn_verify.specs.Verdicts.{IsVerdict}
-use Rattle.fvn_reply.specs.Summaries.{summary_text}
+use Rattle.fvn_reply.specs.Summaries.{summary_text, sorts_text}
 use Rattle.fvn_commands.specs.declared.status.Status.{Status}
 use Rattle.fvn_commands.specs.declared.status.Status.TheVariants.{Solved, ModuleRefused, ProblemRefused}
-use Rattle.fvn_commands.specs.Texts.{line}
-use Rattle.fvn_commands.specs.Checks.{IsRefusalLine, IsCheckReply, refused, summed}
+use Rattle.fvn_commands.specs.declared.answer.Answer.{Answer}
+use Rattle.fvn_commands.specs.Texts.{line, bytes_of}
+use Rattle.fvn_commands.specs.Checks.{IsRefusalLine, TellsSorts, IsCheckReply, refused, told}
 use Rattle.fvn_commands.specs.Verifying.{later_line, status_of_verdict, verdict_line, IsProblemRefusalLine, IsVerifyReply, module_refused, later, problem_refused, bindings_refused, verified}
 use Rattle.fvn_commands.specs.inner.Steps.{RepliesToProblem, RepliesToBindings, RepliesIn}
 
-pub summed_reply : (bytes : List ℕ) (m : Contents) → IsModule bytes m → (s : Status) (t text : List ℕ) → s ≡ Solved → t ≡ line text → text ≡ summary_text m → IsCheckReply bytes s t
-summed_reply bytes m h s t text e is told = subst (λ x. IsCheckReply bytes x t) (sym e) (summed m h (is ∙ ap line told))
+-- the lines on a module
+pub tells_sorts : (m : Contents) (loss : Option ℕ) → IsLossOf m loss → (summary sorts : List ℕ) → summary ≡ summary_text m → sorts ≡ sorts_text loss →
+    (s : Status) (t : List ℕ) → s ≡ Solved → t ≡ line summary ++ line sorts → TellsSorts m s t
+tells_sorts m loss h summary sorts a b s t e is =
+    record {
+      loss = loss;
+      loss_is = h;
+      told = (e, is ∙ ap (λ x. line x ++ line sorts) a ∙ ap (λ x. line (summary_text m) ++ line x) b);
+    }
 
-pub refused_reply : (bytes : List ℕ) (fault : ModuleFault) → Refuses bytes fault → (s : Status) (t : List ℕ) → s ≡ ModuleRefused → IsRefusalLine fault t → IsCheckReply bytes s t
-refused_reply bytes fault h s t e is = subst (λ x. IsCheckReply bytes x t) (sym e) (refused (record { fault = fault; first = h; line_of = is }))
+-- what the calls leave, where memory is not refused
 
-pub refused_module : (bytes problem bindings : List ℕ) (fault : ModuleFault) → Refuses bytes fault → (s : Status) (t : List ℕ) → s ≡ ModuleRefused → IsRefusalLine fault t → IsVerifyReply bytes problem bindings s t
-refused_module bytes problem bindings fault h s t e is =
-    subst (λ x. IsVerifyReply bytes problem bindings x t) (sym e) (module_refused (record { fault = fault; first = h; line_of = is }))
+module _ {E : Type 0} (bytes : List ℕ) where
+  pub told_reply : (m : Contents) → IsLoaded bytes m → (r : Result Answer E) → IfOk r (λ a. TellsSorts m a.status (bytes_of a.text)) → IfOk r (λ a. IsCheckReply bytes a.status (bytes_of a.text))
+  told_reply m h (Ok a) t = told m h t
+  told_reply m h (Err e) t = tt
+
+  pub refused_reply : (fault : ModuleFault) → IsLoadFault bytes fault → (r : Result Answer E) → IfOk r (λ a. a.status ≡ ModuleRefused) → IfOk r (λ a. IsRefusalLine fault (bytes_of a.text)) → IfOk r (λ a. IsCheckReply bytes a.status (bytes_of a.text))
+  refused_reply fault h (Ok a) e is = subst (λ x. IsCheckReply bytes x (bytes_of a.text)) (sym e) (refused (record { fault = fault; first = h; line_of = is }))
+  refused_reply fault h (Err e) s is = tt
+
+  module _ (problem bindings : List ℕ) where
+    pub verify_in : (m : Contents) → IsLoaded bytes m → (r : Result Answer E) → IfOk r (λ a. RepliesIn m problem bindings a.status (bytes_of a.text)) → IfOk r (λ a. IsVerifyReply bytes problem bindings a.status (bytes_of a.text))
+    verify_in m h (Ok a) t = t bytes h
+    verify_in m h (Err e) t = tt
+
+    pub refused_module : (fault : ModuleFault) → IsLoadFault bytes fault → (r : Result Answer E) → IfOk r (λ a. a.status ≡ ModuleRefused) → IfOk r (λ a. IsRefusalLine fault (bytes_of a.text)) → IfOk r (λ a. IsVerifyReply bytes problem bindings a.status (bytes_of a.text))
+    refused_module fault h (Ok a) e is = subst (λ x. IsVerifyReply bytes problem bindings x (bytes_of a.text)) (sym e) (module_refused (record { fault = fault; first = h; line_of = is }))
+    refused_module fault h (Err e) s is = tt
 
 module _ (m : Contents) (d : Declarations) (names : Names) (signature_is : d ≡ m.signature) (names_are : names ≡ m.names) where
   in_module : (P : Declarations → Names → Type 0) → P d names → P m.signature m.names

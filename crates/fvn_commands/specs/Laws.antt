@@ -1,14 +1,16 @@
 -- What holds of all that is read.
-use Rattle.fvn_module.specs.Laws.{ModulesAreDetermined, RefusalsAreDetermined, RefusedTextsDeclareNothing}
+use Rattle.fvn_loading.specs.Laws.{LoadedModulesAreDetermined, LoadFaultsAreDetermined, FaultyTextsAreNotLoaded, LossesAreDetermined}
 use Rattle.fvn_problems.specs.Laws.{ProblemsAreDetermined, BindingsAreDetermined, RefusedProblemsAskNothing, RefusedBindingsBindNothing, ProblemFaultsAreDetermined, BindingFaultsAreDetermined}
 use Rattle.fvn_verify.specs.Laws.{VerdictsAreDetermined}
 
--- A text is one module at most, has one first fault at most, and not both; so it is with problems in a module, and with
--- bindings in a problem; and of pairs under a substitution there is one verdict at most.
+-- A text is loaded as one module at most, has one first fault at most, and not both; so it is with problems in a module,
+-- and with bindings in a problem; of a module's sorts one thing is told; and of pairs under a substitution there is one
+-- verdict at most.
 pub record ReadersAreLawful : Type 0 where
-  pub modules : ModulesAreDetermined
-  pub refusals : RefusalsAreDetermined
-  pub no_module : RefusedTextsDeclareNothing
+  pub loaded : LoadedModulesAreDetermined
+  pub faults : LoadFaultsAreDetermined
+  pub not_loaded : FaultyTextsAreNotLoaded
+  pub losses : LossesAreDetermined
   pub problems : ProblemsAreDetermined
   pub no_problem : RefusedProblemsAskNothing
   pub problem_faults : ProblemFaultsAreDetermined

@@ -5,7 +5,7 @@ use Rattle.fvn_terms.specs.Substitution.{value}
 use Rattle.fvn_module.specs.declared.equation.Equation.{Equation}
 use Rattle.fvn_module.specs.declared.fault.ModuleFault.{ModuleFault}
 use Rattle.fvn_module.specs.Contents.{Contents}
-use Rattle.fvn_module.specs.ModuleText.{IsModule}
+use Rattle.fvn_loading.specs.Loading.{IsLoaded}
 use Rattle.fvn_problems.specs.declared.fault.ProblemFault.{ProblemFault}
 use Rattle.fvn_problems.specs.declared.problem.Problem.{Problem}
 use Rattle.fvn_problems.specs.declared.bindings.Bindings.{Bindings}
@@ -110,18 +110,18 @@ module _ (m : Contents) where
   IsBindingRefusalOf p bindings status text = (status ≡ ProblemRefused) × IsFirstBindingRefusal p bindings text
 
 module _ (bytes : List ℕ) where
-  -- the bytes are this module, and it has no equation
+  -- the bytes are loaded as this module, and it has no equation
   pub record IsModuleOfAxioms (m : Contents) : Type 0 where
-    pub is_module : IsModule bytes m
+    pub is_loaded : IsLoaded bytes m
     pub axioms_alone : HasNoEquation m
 
-  -- the bytes are this module without an equation, and in it the word is this problem
+  -- the bytes are loaded as this module without an equation, and in it the word is this problem
   pub record IsAskedIn (problem : List ℕ) (m : Contents) (p : Problem) : Type 0 where
     pub module_text : IsModuleOfAxioms m
     pub problem_text : IsProblem m.signature m.names problem p
 
-  -- the bytes are this module without an equation, the first word is this problem in it, and the second word is these
-  -- bindings in this problem
+  -- the bytes are loaded as this module without an equation, the first word is this problem in it, and the second word is
+  -- these bindings in this problem
   pub record IsAskedOf (problem bindings : List ℕ) (m : Contents) (p : Problem) (b : Bindings) : Type 0 where
     pub asked_in : IsAskedIn problem m p
     pub bindings_text : IsBindings m.signature m.names p bindings b
@@ -129,7 +129,7 @@ module _ (bytes : List ℕ) where
   -- this status with this text replies to `verify` over the bytes of a module and two words
   pub data IsVerifyReply (problem bindings : List ℕ) : Status → List ℕ → Type 0 where
     module_refused : {text : List ℕ} → IsFirstRefusal bytes text → IsVerifyReply problem bindings ModuleRefused text
-    later : {text : List ℕ} (m : Contents) (n : ℕ) → IsModule bytes m → HasEquations m n → text ≡ later_line n →
+    later : {text : List ℕ} (m : Contents) (n : ℕ) → IsLoaded bytes m → HasEquations m n → text ≡ later_line n →
         IsVerifyReply problem bindings ModuleRefused text
     problem_refused : {text : List ℕ} (m : Contents) → IsModuleOfAxioms m → IsFirstProblemRefusal m problem text →
         IsVerifyReply problem bindings ProblemRefused text

@@ -1,5 +1,5 @@
 //! Answers: a status and a text.
-ghost use Rattle.std.specs.Prelude.{◌≡◌, IfOk};
+ghost use Rattle.std.specs.Prelude.{◌≡◌, ◌++◌, IfOk};
 ghost use Rattle.fvn_commands.specs.Texts.{bytes_of, line};
 
 use crate::status::Status;
@@ -52,6 +52,21 @@ impl Answer {
         Ok(Answer {
             status,
             text: Text::Made(text),
+        })
+    }
+
+    /// An answer of two lines, each of which ends with a line feed.
+    pub fn two_lines(status: Status, mut first: Vec<u8>, second: &[u8]) -> Result<Answer, NoMemory>
+        ensures status { IfOk result (λ a. a.status ≡ status) }
+        ensures text { IfOk result (λ a.
+            bytes_of a.text ≡ line first.items ++ line second.now) }
+    {
+        first.push(b'\n')?;
+        first.extend_from_slice(second)?;
+        first.push(b'\n')?;
+        Ok(Answer {
+            status,
+            text: Text::Made(first),
         })
     }
 }

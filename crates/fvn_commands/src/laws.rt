@@ -1,7 +1,10 @@
 //! What holds of all that is read, the contract of a function that does nothing.
 ghost use Rattle.fvn_commands.specs.Laws.{ReadersAreLawful};
 
-use fvn_module::{modules_are_determined, refusals_are_determined, refused_texts_declare_nothing};
+use fvn_loading::{
+    faulty_texts_are_not_loaded, load_faults_are_determined, loaded_modules_are_determined,
+    losses_are_determined,
+};
 use fvn_problems::{
     binding_faults_are_determined, bindings_are_determined, problem_faults_are_determined,
     problems_are_determined, refused_bindings_bind_nothing, refused_problems_ask_nothing,
@@ -13,9 +16,10 @@ use fvn_verify::verdicts_are_determined;
 pub fn readers_are_lawful()
     ensures { ReadersAreLawful }
 {
-    modules_are_determined();
-    refusals_are_determined();
-    refused_texts_declare_nothing();
+    loaded_modules_are_determined();
+    load_faults_are_determined();
+    faulty_texts_are_not_loaded();
+    losses_are_determined();
     problems_are_determined();
     refused_problems_ask_nothing();
     problem_faults_are_determined();

@@ -16,7 +16,8 @@ use crate::answer::Answer;
 use crate::checking::refuse_module;
 use crate::status::Status;
 use fvn_base::limits::TERM_SYMBOLS;
-use fvn_module::{Module, read_module};
+use fvn_loading::load;
+use fvn_module::Module;
 use fvn_problems::{Problem, ProblemFault, read_bindings, read_problem};
 use fvn_reply::{later_text, problem_text, verdict_text};
 use fvn_terms::NoMemory;
@@ -146,14 +147,8 @@ pub fn verify_reply(
     ensures { IfOk result (λ a.
         IsVerifyReply bytes.now problem.now bindings.now a.status (bytes_of a.text)) }
 {
-    match read_module(alloc, bytes) {
-        Err(fault) => {
-            let answer = refuse_module(alloc, &fault)?;
-            Ok(answer)
-        }
-        Ok(declared) => {
-            let answer = reply_in(alloc, &declared, problem, bindings)?;
-            Ok(answer)
-        }
+    match load(alloc, bytes) {
+        Ok(declared) => reply_in(alloc, &declared, problem, bindings),
+        Err(fault) => refuse_module(alloc, &fault),
     }
 }

@@ -5,7 +5,7 @@ use Rattle.std.specs.List.{AllZip}
 use Rattle.std.proofs.lemmas.List.Elements.{All-nil, All-cons, All-head}
 use Rattle.fvn_terms.specs.Substitution.{Substitution}
 use Rattle.fvn_module.specs.Contents.{Contents}
-use Rattle.fvn_module.specs.ModuleText.{IsModule}
+use Rattle.fvn_loading.specs.Loading.{IsLoaded, AreNotLoaded}
 use Rattle.fvn_problems.specs.declared.problem.Problem.{Problem}
 use Rattle.fvn_problems.specs.Problems.{IsProblem}
 use Rattle.fvn_answer.specs.Lines.{HasNoLineFeed}
@@ -15,14 +15,14 @@ use Rattle.fvn_commands.specs.declared.status.Status.{Status}
 use Rattle.fvn_commands.specs.declared.status.Status.TheVariants.{Nothing, Usage, ModuleRefused, ProblemRefused}
 use Rattle.fvn_commands.specs.Statuses.{IsSpoken, IsAnswering}
 use Rattle.fvn_commands.specs.Laws.{ReadersAreLawful}
-use Rattle.fvn_commands.specs.Checks.{AreNoModule, IsFirstRefusal, IsFirstRefusalOf}
+use Rattle.fvn_commands.specs.Checks.{IsFirstRefusal, IsFirstRefusalOf}
 use Rattle.fvn_commands.specs.Verifying.{IsFirstProblemRefusal, AsksNoProblem, IsProblemRefusalOf}
 use Rattle.fvn_unify.specs.Asked.{Unifies, CannotBeUnified}
 use Rattle.fvn_unify.specs.Ends.{status_of_end, IsCauseOf}
 use Rattle.fvn_unify.specs.Solutions.{IsLineOf}
 use Rattle.fvn_unify.specs.Replies.{IsAnswer, IsToBeUnified, IsUnifyReply, module_refused, problem_refused, answered}
 use Rattle.fvn_promises.specs.Unified.{MayEnd, AreLinesAndEnd, IsUnifyText, AreAnswersOrOne, IsNothingExact, EndsComplete, MeetsNoBound}
-use Rattle.fvn_promises.proofs.Checks.{refused_declares_nothing, refusals_alike}
+use Rattle.fvn_promises.proofs.Checks.{refused_not_loaded, refusals_alike}
 use Rattle.fvn_promises.proofs.Verified.{not_memory, lines_alike}
 
 -- Ends.
@@ -166,10 +166,10 @@ module _ (bytes word : List ℕ) where
   unify_not_usage s t e (problem_refused m h first) = cc
   unify_not_usage s t e (answered m p h a) = subst IsAnswering e (answer_answering m p s t a)
 
-  pub unify_no_module : AreNoModule bytes → (s : Status) (t : List ℕ) → IsUnifyReply bytes word s t → IsFirstRefusalOf bytes s t
-  unify_no_module none s t (module_refused first) = (refl, first)
-  unify_no_module none s t (problem_refused m h first) = absurd (none m h)
-  unify_no_module none s t (answered m p h a) = absurd (none m h.module_text)
+  pub unify_not_loaded : AreNotLoaded bytes → (s : Status) (t : List ℕ) → IsUnifyReply bytes word s t → IsFirstRefusalOf bytes s t
+  unify_not_loaded none s t (module_refused first) = (refl, first)
+  unify_not_loaded none s t (problem_refused m h first) = absurd (none m h)
+  unify_not_loaded none s t (answered m p h a) = absurd (none m h.module_text)
 
   pub unify_answers : (s : Status) (t : List ℕ) → IsAnswering s → IsUnifyReply bytes word s t → (m : Contents) × (p : Problem) × IsToBeUnified bytes word m p
   unify_answers s t a (module_refused first) = absurd a
@@ -177,8 +177,8 @@ module _ (bytes word : List ℕ) where
   unify_answers s t a (answered m p h k) = (m, p, h)
 
   module _ (laws : ReadersAreLawful) where
-    pub unify_refuses : (s : Status) (t : List ℕ) → s ≡ ModuleRefused → IsUnifyReply bytes word s t → AreNoModule bytes
-    unify_refuses s t e (module_refused first) = refused_declares_nothing bytes laws.modules laws.no_module t first
+    pub unify_refuses : (s : Status) (t : List ℕ) → s ≡ ModuleRefused → IsUnifyReply bytes word s t → AreNotLoaded bytes
+    unify_refuses s t e (module_refused first) = refused_not_loaded bytes laws.loaded laws.not_loaded t first
     unify_refuses s t e (problem_refused m h first) = cc
     unify_refuses s t e (answered m p h a) = absurd (subst IsAnswering e (answer_answering m p s t a))
 
@@ -190,19 +190,19 @@ module _ (bytes word : List ℕ) where
         ]
 
     pub unify_refuses_word : (s : Status) (t : List ℕ) → s ≡ ProblemRefused → IsUnifyReply bytes word s t →
-        (m : Contents) × (IsModule bytes m × AsksNoProblem m word)
+        (m : Contents) × (IsLoaded bytes m × AsksNoProblem m word)
     unify_refuses_word s t e (module_refused first) = cc
     unify_refuses_word s t e (problem_refused m h first) = (m, (h, no_problem_of m t first))
     unify_refuses_word s t e (answered m p h a) = absurd (subst IsAnswering e (answer_answering m p s t a))
 
     -- The module is known.
 
-    module _ (m : Contents) (is_module : IsModule bytes m) where
-      same : (k : Contents) → IsModule bytes k → k ≡ m
-      same k h = laws.modules bytes k m h is_module
+    module _ (m : Contents) (is_loaded : IsLoaded bytes m) where
+      same : (k : Contents) → IsLoaded bytes k → k ≡ m
+      same k h = laws.loaded bytes k m h is_loaded
 
       not_refused : (t : List ℕ) → IsFirstRefusal bytes t → ⊥
-      not_refused t first = refused_declares_nothing bytes laws.modules laws.no_module t first m is_module
+      not_refused t first = refused_not_loaded bytes laws.loaded laws.not_loaded t first m is_loaded
 
       problem_in : (k : Contents) (p : Problem) → IsToBeUnified bytes word k p → IsProblem m.signature m.names word p
       problem_in k p h = subst (λ x. IsProblem x.signature x.names word p) (same k h.module_text) h.problem_text
@@ -225,8 +225,8 @@ module _ (bytes word : List ℕ) where
 
     pub unify_agrees : (s : Status) (t : List ℕ) → IsUnifyReply bytes word s t → (u : Status) (v : List ℕ) → IsUnifyReply bytes word u v → AreAnswersOrOne s t u v
     unify_agrees s t (module_refused first) u v k =
-        let r = unify_no_module (refused_declares_nothing bytes laws.modules laws.no_module t first) u v k in
-        inr (r.0, refusals_alike bytes laws.modules laws.no_module laws.refusals t v first r.1)
+        let r = unify_not_loaded (refused_not_loaded bytes laws.loaded laws.not_loaded t first) u v k in
+        inr (r.0, refusals_alike bytes laws.loaded laws.not_loaded laws.faults t v first r.1)
     unify_agrees s t (problem_refused m h first) u v k =
         let r = unify_no_problem m h (no_problem_of m t first) u v k in
         inr (r.0, lines_alike first.fault r.1.fault t v first.line_of r.1.line_of (laws.problem_faults m.signature m.names word first.fault r.1.fault first.first r.1.first))

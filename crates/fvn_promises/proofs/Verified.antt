@@ -5,7 +5,7 @@ use Rattle.fvn_base.specs.declared.limits.TheConstants.{TERM_SYMBOLS}
 use Rattle.fvn_terms.specs.Substitution.{value}
 use Rattle.fvn_module.specs.declared.equation.Equation.{Equation}
 use Rattle.fvn_module.specs.Contents.{Contents}
-use Rattle.fvn_module.specs.ModuleText.{IsModule}
+use Rattle.fvn_loading.specs.Loading.{IsLoaded, AreNotLoaded}
 use Rattle.fvn_problems.specs.declared.fault.ProblemFault.{ProblemFault}
 use Rattle.fvn_problems.specs.declared.fault.ProblemFault.TheVariants.{NoMemory}
 use Rattle.fvn_problems.specs.declared.problem.Problem.{Problem}
@@ -21,9 +21,9 @@ use Rattle.fvn_commands.specs.declared.status.Status.TheVariants.{Solved, Usage,
 use Rattle.fvn_commands.specs.Statuses.{IsSpoken, IsAnswering}
 use Rattle.fvn_commands.specs.Texts.{line, Is}
 use Rattle.fvn_commands.specs.Laws.{ReadersAreLawful}
-use Rattle.fvn_commands.specs.Checks.{AreNoModule, IsFirstRefusal, IsFirstRefusalOf}
+use Rattle.fvn_commands.specs.Checks.{IsFirstRefusal, IsFirstRefusalOf}
 use Rattle.fvn_commands.specs.Verifying.{HasEquations, HasNoEquation, later_line, status_of_verdict, verdict_line, IsProblemRefusalLine, IsVerdictOn, AreSolvedBy, IsFirstProblemRefusal, IsFirstBindingRefusal, IsModuleOfAxioms, IsAskedIn, IsAskedOf, IsVerifyText, AsksNoProblem, AreNoBindings, IsProblemRefusalOf, IsBindingRefusalOf, TellsVerdict, IsVerifyReply, module_refused, later, problem_refused, bindings_refused, verified}
-use Rattle.fvn_promises.proofs.Checks.{refused_declares_nothing, refusals_alike}
+use Rattle.fvn_promises.proofs.Checks.{refused_not_loaded, refusals_alike}
 
 -- Verdicts.
 
@@ -100,12 +100,12 @@ module _ (bytes problem bindings : List ℕ) where
   verify_not_usage s t e (bindings_refused m p h first) = cc
   verify_not_usage s t e (verified m p b v h k i is) = verdict_no_refusal v s i (inl e)
 
-  pub verify_no_module : AreNoModule bytes → (s : Status) (t : List ℕ) → IsVerifyReply bytes problem bindings s t → IsFirstRefusalOf bytes s t
-  verify_no_module none s t (module_refused first) = (refl, first)
-  verify_no_module none s t (later m n h k is) = absurd (none m h)
-  verify_no_module none s t (problem_refused m h first) = absurd (none m h.is_module)
-  verify_no_module none s t (bindings_refused m p h first) = absurd (none m h.module_text.is_module)
-  verify_no_module none s t (verified m p b v h k e is) = absurd (none m h.asked_in.module_text.is_module)
+  pub verify_not_loaded : AreNotLoaded bytes → (s : Status) (t : List ℕ) → IsVerifyReply bytes problem bindings s t → IsFirstRefusalOf bytes s t
+  verify_not_loaded none s t (module_refused first) = (refl, first)
+  verify_not_loaded none s t (later m n h k is) = absurd (none m h)
+  verify_not_loaded none s t (problem_refused m h first) = absurd (none m h.is_loaded)
+  verify_not_loaded none s t (bindings_refused m p h first) = absurd (none m h.module_text.is_loaded)
+  verify_not_loaded none s t (verified m p b v h k e is) = absurd (none m h.asked_in.module_text.is_loaded)
 
   pub verify_answers : (s : Status) (t : List ℕ) → IsAnswering s → IsVerifyReply bytes problem bindings s t → (m : Contents) × (p : Problem) × (b : Bindings) × IsAskedOf bytes problem bindings m p b
   verify_answers s t a (module_refused first) = absurd a
@@ -127,8 +127,8 @@ module _ (bytes problem bindings : List ℕ) where
   verify_yes s t e (verified m p b v h k i is) = (m, p, b, (h, solved_by m p b v (sym e ∙ i) k))
 
   module _ (laws : ReadersAreLawful) where
-    pub verify_refuses : (s : Status) (t : List ℕ) → s ≡ ModuleRefused → IsVerifyReply bytes problem bindings s t → AreNoModule bytes ⊎ ((m : Contents) × (n : ℕ) × (IsModule bytes m × HasEquations m n))
-    verify_refuses s t e (module_refused first) = inl (refused_declares_nothing bytes laws.modules laws.no_module t first)
+    pub verify_refuses : (s : Status) (t : List ℕ) → s ≡ ModuleRefused → IsVerifyReply bytes problem bindings s t → AreNotLoaded bytes ⊎ ((m : Contents) × (n : ℕ) × (IsLoaded bytes m × HasEquations m n))
+    verify_refuses s t e (module_refused first) = inl (refused_not_loaded bytes laws.loaded laws.not_loaded t first)
     verify_refuses s t e (later m n h k is) = inr (m, n, (h, k))
     verify_refuses s t e (problem_refused m h first) = cc
     verify_refuses s t e (bindings_refused m p h first) = cc
@@ -136,13 +136,13 @@ module _ (bytes problem bindings : List ℕ) where
 
     -- The module is known.
 
-    with_equations : (m k : Contents) (n : ℕ) → IsModule bytes m → HasEquations m n → IsModuleOfAxioms bytes k → ⊥
-    with_equations m k n h q a = no_equation m n q (subst HasNoEquation (laws.modules bytes k m a.is_module h) a.axioms_alone)
+    with_equations : (m k : Contents) (n : ℕ) → IsLoaded bytes m → HasEquations m n → IsModuleOfAxioms bytes k → ⊥
+    with_equations m k n h q a = no_equation m n q (subst HasNoEquation (laws.loaded bytes k m a.is_loaded h) a.axioms_alone)
 
-    pub verify_later : (m : Contents) (n : ℕ) → IsModule bytes m → HasEquations m n → (s : Status) (t : List ℕ) → IsVerifyReply bytes problem bindings s t → Is ModuleRefused (later_line n) s t
-    verify_later m n h q s t (module_refused first) = absurd (refused_declares_nothing bytes laws.modules laws.no_module t first m h)
+    pub verify_later : (m : Contents) (n : ℕ) → IsLoaded bytes m → HasEquations m n → (s : Status) (t : List ℕ) → IsVerifyReply bytes problem bindings s t → Is ModuleRefused (later_line n) s t
+    verify_later m n h q s t (module_refused first) = absurd (refused_not_loaded bytes laws.loaded laws.not_loaded t first m h)
     verify_later m n h q s t (later k j g r is) =
-        (refl, is ∙ ap later_line (first_is m j n (subst (λ x. HasEquations x j) (laws.modules bytes k m g h) r) q))
+        (refl, is ∙ ap later_line (first_is m j n (subst (λ x. HasEquations x j) (laws.loaded bytes k m g h) r) q))
     verify_later m n h q s t (problem_refused k g first) = absurd (with_equations m k n h q g)
     verify_later m n h q s t (bindings_refused k p g first) = absurd (with_equations m k n h q g.module_text)
     verify_later m n h q s t (verified k p b v g r e is) = absurd (with_equations m k n h q g.asked_in.module_text)
@@ -170,22 +170,22 @@ module _ (bytes problem bindings : List ℕ) where
     verify_refuses_words s t e (verified m p b v h k i is) = absurd (verdict_no_refusal v s i (inr (inr e)))
 
     module _ (m : Contents) (axioms : IsModuleOfAxioms bytes m) where
-      same : (k : Contents) → IsModule bytes k → k ≡ m
-      same k h = laws.modules bytes k m h axioms.is_module
+      same : (k : Contents) → IsLoaded bytes k → k ≡ m
+      same k h = laws.loaded bytes k m h axioms.is_loaded
 
       not_refused : (t : List ℕ) → IsFirstRefusal bytes t → ⊥
-      not_refused t first = refused_declares_nothing bytes laws.modules laws.no_module t first m axioms.is_module
+      not_refused t first = refused_not_loaded bytes laws.loaded laws.not_loaded t first m axioms.is_loaded
 
-      not_later : (k : Contents) (n : ℕ) → IsModule bytes k → HasEquations k n → ⊥
+      not_later : (k : Contents) (n : ℕ) → IsLoaded bytes k → HasEquations k n → ⊥
       not_later k n h q = with_equations k m n h q axioms
 
       problem_in : (k : Contents) (p : Problem) → IsAskedIn bytes problem k p → IsProblem m.signature m.names problem p
-      problem_in k p h = subst (λ x. IsProblem x.signature x.names problem p) (same k h.module_text.is_module) h.problem_text
+      problem_in k p h = subst (λ x. IsProblem x.signature x.names problem p) (same k h.module_text.is_loaded) h.problem_text
 
       pub verify_no_problem : AsksNoProblem m problem → (s : Status) (t : List ℕ) → IsVerifyReply bytes problem bindings s t → IsProblemRefusalOf m problem s t
       verify_no_problem none s t (module_refused first) = absurd (not_refused t first)
       verify_no_problem none s t (later k n h q is) = absurd (not_later k n h q)
-      verify_no_problem none s t (problem_refused k h first) = (refl, subst (λ x. IsFirstProblemRefusal x problem t) (same k h.is_module) first)
+      verify_no_problem none s t (problem_refused k h first) = (refl, subst (λ x. IsFirstProblemRefusal x problem t) (same k h.is_loaded) first)
       verify_no_problem none s t (bindings_refused k p h first) = absurd (none p (problem_in k p h))
       verify_no_problem none s t (verified k p b v h q e is) = absurd (none p (problem_in k p h.asked_in))
 
@@ -196,15 +196,15 @@ module _ (bytes problem bindings : List ℕ) where
         refusal_in : (k : Contents) (q : Problem) (t : List ℕ) → IsAskedIn bytes problem k q → IsFirstBindingRefusal k q bindings t → IsFirstBindingRefusal m p bindings t
         refusal_in k q t h first =
             subst (λ x. IsFirstBindingRefusal m x bindings t) (same_problem q (problem_in k q h))
-            (subst (λ x. IsFirstBindingRefusal x q bindings t) (same k h.module_text.is_module) first)
+            (subst (λ x. IsFirstBindingRefusal x q bindings t) (same k h.module_text.is_loaded) first)
 
         bindings_in : (k : Contents) (q : Problem) (b : Bindings) → IsAskedOf bytes problem bindings k q b → IsBindings m.signature m.names p bindings b
         bindings_in k q b h =
             subst (λ x. IsBindings m.signature m.names x bindings b) (same_problem q (problem_in k q h.asked_in))
-            (subst (λ x. IsBindings x.signature x.names q bindings b) (same k h.asked_in.module_text.is_module) h.bindings_text)
+            (subst (λ x. IsBindings x.signature x.names q bindings b) (same k h.asked_in.module_text.is_loaded) h.bindings_text)
 
         refused_words : (k : Contents) (t : List ℕ) → IsModuleOfAxioms bytes k → IsFirstProblemRefusal k problem t → ⊥
-        refused_words k t h first = no_problem_of m t (subst (λ x. IsFirstProblemRefusal x problem t) (same k h.is_module) first) p asked
+        refused_words k t h first = no_problem_of m t (subst (λ x. IsFirstProblemRefusal x problem t) (same k h.is_loaded) first) p asked
 
         pub verify_no_bindings : AreNoBindings m p bindings → (s : Status) (t : List ℕ) → IsVerifyReply bytes problem bindings s t → IsBindingRefusalOf m p bindings s t
         verify_no_bindings none s t (module_refused first) = absurd (not_refused t first)
@@ -216,7 +216,7 @@ module _ (bytes problem bindings : List ℕ) where
         module _ (b : Bindings) (bound : IsBindings m.signature m.names p bindings b) where
           verdict_in : (k : Contents) (q : Problem) (c : Bindings) (v : Verdict) → IsAskedOf bytes problem bindings k q c → IsVerdictOn k q c v → IsVerdictOn m p b v
           verdict_in k q c v h r =
-              let in_module : IsVerdictOn m q c v = subst (λ x. IsVerdictOn x q c v) (same k h.asked_in.module_text.is_module) r in
+              let in_module : IsVerdictOn m q c v = subst (λ x. IsVerdictOn x q c v) (same k h.asked_in.module_text.is_loaded) r in
               let of_problem : IsVerdictOn m p c v = subst (λ x. IsVerdictOn m x c v) (same_problem q (problem_in k q h.asked_in)) in_module in
               subst (λ x. IsVerdictOn m p x v) (laws.bindings m.signature m.names problem p asked bindings c b (bindings_in k q c h) bound) of_problem
 
@@ -231,8 +231,8 @@ module _ (bytes problem bindings : List ℕ) where
 
     pub verify_determined : (s : Status) (t : List ℕ) → IsVerifyReply bytes problem bindings s t → (u : Status) (v : List ℕ) → IsVerifyReply bytes problem bindings u v → Is s t u v
     verify_determined s t (module_refused first) u v k =
-        let r = verify_no_module (refused_declares_nothing bytes laws.modules laws.no_module t first) u v k in
-        (r.0, refusals_alike bytes laws.modules laws.no_module laws.refusals t v first r.1)
+        let r = verify_not_loaded (refused_not_loaded bytes laws.loaded laws.not_loaded t first) u v k in
+        (r.0, refusals_alike bytes laws.loaded laws.not_loaded laws.faults t v first r.1)
     verify_determined s t (later m n h q is) u v k = let r = verify_later m n h q u v k in (r.0, r.1 ∙ sym is)
     verify_determined s t (problem_refused m h first) u v k =
         let r = verify_no_problem m h (no_problem_of m t first) u v k in

@@ -1,5 +1,5 @@
--- The text that says how much a module declares.
-use Rattle.std.specs.Prelude.{ℕ, ◌-◌, List, ◌++◌, length, codes, decimal}
+-- The texts that say how much a module declares, and whether its equations keep sorts.
+use Rattle.std.specs.Prelude.{ℕ, ◌-◌, List, ◌++◌, length, Option, Some, None, codes, decimal}
 use Rattle.fvn_terms.specs.declared.declarations.Declarations.{Declarations}
 use Rattle.fvn_module.specs.Contents.{Contents}
 
@@ -16,3 +16,8 @@ summary_text m =
     ++ codes " kinds " ++ decimal (kind_count m.signature)
     ++ codes " operators " ++ decimal (length m.names.ops)
     ++ codes " equations " ++ decimal (length m.equations)
+
+-- What is told of sorts: that each equation keeps them, or which is the first that loses one.
+abbrev pub sorts_text : Option ℕ → List ℕ
+sorts_text None = codes "sorts kept"
+sorts_text (Some n) = codes "cause sorts " ++ decimal n

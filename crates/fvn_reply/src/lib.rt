@@ -10,5 +10,5 @@ mod verdicts;
 
 pub use problems::problem_text;
 pub use refusals::refusal_text;
-pub use summary::summary_text;
+pub use summary::{sorts_text, summary_text};
 pub use verdicts::{later_text, verdict_text};

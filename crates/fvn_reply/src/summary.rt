@@ -1,8 +1,8 @@
-//! The text of what a module declares.
+//! The texts of what a module declares, and of what its equations keep.
 ghost use Rattle.std.specs.Prelude.{◌≡◌, ◌++◌, IfOk, OnOk, decimal};
-ghost use Rattle.fvn_reply.specs.Summaries.{summary_text};
+ghost use Rattle.fvn_reply.specs.Summaries.{summary_text, sorts_text};
 
-use crate::pieces::push_number;
+use crate::pieces::{numbered, push_number};
 use fvn_base::NoMemory;
 use fvn_module::Module;
 use std::alloc::Global;
@@ -27,4 +27,14 @@ pub fn summary_text(alloc: Global, declared: &Module) -> Result<Vec<u8>, NoMemor
     push_count(&mut text, b" operators ", names.ops.len())?;
     push_count(&mut text, b" equations ", declared.equations().len())?;
     Ok(text)
+}
+
+/// The text that says that each equation keeps sorts, or which is the first that loses one, without a line end.
+pub fn sorts_text(alloc: Global, loss: Option<usize>) -> Result<Vec<u8>, NoMemory>
+    ensures { IfOk result (λ text. text.items ≡ sorts_text loss) }
+{
+    match loss {
+        None => Ok(Vec::from_slice(alloc, b"sorts kept")?),
+        Some(number) => numbered(alloc, b"cause sorts ", number),
+    }
 }

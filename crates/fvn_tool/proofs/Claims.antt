@@ -6,8 +6,9 @@ use Rattle.fvn_base.specs.declared.limits.TheConstants.{MODULE_BYTES}
 use Rattle.fvn_terms.specs.Substitution.{Substitution}
 use Rattle.fvn_outside.specs.Source.{Takes, TakesCount}
 use Rattle.fvn_module.specs.Contents.{Contents}
-use Rattle.fvn_module.specs.ModuleText.{IsModule}
-use Rattle.fvn_module.specs.Laws.{ModulesAreDetermined, RefusedTextsDeclareNothing}
+use Rattle.fvn_loading.specs.Loading.{IsLoaded, AreNotLoaded}
+use Rattle.fvn_loading.specs.Losses.{IsLossOf}
+use Rattle.fvn_loading.specs.Laws.{LoadedModulesAreDetermined, FaultyTextsAreNotLoaded, LossesAreDetermined}
 use Rattle.fvn_problems.specs.declared.problem.Problem.{Problem}
 use Rattle.fvn_problems.specs.declared.bindings.Bindings.{Bindings}
 use Rattle.fvn_answer.specs.declared.end.End.{End}
@@ -16,13 +17,13 @@ use Rattle.fvn_commands.specs.declared.status.Status.TheVariants.{Solved, Nothin
 use Rattle.fvn_commands.specs.Statuses.{IsSilent, IsSpoken, IsAnswering}
 use Rattle.fvn_commands.specs.Laws.{ReadersAreLawful}
 use Rattle.fvn_commands.specs.Texts.{Is}
-use Rattle.fvn_commands.specs.Checks.{AreNoModule, IsFirstRefusalOf, summary_line}
+use Rattle.fvn_commands.specs.Checks.{IsFirstRefusalOf, told_lines, TellsSorts}
 use Rattle.fvn_commands.specs.Verifying.{HasEquations, later_line, AreSolvedBy, TellsVerdict, AsksNoProblem, AreNoBindings, IsProblemRefusalOf, IsBindingRefusalOf, IsModuleOfAxioms, IsAskedIn, IsAskedOf}
 use Rattle.fvn_unify.specs.Replies.{IsAnswer, IsToBeUnified}
 use Rattle.fvn_promises.specs.Unified.{AnswersSo, IsNothingExact, EndsComplete}
-use Rattle.fvn_promises.proofs.Checks.{check_one_text, check_not_usage, check_refuses, check_no_module, check_tells, check_module}
-use Rattle.fvn_promises.proofs.Verified.{verify_one_text, verify_not_usage, verify_no_module, verify_answers, verify_yes, verify_refuses, verify_later, verify_refuses_words, verify_no_problem, verify_no_bindings, verify_verdict}
-use Rattle.fvn_promises.proofs.Unified.{unify_one_text, unify_not_usage, unify_no_module, unify_answers, unify_refuses, unify_refuses_word, unify_no_problem, unify_answer, nothing_exact, ends_complete}
+use Rattle.fvn_promises.proofs.Checks.{check_one_text, check_not_usage, check_refuses, check_not_loaded, check_tells, check_module, check_sorts}
+use Rattle.fvn_promises.proofs.Verified.{verify_one_text, verify_not_usage, verify_not_loaded, verify_answers, verify_yes, verify_refuses, verify_later, verify_refuses_words, verify_no_problem, verify_no_bindings, verify_verdict}
+use Rattle.fvn_promises.proofs.Unified.{unify_one_text, unify_not_usage, unify_not_loaded, unify_answers, unify_refuses, unify_refuses_word, unify_no_problem, unify_answer, nothing_exact, ends_complete}
 use Rattle.fvn_tool.specs.Words.{Command, check, unify, verify, command_of}
 use Rattle.fvn_tool.specs.Replies.{IsReply}
 use Rattle.fvn_tool.specs.Runs.{Outside, Run, Leaves, HasFailed}
@@ -122,33 +123,38 @@ module _ (run : Run) (h : Leaves (IsOutcome run.words run.source) run.status run
   refuses_long : RefusesLongText run
   refuses_long command bytes asks l = weaker command bytes asks (Is ModuleRefused too_long_line) (long_text command bytes asks l)
 
-  module _ (bytes : List ℕ) (asks : Asks run check bytes) (one : ModulesAreDetermined) (nothing : RefusedTextsDeclareNothing) where
-    text_only : run.status ≡ ModuleRefused → (t : List ℕ) → Comes bytes check run.status t → (MODULE_BYTES < length bytes) ⊎ ((length bytes ≤ MODULE_BYTES) × AreNoModule bytes)
+  module _ (bytes : List ℕ) (asks : Asks run check bytes) (one : LoadedModulesAreDetermined) (nothing : FaultyTextsAreNotLoaded) (losses : LossesAreDetermined) where
+    text_only : run.status ≡ ModuleRefused → (t : List ℕ) → Comes bytes check run.status t → (MODULE_BYTES < length bytes) ⊎ ((length bytes ≤ MODULE_BYTES) × AreNotLoaded bytes)
     text_only e t (comes_long i l is) = inl l
     text_only e t (comes_reply f r) = inr (f, check_refuses bytes one nothing run.status t e r)
 
-    text_none : length bytes ≤ MODULE_BYTES → AreNoModule bytes → (u : Status) (t : List ℕ) → Comes bytes check u t → IsFirstRefusalOf bytes u t
+    text_none : length bytes ≤ MODULE_BYTES → AreNotLoaded bytes → (u : Status) (t : List ℕ) → Comes bytes check u t → IsFirstRefusalOf bytes u t
     text_none f none u t (comes_long i k is) = absurd (omega (arith, f, k))
-    text_none f none u t (comes_reply g r) = check_no_module bytes none u t r
+    text_none f none u t (comes_reply g r) = check_not_loaded bytes none u t r
 
-    told_only : run.status ≡ Solved → (t : List ℕ) → Comes bytes check run.status t → (length bytes ≤ MODULE_BYTES) × ((m : Contents) × IsModule bytes m)
+    told_only : run.status ≡ Solved → (t : List ℕ) → Comes bytes check run.status t → (length bytes ≤ MODULE_BYTES) × ((m : Contents) × IsLoaded bytes m)
     told_only e t (comes_long i l is) = cc
     told_only e t (comes_reply f r) = (f, check_tells bytes run.status t e r)
 
-    told_always : length bytes ≤ MODULE_BYTES → (m : Contents) → IsModule bytes m → (u : Status) (t : List ℕ) → Comes bytes check u t → Is Solved (summary_line m) u t
-    told_always f m is_module u t (comes_long i k is) = absurd (omega (arith, f, k))
-    told_always f m is_module u t (comes_reply g r) = check_module bytes one nothing m is_module u t r
+    told_always : length bytes ≤ MODULE_BYTES → (m : Contents) → IsLoaded bytes m → (u : Status) (t : List ℕ) → Comes bytes check u t → TellsSorts m u t
+    told_always f m is_loaded u t (comes_long i k is) = absurd (omega (arith, f, k))
+    told_always f m is_loaded u t (comes_reply g r) = check_module bytes one nothing m is_loaded u t r
+
+    told_sorts : length bytes ≤ MODULE_BYTES → (m : Contents) → IsLoaded bytes m → (loss : Option ℕ) → IsLossOf m loss → (u : Status) (t : List ℕ) → Comes bytes check u t → Is Solved (told_lines m loss) u t
+    told_sorts f m is_loaded loss k u t (comes_long i l is) = absurd (omega (arith, f, l))
+    told_sorts f m is_loaded loss k u t (comes_reply g r) = check_sorts bytes one nothing losses m is_loaded loss k u t r
 
     refuses_text : RefusesText bytes run
     refuses_text = record {
       only = λ e. let g = came check bytes asks (subst IsSpoken (sym e) tt) in text_only e g.0 g.1;
-      no_module = λ f none. weaker check bytes asks (IsFirstRefusalOf bytes) (text_none f none);
+      not_loaded = λ f none. weaker check bytes asks (IsFirstRefusalOf bytes) (text_none f none);
     }
 
     tells_module : TellsModule bytes run
     tells_module = record {
       only = λ e. let g = came check bytes asks (subst IsSpoken (sym e) tt) in told_only e g.0 g.1;
-      always = λ f m is_module. weaker check bytes asks (Is Solved (summary_line m)) (told_always f m is_module);
+      always = λ f m is_loaded. weaker check bytes asks (TellsSorts m) (told_always f m is_loaded);
+      sorts = λ f m is_loaded loss k. weaker check bytes asks (Is Solved (told_lines m loss)) (told_sorts f m is_loaded loss k);
     }
 
     answers_check : AnswersCheck bytes run
@@ -156,22 +162,22 @@ module _ (run : Run) (h : Leaves (IsOutcome run.words run.source) run.status run
 
   module _ (problem bindings bytes : List ℕ) (asks : Asks run (verify problem bindings) bytes) (laws : ReadersAreLawful) where
     verified_module : run.status ≡ ModuleRefused → (t : List ℕ) → Comes bytes (verify problem bindings) run.status t →
-        (MODULE_BYTES < length bytes) ⊎ ((length bytes ≤ MODULE_BYTES) × (AreNoModule bytes ⊎ ((m : Contents) × (n : ℕ) × (IsModule bytes m × HasEquations m n))))
+        (MODULE_BYTES < length bytes) ⊎ ((length bytes ≤ MODULE_BYTES) × (AreNotLoaded bytes ⊎ ((m : Contents) × (n : ℕ) × (IsLoaded bytes m × HasEquations m n))))
     verified_module e t (comes_long i l is) = inl l
     verified_module e t (comes_reply f r) = inr (f, verify_refuses bytes problem bindings laws run.status t e r)
 
-    verified_none : length bytes ≤ MODULE_BYTES → AreNoModule bytes → (u : Status) (t : List ℕ) → Comes bytes (verify problem bindings) u t → IsFirstRefusalOf bytes u t
+    verified_none : length bytes ≤ MODULE_BYTES → AreNotLoaded bytes → (u : Status) (t : List ℕ) → Comes bytes (verify problem bindings) u t → IsFirstRefusalOf bytes u t
     verified_none f none u t (comes_long i k is) = absurd (omega (arith, f, k))
-    verified_none f none u t (comes_reply g r) = verify_no_module bytes problem bindings none u t r
+    verified_none f none u t (comes_reply g r) = verify_not_loaded bytes problem bindings none u t r
 
-    verified_later : length bytes ≤ MODULE_BYTES → (m : Contents) (n : ℕ) → IsModule bytes m → HasEquations m n → (u : Status) (t : List ℕ) → Comes bytes (verify problem bindings) u t → Is ModuleRefused (later_line n) u t
+    verified_later : length bytes ≤ MODULE_BYTES → (m : Contents) (n : ℕ) → IsLoaded bytes m → HasEquations m n → (u : Status) (t : List ℕ) → Comes bytes (verify problem bindings) u t → Is ModuleRefused (later_line n) u t
     verified_later f m n h q u t (comes_long i k is) = absurd (omega (arith, f, k))
     verified_later f m n h q u t (comes_reply g r) = verify_later bytes problem bindings laws m n h q u t r
 
     refuses_to_verify : RefusesToVerify bytes run
     refuses_to_verify = record {
       only = λ e. let g = came (verify problem bindings) bytes asks (subst IsSpoken (sym e) tt) in verified_module e g.0 g.1;
-      no_module = λ f none. weaker (verify problem bindings) bytes asks (IsFirstRefusalOf bytes) (verified_none f none);
+      not_loaded = λ f none. weaker (verify problem bindings) bytes asks (IsFirstRefusalOf bytes) (verified_none f none);
       later = λ f m n h q. weaker (verify problem bindings) bytes asks (Is ModuleRefused (later_line n)) (verified_later f m n h q);
     }
 
@@ -220,25 +226,25 @@ module _ (run : Run) (h : Leaves (IsOutcome run.words run.source) run.status run
     }
 
   module _ (word bytes : List ℕ) (asks : Asks run (unify word) bytes) (laws : ReadersAreLawful) (read : run.status ≡ ReadFault → HasFailed run.source) (write : run.status ≡ WriteFault → HasFailed run.sink) where
-    unified_module : run.status ≡ ModuleRefused → (t : List ℕ) → Comes bytes (unify word) run.status t → (MODULE_BYTES < length bytes) ⊎ ((length bytes ≤ MODULE_BYTES) × AreNoModule bytes)
+    unified_module : run.status ≡ ModuleRefused → (t : List ℕ) → Comes bytes (unify word) run.status t → (MODULE_BYTES < length bytes) ⊎ ((length bytes ≤ MODULE_BYTES) × AreNotLoaded bytes)
     unified_module e t (comes_long i l is) = inl l
     unified_module e t (comes_reply f r) = inr (f, unify_refuses bytes word laws run.status t e r)
 
-    unified_none : length bytes ≤ MODULE_BYTES → AreNoModule bytes → (u : Status) (t : List ℕ) → Comes bytes (unify word) u t → IsFirstRefusalOf bytes u t
+    unified_none : length bytes ≤ MODULE_BYTES → AreNotLoaded bytes → (u : Status) (t : List ℕ) → Comes bytes (unify word) u t → IsFirstRefusalOf bytes u t
     unified_none f none u t (comes_long i k is) = absurd (omega (arith, f, k))
-    unified_none f none u t (comes_reply g r) = unify_no_module bytes word none u t r
+    unified_none f none u t (comes_reply g r) = unify_not_loaded bytes word none u t r
 
     refuses_to_unify : RefusesText bytes run
     refuses_to_unify = record {
       only = λ e. let g = came (unify word) bytes asks (subst IsSpoken (sym e) tt) in unified_module e g.0 g.1;
-      no_module = λ f none. weaker (unify word) bytes asks (IsFirstRefusalOf bytes) (unified_none f none);
+      not_loaded = λ f none. weaker (unify word) bytes asks (IsFirstRefusalOf bytes) (unified_none f none);
     }
 
-    unified_word : run.status ≡ ProblemRefused → (t : List ℕ) → Comes bytes (unify word) run.status t → (length bytes ≤ MODULE_BYTES) × ((m : Contents) × (IsModule bytes m × AsksNoProblem m word))
+    unified_word : run.status ≡ ProblemRefused → (t : List ℕ) → Comes bytes (unify word) run.status t → (length bytes ≤ MODULE_BYTES) × ((m : Contents) × (IsLoaded bytes m × AsksNoProblem m word))
     unified_word e t (comes_long i l is) = cc
     unified_word e t (comes_reply f r) = (f, unify_refuses_word bytes word laws run.status t e r)
 
-    unified_no_problem : length bytes ≤ MODULE_BYTES → (m : Contents) → IsModule bytes m → AsksNoProblem m word → (u : Status) (t : List ℕ) → Comes bytes (unify word) u t → IsProblemRefusalOf m word u t
+    unified_no_problem : length bytes ≤ MODULE_BYTES → (m : Contents) → IsLoaded bytes m → AsksNoProblem m word → (u : Status) (t : List ℕ) → Comes bytes (unify word) u t → IsProblemRefusalOf m word u t
     unified_no_problem f m h none u t (comes_long i k is) = absurd (omega (arith, f, k))
     unified_no_problem f m h none u t (comes_reply g r) = unify_no_problem bytes word laws m h none u t r
 
@@ -295,7 +301,7 @@ module _ (run : Run) (h : Leaves (IsOutcome run.words run.source) run.status run
     write_fault = write;
     usage = refuses_words always;
     too_long = refuses_long;
-    check = λ bytes asks. answers_check bytes asks laws.modules laws.no_module;
+    check = λ bytes asks. answers_check bytes asks laws.loaded laws.not_loaded laws.losses;
     unify = λ word bytes asks. answers_unify word bytes asks laws read write;
     verify = λ problem bindings bytes asks. answers_verify problem bindings bytes asks laws;
   }

@@ -20,7 +20,7 @@ one_agrees (verify problem bindings) s t u v h = h
 
 module _ (laws : ReadersAreLawful) where
   replies_agree : (command : Command) (bytes : List ℕ) (s : Status) (t : List ℕ) → IsReply command bytes s t → (u : Status) (v : List ℕ) → IsReply command bytes u v → Agree (Some command) s t u v
-  replies_agree check bytes s t r u v k = check_determined bytes laws.modules laws.no_module laws.refusals s t r u v k
+  replies_agree check bytes s t r u v k = check_determined bytes laws.loaded laws.not_loaded laws.faults laws.losses s t r u v k
   replies_agree (unify word) bytes s t r u v k = unify_agrees bytes word laws s t r u v k
   replies_agree (verify problem bindings) bytes s t r u v k = verify_determined bytes problem bindings laws s t r u v k
 

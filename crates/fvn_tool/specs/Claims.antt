@@ -2,14 +2,15 @@
 use Rattle.std.specs.Prelude.{◌≡◌, ◌≤◌, ◌<◌, ◌⊎◌, ℕ, List, length, Option, Some, None}
 use Rattle.fvn_base.specs.declared.limits.TheConstants.{MODULE_BYTES}
 use Rattle.fvn_module.specs.Contents.{Contents}
-use Rattle.fvn_module.specs.ModuleText.{IsModule}
+use Rattle.fvn_loading.specs.Loading.{IsLoaded, AreNotLoaded}
+use Rattle.fvn_loading.specs.Losses.{IsLossOf}
 use Rattle.fvn_problems.specs.declared.problem.Problem.{Problem}
 use Rattle.fvn_problems.specs.declared.bindings.Bindings.{Bindings}
 use Rattle.fvn_commands.specs.declared.status.Status.{Status}
 use Rattle.fvn_commands.specs.declared.status.Status.TheVariants.{Solved, Usage, ModuleRefused, ProblemRefused, ReadFault, WriteFault, NoMemory}
 use Rattle.fvn_commands.specs.Statuses.{IsSilent, IsAnswering}
 use Rattle.fvn_commands.specs.Texts.{Is}
-use Rattle.fvn_commands.specs.Checks.{AreNoModule, IsFirstRefusalOf, IsCheckText, summary_line}
+use Rattle.fvn_commands.specs.Checks.{IsFirstRefusalOf, IsCheckText, told_lines, TellsSorts}
 use Rattle.fvn_commands.specs.Verifying.{HasEquations, later_line, IsVerifyText, AreSolvedBy, TellsVerdict, AsksNoProblem, AreNoBindings, IsProblemRefusalOf, IsBindingRefusalOf, IsModuleOfAxioms, IsAskedIn, IsAskedOf}
 use Rattle.fvn_unify.specs.Replies.{IsAnswer, IsToBeUnified}
 use Rattle.fvn_promises.specs.Unified.{IsUnifyText, AnswersSo, IsNothingExact, EndsComplete, MeetsNoBound}
@@ -52,31 +53,34 @@ RefusesLongText run =
 
 -- The command check -----------------------------------------------------------------------------
 
--- the text is refused exactly where it is too long or no module, and then with the line of its first fault
+-- the text is refused exactly where it is too long or not loaded, and then with the line of its first fault
 pub record RefusesText (bytes : List ℕ) (run : Run) : Type 0 where
   pub only : run.status ≡ ModuleRefused →
-      (MODULE_BYTES < length bytes) ⊎ ((length bytes ≤ MODULE_BYTES) × AreNoModule bytes)
-  pub no_module : length bytes ≤ MODULE_BYTES → AreNoModule bytes →
+      (MODULE_BYTES < length bytes) ⊎ ((length bytes ≤ MODULE_BYTES) × AreNotLoaded bytes)
+  pub not_loaded : length bytes ≤ MODULE_BYTES → AreNotLoaded bytes →
       Leaves (IsFirstRefusalOf bytes) run.status run.sink
 
--- exactly of a module it is said how much it declares
+-- Exactly of a loaded module it is said how much it declares, and whether its equations keep sorts: all do, or this is
+-- the first that loses one, which is told exactly where it is so.
 pub record TellsModule (bytes : List ℕ) (run : Run) : Type 0 where
-  pub only : run.status ≡ Solved → (length bytes ≤ MODULE_BYTES) × ((m : Contents) × IsModule bytes m)
-  pub always : length bytes ≤ MODULE_BYTES → (m : Contents) → IsModule bytes m →
-      Leaves (Is Solved (summary_line m)) run.status run.sink
+  pub only : run.status ≡ Solved → (length bytes ≤ MODULE_BYTES) × ((m : Contents) × IsLoaded bytes m)
+  pub always : length bytes ≤ MODULE_BYTES → (m : Contents) → IsLoaded bytes m →
+      Leaves (TellsSorts m) run.status run.sink
+  pub sorts : length bytes ≤ MODULE_BYTES → (m : Contents) → IsLoaded bytes m → (loss : Option ℕ) → IsLossOf m loss →
+      Leaves (Is Solved (told_lines m loss)) run.status run.sink
 
--- a run that is asked to check refuses what it should, and else tells how much the module declares
+-- a run that is asked to check refuses what it should, and else tells how much the module declares, and of its sorts
 pub record AnswersCheck (bytes : List ℕ) (run : Run) : Type 0 where
   pub refused : RefusesText bytes run
   pub told : TellsModule bytes run
 
 -- The command unify -----------------------------------------------------------------------------
 
--- in a module the word is refused exactly where it is no problem in it, with the line of its first fault
+-- in a loaded module the word is refused exactly where it is no problem in it, with the line of its first fault
 pub record RefusesToUnifyWord (bytes word : List ℕ) (run : Run) : Type 0 where
   pub only : run.status ≡ ProblemRefused → (length bytes ≤ MODULE_BYTES)
-      × ((m : Contents) × (IsModule bytes m × AsksNoProblem m word))
-  pub no_problem : length bytes ≤ MODULE_BYTES → (m : Contents) → IsModule bytes m → AsksNoProblem m word →
+      × ((m : Contents) × (IsLoaded bytes m × AsksNoProblem m word))
+  pub no_problem : length bytes ≤ MODULE_BYTES → (m : Contents) → IsLoaded bytes m → AsksNoProblem m word →
       Leaves (IsProblemRefusalOf m word) run.status run.sink
 
 -- where no bound is met and nothing outside failed, a complete answer is written, or memory was refused
@@ -101,18 +105,18 @@ pub record AnswersUnify (bytes word : List ℕ) (run : Run) : Type 0 where
 
 -- The command verify ----------------------------------------------------------------------------
 
--- the text is refused exactly where it is too long, no module, or a module with an equation, and then with the line of
+-- the text is refused exactly where it is too long, not loaded, or loaded with an equation, and then with the line of
 -- its first fault, or of its first equation
 pub record RefusesToVerify (bytes : List ℕ) (run : Run) : Type 0 where
   pub only : run.status ≡ ModuleRefused →
       (MODULE_BYTES < length bytes)
-      ⊎ ((length bytes ≤ MODULE_BYTES) × (AreNoModule bytes ⊎ ((m : Contents) × (n : ℕ) × (IsModule bytes m × HasEquations m n))))
-  pub no_module : length bytes ≤ MODULE_BYTES → AreNoModule bytes →
+      ⊎ ((length bytes ≤ MODULE_BYTES) × (AreNotLoaded bytes ⊎ ((m : Contents) × (n : ℕ) × (IsLoaded bytes m × HasEquations m n))))
+  pub not_loaded : length bytes ≤ MODULE_BYTES → AreNotLoaded bytes →
       Leaves (IsFirstRefusalOf bytes) run.status run.sink
-  pub later : length bytes ≤ MODULE_BYTES → (m : Contents) (n : ℕ) → IsModule bytes m → HasEquations m n →
+  pub later : length bytes ≤ MODULE_BYTES → (m : Contents) (n : ℕ) → IsLoaded bytes m → HasEquations m n →
       Leaves (Is ModuleRefused (later_line n)) run.status run.sink
 
--- in a module without an equation, words are refused exactly where the first is no problem or the second no binding
+-- in a loaded module without an equation, words are refused exactly where the first is no problem or the second no binding
 -- text in it, with the line of the first fault
 pub record RefusesToVerifyWords (bytes problem bindings : List ℕ) (run : Run) : Type 0 where
   pub only : run.status ≡ ProblemRefused → (length bytes ≤ MODULE_BYTES)

@@ -1,5 +1,5 @@
 -- How the steps of `unify` make its reply.
-use Rattle.std.proofs.Common.{◌≡◌, ℕ, List, map, length, sym, ap, ◌∙◌, subst}
+use Rattle.std.proofs.Common.{◌≡◌, ℕ, List, map, length, Result, Ok, Err, IfOk, sym, ap, ◌∙◌, subst}
 use Rattle.std.specs.Prelude.{All}
 use Rattle.fvn_terms.specs.declared.declarations.Declarations.{Declarations}
 use Rattle.fvn_forms.specs.FitsKinds.{FitsKinds}
@@ -14,12 +14,14 @@ use Rattle.fvn_problems.specs.declared.problem.Problem.{Problem}
 use Rattle.fvn_problems.specs.Problems.{IsProblem, RefusesProblem, AreOfOneKind, HasVariables}
 use Rattle.fvn_module.specs.declared.fault.ModuleFault.{ModuleFault}
 use Rattle.fvn_module.specs.Contents.{Contents}
-use Rattle.fvn_module.specs.Refusals.{Refuses}
+use Rattle.fvn_loading.specs.Loading.{IsLoaded, IsLoadFault}
 use Rattle.fvn_answer.specs.Answers.{FitsEnd, IsAnswerText}
 use Rattle.fvn_answer.specs.Laws.{EqualLinesAreInstances}
 use Rattle.fvn_answer.specs.declared.end.End.{End}
 use Rattle.fvn_commands.specs.declared.status.Status.{Status}
 use Rattle.fvn_commands.specs.declared.status.Status.TheVariants.{ModuleRefused, ProblemRefused}
+use Rattle.fvn_commands.specs.declared.answer.Answer.{Answer}
+use Rattle.fvn_commands.specs.Texts.{bytes_of}
 use Rattle.fvn_commands.specs.Checks.{IsRefusalLine}
 use Rattle.fvn_commands.specs.Verifying.{IsProblemRefusalLine}
 use Rattle.fvn_unify.specs.Ends.{status_of_end}
@@ -48,8 +50,16 @@ module _ (m : Contents) (p : Problem) (kinded : All (AreOfOneKind m.signature) p
         status_is = is ∙ ap status_of_end end_is;
       }
 
-pub module-refused : (bytes word : List ℕ) (fault : ModuleFault) → Refuses bytes fault → (s : Status) (t : List ℕ) → s ≡ ModuleRefused → IsRefusalLine fault t → IsUnifyReply bytes word s t
-module-refused bytes word fault h s t e is = subst (λ x. IsUnifyReply bytes word x t) (sym e) (module_refused (record { fault = fault; first = h; line_of = is }))
+-- what the calls leave, where memory is not refused
+
+module _ {E : Type 0} (bytes word : List ℕ) where
+  pub unified-in : (m : Contents) → IsLoaded bytes m → (r : Result Answer E) → IfOk r (λ a. RepliesIn m word a.status (bytes_of a.text)) → IfOk r (λ a. IsUnifyReply bytes word a.status (bytes_of a.text))
+  unified-in m h (Ok a) t = t bytes h
+  unified-in m h (Err e) t = tt
+
+  pub module-refused : (fault : ModuleFault) → IsLoadFault bytes fault → (r : Result Answer E) → IfOk r (λ a. a.status ≡ ModuleRefused) → IfOk r (λ a. IsRefusalLine fault (bytes_of a.text)) → IfOk r (λ a. IsUnifyReply bytes word a.status (bytes_of a.text))
+  module-refused fault h (Ok a) e is = subst (λ x. IsUnifyReply bytes word x (bytes_of a.text)) (sym e) (module_refused (record { fault = fault; first = h; line_of = is }))
+  module-refused fault h (Err e) s is = tt
 
 module _ (m : Contents) (d : Declarations) (names : Names) (signature_is : d ≡ m.signature) (names_are : names ≡ m.names) where
   in_module : (P : Declarations → Names → Type 0) → P d names → P m.signature m.names

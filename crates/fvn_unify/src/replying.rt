@@ -14,7 +14,8 @@ use fvn_axunify::{AxiomUnify, SolveLimits};
 use fvn_base::limits::{TERM_SYMBOLS, UNIFIERS};
 use fvn_commands::{Answer, Text, refuse_module, refuse_problem};
 use fvn_flat::{Solved, answers_to_flattened_pairs, flattened_pairs_are_given};
-use fvn_module::{Module, read_module};
+use fvn_loading::load;
+use fvn_module::Module;
 use fvn_problems::{Problem, problem_names_are_words, problem_names_differ, read_problem};
 use fvn_terms::NoMemory;
 use std::alloc::Global;
@@ -82,14 +83,8 @@ fn reply_in(alloc: Global, declared: &Module, word: &[u8]) -> Result<Answer, NoM
 pub fn unify_reply(alloc: Global, bytes: &[u8], word: &[u8]) -> Result<Answer, NoMemory>
     ensures { IfOk result (λ a. IsUnifyReply bytes.now word.now a.status (bytes_of a.text)) }
 {
-    match read_module(alloc, bytes) {
-        Err(fault) => {
-            let reply = refuse_module(alloc, &fault)?;
-            Ok(reply)
-        }
-        Ok(declared) => {
-            let reply = reply_in(alloc, &declared, word)?;
-            Ok(reply)
-        }
+    match load(alloc, bytes) {
+        Ok(declared) => reply_in(alloc, &declared, word),
+        Err(fault) => refuse_module(alloc, &fault),
     }
 }

@@ -5,7 +5,7 @@ use Rattle.fvn_flat.specs.declared.solver.Pairs.{Pairs}
 use Rattle.fvn_flat.specs.declared.solver.Solved.{Solved}
 use Rattle.fvn_problems.specs.declared.problem.Problem.{Problem}
 use Rattle.fvn_module.specs.Contents.{Contents}
-use Rattle.fvn_module.specs.ModuleText.{IsModule}
+use Rattle.fvn_loading.specs.Loading.{IsLoaded}
 use Rattle.fvn_axunify.specs.Solved.{IsSolvedAs}
 use Rattle.fvn_axunify.specs.Exact.{IsExact}
 use Rattle.fvn_commands.specs.declared.status.Status.{Status}
@@ -19,6 +19,6 @@ pub record IsSolved (m : Contents) (p : Problem) (r : Solved) : Type 0 where
   pub answer : IsSolvedAs m.signature given 0 UNIFIERS TERM_SYMBOLS r
   pub exact : IsExact given 0 UNIFIERS TERM_SYMBOLS r
 
--- replies to a word, whichever bytes are this module
+-- replies to a word, whichever bytes are loaded as this module
 abbrev pub RepliesIn : Contents → List ℕ → Status → List ℕ → Type 0
-RepliesIn m word status text = (bytes : List ℕ) → IsModule bytes m → IsUnifyReply bytes word status text
+RepliesIn m word status text = (bytes : List ℕ) → IsLoaded bytes m → IsUnifyReply bytes word status text

@@ -3,9 +3,10 @@ use Rattle.fvn_commands.proofs.laws.readers_are_lawful.Goals as goal
 
 pub returns : goal.returns
 returns c = record {
-  modules = c.modules_are_determined.ensures;
-  refusals = c.refusals_are_determined.ensures;
-  no_module = c.refused_texts_declare_nothing.ensures;
+  loaded = c.loaded_modules_are_determined.ensures;
+  faults = c.load_faults_are_determined.ensures;
+  not_loaded = c.faulty_texts_are_not_loaded.ensures;
+  losses = c.losses_are_determined.ensures;
   problems = c.problems_are_determined.ensures;
   no_problem = c.refused_problems_ask_nothing.ensures;
   problem_faults = c.problem_faults_are_determined.ensures;

@@ -5,4 +5,4 @@ use Rattle.fvn_promises.proofs.laws.replies_to_check_are_determined.Goals as goa
 pub returns : goal.returns
 returns c =
     let laws = c.readers_are_lawful.ensures in
-    λ bytes. check_determined bytes laws.modules laws.no_module laws.refusals
+    λ bytes. check_determined bytes laws.loaded laws.not_loaded laws.faults laws.losses

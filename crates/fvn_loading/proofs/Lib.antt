@@ -1,0 +1,5 @@
+-- Lemmas on first faults.
+mod Firsts
+mod LeftFaults
+mod Losses
+mod Loaded
