@@ -200,4 +200,5 @@ def main():
         print(f"{line.rstrip()} => {' '.join(out)} | {first} | {fault}")
 
 
-main()
+if __name__ == "__main__":
+    main()

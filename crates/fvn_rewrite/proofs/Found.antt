@@ -1,6 +1,5 @@
 -- What a walk over the places of a form finds.
 use Rattle.std.proofs.Common.{◌≡◌, Option, Some, None, subst}
-use Rattle.std.specs.Prelude.{IfSome}
 use Rattle.fvn_terms.specs.declared.declarations.Declarations.{Declarations}
 use Rattle.fvn_terms.specs.Theory.{Equations}
 use Rattle.fvn_forms.specs.Flat.{FlatTerm, plain}
@@ -8,19 +7,11 @@ use Rattle.fvn_forms.proofs.Eval.{canon_plain}
 use Rattle.fvn_flat.specs.Fits.{Fits}
 use Rattle.fvn_coherence.specs.PlacedSteps.{StepsAtPlace}
 use Rattle.fvn_coherence.specs.Laws.{CoherenceLaws}
-use Rattle.fvn_rewrite.specs.Normalised.{Steps, IsNormalForm}
+use Rattle.fvn_rewrite.specs.Normalised.{IsNormalForm}
 use Rattle.fvn_rewrite.specs.inner.Walking.{WalkAs}
 
 module _ (d : Declarations) (equations : Equations) (t : FlatTerm) where
-  pub found_steps : (o : Option FlatTerm) → WalkAs d equations t o → IfSome o (Steps d equations t)
-  found_steps None h = tt
-  found_steps (Some u) h = h.steps
-
-  pub found_fits : (o : Option FlatTerm) → WalkAs d equations t o → IfSome o (Fits d)
-  found_fits None h = tt
-  found_fits (Some u) h = h.fits
-
   -- a form without redexes is irreducible, since each step of it is one at a place
   pub found_none : (o : Option FlatTerm) → CoherenceLaws d equations → Fits d t → WalkAs d equations t o → o ≡ None → IsNormalForm d equations t
-  found_none None laws fits h e u r = h u (subst (λ v. StepsAtPlace d equations v u) (canon_plain d t fits.flat) (laws.placed (plain t) u fits.kinded r))
+  found_none None laws fits h e = λ u r. h u (subst (λ v. StepsAtPlace d equations v u) (canon_plain d t fits.flat) (laws.placed (plain t) u fits.kinded r))
   found_none (Some u) laws fits h e = cc

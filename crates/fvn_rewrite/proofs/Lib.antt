@@ -4,3 +4,5 @@ mod Placed
 mod Found
 mod Replacing
 mod Reaching
+mod Ending
+mod Harmless

@@ -1,3 +1,4 @@
 -- What is promised of steps and normal forms.
 pub mod Normalised
+pub mod Laws
 pub mod inner

@@ -11,7 +11,7 @@ use crate::stepping::step;
 use fvn_flat::{Flat, Normal};
 use fvn_rules::Rules;
 use fvn_sorts::Signature;
-use fvn_terms::NoMemory;
+use fvn_terms::{NoMemory, rewriting_is_lawful};
 use std::alloc::Global;
 
 // What comes of one turn: the form is too large, or irreducible, or one step leads on.
@@ -45,10 +45,10 @@ fn take_turn(
     }
 }
 
-/// The normal form that steps lead to, where no more than `steps` are needed and no form on the way has more than `size`
-/// symbols.
+/// The normal form to which at most `steps` steps lead; else what as many steps lead to, or the first form on the way with
+/// over `size` symbols.
 ///
-/// A form is tested for its size before a step is sought, the first one too.
+/// Each form is tested for its size before a step is sought, the first one too.
 pub fn normal(
     alloc: Global,
     sig: &Signature,
@@ -63,22 +63,22 @@ pub fn normal(
     ensures { IfOk result
         (IsNormalised sig.now (equations_of rules.now.equations) t.now steps size) }
 {
+    rewriting_is_lawful();
     let mut reached = t.copy(alloc)?;
-    for _ in 0..steps {
+    let mut left = steps;
+    loop {
         let now = take_turn(alloc, sig, rules, &reached, size)?;
         match now {
             Turn::Large => return Ok(Normal::Size(reached)),
             Turn::Irreducible => return Ok(Normal::Form(reached)),
-            Turn::Next(u) => reached = u,
-        }
-    }
-    let last = take_turn(alloc, sig, rules, &reached, size)?;
-    match last {
-        Turn::Large => Ok(Normal::Size(reached)),
-        Turn::Irreducible => Ok(Normal::Form(reached)),
-        Turn::Next(_) => {
-            let start = t.copy(alloc)?;
-            Ok(Normal::Steps(start, reached))
+            Turn::Next(u) => {
+                if left == 0 {
+                    let start = t.copy(alloc)?;
+                    return Ok(Normal::Steps(start, reached));
+                }
+                left -= 1;
+                reached = u;
+            }
         }
     }
 }

@@ -1,15 +1,17 @@
 -- Identity instances, by one variable after another.
-use Rattle.std.proofs.Common.{◌≡◌, ◌⊎◌, ℕ, Bool, true, false, List, [], ◌∷◌, ◌++◌, map, get_or, refl, sym, ap, ◌∙◌, subst, inl, inr}
+use Rattle.std.proofs.Common.{◌≡◌, ◌⊎◌, ◌<◌, ◌+◌, ℕ, Bool, true, false, List, [], ◌∷◌, ◌++◌, map, length, take, get_or, refl, sym, ap, ◌∙◌, subst, inl, inr}
 use Rattle.std.specs.Prelude.{if◌then◌else◌, fold, All, Some, None}
 use Rattle.std.specs.List.{Contains}
-use Rattle.std.proofs.lemmas.List.Elements.{Contains-append_left, Contains-append_right, Contains-append_cases, Contains-push, Contains-push_cases, Contains-get_or}
+use Rattle.std.proofs.lemmas.List.{take_more}
+use Rattle.std.proofs.lemmas.List.Sums.{fold_more}
+use Rattle.std.proofs.lemmas.List.Elements.{Contains-append_left, Contains-append_right, Contains-append_cases, Contains-push_cases, Contains-get_or}
 use Rattle.fvn_base.proofs.Membership.{contains_here, contains_later, contains_cases, contains_none, contains_map, map_contains}
 use Rattle.fvn_terms.specs.declared.plain.Var.{Var}
 use Rattle.fvn_terms.specs.declared.plain.OpId.{OpId}
 use Rattle.fvn_terms.specs.declared.declarations.Declarations.{Declarations}
 use Rattle.fvn_terms.specs.Term.{Term, var}
 use Rattle.fvn_terms.specs.Substitution.{Substitution, apply, followed_by, same_var, Occurs}
-use Rattle.fvn_terms.specs.Signature.{kind, AtOrBelow}
+use Rattle.fvn_terms.specs.Signature.{kind}
 use Rattle.fvn_terms.specs.Equality.{constant}
 use Rattle.fvn_terms.specs.Sorts.{HasSort}
 use Rattle.fvn_terms.proofs.Substitutions.{apply-apply, apply-var, apply-agree}
@@ -37,6 +39,7 @@ use Rattle.fvn_rewriting.proofs.Listing.{distinct_listed, distinct_occurs}
 use Rattle.fvn_rewriting.proofs.Choosing.{identity_below, below_identity, made_identity}
 use Rattle.fvn_rewriting.proofs.Collapsing.{keeps}
 use Rattle.fvn_rules.specs.declared.rule.Rule.{Rule}
+use Rattle.fvn_rules.proofs.Steps.{listed_at}
 use Rattle.fvn_rules.specs.inner.Making.{goes_to, IsKindedRule, instance_by, with_identity, by_identities, with_choices, IsUnder, AreInstancesOver, AreInstances}
 
 -- what a variable goes to
@@ -85,6 +88,15 @@ module _ (d : Declarations) where
       go : Contains (with_identity d x rules all o) r ⊎ IsMadeBy es r → Contains all r ⊎ IsMadeBy (o ∷ es) r
       go (inl i) = at (Contains-append_cases all (map (instance_by d (goes_to x o)) rules) r i)
       go (inr m) = inr (later o es r m)
+
+  -- one identity more
+  pub identities_step : (x : Var) (rules : List Rule) (es : List OpId) (i : ℕ) (e : OpId) → i < length es → (all next : List Rule) (s : Bindings) →
+      next ≡ all ++ map (instance_by d s) rules → s ≡ goes_to x (get_or es i e) → all ≡ by_identities d x rules (take i es) → next ≡ by_identities d x rules (take (i + 1) es)
+  identities_step x rules es i e within all next s made is old =
+      made
+      ∙ ap (λ (c : Bindings). all ++ map (instance_by d c) rules) is
+      ∙ ap (λ (l : List Rule). with_identity d x rules l (get_or es i e)) old
+      ∙ sym (fold_more (with_identity d x rules) [] es i e within)
 
   module _ (good : IsGood d) (completed : IsCompleted d) where
     -- an identity at or below a sort as the value of a variable
@@ -263,3 +275,12 @@ module _ (d : Declarations) where
           go : (by : Substitution) (x : Var) → (Contains (distinct_variables_of equation.0) x → ⊥) → (by x ≡ var x) ⊎ (Occurs x equation.0 × GoesToIdentity d by x) → by x ≡ var x
           go by x not_listed (inl p) = p
           go by x not_listed (inr w) = absurd (not_listed (distinct_listed equation.0 x w.0))
+
+      -- one variable of a list more
+      pub variable_step : (vars : List Var) → vars ≡ distinct_variables_of equation.0 → (i : ℕ) (x : Var) → i < length vars → (rules next : List Rule) → next ≡ with_choices d rules (get_or vars i x) →
+          AreInstancesOver d number equation (take i vars) rules → AreInstancesOver d number equation (take (i + 1) vars) next
+      variable_step vars whole i x within rules next is over =
+          let y : Var = get_or vars i x in
+          let occurs = distinct_occurs equation.0 y (listed_at vars (distinct_variables_of equation.0) whole i x within) in
+          subst (AreInstancesOver d number equation (take (i + 1) vars)) (sym is)
+          (subst (λ (l : List Var). AreInstancesOver d number equation l (with_choices d rules y)) (sym (take_more vars i x within)) (choices_step (take i vars) y occurs rules over))

@@ -1,32 +1,34 @@
 -- What is promised of the rules, from what was made.
-use Rattle.std.proofs.Common.{◌≡◌, ◌⊎◌, ◌+◌, ◌<◌, ◌≤◌, ℕ, List, [], ◌∷◌, length, map, get_or, Some, None, refl, sym, ap, ◌∙◌, subst, inl, inr, arith}
+use Rattle.std.proofs.Common.{◌≡◌, ◌⊎◌, ◌<◌, ◌≤◌, ℕ, List, [], length, get_or, Some, None, sym, ap, ◌∙◌, subst, inl, inr}
 use Rattle.std.specs.Prelude.{All, slice_get}
 use Rattle.std.specs.List.{Contains}
 use Rattle.std.proofs.lemmas.Bool.{cases_lt}
 use Rattle.std.proofs.lemmas.List.{get_or_past}
-use Rattle.std.proofs.lemmas.List.Elements.{All-contains, Contains-get_or}
+use Rattle.std.proofs.lemmas.List.Elements.{All-contains}
 use Rattle.std.proofs.lemmas.Option.{slice_get-get_or, slice_get_cases}
 use Rattle.fvn_base.proofs.Membership.{contains_none, contains_map, map_contains}
 use Rattle.fvn_terms.specs.declared.plain.OpId.{OpId}
 use Rattle.fvn_terms.specs.declared.declarations.Rank.{Rank}
 use Rattle.fvn_terms.specs.declared.declarations.Declarations.{Declarations}
-use Rattle.fvn_terms.specs.Term.{Term, app}
+use Rattle.fvn_terms.specs.Term.{Term, var, app}
+use Rattle.fvn_terms.specs.Substitution.{apply}
+use Rattle.fvn_terms.specs.Equality.{two}
 use Rattle.fvn_terms.specs.Signature.{unknown, declared, HasKind}
 use Rattle.fvn_forms.specs.Flat.{FlatTerm, plain}
 use Rattle.fvn_forms.specs.Settled.{Settled}
 use Rattle.fvn_forms.proofs.Eval.{canon_settled}
 use Rattle.fvn_flat.specs.Forms.{head_of}
-use Rattle.fvn_flat.specs.Rules.{IsRuleFrom, IsRuleOf}
+use Rattle.fvn_flat.specs.Rules.{IsRuleFrom}
 use Rattle.fvn_module.specs.declared.equation.Equation.{Equation}
 use Rattle.fvn_module.specs.Readable.{IsReadableEquation}
 use Rattle.fvn_cohere.specs.Promises.{sides_of, equations_of}
 use Rattle.fvn_rewriting.specs.Kinds.{HasOneKind, HaveOneKind}
 use Rattle.fvn_rewriting.specs.Laws.{RuleLaws}
 use Rattle.fvn_rules.specs.declared.rule.Rule.{Rule}
-use Rattle.fvn_rules.specs.Given.{RuleLists, headed, HasInstance, IsNumberedRule, AreGivenUnder, AreEnoughUnder, AreRules}
+use Rattle.fvn_rules.specs.Given.{RuleLists, IsNumberedRule, AreGivenUnder, AreEnoughUnder, AreRules}
 use Rattle.fvn_rules.specs.inner.Making.{IsKindedRule}
 use Rattle.fvn_rules.specs.inner.Collecting.{AreRulesUpTo}
-use Rattle.fvn_rules.specs.inner.Heads.{SomeHasInstance, AreNeeded, IsTable}
+use Rattle.fvn_rules.specs.inner.Heads.{IsTable}
 use Rattle.fvn_rules.proofs.General.{HasInstance-trans}
 use Rattle.fvn_rules.proofs.Collecting.{All-contained}
 use Rattle.fvn_rules.proofs.Wide.{head_app}
@@ -51,8 +53,11 @@ kinds_of d equations all sides c =
 module _ (d : Declarations) where
   -- the sides of a rule are flat
   settled_sides : (equation : Term × Term) (l r : FlatTerm) → IsRuleFrom d equation l r → Settled d l × Settled d r
-  settled_sides equation l r (inl i) = (subst (Settled d) (sym i.left) (canon_settled d _), subst (Settled d) (sym i.right) (canon_settled d _))
-  settled_sides equation l r (inr e) = (subst (Settled d) (sym e.left) (canon_settled d _), subst (Settled d) (sym e.right) (canon_settled d _))
+  settled_sides equation l r (inl i) = (subst (Settled d) (sym i.left) (canon_settled d (apply i.by equation.0)), subst (Settled d) (sym i.right) (canon_settled d (apply i.by equation.1)))
+  settled_sides equation l r (inr e) = (
+    subst (Settled d) (sym e.left) (canon_settled d (two e.operator (plain e.inner_left) (var e.beside))),
+    subst (Settled d) (sym e.right) (canon_settled d (two e.operator (plain e.inner_right) (var e.beside))),
+  )
 
   -- an operator that heads a term is one of the signature
   operator_known : (f : OpId) (t : FlatTerm) → Settled d t → head_of t ≡ Some f → (k : _) → HasKind d (plain t) k → f.0 < length d.ops

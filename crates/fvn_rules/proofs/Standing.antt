@@ -13,7 +13,7 @@ use Rattle.fvn_terms.specs.Substitution.{apply, same_var, Occurs}
 use Rattle.fvn_terms.specs.Signature.{axioms, HasKind}
 use Rattle.fvn_terms.specs.Equality.{two, IsAssociative, BEqual}
 use Rattle.fvn_terms.proofs.Substitutions.{apply-var}
-use Rattle.fvn_terms.proofs.Equal.{HasKind-apply, BEqual-sym}
+use Rattle.fvn_terms.proofs.Equal.{HasKind-apply}
 use Rattle.fvn_terms.proofs.Occurrences.{occurs_value, BEqual-occurs}
 use Rattle.fvn_forms.specs.Flat.{FlatTerm, plain}
 use Rattle.fvn_forms.specs.Canon.{canon}
@@ -21,23 +21,21 @@ use Rattle.fvn_forms.specs.Settled.{Settled}
 use Rattle.fvn_forms.specs.LeastSort.{least_sort}
 use Rattle.fvn_forms.specs.Good.{IsGood}
 use Rattle.fvn_forms.proofs.KindsKept.{kind_unique}
-use Rattle.fvn_forms.proofs.Eval.{canon_settled, canon_plain}
+use Rattle.fvn_forms.proofs.Eval.{canon_plain}
 use Rattle.fvn_forms.proofs.ToCanon.{to_canon}
 use Rattle.fvn_sorts.specs.Queries.{IsCompleted}
 use Rattle.fvn_flat.specs.Forms.{head_of}
-use Rattle.fvn_flat.specs.Drawn.{Renaming}
 use Rattle.fvn_flat.specs.Successors.{renamed_form}
-use Rattle.fvn_flat.specs.Rules.{GoesToIdentity, IsIdentityChoice, IsIdentityInstance, IsExtension, IsRuleFrom}
+use Rattle.fvn_flat.specs.Rules.{GoesToIdentity, IsIdentityInstance, IsExtension, IsRuleFrom}
 use Rattle.fvn_flat.specs.inner.Gathered.{joins}
 use Rattle.fvn_flat.proofs.Binding.{same_var_is, same_var_itself}
 use Rattle.fvn_rewriting.specs.Kinds.{HasOneKind}
 use Rattle.fvn_rewriting.proofs.Collapsing.{keeps}
 use Rattle.fvn_rules.specs.declared.rule.Rule.{Rule}
-use Rattle.fvn_rules.specs.Given.{IsRenamedRule, HasInstance}
-use Rattle.fvn_rules.specs.inner.Making.{IsKindedRule, new_variable, beside, extended, extension_under, extension_of, IsUnder, AreInstances, StandsFor, AreRulesFrom}
+use Rattle.fvn_rules.specs.inner.Making.{IsKindedRule, new_variable, beside, extended, extension_under, extension_of, AreInstances, StandsFor, AreRulesFrom}
 use Rattle.fvn_rules.proofs.General.{renaming_sorted, HasInstance-of}
 use Rattle.fvn_rules.proofs.Choosing.{instance_kinded}
-use Rattle.fvn_rules.proofs.Wide.{joins_associative, associative_joins, swapped_if, swapped, swapped_sorts, head_app, app_head, renamed_beside, new_sort, own_kind, pair_kind, beside_canon, beside_kind, beside_head, renamed_equal}
+use Rattle.fvn_rules.proofs.Wide.{joins_associative, associative_joins, swapped_if, swapped, swapped_sorts, head_app, app_head, renamed_beside, new_sort, pair_kind, beside_canon, beside_kind, beside_head, renamed_equal}
 
 -- what a filter with changes keeps
 pub filter_map_contains : {A B : Type 0} (h : A → Option B) (xs : List A) (x : A) (y : B) → Contains xs x → h x ≡ Some y → Contains (filter_map h xs) y
@@ -51,16 +49,16 @@ filter_map_contains {A} {B} h (a ∷ xs) x y c e = go (h a) refl (filter_map_con
 
 pub contains_filter_map : {A B : Type 0} (h : A → Option B) (xs : List A) (y : B) → Contains (filter_map h xs) y → (x : A) × (Contains xs x × (h x ≡ Some y))
 contains_filter_map h [] y c = absurd (contains_none y c)
-contains_filter_map {A} {B} h (a ∷ xs) y c = go (h a) refl where
+contains_filter_map {A} {B} h (a ∷ xs) y c = go (h a) refl (contains_filter_map h xs y) where
   later : (x : A) × (Contains xs x × (h x ≡ Some y)) → (x : A) × (Contains (a ∷ xs) x × (h x ≡ Some y))
   later w = (w.0, (contains_later a xs w.0 w.1.0, w.1.1))
 
-  go : (o : Option B) → h a ≡ o → (x : A) × (Contains (a ∷ xs) x × (h x ≡ Some y))
-  go None p = later (contains_filter_map h xs y (rw p at c))
-  go (Some z) p = at (contains_cases z (filter_map h xs) y (rw p at c)) where
-    at : (z ≡ y) ⊎ Contains (filter_map h xs) y → (x : A) × (Contains (a ∷ xs) x × (h x ≡ Some y))
-    at (inl q) = (a, (contains_here a xs, p ∙ ap Some q))
-    at (inr i) = later (contains_filter_map h xs y i)
+  go : (o : Option B) → h a ≡ o → (Contains (filter_map h xs) y → (x : A) × (Contains xs x × (h x ≡ Some y))) → (x : A) × (Contains (a ∷ xs) x × (h x ≡ Some y))
+  go None p rest = later (rest (rw p at c))
+  go (Some z) p rest = elim (contains_cases z (filter_map h xs) y (rw p at c)) as (λ _. (x : A) × (Contains (a ∷ xs) x × (h x ≡ Some y))) [
+    | inl q ↦ (a, (contains_here a xs, p ∙ ap Some q))
+    | inr i ↦ later (rest i)
+  ]
 
 module _ (d : Declarations) where
   -- the extension of a rule, by its head

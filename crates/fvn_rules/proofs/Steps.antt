@@ -1,10 +1,9 @@
 -- Lists that grow by one step of a loop.
-use Rattle.std.proofs.Common.{◌≡◌, ◌<◌, ◌+◌, ℕ, List, [], ◌∷◌, ◌++◌, map, length, take, get_or, Option, Some, None, refl, sym, ap, ◌∙◌, subst}
-use Rattle.std.specs.Prelude.{All, filter_map, fold}
-use Rattle.std.specs.List.{cons_option}
-use Rattle.std.proofs.lemmas.List.{take_more, map_more, append_assoc, append-nil}
-use Rattle.std.proofs.lemmas.List.Elements.{filter_map-append}
-use Rattle.std.proofs.lemmas.List.Sums.{fold_more}
+use Rattle.std.proofs.Common.{◌≡◌, ◌<◌, ◌+◌, ℕ, List, [], ◌∷◌, ◌++◌, map, length, take, get_or, Option, sym, ap, ◌∙◌, subst}
+use Rattle.std.specs.Prelude.{All, filter_map}
+use Rattle.std.specs.List.{Contains, cons_option}
+use Rattle.std.proofs.lemmas.List.{take_more, map_more, append_assoc}
+use Rattle.std.proofs.lemmas.List.Elements.{filter_map-append, Contains-get_or}
 
 module _ {A B : Type 0} where
   -- one changed element more, behind others
@@ -22,6 +21,14 @@ module _ {A B : Type 0} where
       ∙ ap (λ p. filter_map h (take i ys) ++ cons_option p []) e
 
 module _ {A : Type 0} where
+  -- what is taken, with one more
+  pub take-step : (ys : List A) (i : ℕ) (y : A) → i < length ys → y ≡ get_or ys i y → take (i + 1) ys ≡ take i ys ++ y ∷ []
+  take-step ys i y within is = take_more ys i y within ∙ ap (λ v. take i ys ++ v ∷ []) (sym is)
+
   -- what holds of all holds of an element that is read
   pub All-item : (P : A → Type 0) (ys : List A) → All P ys → (i : ℕ) (y : A) → i < length ys → y ≡ get_or ys i y → P y
   All-item P ys h i y within is = subst P (sym is) (h i y within)
+
+  -- an element that is read, in a list that is the same
+  pub listed_at : (ys zs : List A) → ys ≡ zs → (i : ℕ) (y : A) → i < length ys → Contains zs (get_or ys i y)
+  listed_at ys zs e i y within = subst (λ l. Contains l (get_or ys i y)) e (Contains-get_or ys i y within)

@@ -1,7 +1,6 @@
 -- A new variable beside both sides of a rule.
-use Rattle.std.proofs.Common.{◌≡◌, ◌⊎◌, ◌≤◌, ◌+◌, Bool, true, false, List, [], ◌∷◌, ◌++◌, length, Some, refl, sym, ap, ◌∙◌, subst, inl, inr, arith}
+use Rattle.std.proofs.Common.{◌≡◌, ◌≤◌, Bool, true, false, List, [], ◌∷◌, length, Some, refl, sym, ap, ◌∙◌, subst, arith}
 use Rattle.std.specs.Prelude.{if◌then◌else◌}
-use Rattle.std.specs.List.{Contains}
 use Rattle.std.proofs.lemmas.List.{length-append}
 use Rattle.fvn_terms.specs.declared.plain.Var.{Var}
 use Rattle.fvn_terms.specs.declared.plain.OpId.{OpId}
@@ -15,10 +14,10 @@ use Rattle.fvn_terms.specs.Signature.{kind, axioms, IsSort, HasKind}
 use Rattle.fvn_terms.specs.Equality.{two, IsAssociative, BEqual}
 use Rattle.fvn_terms.proofs.Substitutions.{apply-var, apply-agree}
 use Rattle.fvn_terms.proofs.Equal.{HasKind-apply}
-use Rattle.fvn_forms.specs.Flat.{FlatTerm, FlatTerms, fvar, fapp, fnone, fmore, funpack, plain, plain_all}
+use Rattle.fvn_forms.specs.Flat.{FlatTerm, fvar, fapp, fnone, fmore, plain, plain_all}
 use Rattle.fvn_forms.specs.InOrder.{sort}
-use Rattle.fvn_forms.specs.Canon.{parts, all_parts, joined, sum, eval, canon, inst}
-use Rattle.fvn_forms.specs.Settled.{Settled, SettledValues}
+use Rattle.fvn_forms.specs.Canon.{parts, all_parts, joined, canon, inst}
+use Rattle.fvn_forms.specs.Settled.{Settled}
 use Rattle.fvn_forms.specs.Good.{IsGood}
 use Rattle.fvn_forms.proofs.InOrder.{length_sort}
 use Rattle.fvn_forms.proofs.Build.{parts_none, build_sum}
@@ -28,12 +27,11 @@ use Rattle.fvn_forms.proofs.KindsKept.{sum_of_kind}
 use Rattle.fvn_forms.proofs.ToCanon.{to_canon, canon_of_kind}
 use Rattle.fvn_forms.proofs.LeastSort.{sort_in-kind}
 use Rattle.fvn_flat.specs.Forms.{head_of}
-use Rattle.fvn_flat.specs.Fits.{Fits, AllFit, TakesAsDeclared, Takes}
+use Rattle.fvn_flat.specs.Fits.{AllFit, TakesAsDeclared, Takes}
 use Rattle.fvn_flat.specs.Drawn.{Renaming}
 use Rattle.fvn_flat.specs.Successors.{renamed_form}
 use Rattle.fvn_flat.specs.inner.Gathered.{joins}
 use Rattle.fvn_flat.proofs.Binding.{same_var_is, same_var_itself}
-use Rattle.fvn_rewriting.specs.Kinds.{HasOneKind}
 use Rattle.fvn_rewriting.proofs.Shaping.{two_terms}
 use Rattle.fvn_rules.specs.declared.rule.Rule.{Rule}
 use Rattle.fvn_rules.specs.inner.Making.{IsKindedRule, new_variable, beside}
@@ -178,6 +176,28 @@ module _ (d : Declarations) where
           of_joined [] n = absurd (omega arith)
           of_joined (u ∷ []) n = absurd (omega arith)
           of_joined (u ∷ v ∷ l) n = refl
+
+    -- both sides of a rule may stand beside a new variable
+    module _ (rule : Rule) (kinded : IsKindedRule d rule) (f : OpId) (heads : head_of rule.left ≡ Some f) (joins_it : joins (axioms d f) ≡ true) (z : Var) (new : z ≡ new_variable d rule.left) where
+      abbrev k : SortId
+      k = kinded.kinds.kind
+
+      new_kind : z.sort ≡ k
+      new_kind = ap (λ (v : Var). v.sort) new ∙ new_sort rule.left k kinded.left kinded.kinds.left
+
+      pub left_beside : AllFit d (rule.left ∷ fvar z ∷ []) × Takes d f (rule.left ∷ fvar z ∷ [])
+      left_beside =
+          let a = joins_associative (axioms d f) joins_it in (
+            fit f rule.left k kinded.left kinded.kinds.left heads a z new_kind rule.left kinded.left kinded.kinds.left,
+            takes f rule.left k kinded.left kinded.kinds.left heads a z new_kind rule.left kinded.left kinded.kinds.left,
+          )
+
+      pub right_beside : AllFit d (rule.right ∷ fvar z ∷ []) × Takes d f (rule.right ∷ fvar z ∷ [])
+      right_beside =
+          let a = joins_associative (axioms d f) joins_it in (
+            fit f rule.left k kinded.left kinded.kinds.left heads a z new_kind rule.right kinded.right kinded.kinds.right,
+            takes f rule.left k kinded.left kinded.kinds.left heads a z new_kind rule.right kinded.right kinded.kinds.right,
+          )
 
     -- a form whose renaming is another form has it as an instance
     pub renamed_equal : (by : Renaming) → ((x : Var) → (by x).sort ≡ x.sort) → (t u : FlatTerm) (k : SortId) → HasKind d (plain t) k → renamed_form d by t ≡ u → BEqual d (apply (λ x. var (by x)) (plain t)) (plain u)

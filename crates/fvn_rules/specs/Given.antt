@@ -15,7 +15,7 @@ use Rattle.fvn_module.specs.declared.equation.Equation.{Equation}
 use Rattle.fvn_cohere.specs.Promises.{sides_of, equations_of}
 use Rattle.fvn_rules.specs.declared.rule.Rule.{Rule}
 
--- equations, the rules that are made from them, and for each operator those that are needed where it heads a term
+-- equations, the rules that are made from them, and for each operator those that are needed under it
 pub record RuleLists : Type 0 where
   pub equations : List Equation
   pub rules : List Rule
@@ -37,7 +37,7 @@ module _ (d : Declarations) where
     pub left : rule.left ≡ renamed_form d by l
     pub right : rule.right ≡ renamed_form d by r
 
-  -- l = r is an instance of the rule: one well-sorted substitution makes both its sides, modulo the axioms
+  -- l = r is an instance of the rule: one well-sorted substitution makes both sides, modulo the axioms
   pub record HasInstance (rule : Rule) (l r : FlatTerm) : Type 0 where
     pub by : Substitution
     pub well_sorted : IsWellSorted d by
@@ -57,18 +57,22 @@ module _ (d : Declarations) where
   AreComplete equations rules =
       (before : ℕ) (equation : Equation) (l r : FlatTerm) →
       slice_get equations before ≡ Some equation → IsRuleFrom d (sides_of equation) l r →
-      (rule : Rule) × (Contains rules rule × ((rule.equation ≡ before + 1) × IsRenamedRule l r rule))
+      (rule : Rule) ×
+      (Contains rules rule × ((rule.equation ≡ before + 1) × IsRenamedRule l r rule))
 
   module _ (lists : RuleLists) (f : OpId) where
     -- what is needed where f heads a term are given rules whose left sides f heads
     abbrev pub AreGivenUnder : Type 0
-    AreGivenUnder = (rule : Rule) → Contains (headed lists f) rule → Contains lists.rules rule × (head_of rule.left ≡ Some f)
+    AreGivenUnder =
+        (rule : Rule) → Contains (headed lists f) rule →
+        Contains lists.rules rule × (head_of rule.left ≡ Some f)
 
     -- each rule of the equations whose left side f heads is an instance of one of them,
     -- so what none of them matches is matched by no rule that f heads
     abbrev pub AreEnoughUnder : Type 0
     AreEnoughUnder =
-        (l r : FlatTerm) → IsRuleOf d (equations_of lists.equations) l r → head_of l ≡ Some f →
+        (l r : FlatTerm) →
+        IsRuleOf d (equations_of lists.equations) l r → head_of l ≡ Some f →
         (rule : Rule) × (Contains (headed lists f) rule × HasInstance rule l r)
 
   -- the rules of the equations, up to renaming, in the order of the equations, with a table by heads

@@ -1,10 +1,10 @@
 //! The rules of equations.
-ghost use Rattle.std.specs.Prelude.{◌≡◌, length, All, IfOk};
+ghost use Rattle.std.specs.Prelude.{◌≡◌, All, IfOk};
 ghost use Rattle.fvn_rewriting.specs.Identities.{identities};
 ghost use Rattle.fvn_module.specs.Readable.{IsReadableEquation};
 ghost use Rattle.fvn_cohere.specs.Promises.{sides_of};
 ghost use Rattle.fvn_rules.specs.inner.Making.{AreRulesFrom};
-ghost use Rattle.fvn_rules.specs.inner.Collecting.{AreRulesUpTo};
+ghost use Rattle.fvn_rules.specs.inner.Collecting.{AreAllRules};
 
 use crate::extensions::extensions;
 use crate::instances::instances;
@@ -42,7 +42,7 @@ pub(crate) fn rules_of(
     equations: &[Equation],
 ) -> Result<Vec<Rule>, NoMemory>
     requires { All (IsReadableEquation sig.now) equations.now }
-    ensures { IfOk result (λ all. AreRulesUpTo sig.now equations.now (length equations.now) all.items) }
+    ensures { IfOk result (λ all. AreAllRules sig.now equations.now all.items) }
 {
     let es = all_identities(alloc, sig)?;
     let mut all = Vec::new(alloc);

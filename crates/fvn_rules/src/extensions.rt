@@ -61,7 +61,6 @@ fn extended(alloc: Global, sig: &Signature, rule: &Rule, f: OpId) -> Result<Rule
     ensures { IfOk result (λ r. r ≡ extended sig.now rule.now f) }
 {
     sig.recall_good();
-    sig.recall_completed();
     let z = new_variable(sig, &rule.left);
     let left = beside(alloc, sig, f, z, &rule.left)?;
     let right = beside(alloc, sig, f, z, &rule.right)?;

@@ -1,9 +1,8 @@
 //! The rules that are needed under each head: those of which no other is more general.
 ghost use Rattle.std.specs.Prelude.{◌≡◌, ◌↔◌, IsTrue, Some, All, IfOk};
 ghost use Rattle.fvn_flat.specs.Forms.{head_of};
-ghost use Rattle.fvn_rules.specs.Given.{HasInstance};
 ghost use Rattle.fvn_rules.specs.inner.Making.{IsKindedRule};
-ghost use Rattle.fvn_rules.specs.inner.Heads.{SomeHasInstance, AreLeft, AreNeededWith, AreNeeded, IsTable};
+ghost use Rattle.fvn_rules.specs.inner.Heads.{HasAsInstance, SomeHasInstance, AreLeft, AreNeededWith, AreNeeded, IsTable};
 
 use crate::rule::Rule;
 use fvn_base::Seq;
@@ -17,15 +16,13 @@ use std::slice::from_ref;
 fn has_instance(alloc: Global, sig: &Signature, rule: &Rule, other: &Rule) -> Result<bool, NoMemory>
     requires rule { IsKindedRule sig.now rule.now }
     requires other { IsKindedRule sig.now other.now }
-    ensures { IfOk result (λ b. IsTrue b ↔ HasInstance sig.now rule.now other.now.left other.now.right) }
+    ensures { IfOk result (λ b. IsTrue b ↔ HasAsInstance sig.now rule.now other.now) }
 {
     let patterns = (from_ref(&rule.left), from_ref(&rule.right));
     let targets = (from_ref(&other.left), from_ref(&other.right));
     let found = matches_both(alloc, sig, patterns, targets)?;
-    match found {
-        Some(_) => Ok(true),
-        None => Ok(false),
-    }
+    let is = found.is_some();
+    Ok(is)
 }
 
 // Whether one of the rules has this one as an instance.
@@ -71,7 +68,7 @@ fn without_instances(
     Ok(all)
 }
 
-// The rules with one more, where none of them has it as an instance; instances of it are left out then.
+// The rules with one more, and without its instances; as they are, where one of them has it as an instance.
 fn needed_with(
     alloc: Global,
     sig: &Signature,

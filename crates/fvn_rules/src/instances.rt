@@ -63,7 +63,8 @@ fn with_instances_by(
 ) -> Result<Vec<Rule>, NoMemory>
     requires subst { BindingsFit sig.now s.now }
     requires rules { All (IsKindedRule sig.now) rules.now }
-    ensures { IfOk result (λ all. all.items ≡ before.items ++ map (instance_by sig.now s.now) rules.now) }
+    ensures { IfOk result (λ all.
+        all.items ≡ before.items ++ map (instance_by sig.now s.now) rules.now) }
 {
     let mut all = before;
     for rule in rules {

@@ -1,5 +1,5 @@
 -- The rules of the first equations.
-use Rattle.std.specs.Prelude.{◌≡◌, ◌≤◌, ◌<◌, ◌+◌, ℕ, List, Contains, Some, slice_get}
+use Rattle.std.specs.Prelude.{◌≡◌, ◌≤◌, ◌<◌, ◌+◌, ℕ, List, length, Contains, Some, slice_get}
 use Rattle.fvn_terms.specs.declared.declarations.Declarations.{Declarations}
 use Rattle.fvn_forms.specs.Flat.{FlatTerm}
 use Rattle.fvn_flat.specs.Rules.{IsRuleFrom}
@@ -18,3 +18,7 @@ pub record AreRulesUpTo (d : Declarations) (equations : List Equation) (count : 
       before < count → slice_get equations before ≡ Some equation → IsRuleFrom d (sides_of equation) l r →
       (rule : Rule) × (Contains rules rule × ((rule.equation ≡ before + 1) × StandsFor d l r rule))
   pub ordered : AreOrdered rules
+
+-- all rules of the equations, in the order of these
+abbrev pub AreAllRules : Declarations → List Equation → List Rule → Type 0
+AreAllRules d equations rules = AreRulesUpTo d equations (length equations) rules

@@ -7,14 +7,18 @@ use Rattle.fvn_rules.specs.declared.rule.Rule.{Rule}
 use Rattle.fvn_rules.specs.Given.{HasInstance}
 
 module _ (d : Declarations) where
+  -- one substitution makes both sides of the rule those of the other
+  abbrev pub HasAsInstance : Rule → Rule → Type 0
+  HasAsInstance rule other = HasInstance d rule other.left other.right
+
   -- one of the rules has this one as an instance
   abbrev pub SomeHasInstance : List Rule → Rule → Type 0
-  SomeHasInstance rules rule = (general : Rule) × (Contains rules general × HasInstance d general rule.left rule.right)
+  SomeHasInstance rules rule = (general : Rule) × (Contains rules general × HasAsInstance general rule)
 
   -- what is left of the rules without instances of one more
   pub record AreLeft (general : Rule) (rules left : List Rule) : Type 0 where
     pub listed : (rule : Rule) → Contains left rule → Contains rules rule
-    pub others : (rule : Rule) → Contains rules rule → Contains left rule ⊎ HasInstance d general rule.left rule.right
+    pub others : (rule : Rule) → Contains rules rule → Contains left rule ⊎ HasAsInstance general rule
 
   -- with one rule more
   pub record AreNeededWith (rule : Rule) (before after : List Rule) : Type 0 where

@@ -1,17 +1,41 @@
--- One turn more, and the last.
-use Rattle.std.proofs.Common.{sym, ap, ◌∙◌, subst, arith}
+-- One turn more.
+use Rattle.std.proofs.Common.{◌+◌, sym, subst, arith}
 use Rattle.fvn_cohere.specs.Promises.{equations_of}
+use Rattle.fvn_rewrite.specs.Normalised.{IsReached}
 use Rattle.fvn_rewrite.proofs.Reaching.{reached_itself, reached_more}
+use Rattle.fvn_rewrite.proofs.Ending.{form_end, unfinished_end, large_end}
 use Rattle.fvn_rewrite.proofs.normalising.normal.Goals as goal
 
+pub loop-reached-init : goal.loop-reached-init
+loop-reached-init c =
+    let d = c.args.sig.now in
+    let E = equations_of c.args.rules.now.equations in
+    (0, omega arith, subst (IsReached d E 0 c.args.t.now) (sym c.in_ok-reached.ensures) (reached_itself d E c.args.t.now c.requires.term))
+
 pub take_turn-requires : goal.take_turn-requires
-take_turn-requires c = record { term = c.loop.invariant.fits; rules = c.requires.rules; admissible = c.requires.admissible }
+take_turn-requires c = record { term = c.loop-reached.invariant.2.fits; rules = c.requires.rules; admissible = c.requires.admissible }
 
-pub loop-init : goal.loop-init
-loop-init c = ?
-
-pub loop-preserved : goal.loop-preserved
-loop-preserved c = ?
+pub loop-reached-preserved : goal.loop-reached-preserved
+loop-reached-preserved c =
+    let d = c.args.sig.now in
+    let E = equations_of c.args.rules.now.equations in
+    let k = c.loop-reached.invariant.0 in
+    (k + 1, omega (arith, c.loop-reached.invariant.1), reached_more d E c.rewriting_is_lawful.ensures k c.args.t.now c.loop-reached.reached c.in-Next.u c.loop-reached.invariant.2 (rw c.in-Next.is at c.in_ok-now.ensures).1)
 
 pub returns-in-Large : goal.returns-in-Large
-returns-in-Large c = ?
+returns-in-Large c =
+    let d = c.args.sig.now in
+    let E = equations_of c.args.rules.now.equations in
+    large_end d E c.args.t.now c.args.steps c.args.size c.loop-reached.invariant.0 c.loop-reached.reached (omega (arith, c.loop-reached.invariant.1)) c.loop-reached.invariant.2 (rw c.in-Large.is at c.in_ok-now.ensures)
+
+pub returns-in-Irreducible : goal.returns-in-Irreducible
+returns-in-Irreducible c =
+    let d = c.args.sig.now in
+    let E = equations_of c.args.rules.now.equations in
+    form_end d E c.args.t.now c.args.steps c.args.size c.loop-reached.invariant.0 c.loop-reached.reached (omega (arith, c.loop-reached.invariant.1)) c.loop-reached.invariant.2 (rw c.in-Irreducible.is at c.in_ok-now.ensures)
+
+pub returns-then-left-eq0 : goal.returns-then-left-eq0
+returns-then-left-eq0 c =
+    let d = c.args.sig.now in
+    let E = equations_of c.args.rules.now.equations in
+    unfinished_end d E c.args.t.now c.args.steps c.args.size c.loop-reached.invariant.0 c.in_ok-start-in-Next.start c.loop-reached.reached c.in-Next.u c.in_ok-start-in-Next.ensures (omega (arith, c.loop-reached.invariant.1, c.if-left-eq0.true)) c.loop-reached.invariant.2 (rw c.in-Next.is at c.in_ok-now.ensures)

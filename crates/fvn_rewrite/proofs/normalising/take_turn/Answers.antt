@@ -1,9 +1,6 @@
 -- What a turn finds.
-use Rattle.std.proofs.Common.{sym, ap, ◌∙◌, subst, arith}
+use Rattle.std.proofs.Common.{arith}
 use Rattle.fvn_rewrite.proofs.normalising.take_turn.Goals as goal
-
-pub returns-then-size-size : goal.returns-then-size-size
-returns-then-size-size c = omega (arith, c.size.ensures)
 
 pub returns-in-Some : goal.returns-in-Some
 returns-in-Some c = (omega (arith, c.size.ensures), record { steps = rw c.in-Some.is at c.in_ok-next.ensures.some; fits = rw c.in-Some.is at c.in_ok-next.ensures.fits })

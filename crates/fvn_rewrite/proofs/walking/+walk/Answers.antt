@@ -1,5 +1,5 @@
 -- One argument more, and the form itself.
-use Rattle.std.proofs.Common.{◌≡◌, ◌<◌, length, All, Some, refl, sym, ap, ◌∙◌, subst, arith}
+use Rattle.std.proofs.Common.{◌≡◌, ◌<◌, length, All, Some, refl, sym, ◌∙◌, subst, arith}
 use Rattle.std.specs.Prelude.{slice_get}
 use Rattle.std.proofs.lemmas.List.{take_all}
 use Rattle.std.proofs.lemmas.List.Elements.{All-nil, All-more}
@@ -32,7 +32,7 @@ with_argument-requires t c =
       step = record {
         argument = u;
         is = subst (λ l. slice_get l i ≡ Some u) c.args-ts.ensures.exact (slice_get_read ts (length ts) i u refl c.loop-i-test.true c.index-ts-i.is);
-        next = rw c.in-Some-in-Some.is at c.in_ok-found.ensures;
+        next = rw c.in-Some-found.is at c.in_ok-found-in-Some.ensures;
       };
     }
 
@@ -42,7 +42,7 @@ loop-i-init t c = All-nil (HasNoRedex c.args.sig.now (equations_of c.args.rules.
 pub loop-i-preserved : goal.loop-i-preserved
 loop-i-preserved t c =
     let P = HasNoRedex c.args.sig.now (equations_of c.args.rules.now.equations) in
-    let here : P c.index-ts-i.result = rw c.in_default.is at c.in_ok-found.ensures in
+    let here : P c.index-ts-i.result = rw c.in_default.is at c.in_ok-found-in-Some.ensures in
     All-more P c.args-ts.result.now c.loop-i.i c.index-ts-i.result c.loop-i-test.true c.loop-i.invariant (subst P c.index-ts-i.is here)
 
 pub root_step-requires : goal.root_step-requires
@@ -51,8 +51,8 @@ root_step-requires t c = record { rules = c.requires.rules; term = c.requires.te
 pub returns-in-None : goal.returns-in-None
 returns-in-None t c = headless_has_no_redex c.args.sig.now (equations_of c.args.rules.now.equations) c.args.t.now (sym c.head.ensures ∙ c.in-None.is)
 
-pub returns-after-loop-i : goal.returns-after-loop-i
-returns-after-loop-i t c =
+pub returns-in_ok-given-in-Some : goal.returns-in_ok-given-in-Some
+returns-in_ok-given-in-Some t c =
     let P = HasNoRedex c.args.sig.now (equations_of c.args.rules.now.equations) in
-    walk_as c.args.sig.now (equations_of c.args.rules.now.equations) c.args.t.now c.in_ok-given.given c.in_ok-given.ensures
+    walk_as c.args.sig.now (equations_of c.args.rules.now.equations) c.args.t.now c.in_ok-given-in-Some.given c.in_ok-given-in-Some.ensures
     (subst (All P) (take_all c.loop-i.i c.args-ts.result.now c.loop-i-test.false ∙ c.args-ts.ensures.exact) c.loop-i.invariant)

@@ -1,7 +1,7 @@
 -- The operator over the arguments, one of them replaced.
-use Rattle.std.proofs.Common.{◌≡◌, ◌<◌, ◌+◌, List, ◌∷◌, ◌++◌, length, take, drop, sym, ap, ◌∙◌, subst}
+use Rattle.std.proofs.Common.{◌≡◌, ◌<◌, ◌+◌, ◌∷◌, ◌++◌, length, take, drop, sym, ap, ◌∙◌, subst}
 use Rattle.fvn_terms.specs.Equality.{BEqual}
-use Rattle.fvn_forms.specs.Flat.{FlatTerm, plain}
+use Rattle.fvn_forms.specs.Flat.{plain}
 use Rattle.fvn_flat.specs.Fits.{AllFit, Takes, plain_over}
 use Rattle.fvn_flat.proofs.Fitting.{args_fit}
 use Rattle.fvn_cohere.specs.Promises.{equations_of}

@@ -2,7 +2,6 @@
 use Rattle.std.proofs.Common.{◌++◌, ap, sym, ◌∙◌, subst}
 use Rattle.std.specs.Prelude.{All, filter_map}
 use Rattle.fvn_cohere.specs.Promises.{sides_of}
-use Rattle.fvn_rules.specs.declared.rule.Rule.{Rule}
 use Rattle.fvn_rules.specs.inner.Making.{IsKindedRule, extension_of, AreRulesFrom}
 use Rattle.fvn_rules.proofs.Choosing.{instances_kinded}
 use Rattle.fvn_rules.proofs.Standing.{all_rules}
@@ -24,5 +23,5 @@ returns c =
     let equation = sides_of c.args.e.now in
     let old = c.in_ok-all.all.items in
     let more = c.in_ok-wide.ensures ∙ ap (filter_map (extension_of d)) c.as_slice.ensures.value in
-    subst (AreRulesFrom d c.args.number equation) (sym (c.append.ensures.items ∙ ap (λ (l : _). old ++ l) more))
+    subst (AreRulesFrom d c.args.number equation) (sym (c.in_ok-append.ensures.items ∙ ap (λ (l : _). old ++ l) more))
     (all_rules d c.recall_good.ensures c.recall_completed.ensures equation (record { kind = e.kind; left = e.left; right = e.right }) e.not_fresh e.brings_none c.args.number old c.in_ok-all.ensures)

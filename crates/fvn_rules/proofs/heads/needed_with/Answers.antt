@@ -1,8 +1,6 @@
 -- With one rule more.
 use Rattle.std.proofs.Common.{[], ◌∷◌, ◌++◌, List, sym, ap, ◌∙◌, subst}
-use Rattle.std.specs.Prelude.{All}
 use Rattle.fvn_rules.specs.declared.rule.Rule.{Rule}
-use Rattle.fvn_rules.specs.inner.Making.{IsKindedRule}
 use Rattle.fvn_rules.specs.inner.Heads.{SomeHasInstance, AreLeft, AreNeededWith}
 use Rattle.fvn_rules.proofs.Needed.{with_none, with_one}
 use Rattle.fvn_rules.proofs.heads.needed_with.Goals as goal

@@ -1,12 +1,11 @@
 -- The constant is a term.
-use Rattle.std.proofs.Common.{◌≡◌, [], ◌∷◌, ◌++◌, sym, ap, ◌∙◌, subst}
+use Rattle.std.proofs.Common.{[], ◌∷◌, ◌++◌, sym, ap, ◌∙◌, subst}
 use Rattle.fvn_terms.specs.Signature.{IsTerm}
 use Rattle.fvn_forms.specs.Flat.{FlatTerm}
 use Rattle.fvn_forms.specs.Canon.{canon}
 use Rattle.fvn_flat.specs.Bindings.{Bindings, BindingsFit}
 use Rattle.fvn_rewriting.proofs.Choosing.{identity_below}
 use Rattle.fvn_rewriting.proofs.Identities.{identity_kind}
-use Rattle.fvn_rules.specs.inner.Making.{goes_to}
 use Rattle.fvn_rules.proofs.Choosing.{goes_fits}
 use Rattle.fvn_rules.proofs.instances.sent_to.Goals as goal
 
@@ -20,7 +19,7 @@ pub returns-clause-is : goal.returns-clause-is
 returns-clause-is c =
     let d = c.args.sig.now in
     let x = c.args.x in
-    ap (λ (l : Bindings). l ++ (x, c.in_ok-form.form) ∷ []) c.empty.ensures ∙ ap (λ (f : FlatTerm). (x, f) ∷ []) (c.in_ok-form.ensures.exact ∙ ap (canon d) c.constant-t.ensures)
+    c.in_ok-s.ensures ∙ ap (λ (l : Bindings). l ++ (x, c.in_ok-form.form) ∷ []) c.empty.ensures ∙ ap (λ (f : FlatTerm). (x, f) ∷ []) (c.in_ok-form.ensures.exact ∙ ap (canon d) c.constant-t.ensures)
 
 pub returns-clause-fits : goal.returns-clause-fits
 returns-clause-fits c =

@@ -14,6 +14,6 @@ pub returns : goal.returns
 returns c =
     let d = c.args.sig.now in
     let below : c.as_slice.result.now ≡ identities_below d c.args.x.sort = c.as_slice.ensures.value ∙ c.in_ok-below.ensures ∙ ap (filter _) c.requires.identities in
-    c.append.ensures.items
+    c.in_ok-append.ensures.items
     ∙ ap (λ (l : List Rule). c.args.rules.items ++ l)
     (c.in_ok-more.ensures ∙ ap (λ (l : List Rule). by_identities d c.args.x l c.as_slice.result.now) c.as_slice-2.ensures.value ∙ ap (λ (l : List OpId). by_identities d c.args.x c.args.rules.items l) below)
