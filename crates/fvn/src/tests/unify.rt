@@ -89,6 +89,13 @@ const PLUS: &str =
 const OVER_PLUS: &str = "\
 +(X,Y) =? +(s(Y),0) ==> {X:Nat --> s(0), Y:Nat --> 0} | complete 1";
 
+const BADXOR: &str =
+    "fmod BADXOR is sort S . op mt : -> S . op _*_ : S S -> S [assoc comm id: mt] . var X : S . eq _*_(X,X) = mt [variant] . endfm";
+
+const OVER_BADXOR: &str = "\
+X =? mt ==> module 12 equation 1
+X =? ==> module 12 equation 1";
+
 const NO_END: &str = "fmod M is sort A . op a : -> A .";
 
 const OVER_NO_END: &str = "\
@@ -161,6 +168,7 @@ fn problems_are_unified_modulo_axioms(rt: HostRuntime) -> Result<(), NoMemory> {
     all_unified(&rt, rt.alloc(), XOR, OVER_XOR)?;
     all_unified(&rt, rt.alloc(), ENC, OVER_ENC)?;
     all_unified(&rt, rt.alloc(), PLUS, OVER_PLUS)?;
+    all_unified(&rt, rt.alloc(), BADXOR, OVER_BADXOR)?;
     all_unified(&rt, rt.alloc(), NO_END, OVER_NO_END)?;
     all_unified(&rt, rt.alloc(), NOPRE, OVER_NOPRE)?;
     Ok(())

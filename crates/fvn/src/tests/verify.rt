@@ -56,6 +56,13 @@ const NOPRE: &str =
 const OVER_NOPRE: &str = "\
 X =? a | {} ==> module 9.6 f A";
 
+const BADXOR: &str =
+    "fmod BADXOR is sort S . op mt : -> S . op _*_ : S S -> S [assoc comm id: mt] . var X : S . eq _*_(X,X) = mt [variant] . endfm";
+
+const OVER_BADXOR: &str = "\
+X =? mt | {} ==> module 12 equation 1
+X =? | { ==> module 12 equation 1";
+
 const NO_FORM: &str = "fmod M was sort A . endfm";
 
 const OVER_NO_FORM: &str = "\
@@ -131,6 +138,7 @@ fn bindings_are_verified(rt: HostRuntime) -> Result<(), NoMemory> {
     all_verified(&rt, rt.alloc(), SET, OVER_SET)?;
     all_verified(&rt, rt.alloc(), ENC, OVER_ENC)?;
     all_verified(&rt, rt.alloc(), NOPRE, OVER_NOPRE)?;
+    all_verified(&rt, rt.alloc(), BADXOR, OVER_BADXOR)?;
     all_verified(&rt, rt.alloc(), NO_FORM, OVER_NO_FORM)?;
     all_verified(&rt, rt.alloc(), TWO_KINDS, OVER_TWO_KINDS)?;
     Ok(())
