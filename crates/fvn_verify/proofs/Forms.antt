@@ -38,8 +38,8 @@ module _ (d : Declarations) (equations : Equations) (s : Substitution) (steps si
     from_side k u q = (laws d equations).before k (plain f) (instance d equations s t) (plain u) (BEqual-sym d equal) q
 
     -- what is found of the form is found of the side
-    pub side_as : f ≡ canon d (instance d equations s t) → size < 2 ^ 64 - 1 → (n : Normal) → IsNormalised d equations f steps size n → IsSideAs d equations s steps size t n
-    side_as is limit (Form u) h = record {
+    pub side_as : f ≡ canon d (instance d equations s t) → Fits d f → size < 2 ^ 64 - 1 → (n : Normal) → IsNormalised d equations f steps size n → IsSideAs d equations s steps size t n
+    side_as is fits limit (Form u) h = record {
       count = h.reached.count;
       within = h.reached.within;
       reached = from_side h.reached.count u h.reached.reached.sequence;
@@ -47,13 +47,14 @@ module _ (d : Declarations) (equations : Equations) (s : Substitution) (steps si
       irreducible = h.irreducible;
       small = let small : counted u ≤ size = h.small in omega (arith, small, limit);
     }
-    side_as is limit (Steps start u) h = record {
+    side_as is fits limit (Steps start u) h = record {
       start_is = h.is ∙ is;
+      start_fits = subst (Fits d) (sym h.is) fits;
       sequence = from_side steps u h.reached.sequence;
       fits = h.reached.fits;
       reducible = h.reducible;
     }
-    side_as is limit (Size u) h = record {
+    side_as is fits limit (Size u) h = record {
       count = h.reached.count;
       within = h.reached.within;
       sequence = from_side h.reached.count u h.reached.reached.sequence;

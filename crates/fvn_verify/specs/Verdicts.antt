@@ -40,6 +40,7 @@ module _ (d : Declarations) (equations : Equations) (s : Substitution) where
     -- `steps` steps lead from the side, whose flat form is `start`, to `end`, which is reducible
     pub record IsUnfinished (t : Plain) (start end : FlatTerm) : Type 0 where
       pub start_is : start ≡ canon d (instance t)
+      pub start_fits : Fits d start
       pub sequence : TermSequence d equations steps (instance t) (plain end)
       pub fits : Fits d end
       pub reducible : IsReducible d equations (plain end)

@@ -22,4 +22,4 @@ pub returns : goal.returns
 returns c =
     side_as c.args.signature.now (equations_of c.args.rules.now.equations) (value c.args.bindings.now.pairs) c.args.steps c.args.size c.sequences_are_lawful.ensures c.args.side.now c.in_ok-form.form
     (subst (λ t. BEqual c.args.signature.now t (plain c.in_ok-form.form)) c.in_ok-instance.ensures c.in_ok-form.ensures.equal)
-    (c.in_ok-form.ensures.exact ∙ ap (canon c.args.signature.now) c.in_ok-instance.ensures) c.requires.limited c.in_ok-found.found c.in_ok-found.ensures
+    (c.in_ok-form.ensures.exact ∙ ap (canon c.args.signature.now) c.in_ok-instance.ensures) c.in_ok-form.ensures.fits c.requires.limited c.in_ok-found.found c.in_ok-found.ensures
