@@ -35,7 +35,8 @@ fn take_turn(
     requires admissible { AreAdmissible sig.now (equations_of rules.now.equations) }
     ensures { IfOk result (TurnAs sig.now (equations_of rules.now.equations) t.now size) }
 {
-    if t.size() > size {
+    let large = t.size() > size;
+    if large {
         return Ok(Turn::Large);
     }
     let next = step(alloc, sig, rules, t)?;
@@ -72,7 +73,8 @@ pub fn normal(
             Turn::Large => return Ok(Normal::Size(reached)),
             Turn::Irreducible => return Ok(Normal::Form(reached)),
             Turn::Next(u) => {
-                if left == 0 {
+                let spent = left == 0;
+                if spent {
                     let start = t.copy(alloc)?;
                     return Ok(Normal::Steps(start, reached));
                 }

@@ -34,8 +34,8 @@ returns-in-Irreducible c =
     let E = equations_of c.args.rules.now.equations in
     form_end d E c.args.t.now c.args.steps c.args.size c.loop-reached.invariant.0 c.loop-reached.reached (omega (arith, c.loop-reached.invariant.1)) c.loop-reached.invariant.2 (rw c.in-Irreducible.is at c.in_ok-now.ensures)
 
-pub returns-then-left-eq0 : goal.returns-then-left-eq0
-returns-then-left-eq0 c =
+pub returns-then-spent : goal.returns-then-spent
+returns-then-spent c =
     let d = c.args.sig.now in
     let E = equations_of c.args.rules.now.equations in
-    unfinished_end d E c.args.t.now c.args.steps c.args.size c.loop-reached.invariant.0 c.in_ok-start-in-Next.start c.loop-reached.reached c.in-Next.u c.in_ok-start-in-Next.ensures (omega (arith, c.loop-reached.invariant.1, c.if-left-eq0.true)) c.loop-reached.invariant.2 (rw c.in-Next.is at c.in_ok-now.ensures)
+    unfinished_end d E c.args.t.now c.args.steps c.args.size c.loop-reached.invariant.0 c.in_ok-start-in-Next.start c.loop-reached.reached c.in-Next.u c.in_ok-start-in-Next.ensures (omega (arith, c.loop-reached.invariant.1, c.if-spent.true)) c.loop-reached.invariant.2 (rw c.in-Next.is at c.in_ok-now.ensures)

@@ -1,0 +1,263 @@
+//! Normal forms by the rules of modules.
+ghost use Rattle.std.specs.Prelude.{◌<◌, length, IfOk};
+ghost use Rattle.fvn_flat.specs.Fits.{Fits};
+ghost use Rattle.fvn_cohere.specs.Promises.{equations_of};
+ghost use Rattle.fvn_coherence.specs.Admissible.{AreAdmissible};
+ghost use Rattle.fvn_rules.specs.Given.{AreRules};
+
+use fvn_cohere::first_left_fault;
+use fvn_flat::{Flat, Normal, flatten};
+use fvn_module::{Module, read_module};
+use fvn_rewrite::{harmless_equations_are_admissible, normal};
+use fvn_rules::{Rules, extend};
+use fvn_sorts::Signature;
+use fvn_terms::NoMemory;
+use std::alloc::Global;
+use std::process::Abort;
+use std::string::String;
+
+// Each line has the name of a module and its statements, among them operators `from` and `to` over variables X and Y.
+const MODULES: &str =
+    "PLUS sort Nat . op 0 : -> Nat . op s : Nat -> Nat . op + : Nat Nat -> Nat . ops from to : Nat Nat -> Nat . vars X Y : Nat . eq +(0,Y) = Y [variant] . eq +(s(X),Y) = s(+(X,Y)) [variant] .
+XORN sorts Nat NatSet . subsort Nat < NatSet . op 0 : -> Nat . op s : Nat -> Nat . op mt : -> NatSet . op _*_ : NatSet NatSet -> NatSet [assoc comm] . ops from to : NatSet NatSet -> NatSet . vars X Y : [NatSet] . eq _*_(X,X) = mt [variant] . eq _*_(X,mt) = X [variant] .
+LOOP sort S . op a : -> S . op f : S -> S . ops from to : S S -> S . vars X Y : S . eq f(X) = f(X) [variant] .
+COLLAPSE sort S . ops a b c d e : -> S . op h : S S -> S [assoc comm id: e] . op f : S S -> S [assoc comm] . ops from to : S S -> S . vars X Y : S . eq h(X,f(a,b)) = c [variant] .
+ENC sorts Msg Key . op a : -> Msg . op k : -> Key . ops enc dec : Msg Key -> Msg . ops from to : Msg Key -> Msg . var X : Msg . var Y : Key . eq dec(enc(X,Y),Y) = X [variant] .
+GROUP sort S . op 1 : -> S . op * : S S -> S [assoc comm id: 1] . op - : S -> S . ops from to : S S -> S . vars X Y : S . eq *(X,-(X)) = 1 [variant] . eq -(1) = 1 [variant] . eq -(-(X)) = X [variant] .
+COMM sort S . ops a b : -> S . op c : S S -> S [comm] . ops from to : S S -> S . vars X Y : S . eq c(X,a) = X [variant] .
+SORTED sorts A B . subsort A < B . op a : -> A . op b : -> B . op g : B -> B . ops from to : B B -> B . vars X Y : B . var Z : A . eq g(Z) = Z [variant] .
+GROW sort S . op a : -> S . ops f s : S -> S . ops from to : S S -> S . vars X Y : S . eq f(X) = f(s(X)) [variant] .";
+
+// Each line has the name of a module, a number of steps, a number of symbols, a term and another term. Then comes what a
+// search for the normal form of the first term ends with under these limits, with one step less, and with one symbol less:
+// `form` where it is the second term, `other` where it is another, else the limit that it comes to.
+const FORMS: &str = "PLUS 0 1 0 => 0 | form form size
+PLUS 0 1 X => X | form form size
+PLUS 0 3 +(X,Y) => +(X,Y) | form form size
+PLUS 1 3 +(0,X) => X | form steps size
+PLUS 1 4 +(s(X),Y) => s(+(X,Y)) | form steps size
+PLUS 4 6 +(s(s(s(0))),0) => s(s(s(0))) | form steps size
+PLUS 5 8 +(+(s(0),s(0)),s(0)) => s(s(s(0))) | form steps size
+PLUS 3 7 s(+(s(+(0,0)),X)) => s(s(X)) | form steps size
+PLUS 1 5 +(X,+(0,Y)) => +(X,Y) | form steps size
+PLUS 4 6 +(s(s(s(0))),0) => s(s(0)) | other steps size
+XORN 0 3 _*_(X,Y) => _*_(Y,X) | form form size
+XORN 1 3 _*_(0,0) => mt | form steps size
+XORN 1 3 _*_(X,mt) => X | form steps size
+XORN 1 3 _*_(mt,mt) => mt | form steps size
+XORN 2 6 _*_(0,s(0),0) => s(0) | form steps size
+XORN 1 9 _*_(0,s(0),0,s(0)) => mt | form steps size
+XORN 1 7 _*_(X,Y,X,Y) => mt | form steps size
+XORN 2 8 _*_(0,mt,s(0),mt) => _*_(0,s(0)) | form steps size
+XORN 1 4 s(_*_(0,0)) => s(mt) | form steps size
+XORN 2 7 _*_(s(_*_(0,0)),s(mt)) => mt | form steps size
+LOOP 0 1 a => a | form form size
+LOOP 5 2 f(a) => f(a) | steps steps size
+LOOP 0 2 f(X) => f(X) | steps steps size
+LOOP 3 3 f(f(a)) => f(f(a)) | steps steps size
+COLLAPSE 0 1 h(e,d) => d | form form size
+COLLAPSE 0 3 f(a,d) => f(d,a) | form form size
+COLLAPSE 1 3 f(a,b) => c | form steps size
+COLLAPSE 1 5 f(a,b,d) => f(c,d) | form steps size
+COLLAPSE 1 5 h(d,f(a,b)) => h(c,d) | form steps size
+COLLAPSE 2 7 f(a,a,b,b) => f(c,c) | form steps size
+COLLAPSE 2 7 h(f(a,b),f(a,b)) => h(c,c) | form steps size
+ENC 0 5 dec(enc(X,Y),k) => dec(enc(X,Y),k) | form form size
+ENC 0 5 enc(dec(a,k),k) => enc(dec(a,k),k) | form form size
+ENC 1 5 dec(enc(a,k),k) => a | form steps size
+ENC 1 5 dec(enc(X,Y),Y) => X | form steps size
+ENC 2 9 dec(enc(dec(enc(a,k),k),Y),Y) => a | form steps size
+GROUP 1 2 -(1) => 1 | form steps size
+GROUP 1 4 *(X,-(X)) => 1 | form steps size
+GROUP 1 4 *(X,-(*(X,1))) => 1 | form steps size
+GROUP 1 6 *(X,Y,-(X)) => Y | form steps size
+GROUP 1 4 -(-(-(X))) => -(X) | form steps size
+GROUP 2 6 *(-(-(X)),-(X)) => 1 | form steps size
+COMM 1 3 c(a,b) => b | form steps size
+COMM 1 3 c(a,a) => a | form steps size
+COMM 2 7 c(c(a,b),c(b,a)) => c(b,b) | form steps size
+SORTED 0 2 g(b) => g(b) | form form size
+SORTED 0 2 g(X) => g(X) | form form size
+SORTED 0 3 g(g(b)) => g(g(b)) | form form size
+SORTED 1 2 g(a) => a | form steps size
+SORTED 2 3 g(g(a)) => a | form steps size
+GROW 3 5 f(a) => a | steps steps size
+GROW 4 5 f(a) => a | size steps size
+GROW 10 5 f(a) => a | size size size
+GROW 10 1 f(a) => a | size size size";
+
+// A row of the table.
+#[derive(Drop)]
+struct Row<'a> {
+    name: &'a str,
+    steps: u64,
+    size: u64,
+    from: &'a str,
+    to: &'a str,
+    want: &'a str,
+}
+
+// What stands before the first of these marks, and what behind it.
+fn cut<'a>(text: &'a str, mark: &str) -> (&'a str, &'a str) {
+    text.split_once(mark).unwrap_or((text, ""))
+}
+
+fn row_of(text: &str) -> Row<'_> {
+    let (name, behind) = cut(text, " ");
+    let (steps, rest) = cut(behind, " ");
+    let (size, terms) = cut(rest, " ");
+    let (from, last) = cut(terms, " => ");
+    let (to, want) = cut(last, " | ");
+    Row {
+        name,
+        steps: steps.parse::<u64>().unwrap_or(0),
+        size: size.parse::<u64>().unwrap_or(0),
+        from,
+        to,
+        want,
+    }
+}
+
+// The statements of the module of this name.
+fn statements_of(name: &str) -> &'static str {
+    for line in MODULES.lines() {
+        let (first, statements) = cut(line, " ");
+        if first == name {
+            return statements;
+        }
+    }
+    ""
+}
+
+// The module of a row, with one equation more for each of its terms.
+fn text_of(alloc: Global, row: &Row<'_>) -> Result<String, NoMemory> {
+    let statements = statements_of(row.name);
+    let from = row.from;
+    let to = row.to;
+    let mut text = String::new(alloc);
+    text.push_str("fmod M is ")?;
+    text.push_str(statements)?;
+    text.push_str(" eq from(X,Y) = ")?;
+    text.push_str(from)?;
+    text.push_str(" [variant] . eq to(X,Y) = ")?;
+    text.push_str(to)?;
+    text.push_str(" [variant] . endfm")?;
+    Ok(text)
+}
+
+// The flat form of the right side of an equation.
+fn right_side(alloc: Global, declared: &Module, i: usize) -> Result<Flat, NoMemory>
+    requires { i < length declared.now.equations }
+    ensures { IfOk result (Fits declared.now.signature) }
+{
+    declared.recall_readable();
+    let sig = declared.signature();
+    let list = declared.equations();
+    let form = flatten(alloc, sig, &list[i].right)?;
+    Ok(form)
+}
+
+fn told(end: &Normal, to: &Flat) -> &'static str {
+    match end {
+        Normal::Form(u) => { if u.same(to) { "form" } else { "other" } }
+        Normal::Steps(_, _) => "steps",
+        Normal::Size(_) => "size",
+    }
+}
+
+// What a search for a normal form ends with.
+fn outcome(
+    alloc: Global,
+    sig: &Signature,
+    rules: &Rules,
+    from: &Flat,
+    to: &Flat,
+    steps: u64,
+    size: u64,
+) -> Result<&'static str, NoMemory>
+    requires term { Fits sig.now from.now }
+    requires rules { AreRules sig.now rules.now }
+    requires admissible { AreAdmissible sig.now (equations_of rules.now.equations) }
+{
+    let end = normal(alloc, sig, rules, from, steps, size)?;
+    Ok(told(&end, to))
+}
+
+// The same under both limits, and with one less of each.
+fn outcomes(
+    alloc: Global,
+    sig: &Signature,
+    rules: &Rules,
+    from: &Flat,
+    to: &Flat,
+    row: &Row<'_>,
+) -> Result<String, NoMemory>
+    requires term { Fits sig.now from.now }
+    requires rules { AreRules sig.now rules.now }
+    requires admissible { AreAdmissible sig.now (equations_of rules.now.equations) }
+{
+    let steps = row.steps;
+    let size = row.size;
+    let both = outcome(alloc, sig, rules, from, to, steps, size)?;
+    let fewer = outcome(alloc, sig, rules, from, to, steps.saturating_sub(1), size)?;
+    let smaller = outcome(alloc, sig, rules, from, to, steps, size.saturating_sub(1))?;
+    let text = format!(in alloc; "{both} {fewer} {smaller}")?;
+    Ok(text)
+}
+
+// The same for the right sides of the last two equations.
+fn outcomes_by(
+    alloc: Global,
+    declared: &Module,
+    rules: &Rules,
+    row: &Row<'_>,
+) -> Result<String, NoMemory>
+    requires rules { AreRules declared.now.signature rules.now }
+    requires admissible { AreAdmissible declared.now.signature (equations_of rules.now.equations) }
+{
+    let count = declared.equations().len();
+    if count < 2 {
+        return Ok(String::new(alloc));
+    }
+    let from = right_side(alloc, declared, count - 2)?;
+    let to = right_side(alloc, declared, count - 1)?;
+    let text = outcomes(alloc, declared.signature(), rules, &from, &to, row)?;
+    Ok(text)
+}
+
+// The same by the rules of a module none of whose left sides is at fault.
+fn outcomes_in(alloc: Global, declared: &Module, row: &Row<'_>) -> Result<String, NoMemory> {
+    declared.recall_readable();
+    harmless_equations_are_admissible();
+    match first_left_fault(alloc, declared)? {
+        Some(_) => Ok(String::new(alloc)),
+        None => {
+            let rules = extend(alloc, declared)?;
+            let text = outcomes_by(alloc, declared, &rules, row)?;
+            Ok(text)
+        }
+    }
+}
+
+fn outcomes_of(alloc: Global, bytes: &[u8], row: &Row<'_>) -> Result<String, NoMemory> {
+    match read_module(alloc, bytes) {
+        Ok(module) => outcomes_in(alloc, &module, row),
+        Err(_) => Ok(String::new(alloc)),
+    }
+}
+
+fn assert_row(rt: &impl Abort, alloc: Global, line: &str) -> Result<(), NoMemory> {
+    let row = row_of(line);
+    let text = text_of(alloc, &row)?;
+    let out = outcomes_of(alloc, text.as_bytes(), &row)?;
+    assert_eq!(rt; out.as_str(), row.want, "at {line}");
+    Ok(())
+}
+
+#[test]
+fn terms_have_these_normal_forms(rt: HostRuntime) -> Result<(), NoMemory> {
+    for line in FORMS.lines() {
+        assert_row(&rt, rt.alloc(), line)?;
+    }
+    Ok(())
+}
