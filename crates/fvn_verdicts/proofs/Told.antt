@@ -1,8 +1,7 @@
 -- How a verdict is told.
-use Rattle.std.proofs.Common.{◌≡◌, ℕ, List, [], ◌∷◌, ◌++◌, refl, ap, ◌∙◌}
+use Rattle.std.proofs.Common.{◌≡◌, ℕ, List, [], ◌∷◌, ◌++◌, refl, sym, ap, ◌∙◌, subst}
 use Rattle.std.specs.Prelude.{◌↔◌, Contains}
 use Rattle.fvn_base.proofs.Membership.{contains_here, contains_none}
-use Rattle.fvn_terms.specs.declared.declarations.Declarations.{Declarations}
 use Rattle.fvn_syntax.specs.Pieces.{Text}
 use Rattle.fvn_module.specs.Contents.{Contents}
 use Rattle.fvn_problems.specs.declared.problem.Problem.{Problem}
@@ -11,7 +10,8 @@ use Rattle.fvn_verify.specs.declared.verdict.Verdict.{Verdict}
 use Rattle.fvn_verify.specs.declared.verdict.Verdict.TheVariants.{Yes, No, Steps, Size}
 use Rattle.fvn_answer.specs.declared.end.End.{End}
 use Rattle.fvn_answer.specs.Answers.{ended, IsAnswerText}
-use Rattle.fvn_verdicts.specs.Verdicts.{IsLastLine, IsVerdictOn}
+use Rattle.fvn_commands.specs.declared.status.Status.{Status}
+use Rattle.fvn_verdicts.specs.Verdicts.{status_of_verdict, IsLastLine, IsVerdictText, IsToldAs, IsVerdictOn}
 use Rattle.fvn_verdicts.specs.inner.Steps.{FitsVerdict}
 
 -- of no lines none is shown
@@ -33,3 +33,7 @@ fits_verdict m steps p b Yes h = tt
 fits_verdict m steps p b (No n l r) h = tt
 fits_verdict m steps p b (Steps start reached) h = h.1.1.start_fits
 fits_verdict m steps p b (Size f) h = tt
+
+-- a verdict is told as it is one of these
+pub told_as : (m : Contents) (steps : ℕ) (v w : Verdict) → v ≡ w → (status : Status) (text : List ℕ) → status ≡ status_of_verdict w → IsVerdictText m steps w text → IsToldAs m steps v status text
+told_as m steps v w is status text e h = subst (λ u. IsToldAs m steps u status text) (sym is) (record { status_is = e; text_tells = h })
