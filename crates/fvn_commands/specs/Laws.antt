@@ -1,11 +1,9 @@
 -- What holds of all that is read.
 use Rattle.fvn_loading.specs.Laws.{LoadedModulesAreDetermined, LoadFaultsAreDetermined, FaultyTextsAreNotLoaded, LossesAreDetermined}
 use Rattle.fvn_problems.specs.Laws.{ProblemsAreDetermined, BindingsAreDetermined, RefusedProblemsAskNothing, RefusedBindingsBindNothing, ProblemFaultsAreDetermined, BindingFaultsAreDetermined}
-use Rattle.fvn_verify.specs.Laws.{VerdictsAreDetermined}
 
 -- A text is loaded as one module at most, has one first fault at most, and not both; so it is with problems in a module,
--- and with bindings in a problem; of a module's sorts one thing is told; and of pairs under a substitution there is one
--- verdict at most.
+-- and with bindings in a problem; and of a module's sorts one thing is told.
 pub record ReadersAreLawful : Type 0 where
   pub loaded : LoadedModulesAreDetermined
   pub faults : LoadFaultsAreDetermined
@@ -17,4 +15,3 @@ pub record ReadersAreLawful : Type 0 where
   pub bindings : BindingsAreDetermined
   pub no_bindings : RefusedBindingsBindNothing
   pub binding_faults : BindingFaultsAreDetermined
-  pub verdicts : VerdictsAreDetermined

@@ -2,6 +2,5 @@
 pub mod Statuses
 pub mod Texts
 pub mod Checks
-pub mod Verifying
+pub mod Refusing
 pub mod Laws
-pub mod inner

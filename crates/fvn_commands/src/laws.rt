@@ -9,10 +9,8 @@ use fvn_problems::{
     binding_faults_are_determined, bindings_are_determined, problem_faults_are_determined,
     problems_are_determined, refused_bindings_bind_nothing, refused_problems_ask_nothing,
 };
-use fvn_verify::verdicts_are_determined;
 
-/// A text says one thing at most, has one first fault at most but for want of memory, and not both; and there is one
-/// verdict at most.
+/// A text says one thing at most, has one first fault at most but for want of memory, and not both.
 pub fn readers_are_lawful()
     ensures { ReadersAreLawful }
 {
@@ -26,5 +24,4 @@ pub fn readers_are_lawful()
     bindings_are_determined();
     refused_bindings_bind_nothing();
     binding_faults_are_determined();
-    verdicts_are_determined();
 }

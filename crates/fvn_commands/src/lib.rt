@@ -1,14 +1,14 @@
-//! The replies to `check` and `verify` over the text of a module, with their statuses.
+//! The reply to `check` over the text of a module, and how modules, problems and bindings are refused, with statuses.
 #![tactic(auto)]
 
 mod answer;
 mod checking;
 mod laws;
+mod refusing;
 mod status;
-mod verifying;
 
 pub use answer::{Answer, Text};
 pub use checking::{check_reply, refuse_module};
 pub use laws::readers_are_lawful;
+pub use refusing::refuse_problem;
 pub use status::Status;
-pub use verifying::{refuse_problem, verify_reply};

@@ -1,15 +1,7 @@
--- The texts of `verify`.
-use Rattle.std.specs.Prelude.{ℕ, List, ◌++◌, codes, decimal}
-use Rattle.fvn_base.specs.declared.limits.TheConstants.{TERM_SYMBOLS}
-use Rattle.fvn_verify.specs.declared.verdict.Verdict.{Verdict}
-use Rattle.fvn_verify.specs.declared.verdict.Verdict.TheVariants.{Yes, No, Size}
+-- The text of a verdict on the pairs of a problem.
+use Rattle.std.specs.Prelude.{ℕ, List, ◌++◌, Option, Some, None, codes, decimal}
 
--- what is said of a verdict
-abbrev pub verdict_text : Verdict → List ℕ
-verdict_text Yes = codes "yes"
-verdict_text (No number left right) = codes "no " ++ decimal number
-verdict_text (Size form) = codes "bound size " ++ decimal TERM_SYMBOLS
-
--- the text that leaves the equation of this statement for later
-abbrev pub later_text : ℕ → List ℕ
-later_text n = codes "module 8 statement " ++ decimal n ++ codes " later"
+-- what is said where no pair differs, or where the pair with this number is the first
+abbrev pub verdict_text : Option ℕ → List ℕ
+verdict_text None = codes "yes"
+verdict_text (Some number) = codes "no " ++ decimal number

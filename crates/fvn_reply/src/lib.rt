@@ -11,4 +11,4 @@ mod verdicts;
 pub use problems::problem_text;
 pub use refusals::refusal_text;
 pub use summary::{sorts_text, summary_text};
-pub use verdicts::{later_text, verdict_text};
+pub use verdicts::verdict_text;

@@ -1,29 +1,18 @@
-//! The texts of `verify`.
+//! The text of a verdict on the pairs of a problem.
 ghost use Rattle.std.specs.Prelude.{◌≡◌, IfOk};
-ghost use Rattle.fvn_reply.specs.Verdicts.{verdict_text, later_text};
+ghost use Rattle.fvn_reply.specs.Verdicts.{verdict_text};
 
 use crate::pieces::numbered;
 use fvn_base::NoMemory;
-use fvn_base::limits::TERM_SYMBOLS;
-use fvn_verify::Verdict;
 use std::alloc::Global;
 
-/// The text of a verdict, without a line end.
-pub fn verdict_text(alloc: Global, verdict: &Verdict) -> Result<Vec<u8>, NoMemory>
-    ensures { IfOk result (λ text. text.items ≡ verdict_text verdict.now) }
+/// The text that says that the sides of each pair are equal, or which pair is the first whose sides are not, without a
+/// line end.
+pub fn verdict_text(alloc: Global, difference: Option<usize>) -> Result<Vec<u8>, NoMemory>
+    ensures { IfOk result (λ text. text.items ≡ verdict_text difference) }
 {
-    match verdict {
-        Verdict::Yes => Ok(Vec::from_slice(alloc, b"yes")?),
-        Verdict::No(number, _, _) => numbered(alloc, b"no ", *number),
-        Verdict::Size(_) => numbered(alloc, b"bound size ", TERM_SYMBOLS as usize),
+    match difference {
+        None => Ok(Vec::from_slice(alloc, b"yes")?),
+        Some(number) => numbered(alloc, b"no ", number),
     }
-}
-
-/// The text that leaves the equation of this statement for later, without a line end.
-pub fn later_text(alloc: Global, statement: usize) -> Result<Vec<u8>, NoMemory>
-    ensures { IfOk result (λ text. text.items ≡ later_text statement) }
-{
-    let mut text = numbered(alloc, b"module 8 statement ", statement)?;
-    text.extend_from_slice(b" later")?;
-    Ok(text)
 }

@@ -23,7 +23,7 @@ use Rattle.fvn_commands.specs.declared.status.Status.TheVariants.{ModuleRefused,
 use Rattle.fvn_commands.specs.declared.answer.Answer.{Answer}
 use Rattle.fvn_commands.specs.Texts.{bytes_of}
 use Rattle.fvn_commands.specs.Checks.{IsRefusalLine}
-use Rattle.fvn_commands.specs.Verifying.{IsProblemRefusalLine}
+use Rattle.fvn_commands.specs.Refusing.{IsProblemRefusalLine}
 use Rattle.fvn_unify.specs.Ends.{status_of_end}
 use Rattle.fvn_unify.specs.Replies.{IsAnswer, IsUnifyReply, module_refused, problem_refused, answered}
 use Rattle.fvn_unify.specs.inner.Told.{end_told, AreLinesOfBindings}

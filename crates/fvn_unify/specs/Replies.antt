@@ -9,7 +9,7 @@ use Rattle.fvn_answer.specs.declared.end.End.{End}
 use Rattle.fvn_commands.specs.declared.status.Status.{Status}
 use Rattle.fvn_commands.specs.declared.status.Status.TheVariants.{ModuleRefused, ProblemRefused}
 use Rattle.fvn_commands.specs.Checks.{IsFirstRefusal}
-use Rattle.fvn_commands.specs.Verifying.{IsFirstProblemRefusal}
+use Rattle.fvn_commands.specs.Refusing.{IsFirstProblemRefusal}
 use Rattle.fvn_unify.specs.Ends.{status_of_end}
 use Rattle.fvn_unify.specs.Solutions.{IsSolution, Shows}
 

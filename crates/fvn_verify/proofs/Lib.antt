@@ -1,3 +1,4 @@
 -- The lemmas of the crate.
-mod Verdicts
-mod OneVerdict
+mod Forms
+mod Comparisons
+mod Agreeing

@@ -1,13 +1,31 @@
 -- What is proved of all verdicts.
-use Rattle.std.specs.Prelude.{ℕ, ◌≡◌, List}
+use Rattle.std.specs.Prelude.{◌≡◌, ℕ, List}
 use Rattle.fvn_terms.specs.declared.plain.Plain.{Plain}
 use Rattle.fvn_terms.specs.declared.declarations.Declarations.{Declarations}
 use Rattle.fvn_terms.specs.Substitution.{Substitution}
+use Rattle.fvn_terms.specs.Theory.{Equations}
+use Rattle.fvn_terms.specs.Rewriting.{IsConfluent}
 use Rattle.fvn_verify.specs.declared.verdict.Verdict.{Verdict}
+use Rattle.fvn_verify.specs.declared.verdict.Verdict.TheVariants.{Yes, No, Steps, Size}
 use Rattle.fvn_verify.specs.Verdicts.{IsVerdict}
 
--- Of pairs under a substitution there is one verdict at most.
-abbrev pub VerdictsAreDetermined : Type 0
-VerdictsAreDetermined =
-    (d : Declarations) (s : Substitution) (size : ℕ) (pairs : List (Plain × Plain)) (v w : Verdict) →
-    IsVerdict d s size pairs v → IsVerdict d s size pairs w → v ≡ w
+-- not one of them yes and the other no, and where both are no, of one pair
+abbrev pub Agree : Verdict → Verdict → Type 0
+Agree Yes Yes = Unit
+Agree Yes (No number left right) = ⊥
+Agree Yes (Steps start end) = Unit
+Agree Yes (Size f) = Unit
+Agree (No number left right) Yes = ⊥
+Agree (No number left right) (No other first second) = number ≡ other
+Agree (No number left right) (Steps start end) = Unit
+Agree (No number left right) (Size f) = Unit
+Agree (Steps start end) v = Unit
+Agree (Size f) v = Unit
+
+-- Where the equations are confluent, verdicts on pairs under one substitution agree, whatever the limits on steps and
+-- symbols were.
+abbrev pub VerdictsAgree : Type 0
+VerdictsAgree =
+    (d : Declarations) (equations : Equations) → IsConfluent d equations →
+    (s : Substitution) (pairs : List (Plain × Plain)) (steps size more_steps more_size : ℕ) (v w : Verdict) →
+    IsVerdict d equations s steps size pairs v → IsVerdict d equations s more_steps more_size pairs w → Agree v w

@@ -1,58 +1,92 @@
 -- What is said of a problem under bindings.
-use Rattle.std.specs.Prelude.{ℕ, ◌≡◌, ◌+◌, ◌<◌, ◌≤◌, ◌⊎◌, List, ◌∷◌, ◌++◌, length, All}
+use Rattle.std.specs.Prelude.{◌≡◌, ◌≤◌, ◌<◌, ◌+◌, ℕ, List, [], ◌∷◌, ◌++◌, length, All}
 use Rattle.fvn_terms.specs.declared.plain.Plain.{Plain}
 use Rattle.fvn_terms.specs.declared.declarations.Declarations.{Declarations}
+use Rattle.fvn_terms.specs.Term.{Term}
 use Rattle.fvn_terms.specs.Plain.{term}
 use Rattle.fvn_terms.specs.Substitution.{Substitution, apply}
-use Rattle.fvn_terms.specs.Equality.{BEqual}
-use Rattle.fvn_forms.specs.Flat.{FlatTerm, symbols}
+use Rattle.fvn_terms.specs.Theory.{Equations, TEqual}
+use Rattle.fvn_terms.specs.Rewriting.{TermSequence, IsReducible, IsIrreducible, IsConfluent}
+use Rattle.fvn_forms.specs.Flat.{FlatTerm, plain, symbols}
 use Rattle.fvn_forms.specs.Canon.{canon}
+use Rattle.fvn_flat.specs.Fits.{Fits}
 use Rattle.fvn_verify.specs.declared.verdict.Verdict.{Verdict}
-use Rattle.fvn_verify.specs.declared.verdict.Verdict.TheVariants.{Yes, No, Size}
+use Rattle.fvn_verify.specs.declared.verdict.Verdict.TheVariants.{Yes, No, Steps, Size}
 
-module _ (d : Declarations) (s : Substitution) where
-  -- both sides, with their variables replaced, are equal modulo the axioms
+-- the sides of pairs, one after another, the left one of each first
+abbrev pub sides_of : List (Plain × Plain) → List Plain
+sides_of [] = []
+sides_of (p ∷ pairs) = p.0 ∷ p.1 ∷ sides_of pairs
+
+module _ (d : Declarations) (equations : Equations) (s : Substitution) where
+  -- a side with its variables replaced
+  abbrev pub instance : Plain → Term
+  instance t = apply s (term t)
+
+  -- both sides, with their variables replaced, are equal in the theory
   abbrev pub AreEqual : Plain × Plain → Type 0
-  AreEqual p = BEqual d (apply s (term p.0)) (apply s (term p.1))
+  AreEqual p = TEqual d equations (instance p.0) (instance p.1)
 
-  -- the flat form of a side with its variables replaced
-  abbrev pub form : Plain → FlatTerm
-  form t = canon d (apply s (term t))
+  module _ (steps size : ℕ) where
+    -- at most `steps` steps lead from the side to f, which is irreducible and has at most `size` symbols
+    pub record IsFormOf (t : Plain) (f : FlatTerm) : Type 0 where
+      pub count : ℕ
+      pub within : count ≤ steps
+      pub reached : TermSequence d equations count (instance t) (plain f)
+      pub fits : Fits d f
+      pub irreducible : IsIrreducible d equations (plain f)
+      pub small : symbols f ≤ size
 
-  -- the pair with this number is the first whose sides are not equal, and these are their flat forms
-  pub record IsFirstDifference (pairs : List (Plain × Plain)) (number : ℕ) (left right : FlatTerm) : Type 0 where
-    pub before : List (Plain × Plain)
-    pub pair : Plain × Plain
-    pub after : List (Plain × Plain)
-    pub split : pairs ≡ before ++ (pair ∷ after)
-    pub number_is : number ≡ length before + 1
-    pub equal : All AreEqual before
-    pub differ : AreEqual pair → ⊥
-    pub left_is : left ≡ form pair.0
-    pub right_is : right ≡ form pair.1
+    -- `steps` steps lead from the side, whose flat form is `start`, to `end`, which is reducible
+    pub record IsUnfinished (t : Plain) (start end : FlatTerm) : Type 0 where
+      pub start_is : start ≡ canon d (instance t)
+      pub start_fits : Fits d start
+      pub sequence : TermSequence d equations steps (instance t) (plain end)
+      pub fits : Fits d end
+      pub reducible : IsReducible d equations (plain end)
 
-  module _ (size : ℕ) where
-    -- neither flat form of the pair has over `size` symbols
-    abbrev pub AreWithin : Plain × Plain → Type 0
-    AreWithin p = (symbols (form p.0) ≤ size) × (symbols (form p.1) ≤ size)
+    -- at most `steps` steps, perhaps none, lead from the side to f, which has over `size` symbols
+    pub record IsTooLarge (t : Plain) (f : FlatTerm) : Type 0 where
+      pub count : ℕ
+      pub within : count ≤ steps
+      pub sequence : TermSequence d equations count (instance t) (plain f)
+      pub fits : Fits d f
+      pub large : size < symbols f
 
-    -- f is the flat form, with over `size` symbols, of the left side of the pair, or of its right side where that of the
-    -- left one has no more than `size`
-    abbrev pub IsOverIn : FlatTerm → Plain × Plain → Type 0
-    IsOverIn f p = (size < symbols f) × ((f ≡ form p.0) ⊎ ((symbols (form p.0) ≤ size) × (f ≡ form p.1)))
+    -- a form of the side was found
+    abbrev pub HasForm : Plain → Type 0
+    HasForm t = (f : FlatTerm) × IsFormOf t f
 
-    -- the first flat form of all pairs that has over `size` symbols
-    pub record IsFirstOver (pairs : List (Plain × Plain)) (f : FlatTerm) : Type 0 where
+    -- one form of both sides was found
+    abbrev pub MeetInForm : Plain × Plain → Type 0
+    MeetInForm p = (f : FlatTerm) × (IsFormOf p.0 f × IsFormOf p.1 f)
+
+    -- The pair with this number is the first whose forms differ, and these are they; forms of all sides were found.
+    -- Where the equations are confluent, the sides of this pair are then not equal in the theory.
+    pub record IsFirstDifference (pairs : List (Plain × Plain)) (number : ℕ) (left right : FlatTerm) : Type 0 where
       pub before : List (Plain × Plain)
       pub pair : Plain × Plain
       pub after : List (Plain × Plain)
       pub split : pairs ≡ before ++ (pair ∷ after)
-      pub within : All AreWithin before
-      pub over : IsOverIn f pair
+      pub number_is : number ≡ length before + 1
+      pub meet : All MeetInForm before
+      pub left_form : IsFormOf pair.0 left
+      pub right_form : IsFormOf pair.1 right
+      pub differ : left ≡ right → ⊥
+      pub found : All HasForm (sides_of after)
+      pub apart : IsConfluent d equations → AreEqual pair → ⊥
 
-    -- What is said of the pairs: that a form is too large, or else which pair is the first whose sides differ, or
-    -- else that the sides of each pair are equal.
+    -- the search ended at this side: forms of all sides before it were found
+    pub record EndsAt (pairs : List (Plain × Plain)) (t : Plain) : Type 0 where
+      pub before : List Plain
+      pub after : List Plain
+      pub split : sides_of pairs ≡ before ++ (t ∷ after)
+      pub found : All HasForm before
+
+    -- What is said of the pairs: that the sides of each are equal in the theory; or which pair is the first whose normal
+    -- forms differ; or that so many steps led from a side to no normal form, or to a form that is too large.
     abbrev pub IsVerdict : List (Plain × Plain) → Verdict → Type 0
-    IsVerdict pairs Yes = All AreWithin pairs × All AreEqual pairs
-    IsVerdict pairs (No number left right) = All AreWithin pairs × IsFirstDifference pairs number left right
-    IsVerdict pairs (Size f) = IsFirstOver pairs f
+    IsVerdict pairs Yes = All AreEqual pairs × All MeetInForm pairs
+    IsVerdict pairs (No number left right) = IsFirstDifference pairs number left right
+    IsVerdict pairs (Steps start end) = (t : Plain) × (EndsAt pairs t × IsUnfinished t start end)
+    IsVerdict pairs (Size f) = (t : Plain) × (EndsAt pairs t × IsTooLarge t f)

@@ -1,4 +1,4 @@
-//! Whether bindings solve a problem modulo the axioms.
+//! Whether bindings solve a problem in the theory of a module's equations.
 #![tactic(auto)]
 
 mod comparing;
@@ -6,6 +6,6 @@ mod laws;
 mod verdict;
 mod verifying;
 
-pub use laws::verdicts_are_determined;
+pub use laws::verdicts_agree;
 pub use verdict::Verdict;
 pub use verifying::verify;

@@ -1,13 +1,15 @@
 //! What is said of a problem under bindings.
 use fvn_flat::Flat;
 
-/// Whether bindings solve a problem.
+/// Whether bindings solve a problem in the theory of a module's equations.
 #[derive(Drop)]
 pub enum Verdict {
     /// The sides of each pair are equal.
     Yes,
-    /// The pair with this number, from 1, is the first whose sides differ; these are their flat forms.
+    /// The pair with this number, from 1, is the first whose sides have different normal forms; these are they.
     No(usize, Flat, Flat),
-    /// This flat form is the first that has too many symbols.
+    /// The flat form of a side, and what it came to in as many steps as were allowed; that can be rewritten further.
+    Steps(Flat, Flat),
+    /// What a side came to: it has more symbols than were allowed.
     Size(Flat),
 }

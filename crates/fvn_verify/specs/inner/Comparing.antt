@@ -1,20 +1,32 @@
 -- Pairs as they are compared, one after another.
-use Rattle.std.specs.Prelude.{ℕ, ◌≡◌, List, All, Option, Some, None}
+use Rattle.std.specs.Prelude.{◌≡◌, ◌⊎◌, ℕ, List, All, Option, Some, None}
 use Rattle.fvn_terms.specs.declared.plain.Plain.{Plain}
 use Rattle.fvn_terms.specs.declared.declarations.Declarations.{Declarations}
 use Rattle.fvn_terms.specs.Plain.{term}
 use Rattle.fvn_terms.specs.Signature.{IsTerm}
 use Rattle.fvn_terms.specs.Substitution.{Substitution}
+use Rattle.fvn_terms.specs.Theory.{Equations}
+use Rattle.fvn_terms.specs.Rewriting.{IsConfluent}
 use Rattle.fvn_forms.specs.Flat.{FlatTerm}
+use Rattle.fvn_flat.specs.declared.solver.Normal.{Normal}
+use Rattle.fvn_flat.specs.declared.solver.Normal.TheVariants.{Form, Steps as OutOfSteps, Size as OutOfSize}
+use Rattle.fvn_cohere.specs.Promises.{equations_of}
+use Rattle.fvn_coherence.specs.Admissible.{AreAdmissible}
+use Rattle.fvn_rules.specs.Given.{RuleLists, AreRules}
 use Rattle.fvn_verify.specs.declared.verdict.Verdict.{Verdict}
-use Rattle.fvn_verify.specs.declared.verdict.Verdict.TheVariants.{Yes, No}
+use Rattle.fvn_verify.specs.declared.verdict.Verdict.TheVariants.{Yes, No, Steps, Size}
 use Rattle.fvn_verify.specs.declared.comparing.Compared.{Compared}
-use Rattle.fvn_verify.specs.declared.comparing.Compared.TheVariants.{Small, Large}
-use Rattle.fvn_verify.specs.Verdicts.{AreEqual, form, AreWithin, IsOverIn, IsFirstDifference}
+use Rattle.fvn_verify.specs.declared.comparing.Compared.TheVariants.{Found, Ended}
+use Rattle.fvn_verify.specs.Verdicts.{sides_of, AreEqual, IsFormOf, IsUnfinished, IsTooLarge, HasForm, MeetInForm, IsFirstDifference}
 
 -- both sides are well-kinded
 abbrev pub AreKinded : Declarations → Plain × Plain → Type 0
 AreKinded d p = IsTerm d (term p.0) × IsTerm d (term p.1)
+
+-- the rules are those of admissible equations
+pub record AreUsable (d : Declarations) (lists : RuleLists) : Type 0 where
+  pub rules : AreRules d lists
+  pub admissible : AreAdmissible d (equations_of lists.equations)
 
 -- the first difference: the one so far, where there is one
 abbrev pub earlier : Option (ℕ × FlatTerm × FlatTerm) → ℕ → Option (FlatTerm × FlatTerm) → Option (ℕ × FlatTerm × FlatTerm)
@@ -22,27 +34,56 @@ earlier (Some found) number difference = Some found
 earlier None number None = None
 earlier None number (Some forms) = Some (number, forms.0, forms.1)
 
--- the verdict on pairs that are small enough, where this is their first difference
+-- the verdict on pairs all of whose forms were found, where this is their first difference
 abbrev pub concluded : Option (ℕ × FlatTerm × FlatTerm) → Verdict
 concluded None = Yes
 concluded (Some found) = No found.0 found.1 found.2
 
-module _ (d : Declarations) (s : Substitution) where
-  -- the sides are equal, or differ with these flat forms
+module _ (d : Declarations) (equations : Equations) (s : Substitution) (steps size : ℕ) where
+  -- what is found of a side
+  abbrev pub IsSideAs : Plain → Normal → Type 0
+  IsSideAs t (Form f) = IsFormOf d equations s steps size t f
+  IsSideAs t (OutOfSteps start end) = IsUnfinished d equations s steps size t start end
+  IsSideAs t (OutOfSize f) = IsTooLarge d equations s steps size t f
+
+  -- forms of both sides that differ; where the equations are confluent, the sides are then not equal in the theory
+  pub record AreDifferent (p : Plain × Plain) (left right : FlatTerm) : Type 0 where
+    pub left_form : IsFormOf d equations s steps size p.0 left
+    pub right_form : IsFormOf d equations s steps size p.1 right
+    pub differ : left ≡ right → ⊥
+    pub apart : IsConfluent d equations → AreEqual d equations s p → ⊥
+
+  -- the sides are equal and meet in a form, or have these forms, which differ
   abbrev pub IsDifference : Plain × Plain → Option (FlatTerm × FlatTerm) → Type 0
-  IsDifference p None = AreEqual d s p
-  IsDifference p (Some forms) = (AreEqual d s p → ⊥) × (forms.0 ≡ form d s p.0) × (forms.1 ≡ form d s p.1)
+  IsDifference p None = AreEqual d equations s p × MeetInForm d equations s steps size p
+  IsDifference p (Some forms) = AreDifferent p forms.0 forms.1
+
+  -- the search ends at this side of the pair: the left one, or the right one where a form of the left one was found
+  abbrev pub IsEndIn : Plain × Plain → Plain → Type 0
+  IsEndIn p t = (t ≡ p.0) ⊎ ((t ≡ p.1) × HasForm d equations s steps size p.0)
+
+  -- how the search ends at this side
+  abbrev pub EndsAs : Plain → Verdict → Type 0
+  EndsAs t Yes = ⊥
+  EndsAs t (No number left right) = ⊥
+  EndsAs t (Steps start end) = IsUnfinished d equations s steps size t start end
+  EndsAs t (Size f) = IsTooLarge d equations s steps size t f
+
+  -- the search ends so at a side of the pair
+  abbrev pub EndsIn : Plain × Plain → Verdict → Type 0
+  EndsIn p v = (t : Plain) × (IsEndIn p t × EndsAs t v)
+
+  -- what comes of the two sides of a pair
+  abbrev pub IsCompared : Plain × Plain → Compared → Type 0
+  IsCompared p (Found difference) =
+      HasForm d equations s steps size p.0 × (HasForm d equations s steps size p.1 × IsDifference p difference)
+  IsCompared p (Ended v) = EndsIn p v
 
   -- the first difference of the pairs, where there is one
   abbrev pub IsFirst : List (Plain × Plain) → Option (ℕ × FlatTerm × FlatTerm) → Type 0
-  IsFirst pairs None = All (AreEqual d s) pairs
-  IsFirst pairs (Some found) = IsFirstDifference d s pairs found.0 found.1 found.2
+  IsFirst pairs None = All (AreEqual d equations s) pairs × All (MeetInForm d equations s steps size) pairs
+  IsFirst pairs (Some found) = IsFirstDifference d equations s steps size pairs found.0 found.1 found.2
 
-  -- what comes of the two sides of a pair
-  abbrev pub IsCompared : ℕ → Plain × Plain → Compared → Type 0
-  IsCompared size p (Small difference) = AreWithin d s size p × IsDifference p difference
-  IsCompared size p (Large f) = IsOverIn d s size f p
-
-  -- all these pairs are small enough, and this is their first difference, where there is one
-  abbrev pub IsSoFar : ℕ → List (Plain × Plain) → Option (ℕ × FlatTerm × FlatTerm) → Type 0
-  IsSoFar size pairs first = All (AreWithin d s size) pairs × IsFirst pairs first
+  -- forms of all sides of these pairs were found, and this is their first difference, where there is one
+  abbrev pub IsSoFar : List (Plain × Plain) → Option (ℕ × FlatTerm × FlatTerm) → Type 0
+  IsSoFar pairs first = All (HasForm d equations s steps size) (sides_of pairs) × IsFirst pairs first

@@ -13,5 +13,4 @@ returns c = record {
   bindings = c.bindings_are_determined.ensures;
   no_bindings = c.refused_bindings_bind_nothing.ensures;
   binding_faults = c.binding_faults_are_determined.ensures;
-  verdicts = c.verdicts_are_determined.ensures;
 }

@@ -1,33 +1,41 @@
 -- One more pair is compared; after the last one the verdict is told.
 use Rattle.std.proofs.Common.{◌+◌, take, sym, subst}
 use Rattle.fvn_terms.specs.Substitution.{value}
-use Rattle.fvn_verify.specs.declared.comparing.Compared.TheVariants.{Small}
+use Rattle.fvn_cohere.specs.Promises.{equations_of}
+use Rattle.fvn_verify.specs.declared.comparing.Compared.TheVariants.{Found}
 use Rattle.fvn_verify.specs.Verdicts.{IsVerdict}
 use Rattle.fvn_verify.specs.inner.Comparing.{AreKinded, IsCompared, IsSoFar}
-use Rattle.fvn_verify.proofs.Verdicts.{none-so-far, one-more, too-large, conclude, all-of}
+use Rattle.fvn_verify.proofs.Comparisons.{none-so-far, one-more, ended, conclude, all-of}
 use Rattle.fvn_verify.proofs.verifying.verify_pairs.Goals as goal
 
 pub loop-i-init : goal.loop-i-init
-loop-i-init c = none-so-far c.args.signature.now (value c.args.bindings.now.pairs) c.args.size
+loop-i-init c = none-so-far c.args.signature.now (equations_of c.args.rules.now.equations) (value c.args.bindings.now.pairs) c.args.steps c.args.size
 
 pub compare-requires-clause-kinded : goal.compare-requires-clause-kinded
 compare-requires-clause-kinded c =
     subst (AreKinded c.args.signature.now) (sym c.index-pairs-i.is) (c.requires.kinded c.loop-i.i c.index-pairs-i.result c.loop-i-test.true)
 
-pub returns-in-Large : goal.returns-in-Large
-returns-in-Large c =
-    too-large c.args.signature.now (value c.args.bindings.now.pairs) c.args.size c.args.pairs.now c.loop-i.i c.index-pairs-i.result c.loop-i.first c.in-Large.form
-    c.loop-i-test.true c.index-pairs-i.is c.loop-i.invariant (rw c.in-Large.is at c.in_ok-form.ensures)
+pub returns-in-Ended : goal.returns-in-Ended
+returns-in-Ended c =
+    ended c.args.signature.now (equations_of c.args.rules.now.equations) (value c.args.bindings.now.pairs) c.args.steps c.args.size
+    c.args.pairs.now c.loop-i.i c.index-pairs-i.result c.loop-i.first c.in-Ended.verdict
+    c.loop-i-test.true c.index-pairs-i.is c.loop-i.invariant (rw c.in-Ended.is at c.in_ok-verdict.ensures)
 
 pub loop-i-preserved : goal.loop-i-preserved
 loop-i-preserved c =
-    let compared : IsCompared c.args.signature.now (value c.args.bindings.now.pairs) c.args.size c.index-pairs-i.result (Small c.in-Small.difference) = rw c.in-Small.is at c.in_ok-form.ensures in
-    subst (IsSoFar c.args.signature.now (value c.args.bindings.now.pairs) c.args.size (take (c.loop-i.i + 1) c.args.pairs.now)) (sym c.earlier-first.ensures)
-    (one-more c.args.signature.now (value c.args.bindings.now.pairs) c.args.size c.args.pairs.now c.loop-i.i c.index-pairs-i.result c.loop-i.first c.in-Small.difference
-    c.loop-i-test.true c.index-pairs-i.is c.loop-i.invariant compared.0 compared.1)
+    let d = c.args.signature.now in
+    let E = equations_of c.args.rules.now.equations in
+    let s = value c.args.bindings.now.pairs in
+    let compared : IsCompared d E s c.args.steps c.args.size c.index-pairs-i.result (Found c.in-Found.difference) = rw c.in-Found.is at c.in_ok-verdict.ensures in
+    subst (IsSoFar d E s c.args.steps c.args.size (take (c.loop-i.i + 1) c.args.pairs.now)) (sym c.earlier-first.ensures)
+    (one-more d E s c.args.steps c.args.size c.args.pairs.now c.loop-i.i c.index-pairs-i.result c.loop-i.first c.in-Found.difference
+    c.loop-i-test.true c.index-pairs-i.is c.loop-i.invariant compared.0 compared.1.0 compared.1.1)
 
 pub returns : goal.returns
 returns c =
-    subst (IsVerdict c.args.signature.now (value c.args.bindings.now.pairs) c.args.size c.args.pairs.now) (sym c.conclude.ensures)
-    (conclude c.args.signature.now (value c.args.bindings.now.pairs) c.args.size c.args.pairs.now c.loop-i.first
-    (all-of c.args.signature.now (value c.args.bindings.now.pairs) c.args.size c.args.pairs.now c.loop-i.i c.loop-i.first c.loop-i-test.false c.loop-i.invariant))
+    let d = c.args.signature.now in
+    let E = equations_of c.args.rules.now.equations in
+    let s = value c.args.bindings.now.pairs in
+    subst (IsVerdict d E s c.args.steps c.args.size c.args.pairs.now) (sym c.conclude.ensures)
+    (conclude d E s c.args.steps c.args.size c.args.pairs.now c.loop-i.first
+    (all-of d E s c.args.steps c.args.size c.args.pairs.now c.loop-i.i c.loop-i.first c.loop-i-test.false c.loop-i.invariant))

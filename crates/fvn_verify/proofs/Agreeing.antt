@@ -1,0 +1,67 @@
+-- Verdicts on pairs under one substitution agree, where the equations are confluent.
+use Rattle.std.proofs.Common.{◌≡◌, ℕ, suc, ◌+◌, List, [], ◌∷◌, ◌++◌, length, refl, sym, ap, ◌∙◌, subst}
+use Rattle.std.specs.Prelude.{All}
+use Rattle.std.proofs.lemmas.List.Elements.{All-head, All-tail, All-weaker}
+use Rattle.fvn_terms.specs.declared.plain.Plain.{Plain}
+use Rattle.fvn_terms.specs.declared.declarations.Declarations.{Declarations}
+use Rattle.fvn_terms.specs.Substitution.{Substitution}
+use Rattle.fvn_terms.specs.Theory.{Equations}
+use Rattle.fvn_terms.specs.Rewriting.{IsConfluent}
+use Rattle.fvn_terms.specs.Laws.{RewritingIsLawful, TheoryEqualityIsLawful}
+use Rattle.fvn_forms.specs.Flat.{FlatTerm}
+use Rattle.fvn_verify.specs.declared.verdict.Verdict.TheVariants.{Yes, No, Steps, Size}
+use Rattle.fvn_verify.specs.Verdicts.{AreEqual, MeetInForm, IsFirstDifference}
+use Rattle.fvn_verify.specs.Laws.{VerdictsAgree}
+use Rattle.fvn_verify.proofs.Forms.{meet_equal}
+
+head-is : {A : Type 0} (x y : A) (xs ys : List A) → x ∷ xs ≡ y ∷ ys → x ≡ y
+head-is x y xs ys e = cc
+
+tail-is : {A : Type 0} (x y : A) (xs ys : List A) → x ∷ xs ≡ y ∷ ys → xs ≡ ys
+tail-is x y xs ys e = cc
+
+-- what holds of all holds of one among them
+all-at : {A : Type 0} (P : A → Type 0) (before after : List A) (p : A) → All P (before ++ p ∷ after) → P p
+all-at P [] after p h = All-head P p after h
+all-at P (x ∷ before) after p h = all-at P before after p (All-tail P x (before ++ p ∷ after) h)
+
+-- the first of which something does not hold is at one place
+first-once : {A : Type 0} (P : A → Type 0) (b c : List A) (p q : A) (x y : List A) → b ++ p ∷ x ≡ c ++ q ∷ y → All P b → All P c → (P p → ⊥) → (P q → ⊥) → length b ≡ length c
+first-once P [] [] p q x y e h k n m = refl
+first-once P [] (c ∷ cs) p q x y e h k n m = absurd (n (subst P (sym (head-is p c x (cs ++ q ∷ y) e)) (All-head P c cs k)))
+first-once P (b ∷ bs) [] p q x y e h k n m = absurd (m (subst P (head-is b q (bs ++ p ∷ x) y e) (All-head P b bs h)))
+first-once P (b ∷ bs) (c ∷ cs) p q x y e h k n m =
+    ap suc (first-once P bs cs p q x y (tail-is b c (bs ++ p ∷ x) (cs ++ q ∷ y) e) (All-tail P b bs h) (All-tail P c cs k) n m)
+
+module _ (rewriting : RewritingIsLawful) (theory : TheoryEqualityIsLawful) (d : Declarations) (equations : Equations) (confluent : IsConfluent d equations) (s : Substitution) (pairs : List (Plain × Plain)) where
+  -- pairs whose sides differ are not all equal
+  all-differ : (steps size n : ℕ) (l r : FlatTerm) → IsFirstDifference d equations s steps size pairs n l r → All (AreEqual d equations s) pairs → ⊥
+  all-differ steps size n l r h all = h.apart confluent (all-at (AreEqual d equations s) h.before h.after h.pair (subst (All (AreEqual d equations s)) h.split all))
+
+  -- the pairs before the first difference are equal
+  equal-before : (steps size : ℕ) (ps : List (Plain × Plain)) → All (MeetInForm d equations s steps size) ps → All (AreEqual d equations s) ps
+  equal-before steps size ps = All-weaker (MeetInForm d equations s steps size) (AreEqual d equations s) (λ p h. meet_equal d equations s steps size rewriting theory p h) ps
+
+  one-difference : (steps size more_steps more_size n m : ℕ) (l r k q : FlatTerm) →
+      IsFirstDifference d equations s steps size pairs n l r → IsFirstDifference d equations s more_steps more_size pairs m k q → n ≡ m
+  one-difference steps size more_steps more_size n m l r k q a b =
+      a.number_is
+      ∙ ap (λ i. i + 1)
+      (first-once (AreEqual d equations s) a.before b.before a.pair b.pair a.after b.after (sym a.split ∙ b.split) (equal-before steps size a.before a.meet) (equal-before more_steps more_size b.before b.meet)
+      (a.apart confluent) (b.apart confluent))
+      ∙ sym b.number_is
+
+pub verdicts-agree : RewritingIsLawful → TheoryEqualityIsLawful → VerdictsAgree
+verdicts-agree rewriting theory d equations confluent s pairs steps size more_steps more_size Yes Yes a b = tt
+verdicts-agree rewriting theory d equations confluent s pairs steps size more_steps more_size Yes (No m k q) a b =
+    all-differ rewriting theory d equations confluent s pairs more_steps more_size m k q b a.0
+verdicts-agree rewriting theory d equations confluent s pairs steps size more_steps more_size Yes (Steps f g) a b = tt
+verdicts-agree rewriting theory d equations confluent s pairs steps size more_steps more_size Yes (Size g) a b = tt
+verdicts-agree rewriting theory d equations confluent s pairs steps size more_steps more_size (No n l r) Yes a b =
+    all-differ rewriting theory d equations confluent s pairs steps size n l r a b.0
+verdicts-agree rewriting theory d equations confluent s pairs steps size more_steps more_size (No n l r) (No m k q) a b =
+    one-difference rewriting theory d equations confluent s pairs steps size more_steps more_size n m l r k q a b
+verdicts-agree rewriting theory d equations confluent s pairs steps size more_steps more_size (No n l r) (Steps f g) a b = tt
+verdicts-agree rewriting theory d equations confluent s pairs steps size more_steps more_size (No n l r) (Size g) a b = tt
+verdicts-agree rewriting theory d equations confluent s pairs steps size more_steps more_size (Steps f g) w a b = tt
+verdicts-agree rewriting theory d equations confluent s pairs steps size more_steps more_size (Size f) w a b = tt

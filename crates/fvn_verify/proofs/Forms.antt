@@ -1,0 +1,89 @@
+-- What is found of a side, and of two sides whose forms were found.
+use Rattle.std.proofs.Common.{◌≡◌, ◌≤◌, ◌<◌, ◌-◌, ◌^◌, ℕ, sym, subst, ◌∙◌, arith}
+use Rattle.fvn_terms.specs.declared.plain.Plain.{Plain}
+use Rattle.fvn_terms.specs.declared.declarations.Declarations.{Declarations}
+use Rattle.fvn_terms.specs.Term.{Term}
+use Rattle.fvn_terms.specs.Plain.{term}
+use Rattle.fvn_terms.specs.Signature.{KeepsKinds, IsTerm}
+use Rattle.fvn_terms.specs.Substitution.{Substitution, apply}
+use Rattle.fvn_terms.specs.Equality.{BEqual}
+use Rattle.fvn_terms.specs.Theory.{Equations}
+use Rattle.fvn_terms.specs.Rewriting.{TermSequence}
+use Rattle.fvn_terms.specs.Laws.{RewritingIsLawful, TheoryEqualityIsLawful}
+use Rattle.fvn_terms.proofs.Equal.{BEqual-sym, HasKind-apply}
+use Rattle.fvn_forms.specs.Flat.{FlatTerm, plain}
+use Rattle.fvn_forms.specs.Canon.{canon}
+use Rattle.fvn_forms.specs.FitsKinds.{FitsKinds}
+use Rattle.fvn_forms.specs.Laws.{EqualityIsThatOfFlatForms}
+use Rattle.fvn_forms.proofs.Eval.{canon_plain}
+use Rattle.fvn_flat.specs.Fits.{Fits}
+use Rattle.fvn_flat.specs.declared.solver.Normal.{Normal}
+use Rattle.fvn_flat.specs.declared.solver.Normal.TheVariants.{Form, Steps, Size}
+use Rattle.fvn_rewriting.specs.Kinds.{HaveOneKind}
+use Rattle.fvn_rewriting.specs.Laws.{SequencesAreLawful, KindedTheoriesAreLawful}
+use Rattle.fvn_coherence.specs.Admissible.{AreAdmissible}
+use Rattle.fvn_rewrite.specs.Normalised.{counted, IsNormalised}
+use Rattle.fvn_verify.specs.Verdicts.{instance, AreEqual, IsFormOf, MeetInForm}
+use Rattle.fvn_verify.specs.inner.Comparing.{AreKinded, IsSideAs, AreDifferent}
+
+-- an instance of a well-kinded term is well-kinded
+pub instance-kinded : (d : Declarations) (s : Substitution) → KeepsKinds d s → (t : Term) → IsTerm d t → IsTerm d (apply s t)
+instance-kinded d s keeps t h = (h.0, HasKind-apply d s keeps t h.0 h.1)
+
+module _ (d : Declarations) (equations : Equations) (s : Substitution) (steps size : ℕ) where
+  -- a search from the flat form of a side
+  module _ (laws : SequencesAreLawful) (t : Plain) (f : FlatTerm) (equal : BEqual d (instance d equations s t) (plain f)) where
+    -- what a sequence from the form reaches is reached from the side
+    from_side : (k : ℕ) (u : FlatTerm) → TermSequence d equations k (plain f) (plain u) → TermSequence d equations k (instance d equations s t) (plain u)
+    from_side k u q = (laws d equations).before k (plain f) (instance d equations s t) (plain u) (BEqual-sym d equal) q
+
+    -- what is found of the form is found of the side
+    pub side_as : f ≡ canon d (instance d equations s t) → Fits d f → size < 2 ^ 64 - 1 → (n : Normal) → IsNormalised d equations f steps size n → IsSideAs d equations s steps size t n
+    side_as is fits limit (Form u) h = record {
+      count = h.reached.count;
+      within = h.reached.within;
+      reached = from_side h.reached.count u h.reached.reached.sequence;
+      fits = h.reached.reached.fits;
+      irreducible = h.irreducible;
+      small = let small : counted u ≤ size = h.small in omega (arith, small, limit);
+    }
+    side_as is fits limit (Steps start u) h = record {
+      start_is = h.is ∙ is;
+      start_fits = subst (Fits d) (sym h.is) fits;
+      sequence = from_side steps u h.reached.sequence;
+      fits = h.reached.fits;
+      reducible = h.reducible;
+    }
+    side_as is fits limit (Size u) h = record {
+      count = h.reached.count;
+      within = h.reached.within;
+      sequence = from_side h.reached.count u h.reached.reached.sequence;
+      fits = h.reached.reached.fits;
+      large = let large : size < counted u = h.large in omega (arith, large);
+    }
+
+  -- sides that meet in a form are equal in the theory
+  pub meet_equal : RewritingIsLawful → TheoryEqualityIsLawful → (p : Plain × Plain) → MeetInForm d equations s steps size p → AreEqual d equations s p
+  meet_equal rewriting theory p h =
+      (theory d equations).equivalence.transitive (instance d equations s p.0) (plain h.0) (instance d equations s p.1)
+      ((rewriting d equations).theory h.1.0.count (instance d equations s p.0) (plain h.0) h.1.0.reached)
+      ((theory d equations).equivalence.symmetric (instance d equations s p.1) (plain h.0)
+      ((rewriting d equations).theory h.1.1.count (instance d equations s p.1) (plain h.0) h.1.1.reached))
+
+  -- sides of different forms are not equal in the theory, where the equations are confluent
+  module _ (same : EqualityIsThatOfFlatForms) (laws : KindedTheoriesAreLawful) (fits : FitsKinds d) (admissible : AreAdmissible d equations) (keeps : KeepsKinds d s) where
+    kinds : HaveOneKind d equations
+    kinds = λ equation listed. (admissible equation listed).kinded.kinds
+
+    pub are_different : (p : Plain × Plain) → AreKinded d p → (l r : FlatTerm) → IsFormOf d equations s steps size p.0 l → IsFormOf d equations s steps size p.1 r → (l ≡ r → ⊥) →
+        AreDifferent d equations s steps size p l r
+    are_different p kinded l r left right n = record {
+      left_form = left;
+      right_form = right;
+      differ = n;
+      apart = λ confluent e.
+          let one : BEqual d (plain l) (plain r) =
+          (laws d fits equations kinds).one_normal_form confluent (instance d equations s p.0) (instance d equations s p.1) (plain l) (plain r) left.count right.count
+          (instance-kinded d s keeps (term p.0) kinded.0) e left.reached right.reached left.irreducible right.irreducible in
+          n (sym (canon_plain d l left.fits.flat) ∙ (same d fits (plain l) (plain r) left.fits.kinded right.fits.kinded).0 one ∙ canon_plain d r right.fits.flat);
+    }
