@@ -10,7 +10,7 @@ use Rattle.fvn_module.specs.Laws.{ModulesAreDetermined, RefusalsAreDetermined, R
 use Rattle.fvn_cohere.specs.declared.faults.LeftFault.{LeftFault}
 use Rattle.fvn_cohere.specs.LeftFaults.{IsFirstLeftFault}
 use Rattle.fvn_cohere.specs.Promises.{equations_of}
-use Rattle.fvn_loading.specs.Loading.{fault_of_left, HasHarmlessSides, HasLeftFault, IsLoaded, IsLoadFault, IsLoadedAlone, HasNoLoad}
+use Rattle.fvn_loading.specs.Loading.{fault_of_left, HasHarmlessSides, HasLeftFault, IsLoaded, IsLoadFault, IsOnlyLoaded, HasNoLoad}
 use Rattle.fvn_loading.proofs.LeftFaults.{first_harmful, first_once}
 
 -- what is wrong with a left side of a module
@@ -60,7 +60,7 @@ module _ (bytes : List ℕ) where
     judged_ok h (Ok k) j = record { is_module = subst (IsModule bytes) (sym j.0) h; harmless = subst HasHarmlessSides (sym j.0) j.1 }
     judged_ok h (Err f) j = tt
 
-    pub judged_alone : IsOnlyModule bytes m → (r : Result Contents ModuleFault) → IfOk r IsJudged → IfOk r (IsLoadedAlone bytes)
+    pub judged_alone : IsOnlyModule bytes m → (r : Result Contents ModuleFault) → IfOk r IsJudged → IfOk r (IsOnlyLoaded bytes)
     judged_alone only (Ok k) j = λ other h. only other h.is_module ∙ sym j.0
     judged_alone only (Err f) j = tt
 

@@ -46,8 +46,8 @@ module _ (bytes : List ℕ) where
   IsLoadFault fault = Refuses bytes fault ⊎ IsModuleWithFault fault
 
   -- the bytes are loaded as nothing else
-  abbrev pub IsLoadedAlone : Contents → Type 0
-  IsLoadedAlone m = (other : Contents) → IsLoaded other → other ≡ m
+  abbrev pub IsOnlyLoaded : Contents → Type 0
+  IsOnlyLoaded m = (other : Contents) → IsLoaded other → other ≡ m
 
   -- the bytes are not loaded
   abbrev pub AreNotLoaded : Type 0

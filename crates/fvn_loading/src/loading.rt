@@ -7,7 +7,7 @@ ghost use Rattle.fvn_loading.specs.Loading.{
   HasLeftFault,
   IsLoaded,
   IsLoadFault,
-  IsLoadedAlone,
+  IsOnlyLoaded,
   HasNoLoad,
 };
 
@@ -44,7 +44,7 @@ fn judged(alloc: Global, declared: Module) -> Result<Module, ModuleFault>
 /// What makes a text no module is told before what is wrong with a left side.
 pub fn load(alloc: Global, bytes: &[u8]) -> Result<Module, ModuleFault>
     ensures ok { IfOk result (IsLoaded bytes.now) }
-    ensures only { IfOk result (IsLoadedAlone bytes.now) }
+    ensures only { IfOk result (IsOnlyLoaded bytes.now) }
     ensures err { IfErr result (IsLoadFault bytes.now) }
     ensures none { IfErr result (HasNoLoad bytes.now) }
 {

@@ -15,8 +15,8 @@ counted t = min (symbols t) (2 ^ 64 - 1)
 
 module _ (d : Declarations) (equations : Equations) where
   -- one step leads from the term of the first form to that of the second
-  abbrev pub Steps : FlatTerm → FlatTerm → Type 0
-  Steps t u = Rewrites d equations (plain t) (plain u)
+  abbrev pub StepsTo : FlatTerm → FlatTerm → Type 0
+  StepsTo t u = Rewrites d equations (plain t) (plain u)
 
   -- no step leads on from the term of the form
   abbrev pub IsNormalForm : FlatTerm → Type 0

@@ -46,10 +46,8 @@ fn take_turn(
     }
 }
 
-/// The normal form to which at most `steps` steps lead; else what as many steps lead to, or the first form on the way with
-/// over `size` symbols.
-///
-/// Each form is tested for its size before a step is sought, the first one too.
+/// A normal form to which at most `steps` steps lead; or what just so many steps lead to, if it is reducible; or what at
+/// most so many lead to, if it has over `size` symbols.
 pub fn normal(
     alloc: Global,
     sig: &Signature,

@@ -10,11 +10,10 @@ use fvn_rewriting::rules_are_lawful;
 use fvn_terms::NoMemory;
 use std::alloc::Global;
 
-/// The rules of a module: all identity instances of its equations, and the extension of each whose left side is headed
-/// by an associative operator, with a fresh variable of number 0.
+/// The rules of a module: all identity instances of its equations, and the extension of each whose left side an
+/// associative operator heads, with a new variable of its kind.
 ///
-/// Under a head only those rules are needed of which no other is more general; of two that are instances of each other
-/// the first is.
+/// The table by heads may leave out rules that are instances of others.
 pub fn extend(alloc: Global, declared: &Module) -> Result<Rules, NoMemory>
     ensures equations { IfOk result (λ rules. rules.equations ≡ declared.now.equations) }
     ensures rules { IfOk result (AreRules declared.now.signature) }

@@ -11,4 +11,4 @@ mod rules;
 
 pub use extending::extend;
 pub use rule::Rule;
-pub use rules::Rules;
+pub use rules::{Rules, all_shared};

@@ -31,6 +31,13 @@ impl Model for Rules {
     ghost view = { λ r. record { equations = r.equations.items; rules = r.rules.items; table = r.table.items } };
 }
 
+fn shared<T: Send + Sync>(_value: &T) {}
+
+/// Rules may be sent to and shared between threads.
+pub fn all_shared(rules: &Rules) {
+    shared(rules);
+}
+
 impl Rules {
     /// The equations that the rules are made from.
     pub fn equations(&self) -> &[Equation]

@@ -12,7 +12,7 @@ use Rattle.fvn_terms.specs.Theory.{Equations}
 use Rattle.fvn_forms.specs.Flat.{FlatTerm}
 use Rattle.fvn_verify.specs.declared.verdict.Verdict.{Verdict}
 use Rattle.fvn_verify.specs.declared.verdict.Verdict.TheVariants.{Yes, No, Steps, Size}
-use Rattle.fvn_verify.specs.Verdicts.{sides_of, AreEqual, HasForm, MeetInForm, IsFirstDifference, EndsAt, IsVerdict}
+use Rattle.fvn_verify.specs.Verdicts.{sides_in_turn, AreEqual, HasForm, MeetInForm, IsFirstDifference, EndsAt, IsVerdict}
 use Rattle.fvn_verify.specs.inner.Comparing.{earlier, concluded, IsDifference, IsEndIn, EndsAs, EndsIn, IsFirst, IsSoFar}
 
 -- what holds of all, and of one more
@@ -24,19 +24,19 @@ split-at : {X : Type 0} (xs : List X) (i : ℕ) (x : X) → i < length xs → x 
 split-at xs i x within is = sym (take-append-drop i xs) ∙ ap (λ rest. take i xs ++ rest) (drop-at xs i x within is)
 
 -- the sides of pairs, and of more
-sides_of-append : (ps qs : List (Plain × Plain)) → sides_of (ps ++ qs) ≡ sides_of ps ++ sides_of qs
-sides_of-append [] qs = refl
-sides_of-append (p ∷ ps) qs = ap (λ ts. p.0 ∷ p.1 ∷ ts) (sides_of-append ps qs)
+sides_in_turn-append : (ps qs : List (Plain × Plain)) → sides_in_turn (ps ++ qs) ≡ sides_in_turn ps ++ sides_in_turn qs
+sides_in_turn-append [] qs = refl
+sides_in_turn-append (p ∷ ps) qs = ap (λ ts. p.0 ∷ p.1 ∷ ts) (sides_in_turn-append ps qs)
 
 module _ (d : Declarations) (equations : Equations) (s : Substitution) (steps size : ℕ) where
   abbrev Formed : Plain → Type 0
   Formed = HasForm d equations s steps size
 
   -- forms of the sides of one more pair
-  all_formed : (ps : List (Plain × Plain)) (p : Plain × Plain) → All Formed (sides_of ps) → Formed p.0 → Formed p.1 → All Formed (sides_of (ps ++ p ∷ []))
+  all_formed : (ps : List (Plain × Plain)) (p : Plain × Plain) → All Formed (sides_in_turn ps) → Formed p.0 → Formed p.1 → All Formed (sides_in_turn (ps ++ p ∷ []))
   all_formed ps p all l r =
-      subst (All Formed) (sym (sides_of-append ps (p ∷ [])))
-      (All-append Formed (sides_of ps) (p.0 ∷ p.1 ∷ []) all (All-cons Formed p.0 (p.1 ∷ []) l (All-cons Formed p.1 [] r (All-nil Formed))))
+      subst (All Formed) (sym (sides_in_turn-append ps (p ∷ [])))
+      (All-append Formed (sides_in_turn ps) (p.0 ∷ p.1 ∷ []) all (All-cons Formed p.0 (p.1 ∷ []) l (All-cons Formed p.1 [] r (All-nil Formed))))
 
   -- the first difference stays the first where one more pair comes
   goes-on : (pairs : List (Plain × Plain)) (p : Plain × Plain) (n : ℕ) (l r : FlatTerm) → Formed p.0 → Formed p.1 →
@@ -85,24 +85,24 @@ module _ (d : Declarations) (equations : Equations) (s : Substitution) (steps si
       (all_formed (take i all) p so.0 l r, first-push (take i all) p (i + 1) first difference (ap (λ n. n + 1) (sym long)) l r so.1 e)
 
   -- the sides of all pairs around those of one
-  sides-at : (all : List (Plain × Plain)) (i : ℕ) (p : Plain × Plain) → i < length all → p ≡ get_or all i p → sides_of all ≡ sides_of (take i all) ++ p.0 ∷ p.1 ∷ sides_of (drop (i + 1) all)
-  sides-at all i p within is = ap sides_of (split-at all i p within is) ∙ sides_of-append (take i all) (p ∷ drop (i + 1) all)
+  sides-at : (all : List (Plain × Plain)) (i : ℕ) (p : Plain × Plain) → i < length all → p ≡ get_or all i p → sides_in_turn all ≡ sides_in_turn (take i all) ++ p.0 ∷ p.1 ∷ sides_in_turn (drop (i + 1) all)
+  sides-at all i p within is = ap sides_in_turn (split-at all i p within is) ∙ sides_in_turn-append (take i all) (p ∷ drop (i + 1) all)
 
   -- the search ends at a side of the pair at a place
-  ends_at : (all : List (Plain × Plain)) (i : ℕ) (p : Plain × Plain) (t : Plain) → i < length all → p ≡ get_or all i p → All Formed (sides_of (take i all)) →
+  ends_at : (all : List (Plain × Plain)) (i : ℕ) (p : Plain × Plain) (t : Plain) → i < length all → p ≡ get_or all i p → All Formed (sides_in_turn (take i all)) →
       IsEndIn d equations s steps size p t → EndsAt d equations s steps size all t
   ends_at all i p t within is so (inl e) = record {
-    before = sides_of (take i all);
-    after = p.1 ∷ sides_of (drop (i + 1) all);
-    split = sides-at all i p within is ∙ ap (λ u. sides_of (take i all) ++ u ∷ p.1 ∷ sides_of (drop (i + 1) all)) (sym e);
+    before = sides_in_turn (take i all);
+    after = p.1 ∷ sides_in_turn (drop (i + 1) all);
+    split = sides-at all i p within is ∙ ap (λ u. sides_in_turn (take i all) ++ u ∷ p.1 ∷ sides_in_turn (drop (i + 1) all)) (sym e);
     found = so;
   }
   ends_at all i p t within is so (inr e) = record {
-    before = sides_of (take i all) ++ p.0 ∷ [];
-    after = sides_of (drop (i + 1) all);
-    split = sides-at all i p within is ∙ ap (λ u. sides_of (take i all) ++ p.0 ∷ u ∷ sides_of (drop (i + 1) all)) (sym e.0)
-        ∙ sym (append_assoc (sides_of (take i all)) (p.0 ∷ []) (t ∷ sides_of (drop (i + 1) all)));
-    found = all-push Formed (sides_of (take i all)) p.0 so e.1;
+    before = sides_in_turn (take i all) ++ p.0 ∷ [];
+    after = sides_in_turn (drop (i + 1) all);
+    split = sides-at all i p within is ∙ ap (λ u. sides_in_turn (take i all) ++ p.0 ∷ u ∷ sides_in_turn (drop (i + 1) all)) (sym e.0)
+        ∙ sym (append_assoc (sides_in_turn (take i all)) (p.0 ∷ []) (t ∷ sides_in_turn (drop (i + 1) all)));
+    found = all-push Formed (sides_in_turn (take i all)) p.0 so e.1;
   }
 
   -- that is the verdict

@@ -14,9 +14,9 @@ use Rattle.fvn_verify.specs.declared.verdict.Verdict.{Verdict}
 use Rattle.fvn_verify.specs.declared.verdict.Verdict.TheVariants.{Yes, No, Steps, Size}
 
 -- the sides of pairs, one after another, the left one of each first
-abbrev pub sides_of : List (Plain × Plain) → List Plain
-sides_of [] = []
-sides_of (p ∷ pairs) = p.0 ∷ p.1 ∷ sides_of pairs
+abbrev pub sides_in_turn : List (Plain × Plain) → List Plain
+sides_in_turn [] = []
+sides_in_turn (p ∷ pairs) = p.0 ∷ p.1 ∷ sides_in_turn pairs
 
 module _ (d : Declarations) (equations : Equations) (s : Substitution) where
   -- a side with its variables replaced
@@ -73,18 +73,19 @@ module _ (d : Declarations) (equations : Equations) (s : Substitution) where
       pub left_form : IsFormOf pair.0 left
       pub right_form : IsFormOf pair.1 right
       pub differ : left ≡ right → ⊥
-      pub found : All HasForm (sides_of after)
+      pub found : All HasForm (sides_in_turn after)
       pub apart : IsConfluent d equations → AreEqual pair → ⊥
 
     -- the search ended at this side: forms of all sides before it were found
     pub record EndsAt (pairs : List (Plain × Plain)) (t : Plain) : Type 0 where
       pub before : List Plain
       pub after : List Plain
-      pub split : sides_of pairs ≡ before ++ (t ∷ after)
+      pub split : sides_in_turn pairs ≡ before ++ (t ∷ after)
       pub found : All HasForm before
 
-    -- What is said of the pairs: that the sides of each are equal in the theory; or which pair is the first whose normal
-    -- forms differ; or that so many steps led from a side to no normal form, or to a form that is too large.
+    -- What is said of the pairs: that both sides of each came to one form, so that they are equal in the theory; or which
+    -- pair is the first whose normal forms differ; or that so many steps led from a side to no normal form, or to a form
+    -- that is too large.
     abbrev pub IsVerdict : List (Plain × Plain) → Verdict → Type 0
     IsVerdict pairs Yes = All AreEqual pairs × All MeetInForm pairs
     IsVerdict pairs (No number left right) = IsFirstDifference pairs number left right

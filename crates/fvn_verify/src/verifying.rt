@@ -58,8 +58,9 @@ fn verify_pairs(
 /// Whether bindings solve a problem: whether the sides of each pair, with the bindings put in, are equal in the theory
 /// of the equations that the rules are of, modulo the axioms.
 ///
-/// Both sides of each pair are brought to normal forms, the left side first and pair by pair. A side that has none within
-/// `steps` steps, or that comes to a form with over `size` symbols, ends the search, also behind a difference.
+/// Both sides of each pair are brought to normal forms, the left side first and pair by pair. A side from which
+/// `steps` steps led to no normal form, or that came to a form with over `size` symbols, ends the search, also behind a
+/// difference.
 pub fn verify(
     alloc: Global,
     signature: &Signature,

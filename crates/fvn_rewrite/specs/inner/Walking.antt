@@ -10,7 +10,7 @@ use Rattle.fvn_cohere.specs.Promises.{equations_of}
 use Rattle.fvn_coherence.specs.Admissible.{AreAdmissible}
 use Rattle.fvn_coherence.specs.PlacedSteps.{IsRedex, StepsAtPlace}
 use Rattle.fvn_rules.specs.Given.{RuleLists, AreRules}
-use Rattle.fvn_rewrite.specs.Normalised.{Steps}
+use Rattle.fvn_rewrite.specs.Normalised.{StepsTo}
 
 module _ (d : Declarations) where
   -- the rules of admissible equations
@@ -29,7 +29,7 @@ module _ (d : Declarations) where
 
     -- one step leads from the first form to the second, which fits
     pub record IsNext (t u : FlatTerm) : Type 0 where
-      pub steps : Steps d equations t u
+      pub steps : StepsTo d equations t u
       pub fits : Fits d u
 
     -- one step leads from the argument at this place to the form

@@ -17,7 +17,7 @@ use Rattle.fvn_verify.specs.declared.verdict.Verdict.{Verdict}
 use Rattle.fvn_verify.specs.declared.verdict.Verdict.TheVariants.{Yes, No, Steps, Size}
 use Rattle.fvn_verify.specs.declared.comparing.Compared.{Compared}
 use Rattle.fvn_verify.specs.declared.comparing.Compared.TheVariants.{Found, Ended}
-use Rattle.fvn_verify.specs.Verdicts.{sides_of, AreEqual, IsFormOf, IsUnfinished, IsTooLarge, HasForm, MeetInForm, IsFirstDifference}
+use Rattle.fvn_verify.specs.Verdicts.{sides_in_turn, AreEqual, IsFormOf, IsUnfinished, IsTooLarge, HasForm, MeetInForm, IsFirstDifference}
 
 -- both sides are well-kinded
 abbrev pub AreKinded : Declarations → Plain × Plain → Type 0
@@ -86,4 +86,4 @@ module _ (d : Declarations) (equations : Equations) (s : Substitution) (steps si
 
   -- forms of all sides of these pairs were found, and this is their first difference, where there is one
   abbrev pub IsSoFar : List (Plain × Plain) → Option (ℕ × FlatTerm × FlatTerm) → Type 0
-  IsSoFar pairs first = All (HasForm d equations s steps size) (sides_of pairs) × IsFirst pairs first
+  IsSoFar pairs first = All (HasForm d equations s steps size) (sides_in_turn pairs) × IsFirst pairs first
