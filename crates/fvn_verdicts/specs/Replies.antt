@@ -1,5 +1,5 @@
 -- What the program replies to `verify`.
-use Rattle.std.specs.Prelude.{◌≡◌, ℕ, List, All}
+use Rattle.std.specs.Prelude.{ℕ, List, All}
 use Rattle.fvn_terms.specs.Substitution.{value}
 use Rattle.fvn_module.specs.declared.fault.ModuleFault.{ModuleFault}
 use Rattle.fvn_module.specs.Contents.{Contents}

@@ -14,7 +14,7 @@ use Rattle.fvn_answer.specs.declared.end.End.{End}
 use Rattle.fvn_answer.specs.declared.end.End.TheVariants as end
 use Rattle.fvn_answer.specs.Answers.{IsEndLine}
 use Rattle.fvn_commands.specs.declared.status.Status.{Status}
-use Rattle.fvn_commands.specs.declared.status.Status.TheVariants.{Solved, Nothing, Usage, ModuleRefused, ProblemRefused, Ended, ReadFault, WriteFault, NoMemory}
+use Rattle.fvn_commands.specs.declared.status.Status.TheVariants.{Solved, Nothing, Ended}
 use Rattle.fvn_commands.specs.Texts.{line}
 
 -- the status that goes with a verdict

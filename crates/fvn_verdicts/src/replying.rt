@@ -1,5 +1,5 @@
 //! The reply to `verify`.
-ghost use Rattle.std.specs.Prelude.{◌≡◌, All, IfOk};
+ghost use Rattle.std.specs.Prelude.{All, IfOk};
 ghost use Rattle.fvn_terms.specs.Signature.{KeepsKinds};
 ghost use Rattle.fvn_terms.specs.Substitution.{value};
 ghost use Rattle.fvn_problems.specs.Problems.{AreOfOneKind};

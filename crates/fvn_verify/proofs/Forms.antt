@@ -8,10 +8,10 @@ use Rattle.fvn_terms.specs.Signature.{KeepsKinds, IsTerm}
 use Rattle.fvn_terms.specs.Substitution.{Substitution, apply}
 use Rattle.fvn_terms.specs.Equality.{BEqual}
 use Rattle.fvn_terms.specs.Theory.{Equations}
-use Rattle.fvn_terms.specs.Rewriting.{TermSequence, IsConfluent}
+use Rattle.fvn_terms.specs.Rewriting.{TermSequence}
 use Rattle.fvn_terms.specs.Laws.{RewritingIsLawful, TheoryEqualityIsLawful}
 use Rattle.fvn_terms.proofs.Equal.{BEqual-sym, HasKind-apply}
-use Rattle.fvn_forms.specs.Flat.{FlatTerm, plain, symbols}
+use Rattle.fvn_forms.specs.Flat.{FlatTerm, plain}
 use Rattle.fvn_forms.specs.Canon.{canon}
 use Rattle.fvn_forms.specs.FitsKinds.{FitsKinds}
 use Rattle.fvn_forms.specs.Laws.{EqualityIsThatOfFlatForms}
@@ -22,8 +22,8 @@ use Rattle.fvn_flat.specs.declared.solver.Normal.TheVariants.{Form, Steps, Size}
 use Rattle.fvn_rewriting.specs.Kinds.{HaveOneKind}
 use Rattle.fvn_rewriting.specs.Laws.{SequencesAreLawful, KindedTheoriesAreLawful}
 use Rattle.fvn_coherence.specs.Admissible.{AreAdmissible}
-use Rattle.fvn_rewrite.specs.Normalised.{counted, IsReached, IsForm, IsUnfinished as IsUnfinishedForm, IsTooLarge as IsTooLargeForm, IsNormalised}
-use Rattle.fvn_verify.specs.Verdicts.{instance, AreEqual, IsFormOf, IsUnfinished, IsTooLarge, MeetInForm}
+use Rattle.fvn_rewrite.specs.Normalised.{counted, IsNormalised}
+use Rattle.fvn_verify.specs.Verdicts.{instance, AreEqual, IsFormOf, MeetInForm}
 use Rattle.fvn_verify.specs.inner.Comparing.{AreKinded, IsSideAs, AreDifferent}
 
 -- an instance of a well-kinded term is well-kinded

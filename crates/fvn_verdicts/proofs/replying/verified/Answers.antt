@@ -3,14 +3,12 @@ use Rattle.std.proofs.Common.{sym, subst}
 use Rattle.std.specs.Prelude.{All}
 use Rattle.fvn_terms.specs.Signature.{KeepsKinds}
 use Rattle.fvn_terms.specs.Substitution.{value}
-use Rattle.fvn_base.specs.declared.limits.TheConstants.{TERM_SYMBOLS}
 use Rattle.fvn_cohere.specs.Promises.{equations_of}
 use Rattle.fvn_coherence.specs.Admissible.{AreAdmissible}
 use Rattle.fvn_problems.specs.Problems.{AreOfOneKind}
 use Rattle.fvn_rules.specs.Given.{AreRules}
-use Rattle.fvn_verify.specs.Verdicts.{IsVerdict}
-use Rattle.fvn_verdicts.specs.Verdicts.{IsVerdictOn}
-use Rattle.fvn_verdicts.proofs.Told.{fits_verdict}
+use Rattle.fvn_verdicts.specs.inner.Steps.{FitsVerdict}
+use Rattle.fvn_verdicts.proofs.Told.{fits_verdict, told_verdict_on}
 use Rattle.fvn_verdicts.proofs.replying.verified.Goals as goal
 
 pub verify-requires-clause-rules : goal.verify-requires-clause-rules
@@ -29,7 +27,11 @@ pub verify-requires-clause-keeps : goal.verify-requires-clause-keeps
 verify-requires-clause-keeps c = subst (λ d. KeepsKinds d (value c.args.bindings.now.subst.pairs)) (sym c.signature-signature.ensures) c.requires.keeps
 
 pub tell-requires : goal.tell-requires
-tell-requires c = ?
+tell-requires c =
+    subst (λ d. FitsVerdict d c.in_ok-verdict.verdict) c.signature-signature.ensures
+    (fits_verdict c.signature-signature.result.now c.in_ok-rules.rules.equations c.args.steps c.args.problem.now c.args.bindings.now c.in_ok-verdict.verdict c.in_ok-verdict.ensures)
 
 pub returns : goal.returns
-returns c = ?
+returns c =
+    told_verdict_on c.args.declared.now c.signature-signature.result.now c.signature-signature.ensures c.in_ok-rules.rules.equations c.in_ok-rules.ensures.equations
+    c.args.steps c.args.problem.now c.args.bindings.now c.in_ok-verdict.verdict c.in_ok-verdict.ensures _ _ c.in_ok-answer.ensures

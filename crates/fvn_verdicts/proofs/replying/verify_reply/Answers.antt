@@ -3,7 +3,7 @@ use Rattle.fvn_verdicts.proofs.Asking.{refused_module}
 use Rattle.fvn_verdicts.proofs.replying.verify_reply.Goals as goal
 
 pub reply_to_problem-requires : goal.reply_to_problem-requires
-reply_to_problem-requires c = c.in-Ok.ensures.ok.harmless
+reply_to_problem-requires c = record { harmless = c.in-Ok.ensures.ok.harmless }
 
 pub returns-in_ok-answer-in-Ok : goal.returns-in_ok-answer-in-Ok
 returns-in_ok-answer-in-Ok c = c.in_ok-answer-in-Ok.ensures c.args.bytes.now c.in-Ok.ensures.ok

@@ -1,5 +1,5 @@
 -- The forms of the sides are equal, or differ.
-use Rattle.std.proofs.Common.{◌≡◌, false, true, ◌∙◌, refl, sym, subst}
+use Rattle.std.proofs.Common.{◌≡◌, false, true, refl, sym, subst}
 use Rattle.fvn_terms.specs.Substitution.{value}
 use Rattle.fvn_cohere.specs.Promises.{equations_of}
 use Rattle.fvn_verify.specs.Verdicts.{IsFormOf, MeetInForm}
