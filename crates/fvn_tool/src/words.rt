@@ -44,18 +44,26 @@ fn is_verify(name: &[u8], problem: &[u8], bindings: &[u8]) -> bool
 fn read_digits(word: &[u8]) -> Option<u64>
     ensures { result ≡ allowed (read_on 0 word.now) }
 {
-    let mut number = 0;
+    let mut number: u64 = 0;
     for byte in word {
-        if *byte < b'0' || b'9' < *byte || MOST_STEPS < number {
+        if *byte < b'0' {
+            return None;
+        }
+        if b'9' < *byte {
+            return None;
+        }
+        if MOST_STEPS < number {
             return None;
         }
         number = 10 * number + u64::from(*byte - b'0');
     }
-    if 1 <= number && number <= MOST_STEPS {
-        Some(number)
-    } else {
-        None
+    if number < 1 {
+        return None;
     }
+    if MOST_STEPS < number {
+        return None;
+    }
+    Some(number)
 }
 
 // The number of steps that a word tells, where it may be asked for.
