@@ -23,7 +23,7 @@ use Rattle.fvn_verdicts.specs.Verdicts.{TellsVerdict}
 use Rattle.fvn_verdicts.specs.Replies.{AreSolvedBy, IsAskedIn, IsAskedOf, IsVerifyReply}
 use Rattle.fvn_unify.specs.Replies.{IsAnswer, IsToBeUnified}
 use Rattle.fvn_promises.specs.Unified.{AnswersSo, IsNothingExact, EndsComplete}
-use Rattle.fvn_promises.specs.Verified.{AreConfluentIn, TellsNo, TellsYesOrNo}
+use Rattle.fvn_promises.specs.Verified.{TellsNo, TellsYesOrNo}
 use Rattle.fvn_promises.proofs.Checks.{check_one_text, check_not_usage, check_refuses, check_not_loaded, check_tells, check_module, check_sorts}
 use Rattle.fvn_promises.proofs.Verified.{verify_one_text, verify_not_usage, verify_not_loaded, verify_answers, verify_yes, verify_refuses, verify_refuses_words, verify_no_problem, verify_no_bindings, verify_verdict, tells_no, tells_refuted, tells_within}
 use Rattle.fvn_promises.proofs.Unified.{unify_one_text, unify_not_usage, unify_not_loaded, unify_answers, unify_refuses, unify_refuses_word, unify_no_problem, unify_answer, nothing_exact, ends_complete}
