@@ -52,4 +52,5 @@ module _ (bytes : List ℕ) where
   -- this status with this text replies to `check` over the bytes
   pub data IsCheckReply : Status → List ℕ → Type 0 where
     refused : {text : List ℕ} → IsFirstRefusal text → IsCheckReply ModuleRefused text
-    told : {status : Status} {text : List ℕ} (m : Contents) → IsLoaded bytes m → TellsSorts m status text → IsCheckReply status text
+    told : {status : Status} {text : List ℕ} (m : Contents) → IsLoaded bytes m →
+        TellsSorts m status text → IsCheckReply status text

@@ -1,11 +1,6 @@
 -- Complete answers have equally many lines.
-use Rattle.std.proofs.Common.{◌≡◌, ℕ, List, length, subst, arith}
-use Rattle.fvn_module.specs.Contents.{Contents}
-use Rattle.fvn_problems.specs.declared.problem.Problem.{Problem}
-use Rattle.fvn_answer.specs.declared.end.End.TheVariants.{Complete}
-use Rattle.fvn_commands.specs.declared.status.Status.{Status}
+use Rattle.std.proofs.Common.{◌≡◌, length, subst, arith}
 use Rattle.fvn_unify.specs.Ends.{IsCauseOf}
-use Rattle.fvn_unify.specs.Replies.{IsAnswer}
 use Rattle.fvn_promises.specs.Laws.{CompleteAnswersHaveOneCount}
 
 pub one_count : CompleteAnswersHaveOneCount

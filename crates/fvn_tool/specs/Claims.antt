@@ -66,7 +66,8 @@ pub record TellsModule (bytes : List ℕ) (run : Run) : Type 0 where
   pub only : run.status ≡ Solved → (length bytes ≤ MODULE_BYTES) × ((m : Contents) × IsLoaded bytes m)
   pub always : length bytes ≤ MODULE_BYTES → (m : Contents) → IsLoaded bytes m →
       Leaves (TellsSorts m) run.status run.sink
-  pub sorts : length bytes ≤ MODULE_BYTES → (m : Contents) → IsLoaded bytes m → (loss : Option ℕ) → IsLossOf m loss →
+  pub sorts : length bytes ≤ MODULE_BYTES → (m : Contents) → IsLoaded bytes m →
+      (loss : Option ℕ) → IsLossOf m loss →
       Leaves (Is Solved (told_lines m loss)) run.status run.sink
 
 -- a run that is asked to check refuses what it should, and else tells how much the module declares, and of its sorts
