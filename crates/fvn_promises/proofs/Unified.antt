@@ -16,7 +16,7 @@ use Rattle.fvn_commands.specs.declared.status.Status.TheVariants.{Nothing, Usage
 use Rattle.fvn_commands.specs.Statuses.{IsSpoken, IsAnswering}
 use Rattle.fvn_commands.specs.Laws.{ReadersAreLawful}
 use Rattle.fvn_commands.specs.Checks.{IsFirstRefusal, IsFirstRefusalOf}
-use Rattle.fvn_commands.specs.Verifying.{IsFirstProblemRefusal, AsksNoProblem, IsProblemRefusalOf}
+use Rattle.fvn_commands.specs.Refusing.{IsFirstProblemRefusal, AsksNoProblem, IsProblemRefusalOf}
 use Rattle.fvn_unify.specs.Asked.{Unifies, CannotBeUnified}
 use Rattle.fvn_unify.specs.Ends.{status_of_end, IsCauseOf}
 use Rattle.fvn_unify.specs.Solutions.{IsLineOf}

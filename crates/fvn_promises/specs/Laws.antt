@@ -6,9 +6,10 @@ use Rattle.fvn_answer.specs.declared.end.End.TheVariants.{Complete}
 use Rattle.fvn_commands.specs.declared.status.Status.{Status}
 use Rattle.fvn_commands.specs.Texts.{Is}
 use Rattle.fvn_commands.specs.Checks.{IsCheckReply}
-use Rattle.fvn_commands.specs.Verifying.{IsVerifyReply}
+use Rattle.fvn_verdicts.specs.Replies.{IsVerifyReply}
 use Rattle.fvn_unify.specs.Replies.{IsAnswer, IsUnifyReply}
 use Rattle.fvn_promises.specs.Unified.{AreAnswersOrOne}
+use Rattle.fvn_promises.specs.Verified.{AreVerdictsOrOne}
 
 -- a text has one reply to `check`
 abbrev pub RepliesToCheckAreDetermined : Type 0
@@ -16,11 +17,14 @@ RepliesToCheckAreDetermined =
     (bytes : List ℕ) (s : Status) (t : List ℕ) → IsCheckReply bytes s t →
     (u : Status) (v : List ℕ) → IsCheckReply bytes u v → Is s t u v
 
--- a text, a problem and bindings have one reply to `verify`
-abbrev pub RepliesToVerifyAreDetermined : Type 0
-RepliesToVerifyAreDetermined =
-    (bytes problem bindings : List ℕ) (s : Status) (t : List ℕ) → IsVerifyReply bytes problem bindings s t →
-    (u : Status) (v : List ℕ) → IsVerifyReply bytes problem bindings u v → Is s t u v
+-- A text, a problem and bindings are refused by `verify` with one text, or a verdict is always told, whatever the limits on
+-- steps are; and where the equations are confluent, verdicts that ended at no bound are one. Which of them comes is open
+-- where a side has a short way to a normal form and a long sequence besides.
+abbrev pub VerdictsAreDetermined : Type 0
+VerdictsAreDetermined =
+    (bytes problem bindings : List ℕ) (steps more : ℕ) (s : Status) (t : List ℕ) →
+    IsVerifyReply bytes problem bindings steps s t →
+    (u : Status) (v : List ℕ) → IsVerifyReply bytes problem bindings more u v → AreVerdictsOrOne bytes s t u v
 
 -- A text and a problem are refused by `unify` with one text, or always answered. Which unifiers an answer gives is open:
 -- of two complete sets each is as good as the other.

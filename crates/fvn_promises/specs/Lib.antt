@@ -1,3 +1,4 @@
--- The laws of replies, and words for what an answer to `unify` promises.
+-- The laws of replies, and words for what answers to `unify` and verdicts of `verify` promise.
 pub mod Unified
+pub mod Verified
 pub mod Laws

@@ -18,7 +18,7 @@ use Rattle.fvn_commands.specs.declared.status.Status.TheVariants.{Solved, Nothin
 use Rattle.fvn_commands.specs.Statuses.{IsAnswering}
 use Rattle.fvn_commands.specs.Texts.{Is}
 use Rattle.fvn_commands.specs.Checks.{IsRefusalLine}
-use Rattle.fvn_commands.specs.Verifying.{IsProblemRefusalLine}
+use Rattle.fvn_commands.specs.Refusing.{IsProblemRefusalLine}
 use Rattle.fvn_unify.specs.Asked.{Unifies, IsInstanceOf, CannotBeUnified, flattened}
 use Rattle.fvn_unify.specs.Ends.{status_of_end, HasNoBasis, IsTooLarge}
 use Rattle.fvn_unify.specs.Replies.{IsAnswer}

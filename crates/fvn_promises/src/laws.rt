@@ -1,12 +1,13 @@
 //! Laws of replies, each the contract of a function that does nothing.
 ghost use Rattle.fvn_promises.specs.Laws.{
   RepliesToCheckAreDetermined,
-  RepliesToVerifyAreDetermined,
+  VerdictsAreDetermined,
   RefusalsToUnifyAreDetermined,
   CompleteAnswersHaveOneCount,
 };
 
 use fvn_commands::readers_are_lawful;
+use fvn_verify::verdicts_agree;
 
 /// A text has one reply to `check`.
 pub fn replies_to_check_are_determined()
@@ -15,11 +16,13 @@ pub fn replies_to_check_are_determined()
     readers_are_lawful();
 }
 
-/// A text, a problem and bindings have one reply to `verify`.
-pub fn replies_to_verify_are_determined()
-    ensures { RepliesToVerifyAreDetermined }
+/// A text, a problem and bindings are refused by `verify` with one text, or a verdict is always told; where the equations
+/// are confluent, verdicts that ended at no bound are one.
+pub fn verdicts_are_determined()
+    ensures { VerdictsAreDetermined }
 {
     readers_are_lawful();
+    verdicts_agree();
 }
 
 /// A text and a problem are refused by `unify` with one text, or always answered.

@@ -18,25 +18,28 @@ use Rattle.fvn_commands.specs.Statuses.{IsSilent, IsSpoken, IsAnswering}
 use Rattle.fvn_commands.specs.Laws.{ReadersAreLawful}
 use Rattle.fvn_commands.specs.Texts.{Is}
 use Rattle.fvn_commands.specs.Checks.{IsFirstRefusalOf, told_lines, TellsSorts}
-use Rattle.fvn_commands.specs.Verifying.{HasEquations, later_line, AreSolvedBy, TellsVerdict, AsksNoProblem, AreNoBindings, IsProblemRefusalOf, IsBindingRefusalOf, IsModuleOfAxioms, IsAskedIn, IsAskedOf}
+use Rattle.fvn_commands.specs.Refusing.{AsksNoProblem, AreNoBindings, IsProblemRefusalOf, IsBindingRefusalOf}
+use Rattle.fvn_verdicts.specs.Verdicts.{TellsVerdict}
+use Rattle.fvn_verdicts.specs.Replies.{AreSolvedBy, IsAskedIn, IsAskedOf, IsVerifyReply}
 use Rattle.fvn_unify.specs.Replies.{IsAnswer, IsToBeUnified}
 use Rattle.fvn_promises.specs.Unified.{AnswersSo, IsNothingExact, EndsComplete}
+use Rattle.fvn_promises.specs.Verified.{TellsNo, TellsYesOrNo}
 use Rattle.fvn_promises.proofs.Checks.{check_one_text, check_not_usage, check_refuses, check_not_loaded, check_tells, check_module, check_sorts}
-use Rattle.fvn_promises.proofs.Verified.{verify_one_text, verify_not_usage, verify_not_loaded, verify_answers, verify_yes, verify_refuses, verify_later, verify_refuses_words, verify_no_problem, verify_no_bindings, verify_verdict}
+use Rattle.fvn_promises.proofs.Verified.{verify_one_text, verify_not_usage, verify_not_loaded, verify_answers, verify_yes, verify_refuses, verify_refuses_words, verify_no_problem, verify_no_bindings, verify_verdict, tells_no, tells_refuted, tells_within}
 use Rattle.fvn_promises.proofs.Unified.{unify_one_text, unify_not_usage, unify_not_loaded, unify_answers, unify_refuses, unify_refuses_word, unify_no_problem, unify_answer, nothing_exact, ends_complete}
 use Rattle.fvn_tool.specs.Words.{Command, check, unify, verify, command_of}
 use Rattle.fvn_tool.specs.Replies.{IsReply}
-use Rattle.fvn_tool.specs.Runs.{Outside, Run, Leaves, HasFailed}
+use Rattle.fvn_tool.specs.Runs.{Outside, Run, Leaves, WritesWhole, HasFailed}
 use Rattle.fvn_tool.specs.Outcomes.{usage_line, too_long_line, IsOutcome, no_command, too_long, replied}
-use Rattle.fvn_tool.specs.Claims.{IsCommandText, IsOneText, RefusesText, TellsModule, AnswersCheck, RefusesWords, Asks, RefusesLongText, RefusesToUnifyWord, AnswersWithoutEvent, AnswersUnify, RefusesToVerify, RefusesToVerifyWords, AnswersVerify, IsReport}
-use Rattle.fvn_tool.proofs.Outcomes.{Leaves-weaker, Leaves-goes, Leaves-without_fault}
+use Rattle.fvn_tool.specs.Claims.{IsCommandText, IsOneText, RefusesText, TellsModule, AnswersCheck, RefusesWords, Asks, RefusesLongText, RefusesToUnifyWord, AnswersWithoutEvent, AnswersUnify, RefusesToVerifyWords, DecidesWithoutEvent, AnswersVerify, IsReport}
+use Rattle.fvn_tool.proofs.Outcomes.{Leaves-weaker, Leaves-goes, Leaves-told, Leaves-without_fault}
 
 -- Texts
 
 reply_text : (command : Command) (bytes : List ℕ) (s : Status) (t : List ℕ) → IsReply command bytes s t → IsCommandText command s t
 reply_text check bytes s t r = check_one_text bytes s t r
 reply_text (unify word) bytes s t r = unify_one_text bytes word s t r
-reply_text (verify problem bindings) bytes s t r = verify_one_text bytes problem bindings s t r
+reply_text (verify problem bindings steps) bytes s t r = verify_one_text bytes problem bindings steps s t r
 
 outcome_one_text : (words : List (List ℕ)) (source : Outside) (s : Status) (t : List ℕ) → IsOutcome words source s t → IsOneText (command_of words) s t
 outcome_one_text words source s t (no_command h is) = subst (λ c. IsOneText c s t) (sym h) (refl, is)
@@ -53,7 +56,7 @@ outcome_usage words source none s t (replied command bytes h n e f r) = cc
 reply_not_usage : (command : Command) (bytes : List ℕ) (s : Status) (t : List ℕ) → s ≡ Usage → IsReply command bytes s t → ⊥
 reply_not_usage check bytes s t e r = check_not_usage bytes s t e r
 reply_not_usage (unify word) bytes s t e r = unify_not_usage bytes word s t e r
-reply_not_usage (verify problem bindings) bytes s t e r = verify_not_usage bytes problem bindings s t e r
+reply_not_usage (verify problem bindings steps) bytes s t e r = verify_not_usage bytes problem bindings steps s t e r
 
 usage_only : (words : List (List ℕ)) (source : Outside) (s : Status) (t : List ℕ) → s ≡ Usage → IsOutcome words source s t → command_of words ≡ None
 usage_only words source s t e (no_command h is) = h
@@ -160,69 +163,96 @@ module _ (run : Run) (h : Leaves (IsOutcome run.words run.source) run.status run
     answers_check : AnswersCheck bytes run
     answers_check = record { refused = refuses_text; told = tells_module }
 
-  module _ (problem bindings bytes : List ℕ) (asks : Asks run (verify problem bindings) bytes) (laws : ReadersAreLawful) where
-    verified_module : run.status ≡ ModuleRefused → (t : List ℕ) → Comes bytes (verify problem bindings) run.status t →
-        (MODULE_BYTES < length bytes) ⊎ ((length bytes ≤ MODULE_BYTES) × (AreNotLoaded bytes ⊎ ((m : Contents) × (n : ℕ) × (IsLoaded bytes m × HasEquations m n))))
+  module _ (problem bindings bytes : List ℕ) (steps : ℕ) (asks : Asks run (verify problem bindings steps) bytes) (laws : ReadersAreLawful) (read : run.status ≡ ReadFault → HasFailed run.source) (write : run.status ≡ WriteFault → HasFailed run.sink) where
+    abbrev asked : Command
+    asked = verify problem bindings steps
+
+    verified_module : run.status ≡ ModuleRefused → (t : List ℕ) → Comes bytes asked run.status t → (MODULE_BYTES < length bytes) ⊎ ((length bytes ≤ MODULE_BYTES) × AreNotLoaded bytes)
     verified_module e t (comes_long i l is) = inl l
-    verified_module e t (comes_reply f r) = inr (f, verify_refuses bytes problem bindings laws run.status t e r)
+    verified_module e t (comes_reply f r) = inr (f, verify_refuses bytes problem bindings steps laws run.status t e r)
 
-    verified_none : length bytes ≤ MODULE_BYTES → AreNotLoaded bytes → (u : Status) (t : List ℕ) → Comes bytes (verify problem bindings) u t → IsFirstRefusalOf bytes u t
+    verified_none : length bytes ≤ MODULE_BYTES → AreNotLoaded bytes → (u : Status) (t : List ℕ) → Comes bytes asked u t → IsFirstRefusalOf bytes u t
     verified_none f none u t (comes_long i k is) = absurd (omega (arith, f, k))
-    verified_none f none u t (comes_reply g r) = verify_not_loaded bytes problem bindings none u t r
+    verified_none f none u t (comes_reply g r) = verify_not_loaded bytes problem bindings steps none u t r
 
-    verified_later : length bytes ≤ MODULE_BYTES → (m : Contents) (n : ℕ) → IsLoaded bytes m → HasEquations m n → (u : Status) (t : List ℕ) → Comes bytes (verify problem bindings) u t → Is ModuleRefused (later_line n) u t
-    verified_later f m n h q u t (comes_long i k is) = absurd (omega (arith, f, k))
-    verified_later f m n h q u t (comes_reply g r) = verify_later bytes problem bindings laws m n h q u t r
-
-    refuses_to_verify : RefusesToVerify bytes run
+    refuses_to_verify : RefusesText bytes run
     refuses_to_verify = record {
-      only = λ e. let g = came (verify problem bindings) bytes asks (subst IsSpoken (sym e) tt) in verified_module e g.0 g.1;
-      not_loaded = λ f none. weaker (verify problem bindings) bytes asks (IsFirstRefusalOf bytes) (verified_none f none);
-      later = λ f m n h q. weaker (verify problem bindings) bytes asks (Is ModuleRefused (later_line n)) (verified_later f m n h q);
+      only = λ e. let g = came asked bytes asks (subst IsSpoken (sym e) tt) in verified_module e g.0 g.1;
+      not_loaded = λ f none. weaker asked bytes asks (IsFirstRefusalOf bytes) (verified_none f none);
     }
 
-    verified_words : run.status ≡ ProblemRefused → (t : List ℕ) → Comes bytes (verify problem bindings) run.status t → (length bytes ≤ MODULE_BYTES)
-        × (((m : Contents) × (IsModuleOfAxioms bytes m × AsksNoProblem m problem))
+    verified_words : run.status ≡ ProblemRefused → (t : List ℕ) → Comes bytes asked run.status t → (length bytes ≤ MODULE_BYTES)
+        × (((m : Contents) × (IsLoaded bytes m × AsksNoProblem m problem))
         ⊎ ((m : Contents) × (p : Problem) × (IsAskedIn bytes problem m p × AreNoBindings m p bindings)))
     verified_words e t (comes_long i l is) = cc
-    verified_words e t (comes_reply f r) = (f, verify_refuses_words bytes problem bindings laws run.status t e r)
+    verified_words e t (comes_reply f r) = (f, verify_refuses_words bytes problem bindings steps laws run.status t e r)
 
-    verified_no_problem : length bytes ≤ MODULE_BYTES → (m : Contents) → IsModuleOfAxioms bytes m → AsksNoProblem m problem → (u : Status) (t : List ℕ) → Comes bytes (verify problem bindings) u t → IsProblemRefusalOf m problem u t
+    verified_no_problem : length bytes ≤ MODULE_BYTES → (m : Contents) → IsLoaded bytes m → AsksNoProblem m problem → (u : Status) (t : List ℕ) → Comes bytes asked u t → IsProblemRefusalOf m problem u t
     verified_no_problem f m a none u t (comes_long i k is) = absurd (omega (arith, f, k))
-    verified_no_problem f m a none u t (comes_reply g r) = verify_no_problem bytes problem bindings laws m a none u t r
+    verified_no_problem f m a none u t (comes_reply g r) = verify_no_problem bytes problem bindings steps laws m a none u t r
 
-    verified_no_bindings : length bytes ≤ MODULE_BYTES → (m : Contents) (p : Problem) → IsAskedIn bytes problem m p → AreNoBindings m p bindings → (u : Status) (t : List ℕ) → Comes bytes (verify problem bindings) u t → IsBindingRefusalOf m p bindings u t
+    verified_no_bindings : length bytes ≤ MODULE_BYTES → (m : Contents) (p : Problem) → IsAskedIn bytes problem m p → AreNoBindings m p bindings → (u : Status) (t : List ℕ) → Comes bytes asked u t → IsBindingRefusalOf m p bindings u t
     verified_no_bindings f m p a none u t (comes_long i k is) = absurd (omega (arith, f, k))
-    verified_no_bindings f m p a none u t (comes_reply g r) = verify_no_bindings bytes problem bindings laws m a.module_text p a.problem_text none u t r
+    verified_no_bindings f m p a none u t (comes_reply g r) = verify_no_bindings bytes problem bindings steps laws m a.module_text p a.problem_text none u t r
 
     refuses_words_of : RefusesToVerifyWords bytes problem bindings run
     refuses_words_of = record {
-      only = λ e. let g = came (verify problem bindings) bytes asks (subst IsSpoken (sym e) tt) in verified_words e g.0 g.1;
-      no_problem = λ f m a none. weaker (verify problem bindings) bytes asks (IsProblemRefusalOf m problem) (verified_no_problem f m a none);
-      no_bindings = λ f m p a none. weaker (verify problem bindings) bytes asks (IsBindingRefusalOf m p bindings) (verified_no_bindings f m p a none);
+      only = λ e. let g = came asked bytes asks (subst IsSpoken (sym e) tt) in verified_words e g.0 g.1;
+      no_problem = λ f m a none. weaker asked bytes asks (IsProblemRefusalOf m problem) (verified_no_problem f m a none);
+      no_bindings = λ f m p a none. weaker asked bytes asks (IsBindingRefusalOf m p bindings) (verified_no_bindings f m p a none);
     }
 
-    verified_only : IsAnswering run.status → (t : List ℕ) → Comes bytes (verify problem bindings) run.status t → (length bytes ≤ MODULE_BYTES)
+    verified_only : IsAnswering run.status → (t : List ℕ) → Comes bytes asked run.status t → (length bytes ≤ MODULE_BYTES)
         × ((m : Contents) × (p : Problem) × (b : Bindings) × IsAskedOf bytes problem bindings m p b)
     verified_only a t (comes_long i l is) = absurd (subst IsAnswering i a)
-    verified_only a t (comes_reply f r) = (f, verify_answers bytes problem bindings run.status t a r)
+    verified_only a t (comes_reply f r) = (f, verify_answers bytes problem bindings steps run.status t a r)
 
-    verified_yes : run.status ≡ Solved → (t : List ℕ) → Comes bytes (verify problem bindings) run.status t → (length bytes ≤ MODULE_BYTES)
+    verified_yes : run.status ≡ Solved → (t : List ℕ) → Comes bytes asked run.status t → (length bytes ≤ MODULE_BYTES)
         × ((m : Contents) × (p : Problem) × (b : Bindings) × (IsAskedOf bytes problem bindings m p b × AreSolvedBy m p b))
     verified_yes e t (comes_long i l is) = cc
-    verified_yes e t (comes_reply f r) = (f, verify_yes bytes problem bindings run.status t e r)
+    verified_yes e t (comes_reply f r) = (f, verify_yes bytes problem bindings steps run.status t e r)
 
-    verified_verdict : length bytes ≤ MODULE_BYTES → (m : Contents) (p : Problem) (b : Bindings) → IsAskedOf bytes problem bindings m p b → (u : Status) (t : List ℕ) → Comes bytes (verify problem bindings) u t → TellsVerdict m p b u t
-    verified_verdict f m p b a u t (comes_long i k is) = absurd (omega (arith, f, k))
-    verified_verdict f m p b a u t (comes_reply g r) = verify_verdict bytes problem bindings laws m a.asked_in.module_text p a.asked_in.problem_text b a.bindings_text u t r
+    -- Words over a module are asked.
 
-    answers_verify : AnswersVerify bytes problem bindings run
+    module _ (m : Contents) (p : Problem) (b : Bindings) (asked_of : IsAskedOf bytes problem bindings m p b) where
+      reply_verdict : (u : Status) (t : List ℕ) → IsVerifyReply bytes problem bindings steps u t → TellsVerdict m steps p b u t
+      reply_verdict u t r = verify_verdict bytes problem bindings steps laws m asked_of.asked_in.module_text p asked_of.asked_in.problem_text b asked_of.bindings_text u t r
+
+      -- `no` comes only of a reply
+      comes_no : (u : Status) (t : List ℕ) → u ≡ Nothing → Comes bytes asked u t → TellsNo m p b steps u t
+      comes_no u t e (comes_long i k is) = cc
+      comes_no u t e (comes_reply f r) = tells_no m p b steps u t (reply_verdict u t r) e
+
+      -- what goes with `Nothing` was written whole, and is such a line
+      writes_no : run.status ≡ Nothing → WritesWhole (TellsNo m p b steps) run.status run.sink
+      writes_no e =
+          Leaves-told Nothing (TellsNo m p b steps) run.status run.sink tt e
+          (weaker asked bytes asks (λ u t. u ≡ Nothing → TellsNo m p b steps u t) (λ u t c i. comes_no u t i c))
+
+      module _ (few : length bytes ≤ MODULE_BYTES) where
+        verified_verdict : (u : Status) (t : List ℕ) → Comes bytes asked u t → TellsVerdict m steps p b u t
+        verified_verdict u t (comes_long i k is) = absurd (omega (arith, few, k))
+        verified_verdict u t (comes_reply f r) = reply_verdict u t r
+
+        leaves_verdict : Leaves (TellsVerdict m steps p b) run.status run.sink
+        leaves_verdict = weaker asked bytes asks (TellsVerdict m steps p b) verified_verdict
+
+        decides : DecidesWithoutEvent m p b steps run
+        decides within no_read no_write =
+            Leaves-without_fault (TellsYesOrNo m p b steps) run.status run.sink
+            (Leaves-weaker (TellsVerdict m steps p b) (TellsYesOrNo m p b steps) (λ u t h. tells_within m p b steps u t within h) run.status run.sink leaves_verdict)
+            (λ e. no_read (read e)) (λ e. no_write (write e))
+
+    answers_verify : AnswersVerify bytes problem bindings steps run
     answers_verify = record {
       module_refused = refuses_to_verify;
       words_refused = refuses_words_of;
-      only = λ a. let g = came (verify problem bindings) bytes asks (answering_spoken run.status a) in verified_only a g.0 g.1;
-      yes = λ e. let g = came (verify problem bindings) bytes asks (subst IsSpoken (sym e) tt) in verified_yes e g.0 g.1;
-      verdict = λ f m p b a. weaker (verify problem bindings) bytes asks (TellsVerdict m p b) (verified_verdict f m p b a);
+      only = λ a. let g = came asked bytes asks (answering_spoken run.status a) in verified_only a g.0 g.1;
+      yes = λ e. let g = came asked bytes asks (subst IsSpoken (sym e) tt) in verified_yes e g.0 g.1;
+      no = λ e m p b a. writes_no m p b a e;
+      refuted = λ e m p b a. let w = writes_no m p b a e in tells_refuted m p b steps run.status w.text w.goes;
+      verdict = λ f m p b a. leaves_verdict m p b a f;
+      no_event = λ f m p b a. decides m p b a f;
     }
 
   module _ (word bytes : List ℕ) (asks : Asks run (unify word) bytes) (laws : ReadersAreLawful) (read : run.status ≡ ReadFault → HasFailed run.source) (write : run.status ≡ WriteFault → HasFailed run.sink) where
@@ -303,5 +333,5 @@ module _ (run : Run) (h : Leaves (IsOutcome run.words run.source) run.status run
     too_long = refuses_long;
     check = λ bytes asks. answers_check bytes asks laws.loaded laws.not_loaded laws.losses;
     unify = λ word bytes asks. answers_unify word bytes asks laws read write;
-    verify = λ problem bindings bytes asks. answers_verify problem bindings bytes asks laws;
+    verify = λ problem bindings bytes steps asks. answers_verify problem bindings bytes steps asks laws read write;
   }

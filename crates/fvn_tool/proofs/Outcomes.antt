@@ -25,7 +25,7 @@ module _ (words : List (List ℕ)) (source : Outside) (status : Status) (text : 
 reply_spoken : (command : Command) (bytes : List ℕ) (status : Status) (text : List ℕ) → IsReply command bytes status text → IsSpoken status
 reply_spoken check bytes status text r = check_spoken bytes r
 reply_spoken (unify word) bytes status text r = unify_spoken bytes word r
-reply_spoken (verify problem bindings) bytes status text r = verify_spoken bytes problem bindings r
+reply_spoken (verify problem bindings steps) bytes status text r = verify_spoken bytes problem bindings steps r
 
 pub outcome_spoken : {words : List (List ℕ)} {source : Outside} {status : Status} {text : List ℕ} → IsOutcome words source status text → IsSpoken status
 outcome_spoken (no_command h is) = tt
@@ -67,6 +67,18 @@ Leaves-goes Goes Ended sink k h = (h.text, h.goes)
 Leaves-goes Goes WriteFault sink k h = absurd k
 Leaves-goes Goes ReadFault sink k h = absurd k
 Leaves-goes Goes NoMemory sink k h = absurd k
+
+-- what was written whole at a status that is known
+pub Leaves-told : (known : Status) (Goes : Status → List ℕ → Type 0) (status : Status) (sink : Outside) → IsSpoken known → status ≡ known → Leaves (λ s t. s ≡ known → Goes s t) status sink → WritesWhole Goes status sink
+Leaves-told known Goes Solved sink k e h = record { text = h.text; goes = h.goes e; written = h.written }
+Leaves-told known Goes Nothing sink k e h = record { text = h.text; goes = h.goes e; written = h.written }
+Leaves-told known Goes Usage sink k e h = record { text = h.text; goes = h.goes e; written = h.written }
+Leaves-told known Goes ModuleRefused sink k e h = record { text = h.text; goes = h.goes e; written = h.written }
+Leaves-told known Goes ProblemRefused sink k e h = record { text = h.text; goes = h.goes e; written = h.written }
+Leaves-told known Goes Ended sink k e h = record { text = h.text; goes = h.goes e; written = h.written }
+Leaves-told known Goes WriteFault sink k e h = absurd (subst IsSpoken (sym e) k)
+Leaves-told known Goes ReadFault sink k e h = absurd (subst IsSpoken (sym e) k)
+Leaves-told known Goes NoMemory sink k e h = absurd (subst IsSpoken (sym e) k)
 
 pub spoken_not_silent : (s : Status) → IsSpoken s → IsSilent s → ⊥
 spoken_not_silent Solved h k = k

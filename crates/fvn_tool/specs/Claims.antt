@@ -7,13 +7,16 @@ use Rattle.fvn_loading.specs.Losses.{IsLossOf}
 use Rattle.fvn_problems.specs.declared.problem.Problem.{Problem}
 use Rattle.fvn_problems.specs.declared.bindings.Bindings.{Bindings}
 use Rattle.fvn_commands.specs.declared.status.Status.{Status}
-use Rattle.fvn_commands.specs.declared.status.Status.TheVariants.{Solved, Usage, ModuleRefused, ProblemRefused, ReadFault, WriteFault, NoMemory}
+use Rattle.fvn_commands.specs.declared.status.Status.TheVariants.{Solved, Nothing, Usage, ModuleRefused, ProblemRefused, ReadFault, WriteFault, NoMemory}
 use Rattle.fvn_commands.specs.Statuses.{IsSilent, IsAnswering}
 use Rattle.fvn_commands.specs.Texts.{Is}
 use Rattle.fvn_commands.specs.Checks.{IsFirstRefusalOf, IsCheckText, told_lines, TellsSorts}
-use Rattle.fvn_commands.specs.Verifying.{HasEquations, later_line, IsVerifyText, AreSolvedBy, TellsVerdict, AsksNoProblem, AreNoBindings, IsProblemRefusalOf, IsBindingRefusalOf, IsModuleOfAxioms, IsAskedIn, IsAskedOf}
+use Rattle.fvn_commands.specs.Refusing.{AsksNoProblem, AreNoBindings, IsProblemRefusalOf, IsBindingRefusalOf}
+use Rattle.fvn_verdicts.specs.Verdicts.{TellsVerdict}
+use Rattle.fvn_verdicts.specs.Replies.{IsVerifyText, AreSolvedBy, IsAskedIn, IsAskedOf}
 use Rattle.fvn_unify.specs.Replies.{IsAnswer, IsToBeUnified}
 use Rattle.fvn_promises.specs.Unified.{IsUnifyText, AnswersSo, IsNothingExact, EndsComplete, MeetsNoBound}
+use Rattle.fvn_promises.specs.Verified.{AreConfluentIn, TellsNo, TellsYesOrNo, AllStayWithin}
 use Rattle.fvn_tool.specs.Words.{Command, check, unify, verify, command_of}
 use Rattle.fvn_tool.specs.Runs.{Run, Leaves, WritesWhole, HasFailed}
 use Rattle.fvn_tool.specs.Outcomes.{usage_line, too_long_line, IsOutcome}
@@ -24,7 +27,7 @@ use Rattle.fvn_tool.specs.Outcomes.{usage_line, too_long_line, IsOutcome}
 abbrev pub IsCommandText : Command → Status → List ℕ → Type 0
 IsCommandText check status text = IsCheckText status text
 IsCommandText (unify word) status text = IsUnifyText status text
-IsCommandText (verify problem bindings) status text = IsVerifyText status text
+IsCommandText (verify problem bindings steps) status text = IsVerifyText steps status text
 
 -- Exactly one text: the usage line where there is no command, or else the line of a module that is too long, or one that
 -- the command writes.
@@ -106,41 +109,46 @@ pub record AnswersUnify (bytes word : List ℕ) (run : Run) : Type 0 where
 
 -- The command verify ----------------------------------------------------------------------------
 
--- the text is refused exactly where it is too long, not loaded, or loaded with an equation, and then with the line of
--- its first fault, or of its first equation
-pub record RefusesToVerify (bytes : List ℕ) (run : Run) : Type 0 where
-  pub only : run.status ≡ ModuleRefused →
-      (MODULE_BYTES < length bytes)
-      ⊎ ((length bytes ≤ MODULE_BYTES) × (AreNotLoaded bytes ⊎ ((m : Contents) × (n : ℕ) × (IsLoaded bytes m × HasEquations m n))))
-  pub not_loaded : length bytes ≤ MODULE_BYTES → AreNotLoaded bytes →
-      Leaves (IsFirstRefusalOf bytes) run.status run.sink
-  pub later : length bytes ≤ MODULE_BYTES → (m : Contents) (n : ℕ) → IsLoaded bytes m → HasEquations m n →
-      Leaves (Is ModuleRefused (later_line n)) run.status run.sink
-
--- in a loaded module without an equation, words are refused exactly where the first is no problem or the second no binding
--- text in it, with the line of the first fault
+-- in a loaded module, words are refused exactly where the first is no problem or the second no binding text in it, with the
+-- line of the first fault
 pub record RefusesToVerifyWords (bytes problem bindings : List ℕ) (run : Run) : Type 0 where
   pub only : run.status ≡ ProblemRefused → (length bytes ≤ MODULE_BYTES)
-      × (((m : Contents) × (IsModuleOfAxioms bytes m × AsksNoProblem m problem))
+      × (((m : Contents) × (IsLoaded bytes m × AsksNoProblem m problem))
       ⊎ ((m : Contents) × (p : Problem) × (IsAskedIn bytes problem m p × AreNoBindings m p bindings)))
-  pub no_problem : length bytes ≤ MODULE_BYTES → (m : Contents) → IsModuleOfAxioms bytes m → AsksNoProblem m problem →
+  pub no_problem : length bytes ≤ MODULE_BYTES → (m : Contents) → IsLoaded bytes m → AsksNoProblem m problem →
       Leaves (IsProblemRefusalOf m problem) run.status run.sink
   pub no_bindings : length bytes ≤ MODULE_BYTES → (m : Contents) (p : Problem) → IsAskedIn bytes problem m p →
       AreNoBindings m p bindings →
       Leaves (IsBindingRefusalOf m p bindings) run.status run.sink
 
--- a run that is asked to verify refuses what it should, and else tells the verdict on the problem under the bindings:
--- that a form is too large, which pair is the first whose sides differ, or that the sides of each pair are equal
-pub record AnswersVerify (bytes problem bindings : List ℕ) (run : Run) : Type 0 where
-  pub module_refused : RefusesToVerify bytes run
+-- where no bound is met at any side and nothing outside failed, `yes` or `no i` is written, or memory was refused
+abbrev pub DecidesWithoutEvent : Contents → Problem → Bindings → ℕ → Run → Type 0
+DecidesWithoutEvent m p b steps run =
+    AllStayWithin m p b steps → (HasFailed run.source → ⊥) → (HasFailed run.sink → ⊥) →
+    (run.status ≡ NoMemory) ⊎ WritesWhole (TellsYesOrNo m p b steps) run.status run.sink
+
+-- A run that is asked to verify refuses what it should, and else tells a verdict on the problem under the bindings, in the
+-- theory of the module: that the sides of each pair are equal, which pair is the first whose normal forms differ, or at
+-- which bound the search for a normal form ended.
+pub record AnswersVerify (bytes problem bindings : List ℕ) (steps : ℕ) (run : Run) : Type 0 where
+  pub module_refused : RefusesText bytes run
   pub words_refused : RefusesToVerifyWords bytes problem bindings run
   pub only : IsAnswering run.status → (length bytes ≤ MODULE_BYTES)
       × ((m : Contents) × (p : Problem) × (b : Bindings) × IsAskedOf bytes problem bindings m p b)
   pub yes : run.status ≡ Solved → (length bytes ≤ MODULE_BYTES)
       × ((m : Contents) × (p : Problem) × (b : Bindings) × (IsAskedOf bytes problem bindings m p b × AreSolvedBy m p b))
+  pub no : run.status ≡ Nothing → (m : Contents) (p : Problem) (b : Bindings) →
+      IsAskedOf bytes problem bindings m p b →
+      WritesWhole (TellsNo m p b steps) run.status run.sink
+  pub refuted : run.status ≡ Nothing → (m : Contents) (p : Problem) (b : Bindings) →
+      IsAskedOf bytes problem bindings m p b →
+      AreConfluentIn m → AreSolvedBy m p b → ⊥
   pub verdict : length bytes ≤ MODULE_BYTES → (m : Contents) (p : Problem) (b : Bindings) →
       IsAskedOf bytes problem bindings m p b →
-      Leaves (TellsVerdict m p b) run.status run.sink
+      Leaves (TellsVerdict m steps p b) run.status run.sink
+  pub no_event : length bytes ≤ MODULE_BYTES → (m : Contents) (p : Problem) (b : Bindings) →
+      IsAskedOf bytes problem bindings m p b →
+      DecidesWithoutEvent m p b steps run
 
 -- The report ------------------------------------------------------------------------------------
 
@@ -161,5 +169,5 @@ pub record IsReport (run : Run) : Type 0 where
   -- what each command answers
   pub check : (bytes : List ℕ) → Asks run check bytes → AnswersCheck bytes run
   pub unify : (word bytes : List ℕ) → Asks run (unify word) bytes → AnswersUnify bytes word run
-  pub verify : (problem bindings bytes : List ℕ) → Asks run (verify problem bindings) bytes →
-      AnswersVerify bytes problem bindings run
+  pub verify : (problem bindings bytes : List ℕ) (steps : ℕ) → Asks run (verify problem bindings steps) bytes →
+      AnswersVerify bytes problem bindings steps run

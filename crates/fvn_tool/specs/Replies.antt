@@ -2,7 +2,7 @@
 use Rattle.std.specs.Prelude.{ℕ, List}
 use Rattle.fvn_commands.specs.declared.status.Status.{Status}
 use Rattle.fvn_commands.specs.Checks.{IsCheckReply}
-use Rattle.fvn_commands.specs.Verifying.{IsVerifyReply}
+use Rattle.fvn_verdicts.specs.Replies.{IsVerifyReply}
 use Rattle.fvn_unify.specs.Replies.{IsUnifyReply}
 use Rattle.fvn_tool.specs.Words.{Command, check, unify, verify}
 
@@ -10,4 +10,4 @@ use Rattle.fvn_tool.specs.Words.{Command, check, unify, verify}
 abbrev pub IsReply : Command → List ℕ → Status → List ℕ → Type 0
 IsReply check bytes status text = IsCheckReply bytes status text
 IsReply (unify word) bytes status text = IsUnifyReply bytes word status text
-IsReply (verify problem bindings) bytes status text = IsVerifyReply bytes problem bindings status text
+IsReply (verify problem bindings steps) bytes status text = IsVerifyReply bytes problem bindings steps status text

@@ -6,9 +6,10 @@ ghost use Rattle.fvn_tool.specs.Outcomes.{usage_line, too_long_line};
 ghost use Rattle.fvn_commands.specs.Texts.{bytes_of};
 
 use crate::words::Command;
-use fvn_commands::{Answer, Status, check_reply, verify_reply};
+use fvn_commands::{Answer, Status, check_reply};
 use fvn_terms::NoMemory;
 use fvn_unify::unify_reply;
+use fvn_verdicts::verify_reply;
 use std::alloc::Global;
 
 /// The usage line, for words that are no command.
@@ -38,6 +39,8 @@ pub(crate) fn reply(alloc: Global, bytes: &[u8], command: Command<'_>) -> Result
     match command {
         Command::Check => check_reply(alloc, bytes),
         Command::Unify(word) => unify_reply(alloc, bytes, word),
-        Command::Verify(problem, bindings) => verify_reply(alloc, bytes, problem, bindings),
+        Command::Verify(problem, bindings, steps) => {
+            verify_reply(alloc, bytes, problem, bindings, steps)
+        }
     }
 }

@@ -3,6 +3,7 @@
 
 mod answer;
 mod laws;
+mod limits;
 mod top;
 mod words;
 

@@ -1,7 +1,8 @@
 //! Reading the words of the command line.
 ghost use Rattle.std.specs.Prelude.{◌≡◌, map, string_bytes, MatchOption, Some, None, ◌∷◌, []};
-ghost use Rattle.fvn_tool.specs.Words.{command_of, is_option, meant};
+ghost use Rattle.fvn_tool.specs.Words.{command_of, is_option, is_verify, read_on, allowed, steps_of, meant};
 
+use crate::limits::{MOST_STEPS, VERIFY_STEPS};
 use std::string::String;
 
 /// What the words ask.
@@ -11,8 +12,8 @@ pub(crate) enum Command<'a> {
     Check,
     /// To unify the sides of each pair of a problem.
     Unify(&'a [u8]),
-    /// To tell whether bindings solve a problem.
-    Verify(&'a [u8], &'a [u8]),
+    /// To tell whether bindings solve a problem, with a limit on the steps from each side.
+    Verify(&'a [u8], &'a [u8], u64),
 }
 
 // Whether the word would be an option: it begins with a dash and is longer.
@@ -23,22 +24,96 @@ fn is_option_word(word: &[u8]) -> bool
     word.starts_with(b"-") && word.len() >= 2
 }
 
+// Whether the words are `verify`, a problem and bindings.
+fn is_verify(name: &[u8], problem: &[u8], bindings: &[u8]) -> bool
+    ensures { result ≡ is_verify name.now problem.now bindings.now }
+{
+    if name != b"verify".as_slice() {
+        return false;
+    }
+    if is_option_word(problem) {
+        return false;
+    }
+    if is_option_word(bindings) {
+        return false;
+    }
+    true
+}
+
+// The number that decimal digits spell, where it may be asked for.
+fn read_digits(word: &[u8]) -> Option<u64>
+    ensures { result ≡ allowed (read_on 0 word.now) }
+{
+    let mut number: u64 = 0;
+    for byte in word {
+        if *byte < b'0' {
+            return None;
+        }
+        if b'9' < *byte {
+            return None;
+        }
+        if MOST_STEPS < number {
+            return None;
+        }
+        number = 10 * number + u64::from(*byte - b'0');
+    }
+    if number < 1 {
+        return None;
+    }
+    if MOST_STEPS < number {
+        return None;
+    }
+    Some(number)
+}
+
+// The number of steps that a word tells, where it may be asked for.
+#[tactic(auto, unfolding(crate::specs::Words::steps_of))]
+fn read_steps(word: &[u8]) -> Option<u64>
+    ensures { result ≡ steps_of word.now }
+{
+    if 1 <= word.len() && word.len() <= 9 {
+        read_digits(word)
+    } else {
+        None
+    }
+}
+
 // The command that three words are.
 fn read_verify<'a>(name: &[u8], problem: &'a [u8], bindings: &'a [u8]) -> Option<Command<'a>>
     ensures { MatchOption result
         (command_of (name.now ∷ problem.now ∷ bindings.now ∷ []) ≡ None)
         (λ command. command_of (name.now ∷ problem.now ∷ bindings.now ∷ []) ≡ Some (meant command)) }
 {
-    if name != b"verify".as_slice() {
+    if is_verify(name, problem, bindings) {
+        Some(Command::Verify(problem, bindings, VERIFY_STEPS))
+    } else {
+        None
+    }
+}
+
+// The command that five words are.
+fn read_steps_of_verify<'a>(
+    name: &[u8],
+    problem: &'a [u8],
+    bindings: &'a [u8],
+    option: &[u8],
+    number: &[u8],
+) -> Option<Command<'a>>
+    ensures { MatchOption result
+        (command_of (name.now ∷ problem.now ∷ bindings.now ∷ option.now ∷ number.now ∷ []) ≡ None)
+        (λ command. command_of (name.now ∷ problem.now ∷ bindings.now ∷ option.now ∷ number.now ∷ [])
+        ≡ Some (meant command)) }
+{
+    if !is_verify(name, problem, bindings) {
         return None;
     }
-    if is_option_word(problem) {
+    if option != b"--steps".as_slice() {
         return None;
     }
-    if is_option_word(bindings) {
-        return None;
+    match read_steps(number) {
+        None => None,
+        Some(steps) => Some(Command::Verify(problem, bindings, steps)),
     }
-    Some(Command::Verify(problem, bindings))
 }
 
 // The command that the words are.
@@ -55,6 +130,15 @@ pub(crate) fn read_command(words: &[String]) -> Option<Command<'_>>
             words[0].as_bytes(),
             words[1].as_bytes(),
             words[2].as_bytes(),
+        );
+    }
+    if words.len() == 5 {
+        return read_steps_of_verify(
+            words[0].as_bytes(),
+            words[1].as_bytes(),
+            words[2].as_bytes(),
+            words[3].as_bytes(),
+            words[4].as_bytes(),
         );
     }
     if words.len() != 2 {

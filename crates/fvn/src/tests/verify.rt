@@ -1,12 +1,13 @@
 //! What `verify` says of bindings.
-use super::{answer, plain};
+use super::{USAGE, answer, plain};
 use fvn_terms::NoMemory;
 use fvn_tool::Status;
 use std::alloc::Global;
 use std::process::Abort;
 use std::string::String;
 
-// Modules, and problems over each with bindings and what is said of them.
+// Modules, and over each the words behind `verify`, a problem, bindings and perhaps a number of steps, and what is said of
+// them.
 
 const AC: &str =
     "fmod AC is sort S . ops a b : -> S . op g : S -> S . op c : S S -> S [comm] . op _+_ : S S -> S [assoc comm] . vars X Y Z U V : S . endfm";
@@ -31,7 +32,8 @@ X =? | {} ==> problem 2
 X =? d | {} ==> problem 3
 #1:S =? a | {} ==> problem 7
 c(X) =? a | {} ==> problem 4
-X =? d | {Y:S --> a} ==> problem 3";
+X =? d | {Y:S --> a} ==> problem 3
+_+_(X,a) =? b | {X:S --> b} ==> no 1";
 
 const SET: &str =
     "fmod SET is sorts Elt Set . subsort Elt < Set . ops a b : -> Elt . op mt : -> Set . op _;_ : Set Set -> Set [assoc comm id: mt] . vars X Y : Set . endfm";
@@ -47,8 +49,51 @@ const ENC: &str =
     "fmod ENC is sorts Msg Key . op a : -> Msg . op k : -> Key . ops enc dec : Msg Key -> Msg . vars X M : Msg . vars Y K : Key . eq dec(enc(M,K),K) = M [variant] . endfm";
 
 const OVER_ENC: &str = "\
-X =? a | {} ==> module 8 statement 7 later
-X =? | { ==> module 8 statement 7 later";
+dec(X,k) =? a | {X:Msg --> enc(a,k)} ==> yes
+dec(X,Y) =? M | {X:Msg --> enc(M,Y)} ==> yes
+dec(X,K) =? M | {X:Msg --> enc(M,Y)} ==> no 1
+X =? a | {} ==> no 1
+X =? | { ==> problem 2";
+
+const COLLAPSE: &str =
+    "fmod COLLAPSE is sort S . ops a b c d e : -> S . op h : S S -> S [assoc comm id: e] . op f : S S -> S [assoc comm] . var X : S . eq h(X,f(a,b)) = c [variant] . endfm";
+
+const OVER_COLLAPSE: &str = "\
+f(a,b,d) =? f(c,d) | {} ==> yes
+f(a,d) =? f(c,d) | {} ==> no 1";
+
+const LOOP: &str =
+    "fmod LOOP is sort S . op a : -> S . op f : S -> S . var X : S . eq f(X) = f(X) [variant] . endfm";
+
+const OVER_LOOP: &str = "\
+f(a) =? a | {} | --steps | 5 ==> bound steps 5 f(a)
+X =? a /\\ f(a) =? a | {} | --steps | 5 ==> bound steps 5 f(a)
+X =? a /\\ X =? X | {} | --steps | 5 ==> no 1";
+
+const PLUS: &str =
+    "fmod PLUS is sort Nat . op 0 : -> Nat . op s : Nat -> Nat . op + : Nat Nat -> Nat . vars X Y : Nat . eq +(0,Y) = Y [variant] . eq +(s(X),Y) = s(+(X,Y)) [variant] . endfm";
+
+const OVER_PLUS: &str = "\
++(s(s(s(0))),0) =? s(s(s(0))) | {} ==> yes
++(s(s(s(0))),0) =? s(s(s(0))) | {} | --steps | 4 ==> yes
++(s(s(s(0))),0) =? s(s(s(0))) | {} | --steps | 3 ==> bound steps 3 +(s(s(s(0))),0)
++(X,Y) =? s(0) | {X:Nat --> s(0), Y:Nat --> 0} | --steps | 1000000 ==> yes
++(X,Y) =? s(0) | {X:Nat --> s(0), Y:Nat --> 0} | --steps | 000000002 ==> yes
++(X,Y) =? s(0) | {X:Nat --> 0, Y:Nat --> 0} | --steps | 2 ==> no 1";
+
+const XORN: &str =
+    "fmod XORN is sorts Nat NatSet . subsort Nat < NatSet . op 0 : -> Nat [ctor] . op s : Nat -> Nat [ctor] . op mt : -> NatSet [ctor] . op _*_ : NatSet NatSet -> NatSet [ctor assoc comm] . vars X Y Z : [NatSet] . eq [idem] : _*_(X,X) = mt [variant] . eq [id] : _*_(X,mt) = X [variant] . endfm";
+
+const OVER_XORN: &str = "\
+_*_(0,s(0),0) =? s(0) | {} ==> yes
+_*_(0,s(0)) =? s(0) | {} ==> no 1";
+
+const GROW: &str =
+    "fmod GROW is sort S . op a : -> S . op g : S -> S . op p : S S -> S . var X : S . eq g(X) = g(p(X,X)) [variant] . endfm";
+
+const OVER_GROW: &str = "\
+g(a) =? a | {} ==> bound size 1000
+g(a) =? a | {} | --steps | 5 ==> bound steps 5 g(a)";
 
 const NOPRE: &str =
     "fmod NOPRE is sorts A B C . subsorts A < B . subsorts A < C . op f : B -> B . op f : C -> C . endfm";
@@ -93,23 +138,29 @@ fn status_of(said: &str) -> Status {
     Status::Ended
 }
 
-// What is said of a problem and bindings in a module.
-fn tell<'a>(
+// The word `verify`, and the words of a row.
+fn words_of<'a>(alloc: Global, row: &'a str) -> Result<Vec<&'a str>, NoMemory> {
+    let mut words = Vec::new(alloc);
+    words.push("verify")?;
+    for word in row.split(" | ") {
+        words.push(word)?;
+    }
+    Ok(words)
+}
+
+// What is said of the words of a row in a module.
+fn tell(
     rt: &impl Abort,
     alloc: Global,
-    module: &'a str,
-    problem: &'a str,
-    bindings: &'a str,
-    said: &'a str,
+    module: &str,
+    row: &str,
+    said: &str,
 ) -> Result<(), NoMemory> {
-    let words = ["verify", problem, bindings];
-    let (status, written) = answer(alloc, &plain(&words, module.as_bytes()))?;
+    let words = words_of(alloc, row)?;
+    let (status, written) = answer(alloc, &plain(words.as_slice(), module.as_bytes()))?;
     let line = format!(in alloc; "{said}\n")?;
-    assert_eq!(rt; status, status_of(said), "{problem} {bindings}");
-    assert!(rt;
-        written.as_slice() == line.as_bytes(),
-        "{problem} {bindings}"
-    );
+    assert_eq!(rt; status, status_of(said), "{row}");
+    assert!(rt; written.as_slice() == line.as_bytes(), "{row}");
     Ok(())
 }
 
@@ -118,10 +169,7 @@ fn verified(rt: &impl Abort, alloc: Global, module: &str, row: &str) -> Result<(
     let Some((words, said)) = row.split_once(" ==> ") else {
         return Ok(());
     };
-    let Some((problem, bindings)) = words.split_once(" | ") else {
-        return Ok(());
-    };
-    tell(rt, alloc, module, problem, bindings, said)
+    tell(rt, alloc, module, words, said)
 }
 
 // All rows over this module.
@@ -144,6 +192,53 @@ fn bindings_are_verified(rt: HostRuntime) -> Result<(), NoMemory> {
     Ok(())
 }
 
+#[test]
+fn bindings_are_verified_in_theories(rt: HostRuntime) -> Result<(), NoMemory> {
+    all_verified(&rt, rt.alloc(), COLLAPSE, OVER_COLLAPSE)?;
+    all_verified(&rt, rt.alloc(), LOOP, OVER_LOOP)?;
+    all_verified(&rt, rt.alloc(), PLUS, OVER_PLUS)?;
+    all_verified(&rt, rt.alloc(), XORN, OVER_XORN)?;
+    all_verified(&rt, rt.alloc(), GROW, OVER_GROW)?;
+    Ok(())
+}
+
+/// Words behind `verify` that are no command.
+const NO_COMMAND: &str = "\
+a =? a | {} | --steps | 0
+a =? a | {} | --steps | 1000001
+a =? a | {} | --steps | x
+a =? a | {} | --steps | -1
+a =? a | {} | --steps | 
+a =? a | {} | --steps | 0000000005
+a =? a | {} | --steps | 99999999999999999999
+a =? a | {} | --steps
+a =? a | {} | --step | 5
+a =? a | {} | 5
+a =? a | {} | --steps | 5 | 5
+a =? a | --steps | 5
+a =? a | --steps | 5 | {}
+--steps | 5 | a =? a | {}
+a =? a
+-x | {}
+a =? a | -x";
+
+// The words are no command.
+fn refused(rt: &impl Abort, alloc: Global, row: &str) -> Result<(), NoMemory> {
+    let words = words_of(alloc, row)?;
+    let (status, written) = answer(alloc, &plain(words.as_slice(), LOOP.as_bytes()))?;
+    assert_eq!(rt; status, Status::Usage, "{row}");
+    assert!(rt; written.as_slice() == USAGE.as_bytes(), "{row}");
+    Ok(())
+}
+
+#[test]
+fn other_words_of_verify_are_no_command(rt: HostRuntime) -> Result<(), NoMemory> {
+    for row in NO_COMMAND.lines() {
+        refused(&rt, rt.alloc(), row)?;
+    }
+    Ok(())
+}
+
 const LARGE: &str =
     "fmod F is sort A . op a : -> A . op f : A A -> A . op s : A -> A . var X : A . endfm";
 
@@ -162,9 +257,8 @@ fn chain(alloc: Global, count: u32) -> Result<String, NoMemory> {
 // With terms of 124 symbols for its variable the tower has 999 symbols, and with terms of 125 it has 1,007.
 fn tower_told(rt: &impl Abort, alloc: Global, count: u32, said: &str) -> Result<(), NoMemory> {
     let term = chain(alloc, count)?;
-    let problem = format!(in alloc; "X =? {TOWER}")?;
-    let bindings = format!(in alloc; "{{X:A --> {term}}}")?;
-    tell(rt, alloc, LARGE, problem.as_str(), bindings.as_str(), said)
+    let words = format!(in alloc; "X =? {TOWER} | {{X:A --> {term}}}")?;
+    tell(rt, alloc, LARGE, words.as_str(), said)
 }
 
 #[test]
