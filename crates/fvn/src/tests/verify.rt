@@ -1,5 +1,5 @@
 //! What `verify` says of bindings.
-use super::{answer, plain};
+use super::assert_answer;
 use fvn_terms::NoMemory;
 use fvn_tool::Status;
 use std::alloc::Global;
@@ -94,23 +94,24 @@ fn status_of(said: &str) -> Status {
 }
 
 // What is said of a problem and bindings in a module.
-fn tell<'a>(
+fn tell(
     rt: &impl Abort,
     alloc: Global,
-    module: &'a str,
-    problem: &'a str,
-    bindings: &'a str,
-    said: &'a str,
+    module: &str,
+    problem: &str,
+    bindings: &str,
+    said: &str,
 ) -> Result<(), NoMemory> {
-    let words = ["verify", problem, bindings];
-    let (status, written) = answer(alloc, &plain(&words, module.as_bytes()))?;
     let line = format!(in alloc; "{said}\n")?;
-    assert_eq!(rt; status, status_of(said), "{problem} {bindings}");
-    assert!(rt;
-        written.as_slice() == line.as_bytes(),
-        "{problem} {bindings}"
-    );
-    Ok(())
+    let words = ["verify", problem, bindings];
+    assert_answer(
+        rt,
+        alloc,
+        &words,
+        module.as_bytes(),
+        status_of(said),
+        line.as_bytes(),
+    )
 }
 
 // A row of words and what is said of them in this module.
