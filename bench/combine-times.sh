@@ -6,7 +6,7 @@ there=$(mktemp -d)
 trap 'rm -rf "$there"' EXIT
 mkdir -p "$there/crates"
 cp "$here/HANDLES" "$there/HANDLES"
-for crate in base lindio acunify terms forms drafts sorts flat match counts cover nodes sums frames supports plans asking unfolding binding obeying wheels openings drawing combine refine axunify combine_tests; do
+for crate in base lindio acunify terms forms drafts sorts flat samples match counts cover nodes purify sums frames supports plans asking unfolding binding obeying wheels openings drawing combine refine axunify combine_tests; do
   cp -r "$here/crates/fvn_$crate" "$there/crates/"
   rm -rf "$there/crates/fvn_$crate/must-fail"
   grep "^fvn_$crate:" "$here/crates.txt" >> "$there/crates.txt"
@@ -15,22 +15,25 @@ done
 # operator j, sums k and n, and sums l and m with the identity g.
 cp "${PROBLEMS:-$here/bench/combine-problems.txt}" "$there/problems"
 cd "$there/crates/fvn_combine_tests"
-rm -r src/tests/solving.rt src/tests/unifying.rt proofs/tests/unifying proofs/Givens.antt
+# The rest of the tests is not needed.
+find src/tests -type f ! -name given.rt -delete
+find proofs/tests -mindepth 1 -maxdepth 1 ! -name given -exec rm -r {} +
+rm proofs/Asking.antt proofs/Givens.antt
 printf -- '-- The lemmas of the crate.\n' > proofs/Lib.antt
 cat > src/tests.rt <<'PROGRAM'
 //! Times of combined unification.
 mod given;
-mod signatures;
-mod terms;
 
 use self::given::is_given;
-use self::signatures::collected;
-use self::terms::read_problem;
 use fvn_combine::{CombineEnd, Combiner};
+use fvn_samples::{problem_of, signature_of};
 use fvn_sorts::Signature;
 use fvn_terms::NoMemory;
 use std::process::Abort;
 use std::time::Instant;
+
+/// Constants f and g, free operators h and i, a commutative operator j, sums k and n, and sums l and m with the identity g.
+const OPERATORS: &str = "A; f : -> A; g : -> A; h : A -> A; i : A A -> A; j : A A -> A [comm]; k : A A -> A [assoc comm]; l : A A -> A [assoc comm id: g]; m : A A -> A [assoc comm id: g]; n : A A -> A [assoc comm]";
 
 const PROBLEMS: &str = "@PROBLEMS@";
 
@@ -50,7 +53,9 @@ fn counted(combiner: &mut Combiner) -> Result<(u64, bool), NoMemory> {
 
 fn timed(abort: &impl Abort, rt: &HostRuntime, sig: &Signature, text: &str) -> Result<(), NoMemory> {
     let alloc = rt.alloc();
-    let problem = read_problem(abort, alloc, sig, text)?;
+    let Some(problem) = problem_of(alloc, sig, text)? else {
+        return Err(NoMemory);
+    };
     assert!(abort; is_given(alloc, sig, &problem)?);
     if let Ok(start) = Instant::now(rt) {
         let mut combiner = Combiner::new(alloc, sig, &problem, 0, 1000)?;
@@ -73,9 +78,9 @@ fn all_timed(abort: &impl Abort, rt: &HostRuntime, sig: &Signature) -> Result<()
 #[test]
 fn times(rt: HostRuntime) -> Result<(), NoMemory> {
     let alloc = rt.alloc();
-    match collected(alloc)?.finish(alloc) {
-        Ok(sig) => all_timed(&rt, &rt, &sig)?,
-        Err(_) => assert!(rt; false),
+    match signature_of(alloc, OPERATORS)? {
+        Some(sig) => all_timed(&rt, &rt, &sig)?,
+        None => assert!(rt; false),
     }
     Ok(())
 }

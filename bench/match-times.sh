@@ -6,10 +6,15 @@ there=$(mktemp -d)
 trap 'rm -rf "$there"' EXIT
 mkdir -p "$there/crates"
 cp "$here/HANDLES" "$there/HANDLES"
-for crate in fvn_base fvn_terms fvn_forms fvn_drafts fvn_sorts fvn_lindio fvn_flat fvn_match fvn_match_tests; do cp -r "$here/crates/$crate" "$there/crates/"; done
-grep -E '^fvn_(base|terms|forms|drafts|sorts|lindio|flat|match|match_tests):' "$here/crates.txt" > "$there/crates.txt"
-cd "$there/crates/fvn_match_tests"
-rm -rf must-fail
+for crate in fvn_base fvn_terms fvn_forms fvn_drafts fvn_sorts fvn_lindio fvn_flat fvn_samples fvn_match fvn_matching_tests; do cp -r "$here/crates/$crate" "$there/crates/"; done
+grep -E '^fvn_(base|terms|forms|drafts|sorts|lindio|flat|samples|match):' "$here/crates.txt" > "$there/crates.txt"
+echo 'fvn_matching_tests: fvn_base fvn_flat fvn_forms fvn_match fvn_samples fvn_sorts fvn_terms' >> "$there/crates.txt"
+cd "$there/crates/fvn_matching_tests"
+# The rest of the tests is not needed.
+find src/tests -type f ! -name counting.rt -delete
+find proofs/tests -mindepth 1 -maxdepth 1  -exec rm -r {} +
+rm proofs/*.antt
+printf -- '-- The lemmas of the crate.\n' > proofs/Lib.antt
 # Nested commutative operators: all variables different, or the innermost and the outermost one the same, where the target has two constants there.
 towers=
 for depth in 4 8 12 16; do
@@ -26,15 +31,10 @@ done
 cat > src/tests.rt <<'PROGRAM'
 //! Times of matching.
 mod counting;
-mod matching;
-mod reading;
-mod showing;
-mod terms;
 
 use self::counting::{flat_many, is_matched};
-use self::matching::{flat_of, halves_match, shown_match};
-use self::reading::collected;
 use fvn_flat::Flat;
+use fvn_samples::{flat_of, signature_of};
 use fvn_sorts::Signature;
 use fvn_terms::NoMemory;
 use std::alloc::Global;
@@ -118,29 +118,20 @@ fn towers(rt: &HostRuntime, sig: &Signature) -> Result<(), NoMemory> {
     Ok(())
 }
 
-fn used(alloc: Global, sig: &Signature) -> Result<bool, NoMemory> {
-    let shown = shown_match(alloc, sig, "A0 | f", "A0 f")?;
-    let both = halves_match(alloc, sig, "A0, A0", "f, f")?;
-    Ok(!shown.is_empty() && both.is_some())
-}
-
 #[test]
 fn times(rt: HostRuntime) -> Result<(), NoMemory> {
     let alloc = rt.alloc();
     for text in [SUM, SUM_WITH_IDENTITY] {
         let _ = println!(rt; "match: {text}");
-        match collected(&rt, alloc, text)?.finish(alloc) {
-            Ok(sig) => {
-                rows(&rt, &sig)?;
-                assert!(rt; used(alloc, &sig)?);
-            }
-            Err(_) => assert!(rt; false, "no signature"),
+        match signature_of(alloc, text)? {
+            Some(sig) => rows(&rt, &sig)?,
+            None => assert!(rt; false, "no signature"),
         }
     }
     let _ = println!(rt; "match: {COMMUTATIVE}");
-    match collected(&rt, alloc, COMMUTATIVE)?.finish(alloc) {
-        Ok(sig) => towers(&rt, &sig)?,
-        Err(_) => assert!(rt; false, "no signature"),
+    match signature_of(alloc, COMMUTATIVE)? {
+        Some(sig) => towers(&rt, &sig)?,
+        None => assert!(rt; false, "no signature"),
     }
     Ok(())
 }

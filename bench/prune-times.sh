@@ -6,25 +6,26 @@ there=$(mktemp -d)
 trap 'rm -rf "$there"' EXIT
 mkdir -p "$there/crates"
 cp "$here/HANDLES" "$there/HANDLES"
-for crate in fvn_base fvn_terms fvn_forms fvn_drafts fvn_sorts fvn_lindio fvn_flat fvn_match fvn_counts fvn_cover fvn_cover_tests; do cp -r "$here/crates/$crate" "$there/crates/"; done
-grep -E '^fvn_(base|terms|forms|drafts|sorts|lindio|flat|match|counts|cover|cover_tests):' "$here/crates.txt" > "$there/crates.txt"
-cd "$there/crates/fvn_cover_tests"
-rm -rf must-fail
+for crate in fvn_base fvn_terms fvn_forms fvn_drafts fvn_sorts fvn_lindio fvn_flat fvn_samples fvn_match fvn_counts fvn_cover fvn_matching_tests; do cp -r "$here/crates/$crate" "$there/crates/"; done
+grep -E '^fvn_(base|terms|forms|drafts|sorts|lindio|flat|samples|match|counts|cover):' "$here/crates.txt" > "$there/crates.txt"
+echo 'fvn_matching_tests: fvn_base fvn_cover fvn_flat fvn_forms fvn_samples fvn_sorts fvn_terms' >> "$there/crates.txt"
+cd "$there/crates/fvn_matching_tests"
+# The rest of the tests is not needed.
+find src/tests -type f ! -name comparing.rt ! -name meeting.rt ! -name variants.rt -delete
+find proofs/tests -mindepth 1 -maxdepth 1 ! -name comparing ! -name meeting ! -name variants -exec rm -r {} +
+rm proofs/Arguments.antt
+sed -i '/^mod Arguments/d' proofs/Lib.antt
 cat > src/tests.rt <<'PROGRAM'
 //! Times of pruning.
 mod comparing;
 mod meeting;
-mod reading;
-mod showing;
-mod substituting;
-mod terms;
 mod variants;
 
 use self::comparing::{shown_both, shown_marked, shown_pruned};
 use self::meeting::Meeting;
-use self::reading::collected;
 use self::variants::{are_all_alike, variant_of};
 use fvn_cover::{Variant, prune};
+use fvn_samples::signature_of;
 use fvn_sorts::Signature;
 use fvn_terms::NoMemory;
 use std::alloc::Global;
@@ -137,14 +138,14 @@ fn used<R: Threads + Sync>(rt: &R, alloc: Global, sig: &Signature) -> Result<boo
 #[test]
 fn times(rt: HostRuntime) -> Result<(), NoMemory> {
     let alloc = rt.alloc();
-    match collected(&rt, alloc, SUM)?.finish(alloc) {
-        Ok(sig) => {
+    match signature_of(alloc, SUM)? {
+        Some(sig) => {
             for most in [500, 1000, 2000] {
                 timed(&rt, &sig, most)?;
             }
             assert!(rt; used(&rt, alloc, &sig)?);
         }
-        Err(_) => assert!(rt; false, "no signature"),
+        None => assert!(rt; false, "no signature"),
     }
     Ok(())
 }

@@ -6,36 +6,38 @@ there=$(mktemp -d)
 trap 'rm -rf "$there"' EXIT
 mkdir -p "$there/crates"
 cp "$here/HANDLES" "$there/HANDLES"
-for crate in base lindio acunify terms forms drafts sorts flat match counts cover nodes sums frames supports plans asking unfolding binding obeying wheels openings drawing combine refine axunify combine_tests; do
+for crate in base lindio acunify terms forms drafts sorts flat samples match counts cover nodes purify sums frames supports plans asking unfolding binding obeying wheels openings drawing combine refine axunify combine_tests; do
   cp -r "$here/crates/fvn_$crate" "$there/crates/"
   rm -rf "$there/crates/fvn_$crate/must-fail"
   grep "^fvn_$crate:" "$here/crates.txt" >> "$there/crates.txt"
 done
-sed -i 's/^fvn_combine_tests: .*/& fvn_frames fvn_lindio fvn_openings fvn_wheels/' "$there/crates.txt"
 cp "${PROBLEMS:-$here/bench/combine-problems.txt}" "$there/problems"
 cd "$there/crates/fvn_combine_tests"
-rm -r src/tests/solving.rt src/tests/unifying.rt proofs/tests/unifying proofs/Givens.antt
+# The rest of the tests is not needed.
+find src/tests -type f ! -name given.rt -delete
+find proofs/tests -mindepth 1 -maxdepth 1 ! -name given -exec rm -r {} +
+rm proofs/Asking.antt proofs/Givens.antt
 printf -- '-- The lemmas of the crate.\n' > proofs/Lib.antt
 cat > src/tests.rt <<'PROGRAM'
 //! How much the search goes through.
 mod given;
-mod signatures;
-mod terms;
 
 use self::given::is_given;
-use self::signatures::collected;
-use self::terms::read_problem;
 use fvn_base::Seq;
 use fvn_flat::Pairs;
 use fvn_frames::{Reading, first_question, question_on_all, question_on_touched, read};
 use fvn_lindio::Solution;
 use fvn_nodes::{State, Table, Tree, table_of};
 use fvn_openings::{bases, option_counts, shared, tags_of, wheels};
+use fvn_samples::{problem_of, signature_of};
 use fvn_sorts::Signature;
 use fvn_terms::NoMemory;
 use fvn_wheels::Tags;
 use std::alloc::Global;
 use std::process::Abort;
+
+/// Constants f and g, free operators h and i, a commutative operator j, sums k and n, and sums l and m with the identity g.
+const OPERATORS: &str = "A; f : -> A; g : -> A; h : A -> A; i : A A -> A; j : A A -> A [comm]; k : A A -> A [assoc comm]; l : A A -> A [assoc comm id: g]; m : A A -> A [assoc comm id: g]; n : A A -> A [assoc comm]";
 
 const PROBLEMS: &str = "@PROBLEMS@";
 
@@ -114,7 +116,9 @@ fn counted(alloc: Global, sig: &Signature, problem: &Pairs) -> Result<([u64; 4],
 fn all_counted(abort: &impl Abort, rt: &HostRuntime, sig: &Signature) -> Result<(), NoMemory> {
     let alloc = rt.alloc();
     for text in PROBLEMS.lines() {
-        let problem = read_problem(abort, alloc, sig, text)?;
+        let Some(problem) = problem_of(alloc, sig, text)? else {
+            return Err(NoMemory);
+        };
         assert!(abort; is_given(alloc, sig, &problem)?);
         let (c, refused) = counted(alloc, sig, &problem)?;
         let end = if refused { ", and an end" } else { "" };
@@ -126,9 +130,9 @@ fn all_counted(abort: &impl Abort, rt: &HostRuntime, sig: &Signature) -> Result<
 #[test]
 fn counts(rt: HostRuntime) -> Result<(), NoMemory> {
     let alloc = rt.alloc();
-    match collected(alloc)?.finish(alloc) {
-        Ok(sig) => all_counted(&rt, &rt, &sig)?,
-        Err(_) => assert!(rt; false),
+    match signature_of(alloc, OPERATORS)? {
+        Some(sig) => all_counted(&rt, &rt, &sig)?,
+        None => assert!(rt; false),
     }
     Ok(())
 }

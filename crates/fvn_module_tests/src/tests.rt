@@ -1,12 +1,14 @@
 //! Modules and their first faults.
+mod large;
 mod queries;
 
 use fvn_lex::LexFault;
-use fvn_module::{ModuleFault, Place, read_module};
+use fvn_module::{Module, ModuleFault, Place, read_module};
 use fvn_sorts::SigFault;
 use fvn_statements::Feature;
-use std::alloc::Global;
-use std::test::Fail;
+use fvn_terms::NoMemory;
+use std::alloc::{AllocError, Global};
+use std::process::Abort;
 
 // Each line has the statements of a module, and the numbers of its sorts, kinds, operators and equations.
 const MODULES: &str = "sort S . ops a b : -> S . op p : S S -> S . vars X Y : S . => 1 1 3 0
@@ -108,7 +110,8 @@ sort A . op e : -> A . op f : A A -> A [assoc comm left id: e] . => 8 3 identity
 sort A . op f : A A -> A [comm memo] . => 8 2 attribute
 sort A . op a : -> A . eq a = a [variant owise] . => 8 3 attribute";
 
-// Each line has a whole text that is refused, and its first fault; a b stands before the offset of a byte.
+// Each line has a whole text, and its first fault, or the numbers of what it declares; a b stands before the offset of a
+// byte.
 const TEXTS: &str = "fmod M is => 2
 endfm => 2
 fmod M is sort A . => 2
@@ -120,7 +123,9 @@ mod M is sort A . endfm => 2
 fmod M is é => 1 b10
 fmod M is sort ***( x ) endfm => 1 b15
 fmod M is é ***( x ) => 1 b10
-fmod M is sort A . ( endfm => 3 2";
+fmod M is sort A . ( endfm => 3 2
+ => 2
+fmod M is endfm --- ***( no fault => 0 0 0 0";
 
 // The word of a form that is left out.
 fn feature_word(feature: Feature) -> &'static str {
@@ -138,7 +143,7 @@ fn feature_word(feature: Feature) -> &'static str {
 }
 
 // The number of a fault of a signature.
-fn signature_number(fault: &SigFault) -> u8 {
+fn signature_number(fault: &SigFault) -> usize {
     match fault {
         SigFault::SortCycle(_) => 1,
         SigFault::KindsDiffer(_) => 2,
@@ -153,218 +158,130 @@ fn signature_number(fault: &SigFault) -> u8 {
     }
 }
 
+fn push_number(alloc: Global, out: &mut String, before: &str, n: usize) -> Result<(), NoMemory> {
+    out.push_str(&format!(in alloc; "{before}{n}")?)?;
+    Ok(())
+}
+
+fn push_word(out: &mut String, word: &str) -> Result<(), NoMemory> {
+    out.push_str(word)?;
+    Ok(())
+}
+
+fn push_lex_fault(alloc: Global, out: &mut String, fault: &LexFault) -> Result<(), NoMemory> {
+    match fault {
+        LexFault::BadByte(n) => push_number(alloc, out, "1 b", *n),
+        LexFault::BlockComment(n) => push_number(alloc, out, "1 b", *n),
+        LexFault::NoMemory => push_word(out, "no tokens"),
+    }
+}
+
+fn push_left_out(
+    alloc: Global,
+    out: &mut String,
+    statement: usize,
+    feature: Feature,
+) -> Result<(), NoMemory> {
+    push_number(alloc, out, "8 ", statement)?;
+    push_word(out, " ")?;
+    push_word(out, feature_word(feature))
+}
+
 // A fault as it is written in the tables.
-fn shown_fault(alloc: Global, fault: &ModuleFault) -> Result<String, Fail> {
-    let text = match fault {
-        ModuleFault::Lex(LexFault::BadByte(n)) => format!(in alloc; "1 b{n}")?,
-        ModuleFault::Lex(LexFault::BlockComment(n)) => format!(in alloc; "1 b{n}")?,
-        ModuleFault::Lex(LexFault::NoMemory) => format!(in alloc; "no tokens")?,
-        ModuleFault::Header => format!(in alloc; "2")?,
-        ModuleFault::Statement(n) => format!(in alloc; "3 {n}")?,
-        ModuleFault::UnknownName(n) => format!(in alloc; "4 {n}")?,
-        ModuleFault::Twice(n) => format!(in alloc; "5 {n}")?,
-        ModuleFault::Arity(n) => format!(in alloc; "6 {n}")?,
-        ModuleFault::WrongKind(n) => format!(in alloc; "7 {n}")?,
-        ModuleFault::LeftOut(n, feature) => {
-            let word = feature_word(*feature);
-            format!(in alloc; "8 {n} {word}")?
-        }
+fn push_fault(alloc: Global, out: &mut String, fault: &ModuleFault) -> Result<(), NoMemory> {
+    match fault {
+        ModuleFault::Lex(fault) => push_lex_fault(alloc, out, fault),
+        ModuleFault::Header => push_word(out, "2"),
+        ModuleFault::Statement(n) => push_number(alloc, out, "3 ", *n),
+        ModuleFault::UnknownName(n) => push_number(alloc, out, "4 ", *n),
+        ModuleFault::Twice(n) => push_number(alloc, out, "5 ", *n),
+        ModuleFault::Arity(n) => push_number(alloc, out, "6 ", *n),
+        ModuleFault::WrongKind(n) => push_number(alloc, out, "7 ", *n),
+        ModuleFault::LeftOut(n, feature) => push_left_out(alloc, out, *n, *feature),
         ModuleFault::Signature(fault, _, _) => {
-            let number = signature_number(fault);
-            format!(in alloc; "9.{number}")?
+            push_number(alloc, out, "9.", signature_number(fault))
         }
-        ModuleFault::VariableLeft(k) => format!(in alloc; "10 e{k}")?,
-        ModuleFault::ExtraVariable(k) => format!(in alloc; "11 e{k}")?,
-        ModuleFault::IdentityLeft(k) => format!(in alloc; "12 e{k}")?,
-        ModuleFault::TooMany(Place::Statement(n)) => format!(in alloc; "13 {n}")?,
-        ModuleFault::TooMany(Place::Equation(k)) => format!(in alloc; "13 e{k}")?,
-        ModuleFault::TooLong => format!(in alloc; "14")?,
-        ModuleFault::NoMemory => format!(in alloc; "no memory")?,
-    };
-    Ok(text)
+        ModuleFault::VariableLeft(k) => push_number(alloc, out, "10 e", *k),
+        ModuleFault::ExtraVariable(k) => push_number(alloc, out, "11 e", *k),
+        ModuleFault::IdentityLeft(k) => push_number(alloc, out, "12 e", *k),
+        ModuleFault::TooMany(Place::Statement(n)) => push_number(alloc, out, "13 ", *n),
+        ModuleFault::TooMany(Place::Equation(k)) => push_number(alloc, out, "13 e", *k),
+        ModuleFault::TooLong => push_word(out, "14"),
+        ModuleFault::NoMemory => push_word(out, "no memory"),
+    }
+}
+
+// How much the module declares.
+fn push_numbers(alloc: Global, out: &mut String, declared: &Module) -> Result<(), NoMemory> {
+    push_number(alloc, out, "", declared.signature().sort_count())?;
+    push_number(alloc, out, " ", declared.signature().kind_count())?;
+    push_number(alloc, out, " ", declared.signature().op_count())?;
+    push_number(alloc, out, " ", declared.equations().len())
 }
 
 // What is read of a text, as it is written in the tables.
-fn shown(alloc: Global, bytes: &[u8]) -> Result<String, Fail> {
-    match read_module(alloc, bytes) {
-        Ok(module) => {
-            let sorts = module.signature().sort_count();
-            let kinds = module.signature().kind_count();
-            let ops = module.signature().op_count();
-            let equations = module.equations().len();
-            Ok(format!(in alloc; "{sorts} {kinds} {ops} {equations}")?)
-        }
-        Err(fault) => shown_fault(alloc, &fault),
+fn push_read(alloc: Global, out: &mut String, text: &str) -> Result<(), NoMemory> {
+    match read_module(alloc, text.as_bytes()) {
+        Ok(declared) => push_numbers(alloc, out, &declared),
+        Err(fault) => push_fault(alloc, out, &fault),
     }
+}
+
+/// What is read of a text is wanted.
+fn assert_read(rt: &impl Abort, alloc: Global, text: &str, want: &str) -> Result<(), NoMemory> {
+    let mut out = String::new(alloc);
+    push_read(alloc, &mut out, text)?;
+    assert_eq!(rt; out.as_str(), want, "at {text}");
+    Ok(())
 }
 
 // The module of these statements.
-fn module_of(alloc: Global, statements: &str) -> Result<String, Fail> {
-    Ok(format!(in alloc; "fmod M is {statements} endfm")?)
-}
-
-#[test]
-fn modules_and_faults(rt: HostRuntime) -> Result<(), Fail> {
-    let alloc = rt.alloc();
-    for line in MODULES.lines() {
-        if let Some((statements, want)) = line.rsplit_once(" => ") {
-            let text = module_of(alloc, statements)?;
-            assert_eq!(rt;
-                shown(alloc, text.as_bytes())?.as_str(),
-                want,
-                "at {statements}"
-            );
-        }
-    }
-    for line in FAULTS.lines() {
-        if let Some((statements, want)) = line.rsplit_once(" => ") {
-            let text = module_of(alloc, statements)?;
-            assert_eq!(rt;
-                shown(alloc, text.as_bytes())?.as_str(),
-                want,
-                "at {statements}"
-            );
-        }
-    }
-    Ok(())
-}
-
-#[test]
-fn whole_texts(rt: HostRuntime) -> Result<(), Fail> {
-    let alloc = rt.alloc();
-    for line in TEXTS.lines() {
-        if let Some((text, want)) = line.rsplit_once(" => ") {
-            assert_eq!(rt; shown(alloc, text.as_bytes())?.as_str(), want, "at {text}");
-        }
-    }
-    assert_eq!(rt; shown(alloc, b"")?.as_str(), "2");
-    assert_eq!(rt;
-        shown(alloc, b"fmod M is endfm --- ***( no fault")?.as_str(),
-        "0 0 0 0"
-    );
-    Ok(())
-}
-
-// A word with each number below the count, and a space behind each.
-fn numbered(alloc: Global, word: &str, count: u32) -> Result<String, Fail> {
+fn module_of(alloc: Global, statements: &str) -> Result<String, NoMemory> {
     let mut text = String::new(alloc);
-    for i in 0..count {
-        text.push_str(&format!(in alloc; "{word}{i} ")?)?;
-    }
+    text.push_str("fmod M is ")?;
+    text.push_str(statements)?;
+    text.push_str(" endfm")?;
     Ok(text)
 }
 
-// The text so many times.
-fn repeated(alloc: Global, part: &str, count: u32) -> Result<String, Fail> {
-    let mut text = String::new(alloc);
-    for _ in 0..count {
-        text.push_str(part)?;
-    }
-    Ok(text)
+/// What is read of a module with these statements is wanted.
+fn assert_statements(
+    rt: &impl Abort,
+    alloc: Global,
+    statements: &str,
+    want: &str,
+) -> Result<(), NoMemory> {
+    let text = module_of(alloc, statements)?;
+    assert_read(rt, alloc, text.as_str(), want)
 }
 
-#[test]
-fn limits_of_signatures(rt: HostRuntime) -> Result<(), Fail> {
-    let alloc = rt.alloc();
-    for (count, want) in [(64, "64 64 0 0"), (65, "9.9"), (70000, "9.9")] {
-        let names = numbered(alloc, "S", count)?;
-        let names = names.as_str();
-        let text = module_of(alloc, &format!(in alloc; "sorts {names} .")?)?;
-        assert_eq!(rt;
-            shown(alloc, text.as_bytes())?.as_str(),
-            want,
-            "at {count} sorts"
-        );
-        let text = module_of(
-            alloc,
-            &format!(in alloc; "sorts {names} . subsort S0 < T .")?,
-        )?;
-        assert_eq!(rt;
-            shown(alloc, text.as_bytes())?.as_str(),
-            "4 2",
-            "at {count} sorts"
-        );
+fn assert_modules(rt: &impl Abort, alloc: Global, lines: &str) -> Result<(), NoMemory> {
+    for line in lines.lines() {
+        let (statements, want) = line.rsplit_once(" => ").unwrap_or((line, ""));
+        assert_statements(rt, alloc, statements, want)?;
     }
-    for (count, want) in [(256, "1 1 256 0"), (257, "9.9")] {
-        let names = numbered(alloc, "a", count)?;
-        let names = names.as_str();
-        let text = module_of(alloc, &format!(in alloc; "sort S . ops {names} : -> S .")?)?;
-        assert_eq!(rt;
-            shown(alloc, text.as_bytes())?.as_str(),
-            want,
-            "at {count} operators"
-        );
-    }
-    for (count, want) in [(8, "1 1 1 0"), (9, "9.9")] {
-        let sorts = repeated(alloc, "S ", count)?;
-        let sorts = sorts.as_str();
-        let text = module_of(alloc, &format!(in alloc; "sort S . op f : {sorts} -> S .")?)?;
-        assert_eq!(rt;
-            shown(alloc, text.as_bytes())?.as_str(),
-            want,
-            "at {count} arguments"
-        );
+    Ok(())
+}
+
+fn assert_texts(rt: &impl Abort, alloc: Global, lines: &str) -> Result<(), NoMemory> {
+    for line in lines.lines() {
+        let (text, want) = line.rsplit_once(" => ").unwrap_or((line, ""));
+        assert_read(rt, alloc, text, want)?;
     }
     Ok(())
 }
 
 #[test]
-fn limits_of_equations(rt: HostRuntime) -> Result<(), Fail> {
-    let alloc = rt.alloc();
-    let base = "sort S . op a : -> S . op g : S -> S .";
-    for (count, want) in [(256, "1 1 2 256"), (257, "13 260"), (300, "13 260")] {
-        let equations = repeated(alloc, "eq g(a) = a [variant] . ", count)?;
-        let equations = equations.as_str();
-        let text = module_of(alloc, &format!(in alloc; "{base} {equations}")?)?;
-        assert_eq!(rt;
-            shown(alloc, text.as_bytes())?.as_str(),
-            want,
-            "at {count} equations"
-        );
-    }
-    for (count, want) in [(399, "1 1 2 1"), (400, "13 e1"), (100000, "13 e1")] {
-        let calls = repeated(alloc, "g(", count)?;
-        let ends = repeated(alloc, ")", count)?;
-        let (calls, ends) = (calls.as_str(), ends.as_str());
-        let text = module_of(
-            alloc,
-            &format!(in alloc; "{base} eq {calls}a{ends} = a [variant] .")?,
-        )?;
-        assert_eq!(rt;
-            shown(alloc, text.as_bytes())?.as_str(),
-            want,
-            "at {count} on the left"
-        );
-        let text = module_of(
-            alloc,
-            &format!(in alloc; "{base} eq a = {calls}a{ends} [variant] .")?,
-        )?;
-        assert_eq!(rt;
-            shown(alloc, text.as_bytes())?.as_str(),
-            want,
-            "at {count} on the right"
-        );
-        let text = module_of(
-            alloc,
-            &format!(in alloc; "{base} eq {calls}a{ends} = q [variant] .")?,
-        )?;
-        assert_eq!(rt;
-            shown(alloc, text.as_bytes())?.as_str(),
-            "4 4",
-            "at {count} and no name"
-        );
-    }
-    let opened = repeated(alloc, "(", 100000)?;
-    let closed = repeated(alloc, ")", 100000)?;
-    let (opened, closed) = (opened.as_str(), closed.as_str());
-    let text = module_of(
-        alloc,
-        &format!(in alloc; "{base} eq {opened}g(a){closed} = a [variant] .")?,
-    )?;
-    assert_eq!(rt;
-        shown(alloc, text.as_bytes())?.as_str(),
-        "1 1 2 1",
-        "in parentheses"
-    );
-    Ok(())
+fn modules_are_read(rt: HostRuntime) -> Result<(), NoMemory> {
+    assert_modules(&rt, rt.alloc(), MODULES)
+}
+
+#[test]
+fn modules_have_first_faults(rt: HostRuntime) -> Result<(), NoMemory> {
+    assert_modules(&rt, rt.alloc(), FAULTS)
+}
+
+#[test]
+fn whole_texts(rt: HostRuntime) -> Result<(), NoMemory> {
+    assert_texts(&rt, rt.alloc(), TEXTS)
 }

@@ -1,5 +1,6 @@
 //! What `check` prints of a module.
-use super::{Setting, answer, plain};
+use super::unify::text_of;
+use super::{assert_answer, assert_write};
 use fvn_terms::NoMemory;
 use fvn_tool::Status;
 use std::alloc::Global;
@@ -8,8 +9,8 @@ use std::string::String;
 
 /// Whole texts, and what is printed of them.
 const TEXTS: &str = "\
- ==> module 2
 fmod ==> module 2
+ ==> module 2
 fmod M is sort A . ==> module 2
 fmod M is sort A . endfm sort B . ==> module 2
 fmod M is endfm endfm ==> module 2
@@ -87,161 +88,160 @@ sorts A B . subsort A < B . ops c e : -> A . op b : -> B . op h : B B -> B [asso
 
 // What is printed of a text, and the status that goes with it.
 fn told(rt: &impl Abort, alloc: Global, text: &str, want: &str) -> Result<(), NoMemory> {
-    let (status, written) = answer(alloc, &plain(&["check"], text.as_bytes()))?;
-    let expected = if want.split_once(" sorts ").is_some() {
+    let status = if want.split_once(" sorts ").is_some() {
         Status::Solved
     } else {
         Status::ModuleRefused
     };
-    let mut lines = String::from_str(alloc, "")?;
-    for line in want.split(" | ") {
-        lines = format!(in alloc; "{lines}{line}\n")?;
-    }
-    assert_eq!(rt; status, expected, "{text}");
-    assert!(rt; written.as_slice() == lines.as_bytes(), "{text}");
-    Ok(())
+    let lines = text_of(alloc, want)?;
+    assert_answer(
+        rt,
+        alloc,
+        &["check"],
+        text.as_bytes(),
+        status,
+        lines.as_bytes(),
+    )
+}
+
+// A row of a text and what is printed of it.
+fn row_told(rt: &impl Abort, alloc: Global, row: &str) -> Result<(), NoMemory> {
+    let (text, want) = row.split_once(" ==> ").unwrap_or((row, ""));
+    told(rt, alloc, text, want)
 }
 
 #[test]
 fn module_texts_are_told_or_refused(rt: HostRuntime) -> Result<(), NoMemory> {
     for row in TEXTS.lines() {
-        if let Some((text, want)) = row.split_once(" ==> ") {
-            told(&rt, rt.alloc(), text, want)?;
-        }
+        row_told(&rt, rt.alloc(), row)?;
     }
     Ok(())
+}
+
+// A row of statements and what is printed of their module.
+fn body_told(rt: &impl Abort, alloc: Global, row: &str) -> Result<(), NoMemory> {
+    let (body, want) = row.split_once(" ==> ").unwrap_or((row, ""));
+    let text = format!(in alloc; "fmod M is {body} endfm")?;
+    told(rt, alloc, text.as_str(), want)
 }
 
 #[test]
 fn each_refusal_has_its_line(rt: HostRuntime) -> Result<(), NoMemory> {
     for row in BODIES.lines() {
-        if let Some((body, want)) = row.split_once(" ==> ") {
-            let text = format!(in rt.alloc(); "fmod M is {body} endfm")?;
-            told(&rt, rt.alloc(), text.as_str(), want)?;
-        }
+        body_told(&rt, rt.alloc(), row)?;
     }
     Ok(())
 }
 
-// A module with a sort, a constant, an operator of one argument, and more statements.
-fn small(alloc: Global, statements: &str) -> Result<String, NoMemory> {
-    Ok(format!(in alloc; "fmod M is sort A . op a : -> A . op s : A -> A . {statements}endfm")?)
-}
-
 // The statement, so many times.
-fn repeated(alloc: Global, count: u32, statement: &str) -> Result<String, NoMemory> {
-    let mut text = String::from_str(alloc, "")?;
+fn push_repeated(text: &mut String, count: u32, statement: &str) -> Result<(), NoMemory> {
     for _ in 0..count {
         text.push_str(statement)?;
     }
-    Ok(text)
+    Ok(())
+}
+
+// A module with a sort, a constant and an operator of one argument, up to its next statement.
+const SMALL: &str = "fmod M is sort A . op a : -> A . op s : A -> A . ";
+
+// With so many equations: 256 are few enough, and the 257th stands in statement 3 + 257.
+fn equations_told(rt: &impl Abort, alloc: Global, count: u32, want: &str) -> Result<(), NoMemory> {
+    let mut text = String::from_str(alloc, SMALL)?;
+    push_repeated(&mut text, count, "eq s(a) = a [variant] . ")?;
+    text.push_str("endfm")?;
+    told(rt, alloc, text.as_str(), want)
+}
+
+// With so many operators on the left side of an equation: with its constant it has one symbol more.
+fn deep_told(rt: &impl Abort, alloc: Global, count: u32, want: &str) -> Result<(), NoMemory> {
+    let mut text = String::from_str(alloc, SMALL)?;
+    text.push_str("eq ")?;
+    push_repeated(&mut text, count, "s(")?;
+    text.push_str("a")?;
+    push_repeated(&mut text, count, ")")?;
+    text.push_str(" = a [variant] . endfm")?;
+    told(rt, alloc, text.as_str(), want)
+}
+
+// With so many sorts.
+fn sorts_told(rt: &impl Abort, alloc: Global, count: u32, want: &str) -> Result<(), NoMemory> {
+    let mut sorts = String::from_str(alloc, "fmod M is sorts")?;
+    for n in 0..count {
+        sorts = format!(in alloc; "{sorts} S{n}")?;
+    }
+    sorts.push_str(" . endfm")?;
+    told(rt, alloc, sorts.as_str(), want)
 }
 
 #[test]
 fn limits_of_a_module_have_their_lines(rt: HostRuntime) -> Result<(), NoMemory> {
-    // 256 equations are few enough, and the 257th stands in statement 3 + 257.
-    let table = [
-        (
-            256,
-            "module M sorts 1 kinds 1 operators 2 equations 256 | sorts kept",
-        ),
-        (257, "module 13 statement 260"),
-    ];
-    for (count, want) in table {
-        let equations = repeated(rt.alloc(), count, "eq s(a) = a [variant] . ")?;
-        let text = small(rt.alloc(), equations.as_str())?;
-        told(&rt, rt.alloc(), text.as_str(), want)?;
-    }
-
-    // With its constant a side has one symbol more than it has operators of one argument.
-    let table = [
-        (
-            399,
-            "module M sorts 1 kinds 1 operators 2 equations 1 | sorts kept",
-        ),
-        (400, "module 13 equation 1"),
-    ];
-    for (count, want) in table {
-        let open = repeated(rt.alloc(), count, "s(")?;
-        let close = repeated(rt.alloc(), count, ")")?;
-        let equation = format!(in rt.alloc(); "eq {open}a{close} = a [variant] . ")?;
-        let text = small(rt.alloc(), equation.as_str())?;
-        told(&rt, rt.alloc(), text.as_str(), want)?;
-    }
-
-    let mut sorts = String::from_str(rt.alloc(), "")?;
-    for n in 0..65u32 {
-        sorts = format!(in rt.alloc(); "{sorts} S{n}")?;
-    }
-    let text = format!(in rt.alloc(); "fmod M is sorts{sorts} . endfm")?;
-    told(&rt, rt.alloc(), text.as_str(), "module 9.9")?;
-    Ok(())
+    equations_told(
+        &rt,
+        rt.alloc(),
+        256,
+        "module M sorts 1 kinds 1 operators 2 equations 256 | sorts kept",
+    )?;
+    equations_told(&rt, rt.alloc(), 257, "module 13 statement 260")?;
+    deep_told(
+        &rt,
+        rt.alloc(),
+        399,
+        "module M sorts 1 kinds 1 operators 2 equations 1 | sorts kept",
+    )?;
+    deep_told(&rt, rt.alloc(), 400, "module 13 equation 1")?;
+    sorts_told(&rt, rt.alloc(), 65, "module 9.9")
 }
 
-// A module with an equation whose left side has so many variables of sort B, among other operators.
-fn of_variables(alloc: Global, others: &str, count: u32) -> Result<String, NoMemory> {
-    let mut side = String::from_str(alloc, "a")?;
-    for n in 0..count {
-        side = format!(in alloc; "p(X{n}:B,{side})")?;
-    }
-    Ok(format!(in alloc;
-        "fmod M is sorts A B . op a : -> B . op p : B B -> B . {others} eq {side} = a [variant] . endfm"
-    )?)
-}
-
-#[test]
-fn left_sides_with_many_instances_are_refused(rt: HostRuntime) -> Result<(), NoMemory> {
-    let identity = "op e : -> B . op h : B B -> B [assoc comm id: e] .";
-    let lower = "subsort A < B .";
-    // Twelve variables that may be an identity have 4,096 instances, and one more has 8,192. Of 25 variables over two
-    // sorts there are 33,554,432.
-    let table = [
-        (
-            identity,
-            12,
-            "module M sorts 2 kinds 2 operators 4 equations 1 | sorts kept",
-        ),
-        (identity, 13, "module 13 equation 1"),
-        (lower, 25, "module 13 equation 1"),
-    ];
-    for (others, count, want) in table {
-        let text = of_variables(rt.alloc(), others, count)?;
-        told(&rt, rt.alloc(), text.as_str(), want)?;
-    }
-    Ok(())
+// So many spaces.
+fn spaces_told(rt: &impl Abort, alloc: Global, count: u32, want: &str) -> Result<(), NoMemory> {
+    let mut spaces = String::from_str(alloc, "")?;
+    push_repeated(&mut spaces, count, " ")?;
+    told(rt, alloc, spaces.as_str(), want)
 }
 
 #[test]
 fn texts_of_1048577_bytes_are_too_long(rt: HostRuntime) -> Result<(), NoMemory> {
-    for (count, want) in [(1_048_576, "module 2"), (1_048_577, "module 14")] {
-        let spaces = repeated(rt.alloc(), count, " ")?;
-        told(&rt, rt.alloc(), spaces.as_str(), want)?;
+    spaces_told(&rt, rt.alloc(), 1_048_576, "module 2")?;
+    spaces_told(&rt, rt.alloc(), 1_048_577, "module 14")
+}
+
+// A module with an equation whose left side has so many variables of sort B, among other operators.
+fn instances_told(
+    rt: &impl Abort,
+    alloc: Global,
+    others: &str,
+    count: u32,
+    want: &str,
+) -> Result<(), NoMemory> {
+    let mut side = String::from_str(alloc, "a")?;
+    for n in 0..count {
+        side = format!(in alloc; "p(X{n}:B,{side})")?;
     }
-    Ok(())
+    let text = format!(in alloc;
+        "fmod M is sorts A B . op a : -> B . op p : B B -> B . {others} eq {side} = a [variant] . endfm"
+    )?;
+    told(rt, alloc, text.as_str(), want)
+}
+
+// Twelve variables that may be an identity have 4,096 instances, and one more has 8,192. Of 25 variables over two
+// sorts there are 33,554,432.
+#[test]
+fn left_sides_with_many_instances_are_refused(rt: HostRuntime) -> Result<(), NoMemory> {
+    let identity = "op e : -> B . op h : B B -> B [assoc comm id: e] .";
+    let few = "module M sorts 2 kinds 2 operators 4 equations 1 | sorts kept";
+    let many = "module 13 equation 1";
+    instances_told(&rt, rt.alloc(), identity, 12, few)?;
+    instances_told(&rt, rt.alloc(), identity, 13, many)?;
+    instances_told(&rt, rt.alloc(), "subsort A < B .", 25, many)
 }
 
 #[test]
 fn a_write_that_fails_leaves_a_front_of_the_lines(rt: HostRuntime) -> Result<(), NoMemory> {
-    let words = ["check"];
     // The lines and their ends are 60 bytes, in pieces of 5.
     let text = b"fmod M is sort A . endfm";
     let lines = b"module M sorts 1 kinds 1 operators 0 equations 0\nsorts kept\n";
     for k in 1..=13u64 {
-        let mut setting: Setting = plain(&words, text);
-        setting.write_piece = 5;
-        setting.failing_write = k;
-        let (status, written) = answer(rt.alloc(), &setting)?;
-        let want = if k <= 12 {
-            Status::WriteFault
-        } else {
-            Status::Solved
-        };
-        assert_eq!(rt; status, want, "at write {k}");
-        let count = (5 * (k as usize - 1)).min(lines.len());
-        assert!(rt;
-            written.len() == count && lines.starts_with(written.as_slice()),
-            "at write {k}"
-        );
+        assert_write(&rt, rt.alloc(), &["check"], text, lines, 5, k)?;
     }
     Ok(())
 }

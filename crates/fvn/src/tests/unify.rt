@@ -1,5 +1,5 @@
 //! What `unify` prints over operators with axioms, over several sorts, and of several pairs.
-use super::{answer, plain};
+use super::{FREE, assert_answer};
 use fvn_terms::NoMemory;
 use fvn_tool::Status;
 use std::alloc::Global;
@@ -7,6 +7,65 @@ use std::process::Abort;
 use std::string::String;
 
 // Modules, and problems over each with the lines that are printed of them, worked out by hand or by Maude.
+
+const OVER_FREE: &str = "\
+p(X,b) =? p(a,Y) ==> {X:S --> a, Y:S --> b} | complete 1
+X =? X ==> {X:S --> #1:S} | complete 1
+X =? Y ==> {X:S --> #1:S, Y:S --> #1:S} | complete 1
+X =? a ==> {X:S --> a} | complete 1
+a =? X ==> {X:S --> a} | complete 1
+a =? a ==> {} | complete 1
+p(a,b) =? p(a,b) ==> {} | complete 1
+p(p(a,b),p(a,b)) =? p(p(a,b),p(a,b)) ==> {} | complete 1
+p(X,Y) =? p(Y,X) ==> {X:S --> #1:S, Y:S --> #1:S} | complete 1
+p(X,X) =? p(Y,Z:S) ==> {X:S --> #1:S, Y:S --> #1:S, Z:S --> #1:S} | complete 1
+p(X,X) =? p(a,Y) ==> {X:S --> a, Y:S --> a} | complete 1
+X =? p(Y,Y) ==> {X:S --> p(#1:S,#1:S), Y:S --> #1:S} | complete 1
+p(X,Y) =? p(p(Y,Y),Z:S) ==> {X:S --> p(#1:S,#1:S), Y:S --> #1:S, Z:S --> #1:S} | complete 1
+(X) =? ((a)) ==> {X:S --> a} | complete 1
+p((X),(b)) =? (p(a,Y)) ==> {X:S --> a, Y:S --> b} | complete 1
+p(X:S,X) =? p(a,Y) ==> {X:S --> a, Y:S --> a} | complete 1
+X:S =? X ==> {X:S --> #1:S} | complete 1
+p(p(a,b),X) =? p(X,p(a,b)) ==> {X:S --> p(a,b)} | complete 1
+p(X,p(Y,Z:S)) =? p(p(Y,Z:S),X) ==> {X:S --> p(#1:S,#2:S), Y:S --> #1:S, Z:S --> #2:S} | complete 1
+p(X,Y) =? p(Z:S,W:S) ==> {X:S --> #1:S, Y:S --> #2:S, Z:S --> #1:S, W:S --> #2:S} | complete 1
+p(X,p(X,Y)) =? p(p(Y,Y),Z:S) ==> {X:S --> p(#1:S,#1:S), Y:S --> #1:S, Z:S --> p(p(#1:S,#1:S),#1:S)} | complete 1
+X =? a . ==> {X:S --> a} | complete 1
+X =? a --- a constant ==> {X:S --> a} | complete 1
+p(p(X,Y),p(Y,X)) =? p(Z:S,Z:S) ==> {X:S --> #1:S, Y:S --> #1:S, Z:S --> p(#1:S,#1:S)} | complete 1
+p(p(X,a),p(b,Y)) =? p(p(b,Y),p(X,a)) ==> {X:S --> b, Y:S --> a} | complete 1
+Z:S =? p(X,p(Y,X)) ==> {Z:S --> p(#1:S,p(#2:S,#1:S)), X:S --> #1:S, Y:S --> #2:S} | complete 1
+p(p(p(p(a,X),X),X),X) =? p(p(p(p(a,b),Y),Z:S),W:S) ==> {X:S --> b, Y:S --> b, Z:S --> b, W:S --> b} | complete 1
+p(X,X) =? p(a,b) ==> complete 0
+a =? b ==> complete 0
+a =? p(a,b) ==> complete 0
+p(a,b) =? p(b,a) ==> complete 0
+p(a,X) =? p(X,b) ==> complete 0
+p(X,a) =? p(b,X) ==> complete 0
+X =? p(X,Y) ==> complete 0
+p(X,X) =? p(Y,p(Y,Y)) ==> complete 0
+p(X,Y) =? p(p(Y,a),p(X,a)) ==> complete 0
+p(X,p(Y,Z:S)) =? p(p(Y,a),p(p(Z:S,a),p(X,a))) ==> complete 0
+p(X,p(Y,b)) =? p(p(a,Y),p(b,X)) ==> complete 0
+- ==> problem 2
+ ==> problem 2
+p(X,Y ==> problem 2
+X =? ==> problem 2
+X =? q ==> problem 3
+X =? p(a) ==> problem 4
+#1:S =? a ==> problem 7
+X =? a b ==> problem 2";
+
+/// A module whose lines end with carriage returns, and whose names have backquotes.
+pub const QUOTED: &str =
+    "fmod QUOTED is\r\n  sort S .\r\n  ops a` `( : -> S .\r\n  op s : S -> S .\r\n  \
+    op f` : S S -> S .\r\n  vars X Y : S .\r\nendfm\r\n";
+
+const OVER_QUOTED: &str = "\
+X =? a` ==> {X:S --> a` } | complete 1
+X =? f` (a` ,`() ==> {X:S --> f` (a` ,`()} | complete 1
+f` (X,Y) =? f` (a` ,`() ==> {X:S --> a` , Y:S --> `(} | complete 1
+s(X) =? s(s(a` )) ==> {X:S --> s(a` )} | complete 1";
 
 const AC: &str =
     "fmod AC is sort S . ops a b : -> S . op g : S -> S . op c : S S -> S [comm] . op _+_ : S S -> S [assoc comm] . vars X Y Z U V : S . endfm";
@@ -129,34 +188,57 @@ fn status_of(said: &str) -> Status {
     Status::Ended
 }
 
-// What is printed of a problem in a module.
-fn tell(
+/// The lines that are printed.
+pub fn text_of(alloc: Global, said: &str) -> Result<String, NoMemory> {
+    let mut text = String::from_str(alloc, "")?;
+    for line in said.split(" | ") {
+        text.push_str(line)?;
+        text.push('\n')?;
+    }
+    Ok(text)
+}
+
+/// What is printed of a problem in a module.
+pub fn tell(
     rt: &impl Abort,
     alloc: Global,
-    module: &str,
+    module: &[u8],
     problem: &str,
     said: &str,
 ) -> Result<(), NoMemory> {
-    let wanted = status_of(said);
+    let text = text_of(alloc, said)?;
     let words = ["unify", problem];
-    let (status, written) = answer(alloc, &plain(&words, module.as_bytes()))?;
-    let mut text = String::from_str(alloc, "")?;
-    for line in said.split(" | ") {
-        text = format!(in alloc; "{text}{line}\n")?;
-    }
-    assert_eq!(rt; status, wanted, "{problem}");
-    assert!(rt; written.as_slice() == text.as_bytes(), "{problem}");
-    Ok(())
+    assert_answer(rt, alloc, &words, module, status_of(said), text.as_bytes())
+}
+
+// A row of a problem and what is printed of it.
+fn unified(rt: &impl Abort, alloc: Global, module: &str, row: &str) -> Result<(), NoMemory> {
+    let (problem, said) = row.split_once(" ==> ").unwrap_or((row, ""));
+    tell(rt, alloc, module.as_bytes(), problem, said)
 }
 
 // All rows over this module.
 fn all_unified(rt: &impl Abort, alloc: Global, module: &str, rows: &str) -> Result<(), NoMemory> {
     for row in rows.lines() {
-        if let Some((problem, said)) = row.split_once(" ==> ") {
-            tell(rt, alloc, module, problem, said)?;
-        }
+        unified(rt, alloc, module, row)?;
     }
     Ok(())
+}
+
+#[test]
+fn problems_over_free_operators_are_unified(rt: HostRuntime) -> Result<(), NoMemory> {
+    all_unified(&rt, rt.alloc(), FREE, OVER_FREE)
+}
+
+#[test]
+fn names_with_backquotes_stand_apart(rt: HostRuntime) -> Result<(), NoMemory> {
+    all_unified(&rt, rt.alloc(), QUOTED, OVER_QUOTED)
+}
+
+#[test]
+fn a_module_without_its_end_is_refused(rt: HostRuntime) -> Result<(), NoMemory> {
+    let unended = FREE.strip_suffix("endfm\n").unwrap_or("");
+    tell(&rt, rt.alloc(), unended.as_bytes(), "X =? X", "module 2")
 }
 
 #[test]

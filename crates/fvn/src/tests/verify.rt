@@ -1,5 +1,5 @@
 //! What `verify` says of bindings.
-use super::{USAGE, answer, plain};
+use super::{USAGE, assert_answer};
 use fvn_terms::NoMemory;
 use fvn_tool::Status;
 use std::alloc::Global;
@@ -157,11 +157,15 @@ fn tell(
     said: &str,
 ) -> Result<(), NoMemory> {
     let words = words_of(alloc, row)?;
-    let (status, written) = answer(alloc, &plain(words.as_slice(), module.as_bytes()))?;
     let line = format!(in alloc; "{said}\n")?;
-    assert_eq!(rt; status, status_of(said), "{row}");
-    assert!(rt; written.as_slice() == line.as_bytes(), "{row}");
-    Ok(())
+    assert_answer(
+        rt,
+        alloc,
+        words.as_slice(),
+        module.as_bytes(),
+        status_of(said),
+        line.as_bytes(),
+    )
 }
 
 // A row of words and what is said of them in this module.
@@ -225,10 +229,14 @@ a =? a | -x";
 // The words are no command.
 fn refused(rt: &impl Abort, alloc: Global, row: &str) -> Result<(), NoMemory> {
     let words = words_of(alloc, row)?;
-    let (status, written) = answer(alloc, &plain(words.as_slice(), LOOP.as_bytes()))?;
-    assert_eq!(rt; status, Status::Usage, "{row}");
-    assert!(rt; written.as_slice() == USAGE.as_bytes(), "{row}");
-    Ok(())
+    assert_answer(
+        rt,
+        alloc,
+        words.as_slice(),
+        LOOP.as_bytes(),
+        Status::Usage,
+        USAGE.as_bytes(),
+    )
 }
 
 #[test]

@@ -6,10 +6,10 @@ ghost use Rattle.fvn_flat.specs.Fits.{Fits};
 ghost use Rattle.fvn_flat.specs.Problems.{variables_of};
 ghost use Rattle.fvn_flat.specs.Solving.{IsGiven, problem_of, symbols_of_pairs};
 
-use super::terms::are_sides;
 use fvn_binding::variables;
 use fvn_flat::Pairs;
 use fvn_nodes::table_of;
+use fvn_samples::are_sides;
 use fvn_sorts::Signature;
 use fvn_terms::{NoMemory, Var};
 use std::alloc::{AllocError, Global};

@@ -5,15 +5,14 @@ ghost use Rattle.fvn_flat.specs.Bindings.{BindingsFit};
 ghost use Rattle.fvn_flat.specs.Fits.{Fits};
 ghost use Rattle.fvn_flat.specs.Solving.{IsGiven, symbols_of_pairs};
 
-use super::given::is_given;
-use super::terms::{read, read_problem};
+use super::tables::push_after;
 use fvn_combine::{CombineEnd, Combiner};
-use fvn_flat::{Pairs, Subst};
+use fvn_flat::{Flat, Pairs, Subst};
 use fvn_match::matches;
+use fvn_samples::flat_of;
 use fvn_sorts::Signature;
 use fvn_terms::NoMemory;
 use std::alloc::{AllocError, AllocFailed, Global};
-use std::process::Abort;
 
 /// The next unifier; the name of an end is written.
 fn next(combiner: &mut Combiner, out: &mut String) -> Result<Option<Subst>, NoMemory>
@@ -95,42 +94,52 @@ fn push_wrong(
     Ok(())
 }
 
-/// Whether the values that are written, each behind its variable, are instances of the substitution's by one matcher.
-fn is_instance(
-    rt: &impl Abort,
+/// A variable's term under the substitution, and the value that is written behind the variable.
+fn sides_of(
     alloc: Global,
     sig: &Signature,
     g: &Subst,
     text: &str,
-) -> Result<bool, NoMemory>
+) -> Result<Option<(Flat, Flat)>, NoMemory>
+    requires subst { BindingsFit sig.now g.now }
+    ensures { IfOk result (λ o. IfSome o (λ p. Fits sig.now p.0 × Fits sig.now p.1)) }
+{
+    let (x, word) = text.split_once(' ').unwrap_or((text, text));
+    let Some(v) = flat_of(alloc, sig, x)? else {
+        return Ok(None);
+    };
+    let Some(target) = flat_of(alloc, sig, word)? else {
+        return Ok(None);
+    };
+    let pattern = g.apply(alloc, sig, &v)?;
+    Ok(Some((pattern, target)))
+}
+
+/// Whether the values that are written, each behind its variable, are instances of the substitution's by one matcher.
+fn is_instance(alloc: Global, sig: &Signature, g: &Subst, text: &str) -> Result<bool, NoMemory>
     requires subst { BindingsFit sig.now g.now }
 {
     let mut patterns = Vec::new(alloc);
     let mut targets = Vec::new(alloc);
     for pair in text.split("; ") {
-        let (x, word) = pair.split_once(' ').unwrap_or((pair, pair));
-        let v = read(rt, alloc, sig, x)?;
-        let pattern = g.apply(alloc, sig, &v)?;
-        let target = read(rt, alloc, sig, word)?;
-        patterns.push(pattern)?;
-        targets.push(target)?;
+        match sides_of(alloc, sig, g, pair)? {
+            Some((pattern, target)) => {
+                patterns.push(pattern)?;
+                targets.push(target)?;
+            }
+            None => return Ok(false),
+        }
     }
     let found = matches(alloc, sig, patterns.as_slice(), targets.as_slice())?;
     Ok(found.is_some())
 }
 
 /// Whether the values are instances of one of the substitutions.
-fn is_covered(
-    rt: &impl Abort,
-    alloc: Global,
-    sig: &Signature,
-    all: &[Subst],
-    text: &str,
-) -> Result<bool, NoMemory>
+fn is_covered(alloc: Global, sig: &Signature, all: &[Subst], text: &str) -> Result<bool, NoMemory>
     requires substs { All (BindingsFit sig.now) all.now }
 {
     for g in all {
-        if is_instance(rt, alloc, sig, g, text)? {
+        if is_instance(alloc, sig, g, text)? {
             return Ok(true);
         }
     }
@@ -139,7 +148,6 @@ fn is_covered(
 
 /// Writes of each list of values that is an instance of none that it is missing.
 fn push_missing(
-    rt: &impl Abort,
     alloc: Global,
     sig: &Signature,
     all: &[Subst],
@@ -152,7 +160,7 @@ fn push_missing(
         return Ok(());
     }
     for text in texts.split(" & ") {
-        if !is_covered(rt, alloc, sig, all, text)? {
+        if !is_covered(alloc, sig, all, text)? {
             out.push_str(" missing ")?;
             out.push_str(text)?;
         }
@@ -160,22 +168,16 @@ fn push_missing(
     Ok(())
 }
 
-fn push_digit(out: &mut String, number: usize) -> Result<(), NoMemory> {
-    out.push(char::from(b'0'.wrapping_add((number % 10) as u8)))?;
-    Ok(())
-}
-
 /// The last two digits.
 pub fn push_number(out: &mut String, number: usize) -> Result<(), NoMemory> {
     if number >= 10 {
-        push_digit(out, number / 10)?;
+        push_after(out, b'0', number / 10 % 10)?;
     }
-    push_digit(out, number)
+    push_after(out, b'0', number % 10)
 }
 
 /// What is found of the unifiers of pairs that may be given.
-fn push_found(
-    rt: &impl Abort,
+pub fn push_found(
     alloc: Global,
     sig: &Signature,
     problem: &Pairs,
@@ -192,22 +194,5 @@ fn push_found(
         push_number(out, all.len())?;
     }
     push_wrong(alloc, sig, problem, all.as_slice(), out)?;
-    push_missing(rt, alloc, sig, all.as_slice(), texts, out)
-}
-
-/// How many unifiers the problem is given, where they are counted, after the name of an end; then what is wrong with
-/// them, and which of the values are missing.
-pub fn shown(
-    rt: &impl Abort,
-    alloc: Global,
-    sig: &Signature,
-    text: &str,
-    texts: &str,
-    counted: bool,
-) -> Result<String, NoMemory> {
-    let mut out = String::new(alloc);
-    let problem = read_problem(rt, alloc, sig, text)?;
-    assert!(rt; is_given(alloc, sig, &problem)?);
-    push_found(rt, alloc, sig, &problem, texts, counted, &mut out)?;
-    Ok(out)
+    push_missing(alloc, sig, all.as_slice(), texts, out)
 }
