@@ -7,7 +7,7 @@ use Rattle.fvn_terms.specs.Rewriting.{Rewrites, TermSequence, IsReducible, IsIrr
 use Rattle.fvn_forms.specs.Flat.{FlatTerm, plain, symbols}
 use Rattle.fvn_flat.specs.Fits.{Fits}
 use Rattle.fvn_flat.specs.declared.solver.Normal.{Normal}
-use Rattle.fvn_flat.specs.declared.solver.Normal.TheVariants.{Form, Steps as OutOfSteps, Size}
+use Rattle.fvn_flat.specs.declared.solver.Normal.TheVariants.{Form, Steps, Size}
 
 -- the symbols of a form as they are counted, up to the greatest number
 abbrev pub counted : FlatTerm → ℕ
@@ -56,5 +56,5 @@ module _ (d : Declarations) (equations : Equations) where
     -- what a search for a normal form may end with
     abbrev pub IsNormalised : Normal → Type 0
     IsNormalised (Form u) = IsForm u
-    IsNormalised (OutOfSteps start u) = IsUnfinished start u
+    IsNormalised (Steps start u) = IsUnfinished start u
     IsNormalised (Size u) = IsTooLarge u

@@ -16,7 +16,7 @@ use std::alloc::Global;
 
 /// A form that one step leads to; nothing exactly where the term is irreducible modulo the axioms.
 ///
-/// Of the places at which a step is possible it takes the first, arguments before the form itself.
+/// It takes the first place at which a step is possible; the places of the arguments come before the form itself.
 pub fn step(
     alloc: Global,
     sig: &Signature,
