@@ -106,7 +106,7 @@ fn told(rt: &impl Abort, alloc: Global, text: &str, want: &str) -> Result<(), No
 
 // A row of a text and what is printed of it.
 fn row_told(rt: &impl Abort, alloc: Global, row: &str) -> Result<(), NoMemory> {
-    let (text, want) = row.split_once(" ==> ").unwrap_or((row, ""));
+    let (text, want) = row.split_once(" ==> ").unwrap_or((row, "no row"));
     told(rt, alloc, text, want)
 }
 
@@ -120,7 +120,7 @@ fn module_texts_are_told_or_refused(rt: HostRuntime) -> Result<(), NoMemory> {
 
 // A row of statements and what is printed of their module.
 fn body_told(rt: &impl Abort, alloc: Global, row: &str) -> Result<(), NoMemory> {
-    let (body, want) = row.split_once(" ==> ").unwrap_or((row, ""));
+    let (body, want) = row.split_once(" ==> ").unwrap_or((row, "no row"));
     let text = format!(in alloc; "fmod M is {body} endfm")?;
     told(rt, alloc, text.as_str(), want)
 }

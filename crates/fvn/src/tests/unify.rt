@@ -213,7 +213,7 @@ pub fn tell(
 
 // A row of a problem and what is printed of it.
 fn unified(rt: &impl Abort, alloc: Global, module: &str, row: &str) -> Result<(), NoMemory> {
-    let (problem, said) = row.split_once(" ==> ").unwrap_or((row, ""));
+    let (problem, said) = row.split_once(" ==> ").unwrap_or((row, "no row"));
     tell(rt, alloc, module.as_bytes(), problem, said)
 }
 

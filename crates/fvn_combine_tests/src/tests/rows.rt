@@ -61,7 +61,7 @@ fn assert_rows(
     lines: &str,
 ) -> Result<(), NoMemory> {
     for line in lines.lines() {
-        let (text, want) = line.split_once(" => ").unwrap_or((line, ""));
+        let (text, want) = line.split_once(" => ").unwrap_or((line, "no row"));
         let found = shown(alloc, sig, what, text, want)?;
         assert_eq!(rt; found.as_str(), want, "at {text}");
     }

@@ -125,8 +125,9 @@ fn found(
     counted: bool,
 ) -> Result<String, NoMemory> {
     let mut out = String::new(alloc);
-    if let Some(problem) = problem_of(alloc, sig, text)? {
-        push_unified(alloc, sig, &problem, texts, counted, &mut out)?;
+    match problem_of(alloc, sig, text)? {
+        Some(problem) => push_unified(alloc, sig, &problem, texts, counted, &mut out)?,
+        None => out.push_str("not read")?,
     }
     Ok(out)
 }

@@ -98,7 +98,7 @@ fn assert_marked<R: Threads + Abort + Sync>(
     workers: u32,
 ) -> Result<(), NoMemory> {
     for line in lines.lines() {
-        let (text, want) = line.split_once(" => ").unwrap_or((line, ""));
+        let (text, want) = line.split_once(" => ").unwrap_or((line, "no row"));
         let shown = shown_marked(rt, alloc, sig, text, workers)?;
         assert_eq!(rt; shown.as_str(), want, "at {text}");
     }

@@ -220,21 +220,21 @@ fn sized(alloc: Global, text: &str) -> Result<Option<SignatureBuilder>, NoMemory
 }
 
 fn assert_fault(rt: &impl Abort, alloc: Global, line: &str) -> Result<(), NoMemory> {
-    let (text, want) = line.split_once(" => ").unwrap_or((line, ""));
+    let (text, want) = line.split_once(" => ").unwrap_or((line, "no row"));
     let shown = shown_fault(alloc, collected(alloc, text)?)?;
     assert_eq!(rt; shown.as_str(), want, "at {text}");
     Ok(())
 }
 
 fn assert_size(rt: &impl Abort, alloc: Global, line: &str) -> Result<(), NoMemory> {
-    let (text, want) = line.split_once(" => ").unwrap_or((line, ""));
+    let (text, want) = line.split_once(" => ").unwrap_or((line, "no row"));
     let shown = shown_fault(alloc, sized(alloc, text)?)?;
     assert_eq!(rt; shown.as_str(), want, "at {text}");
     Ok(())
 }
 
 fn assert_answers(rt: &impl Abort, alloc: Global, block: &str) -> Result<(), NoMemory> {
-    let (text, want) = block.split_once('\n').unwrap_or((block, ""));
+    let (text, want) = block.split_once('\n').unwrap_or((block, "no row"));
     let shown = shown_answers(alloc, text)?;
     assert_eq!(rt; shown.as_str(), want, "at {text}");
     Ok(())

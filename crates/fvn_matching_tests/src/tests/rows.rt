@@ -60,7 +60,7 @@ fn assert_rows(
     lines: &str,
 ) -> Result<(), NoMemory> {
     for line in lines.lines() {
-        let (text, want) = line.split_once(" => ").unwrap_or((line, ""));
+        let (text, want) = line.split_once(" => ").unwrap_or((line, "no row"));
         let found = shown(alloc, sig, what, text, want)?;
         assert_eq!(rt; found.as_str(), want, "at {text}");
     }
@@ -68,7 +68,7 @@ fn assert_rows(
 }
 
 fn assert_block(rt: &impl Abort, alloc: Global, what: Asked, block: &str) -> Result<(), NoMemory> {
-    let (text, lines) = block.split_once('\n').unwrap_or((block, ""));
+    let (text, lines) = block.split_once('\n').unwrap_or((block, "no row"));
     match signature_of(alloc, text)? {
         Some(sig) => assert_rows(rt, alloc, &sig, what, lines),
         None => {

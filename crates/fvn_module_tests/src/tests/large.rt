@@ -122,7 +122,7 @@ fn equation(alloc: Global, what: &str, count: u32) -> Result<String, NoMemory> {
 }
 
 fn assert_large(rt: &impl Abort, alloc: Global, line: &str) -> Result<(), NoMemory> {
-    let (text, want) = line.split_once(" => ").unwrap_or((line, ""));
+    let (text, want) = line.split_once(" => ").unwrap_or((line, "no row"));
     let (count, what) = text.split_once(' ').unwrap_or((text, ""));
     let written = statements(alloc, what, count.parse::<u32>().unwrap_or(0))?;
     assert_statements(rt, alloc, written.as_str(), want)

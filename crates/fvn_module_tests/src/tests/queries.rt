@@ -293,7 +293,7 @@ fn told(alloc: Global, text: &str) -> Result<String, NoMemory> {
 }
 
 fn check_one(rt: &impl Abort, alloc: Global, block: &str) -> Result<(), NoMemory> {
-    let (text, want) = block.rsplit_once('\n').unwrap_or((block, ""));
+    let (text, want) = block.rsplit_once('\n').unwrap_or((block, "no row"));
     let got = told(alloc, text)?;
     assert_eq!(rt; got.as_str(), want, "at {text}");
     Ok(())
