@@ -1,9 +1,9 @@
 -- What a search for a normal form ends with, by its last turn.
-use Rattle.std.proofs.Common.{◌≡◌, ◌≤◌, ◌<◌, ℕ, subst}
+use Rattle.std.proofs.Common.{◌≡◌, ◌≤◌, ℕ, subst}
 use Rattle.fvn_terms.specs.declared.declarations.Declarations.{Declarations}
 use Rattle.fvn_terms.specs.Theory.{Equations}
 use Rattle.fvn_forms.specs.Flat.{FlatTerm, plain}
-use Rattle.fvn_rewrite.specs.Normalised.{counted, IsReached, IsForm, IsUnfinished, IsTooLarge}
+use Rattle.fvn_rewrite.specs.Normalised.{IsReached, IsForm, IsUnfinished, IsTooLarge}
 use Rattle.fvn_rewrite.specs.inner.Turns.{TurnAs}
 use Rattle.fvn_rewrite.specs.declared.normalising.Turn.TheVariants.{Large, Irreducible, Next}
 

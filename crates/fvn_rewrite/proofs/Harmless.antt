@@ -1,5 +1,5 @@
 -- Equations of a module none of whose left sides is at fault.
-use Rattle.std.proofs.Common.{◌≡◌, sym, subst}
+use Rattle.std.proofs.Common.{sym, subst}
 use Rattle.std.proofs.lemmas.List.Elements.{All-contains}
 use Rattle.fvn_base.proofs.Membership.{map_contains}
 use Rattle.fvn_terms.specs.declared.declarations.Declarations.{Declarations}

@@ -1,10 +1,10 @@
 -- Redexes at places of a form: at the form itself, or at a place of an argument.
-use Rattle.std.proofs.Common.{◌≡◌, [], ◌∷◌, Option, Some, None, All}
+use Rattle.std.proofs.Common.{◌≡◌, Option, Some, None, All}
 use Rattle.std.proofs.lemmas.List.Elements.{All-nil, All-head, All-tail}
 use Rattle.fvn_terms.specs.declared.declarations.Declarations.{Declarations}
 use Rattle.fvn_terms.specs.Theory.{Equations}
 use Rattle.fvn_terms.proofs.Equal.{BEqual-refl}
-use Rattle.fvn_forms.specs.Flat.{FlatTerm, FlatTerms, fvar, fapp, fnone, fmore, funpack, plain}
+use Rattle.fvn_forms.specs.Flat.{FlatTerm, FlatTerms, fvar, fapp, funpack, plain}
 use Rattle.fvn_flat.specs.Forms.{head_of, args_of}
 use Rattle.fvn_flat.specs.FlatPlaces.{IsReplaced, IsReplacedAmong, here, inside, first, later}
 use Rattle.fvn_coherence.specs.PlacedSteps.{IsRedex}

@@ -1,16 +1,15 @@
 -- One argument of a form replaced.
-use Rattle.std.proofs.Common.{◌≡◌, ℕ, zero, suc, ◌+◌, ◌≤◌, Bool, true, false, List, [], ◌∷◌, ◌++◌, map, length, take, drop, Some, None, refl, sym, ap, ◌∙◌, subst, arith}
-use Rattle.std.specs.Prelude.{Contains, slice_get}
+use Rattle.std.proofs.Common.{◌≡◌, ℕ, zero, suc, ◌+◌, ◌≤◌, true, false, List, [], ◌∷◌, ◌++◌, map, length, take, drop, Some, refl, sym, ap, ◌∙◌, subst, arith}
+use Rattle.std.specs.Prelude.{slice_get}
 use Rattle.std.specs.List.{AllByRecursion}
 use Rattle.std.proofs.lemmas.List.{length-append}
 use Rattle.fvn_terms.specs.declared.plain.OpId.{OpId}
 use Rattle.fvn_terms.specs.declared.plain.SortId.{SortId}
 use Rattle.fvn_terms.specs.declared.declarations.Axioms.{Axioms}
 use Rattle.fvn_terms.specs.declared.declarations.Axioms.TheVariants.{Free, Comm, AssocComm, AssocCommId}
-use Rattle.fvn_terms.specs.declared.declarations.Rank.{Rank}
 use Rattle.fvn_terms.specs.declared.declarations.Declarations.{Declarations}
 use Rattle.fvn_terms.specs.Term.{Term, Terms, app, none, more}
-use Rattle.fvn_terms.specs.Signature.{kind, declared, axioms, HasKind, HaveKinds}
+use Rattle.fvn_terms.specs.Signature.{kind, axioms, HasKind, HaveKinds}
 use Rattle.fvn_terms.specs.Places.{AtOnePlace, AmongOnePlace, here, inside, first, later}
 use Rattle.fvn_terms.specs.Equality.{IsAssociative, BEqual}
 use Rattle.fvn_terms.specs.Theory.{Equations}
@@ -20,13 +19,13 @@ use Rattle.fvn_terms.proofs.Equal.{BEqual-refl}
 use Rattle.fvn_forms.specs.Flat.{FlatTerm, FlatTerms, fvar, fapp, fnone, fmore, fpack, funpack, nest, nest_all, plain, plain_all}
 use Rattle.fvn_forms.specs.Settled.{FitsUnjoined, Settled}
 use Rattle.fvn_forms.specs.FitsKinds.{FitsKinds}
-use Rattle.fvn_forms.proofs.Sums.{funpack-fpack, fpack-funpack}
+use Rattle.fvn_forms.proofs.Sums.{fpack-funpack}
 use Rattle.fvn_forms.proofs.KindsOfSums.{nest_parts_of_kind}
 use Rattle.fvn_flat.specs.Forms.{head_of, args_of}
 use Rattle.fvn_flat.specs.Fits.{Fits, AllFit, AllOfKind, TakesAsDeclared, Takes, operator_over, plain_over}
 use Rattle.fvn_rewriting.specs.Kinds.{HaveOneKind}
 use Rattle.fvn_rewriting.specs.Laws.{KindedTheoriesAreLawful}
-use Rattle.fvn_rewrite.specs.inner.Walking.{ArgumentSteps, IsNext}
+use Rattle.fvn_rewrite.specs.inner.Walking.{ArgumentSteps}
 
 split_suc : (l : List FlatTerm) (i : ℕ) (a : FlatTerm) → slice_get l i ≡ Some a → l ≡ take i l ++ a ∷ drop (suc i) l
 split_suc [] i a e = cc

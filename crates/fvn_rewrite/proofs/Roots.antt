@@ -1,5 +1,5 @@
 -- Steps at the root: what the rules make of a form.
-use Rattle.std.proofs.Common.{◌≡◌, List, [], ◌∷◌, Option, Some, None, ℕ, All, sym, ap, ◌∙◌, subst, inl, inr}
+use Rattle.std.proofs.Common.{◌≡◌, List, Option, Some, None, ℕ, sym, subst, inl, inr}
 use Rattle.std.specs.Prelude.{Contains, slice_get}
 use Rattle.std.proofs.lemmas.List.Elements.{All-contains, All-weaker, All-contains_itself}
 use Rattle.std.proofs.lemmas.Option.{slice_get_within, get_or_from_slice_get}
@@ -8,7 +8,6 @@ use Rattle.fvn_terms.specs.declared.plain.OpId.{OpId}
 use Rattle.fvn_terms.specs.declared.declarations.Declarations.{Declarations}
 use Rattle.fvn_terms.specs.Term.{Term, var}
 use Rattle.fvn_terms.specs.Substitution.{apply, followed_by}
-use Rattle.fvn_terms.specs.Signature.{IsTerm}
 use Rattle.fvn_terms.specs.Equality.{two, BEqual}
 use Rattle.fvn_terms.proofs.Substitutions.{apply-apply}
 use Rattle.fvn_terms.proofs.Equal.{BEqual-refl, BEqual-sym, BEqual-trans, BEqual-apply}
@@ -23,7 +22,6 @@ use Rattle.fvn_flat.specs.FlatPlaces.{here}
 use Rattle.fvn_flat.specs.Rules.{IsRuleFrom, IsRuleOf}
 use Rattle.fvn_rewriting.specs.Kinds.{HaveOneKind}
 use Rattle.fvn_rewriting.specs.Laws.{RulesAreLawful}
-use Rattle.fvn_module.specs.declared.equation.Equation.{Equation}
 use Rattle.fvn_cohere.specs.Promises.{sides_of, equations_of}
 use Rattle.fvn_coherence.specs.PlacedSteps.{IsRedex}
 use Rattle.fvn_coherence.specs.Laws.{RulesAreCoherent}

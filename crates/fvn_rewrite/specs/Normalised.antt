@@ -7,7 +7,7 @@ use Rattle.fvn_terms.specs.Rewriting.{Rewrites, TermSequence, IsReducible, IsIrr
 use Rattle.fvn_forms.specs.Flat.{FlatTerm, plain, symbols}
 use Rattle.fvn_flat.specs.Fits.{Fits}
 use Rattle.fvn_flat.specs.declared.solver.Normal.{Normal}
-use Rattle.fvn_flat.specs.declared.solver.Normal.TheVariants.{Form, Steps as OutOfSteps, Size}
+use Rattle.fvn_flat.specs.declared.solver.Normal.TheVariants.{Form, Steps, Size}
 
 -- the symbols of a form as they are counted, up to the greatest number
 abbrev pub counted : FlatTerm → ℕ
@@ -15,8 +15,8 @@ counted t = min (symbols t) (2 ^ 64 - 1)
 
 module _ (d : Declarations) (equations : Equations) where
   -- one step leads from the term of the first form to that of the second
-  abbrev pub Steps : FlatTerm → FlatTerm → Type 0
-  Steps t u = Rewrites d equations (plain t) (plain u)
+  abbrev pub StepsTo : FlatTerm → FlatTerm → Type 0
+  StepsTo t u = Rewrites d equations (plain t) (plain u)
 
   -- no step leads on from the term of the form
   abbrev pub IsNormalForm : FlatTerm → Type 0
@@ -56,5 +56,5 @@ module _ (d : Declarations) (equations : Equations) where
     -- what a search for a normal form may end with
     abbrev pub IsNormalised : Normal → Type 0
     IsNormalised (Form u) = IsForm u
-    IsNormalised (OutOfSteps start u) = IsUnfinished start u
+    IsNormalised (Steps start u) = IsUnfinished start u
     IsNormalised (Size u) = IsTooLarge u

@@ -46,10 +46,8 @@ fn take_turn(
     }
 }
 
-/// The normal form to which at most `steps` steps lead; else what as many steps lead to, or the first form on the way with
-/// over `size` symbols.
-///
-/// Each form is tested for its size before a step is sought, the first one too.
+/// A normal form to which at most `steps` steps lead; or what just so many lead to, where it is reducible; or what at
+/// most so many lead to, where it has over `size` symbols.
 pub fn normal(
     alloc: Global,
     sig: &Signature,
@@ -65,6 +63,7 @@ pub fn normal(
         (IsNormalised sig.now (equations_of rules.now.equations) t.now steps size) }
 {
     rewriting_is_lawful();
+    // Each form is tested for its size before a step is sought, the first one too.
     let mut reached = t.copy(alloc)?;
     let mut left = steps;
     loop {

@@ -29,9 +29,12 @@ fn first_match(
 {
     for rule in rules {
         let found = matches(alloc, sig, from_ref(&rule.left), from_ref(t))?;
-        if let Some(s) = found {
-            let u = s.apply(alloc, sig, &rule.right)?;
-            return Ok(Some(u));
+        match found {
+            Some(s) => {
+                let u = s.apply(alloc, sig, &rule.right)?;
+                return Ok(Some(u));
+            }
+            None => {}
         }
     }
     Ok(None)

@@ -4,7 +4,7 @@ ghost use Rattle.fvn_flat.specs.Fits.{Fits};
 ghost use Rattle.fvn_cohere.specs.Promises.{equations_of};
 ghost use Rattle.fvn_coherence.specs.Admissible.{AreAdmissible};
 ghost use Rattle.fvn_rules.specs.Given.{AreRules};
-ghost use Rattle.fvn_rewrite.specs.Normalised.{Steps, IsNormalForm};
+ghost use Rattle.fvn_rewrite.specs.Normalised.{StepsTo, IsNormalForm};
 
 use crate::walking::walk;
 use fvn_coherence::rules_are_coherent;
@@ -14,9 +14,9 @@ use fvn_sorts::Signature;
 use fvn_terms::NoMemory;
 use std::alloc::Global;
 
-/// A form that one step leads to; nothing where no step leads on, across identities and operators.
+/// A form that one step leads to; nothing exactly where the term is irreducible modulo the axioms.
 ///
-/// Of the places at which a step is possible it takes the first, arguments before the form itself.
+/// It takes the first place at which a step is possible; the places of the arguments come before the form itself.
 pub fn step(
     alloc: Global,
     sig: &Signature,
@@ -27,7 +27,7 @@ pub fn step(
     requires rules { AreRules sig.now rules.now }
     requires admissible { AreAdmissible sig.now (equations_of rules.now.equations) }
     ensures some { IfOk result (λ o.
-        IfSome o (Steps sig.now (equations_of rules.now.equations) t.now)) }
+        IfSome o (StepsTo sig.now (equations_of rules.now.equations) t.now)) }
     ensures fits { IfOk result (λ o. IfSome o (Fits sig.now)) }
     // Nothing is given only where the term is irreducible.
     ensures none { IfOk result (λ o.

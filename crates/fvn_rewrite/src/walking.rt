@@ -82,7 +82,8 @@ pub(crate) fn walk(
         Some(f) => {
             sig.recall_good();
             let ts = t.args();
-            for i in 0..ts.len() {
+            let count = ts.len();
+            for i in 0..count {
                 let found = walk(alloc, sig, rules, &ts[i])?;
                 if let Some(u) = found {
                     let whole = with_argument(alloc, sig, rules, f, t, i, u)?;

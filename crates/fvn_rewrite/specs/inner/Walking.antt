@@ -1,16 +1,16 @@
 -- What comes of a walk over the places of a form.
-use Rattle.std.specs.Prelude.{◌≡◌, ℕ, List, Option, Some, None, slice_get}
+use Rattle.std.specs.Prelude.{◌≡◌, ℕ, Option, Some, None, slice_get}
 use Rattle.fvn_terms.specs.declared.declarations.Declarations.{Declarations}
 use Rattle.fvn_terms.specs.Term.{Term}
 use Rattle.fvn_terms.specs.Theory.{Equations}
-use Rattle.fvn_forms.specs.Flat.{FlatTerm, plain}
+use Rattle.fvn_forms.specs.Flat.{FlatTerm}
 use Rattle.fvn_flat.specs.Forms.{args_of}
 use Rattle.fvn_flat.specs.Fits.{Fits}
 use Rattle.fvn_cohere.specs.Promises.{equations_of}
 use Rattle.fvn_coherence.specs.Admissible.{AreAdmissible}
 use Rattle.fvn_coherence.specs.PlacedSteps.{IsRedex, StepsAtPlace}
 use Rattle.fvn_rules.specs.Given.{RuleLists, AreRules}
-use Rattle.fvn_rewrite.specs.Normalised.{Steps}
+use Rattle.fvn_rewrite.specs.Normalised.{StepsTo}
 
 module _ (d : Declarations) where
   -- the rules of admissible equations
@@ -29,7 +29,7 @@ module _ (d : Declarations) where
 
     -- one step leads from the first form to the second, which fits
     pub record IsNext (t u : FlatTerm) : Type 0 where
-      pub steps : Steps d equations t u
+      pub steps : StepsTo d equations t u
       pub fits : Fits d u
 
     -- one step leads from the argument at this place to the form

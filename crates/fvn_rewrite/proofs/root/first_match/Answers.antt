@@ -33,7 +33,7 @@ loop-rule-preserved c =
     let d = c.args.sig.now in
     let t = c.args.t.now in
     let rule = c.rule-item.result in
-    let none = c.in_ok-found.ensures.none c.in_default.is in
+    let none = c.in_ok-found.ensures.none c.in-None.is in
     let here : HasNoMatch d t rule =
     subst (λ ps. HasNoMatcher d ps (t ∷ [])) c.from_ref.ensures.value (subst (λ ts. HasNoMatcher d c.from_ref.result.now ts) c.from_ref-in-loop-rule.ensures.value none) in
     All-more (HasNoMatch d t) c.args.rules.now c.loop-rule.rule-index rule c.loop-rule-test.true c.loop-rule.invariant (subst (HasNoMatch d t) c.rule-item.is here)
@@ -53,8 +53,8 @@ returns-in-Some c =
       by = substitution s;
       well_sorted = here.0;
       left = here.1.0;
-      right = c.in_ok-u.ensures.equal;
-      fits = c.in_ok-u.ensures.fits;
+      right = c.in_ok-u-in-Some.ensures.equal;
+      fits = c.in_ok-u-in-Some.ensures.fits;
     }
 
 pub returns : goal.returns

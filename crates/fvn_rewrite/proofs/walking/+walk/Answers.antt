@@ -1,5 +1,5 @@
 -- One argument more, and the form itself.
-use Rattle.std.proofs.Common.{◌≡◌, ◌<◌, length, All, Some, refl, sym, ◌∙◌, subst, arith}
+use Rattle.std.proofs.Common.{◌≡◌, ◌<◌, ◌≤◌, length, All, Some, refl, sym, ◌∙◌, subst, arith}
 use Rattle.std.specs.Prelude.{slice_get}
 use Rattle.std.proofs.lemmas.List.{take_all}
 use Rattle.std.proofs.lemmas.List.Elements.{All-nil, All-more}
@@ -15,23 +15,25 @@ use Rattle.fvn_rewrite.proofs.walking.+walk.Goals as goal
 pub walk-requires : goal.walk-requires
 walk-requires t c =
     let d = c.args.sig.now in
-    let ts = c.args-ts.result.now in (
-      omega (arith, argument_is_smaller c.args.t.now ts c.loop-i.i c.index-ts-i.result c.args-ts.ensures.exact c.loop-i-test.true c.index-ts-i.is),
-      (c.requires.rules, each_at (Fits d) ts (c.args-ts.ensures.fit d c.recall_good.ensures.fits c.requires.term) c.loop-i.i c.index-ts-i.result c.loop-i-test.true c.index-ts-i.is),
+    let ts = c.args-ts.result.now in
+    let within : c.loop-i.i < length ts = omega (arith, c.loop-i-test.true) in (
+      omega (arith, argument_is_smaller c.args.t.now ts c.loop-i.i c.index-ts-i.result c.args-ts.ensures.exact within c.index-ts-i.is),
+      (c.requires.rules, each_at (Fits d) ts (c.args-ts.ensures.fit d c.recall_good.ensures.fits c.requires.term) c.loop-i.i c.index-ts-i.result within c.index-ts-i.is),
     )
 
 pub with_argument-requires : goal.with_argument-requires
 with_argument-requires t c =
     let ts = c.args-ts.result.now in
     let u = c.index-ts-i.result in
-    let i = c.loop-i.i in record {
+    let i = c.loop-i.i in
+    let within : i < length ts = omega (arith, c.loop-i-test.true) in record {
       rules = c.requires.rules;
       term = c.requires.term;
       head = sym c.head.ensures ∙ c.in-Some.is;
-      within = subst (λ l. i < length l) c.args-ts.ensures.exact c.loop-i-test.true;
+      within = subst (λ l. i < length l) c.args-ts.ensures.exact within;
       step = record {
         argument = u;
-        is = subst (λ l. slice_get l i ≡ Some u) c.args-ts.ensures.exact (slice_get_read ts (length ts) i u refl c.loop-i-test.true c.index-ts-i.is);
+        is = subst (λ l. slice_get l i ≡ Some u) c.args-ts.ensures.exact (slice_get_read ts (length ts) i u refl within c.index-ts-i.is);
         next = rw c.in-Some-found.is at c.in_ok-found-in-Some.ensures;
       };
     }
@@ -42,8 +44,9 @@ loop-i-init t c = All-nil (HasNoRedex c.args.sig.now (equations_of c.args.rules.
 pub loop-i-preserved : goal.loop-i-preserved
 loop-i-preserved t c =
     let P = HasNoRedex c.args.sig.now (equations_of c.args.rules.now.equations) in
+    let within : c.loop-i.i < length c.args-ts.result.now = omega (arith, c.loop-i-test.true) in
     let here : P c.index-ts-i.result = rw c.in_default.is at c.in_ok-found-in-Some.ensures in
-    All-more P c.args-ts.result.now c.loop-i.i c.index-ts-i.result c.loop-i-test.true c.loop-i.invariant (subst P c.index-ts-i.is here)
+    All-more P c.args-ts.result.now c.loop-i.i c.index-ts-i.result within c.loop-i.invariant (subst P c.index-ts-i.is here)
 
 pub root_step-requires : goal.root_step-requires
 root_step-requires t c = record { rules = c.requires.rules; term = c.requires.term; head = sym c.head.ensures ∙ c.in-Some.is }
@@ -54,5 +57,6 @@ returns-in-None t c = headless_has_no_redex c.args.sig.now (equations_of c.args.
 pub returns-in_ok-given-in-Some : goal.returns-in_ok-given-in-Some
 returns-in_ok-given-in-Some t c =
     let P = HasNoRedex c.args.sig.now (equations_of c.args.rules.now.equations) in
+    let end : length c.args-ts.result.now ≤ c.loop-i.i = omega (arith, c.loop-i-test.false) in
     walk_as c.args.sig.now (equations_of c.args.rules.now.equations) c.args.t.now c.in_ok-given-in-Some.given c.in_ok-given-in-Some.ensures
-    (subst (All P) (take_all c.loop-i.i c.args-ts.result.now c.loop-i-test.false ∙ c.args-ts.ensures.exact) c.loop-i.invariant)
+    (subst (All P) (take_all c.loop-i.i c.args-ts.result.now end ∙ c.args-ts.ensures.exact) c.loop-i.invariant)
