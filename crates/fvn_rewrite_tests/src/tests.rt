@@ -84,7 +84,42 @@ SORTED 2 3 g(g(a)) => a | form steps size
 GROW 3 5 f(a) => a | steps steps size
 GROW 4 5 f(a) => a | size steps size
 GROW 10 5 f(a) => a | size size size
-GROW 10 1 f(a) => a | size size size";
+GROW 10 1 f(a) => a | size size size
+PLUS 1 4 +(0,s(0)) => s(0) | form steps size
+PLUS 2 4 +(s(0),0) => s(0) | form steps size
+PLUS 2 5 +(s(0),s(0)) => s(s(0)) | form steps size
+PLUS 3 5 +(s(s(0)),0) => s(s(0)) | form steps size
+PLUS 3 7 +(s(s(0)),s(s(0))) => s(s(s(s(0)))) | form steps size
+PLUS 4 7 +(s(s(s(0))),s(0)) => s(s(s(s(0)))) | form steps size
+PLUS 6 13 +(s(s(s(s(s(0))))),s(s(s(s(s(0)))))) => s(s(s(s(s(s(s(s(s(s(0)))))))))) | form steps size
+PLUS 2 5 +(+(0,0),0) => 0 | form steps size
+PLUS 2 5 +(0,+(0,0)) => 0 | form steps size
+PLUS 1 6 s(s(+(0,s(X)))) => s(s(s(X))) | form steps size
+PLUS 1 4 +(s(X),0) => s(+(X,0)) | form steps size
+PLUS 0 4 +(X,s(0)) => +(X,s(0)) | form form size
+ENC 0 3 dec(X,Y) => dec(X,Y) | form form size
+ENC 0 5 dec(enc(a,k),Y) => dec(enc(a,k),Y) | form form size
+ENC 1 7 dec(enc(enc(a,k),k),k) => enc(a,k) | form steps size
+ENC 1 7 enc(dec(enc(X,k),k),k) => enc(X,k) | form steps size
+ENC 2 9 dec(dec(enc(enc(a,k),Y),Y),k) => a | form steps size
+GROUP 0 2 -(*(X,1)) => -(X) | form form size
+GROUP 1 3 -(-(X)) => X | form steps size
+GROUP 2 3 -(-(1)) => 1 | form steps size
+GROUP 1 6 *(X,Y,-(Y)) => X | form steps size
+GROUP 2 9 *(X,-(X),Y,-(Y)) => 1 | form steps size
+GROUP 1 5 -(-(*(X,Y))) => *(X,Y) | form steps size
+GROUP 2 7 *(-(-(X)),-(-(Y))) => *(X,Y) | form steps size
+COMM 0 3 c(b,b) => c(b,b) | form form size
+COMM 1 3 c(a,X) => X | form steps size
+COMM 1 5 c(X,c(Y,a)) => c(Y,X) | form steps size
+COMM 2 5 c(c(a,a),a) => a | form steps size
+XORN 2 5 _*_(X,X,mt) => mt | form steps size
+XORN 2 5 _*_(X,Y,X) => Y | form steps size
+COLLAPSE 0 1 h(e,e) => e | form form size
+COLLAPSE 1 3 h(e,f(a,b)) => c | form steps size
+COLLAPSE 1 5 h(a,f(a,b)) => h(a,c) | form steps size
+COLLAPSE 1 5 f(a,f(b,d)) => f(d,c) | form steps size
+SORTED 3 4 g(g(g(a))) => a | form steps size";
 
 // A row of the table.
 #[derive(Drop)]
@@ -201,8 +236,7 @@ fn outcomes(
     let both = outcome(alloc, sig, rules, from, to, steps, size)?;
     let fewer = outcome(alloc, sig, rules, from, to, steps.saturating_sub(1), size)?;
     let smaller = outcome(alloc, sig, rules, from, to, steps, size.saturating_sub(1))?;
-    let text = format!(in alloc; "{both} {fewer} {smaller}")?;
-    Ok(text)
+    Ok(format!(in alloc; "{both} {fewer} {smaller}")?)
 }
 
 // The same for the right sides of the last two equations.
@@ -221,8 +255,7 @@ fn outcomes_by(
     }
     let from = right_side(alloc, declared, count - 2)?;
     let to = right_side(alloc, declared, count - 1)?;
-    let text = outcomes(alloc, declared.signature(), rules, &from, &to, row)?;
-    Ok(text)
+    outcomes(alloc, declared.signature(), rules, &from, &to, row)
 }
 
 // The same by the rules of a module none of whose left sides is at fault.
@@ -233,8 +266,7 @@ fn outcomes_in(alloc: Global, declared: &Module, row: &Row<'_>) -> Result<String
         Some(_) => Ok(String::new(alloc)),
         None => {
             let rules = extend(alloc, declared)?;
-            let text = outcomes_by(alloc, declared, &rules, row)?;
-            Ok(text)
+            outcomes_by(alloc, declared, &rules, row)
         }
     }
 }
