@@ -21,17 +21,19 @@ tail-is : {A : Type 0} (x y : A) (xs ys : List A) → x ∷ xs ≡ y ∷ ys → 
 tail-is x y xs ys e = cc
 
 -- what holds of all holds of one among them
-all-at : {A : Type 0} (P : A → Type 0) (before after : List A) (p : A) → All P (before ++ p ∷ after) → P p
+pub all-at : {A : Type 0} (P : A → Type 0) (before after : List A) (p : A) → All P (before ++ p ∷ after) → P p
 all-at P [] after p h = All-head P p after h
 all-at P (x ∷ before) after p h = all-at P before after p (All-tail P x (before ++ p ∷ after) h)
 
--- the first of which something does not hold is at one place
-first-once : {A : Type 0} (P : A → Type 0) (b c : List A) (p q : A) (x y : List A) → b ++ p ∷ x ≡ c ++ q ∷ y → All P b → All P c → (P p → ⊥) → (P q → ⊥) → length b ≡ length c
-first-once P [] [] p q x y e h k n m = refl
+-- the first of which something does not hold is one, at one place
+pub first-once : {A : Type 0} (P : A → Type 0) (b c : List A) (p q : A) (x y : List A) → b ++ p ∷ x ≡ c ++ q ∷ y → All P b → All P c → (P p → ⊥) → (P q → ⊥) →
+    (length b ≡ length c) × (p ≡ q)
+first-once P [] [] p q x y e h k n m = (refl, head-is p q x y e)
 first-once P [] (c ∷ cs) p q x y e h k n m = absurd (n (subst P (sym (head-is p c x (cs ++ q ∷ y) e)) (All-head P c cs k)))
 first-once P (b ∷ bs) [] p q x y e h k n m = absurd (m (subst P (head-is b q (bs ++ p ∷ x) y e) (All-head P b bs h)))
 first-once P (b ∷ bs) (c ∷ cs) p q x y e h k n m =
-    ap suc (first-once P bs cs p q x y (tail-is b c (bs ++ p ∷ x) (cs ++ q ∷ y) e) (All-tail P b bs h) (All-tail P c cs k) n m)
+    let r = first-once P bs cs p q x y (tail-is b c (bs ++ p ∷ x) (cs ++ q ∷ y) e) (All-tail P b bs h) (All-tail P c cs k) n m in
+    (ap suc r.0, r.1)
 
 module _ (rewriting : RewritingIsLawful) (theory : TheoryEqualityIsLawful) (d : Declarations) (equations : Equations) (confluent : IsConfluent d equations) (s : Substitution) (pairs : List (Plain × Plain)) where
   -- pairs whose sides differ are not all equal
@@ -48,7 +50,7 @@ module _ (rewriting : RewritingIsLawful) (theory : TheoryEqualityIsLawful) (d : 
       a.number_is
       ∙ ap (λ i. i + 1)
       (first-once (AreEqual d equations s) a.before b.before a.pair b.pair a.after b.after (sym a.split ∙ b.split) (equal-before steps size a.before a.meet) (equal-before more_steps more_size b.before b.meet)
-      (a.apart confluent) (b.apart confluent))
+      (a.apart confluent) (b.apart confluent)).0
       ∙ sym b.number_is
 
 pub verdicts-agree : RewritingIsLawful → TheoryEqualityIsLawful → VerdictsAgree

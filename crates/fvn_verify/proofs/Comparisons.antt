@@ -24,7 +24,7 @@ split-at : {X : Type 0} (xs : List X) (i : ℕ) (x : X) → i < length xs → x 
 split-at xs i x within is = sym (take-append-drop i xs) ∙ ap (λ rest. take i xs ++ rest) (drop-at xs i x within is)
 
 -- the sides of pairs, and of more
-sides_in_turn-append : (ps qs : List (Plain × Plain)) → sides_in_turn (ps ++ qs) ≡ sides_in_turn ps ++ sides_in_turn qs
+pub sides_in_turn-append : (ps qs : List (Plain × Plain)) → sides_in_turn (ps ++ qs) ≡ sides_in_turn ps ++ sides_in_turn qs
 sides_in_turn-append [] qs = refl
 sides_in_turn-append (p ∷ ps) qs = ap (λ ts. p.0 ∷ p.1 ∷ ts) (sides_in_turn-append ps qs)
 

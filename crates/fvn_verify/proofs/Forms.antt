@@ -77,13 +77,15 @@ module _ (d : Declarations) (equations : Equations) (s : Substitution) (steps si
 
     pub are_different : (p : Plain × Plain) → AreKinded d p → (l r : FlatTerm) → IsFormOf d equations s steps size p.0 l → IsFormOf d equations s steps size p.1 r → (l ≡ r → ⊥) →
         AreDifferent d equations s steps size p l r
-    are_different p kinded l r left right n = record {
-      left_form = left;
-      right_form = right;
-      differ = n;
-      apart = λ confluent e.
-          let one : BEqual d (plain l) (plain r) =
-          (laws d fits equations kinds).one_normal_form confluent (instance d equations s p.0) (instance d equations s p.1) (plain l) (plain r) left.count right.count
-          (instance-kinded d s keeps (term p.0) kinded.0) e left.reached right.reached left.irreducible right.irreducible in
-          n (sym (canon_plain d l left.fits.flat) ∙ (same d fits (plain l) (plain r) left.fits.kinded right.fits.kinded).0 one ∙ canon_plain d r right.fits.flat);
-    }
+    are_different p kinded l r left right n =
+        let differ : BEqual d (plain l) (plain r) → ⊥ =
+        λ e. n (sym (canon_plain d l left.fits.flat) ∙ (same d fits (plain l) (plain r) left.fits.kinded right.fits.kinded).0 e ∙ canon_plain d r right.fits.flat) in
+        record {
+          left_form = left;
+          right_form = right;
+          differ = differ;
+          apart = λ confluent e.
+              differ
+              ((laws d fits equations kinds).one_normal_form confluent (instance d equations s p.0) (instance d equations s p.1) (plain l) (plain r) left.count right.count
+              (instance-kinded d s keeps (term p.0) kinded.0) e left.reached right.reached left.irreducible right.irreducible);
+        }

@@ -2,3 +2,4 @@
 mod Forms
 mod Comparisons
 mod Agreeing
+mod WithoutEquations

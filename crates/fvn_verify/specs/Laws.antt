@@ -1,10 +1,13 @@
 -- What is proved of all verdicts.
-use Rattle.std.specs.Prelude.{◌≡◌, ℕ, List}
+use Rattle.std.specs.Prelude.{◌≡◌, ℕ, List, [], All}
 use Rattle.fvn_terms.specs.declared.plain.Plain.{Plain}
 use Rattle.fvn_terms.specs.declared.declarations.Declarations.{Declarations}
+use Rattle.fvn_terms.specs.Signature.{KeepsKinds}
 use Rattle.fvn_terms.specs.Substitution.{Substitution}
 use Rattle.fvn_terms.specs.Theory.{Equations}
 use Rattle.fvn_terms.specs.Rewriting.{IsConfluent}
+use Rattle.fvn_forms.specs.FitsKinds.{FitsKinds}
+use Rattle.fvn_problems.specs.Problems.{AreOfOneKind}
 use Rattle.fvn_verify.specs.declared.verdict.Verdict.{Verdict}
 use Rattle.fvn_verify.specs.declared.verdict.Verdict.TheVariants.{Yes, No, Steps, Size}
 use Rattle.fvn_verify.specs.Verdicts.{IsVerdict}
@@ -29,3 +32,10 @@ VerdictsAgree =
     (d : Declarations) (equations : Equations) → IsConfluent d equations →
     (s : Substitution) (pairs : List (Plain × Plain)) (steps size more_steps more_size : ℕ) (v w : Verdict) →
     IsVerdict d equations s steps size pairs v → IsVerdict d equations s more_steps more_size pairs w → Agree v w
+
+-- Without equations there is one verdict at most on pairs under a substitution, whatever the limits on steps were.
+abbrev pub VerdictsWithoutEquationsAreDetermined : Type 0
+VerdictsWithoutEquationsAreDetermined =
+    (d : Declarations) → FitsKinds d → (s : Substitution) → KeepsKinds d s →
+    (pairs : List (Plain × Plain)) → All (AreOfOneKind d) pairs → (steps more_steps size : ℕ) (v w : Verdict) →
+    IsVerdict d [] s steps size pairs v → IsVerdict d [] s more_steps size pairs w → v ≡ w

@@ -5,6 +5,7 @@ use Rattle.fvn_terms.specs.declared.declarations.Declarations.{Declarations}
 use Rattle.fvn_terms.specs.Term.{Term}
 use Rattle.fvn_terms.specs.Plain.{term}
 use Rattle.fvn_terms.specs.Substitution.{Substitution, apply}
+use Rattle.fvn_terms.specs.Equality.{BEqual}
 use Rattle.fvn_terms.specs.Theory.{Equations, TEqual}
 use Rattle.fvn_terms.specs.Rewriting.{TermSequence, IsReducible, IsIrreducible, IsConfluent}
 use Rattle.fvn_forms.specs.Flat.{FlatTerm, plain, symbols}
@@ -61,7 +62,8 @@ module _ (d : Declarations) (equations : Equations) (s : Substitution) where
     abbrev pub MeetInForm : Plain × Plain → Type 0
     MeetInForm p = (f : FlatTerm) × (IsFormOf p.0 f × IsFormOf p.1 f)
 
-    -- The pair with this number is the first whose forms differ, and these are they; forms of all sides were found.
+    -- The pair with this number is the first whose forms differ modulo the axioms, and these are they; forms of all sides
+    -- were found.
     -- Where the equations are confluent, the sides of this pair are then not equal in the theory.
     pub record IsFirstDifference (pairs : List (Plain × Plain)) (number : ℕ) (left right : FlatTerm) : Type 0 where
       pub before : List (Plain × Plain)
@@ -72,7 +74,7 @@ module _ (d : Declarations) (equations : Equations) (s : Substitution) where
       pub meet : All MeetInForm before
       pub left_form : IsFormOf pair.0 left
       pub right_form : IsFormOf pair.1 right
-      pub differ : left ≡ right → ⊥
+      pub differ : BEqual d (plain left) (plain right) → ⊥
       pub found : All HasForm (sides_in_turn after)
       pub apart : IsConfluent d equations → AreEqual pair → ⊥
 

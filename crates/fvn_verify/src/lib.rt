@@ -6,6 +6,6 @@ mod laws;
 mod verdict;
 mod verifying;
 
-pub use laws::verdicts_agree;
+pub use laws::{verdicts_agree, verdicts_without_equations_are_determined};
 pub use verdict::Verdict;
 pub use verifying::verify;

@@ -5,9 +5,10 @@ use Rattle.fvn_terms.specs.declared.declarations.Declarations.{Declarations}
 use Rattle.fvn_terms.specs.Plain.{term}
 use Rattle.fvn_terms.specs.Signature.{IsTerm}
 use Rattle.fvn_terms.specs.Substitution.{Substitution}
+use Rattle.fvn_terms.specs.Equality.{BEqual}
 use Rattle.fvn_terms.specs.Theory.{Equations}
 use Rattle.fvn_terms.specs.Rewriting.{IsConfluent}
-use Rattle.fvn_forms.specs.Flat.{FlatTerm}
+use Rattle.fvn_forms.specs.Flat.{FlatTerm, plain}
 use Rattle.fvn_flat.specs.declared.solver.Normal.{Normal}
 use Rattle.fvn_flat.specs.declared.solver.Normal.TheVariants.{Form, Steps as OutOfSteps, Size as OutOfSize}
 use Rattle.fvn_cohere.specs.Promises.{equations_of}
@@ -50,7 +51,7 @@ module _ (d : Declarations) (equations : Equations) (s : Substitution) (steps si
   pub record AreDifferent (p : Plain × Plain) (left right : FlatTerm) : Type 0 where
     pub left_form : IsFormOf d equations s steps size p.0 left
     pub right_form : IsFormOf d equations s steps size p.1 right
-    pub differ : left ≡ right → ⊥
+    pub differ : BEqual d (plain left) (plain right) → ⊥
     pub apart : IsConfluent d equations → AreEqual d equations s p → ⊥
 
   -- the sides are equal and meet in a form, or have these forms, which differ
