@@ -5,8 +5,6 @@ mod choices;
 mod laws;
 mod prefix;
 mod solve;
-#[cfg(test)]
-mod tests;
 mod theory;
 
 pub use choices::Choices;

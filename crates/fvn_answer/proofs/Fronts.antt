@@ -18,8 +18,8 @@ use Rattle.fvn_lex.specs.Parts.{is_quoted_after}
 use Rattle.fvn_lex.specs.Join.{space}
 use Rattle.fvn_terms.specs.declared.plain.Var.{Var}
 use Rattle.fvn_syntax.specs.Pieces.{Text}
-use Rattle.fvn_answer.specs.Writing.{is_after}
-use Rattle.fvn_answer.specs.inner.Bytes.{bytes_of, beside, with_each, over_texts, put_text, sorted_texts}
+use Rattle.fvn_answer.specs.Writing.{is_after, bytes_of}
+use Rattle.fvn_answer.specs.inner.Bytes.{beside, with_each, over_texts, put_text, sorted_texts}
 use Rattle.fvn_answer.specs.inner.Fronts.{AtLeast, NoneIsNext, AreTips, HasTips, IsUpTo, IsFrontOf, arranged_if, HaveMore, HaveTexts, AreGathered, upto}
 use Rattle.fvn_answer.proofs.Least.{before-lt, before-not, not-before, before-split}
 use Rattle.fvn_answer.proofs.TextOrder.{not_after, after_trans, put-put}

@@ -1,5 +1,6 @@
 -- How values are written: each variable with its sort, and arguments that may be exchanged in byte order.
-use Rattle.std.specs.Prelude.{Bool, true, false, nat_lt, if◌then◌else◌, List, [], ◌∷◌, ◌++◌, map, slice_index_or}
+use Rattle.std.specs.Prelude.{ℕ, Bool, true, false, nat_lt, if◌then◌else◌, List, [], ◌∷◌, ◌++◌, map, slice_index_or}
+use Rattle.std.specs.Global.{Vec}
 use Rattle.std.specs.Ordering.{is_gt, nat_cmp}
 use Rattle.std.specs.Cmp.Lexicographic.{slice_cmp}
 use Rattle.fvn_lex.specs.Cut.{Piece}
@@ -17,6 +18,10 @@ use Rattle.fvn_syntax.specs.declared.names.Names.{Names}
 use Rattle.fvn_syntax.specs.Pieces.{Text}
 use Rattle.fvn_syntax.specs.Raw.{RawTerm, RawTerms, name, call, kind_variable, last, and, spell}
 use Rattle.fvn_answer.specs.Numberings.{new_name}
+
+-- the bytes of each text
+abbrev pub bytes_of : List (Vec ℕ) → List Text
+bytes_of = map (λ v. v.items)
 
 -- no space is asked for before the piece
 abbrev pub close : Piece → Laid

@@ -2,9 +2,8 @@
 ghost use Rattle.std.specs.Prelude.{◌≡◌, ◌<◌, ◌++◌, ◌∷◌, [], length, codes, IfOk, OnOk};
 ghost use Rattle.fvn_flat.specs.Fits.{Fits};
 ghost use Rattle.fvn_answer.specs.inner.Readable.{AreReadable};
-ghost use Rattle.fvn_answer.specs.Writing.{op_text};
+ghost use Rattle.fvn_answer.specs.Writing.{op_text, bytes_of};
 ghost use Rattle.fvn_answer.specs.Answers.{numbered, ended, FitsEnd, IsStepsLine, IsEndLine, AreInByteOrder, IsAnswerText};
-ghost use Rattle.fvn_answer.specs.inner.Bytes.{bytes_of};
 
 use crate::end::End;
 use crate::printed::Printed;

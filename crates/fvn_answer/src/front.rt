@@ -4,9 +4,9 @@ ghost use Rattle.fvn_terms.specs.declared.plain.Var.{Var};
 ghost use Rattle.fvn_terms.specs.Signature.{IsSort};
 ghost use Rattle.fvn_syntax.specs.Pieces.{Text};
 ghost use Rattle.fvn_answer.specs.Numberings.{new_name};
-ghost use Rattle.fvn_answer.specs.Writing.{is_after, text_of, sorted, written};
+ghost use Rattle.fvn_answer.specs.Writing.{is_after, text_of, sorted, written, bytes_of};
 ghost use Rattle.fvn_answer.specs.inner.Readable.{AreReadable};
-ghost use Rattle.fvn_answer.specs.inner.Bytes.{bytes_of, with_each, over_texts, IsPrintable};
+ghost use Rattle.fvn_answer.specs.inner.Bytes.{with_each, over_texts, IsPrintable};
 ghost use Rattle.fvn_answer.specs.inner.Fronts.{AtLeast, Agrees, HasTips, IsFrontOf, AreGathered, arranged_if, upto};
 
 use crate::texts::{arrange, may_exchange, number, operator, over, push_new, push_special};

@@ -6,8 +6,8 @@ ghost use Rattle.fvn_sorts.specs.Queries.{IsKind};
 ghost use Rattle.fvn_flat.specs.Forms.{variable_of, head_of};
 ghost use Rattle.fvn_answer.specs.Numberings.{number, new_name};
 ghost use Rattle.fvn_answer.specs.inner.Readable.{AreReadable};
-ghost use Rattle.fvn_answer.specs.Writing.{text_of, may_exchange, top, sorted, written};
-ghost use Rattle.fvn_answer.specs.inner.Bytes.{bytes_of, beside, over_texts, arranged_texts, IsPrintable};
+ghost use Rattle.fvn_answer.specs.Writing.{text_of, may_exchange, top, sorted, written, bytes_of};
+ghost use Rattle.fvn_answer.specs.inner.Bytes.{beside, over_texts, arranged_texts, IsPrintable};
 
 use fvn_flat::Flat;
 use fvn_sorts::{Signature, direct_subsorts_cover, direct_subsorts_of_kinds};

@@ -19,7 +19,7 @@ use Rattle.fvn_frames.specs.declared.reading.Sums.{Sums}
 use Rattle.fvn_frames.specs.declared.reading.Reading.{Reading}
 use Rattle.fvn_asking.specs.Listed.{tag_in}
 use Rattle.fvn_asking.specs.Aliases.{HasNoAlias}
-use Rattle.fvn_frames.specs.inner.Users.{IsSharedIn}
+use Rattle.fvn_frames.specs.Users.{IsSharedIn}
 use Rattle.fvn_plans.specs.Binding.{IsConstant}
 use Rattle.fvn_asking.specs.inner.Reads.{IsBoundIn, AreConstantsOf, HasOneOf, MayBeAliasIn}
 use Rattle.fvn_asking.proofs.Chosen.{chosen_all}

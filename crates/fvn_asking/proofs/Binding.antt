@@ -7,7 +7,7 @@ use Rattle.fvn_nodes.specs.Table.{NodeTable, IsWellMade}
 use Rattle.fvn_nodes.specs.States.{IsClosed, class_of}
 use Rattle.fvn_nodes.specs.declared.state.State.{State}
 use Rattle.fvn_frames.specs.Readings.{IsReading}
-use Rattle.fvn_frames.specs.inner.Users.{head_of}
+use Rattle.fvn_frames.specs.Users.{head_of}
 use Rattle.fvn_frames.specs.declared.reading.Sums.{Sums}
 use Rattle.fvn_frames.specs.declared.reading.Reading.{Reading}
 use Rattle.fvn_plans.specs.Binding.{IsBound, solid, alone, tagged}

@@ -17,7 +17,7 @@ use Rattle.fvn_nodes.proofs.Admitting.{named_within}
 use Rattle.fvn_sums.specs.NodeSystems.{IsNodeColumn}
 use Rattle.fvn_frames.specs.Frames.{IsSumOperator, IsSolid, Uses, IsShared}
 use Rattle.fvn_frames.specs.Readings.{AreSums, IsReading}
-use Rattle.fvn_frames.specs.inner.Users.{IsWholeSums, IsWhole, IsMarked, IsUserAt, HasTwoUsers, head_of, IsSharedIn}
+use Rattle.fvn_frames.specs.Users.{IsWholeSums, IsWhole, IsMarked, IsUserAt, HasTwoUsers, head_of, IsSharedIn}
 use Rattle.fvn_frames.specs.declared.reading.Sums.{Sums}
 use Rattle.fvn_frames.specs.declared.reading.Reading.{Reading}
 

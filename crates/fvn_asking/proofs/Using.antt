@@ -4,7 +4,7 @@ use Rattle.std.specs.Prelude.{is_some}
 use Rattle.std.proofs.lemmas.Bool.{cases_lt}
 use Rattle.std.proofs.lemmas.Option.{slice_get_within, slice_get-get_or}
 use Rattle.fvn_frames.specs.declared.reading.Sums.{Sums}
-use Rattle.fvn_frames.specs.inner.Users.{IsMarked, IsUserAt, IsFirstUser, HasTwoUsers}
+use Rattle.fvn_frames.specs.Users.{IsMarked, IsUserAt, IsFirstUser, HasTwoUsers}
 
 -- the operator at a place is the one that is read there
 entry_is : (sums : List Sums) (i k : ℕ) (item : Sums) → i < length sums → item ≡ get_or sums i item → (u : IsUserAt sums i k) → u.entry ≡ item

@@ -4,7 +4,7 @@ ghost use Rattle.fvn_lindio.specs.Systems.{vectors_of};
 ghost use Rattle.fvn_acunify.specs.ValidChoice.{chosen, column_sum};
 ghost use Rattle.fvn_nodes.specs.States.{IsClosed, class_of};
 ghost use Rattle.fvn_frames.specs.Readings.{IsReading};
-ghost use Rattle.fvn_frames.specs.inner.Users.{IsWholeSums, IsWhole, IsSharedIn};
+ghost use Rattle.fvn_frames.specs.Users.{IsWholeSums, IsWhole, IsSharedIn};
 ghost use Rattle.fvn_asking.specs.Listed.{tag_in};
 ghost use Rattle.fvn_asking.specs.Aliases.{HasNoAlias};
 ghost use Rattle.fvn_asking.specs.inner.Reads.{IsBoundIn, HasOneOf, IsAloneAt, MayBeAliasIn};

@@ -4,7 +4,7 @@ ghost use Rattle.fvn_terms.specs.Signature.{axioms};
 ghost use Rattle.fvn_flat.specs.Partitions.{HasNoIdentity};
 ghost use Rattle.fvn_nodes.specs.States.{IsClosed, class_of};
 ghost use Rattle.fvn_frames.specs.Readings.{IsReading};
-ghost use Rattle.fvn_frames.specs.inner.Users.{IsWholeSums, IsWhole};
+ghost use Rattle.fvn_frames.specs.Users.{IsWholeSums, IsWhole};
 ghost use Rattle.fvn_plans.specs.Binding.{AreAsked};
 ghost use Rattle.fvn_asking.specs.Listed.{tag_in};
 ghost use Rattle.fvn_asking.specs.inner.Reads.{

@@ -3,7 +3,7 @@ ghost use Rattle.std.specs.Prelude.{◌≡◌, ◌↔◌, ◌<◌, length, Conta
 ghost use Rattle.fvn_nodes.specs.States.{IsClosed, class_of};
 ghost use Rattle.fvn_frames.specs.Frames.{IsShared, Uses};
 ghost use Rattle.fvn_frames.specs.Readings.{IsReading};
-ghost use Rattle.fvn_frames.specs.inner.Users.{IsWhole};
+ghost use Rattle.fvn_frames.specs.Users.{IsWhole};
 
 use crate::users::{is_shared, is_user};
 use fvn_frames::{Reading, Sums};

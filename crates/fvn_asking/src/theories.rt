@@ -4,7 +4,7 @@ ghost use Rattle.fvn_lindio.specs.Systems.{coefficients_of};
 ghost use Rattle.fvn_acunify.specs.Theory.{IsOneTheory};
 ghost use Rattle.fvn_nodes.specs.States.{IsClosed, class_of};
 ghost use Rattle.fvn_frames.specs.Readings.{IsReading};
-ghost use Rattle.fvn_frames.specs.inner.Users.{IsWholeSums, IsWhole};
+ghost use Rattle.fvn_frames.specs.Users.{IsWholeSums, IsWhole};
 ghost use Rattle.fvn_plans.specs.Binding.{AreAsked};
 ghost use Rattle.fvn_asking.specs.Listed.{tag_in};
 ghost use Rattle.fvn_asking.specs.inner.Reads.{AreConstantsOf, AreMarksOf};

@@ -1,13 +1,6 @@
 //! Which operators use a class.
 ghost use Rattle.std.specs.Prelude.{◌≡◌, ◌↔◌, ◌<◌, length, All, IsTrue};
-ghost use Rattle.fvn_frames.specs.inner.Users.{
-  IsWholeSums,
-  IsWhole,
-  IsMarked,
-  IsFirstUser,
-  HasTwoUsers,
-  IsSharedIn,
-};
+ghost use Rattle.fvn_frames.specs.Users.{IsWholeSums, IsWhole, IsMarked, IsFirstUser, HasTwoUsers, IsSharedIn};
 
 use fvn_frames::{Reading, Sums};
 

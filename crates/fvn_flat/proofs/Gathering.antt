@@ -18,7 +18,8 @@ use Rattle.fvn_forms.proofs.InOrder.{count_append, count_sort}
 use Rattle.fvn_forms.proofs.Sums.{same_op_itself, same_op_is, parts_sum, sum_same_counts, all_parts_are_pieces, all_parts-append}
 use Rattle.fvn_forms.proofs.Build.{build_sum}
 use Rattle.fvn_forms.proofs.Eval.{fvar_settled, eval_all_settled}
-use Rattle.fvn_flat.specs.inner.Gathered.{joins, gathered_of, gathered, IsNested}
+use Rattle.fvn_flat.specs.inner.Gathered.{gathered_of, gathered, IsNested}
+use Rattle.fvn_flat.specs.Joining.{joins}
 
 -- the nodes of an argument
 pub nodes_at : (items : List Plain) (i : ℕ) (t : Plain) → i < length items → t ≡ get_or items i t → nodes (term t) ≤ nodes_all (terms items)

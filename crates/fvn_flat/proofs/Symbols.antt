@@ -4,7 +4,7 @@ use Rattle.std.proofs.lemmas.List.{take_more}
 use Rattle.fvn_terms.specs.declared.plain.OpId.{OpId}
 use Rattle.fvn_forms.specs.Flat.{FlatTerm, fapp, fpack, symbols}
 use Rattle.fvn_forms.proofs.Sums.{funpack-fpack}
-use Rattle.fvn_flat.specs.inner.Own.{own}
+use Rattle.fvn_flat.specs.Own.{own}
 use Rattle.fvn_forms.proofs.Sizes.{all_symbols, symbols_unjoined, symbols_joined}
 
 all_symbols-push : (l : List FlatTerm) (t : FlatTerm) → all_symbols (l ++ t ∷ []) ≡ all_symbols l + symbols t

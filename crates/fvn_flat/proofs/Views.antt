@@ -2,7 +2,7 @@
 use Rattle.std.proofs.Common.{◌≡◌, ℕ, ◌+◌, ◌≤◌, Bool, false, nat_eq, List, [], ◌∷◌, length, take, None, refl, sym, ap, subst, ◌∙◌, Vec, Global}
 use Rattle.std.proofs.lemmas.List.{take_all}
 use Rattle.fvn_forms.proofs.Sizes.{all_symbols}
-use Rattle.fvn_flat.specs.inner.Own.{own}
+use Rattle.fvn_flat.specs.Own.{own}
 use Rattle.fvn_flat.proofs.Symbols.{symbols_of_app}
 use Rattle.std.specs.Prelude.{◌↔◌}
 use Rattle.fvn_terms.specs.declared.plain.Var.{Var as Variable}

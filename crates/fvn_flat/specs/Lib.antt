@@ -1,5 +1,7 @@
 -- What contracts of flat terms and substitutions speak of.
 pub mod Forms
+pub mod Joining
+pub mod Own
 pub mod Weight
 pub mod Fits
 pub mod Bindings

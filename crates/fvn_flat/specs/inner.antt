@@ -1,7 +1,6 @@
 -- What mirrors the code.
 pub mod Node
 pub mod Falls
-pub mod Own
 pub mod Summands
 pub mod Gathered
 pub mod SoFar

@@ -4,7 +4,7 @@ ghost use Rattle.fvn_terms.specs.Substitution.{Occurs};
 ghost use Rattle.fvn_forms.specs.Flat.{fvar, plain, symbols};
 ghost use Rattle.fvn_flat.specs.Forms.{variable_of, head_of, args_of};
 ghost use Rattle.fvn_flat.specs.Fits.{FitWhere};
-ghost use Rattle.fvn_flat.specs.inner.Own.{own};
+ghost use Rattle.fvn_flat.specs.Own.{own};
 
 use fvn_terms::{NoMemory, OpId, Var};
 use std::alloc::Global;

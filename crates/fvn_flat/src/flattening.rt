@@ -6,7 +6,8 @@ ghost use Rattle.fvn_terms.specs.Equality.{two, BEqual};
 ghost use Rattle.fvn_forms.specs.Flat.{plain, nest_all};
 ghost use Rattle.fvn_forms.specs.Canon.{canon};
 ghost use Rattle.fvn_flat.specs.Fits.{Fits};
-ghost use Rattle.fvn_flat.specs.inner.Gathered.{joins, gathered_of, gathered, IsNested};
+ghost use Rattle.fvn_flat.specs.inner.Gathered.{gathered_of, gathered, IsNested};
+ghost use Rattle.fvn_flat.specs.Joining.{joins};
 
 use crate::building::built;
 use crate::flat::{Flat, Node};

@@ -23,7 +23,8 @@ use Rattle.fvn_sums.proofs.Weighing.{component_at}
 use Rattle.fvn_frames.specs.Frames.{IsSolid, Uses, IsShared, MayBeConstant, HaveTwoHeads, AreTouched, IsNearFrame, IsFrame, IsFirstQuestion, IsQuestion}
 use Rattle.fvn_frames.specs.Bases.{AreBases}
 use Rattle.fvn_frames.specs.Readings.{AreSums, IsReading}
-use Rattle.fvn_frames.specs.inner.Users.{IsWholeSums, IsWhole, IsMarked, IsUserAt, HasTwoUsers, head_of, IsSharedIn, CanStand, CanBeConstant, HaveHeads, IsOpenPairOr, IsPastIdentity, ArePastIdentities, ArePastClasses, ArePastPairs}
+use Rattle.fvn_frames.specs.inner.Past.{IsOpenPairOr, IsPastIdentity, ArePastIdentities, ArePastClasses, ArePastPairs}
+use Rattle.fvn_frames.specs.Users.{IsWholeSums, IsWhole, IsMarked, IsUserAt, HasTwoUsers, head_of, IsSharedIn, CanStand, CanBeConstant, HaveHeads}
 use Rattle.fvn_frames.specs.inner.Touched.{AreAllWide, HaveBoth, AreAllPast}
 use Rattle.fvn_frames.specs.declared.reading.Sums.{Sums}
 use Rattle.fvn_frames.specs.declared.reading.Reading.{Reading}

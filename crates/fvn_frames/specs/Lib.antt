@@ -1,5 +1,6 @@
 -- The words of frames: what heads and uses a class, and when nothing is open that decides what it is bound to.
 pub mod Frames
 pub mod Readings
+pub mod Users
 pub mod Bases
 pub mod inner

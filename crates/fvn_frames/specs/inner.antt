@@ -1,4 +1,4 @@
 -- What mirrors the code.
 pub mod Reading
-pub mod Users
+pub mod Past
 pub mod Touched

@@ -1,13 +1,8 @@
 //! Questions whether two classes are one that may be constants of one operator.
 ghost use Rattle.std.specs.Prelude.{◌≡◌, ◌<◌, length, All};
 ghost use Rattle.fvn_nodes.specs.States.{IsNaming};
-ghost use Rattle.fvn_frames.specs.inner.Users.{
-  IsWholeSums,
-  IsWhole,
-  IsOpenPairOr,
-  ArePastClasses,
-  ArePastPairs,
-};
+ghost use Rattle.fvn_frames.specs.inner.Past.{IsOpenPairOr, ArePastClasses, ArePastPairs};
+ghost use Rattle.fvn_frames.specs.Users.{IsWholeSums, IsWhole};
 
 use crate::reading::{Reading, Sums};
 use crate::users::{have_two_heads, may_be_constant};

@@ -1,14 +1,8 @@
 //! Questions whether shared classes have identities.
 ghost use Rattle.std.specs.Prelude.{◌≡◌, ℕ, ◌<◌, length, All};
 ghost use Rattle.fvn_nodes.specs.States.{IsNaming};
-ghost use Rattle.fvn_frames.specs.inner.Users.{
-  IsWholeSums,
-  IsWhole,
-  IsSharedIn,
-  IsOpenPairOr,
-  IsPastIdentity,
-  ArePastIdentities,
-};
+ghost use Rattle.fvn_frames.specs.inner.Past.{IsOpenPairOr, IsPastIdentity, ArePastIdentities};
+ghost use Rattle.fvn_frames.specs.Users.{IsWholeSums, IsWhole, IsSharedIn};
 
 use crate::reading::{Reading, Sums};
 use crate::users::{is_shared, is_user};

@@ -2,7 +2,8 @@
 //! solution has both of.
 ghost use Rattle.std.specs.Prelude.{◌≡◌, ◌↔◌, ◌<◌, length, IsTrue};
 ghost use Rattle.fvn_nodes.specs.States.{IsNaming};
-ghost use Rattle.fvn_frames.specs.inner.Users.{IsWholeSums, IsWhole, IsOpenPairOr};
+ghost use Rattle.fvn_frames.specs.inner.Past.{IsOpenPairOr};
+ghost use Rattle.fvn_frames.specs.Users.{IsWholeSums, IsWhole};
 ghost use Rattle.fvn_frames.specs.inner.Touched.{
   AreWide,
   AreAllWide,

@@ -3,8 +3,6 @@
 
 mod cut;
 mod laws;
-#[cfg(test)]
-mod tests;
 mod token;
 
 pub use cut::tokens;

@@ -9,8 +9,6 @@ mod level;
 mod rows;
 mod solve;
 mod system;
-#[cfg(test)]
-mod tests;
 mod vector;
 
 pub use laws::{minimal_below, sum_of_minimal};

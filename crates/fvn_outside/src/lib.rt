@@ -15,6 +15,3 @@ pub use reading::{Source, read_all};
 pub use standard::{StdSink, StdSource};
 pub use sure::{SureSink, SureSource};
 pub use writing::{Sink, write_all};
-
-#[cfg(test)]
-mod tests;

@@ -10,7 +10,8 @@ use Rattle.fvn_nodes.specs.States.{open_pairs}
 use Rattle.fvn_purify.specs.Parts.{Outline}
 use Rattle.fvn_purify.specs.Cursor.{IsAheadOf, HasSamePending, IsAtEnd, IsGivenFrom}
 use Rattle.fvn_purify.specs.inner.Choices.{base, places_count, weight, IsSound, ShareNoSplit, IsExpansion, IsKept}
-use Rattle.fvn_purify.specs.inner.Founds.{cursor, cursor_weight}
+use Rattle.fvn_purify.specs.inner.Founds.{cursor}
+use Rattle.fvn_purify.specs.Weight.{cursor_weight}
 use Rattle.fvn_purify.specs.declared.split.Split.{Split}
 use Rattle.fvn_purify.specs.declared.choosing.Partial.{Partial}
 use Rattle.fvn_purify.specs.declared.choosing.Partial.TheVariants.{Asking, Choosing}

@@ -8,7 +8,8 @@ use Rattle.fvn_purify.specs.Parts.{Outline}
 use Rattle.fvn_purify.specs.Splits.{HasOneFree}
 use Rattle.fvn_purify.specs.Cursor.{IsAheadOf, HasSamePending, IsGivenFrom}
 use Rattle.fvn_purify.specs.inner.Choices.{IsExpansion, IsSound, IsKept}
-use Rattle.fvn_purify.specs.inner.Founds.{cursor, cursor_weight}
+use Rattle.fvn_purify.specs.inner.Founds.{cursor}
+use Rattle.fvn_purify.specs.Weight.{cursor_weight}
 use Rattle.fvn_purify.specs.declared.split.Split.{Split}
 use Rattle.fvn_purify.specs.declared.choosing.Partial.{Partial}
 use Rattle.fvn_purify.proofs.Cursors.{top_sound, more_kept, more_same, more_falls, given_kept, given_from, top_falls}

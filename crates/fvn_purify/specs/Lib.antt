@@ -5,4 +5,5 @@ pub mod Heads
 pub mod Splits
 pub mod Obeying
 pub mod Cursor
+pub mod Weight
 pub mod inner

@@ -11,7 +11,8 @@ ghost use Rattle.fvn_purify.specs.Cursor.{Pending, HasSamePending, IsGivenFrom};
 ghost use Rattle.fvn_nodes.specs.Questions.{IsStart};
 ghost use Rattle.fvn_nodes.specs.declared.state.State.{State};
 ghost use Rattle.fvn_purify.specs.inner.Choices.{IsKept, asking};
-ghost use Rattle.fvn_purify.specs.inner.Founds.{cursor, cursor_weight, IsFoundFrom};
+ghost use Rattle.fvn_purify.specs.inner.Founds.{cursor, IsFoundFrom};
+ghost use Rattle.fvn_purify.specs.Weight.{cursor_weight};
 ghost use Rattle.fvn_purify.specs.declared.split.Split.{Split as InSplit};
 
 use crate::choosing::Partial;

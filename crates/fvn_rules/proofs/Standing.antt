@@ -27,7 +27,7 @@ use Rattle.fvn_sorts.specs.Queries.{IsCompleted}
 use Rattle.fvn_flat.specs.Forms.{head_of}
 use Rattle.fvn_flat.specs.Successors.{renamed_form}
 use Rattle.fvn_flat.specs.Rules.{GoesToIdentity, IsIdentityInstance, IsExtension, IsRuleFrom}
-use Rattle.fvn_flat.specs.inner.Gathered.{joins}
+use Rattle.fvn_flat.specs.Joining.{joins}
 use Rattle.fvn_flat.proofs.Binding.{same_var_is, same_var_itself}
 use Rattle.fvn_rewriting.specs.Kinds.{HasOneKind}
 use Rattle.fvn_rewriting.proofs.Collapsing.{keeps}

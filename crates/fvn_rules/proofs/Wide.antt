@@ -30,7 +30,7 @@ use Rattle.fvn_flat.specs.Forms.{head_of}
 use Rattle.fvn_flat.specs.Fits.{AllFit, TakesAsDeclared, Takes}
 use Rattle.fvn_flat.specs.Drawn.{Renaming}
 use Rattle.fvn_flat.specs.Successors.{renamed_form}
-use Rattle.fvn_flat.specs.inner.Gathered.{joins}
+use Rattle.fvn_flat.specs.Joining.{joins}
 use Rattle.fvn_flat.proofs.Binding.{same_var_is, same_var_itself}
 use Rattle.fvn_rewriting.proofs.Shaping.{two_terms}
 use Rattle.fvn_rules.specs.declared.rule.Rule.{Rule}

@@ -5,7 +5,7 @@ ghost use Rattle.fvn_terms.specs.Signature.{axioms};
 ghost use Rattle.fvn_flat.specs.Fits.{Fits, AllFit, Takes};
 ghost use Rattle.fvn_flat.specs.Forms.{head_of};
 ghost use Rattle.fvn_forms.specs.Flat.{fvar};
-ghost use Rattle.fvn_flat.specs.inner.Gathered.{joins};
+ghost use Rattle.fvn_flat.specs.Joining.{joins};
 ghost use Rattle.fvn_rules.specs.inner.Making.{IsKindedRule, new_variable, beside, extended, extension_of};
 
 use crate::rule::Rule;

@@ -5,8 +5,6 @@ mod declarations;
 mod laws;
 mod plain;
 mod substitution;
-#[cfg(test)]
-mod tests;
 
 pub use declarations::{Axioms, Declarations, OpDecl, Rank};
 pub use fvn_base::NoMemory;

@@ -16,7 +16,7 @@ use Rattle.fvn_forms.specs.Flat.{FlatTerm, FlatTerms, fvar, fapp, fnone, fmore, 
 use Rattle.fvn_forms.specs.Settled.{Settled, FitsUnjoined}
 use Rattle.fvn_forms.proofs.Sums.{fpack-funpack, SettledAll-funpack}
 use Rattle.fvn_flat.specs.Forms.{variable_of, head_of, args_of}
-use Rattle.fvn_flat.specs.inner.Own.{own}
+use Rattle.fvn_flat.specs.Own.{own}
 use Rattle.fvn_flat.proofs.Occurrences.{occurs_in_app}
 use Rattle.fvn_plans.specs.Plans.{size_in, sizes_in, joined_in}
 use Rattle.fvn_unfolding.specs.inner.Noted.{joins, capped, between, own_size}

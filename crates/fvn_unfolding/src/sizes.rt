@@ -4,7 +4,7 @@ ghost use Rattle.fvn_forms.specs.Flat.{symbols};
 ghost use Rattle.fvn_forms.specs.Settled.{Settled};
 ghost use Rattle.fvn_terms.specs.Signature.{axioms};
 ghost use Rattle.fvn_flat.specs.SolvedLists.{IsTriangular};
-ghost use Rattle.fvn_flat.specs.inner.Own.{own};
+ghost use Rattle.fvn_flat.specs.Own.{own};
 ghost use Rattle.fvn_plans.specs.Plans.{unfolds_to, size_in};
 ghost use Rattle.fvn_unfolding.specs.Sizes.{AddUp};
 ghost use Rattle.fvn_unfolding.specs.inner.Noted.{noted_size, noted_sizes, capped, own_size, joins};

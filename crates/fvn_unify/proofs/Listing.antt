@@ -11,7 +11,7 @@ use Rattle.fvn_problems.specs.declared.problem.Problem.{Problem}
 use Rattle.fvn_module.specs.Contents.{Contents}
 use Rattle.fvn_answer.specs.Denoting.{Reads}
 use Rattle.fvn_answer.specs.Lines.{HasNoLineFeed, IsTextOf, values as text_of_values, values_of}
-use Rattle.fvn_answer.specs.inner.Bytes.{bytes_of as lines_in}
+use Rattle.fvn_answer.specs.Writing.{bytes_of as lines_in}
 use Rattle.fvn_unify.specs.Solutions.{IsLineOf}
 use Rattle.fvn_unify.specs.inner.Told.{AreLinesOfBindings}
 

@@ -1,7 +1,7 @@
 //! The lines of unifiers.
 ghost use Rattle.std.specs.Prelude.{IfOk, All};
 ghost use Rattle.fvn_answer.specs.Asked.{AreAsked, HaveSorts};
-ghost use Rattle.fvn_answer.specs.inner.Bytes.{bytes_of as lines_in};
+ghost use Rattle.fvn_answer.specs.Writing.{bytes_of as lines_in};
 ghost use Rattle.fvn_flat.specs.Bindings.{BindingsFit};
 ghost use Rattle.fvn_unify.specs.inner.Told.{AreLinesOfBindings};
 

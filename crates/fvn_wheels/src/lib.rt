@@ -3,8 +3,6 @@
 
 mod laws;
 mod tags;
-#[cfg(test)]
-mod tests;
 mod turning;
 mod wheels;
 

@@ -1,6 +1,5 @@
 -- Texts byte by byte, as the code makes them.
-use Rattle.std.specs.Prelude.{ℕ, ◌<◌, Bool, true, false, if◌then◌else◌, List, [], ◌∷◌, ◌++◌, length, map, codes}
-use Rattle.std.specs.Global.{Vec}
+use Rattle.std.specs.Prelude.{ℕ, ◌<◌, Bool, true, false, if◌then◌else◌, List, [], ◌∷◌, ◌++◌, length, codes}
 use Rattle.fvn_lex.specs.Parts.{is_quoted_after}
 use Rattle.fvn_lex.specs.Join.{space}
 use Rattle.fvn_terms.specs.declared.declarations.Axioms.{Axioms}
@@ -9,10 +8,6 @@ use Rattle.fvn_terms.specs.Signature.{IsSort}
 use Rattle.fvn_forms.specs.Flat.{FlatTerm, FlatTerms, fvar, fapp, fnone, fmore}
 use Rattle.fvn_syntax.specs.Pieces.{Text}
 use Rattle.fvn_answer.specs.Writing.{is_after, may_exchange}
-
--- the bytes of each text
-abbrev pub bytes_of : List (Vec ℕ) → List Text
-bytes_of = map (λ v. v.items)
 
 -- the text goes on with a special byte; after a backquote one space stands between
 abbrev pub beside : Text → ℕ → Text

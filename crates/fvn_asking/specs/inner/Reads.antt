@@ -7,7 +7,7 @@ use Rattle.fvn_flat.specs.Partitions.{HasNoIdentity}
 use Rattle.fvn_acunify.specs.ValidChoice.{column_sum}
 use Rattle.fvn_frames.specs.declared.reading.Sums.{Sums}
 use Rattle.fvn_frames.specs.declared.reading.Reading.{Reading}
-use Rattle.fvn_frames.specs.inner.Users.{IsMarked, HasTwoUsers, IsSharedIn, head_of}
+use Rattle.fvn_frames.specs.Users.{IsMarked, HasTwoUsers, IsSharedIn, head_of}
 use Rattle.fvn_asking.specs.Listed.{tag_in}
 
 -- why class k is bound to a sum of the operator, with this head

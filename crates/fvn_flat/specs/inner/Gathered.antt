@@ -1,20 +1,12 @@
 -- The forms that a sum is built of: those of its arguments, and in place of an argument that is again a sum those of that one's.
-use Rattle.std.specs.Prelude.{◌≡◌, Bool, true, false, ◌&&◌, if◌then◌else◌, List, [], ◌∷◌, ◌++◌}
+use Rattle.std.specs.Prelude.{◌≡◌, ◌&&◌, if◌then◌else◌, List, [], ◌∷◌, ◌++◌}
 use Rattle.fvn_terms.specs.declared.plain.OpId.{OpId}
-use Rattle.fvn_terms.specs.declared.declarations.Axioms.{Axioms}
-use Rattle.fvn_terms.specs.declared.declarations.Axioms.TheVariants.{Free, Comm, AssocComm, AssocCommId}
 use Rattle.fvn_terms.specs.declared.declarations.Declarations.{Declarations}
 use Rattle.fvn_terms.specs.Term.{Term, Terms, var, app, none, more}
 use Rattle.fvn_terms.specs.Signature.{axioms}
 use Rattle.fvn_forms.specs.Flat.{FlatTerm, fvar, fconstant}
 use Rattle.fvn_forms.specs.Canon.{same_op, canon}
-
--- whether an operator with these axioms joins nested sums
-abbrev pub joins : Axioms → Bool
-joins Free = false
-joins Comm = false
-joins AssocComm = true
-joins (AssocCommId e) = true
+use Rattle.fvn_flat.specs.Joining.{joins}
 
 module _ (d : Declarations) (f : OpId) where
   abbrev mutual

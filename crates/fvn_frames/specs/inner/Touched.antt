@@ -5,7 +5,7 @@ use Rattle.fvn_nodes.specs.States.{IsOpen}
 use Rattle.fvn_nodes.specs.declared.state.State.{State}
 use Rattle.fvn_frames.specs.declared.reading.Sums.{Sums}
 use Rattle.fvn_frames.specs.declared.reading.Reading.{Reading}
-use Rattle.fvn_frames.specs.inner.Users.{CanBeConstant, HaveHeads}
+use Rattle.fvn_frames.specs.Users.{CanBeConstant, HaveHeads}
 
 -- each solution has one part a column
 abbrev pub AreWide : ℕ → List Solution → Type 0

@@ -1,9 +1,9 @@
 -- What one step of a cursor finds.
-use Rattle.std.specs.Prelude.{ℕ, ◌<◌, List, Some, None}
+use Rattle.std.specs.Prelude.{◌<◌, List, Some, None}
 use Rattle.fvn_terms.specs.declared.declarations.Declarations.{Declarations}
 use Rattle.fvn_purify.specs.Parts.{Outline}
 use Rattle.fvn_purify.specs.Cursor.{Cursor, HasSamePending, IsGivenFrom}
-use Rattle.fvn_purify.specs.inner.Choices.{weights}
+use Rattle.fvn_purify.specs.Weight.{cursor_weight}
 use Rattle.fvn_purify.specs.declared.choosing.Partial.{Partial}
 use Rattle.fvn_purify.specs.declared.splits.Found.{Found}
 use Rattle.fvn_purify.specs.declared.splits.Found.TheVariants.{Nothing, More, Split}
@@ -11,10 +11,6 @@ use Rattle.fvn_purify.specs.declared.splits.Found.TheVariants.{Nothing, More, Sp
 -- the cursor with these parts
 abbrev pub cursor : Declarations → Outline → List Partial → Cursor
 cursor d c partials = record { declarations = d; outline = c; partials = partials }
-
--- what is left to do; it falls with each step
-abbrev pub cursor_weight : Cursor → ℕ
-cursor_weight c = weights c.declarations c.outline c.partials
 
 -- nothing was to come; or the same is to come, or the split that was found is not any more, and less is left to do
 abbrev pub IsFoundFrom : Cursor → Cursor → Found → Type 0

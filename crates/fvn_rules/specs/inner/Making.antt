@@ -13,7 +13,7 @@ use Rattle.fvn_forms.specs.LeastSort.{least_sort}
 use Rattle.fvn_flat.specs.Forms.{head_of}
 use Rattle.fvn_flat.specs.Bindings.{Bindings, value}
 use Rattle.fvn_flat.specs.Rules.{IsIdentityChoice, IsIdentityInstance, IsRuleFrom}
-use Rattle.fvn_flat.specs.inner.Gathered.{joins}
+use Rattle.fvn_flat.specs.Joining.{joins}
 use Rattle.fvn_rewriting.specs.Choices.{identities_below}
 use Rattle.fvn_rewriting.specs.Kinds.{HasOneKind}
 use Rattle.fvn_rules.specs.declared.rule.Rule.{Rule}

@@ -1,6 +1,6 @@
 -- All lines, and then the line of the end.
 use Rattle.std.proofs.Common.{[], ◌∷◌, sym}
-use Rattle.fvn_answer.specs.inner.Bytes.{bytes_of}
+use Rattle.fvn_answer.specs.Writing.{bytes_of}
 use Rattle.fvn_answer.proofs.Answering.{ended-append}
 use Rattle.fvn_answer.proofs.Naming.{readable}
 use Rattle.fvn_answer.proofs.answer.answer_text.Goals as goal

@@ -1,7 +1,7 @@
 -- the lines that are left
 use Rattle.std.proofs.Common.{◌≡◌, ◌++◌, drop}
 use Rattle.fvn_answer.specs.Answers.{ended}
-use Rattle.fvn_answer.specs.inner.Bytes.{bytes_of}
+use Rattle.fvn_answer.specs.Writing.{bytes_of}
 use Rattle.fvn_answer.proofs.answer.push_lines.Given as goal
 
 abbrev pub invariant-loop-line : goal.invariant-loop-line

@@ -1,8 +1,7 @@
 -- The front of an operator over the fronts of its arguments.
 use Rattle.std.proofs.Common.{take, map, sym, ap, ◌∙◌, arith}
 use Rattle.fvn_flat.proofs.Smaller.{argument_is_smaller}
-use Rattle.fvn_answer.specs.Writing.{text_of, written, may_exchange}
-use Rattle.fvn_answer.specs.inner.Bytes.{bytes_of}
+use Rattle.fvn_answer.specs.Writing.{text_of, written, may_exchange, bytes_of}
 use Rattle.fvn_answer.proofs.Printing.{argument-printable}
 use Rattle.fvn_answer.proofs.LineFronts.{argument-gathered, argument-passed, application-front}
 use Rattle.fvn_answer.specs.inner.Fronts.{arranged_if}

@@ -2,8 +2,7 @@
 use Rattle.std.proofs.Common.{List, take, map}
 use Rattle.fvn_terms.specs.declared.plain.Var.{Var}
 use Rattle.fvn_flat.specs.Weight.{places}
-use Rattle.fvn_answer.specs.Writing.{text_of, written}
-use Rattle.fvn_answer.specs.inner.Bytes.{bytes_of}
+use Rattle.fvn_answer.specs.Writing.{text_of, written, bytes_of}
 use Rattle.fvn_answer.specs.inner.Fronts.{Agrees, AreGathered}
 use Rattle.fvn_answer.proofs.front.+term_front.Given as goal
 

@@ -1,6 +1,6 @@
 -- One more argument.
 use Rattle.std.proofs.Common.{◌∷◌, ◌++◌, [], sym, ap, ◌∙◌, subst}
-use Rattle.fvn_answer.specs.inner.Bytes.{bytes_of}
+use Rattle.fvn_answer.specs.Writing.{bytes_of}
 use Rattle.fvn_answer.specs.inner.Fronts.{AreGathered}
 use Rattle.fvn_answer.proofs.Fronts.{no-tips, some-tips, gathered-whole, gathered-first, gathered-both, bytes-snoc}
 use Rattle.fvn_answer.proofs.front.gather.Goals as goal

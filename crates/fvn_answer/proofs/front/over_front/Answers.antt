@@ -1,6 +1,7 @@
 -- The front of a name over arguments of which some are not known.
 use Rattle.std.proofs.Common.{[], ◌∷◌, ◌++◌, refl, ap, ◌∙◌}
-use Rattle.fvn_answer.specs.inner.Bytes.{bytes_of, over_texts, with_each}
+use Rattle.fvn_answer.specs.inner.Bytes.{over_texts, with_each}
+use Rattle.fvn_answer.specs.Writing.{bytes_of}
 use Rattle.fvn_answer.specs.inner.Fronts.{arranged_if, upto}
 use Rattle.fvn_answer.proofs.Fronts.{no-tips, some-tips, whole-texts, closed-front, over-open}
 use Rattle.fvn_answer.proofs.front.over_front.Goals as goal

@@ -1,6 +1,7 @@
 -- what is left decides
 use Rattle.std.proofs.Common.{◌≡◌, [], ◌∷◌, ◌++◌, drop}
-use Rattle.fvn_answer.specs.inner.Bytes.{bytes_of, with_each}
+use Rattle.fvn_answer.specs.inner.Bytes.{with_each}
+use Rattle.fvn_answer.specs.Writing.{bytes_of}
 use Rattle.fvn_answer.specs.inner.Fronts.{upto}
 use Rattle.fvn_answer.proofs.front.over_least.Given as goal
 

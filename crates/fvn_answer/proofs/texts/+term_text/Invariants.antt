@@ -1,8 +1,7 @@
 -- the texts of the arguments so far
 use Rattle.std.proofs.Common.{◌≡◌, take, map}
 use Rattle.fvn_flat.specs.Weight.{places}
-use Rattle.fvn_answer.specs.Writing.{text_of, written}
-use Rattle.fvn_answer.specs.inner.Bytes.{bytes_of}
+use Rattle.fvn_answer.specs.Writing.{text_of, written, bytes_of}
 use Rattle.fvn_answer.proofs.texts.+term_text.Given as goal
 
 abbrev pub decreases-term_text : goal.decreases-term_text

@@ -1,6 +1,6 @@
 -- A sort puts the texts in byte order.
 use Rattle.std.proofs.Common.{sym, ◌∙◌}
-use Rattle.fvn_answer.specs.inner.Bytes.{bytes_of}
+use Rattle.fvn_answer.specs.Writing.{bytes_of}
 use Rattle.fvn_answer.proofs.TextOrder.{sorted_is, arranged-sorted}
 use Rattle.fvn_answer.proofs.texts.arrange.Goals as goal
 

@@ -1,6 +1,7 @@
 -- what is left decides
 use Rattle.std.proofs.Common.{◌≡◌, drop}
-use Rattle.fvn_answer.specs.inner.Bytes.{bytes_of, with_each}
+use Rattle.fvn_answer.specs.inner.Bytes.{with_each}
+use Rattle.fvn_answer.specs.Writing.{bytes_of}
 use Rattle.fvn_answer.proofs.texts.over.Given as goal
 
 abbrev pub invariant-loop-t : goal.invariant-loop-t

@@ -5,7 +5,7 @@ use Rattle.fvn_nodes.specs.declared.table.Node.{Node}
 use Rattle.fvn_nodes.specs.States.{class_of}
 use Rattle.fvn_lindio.specs.declared.system.Solution.{Solution}
 use Rattle.fvn_lindio.specs.Systems.{vectors_of}
-use Rattle.fvn_frames.specs.inner.Users.{IsWholeSums, IsWhole}
+use Rattle.fvn_frames.specs.Users.{IsWholeSums, IsWhole}
 use Rattle.fvn_asking.specs.Listed.{tag_in}
 use Rattle.fvn_asking.specs.Aliases.{HasNoAlias}
 use Rattle.fvn_asking.proofs.Reading.{reading_whole, sums_whole}

@@ -1,7 +1,7 @@
 -- What is read, and what it means.
 use Rattle.std.proofs.Common.{◌<◌, length, List, sym, subst}
 use Rattle.fvn_nodes.specs.declared.table.Node.{Node}
-use Rattle.fvn_frames.specs.inner.Users.{IsWholeSums, IsWhole}
+use Rattle.fvn_frames.specs.Users.{IsWholeSums, IsWhole}
 use Rattle.fvn_asking.proofs.Reading.{reading_whole, sums_whole}
 use Rattle.fvn_asking.proofs.Binding.{bound_iff}
 use Rattle.fvn_asking.proofs.bound.is_bound.Goals as goal

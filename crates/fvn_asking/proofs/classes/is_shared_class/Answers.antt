@@ -1,7 +1,7 @@
 -- What is read, and what it means.
 use Rattle.std.proofs.Common.{◌<◌, length, List, sym, subst}
 use Rattle.fvn_nodes.specs.declared.table.Node.{Node}
-use Rattle.fvn_frames.specs.inner.Users.{IsWhole}
+use Rattle.fvn_frames.specs.Users.{IsWhole}
 use Rattle.fvn_asking.proofs.Reading.{reading_whole, shared_in, shared_from}
 use Rattle.fvn_asking.proofs.classes.is_shared_class.Goals as goal
 

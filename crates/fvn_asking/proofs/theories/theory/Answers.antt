@@ -2,7 +2,7 @@
 use Rattle.std.proofs.Common.{List, ℕ, length, sym, subst}
 use Rattle.fvn_nodes.specs.declared.table.Node.{Node}
 use Rattle.fvn_nodes.specs.States.{class_of}
-use Rattle.fvn_frames.specs.inner.Users.{IsWholeSums, IsWhole}
+use Rattle.fvn_frames.specs.Users.{IsWholeSums, IsWhole}
 use Rattle.fvn_plans.specs.Binding.{AreAsked}
 use Rattle.fvn_asking.specs.Listed.{tag_in}
 use Rattle.fvn_asking.proofs.Reading.{reading_whole, sums_whole}

@@ -1,7 +1,7 @@
 -- A term that the operator heads is a nested sum.
 use Rattle.std.proofs.Common.{rules, ◌≡◌, false, nat_eq, length, sym, ap, ◌∙◌}
 use Rattle.fvn_terms.specs.Plain.{term}
-use Rattle.fvn_flat.specs.inner.Gathered.{joins}
+use Rattle.fvn_flat.specs.Joining.{joins}
 use Rattle.fvn_flat.proofs.Gathering.{nested_here}
 use Rattle.fvn_flat.proofs.flattening.nested_args.Goals as goal
 

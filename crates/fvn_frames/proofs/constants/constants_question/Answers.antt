@@ -2,7 +2,7 @@
 use Rattle.std.proofs.Common.{subst}
 use Rattle.fvn_frames.proofs.Walked.{more_of, all_of}
 use Rattle.fvn_frames.specs.declared.reading.Sums.{Sums}
-use Rattle.fvn_frames.specs.inner.Users.{ArePastPairs}
+use Rattle.fvn_frames.specs.inner.Past.{ArePastPairs}
 use Rattle.fvn_frames.proofs.constants.constants_question.Goals as goal
 
 pub loop-s-preserved : goal.loop-s-preserved

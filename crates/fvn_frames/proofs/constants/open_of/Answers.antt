@@ -2,7 +2,8 @@
 use Rattle.std.proofs.Common.{ℕ, sym, ◌∙◌}
 use Rattle.std.proofs.lemmas.Bool.{false≢true}
 use Rattle.fvn_frames.proofs.Walked.{more_of, all_of}
-use Rattle.fvn_frames.specs.inner.Users.{CanBeConstant, ArePastClasses}
+use Rattle.fvn_frames.specs.inner.Past.{ArePastClasses}
+use Rattle.fvn_frames.specs.Users.{CanBeConstant}
 use Rattle.fvn_frames.proofs.constants.open_of.Goals as goal
 
 pub loop-k-preserved-then-not-may_be_constant : goal.loop-k-preserved-then-not-may_be_constant

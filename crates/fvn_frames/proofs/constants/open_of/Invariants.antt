@@ -1,6 +1,6 @@
 -- Nothing is open of the classes so far.
 use Rattle.std.proofs.Common.{take}
-use Rattle.fvn_frames.specs.inner.Users.{ArePastPairs}
+use Rattle.fvn_frames.specs.inner.Past.{ArePastPairs}
 use Rattle.fvn_frames.proofs.constants.open_of.Given as goal
 
 abbrev pub invariant-loop-k : goal.invariant-loop-k

@@ -3,7 +3,7 @@ use Rattle.std.proofs.Common.{◌⊎◌, ℕ, sym, ◌∙◌, inl, inr}
 use Rattle.std.proofs.lemmas.Bool.{false≢true}
 use Rattle.fvn_frames.proofs.Walked.{more_of, all_of}
 use Rattle.fvn_nodes.specs.States.{IsOpen}
-use Rattle.fvn_frames.specs.inner.Users.{HaveHeads, CanBeConstant}
+use Rattle.fvn_frames.specs.Users.{HaveHeads, CanBeConstant}
 use Rattle.fvn_frames.proofs.constants.open_with.Goals as goal
 
 pub loop-l-preserved-then-not-may_be_constant : goal.loop-l-preserved-then-not-may_be_constant

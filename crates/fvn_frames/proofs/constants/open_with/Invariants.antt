@@ -1,6 +1,6 @@
 -- Nothing is open with the classes so far.
 use Rattle.std.proofs.Common.{take}
-use Rattle.fvn_frames.specs.inner.Users.{ArePastClasses}
+use Rattle.fvn_frames.specs.inner.Past.{ArePastClasses}
 use Rattle.fvn_frames.proofs.constants.open_with.Given as goal
 
 abbrev pub invariant-loop-l : goal.invariant-loop-l

@@ -1,6 +1,7 @@
 -- Nothing is open of the classes so far.
 use Rattle.std.proofs.Common.{ℕ, ◌<◌}
-use Rattle.fvn_frames.specs.inner.Users.{IsSharedIn, ArePastIdentities}
+use Rattle.fvn_frames.specs.inner.Past.{ArePastIdentities}
+use Rattle.fvn_frames.specs.Users.{IsSharedIn}
 use Rattle.fvn_frames.proofs.identities.identity_question.Given as goal
 
 abbrev pub invariant-loop-k : goal.invariant-loop-k

@@ -3,7 +3,8 @@ use Rattle.std.proofs.Common.{refl, sym, ◌∙◌, subst}
 use Rattle.std.proofs.lemmas.Bool.{false≢true}
 use Rattle.fvn_frames.proofs.Walked.{more_of, all_of}
 use Rattle.fvn_frames.specs.declared.reading.Sums.{Sums}
-use Rattle.fvn_frames.specs.inner.Users.{IsMarked, IsPastIdentity}
+use Rattle.fvn_frames.specs.inner.Past.{IsPastIdentity}
+use Rattle.fvn_frames.specs.Users.{IsMarked}
 use Rattle.fvn_frames.proofs.identities.open_of_class.Goals as goal
 
 pub loop-s-preserved-then-not-is_user : goal.loop-s-preserved-then-not-is_user

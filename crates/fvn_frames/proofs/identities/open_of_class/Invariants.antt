@@ -1,6 +1,6 @@
 -- Nothing is open of the operators so far.
 use Rattle.std.proofs.Common.{take}
-use Rattle.fvn_frames.specs.inner.Users.{ArePastIdentities}
+use Rattle.fvn_frames.specs.inner.Past.{ArePastIdentities}
 use Rattle.fvn_frames.proofs.identities.open_of_class.Given as goal
 
 abbrev pub invariant-loop-s : goal.invariant-loop-s

@@ -2,7 +2,7 @@
 use Rattle.std.proofs.Common.{◌⊎◌, ℕ, List, get_or, sym, ◌∙◌, subst, inl, inr}
 use Rattle.std.proofs.lemmas.Bool.{false≢true}
 use Rattle.fvn_nodes.specs.States.{IsOpen}
-use Rattle.fvn_frames.specs.inner.Users.{CanBeConstant, HaveHeads}
+use Rattle.fvn_frames.specs.Users.{CanBeConstant, HaveHeads}
 use Rattle.fvn_frames.specs.inner.Touched.{IsPastColumn}
 use Rattle.fvn_frames.proofs.Passing.{more_below}
 use Rattle.fvn_frames.proofs.touched.open_column.Goals as goal

@@ -1,7 +1,7 @@
 -- One more column.
 use Rattle.std.proofs.Common.{ℕ, List, get_or, sym, ◌∙◌, subst}
 use Rattle.std.proofs.lemmas.Bool.{false≢true}
-use Rattle.fvn_frames.specs.inner.Users.{CanBeConstant}
+use Rattle.fvn_frames.specs.Users.{CanBeConstant}
 use Rattle.fvn_frames.specs.inner.Touched.{ArePastColumns}
 use Rattle.fvn_frames.proofs.Passing.{more_below}
 use Rattle.fvn_frames.proofs.touched.open_columns.Goals as goal

@@ -1,6 +1,6 @@
 -- Nothing is open of the columns so far.
 use Rattle.std.proofs.Common.{ℕ, ◌<◌, slice_index}
-use Rattle.fvn_frames.specs.inner.Users.{CanBeConstant}
+use Rattle.fvn_frames.specs.Users.{CanBeConstant}
 use Rattle.fvn_frames.specs.inner.Touched.{ArePastColumns}
 use Rattle.fvn_frames.proofs.touched.open_columns.Given as goal
 

@@ -1,6 +1,6 @@
 -- No operator so far uses the class.
 use Rattle.std.proofs.Common.{ℕ, ◌<◌, ◌≤◌}
-use Rattle.fvn_frames.specs.inner.Users.{IsUserAt}
+use Rattle.fvn_frames.specs.Users.{IsUserAt}
 use Rattle.fvn_frames.proofs.users.first_user.Given as goal
 
 abbrev pub invariant-loop-i : goal.invariant-loop-i

@@ -3,7 +3,8 @@ use Rattle.std.proofs.Common.{◌≤◌}
 use Rattle.fvn_purify.specs.Parts.{outline}
 use Rattle.fvn_purify.specs.Cursor.{HasSamePending}
 use Rattle.fvn_purify.specs.inner.Choices.{IsKept}
-use Rattle.fvn_purify.specs.inner.Founds.{cursor, cursor_weight}
+use Rattle.fvn_purify.specs.inner.Founds.{cursor}
+use Rattle.fvn_purify.specs.Weight.{cursor_weight}
 use Rattle.fvn_purify.proofs.splits.next_split.Given as goal
 
 abbrev pub invariant-steps : goal.invariant-steps

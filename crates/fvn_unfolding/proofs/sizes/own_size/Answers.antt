@@ -1,6 +1,6 @@
 -- What a form has without its arguments.
 use Rattle.std.proofs.Common.{length, sym, ap, ◌∙◌}
-use Rattle.fvn_flat.specs.inner.Own.{own}
+use Rattle.fvn_flat.specs.Own.{own}
 use Rattle.fvn_unfolding.specs.inner.Noted.{joins}
 use Rattle.fvn_unfolding.proofs.Measuring.{own_of_variable, own_of_some}
 use Rattle.fvn_unfolding.proofs.sizes.own_size.Goals as goal

@@ -1,6 +1,6 @@
 -- The lines so far.
 use Rattle.std.proofs.Common.{take}
-use Rattle.fvn_answer.specs.inner.Bytes.{bytes_of as lines_in}
+use Rattle.fvn_answer.specs.Writing.{bytes_of as lines_in}
 use Rattle.fvn_unify.specs.inner.Told.{AreLinesOfBindings}
 use Rattle.fvn_unify.proofs.lines.lines_of.Given as goal
 

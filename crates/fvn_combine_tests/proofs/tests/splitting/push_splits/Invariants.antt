@@ -1,5 +1,5 @@
 -- Less is left to do.
-use Rattle.fvn_purify.specs.inner.Founds.{cursor_weight}
+use Rattle.fvn_purify.specs.Weight.{cursor_weight}
 use Rattle.fvn_combine_tests.proofs.tests.splitting.push_splits.Given as goal
 
 abbrev pub decreases-given : goal.decreases-given

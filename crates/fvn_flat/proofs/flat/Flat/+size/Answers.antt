@@ -1,6 +1,6 @@
 -- The symbols of the arguments so far.
 use Rattle.std.proofs.Common.{◌∙◌, ◌-◌, ◌^◌, min, arith, ap, sym}
-use Rattle.fvn_flat.specs.inner.Own.{own}
+use Rattle.fvn_flat.specs.Own.{own}
 use Rattle.fvn_flat.proofs.Symbols.{all_symbols-take_more}
 use Rattle.fvn_flat.proofs.Views.{symbols_view}
 use Rattle.fvn_flat.proofs.flat.Flat.+size.Goals as goal

@@ -4,7 +4,8 @@ use Rattle.std.specs.Prelude.{IfSome}
 use Rattle.fvn_purify.specs.Parts.{outline}
 use Rattle.fvn_purify.specs.Splits.{HasOneFree}
 use Rattle.fvn_purify.specs.Cursor.{HasSamePending, IsGivenFrom}
-use Rattle.fvn_purify.specs.inner.Founds.{cursor, cursor_weight}
+use Rattle.fvn_purify.specs.inner.Founds.{cursor}
+use Rattle.fvn_purify.specs.Weight.{cursor_weight}
 use Rattle.fvn_purify.proofs.Lasts.{given_free, on_err}
 use Rattle.fvn_purify.proofs.splits.Splits.advance.Goals as goal
 

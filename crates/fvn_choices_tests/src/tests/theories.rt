@@ -1,0 +1,231 @@
+//! The choices of worked theories, and of random ones against a plain count-down.
+use super::kept::{keeps, one_row};
+use fvn_acunify::{OneFault, OneTheory, solve_one};
+use fvn_base::Seq;
+use fvn_lindio::{LinFault, Row, Solution, System};
+use std::alloc::{AllocError, Global};
+use std::test::Fail;
+
+#[test]
+fn worked_choices_come_from_the_greatest_down(rt: HostRuntime) -> Result<(), Fail> {
+    let alloc = rt.alloc();
+    for (constants, want) in [
+        ([].as_slice(), [15u32, 14, 13, 11, 9, 7, 6].as_slice()),
+        ([1, 3].as_slice(), [14, 6].as_slice()),
+    ] {
+        let theory = one_row(alloc, &[1, 1, -1, -1], constants, false)?;
+        assert!(rt; keeps(&theory));
+        let mut choices = solve_one(alloc, &theory)?;
+        assert_eq!(rt; choices.basis().len(), 4);
+        for number in want {
+            assert_eq!(rt; choices.next(), Some(*number));
+        }
+        assert_eq!(rt; choices.next(), None);
+        assert_eq!(rt; choices.next(), None);
+        choices.again();
+        assert_eq!(rt; choices.next(), Some(want[0]));
+    }
+    Ok(())
+}
+
+#[test]
+fn full_choices_take_every_solution_without_a_constant(rt: HostRuntime) -> Result<(), Fail> {
+    let alloc = rt.alloc();
+    for (constants, want) in [([].as_slice(), 15u32), ([1, 3].as_slice(), 14)] {
+        let theory = one_row(alloc, &[1, 1, -1, -1], constants, false)?;
+        assert!(rt; keeps(&theory));
+        let mut choices = solve_one(alloc, &theory)?;
+        choices.list_full();
+        assert_eq!(rt; choices.next(), Some(want));
+        assert_eq!(rt; choices.next(), None);
+    }
+    Ok(())
+}
+
+#[test]
+fn a_refusal_is_handed_on(rt: HostRuntime) -> Result<(), Fail> {
+    let alloc = rt.alloc();
+    let theory = one_row(alloc, &[1, 1, 1, 1, 1, -1, -1, -1, -1, -1], &[], false)?;
+    assert!(rt; keeps(&theory));
+    assert!(rt;
+        matches!(
+            solve_one(alloc, &theory),
+            Err(OneFault::Basis(LinFault::TooMany(1)))
+        )
+    );
+    Ok(())
+}
+
+/// Two rows of so many columns: a solution has the greatest component in the first column, and 23 solutions
+/// have 1 in the third. No column that they use may be zero.
+fn wide_theory(alloc: Global, columns: usize, greatest: i32) -> Result<OneTheory, AllocError> {
+    let mut first = Vec::new(alloc);
+    let mut second = Vec::new(alloc);
+    let mut may_be_zero = Vec::new(alloc);
+    for column in 0..columns {
+        let is_last = columns - column <= 23;
+        first.push(match column {
+            0 => -1,
+            1 => greatest,
+            _ => 0,
+        })?;
+        second.push(match column {
+            2 => 1,
+            _ => 0 - i32::from(is_last),
+        })?;
+        may_be_zero.push(column > 2 && !is_last)?;
+    }
+    let mut rows = Vec::new(alloc);
+    for row in [first, second] {
+        rows.push(Row {
+            coefficients: Seq::from_vec(row),
+        })?;
+    }
+    Ok(OneTheory {
+        system: System {
+            columns,
+            rows: Seq::from_vec(rows),
+        },
+        constants: Seq::new(alloc),
+        may_be_zero: Seq::from_vec(may_be_zero),
+    })
+}
+
+// 24 solutions, which are the most; the most columns; and the greatest component.
+#[test]
+fn the_one_choice_of_all_solutions_comes_at_once(rt: HostRuntime) -> Result<(), Fail> {
+    let alloc = rt.alloc();
+    for (columns, greatest) in [(1000, 1), (26, 65_535)] {
+        let theory = wide_theory(alloc, columns, greatest)?;
+        assert!(rt; keeps(&theory), "{columns} columns");
+        let mut choices = solve_one(alloc, &theory)?;
+        assert_eq!(rt; choices.basis().len(), 24, "{columns} columns");
+        assert_eq!(rt; choices.next(), Some(16_777_215), "{columns} columns");
+        assert_eq!(rt; choices.next(), None, "{columns} columns");
+    }
+    Ok(())
+}
+
+/// A generator of numbers that look random.
+#[derive(Drop)]
+struct Numbers(u64);
+
+impl Numbers {
+    fn below(&mut self, end: u32) -> u32
+        requires { 0 < end }
+        ensures { result < end }
+    {
+        self.0 = self
+            .0
+            .wrapping_mul(6_364_136_223_846_793_005)
+            .wrapping_add(1_442_695_040_888_963_407);
+        ((self.0 >> 33) % u64::from(end)) as u32
+    }
+}
+
+fn random_row(alloc: Global, numbers: &mut Numbers, columns: usize) -> Result<Row, AllocError> {
+    let mut row = Vec::new(alloc);
+    for _ in 0..columns {
+        row.push(numbers.below(5) as i32 - 2)?;
+    }
+    Ok(Row {
+        coefficients: Seq::from_vec(row),
+    })
+}
+
+fn random_theory(alloc: Global, numbers: &mut Numbers) -> Result<OneTheory, AllocError> {
+    let columns = 2 + numbers.below(4) as usize;
+    let mut rows = Vec::new(alloc);
+    for _ in 0..1 + numbers.below(2) {
+        rows.push(random_row(alloc, numbers, columns)?)?;
+    }
+    let mut constants = Vec::new(alloc);
+    let mut may_be_zero = Vec::new(alloc);
+    for column in 0..columns {
+        if numbers.below(4) == 0 {
+            constants.push(column)?;
+        }
+        may_be_zero.push(numbers.below(2) == 0)?;
+    }
+    Ok(OneTheory {
+        system: System {
+            columns,
+            rows: Seq::from_vec(rows),
+        },
+        constants: Seq::from_vec(constants),
+        may_be_zero: Seq::from_vec(may_be_zero),
+    })
+}
+
+fn part(solution: &Solution, column: usize) -> u64 {
+    u64::from(solution.parts.as_slice().get(column).copied().unwrap_or(0))
+}
+
+/// The sum in a column of the solutions that a number chooses.
+fn plain_sum(basis: &[Solution], number: u32, column: usize) -> u64 {
+    let mut sum = 0u64;
+    let mut bits = number;
+    for solution in basis {
+        if bits % 2 == 1 {
+            sum = sum.saturating_add(part(solution, column));
+        }
+        bits /= 2;
+    }
+    sum
+}
+
+/// Whether one of the solutions that a number chooses is other than zero in two constant columns.
+fn is_shared(basis: &[Solution], number: u32, constants: &[usize]) -> bool {
+    let mut bits = number;
+    for solution in basis {
+        if bits % 2 == 1 && constants.iter().filter(|c| part(solution, **c) > 0).count() > 1 {
+            return true;
+        }
+        bits /= 2;
+    }
+    false
+}
+
+fn is_plainly_valid(theory: &OneTheory, basis: &[Solution], number: u32) -> bool {
+    for (column, may) in theory.may_be_zero.as_slice().iter().enumerate() {
+        if !*may && plain_sum(basis, number, column) == 0 {
+            return false;
+        }
+    }
+    for column in theory.constants.as_slice() {
+        if plain_sum(basis, number, *column) != 1 {
+            return false;
+        }
+    }
+    !is_shared(basis, number, theory.constants.as_slice())
+}
+
+#[test]
+fn random_choices_are_those_of_a_count_down(rt: HostRuntime) -> Result<(), Fail> {
+    let alloc = rt.alloc();
+    let mut numbers = Numbers(7);
+    let mut given = 0u64;
+    for _ in 0..300 {
+        let theory = random_theory(alloc, &mut numbers)?;
+        assert!(rt; keeps(&theory));
+        let solved = solve_one(alloc, &theory);
+        if matches!(solved, Err(OneFault::Basis(_))) {
+            continue;
+        }
+        let mut choices = solved?;
+        let many = choices.basis().len();
+        if many > 10 {
+            continue;
+        }
+        for down in 0..1u32 << many {
+            let number = (1 << many) - 1 - down;
+            if is_plainly_valid(&theory, choices.basis(), number) {
+                assert_eq!(rt; choices.next(), Some(number));
+                given = given.wrapping_add(1);
+            }
+        }
+        assert_eq!(rt; choices.next(), None);
+    }
+    assert!(rt; given > 300);
+    Ok(())
+}
