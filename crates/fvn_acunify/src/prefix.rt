@@ -22,7 +22,8 @@ pub fn dead_place(
 
     ensures place { IfSome result (λ place. place ≤ length basis.now) }
     ensures dead { IfSome result (IsDead full constants.now may_be_zero.now basis.now number) }
-    ensures listed { IfNone result (IsListed full constants.now may_be_zero.now (vectors_of basis.now) number) }
+    ensures listed { IfNone result (IsListed full constants.now may_be_zero.now
+        (vectors_of basis.now) number) }
 {
     sums.fill(0);
     let mut place = basis.len();

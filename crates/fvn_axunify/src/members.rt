@@ -18,7 +18,8 @@ use std::alloc::Global;
 // The list with one more unifier, if it is no instance of a member, and then without the instances of it.
 fn with_unifier(task: &Task, kept: Vec<Kept>, subst: Subst) -> Result<Vec<Kept>, NoMemory>
     requires asked { IsAsked task.now.sig.now task.now.problem.now task.now.vars.now task.now.first }
-    requires kept { AreKept task.now.sig.now task.now.problem.now task.now.vars.now task.now.first kept.items }
+    requires kept { AreKept task.now.sig.now task.now.problem.now task.now.vars.now task.now.first
+        kept.items }
     requires member { IsMember task.now.sig.now task.now.problem.now task.now.first subst }
     ensures { IfOk result (λ after.
         IsWith task.now.sig.now task.now.problem.now task.now.vars.now task.now.first kept.items subst after.items) }
@@ -40,7 +41,8 @@ fn with_unifier(task: &Task, kept: Vec<Kept>, subst: Subst) -> Result<Vec<Kept>,
 // The list with more unifiers, as long as it has fewer members than the limit.
 fn with_each(task: &Task, kept: Vec<Kept>, more: Vec<Subst>) -> Result<Vec<Kept>, NoMemory>
     requires asked { IsAsked task.now.sig.now task.now.problem.now task.now.vars.now task.now.first }
-    requires kept { AreKept task.now.sig.now task.now.problem.now task.now.vars.now task.now.first kept.items }
+    requires kept { AreKept task.now.sig.now task.now.problem.now task.now.vars.now task.now.first
+        kept.items }
     requires few { length kept.items ≤ task.now.limits.unifiers }
     requires members { All (IsMember task.now.sig.now task.now.problem.now task.now.first) more.items }
     ensures { IfOk result (λ after.
@@ -65,9 +67,11 @@ pub(crate) fn with_refinements(
     g: &Subst,
 ) -> Result<Vec<Kept>, NoMemory>
     requires asked { IsAsked task.now.sig.now task.now.problem.now task.now.vars.now task.now.first }
-    requires kept { AreKept task.now.sig.now task.now.problem.now task.now.vars.now task.now.first kept.items }
+    requires kept { AreKept task.now.sig.now task.now.problem.now task.now.vars.now task.now.first
+        kept.items }
     requires few { length kept.items ≤ task.now.limits.unifiers }
-    requires given { IsGivenOnKinds task.now.sig.now task.now.problem.now task.now.first task.now.limits.size g.now }
+    requires given { IsGivenOnKinds task.now.sig.now task.now.problem.now task.now.first
+        task.now.limits.size g.now }
     ensures { IfOk result (λ after.
         IsWithAll task.now.sig.now task.now.problem.now task.now.vars.now task.now.first
         task.now.limits.unifiers kept.items g.now after.items) }

@@ -80,7 +80,8 @@ pub(crate) fn next_unifier(
     ensures closed { AreClosed task.now.declarations task.now.table tree.new }
     ensures opened { IsOpenedAt task.now frame.new }
     ensures found { AreFound task.now tree.old frame.old tree.new frame.new result }
-    ensures falls { IfOk result (IsLessLeft (left_by task.now tree.old frame.old) (left_by task.now tree.new frame.new)) }
+    ensures falls { IfOk result (IsLessLeft (left_by task.now tree.old frame.old)
+        (left_by task.now tree.new frame.new)) }
 {
     'steps: loop {
         match next_in(task, frame)? {

@@ -46,7 +46,8 @@ fn next_of_turning(
     ensures drawn { AreDrawnFrom task.now
         (IsCoveredUnder task.now state.now reading.now bases.now turning.old)
         (IsCoveredUnder task.now state.now reading.now bases.now turning.new) result }
-    ensures falls { IfOk result (LeavesLess (choices_left turning.old.wheels) (choices_left turning.new.wheels)) }
+    ensures falls { IfOk result (LeavesLess (choices_left turning.old.wheels)
+        (choices_left turning.new.wheels)) }
 {
     let _shared = shared;
     task.recall();
@@ -90,7 +91,8 @@ fn next_of_current(task: &Task, state: &State, opened: &mut Opened) -> Result<Dr
         → IsCoveredNow task.now state.now opened.old u }
     ensures drawn { AreDrawnFrom task.now (IsCoveredNow task.now state.now opened.old)
         (IsCoveredNow task.now state.now opened.new) result }
-    ensures falls { IfOk result (LeavesLess (frame_left task.now opened.old) (frame_left task.now opened.new)) }
+    ensures falls { IfOk result (LeavesLess (frame_left task.now opened.old)
+        (frame_left task.now opened.new)) }
 {
     match &mut opened.turning {
         None => Ok(Drawn::Nothing),
@@ -152,7 +154,8 @@ fn next_of_frame(task: &Task, state: &State, opened: &mut Opened) -> Result<Draw
         → IsCoveredToCome task.now state.now opened.old u }
     ensures drawn { AreDrawnFrom task.now (IsCoveredToCome task.now state.now opened.old)
         (IsCoveredToCome task.now state.now opened.new) result }
-    ensures falls { IfOk result (LeavesLess (frame_left task.now opened.old) (frame_left task.now opened.new)) }
+    ensures falls { IfOk result (LeavesLess (frame_left task.now opened.old)
+        (frame_left task.now opened.new)) }
 {
     'tags: loop {
         match next_of_current(task, state, opened)? {

@@ -142,17 +142,26 @@ fn halves<R: Threads + Sync, G: Gate>(
     back: &[Variant],
     high: u32,
 ) -> Result<Vec<bool>, NoMemory>
-    requires front { IsRange work.now.count work.now.pieces low middle (length front.now) × AreComparable work.now.sig.now work.now.kept.now front.now }
-    requires back { IsRange work.now.count work.now.pieces middle high (length back.now) × AreComparable work.now.sig.now work.now.kept.now back.now }
-    ensures { IfOk result (λ marks. AreMarks work.now.sig.now work.now.kept.now (front.now ++ back.now) marks.items) }
+    requires front { IsRange work.now.count work.now.pieces low middle (length front.now)
+        × AreComparable work.now.sig.now work.now.kept.now front.now }
+    requires back { IsRange work.now.count work.now.pieces middle high (length back.now)
+        × AreComparable work.now.sig.now work.now.kept.now back.now }
+    ensures { IfOk result (λ marks. AreMarks work.now.sig.now work.now.kept.now
+        (front.now ++ back.now) marks.items) }
 {
     let left = move || -> Result<Vec<bool>, NoMemory>
-        requires { IsSync R.row × IsSync G.row × IsRange work.now.count work.now.pieces low middle (length front.now) × AreComparable work.now.sig.now work.now.kept.now front.now }
-        ensures { IfOk result (λ marks. AreMarks work.entry.now.sig.now work.entry.now.kept.now front.entry.now marks.items) }
+        requires { IsSync R.row × IsSync G.row
+            × IsRange work.now.count work.now.pieces low middle (length front.now)
+            × AreComparable work.now.sig.now work.now.kept.now front.now }
+        ensures { IfOk result (λ marks. AreMarks work.entry.now.sig.now work.entry.now.kept.now
+            front.entry.now marks.items) }
     { run(rt, work, gate, front, low, middle) };
     let right = move || -> Result<Vec<bool>, NoMemory>
-        requires { IsSync R.row × IsSync G.row × IsRange work.now.count work.now.pieces middle high (length back.now) × AreComparable work.now.sig.now work.now.kept.now back.now }
-        ensures { IfOk result (λ marks. AreMarks work.entry.now.sig.now work.entry.now.kept.now back.entry.now marks.items) }
+        requires { IsSync R.row × IsSync G.row
+            × IsRange work.now.count work.now.pieces middle high (length back.now)
+            × AreComparable work.now.sig.now work.now.kept.now back.now }
+        ensures { IfOk result (λ marks. AreMarks work.entry.now.sig.now work.entry.now.kept.now
+            back.entry.now marks.items) }
     { run(rt, work, gate, back, middle, high) };
     let (first, second) = join(rt, left, right);
     let mut marks = first?;

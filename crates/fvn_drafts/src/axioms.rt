@@ -31,7 +31,8 @@ pub fn is_associative(axioms: Axioms) -> bool
 
 /// The identity that the axioms name.
 pub fn identity_of(axioms: Axioms) -> Option<OpId>
-    ensures { MatchOption result ((e : OpId) → axioms ≡ Axioms.AssocCommId e → ⊥) (λ e. axioms ≡ Axioms.AssocCommId e) }
+    ensures { MatchOption result ((e : OpId) → axioms ≡ Axioms.AssocCommId e →
+        ⊥) (λ e. axioms ≡ Axioms.AssocCommId e) }
 {
     match axioms {
         Axioms::Free => None,

@@ -34,7 +34,8 @@ impl Draft {
     /// Whether pairs of the order lead from one sort to the other.
     fn leads(&self, low: SortId, high: SortId) -> bool
         ensures sound { IsTrue result → reaches self.now.declarations.below low high ≡ true }
-        ensures complete { reaches self.now.declarations.below low high ≡ true → (low ≡ high) ⊎ IsTrue result }
+        ensures complete { reaches self.now.declarations.below low high ≡ true →
+            (low ≡ high) ⊎ IsTrue result }
     {
         match self.words.get(usize::from(low.0)) {
             Some(word) => high.0 < 64 && has(*word, high.0),
@@ -79,7 +80,8 @@ impl Draft {
 
     /// Whether a sort is at or below each to which one of the ranks takes the arguments.
     fn is_lowest(&self, sort: SortId, ranks: &[Rank], args: &[SortId]) -> bool
-        ensures { result ≡ is_lowest self.now.declarations (results self.now.declarations ranks.now args.now) sort }
+        ensures { result ≡ is_lowest self.now.declarations
+            (results self.now.declarations ranks.now args.now) sort }
     {
         for rank in ranks {
             if self.serves(args, rank.args.as_slice()) && !self.is_at_or_below(sort, rank.result) {

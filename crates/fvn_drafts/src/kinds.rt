@@ -31,7 +31,8 @@ struct SortKinds {
 /// The first sort that the order joins with `s`, by the word of those that it does.
 fn first_joined(collected: &Collected, word: u64, s: u16) -> u16
     requires few { collected.now.sorts ≤ SORTS }
-    requires word { (q : ℕ) → q < collected.now.sorts → Has word q ↔ (joins collected.now (sort_number s) (sort_number q) ≡ true) }
+    requires word { (q : ℕ) → q < collected.now.sorts →
+        Has word q ↔ (joins collected.now (sort_number s) (sort_number q) ≡ true) }
     ensures { sort_number result ≡ first_joined collected.now (sort_number s) }
 {
     for q in 0..collected.sorts {
@@ -45,8 +46,10 @@ fn first_joined(collected: &Collected, word: u64, s: u16) -> u16
 fn sort_kinds(alloc: Global, collected: &Collected, joined: &[u64]) -> Result<SortKinds, NoMemory>
     requires few { collected.now.sorts ≤ SORTS }
     requires joined { IsClosure collected.now.sorts (both_ways collected.now.below) joined.now }
-    ensures kinds { IfOk result (λ k. k.kinds.items ≡ map (kind_of collected.now) (first_sorts collected.now.sorts)) }
-    ensures next { IfOk result (λ k. k.next ≡ collected.now.sorts + parts_before collected.now collected.now.sorts) }
+    ensures kinds { IfOk result (λ k. k.kinds.items ≡ map (kind_of collected.now)
+        (first_sorts collected.now.sorts)) }
+    ensures next { IfOk result (λ k. k.next ≡ collected.now.sorts + parts_before collected.now
+        collected.now.sorts) }
 {
     let mut kinds = Vec::new(alloc);
     let mut next = collected.sorts;
@@ -67,8 +70,10 @@ fn sort_kinds(alloc: Global, collected: &Collected, joined: &[u64]) -> Result<So
 fn kinds_of_sorts(alloc: Global, collected: &Collected) -> Result<SortKinds, NoMemory>
     requires few { collected.now.sorts ≤ SORTS }
     requires closed { IsClosed collected.now }
-    ensures kinds { IfOk result (λ k. k.kinds.items ≡ map (kind_of collected.now) (first_sorts collected.now.sorts)) }
-    ensures next { IfOk result (λ k. k.next ≡ collected.now.sorts + parts_before collected.now collected.now.sorts) }
+    ensures kinds { IfOk result (λ k. k.kinds.items ≡ map (kind_of collected.now)
+        (first_sorts collected.now.sorts)) }
+    ensures next { IfOk result (λ k. k.next ≡ collected.now.sorts + parts_before collected.now
+        collected.now.sorts) }
 {
     let pairs = both_ways(alloc, collected.below.as_slice())?;
     let joined = closure(alloc, collected.sorts, pairs.as_slice())?;

@@ -22,7 +22,8 @@ fn row(
     s: SortId,
 ) -> Result<Vec<SortId>, NoMemory>
     requires { FindAlike ranks.now (ranks_of draft.now.declarations op) }
-    ensures { IfOk result (λ v. v.items ≡ map (λ q. least_result draft.now.declarations op (s ∷ q ∷ [])) (first_sorts draft.now.total)) }
+    ensures { IfOk result (λ v. v.items ≡ map (λ q. least_result draft.now.declarations op
+        (s ∷ q ∷ [])) (first_sorts draft.now.total)) }
 {
     let mut list = Vec::with_capacity(alloc, usize::from(draft.total))?;
     for q in 0..draft.total {
@@ -99,7 +100,8 @@ fn next_table(
     tables: &[Seq<Seq<SortId>>],
     op: OpId,
 ) -> Result<Vec<Seq<SortId>>, NoMemory>
-    requires tables { (f : OpId) → IsTable draft.now.declarations f draft.now.total (slice_index_or tables.now f.0 []) }
+    requires tables { (f : OpId) → IsTable draft.now.declarations f draft.now.total
+        (slice_index_or tables.now f.0 []) }
     ensures { IfOk result (λ v. IsTable draft.now.declarations op draft.now.total v.items) }
 {
     match earlier_alike(&draft.declarations, op) {
@@ -117,7 +119,8 @@ pub fn all_tables(
     draft: &Draft,
     operators: u16,
 ) -> Result<Vec<Seq<Seq<SortId>>>, NoMemory>
-    ensures { IfOk result (λ v. (f : OpId) → IsTable draft.now.declarations f draft.now.total (slice_index_or v.items f.0 [])) }
+    ensures { IfOk result (λ v. (f : OpId) → IsTable draft.now.declarations f draft.now.total
+        (slice_index_or v.items f.0 [])) }
 {
     let mut all = Vec::new(alloc);
     for op in 0..operators {

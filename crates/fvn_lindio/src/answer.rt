@@ -24,7 +24,8 @@ fn has_wide(parts: &[u64]) -> bool
 
 /// Whether one of the vectors has such a component.
 pub(crate) fn is_wide(list: &[SmallVec<u64, 8>]) -> bool
-    ensures wide { IsTrue result → (v : List ℕ) × Contains (vectors_in list.now) v × Any (λ a. COMPONENT < a) v }
+    ensures wide { IsTrue result → (v : List ℕ) × Contains (vectors_in list.now) v
+        × Any (λ a. COMPONENT < a) v }
     ensures narrow { IsFalse result → All (All (λ a. a ≤ COMPONENT)) (vectors_in list.now) }
 {
     for v in list {

@@ -72,7 +72,8 @@ fn add_unit(
     requires row { IsRow (length row.now) row.now }
     requires before { All (λ r. length r.coefficients ≡ length row.now) before.now }
     requires column { column < length row.now }
-    ensures { OnOk result (Adds row.now (IsNewUnit (length row.now) (coefficients_of before.now) row.now column) points.old.items points.new.items) }
+    ensures { OnOk result (Adds row.now (IsNewUnit (length row.now)
+        (coefficients_of before.now) row.now column) points.old.items points.new.items) }
 {
     if row[column] == 0 {
         return Ok(());
@@ -95,7 +96,8 @@ fn add_units(
 ) -> Result<(), AllocError>
     requires row { IsRow (length row.now) row.now }
     requires before { All (λ r. length r.coefficients ≡ length row.now) before.now }
-    ensures { OnOk result (Adds row.now (IsNewUnitBelow (length row.now) (coefficients_of before.now) row.now (length row.now)) points.old.items points.new.items) }
+    ensures { OnOk result (Adds row.now (IsNewUnitBelow (length row.now)
+        (coefficients_of before.now) row.now (length row.now)) points.old.items points.new.items) }
 {
     for column in 0..row.len() {
         add_unit(alloc, before, row, column, points)?;
@@ -112,10 +114,13 @@ pub(crate) fn generators(
 ) -> Result<Vec<Point>, AllocError>
     requires row { IsRow (length row.now) row.now }
     requires before { All (λ r. length r.coefficients ≡ length row.now) before.now }
-    requires known { (v : List ℕ) → Contains (vectors_in known.now) v ↔ IsMinimal (length row.now) (coefficients_of before.now) v }
+    requires known { (v : List ℕ) → Contains (vectors_in known.now) v ↔ IsMinimal (length row.now)
+        (coefficients_of before.now) v }
     requires narrow { All (All (λ a. a ≤ COMPONENT)) (vectors_in known.now) }
-    ensures generates { IfOk result (λ points. Generates (length row.now) (coefficients_of before.now) row.now points.items) }
-    ensures bounded { IfOk result (λ points. All (λ p. unsigned_abs p.value ≤ COLUMNS * COMPONENT * COMPONENT) points.items) }
+    ensures generates { IfOk result (λ points. Generates (length row.now)
+        (coefficients_of before.now) row.now points.items) }
+    ensures bounded { IfOk result (λ points. All
+        (λ p. unsigned_abs p.value ≤ COLUMNS * COMPONENT * COMPONENT) points.items) }
 {
     let mut points = known_points(alloc, row, known)?;
     add_units(alloc, before, row, &mut points)?;

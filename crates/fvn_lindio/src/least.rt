@@ -83,7 +83,8 @@ fn consider(
 pub(crate) fn least_of(alloc: Global, points: &[Point]) -> Result<Vec<SmallVec<u64, 8>>, AllocError>
     requires { IsUniform points.now }
     ensures ordered { IfOk result (λ list. AllPairs IsBefore (vectors_in list.items)) }
-    ensures exact { IfOk result (λ list. (w : List ℕ) → Contains (vectors_in list.items) w ↔ IsLeast points.now w) }
+    ensures exact { IfOk result (λ list. (w : List ℕ) →
+        Contains (vectors_in list.items) w ↔ IsLeast points.now w) }
 {
     let mut list = Vec::new(alloc);
     for p in points {

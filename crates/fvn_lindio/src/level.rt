@@ -117,7 +117,8 @@ impl Level {
     /// The next level: each vector ahead is one generator on from one that was ahead.
     pub fn next(self, alloc: Global, generators: &[Point]) -> Result<Level, AllocError>
         requires { All (λ x. All (CanAdd x) generators.now) self.ahead.items }
-        ensures grows { IfOk result (λ level. GrowsAnew (IsStepFrom generators.now self.ahead.items) self level) }
+        ensures grows { IfOk result (λ level. GrowsAnew
+            (IsStepFrom generators.now self.ahead.items) self level) }
         ensures covered { IfOk result (CoversStepsFrom generators.now self.ahead.items) }
         ensures once { IfOk result IsOnce }
     {
@@ -134,9 +135,12 @@ impl Level {
 
     /// The first level: the generators themselves.
     pub fn first(alloc: Global, generators: &[Point]) -> Result<Level, AllocError>
-        ensures found { IfOk result (λ level. (p : Point) → Contains level.found.items p → IsAt generators.now p × (p.value ≡ pos 0)) }
-        ensures ahead { IfOk result (λ level. (p : Point) → Contains level.ahead.items p → IsAt generators.now p × (p.value ≢ pos 0)) }
-        ensures covered { IfOk result (λ level. (g : Point) → Contains generators.now g → IsCovered level g.parts.items) }
+        ensures found { IfOk result (λ level. (p : Point) → Contains level.found.items p →
+            IsAt generators.now p × (p.value ≡ pos 0)) }
+        ensures ahead { IfOk result (λ level. (p : Point) → Contains level.ahead.items p →
+            IsAt generators.now p × (p.value ≢ pos 0)) }
+        ensures covered { IfOk result (λ level. (g : Point) → Contains generators.now g →
+            IsCovered level g.parts.items) }
         ensures once { IfOk result IsOnce }
     {
         let mut level = Level::new(alloc);

@@ -73,7 +73,8 @@ impl Bound<'_> {
 
     // What the variable is bound to.
     pub(crate) fn get(&self, v: Var) -> Option<&Flat>
-        ensures { MatchOption result (bound (bindings_of self.now) v ≡ None) (λ t. bound (bindings_of self.now) v ≡ Some t.now) }
+        ensures { MatchOption result (bound (bindings_of self.now) v ≡ None) (λ t. bound
+            (bindings_of self.now) v ≡ Some t.now) }
     {
         match self {
             Bound::Nothing => None,

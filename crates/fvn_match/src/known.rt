@@ -22,7 +22,8 @@ pub(crate) struct Open<'a> {
 
 // The value of a pattern that is a bound variable.
 fn known_value<'a>(p: &Flat, bound: &'a Bound<'_>) -> Option<&'a Flat>
-    ensures { MatchOption result (known_value (bindings_of bound.now) p.now ≡ None) (λ t. known_value (bindings_of bound.now) p.now ≡ Some t.now) }
+    ensures { MatchOption result (known_value (bindings_of bound.now) p.now ≡ None)
+        (λ t. known_value (bindings_of bound.now) p.now ≡ Some t.now) }
 {
     match p.as_var() {
         Some(x) => bound.get(x),

@@ -147,7 +147,8 @@ pub(crate) fn take(
     requires settled { Settled sig.now v.now }
     requires associative { IsAssociative (axioms sig.now f) }
     requires long { length left.old.items ≡ length pieces.now }
-    ensures { IsTakenAway (references pieces.now) left.old.items left.new.items (parts sig.now f v.now) result }
+    ensures { IsTakenAway (references pieces.now) left.old.items left.new.items
+        (parts sig.now f v.now) result }
 {
     for u in summands(sig, f, v) {
         if !take_one(u, pieces, left) {

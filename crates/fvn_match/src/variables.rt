@@ -58,7 +58,8 @@ fn with_variables(t: &Flat, vars: Vec<Var>) -> Result<Vec<Var>, NoMemory>
 // The variables with those of the patterns that are not there yet.
 fn with_all_variables(vars: Vec<Var>, patterns: &[Flat]) -> Result<Vec<Var>, NoMemory>
     requires { AreOnce vars.items }
-    ensures { IfOk result (λ all. Collects vars.items (λ y. OccursInSome y (map plain patterns.now)) all.items) }
+    ensures { IfOk result (λ all. Collects vars.items (λ y. OccursInSome y
+        (map plain patterns.now)) all.items) }
 {
     let mut all = vars;
     for p in patterns {

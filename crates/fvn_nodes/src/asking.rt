@@ -37,7 +37,8 @@ fn singles(alloc: Global, count: usize) -> Result<Closing, NoMemory>
 // The sides of each pair are joined.
 fn join_sides(closing: &mut Closing, sides: &[(usize, usize)])
     requires naming { IsNaming (state_of closing.old) }
-    requires sides { All (λ p. (p.0 < length closing.old.names.items) × (p.1 < length closing.old.names.items)) sides.now }
+    requires sides { All (λ p. (p.0 < length closing.old.names.items)
+        × (p.1 < length closing.old.names.items)) sides.now }
     ensures { IsJoinedFrom sides.now (state_of closing.old) (state_of closing.new) }
 {
     for (l, r) in sides {

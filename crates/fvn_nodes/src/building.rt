@@ -143,7 +143,8 @@ impl Draft {
         requires nodes { AreNodes self.old.nodes.items }
         ensures nodes { OnOk result (AreNodes self.new.nodes.items) }
         ensures walked { OnOk result (HasWalked self.old self.new (subterms_of (plain_pairs pairs.now))) }
-        ensures sides { IfOk result (λ sides. AreSides self.new.nodes.items sides.items (plain_pairs pairs.now)) }
+        ensures sides { IfOk result (λ sides. AreSides self.new.nodes.items sides.items
+            (plain_pairs pairs.now)) }
     {
         let mut sides = Vec::new(alloc);
         for (left, right) in pairs {

@@ -123,7 +123,8 @@ impl Closing {
     fn join_both(&mut self, first: (usize, usize), second: (usize, usize)) -> Move
         requires naming { IsNaming (state_of self.old) }
         requires first { (first.0 < length self.old.names.items) × (first.1 < length self.old.names.items) }
-        requires second { (second.0 < length self.old.names.items) × (second.1 < length self.old.names.items) }
+        requires second { (second.0 < length self.old.names.items)
+            × (second.1 < length self.old.names.items) }
         ensures { HasMoved (λ class. (class first.0 ≡ class first.1) × (class second.0 ≡ class second.1))
             (λ s. (class_of s first.0 ≡ class_of s first.1) × (class_of s second.0 ≡ class_of s second.1))
             (state_of self.old) (state_of self.new) result }
@@ -138,7 +139,8 @@ impl Closing {
         requires naming { IsNaming (state_of self.old) }
         requires left { All (λ k. k < length self.old.names.items) ks.now }
         requires right { All (λ k. k < length self.old.names.items) ls.now }
-        ensures { HasMoved (λ class. AreTogether class ks.now ls.now) (λ s. AreTogether (class_of s) ks.now ls.now)
+        ensures { HasMoved (λ class. AreTogether class ks.now ls.now) (λ s. AreTogether
+            (class_of s) ks.now ls.now)
             (state_of self.old) (state_of self.new) result }
     {
         if ks.len() != ls.len() {
@@ -209,7 +211,8 @@ impl Closing {
         requires naming { IsNaming (state_of self.old) }
         requires left { All (λ k. k < length self.old.names.items) ks.now }
         requires right { All (λ k. k < length self.old.names.items) ls.now }
-        ensures { HasMoved (MeetInPairs (λ a v. ⊥) ks.now ls.now) (λ s. MeetInPairs (IsOpen s) ks.now ls.now (class_of s))
+        ensures { HasMoved (MeetInPairs (λ a v. ⊥) ks.now ls.now) (λ s. MeetInPairs
+            (IsOpen s) ks.now ls.now (class_of s))
             (state_of self.old) (state_of self.new) result }
     {
         if ks.len() != 2 {
@@ -473,7 +476,8 @@ pub fn close(
 ) -> Option<State>
     requires naming { IsNaming (state_of closing) }
     requires whole { length closing.names.items ≡ length table.now.nodes }
-    requires sides { All (λ p. class_of (state_of closing) p.0 ≡ class_of (state_of closing) p.1) table.now.sides }
+    requires sides { All (λ p. class_of (state_of closing) p.0 ≡ class_of
+        (state_of closing) p.1) table.now.sides }
     requires room { HasRoom (length table.now.nodes) chains }
     ensures { IsClosureOf sig.now table.now (state_of closing) result }
 {

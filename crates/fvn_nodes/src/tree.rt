@@ -82,7 +82,8 @@ impl Tree {
     /// The tree in which all partitions are still to come.
     pub fn new(alloc: Global, sig: &Signature, table: &Table) -> Result<Tree, NoMemory>
         ensures closed { IfOk result (AreClosed sig.now table.now) }
-        ensures all { IfOk result (λ t. (class : ℕ → ℕ) → IsNodePartition sig.now table.now class → IsToCome t class) }
+        ensures all { IfOk result (λ t. (class : ℕ → ℕ) → IsNodePartition sig.now table.now class →
+            IsToCome t class) }
     {
         let mut states = Vec::new(alloc);
         match start(alloc, sig, table)? {
@@ -96,14 +97,16 @@ impl Tree {
 
     /// The top.
     pub fn top(&self) -> Option<&State>
-        ensures { MatchOption result (self.now ≡ []) (λ s. (below : List State) × (self.now ≡ below ++ s.now ∷ [])) }
+        ensures { MatchOption result (self.now ≡ []) (λ s. (below : List State)
+            × (self.now ≡ below ++ s.now ∷ [])) }
     {
         self.states.as_slice().last()
     }
 
     /// Takes the top out.
     pub fn take_top(&mut self) -> Option<State>
-        ensures taken { MatchOption result ((self.old ≡ []) × (self.new ≡ [])) (λ s. self.old ≡ self.new ++ s ∷ []) }
+        ensures taken { MatchOption result ((self.old ≡ [])
+            × (self.new ≡ [])) (λ s. self.old ≡ self.new ++ s ∷ []) }
         ensures falls { IfSome result (λ s. weight self.new < weight self.old) }
     {
         self.states.pop()

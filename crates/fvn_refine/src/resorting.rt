@@ -92,7 +92,8 @@ pub(crate) fn all_resorted(
     requires fits { BindingsFit sig.now subst.now }
     requires vars { vars.now ≡ variables_of_terms subst.now }
     requires rows { AreRows sig.now vars.now rows.now }
-    ensures at { IfOk result (λ rs. AllZip (λ row r. IsAtSorts sig.now subst.now (way_of sig.now vars.now row) r) rows.now rs.items) }
+    ensures at { IfOk result (λ rs. AllZip (λ row r. IsAtSorts sig.now subst.now
+        (way_of sig.now vars.now row) r) rows.now rs.items) }
     ensures fit { IfOk result (λ rs. All (BindingsFit sig.now) rs.items) }
 {
     let mut all = Vec::new(alloc);

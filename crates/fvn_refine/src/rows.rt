@@ -50,7 +50,8 @@ fn without_below(
     rows: Vec<Seq<SortId>>,
     row: &[SortId],
 ) -> Result<Vec<Seq<SortId>>, NoMemory>
-    ensures { IfOk result (λ kept. kept.items ≡ filter (λ r. not (is_row_below sig.now r row.now)) rows.items) }
+    ensures { IfOk result (λ kept. kept.items ≡ filter (λ r. not
+        (is_row_below sig.now r row.now)) rows.items) }
 {
     let mut kept = Vec::new(alloc);
     for r in rows {

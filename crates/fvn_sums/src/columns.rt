@@ -76,7 +76,8 @@ fn once(
     classes: &[usize],
 ) -> Result<Vec<usize>, NoMemory>
     requires whole { length state.now.names ≡ length table.now.nodes }
-    ensures { IfOk result (λ v. AreOnce (IsIdentityClass table.now (class_of state.now) f) classes.now v.items) }
+    ensures { IfOk result (λ v. AreOnce (IsIdentityClass table.now
+        (class_of state.now) f) classes.now v.items) }
 {
     let mut once = Vec::new(alloc);
     for k in classes {

@@ -16,7 +16,8 @@ pub struct PlainSubst {
 impl PlainSubst {
     /// What the first pair for `v` gives it.
     pub fn get(&self, v: Var) -> Option<&Plain>
-        ensures { MatchOption result (bound self.now.pairs v ≡ None) (λ t. bound self.now.pairs v ≡ Some t.now) }
+        ensures { MatchOption result (bound self.now.pairs v ≡ None)
+            (λ t. bound self.now.pairs v ≡ Some t.now) }
     {
         for (x, t) in self.pairs.as_slice() {
             if *x == v {

@@ -22,7 +22,8 @@ pub(crate) fn lines_of(
     requires vars { AreAsked declared.now.signature problem.now.names.texts problem.now.vars }
     requires fit { All (BindingsFit declared.now.signature) unifiers.now }
     requires sorts { All (HaveSorts declared.now.signature problem.now.vars) unifiers.now }
-    ensures { IfOk result (λ lines. AreLinesOfBindings declared.now problem.now unifiers.now (lines_in lines.items)) }
+    ensures { IfOk result (λ lines. AreLinesOfBindings declared.now problem.now unifiers.now
+        (lines_in lines.items)) }
 {
     let mut lines = Vec::new(alloc);
     for s in unifiers {

@@ -75,7 +75,11 @@ fn bad_pair(draft: &Draft, op: OpId, of: SortId, s: SortId) -> Option<(SortId, S
 /// A bad pair, where the first sort is of the kind.
 fn bad_pair_of(draft: &Draft, op: OpId, of: SortId, s: SortId) -> Option<(SortId, SortId)>
     requires listed { of.0 < draft.now.total }
-    ensures { IsFirstList two_sorts (λ p. AreBad draft.now.declarations op of record { first = s; second = p.0; third = p.1 }) result }
+    ensures { IsFirstList two_sorts (λ p. AreBad draft.now.declarations op of record {
+      first = s;
+      second = p.0;
+      third = p.1;
+    }) result }
 {
     if draft.declarations.kind(s) != of {
         return None;

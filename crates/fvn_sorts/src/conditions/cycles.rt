@@ -20,7 +20,8 @@ fn closes(draft: &Draft, pair: (SortId, SortId), s: SortId) -> bool
 
 /// Whether the order leads from the sort up and back to it.
 fn is_on_cycle(draft: &Draft, s: SortId) -> bool
-    ensures { IsTrue result ↔ Any (λ p. (p.0 ≡ s) × AtOrBelow draft.now.declarations p.1 s) draft.now.declarations.below }
+    ensures { IsTrue result ↔ Any (λ p. (p.0 ≡ s)
+        × AtOrBelow draft.now.declarations p.1 s) draft.now.declarations.below }
 {
     for pair in draft.declarations.below.as_slice() {
         if closes(draft, *pair, s) {
@@ -33,7 +34,9 @@ fn is_on_cycle(draft: &Draft, s: SortId) -> bool
 /// The first sort on a cycle of the order.
 pub fn first_cycle(draft: &Draft, collected: &Collected) -> Option<SortId>
     requires { IsDraftOf collected.now draft.now }
-    ensures { MatchOption result ((s : SortId) → IsOnCycle collected.now s → ⊥) (λ s. IsOnCycle collected.now s × ((q : SortId) → q.0 < s.0 → IsOnCycle collected.now q → ⊥)) }
+    ensures { MatchOption result ((s : SortId) → IsOnCycle collected.now s →
+        ⊥) (λ s. IsOnCycle collected.now s × ((q : SortId) → q.0 < s.0 →
+        IsOnCycle collected.now q → ⊥)) }
 {
     for s in 0..collected.sorts {
         if is_on_cycle(draft, SortId(s)) {

@@ -23,7 +23,9 @@ use std::alloc::{AllocError, AllocFailed, Global};
 
 /// The sorts and kinds at or below both.
 fn common(alloc: Global, draft: &Draft, x: SortId, y: SortId) -> Result<Vec<SortId>, NoMemory>
-    ensures { IfOk result (λ v. (s : SortId) → IsSort draft.now.declarations s → at_or_below draft.now.declarations s x ≡ true → at_or_below draft.now.declarations s y ≡ true → Contains v.items s) }
+    ensures { IfOk result (λ v. (s : SortId) → IsSort draft.now.declarations s →
+        at_or_below draft.now.declarations s x ≡ true →
+        at_or_below draft.now.declarations s y ≡ true → Contains v.items s) }
 {
     let mut list = Vec::new(alloc);
     for s in 0..draft.total {
@@ -47,7 +49,8 @@ fn is_below_one(draft: &Draft, list: &[SortId], s: SortId) -> bool
 
 /// From the last to the first those that are not below one that was kept.
 fn thinned(alloc: Global, draft: &Draft, list: &[SortId]) -> Result<Vec<SortId>, NoMemory>
-    ensures { IfOk result (λ v. (s : SortId) → Contains list.now s → IsBelowOne draft.now.declarations v.items s) }
+    ensures { IfOk result (λ v. (s : SortId) → Contains list.now s →
+        IsBelowOne draft.now.declarations v.items s) }
 {
     let mut kept = Vec::new(alloc);
     for k in 0..list.len() {
@@ -93,7 +96,8 @@ fn all_bounds(
     some: &[SortId],
     others: &[SortId],
 ) -> Result<Option<Vec<Seq<SortId>>>, NoMemory>
-    ensures { IfOk result (λ r. MatchOption r (AreApart draft.now.declarations some.now others.now) (λ v. BoundAll draft.now.declarations some.now others.now v.items)) }
+    ensures { IfOk result (λ r. MatchOption r (AreApart draft.now.declarations some.now others.now)
+        (λ v. BoundAll draft.now.declarations some.now others.now v.items)) }
 {
     if some.len() != others.len() {
         return Ok(None);
@@ -187,7 +191,8 @@ fn still_left(
     s: SortId,
     left: &[usize],
 ) -> Result<Vec<usize>, NoMemory>
-    ensures { IfOk result (λ v. All (λ i. Contains left.now i × TakesAt draft.now.declarations ranks.now i place s) v.items) }
+    ensures { IfOk result (λ v. All (λ i. Contains left.now i
+        × TakesAt draft.now.declarations ranks.now i place s) v.items) }
 {
     let mut list = Vec::with_capacity(alloc, left.len())?;
     for number in left {
@@ -240,7 +245,8 @@ fn giving_below(
     x: SortId,
     y: SortId,
 ) -> Result<Vec<usize>, NoMemory>
-    ensures { IfOk result (λ v. All (λ i. Contains ranks.now (rank_at ranks.now i) × GivesBelow draft.now.declarations x y (rank_at ranks.now i)) v.items) }
+    ensures { IfOk result (λ v. All (λ i. Contains ranks.now (rank_at ranks.now i)
+        × GivesBelow draft.now.declarations x y (rank_at ranks.now i)) v.items) }
 {
     let mut list = Vec::new(alloc);
     for (number, rank) in ranks.iter().enumerate() {

@@ -37,7 +37,9 @@ fn have_thirds(
     number: usize,
 ) -> Result<bool, NoMemory>
     requires number { number < length ranks.now }
-    ensures { IfOk result (λ b. IsTrue b → (i : ℕ) → i < number → HaveThird draft.now.declarations ranks.now (rank_at ranks.now number) (rank_at ranks.now i)) }
+    ensures { IfOk result (λ b. IsTrue b → (i : ℕ) → i < number →
+        HaveThird draft.now.declarations ranks.now (rank_at ranks.now number)
+        (rank_at ranks.now i)) }
 {
     for earlier in 0..number {
         if !have_third(alloc, draft, ranks, &ranks[number], &ranks[earlier])? {
@@ -49,7 +51,8 @@ fn have_thirds(
 
 /// Whether any two of the ranks have a third.
 fn all_have_thirds(alloc: Global, draft: &Draft, ranks: &[Rank]) -> Result<bool, NoMemory>
-    ensures { IfOk result (λ b. IsTrue b → (j : ℕ) → j < length ranks.now → (i : ℕ) → i < j → HaveThird draft.now.declarations ranks.now (rank_at ranks.now j) (rank_at ranks.now i)) }
+    ensures { IfOk result (λ b. IsTrue b → (j : ℕ) → j < length ranks.now → (i : ℕ) → i < j →
+        HaveThird draft.now.declarations ranks.now (rank_at ranks.now j) (rank_at ranks.now i)) }
 {
     for number in 0..ranks.len() {
         if !have_thirds(alloc, draft, ranks, number)? {
@@ -81,7 +84,8 @@ fn have_lowest(
 
 /// The rank one argument further, where it takes one of the sort first.
 fn advanced_one(alloc: Global, draft: &Draft, s: SortId, rank: &Rank) -> Result<Vec<Rank>, NoMemory>
-    ensures { IfOk result (λ v. v.items ≡ advanced_one draft.now.declarations s rank.now.args rank.now.result) }
+    ensures { IfOk result (λ v. v.items ≡ advanced_one draft.now.declarations s rank.now.args
+        rank.now.result) }
 {
     let mut list = Vec::new(alloc);
     let args = rank.args.as_slice();

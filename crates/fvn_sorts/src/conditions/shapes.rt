@@ -25,7 +25,8 @@ pub enum Condition {
 
 /// Whether two lists of sorts have the same kinds.
 fn have_same_kinds(declarations: &Declarations, some: &[SortId], others: &[SortId]) -> bool
-    ensures { IsTrue result ↔ (map (kind declarations.now) some.now ≡ map (kind declarations.now) others.now) }
+    ensures { IsTrue result ↔ (map (kind declarations.now) some.now ≡ map
+        (kind declarations.now) others.now) }
 {
     if some.len() != others.len() {
         return false;
@@ -71,7 +72,10 @@ fn kind_meant(draft: &Draft, collected: &Collected, partial: bool, s: SortId) ->
 /// The kind of the two arguments, where there are two of one kind.
 fn kind_of_both(draft: &Draft, collected: &Collected, declaration: &Declaration) -> Option<SortId>
     requires { IsDraftOf collected.now draft.now }
-    ensures { MatchOption result (TakesTwoAlike (completed collected.now) (rank_meant collected.now declaration.now) → ⊥) (λ k. map (kind (completed collected.now)) (rank_meant collected.now declaration.now).args ≡ k ∷ k ∷ []) }
+    ensures { MatchOption result (TakesTwoAlike (completed collected.now)
+        (rank_meant collected.now declaration.now) →
+        ⊥) (λ k. map (kind (completed collected.now))
+        (rank_meant collected.now declaration.now).args ≡ k ∷ k ∷ []) }
 {
     let args = declaration.rank.args.as_slice();
     if args.len() != 2 {
@@ -116,7 +120,8 @@ fn is_bad_of(draft: &Draft, collected: &Collected, op: OpId, declaration: &Decla
 /// Whether some declaration of the operator has axioms that do not stand on its shape.
 fn has_bad_declaration(draft: &Draft, collected: &Collected, op: OpId) -> bool
     requires { IsDraftOf collected.now draft.now }
-    ensures { IsTrue result ↔ Any (λ e. (e.op ≡ op) × HasBadShape collected.now e) collected.now.declarations }
+    ensures { IsTrue result ↔ Any (λ e. (e.op ≡ op)
+        × HasBadShape collected.now e) collected.now.declarations }
 {
     for declaration in collected.declarations.as_slice() {
         if is_bad_of(draft, collected, op, declaration) {
@@ -183,7 +188,8 @@ fn has_bad_identity(draft: &Draft, collected: &Collected, op: OpId) -> bool
 
 /// Whether some rank gives another kind than the constant's.
 fn has_other_kind(declarations: &Declarations, ranks: &[Rank], constant: OpId) -> bool
-    ensures { IsTrue result ↔ Any (λ r. HasKind declarations.now (constant_term constant) (kind declarations.now r.result) → ⊥) ranks.now }
+    ensures { IsTrue result ↔ Any (λ r. HasKind declarations.now (constant_term constant)
+        (kind declarations.now r.result) → ⊥) ranks.now }
 {
     for rank in ranks {
         if !is_constant_of(declarations, constant, declarations.kind(rank.result)) {

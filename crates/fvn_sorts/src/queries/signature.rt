@@ -102,7 +102,8 @@ impl Signature {
 
     /// The identity of an operator.
     pub fn identity(&self, op: OpId) -> Option<OpId>
-        ensures { MatchOption result ((e : OpId) → axioms self.now op ≡ Axioms.AssocCommId e → ⊥) (λ e. axioms self.now op ≡ Axioms.AssocCommId e) }
+        ensures { MatchOption result ((e : OpId) → axioms self.now op ≡ Axioms.AssocCommId e →
+            ⊥) (λ e. axioms self.now op ≡ Axioms.AssocCommId e) }
     {
         identity_of(self.axioms(op))
     }

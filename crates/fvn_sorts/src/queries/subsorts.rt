@@ -24,7 +24,8 @@ fn stands_between(draft: &Draft, t: SortId, q: SortId, s: SortId) -> bool
 
 /// Whether no declared sort stands between the two.
 fn is_nothing_between(draft: &Draft, t: SortId, s: SortId) -> bool
-    ensures { result ≡ list_all (λ q. not (is_below draft.now.declarations t q && is_below draft.now.declarations q s)) (first_sorts draft.now.declarations.sorts) }
+    ensures { result ≡ list_all (λ q. not (is_below draft.now.declarations t q && is_below
+        draft.now.declarations q s)) (first_sorts draft.now.declarations.sorts) }
 {
     for q in 0..draft.declarations.sorts {
         if stands_between(draft, t, SortId(q), s) {
@@ -55,7 +56,8 @@ fn direct_subsorts(alloc: Global, draft: &Draft, s: SortId) -> Result<Vec<SortId
 
 /// For each sort and kind the declared sorts right below it.
 pub fn all_direct_subsorts(alloc: Global, draft: &Draft) -> Result<Vec<Seq<SortId>>, NoMemory>
-    ensures { IfOk result (λ v. v.items ≡ map (direct_subsorts draft.now.declarations) (first_sorts draft.now.total)) }
+    ensures { IfOk result (λ v. v.items ≡ map (direct_subsorts draft.now.declarations)
+        (first_sorts draft.now.total)) }
 {
     let mut all = Vec::new(alloc);
     for s in 0..draft.total {
@@ -89,7 +91,8 @@ fn is_maximal_of(draft: &Draft, of: SortId, s: SortId) -> bool
 
 /// The first of the maximal sorts of a kind.
 pub fn first_maximal(draft: &Draft, of: SortId) -> Option<SortId>
-    ensures { MatchOption result ((s : SortId) → IsMaximalOf draft.now.declarations of s → ⊥) (IsTop draft.now.declarations of) }
+    ensures { MatchOption result ((s : SortId) → IsMaximalOf draft.now.declarations of s →
+        ⊥) (IsTop draft.now.declarations of) }
 {
     for s in 0..draft.declarations.sorts {
         if is_maximal_of(draft, of, SortId(s)) {
