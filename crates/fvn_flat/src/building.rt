@@ -52,8 +52,8 @@ impl Flat {
         }
     }
 
-    // The arguments, moved out.
-    fn into_args(self, alloc: Global) -> Vec<Flat>
+    /// The arguments, taken out of the form; a variable and a constant have none.
+    pub fn into_args(self, alloc: Global) -> Vec<Flat>
         ensures { result.items ≡ args_of self }
     {
         let Flat { node } = self;
