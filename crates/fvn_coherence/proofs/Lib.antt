@@ -11,3 +11,5 @@ mod Extending
 mod Redexes
 mod Coherence
 mod SortSteps
+mod InstancePlaces
+mod InstanceSteps
