@@ -1,28 +1,25 @@
 -- Steps of instances of flat forms, at their parts and within the values of their variables.
 use Rattle.std.proofs.Common.{◌≡◌, ◌⊎◌, List, ◌∷◌, [], Some, refl, sym, ap, ◌∙◌, subst, inl, inr}
 use Rattle.fvn_terms.specs.declared.plain.Var.{Var}
-use Rattle.fvn_terms.specs.declared.plain.OpId.{OpId}
 use Rattle.fvn_terms.specs.declared.plain.SortId.{SortId}
 use Rattle.fvn_terms.specs.declared.declarations.Declarations.{Declarations}
-use Rattle.fvn_terms.specs.Term.{Term, Terms, var, app}
+use Rattle.fvn_terms.specs.Term.{Term, Terms}
 use Rattle.fvn_terms.specs.Substitution.{Substitution, apply, apply_all, Occurs}
 use Rattle.fvn_terms.specs.Signature.{kind, axioms, HasKind, HaveKinds}
 use Rattle.fvn_terms.specs.Places.{AtOnePlace, AmongOnePlace, here, inside, first, later, stop}
-use Rattle.fvn_terms.specs.Equality.{BEqual, constant}
+use Rattle.fvn_terms.specs.Equality.{BEqual}
 use Rattle.fvn_terms.specs.Sorts.{IsWellSorted}
 use Rattle.fvn_terms.specs.Theory.{Equations}
 use Rattle.fvn_terms.specs.Rewriting.{Rewrites, IsIrreducible}
 use Rattle.fvn_terms.specs.Laws.{RewritingLaws}
-use Rattle.fvn_terms.proofs.Equal.{HasKind-apply, BEqual-sym, BEqual-trans}
+use Rattle.fvn_terms.proofs.Equal.{HasKind-apply, BEqual-sym}
 use Rattle.fvn_forms.specs.Flat.{FlatTerm, fvar, plain}
-use Rattle.fvn_forms.specs.Canon.{canon, inst}
-use Rattle.fvn_forms.specs.Settled.{Settled}
+use Rattle.fvn_forms.specs.Canon.{canon}
 use Rattle.fvn_forms.specs.Good.{IsGood}
 use Rattle.fvn_forms.proofs.Build.{is_constant}
 use Rattle.fvn_forms.proofs.Eval.{canon_respects, eval_apply}
 use Rattle.fvn_forms.proofs.KindsKept.{b_equal_keeps_kind}
 use Rattle.fvn_forms.proofs.ToCanon.{to_canon, canon_of_kind, b_equal_iff_canon, identity_is}
-use Rattle.fvn_sorts.specs.Queries.{IsCompleted}
 use Rattle.fvn_flat.specs.Fits.{Fits}
 use Rattle.fvn_flat.specs.Forms.{head_of}
 use Rattle.fvn_flat.specs.FlatPlaces.{IsReplaced, here as here_form}
@@ -35,7 +32,7 @@ use Rattle.fvn_coherence.specs.Laws.{CoherenceLaws, InstanceLaws}
 use Rattle.fvn_coherence.proofs.Tight.{IsIdentityForm}
 use Rattle.fvn_coherence.proofs.TightSteps.{values, values_settled}
 use Rattle.fvn_coherence.proofs.Coherence.{plain_replaced}
-use Rattle.fvn_coherence.proofs.InstancePlaces.{IsPlace, IsPart, IsInValue, StandsIn, stands}
+use Rattle.fvn_coherence.proofs.InstancePlaces.{IsPlace, IsPart, IsInValue, stands}
 
 module _ (d : Declarations) (by : Substitution) where
   -- the instance of the second term has each kind that that of the first has
