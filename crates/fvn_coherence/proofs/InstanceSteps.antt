@@ -12,17 +12,18 @@ use Rattle.fvn_terms.specs.Sorts.{IsWellSorted}
 use Rattle.fvn_terms.specs.Theory.{Equations}
 use Rattle.fvn_terms.specs.Rewriting.{Rewrites, IsIrreducible}
 use Rattle.fvn_terms.specs.Laws.{RewritingLaws}
-use Rattle.fvn_terms.proofs.Equal.{HasKind-apply, BEqual-sym}
-use Rattle.fvn_forms.specs.Flat.{FlatTerm, fvar, plain}
+use Rattle.fvn_terms.proofs.Equal.{HasKind-apply, BEqual-sym, BEqual-trans}
+use Rattle.fvn_forms.specs.Flat.{FlatTerm, FlatTerms, fvar, fapp, funpack, plain}
 use Rattle.fvn_forms.specs.Canon.{canon}
 use Rattle.fvn_forms.specs.Good.{IsGood}
 use Rattle.fvn_forms.proofs.Build.{is_constant}
 use Rattle.fvn_forms.proofs.Eval.{canon_respects, eval_apply}
 use Rattle.fvn_forms.proofs.KindsKept.{b_equal_keeps_kind}
 use Rattle.fvn_forms.proofs.ToCanon.{to_canon, canon_of_kind, b_equal_iff_canon, identity_is}
-use Rattle.fvn_flat.specs.Fits.{Fits}
+use Rattle.fvn_flat.specs.Fits.{Fits, AllFit}
 use Rattle.fvn_flat.specs.Forms.{head_of}
-use Rattle.fvn_flat.specs.FlatPlaces.{IsReplaced, here as here_form}
+use Rattle.fvn_flat.specs.FlatPlaces.{IsReplaced, IsReplacedAmong, here as here_form, inside as inside_form, first as first_form, later as later_form}
+use Rattle.fvn_flat.proofs.Fitting.{args_fit}
 use Rattle.fvn_rewriting.specs.Agreement.{AgreeOn}
 use Rattle.fvn_rewriting.specs.Laws.{KindedLaws, AgreementLaws}
 use Rattle.fvn_rewriting.proofs.Choosing.{occurring_sort}
@@ -51,6 +52,17 @@ module _ (d : Declarations) (by : Substitution) where
     kept_among (later p) [] h = absurd h
     kept_among (later p) (k ∷ ks) h = (h.0, kept_among p ks h.1)
 
+module _ (d : Declarations) (good : IsGood d) (u v : FlatTerm) where
+  -- what stands at a place of a form that fits, fits
+  mutual
+    place_fits : {t w : FlatTerm} → IsReplaced u v t w → Fits d t → Fits d u
+    place_fits here_form h = h
+    place_fits (inside_form {f} {joined} {ts} r) h = among_fits r (args_fit (fapp f joined ts) d good.fits h)
+
+    among_fits : {ts us : FlatTerms} → IsReplacedAmong u v ts us → AllFit d (funpack ts) → Fits d u
+    among_fits (first_form r) h = place_fits r h.0
+    among_fits (later_form r) h = among_fits r h.1
+
 module _ (d : Declarations) (good : IsGood d) (equations : Equations) (rewriting : RewritingLaws d equations) (kinded : KindedLaws d equations) (agreement : AgreementLaws d equations) (coherent : CoherenceLaws d equations) where
   module _ (t : FlatTerm) (fits : Fits d t) (s : Substitution) (sorted : IsWellSorted d s) where
     instance_of_kind : HasKind d (apply s (plain t)) fits.kinded.0
@@ -58,7 +70,7 @@ module _ (d : Declarations) (good : IsGood d) (equations : Equations) (rewriting
 
     -- a place of the form, for terms
     place_of : (at value : FlatTerm) (u : Term) → Rewrites d equations (apply s (plain t)) u → Rewrites d equations (plain (canon d (apply s (plain at)))) (plain value) → IsPlace d (values d s) (values_settled d s) at t (canon d (plain value)) (canon d u) → IsPlaceOf d s at t (plain value) u
-    place_of at value u whole step place = record { put = place.put; replaces = place.replaces; occurs = place.occurs; makes = makes } where
+    place_of at value u whole step place = record { put = place.put; replaces = place.replaces; fits = place_fits d good at at (place.replaces at) fits; occurs = place.occurs; makes = makes } where
       makes : (given : FlatTerm) (by : Substitution) → AgreeOn d (plain t) by s → BEqual d (apply by (plain given)) (plain value) → BEqual d (apply by (plain (place.put given))) u
       makes given by agree is =
           let k = fits.kinded.0 in
@@ -87,6 +99,9 @@ module _ (d : Declarations) (good : IsGood d) (equations : Equations) (rewriting
       at_part i =
           let is : canon d (apply s (plain at)) ≡ o = eval_apply d fvar s (plain at) ∙ i.instance in
           let here_too : IsRedex d equations (canon d (apply s (plain at))) (plain value) = subst (λ z. IsRedex d equations z (plain value)) (sym is) (subst (λ z. IsRedex d equations o (plain z)) (sym i.same) redex) in
+          let there = place_of at value u whole (redex_steps (canon d (apply s (plain at))) value here_too) place in
+          let of_kind = there.fits.kinded in
+          let equal : BEqual d (apply s (plain at)) (plain (canon d (apply s (plain at)))) = to_canon d good.fits (apply s (plain at)) of_kind.0 (HasKind-apply d s sorted.0 (plain at) of_kind.0 of_kind.1) in
           let head : Some here_too.operator ≡ Some i.operator = sym here_too.heads_form ∙ ap head_of is ∙ i.heads_instance in record {
             at = at;
             operator = i.operator;
@@ -94,7 +109,8 @@ module _ (d : Declarations) (good : IsGood d) (equations : Equations) (rewriting
             value = plain value;
             redex = here_too;
             same_operator = cc;
-            place = place_of at value u whole (redex_steps (canon d (apply s (plain at))) value here_too) place;
+            matches = BEqual-trans d equal here_too.matches;
+            place = there;
           }
 
       in_value : IsInValue d (values d s) (values_settled d s) o given at value → StepsInValue d equations s t u

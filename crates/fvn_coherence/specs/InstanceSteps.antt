@@ -13,6 +13,7 @@ use Rattle.fvn_forms.specs.Flat.{FlatTerm, fvar, plain}
 use Rattle.fvn_forms.specs.Canon.{canon}
 use Rattle.fvn_flat.specs.Forms.{head_of}
 use Rattle.fvn_flat.specs.FlatPlaces.{IsReplaced}
+use Rattle.fvn_flat.specs.Fits.{Fits}
 use Rattle.fvn_rewriting.specs.Agreement.{AgreeOn}
 use Rattle.fvn_coherence.specs.PlacedSteps.{IsRedex}
 
@@ -23,7 +24,8 @@ module _ (d : Declarations) (s : Substitution) where
     -- t with this form in the place
     pub put : FlatTerm → FlatTerm
     pub replaces : (given : FlatTerm) → IsReplaced at given t (put given)
-    -- what occurs in the place occurs in t
+    -- what stands in the place fits, and what occurs there occurs in t
+    pub fits : Fits d at
     pub occurs : (x : Var) → Occurs x (plain at) → Occurs x (plain t)
     -- the values of t's variables need be the same modulo the axioms alone
     pub makes : (given : FlatTerm) (by : Substitution) → AgreeOn d (plain t) by s → BEqual d (apply by (plain given)) v → BEqual d (apply by (plain (put given))) u
@@ -37,6 +39,8 @@ module _ (d : Declarations) (equations : Equations) (s : Substitution) where
     pub value : Term
     pub redex : IsRedex d equations (canon d (apply s (plain at))) value
     pub same_operator : redex.operator ≡ operator
+    -- modulo the axioms, the instance of the part is that of the left side
+    pub matches : BEqual d (apply s (plain at)) (apply redex.by (plain redex.left))
     pub place : IsPlaceOf d s at t value u
 
   -- a variable of t has a reducible value, which the step changes at one place of the variable
