@@ -24,10 +24,11 @@ module _ (d : Declarations) (s : Substitution) where
     -- t with this form in the place
     pub put : FlatTerm → FlatTerm
     pub replaces : (given : FlatTerm) → IsReplaced at given t (put given)
-    -- what stands in the place fits, and what occurs there occurs in t
+    -- what stands in the place fits
     pub fits : Fits d at
+    -- and what occurs there occurs in t
     pub occurs : (x : Var) → Occurs x (plain at) → Occurs x (plain t)
-    -- the values of t's variables need be the same modulo the axioms alone
+    -- it is enough that t's variables have the same values modulo the axioms
     pub makes : (given : FlatTerm) (by : Substitution) → AgreeOn d (plain t) by s → BEqual d (apply by (plain given)) v → BEqual d (apply by (plain (put given))) u
 
 module _ (d : Declarations) (equations : Equations) (s : Substitution) where
