@@ -13,6 +13,7 @@ use Rattle.fvn_terms.specs.Theory.{Equations}
 use Rattle.fvn_terms.specs.Rewriting.{Rewrites, IsIrreducible}
 use Rattle.fvn_terms.specs.Laws.{RewritingLaws}
 use Rattle.fvn_terms.proofs.Equal.{HasKind-apply, BEqual-sym, BEqual-trans}
+use Rattle.fvn_terms.proofs.Steps.{AtOnePlace-apply}
 use Rattle.fvn_forms.specs.Flat.{FlatTerm, FlatTerms, fvar, fapp, funpack, plain}
 use Rattle.fvn_forms.specs.Canon.{canon}
 use Rattle.fvn_forms.specs.Good.{IsGood}
@@ -143,4 +144,11 @@ module _ (d : Declarations) (good : IsGood d) (equations : Equations) (rewriting
 
     -- the steps of an instance stand at parts and in values
     pub instance_laws : InstanceLaws d equations t s
-    instance_laws = record { placed = placed; at_part = λ irreducible u whole. part_alone irreducible u (placed u whole) }
+    instance_laws =
+        record {
+          placed = placed;
+          at_part = λ irreducible u whole. part_alone irreducible u (placed u whole);
+          steps = λ at given replaced p step.
+              rewriting.inside (apply s (plain t)) (apply s (plain replaced))
+              (AtOnePlace-apply {R = λ x y. Rewrites d equations (apply s x) (apply s y)} s (λ x y r. r) (plain_replaced (λ x y. Rewrites d equations (apply s x) (apply s y)) at given step p));
+        }

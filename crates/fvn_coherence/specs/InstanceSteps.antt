@@ -18,7 +18,7 @@ use Rattle.fvn_rewriting.specs.Agreement.{AgreeOn}
 use Rattle.fvn_coherence.specs.PlacedSteps.{IsRedex}
 
 module _ (d : Declarations) (s : Substitution) where
-  -- Whatever form is put in one place of t, where `at` stands, and whatever values variables have that are not in t:
+  -- Whatever form is put in a place of t, where `at` stands, and whatever values variables have that are not in t:
   -- where the instance of what is put there is v, that of the whole is u, modulo the axioms.
   pub record IsPlaceOf (at t : FlatTerm) (v u : Term) : Type 0 where
     -- t with this form in the place

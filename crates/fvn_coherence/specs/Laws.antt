@@ -17,6 +17,7 @@ use Rattle.fvn_forms.specs.Good.{IsGood}
 use Rattle.fvn_sorts.specs.Queries.{IsCompleted}
 use Rattle.fvn_flat.specs.Rules.{IsIdentity}
 use Rattle.fvn_flat.specs.Fits.{Fits}
+use Rattle.fvn_flat.specs.FlatPlaces.{IsReplaced}
 use Rattle.fvn_rewriting.specs.Losses.{AreSortDecreasing}
 use Rattle.fvn_coherence.specs.Admissible.{AreAdmissible}
 use Rattle.fvn_coherence.specs.PlacedSteps.{StepsAtPlace}
@@ -41,12 +42,14 @@ abbrev pub SequencesKeepSorts : Type 0
 SequencesKeepSorts = (d : Declarations) → IsGood d → IsCompleted d → (equations : Equations) → AreAdmissible d equations → AreSortDecreasing d equations →
     (n : ℕ) (t u : Term) → IsTerm d t → TermSequence d equations n t u → (s : SortId) → HasSort d t s → HasSort d u s
 
--- where the steps of well-sorted instances of a form stand
+-- where the steps of well-sorted instances of a form stand, and which they are
 pub record InstanceLaws (d : Declarations) (equations : Equations) (t : FlatTerm) (s : Substitution) : Type 0 where
   -- each is one at a part of the form, or within the value of a variable
   pub placed : (u : Term) → Rewrites d equations (apply s (plain t)) u → StepsAtPart d equations s t u ⊎ StepsInValue d equations s t u
   -- and at a part, where the values of the form's variables are irreducible
   pub at_part : ((x : Var) → Occurs x (plain t) → IsIrreducible d equations (s x)) → (u : Term) → Rewrites d equations (apply s (plain t)) u → StepsAtPart d equations s t u
+  -- each step of the instance of a part is one of the whole instance
+  pub steps : (at given replaced : FlatTerm) → IsReplaced at given t replaced → Rewrites d equations (apply s (plain at)) (apply s (plain given)) → Rewrites d equations (apply s (plain t)) (apply s (plain replaced))
 
 -- in a good signature with all that its queries need, for admissible equations and forms that fit
 abbrev pub InstancesStepAtParts : Type 0
