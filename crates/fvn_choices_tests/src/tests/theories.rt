@@ -1,4 +1,6 @@
 //! The choices of worked theories, and of random ones against a plain count-down.
+ghost use Rattle.std.specs.Prelude.{◌<◌};
+
 use super::kept::{keeps, one_row};
 use fvn_acunify::{OneFault, OneTheory, solve_one};
 use fvn_base::Seq;
