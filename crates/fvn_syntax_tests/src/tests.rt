@@ -4,8 +4,9 @@ use fvn_syntax::{
     Kinded, Names, Piece, RawSort, Scope, Seen, TermFault, Text, Texts, Variables, cut,
     find_written_sort, read_term, skip_term,
 };
-use fvn_terms::{Args, Axioms, Declarations, OpDecl, OpId, Plain, Rank, SortId};
+use fvn_terms::{Args, Axioms, Declarations, OpDecl, OpId, Plain, Rank, SortId, Var};
 use std::alloc::Global;
+use std::process::Abort;
 use std::test::Fail;
 
 // Sorts A B of one kind (3), and C of another (4).
@@ -135,6 +136,12 @@ f(#1:A,q) => reserved
 f(q,#1:A) => unknown
 P#:A => v0:0 3 P#";
 
+// Each line has the same of a term that may have names of fresh variables.
+const UNGUARDED: &str = "#v => v0:0 3 #v
+#1:A => v0:0 3 #1
+#1:[A] => v0:3 3 #1
+#1:[q] => unknown";
+
 // Each line has a written sort, and its number.
 const SORTS: &str = "A => 0
 B => 1
@@ -231,18 +238,26 @@ fn names(alloc: Global) -> Result<Names, Fail> {
     })
 }
 
+fn push_number(out: &mut String, alloc: Global, before: &str, n: usize) -> Result<(), Fail> {
+    out.push_str(before)?;
+    out.push_str(&format!(in alloc; "{n}")?)?;
+    Ok(())
+}
+
 #[cycle(show)]
 fn show(out: &mut String, alloc: Global, t: &Plain) -> Result<(), Fail> {
     match t {
-        Plain::Var(x) => {
-            out.push_str(&format!(in alloc; "v{}:{}", x.name, x.sort.0)?)?;
-        }
+        Plain::Var(x) => show_variable(out, alloc, *x),
         Plain::App(op, us) => {
-            out.push_str(&format!(in alloc; "{}", op.0)?)?;
-            show_all(out, alloc, us)?;
+            push_number(out, alloc, "", usize::from(op.0))?;
+            show_all(out, alloc, us)
         }
     }
-    Ok(())
+}
+
+fn show_variable(out: &mut String, alloc: Global, x: Var) -> Result<(), Fail> {
+    push_number(out, alloc, "v", x.name as usize)?;
+    push_number(out, alloc, ":", usize::from(x.sort.0))
 }
 
 #[cycle(show)]
@@ -255,32 +270,49 @@ fn show_all(out: &mut String, alloc: Global, us: &Args) -> Result<(), Fail> {
     Ok(())
 }
 
-fn shown_read(alloc: Global, term: &Kinded, texts: &Texts) -> Result<String, Fail> {
-    let mut out = String::new(alloc);
-    show(&mut out, alloc, &term.term)?;
-    out.push_str(&format!(in alloc; " {}", term.kind.0)?)?;
-    for i in 0..texts.len() {
-        out.push(' ')?;
-        for b in texts.text(i) {
-            out.push(char::from(*b))?;
-        }
+fn push_bytes(out: &mut String, bytes: &[u8]) -> Result<(), Fail> {
+    for b in bytes {
+        out.push(char::from(*b))?;
     }
-    Ok(out)
+    Ok(())
 }
 
-fn shown_fault(alloc: Global, fault: TermFault) -> Result<String, Fail> {
-    let word = match fault {
+// Each text, with a space before it.
+fn push_texts(out: &mut String, texts: &Texts) -> Result<(), Fail> {
+    for i in 0..texts.len() {
+        out.push(' ')?;
+        push_bytes(out, texts.text(i))?;
+    }
+    Ok(())
+}
+
+fn shown_read(alloc: Global, term: &Kinded, seen: &Seen) -> Result<(String, usize), Fail> {
+    let mut out = String::new(alloc);
+    show(&mut out, alloc, &term.term)?;
+    push_number(&mut out, alloc, " ", usize::from(term.kind.0))?;
+    push_texts(&mut out, &seen.texts)?;
+    Ok((out, seen.count))
+}
+
+fn word_of(fault: TermFault) -> &'static str {
+    match fault {
         TermFault::ReservedName => "reserved",
         TermFault::UnknownName => "unknown",
         TermFault::Arity => "arity",
         TermFault::WrongKind => "kind",
         TermFault::NoMemory => "memory",
-    };
-    Ok(format!(in alloc; "{word}")?)
+    }
+}
+
+// A word, and no symbols.
+fn word(alloc: Global, text: &str) -> Result<(String, usize), Fail> {
+    let mut out = String::new(alloc);
+    out.push_str(text)?;
+    Ok((out, 0))
 }
 
 // The term of a row with its kind and the names of its variables, or its fault; and the number of symbols.
-fn shown_row(
+fn shown_term(
     alloc: Global,
     limit: usize,
     scope: &Scope<'_>,
@@ -290,69 +322,187 @@ fn shown_row(
         texts: Texts::new(alloc),
         count: 0,
     };
-    let Some(taken) = skip_term(alloc, row)? else {
-        return Ok((String::new(alloc), 0));
-    };
-    match read_term(alloc, limit, scope, seen, &row[..taken]) {
-        Ok((term, seen)) => Ok((shown_read(alloc, &term, &seen.texts)?, seen.count)),
-        Err(fault) => Ok((shown_fault(alloc, fault)?, 0)),
+    match read_term(alloc, limit, scope, seen, row) {
+        Ok((term, seen)) => shown_read(alloc, &term, &seen),
+        Err(fault) => word(alloc, word_of(fault)),
     }
 }
 
-// The same of a text.
-fn shown(alloc: Global, text: &str, limit: usize, guarded: bool) -> Result<(String, usize), Fail> {
-    let d = declarations(alloc)?;
-    let names = names(alloc)?;
-    if 65536 < names.sorts.len() || 65536 < names.ops.len() {
-        return Ok((String::new(alloc), 0));
+fn shown_row(
+    alloc: Global,
+    limit: usize,
+    scope: &Scope<'_>,
+    row: &[Piece<'_>],
+) -> Result<(String, usize), Fail> {
+    match skip_term(alloc, row)? {
+        Some(taken) => shown_term(alloc, limit, scope, &row[..taken]),
+        None => word(alloc, ""),
     }
-    let scope = Scope::new(&d, &names, guarded);
+}
+
+fn shown_text(
+    alloc: Global,
+    limit: usize,
+    scope: &Scope<'_>,
+    text: &str,
+) -> Result<(String, usize), Fail> {
     match cut(alloc, text.as_bytes()) {
-        Ok(row) => shown_row(alloc, limit, &scope, row.as_slice()),
-        Err(_) => Ok((String::new(alloc), 0)),
+        Ok(row) => shown_row(alloc, limit, scope, row.as_slice()),
+        Err(_) => word(alloc, ""),
     }
+}
+
+// What stands around a term: the signature, its names, and whether names of fresh variables are refused.
+#[derive(Drop)]
+struct Around {
+    declarations: Declarations,
+    names: Names,
+    guarded: bool,
+}
+
+fn make_around(alloc: Global, guarded: bool) -> Result<Around, Fail> {
+    let declarations = declarations(alloc)?;
+    Ok(Around {
+        declarations,
+        names: names(alloc)?,
+        guarded,
+    })
+}
+
+// The same of a text.
+fn shown(alloc: Global, around: &Around, text: &str) -> Result<(String, usize), Fail> {
+    let names = &around.names;
+    if 65536 < names.sorts.len() || 65536 < names.ops.len() {
+        return word(alloc, "");
+    }
+    let scope = Scope::new(&around.declarations, names, around.guarded);
+    shown_text(alloc, 400, &scope, text)
+}
+
+// How many tokens the term has with which a row begins.
+fn shown_taken(alloc: Global, row: &[Piece<'_>]) -> Result<String, Fail> {
+    match skip_term(alloc, row)? {
+        Some(n) => Ok(format!(in alloc; "{n}")?),
+        None => Ok(format!(in alloc; "no")?),
+    }
+}
+
+fn shown_form(alloc: Global, text: &str) -> Result<String, Fail> {
+    match cut(alloc, text.as_bytes()) {
+        Ok(row) => shown_taken(alloc, row.as_slice()),
+        Err(_) => Ok(format!(in alloc; "fault")?),
+    }
+}
+
+fn assert_form(rt: &impl Abort, alloc: Global, text: &str, want: &str) -> Result<(), Fail> {
+    let told = shown_form(alloc, text)?;
+    assert_eq!(rt; told.as_str(), want, "at {text}");
+    Ok(())
 }
 
 #[test]
 fn forms(rt: HostRuntime) -> Result<(), Fail> {
-    let alloc = rt.alloc();
     for line in FORMS.lines() {
-        if let Some((text, want)) = line.split_once(" => ") {
-            if let Ok(row) = cut(alloc, text.as_bytes()) {
-                let taken = match skip_term(alloc, row.as_slice())? {
-                    Some(n) => format!(in alloc; "{n}")?,
-                    None => format!(in alloc; "no")?,
-                };
-                assert_eq!(rt; taken.as_str(), want, "at {text}");
-            }
-        }
+        let (text, want) = line.split_once(" => ").unwrap_or((line, "no arrow"));
+        assert_form(&rt, rt.alloc(), text, want)?;
     }
     Ok(())
+}
+
+fn assert_term(
+    rt: &impl Abort,
+    alloc: Global,
+    around: &Around,
+    text: &str,
+    want: &str,
+) -> Result<(), Fail> {
+    let (told, _) = shown(alloc, around, text)?;
+    assert_eq!(rt; told.as_str(), want, "at {text}");
+    Ok(())
+}
+
+fn assert_terms(rt: &impl Abort, alloc: Global, around: &Around, lines: &str) -> Result<(), Fail> {
+    for line in lines.lines() {
+        let (text, want) = line.split_once(" => ").unwrap_or((line, "no arrow"));
+        assert_term(rt, alloc, around, text, want)?;
+    }
+    Ok(())
+}
+
+fn assert_guarded(rt: &impl Abort, alloc: Global, guarded: bool, lines: &str) -> Result<(), Fail> {
+    let around = make_around(alloc, guarded)?;
+    assert_terms(rt, alloc, &around, lines)
 }
 
 #[test]
 fn terms(rt: HostRuntime) -> Result<(), Fail> {
-    let alloc = rt.alloc();
-    for line in TERMS.lines() {
-        if let Some((text, want)) = line.split_once(" => ") {
-            let (told, _) = shown(alloc, text, 400, true)?;
-            assert_eq!(rt; told.as_str(), want, "at {text}");
-        }
-    }
-    Ok(())
+    assert_guarded(&rt, rt.alloc(), true, TERMS)
 }
 
 #[test]
 fn names_without_guard(rt: HostRuntime) -> Result<(), Fail> {
-    let alloc = rt.alloc();
-    for (text, want) in [
-        ("#v", "v0:0 3 #v"),
-        ("#1:A", "v0:0 3 #1"),
-        ("#1:[A]", "v0:3 3 #1"),
-        ("#1:[q]", "unknown"),
-    ] {
-        let (told, _) = shown(alloc, text, 400, false)?;
-        assert_eq!(rt; told.as_str(), want, "at {text}");
+    assert_guarded(&rt, rt.alloc(), false, UNGUARDED)
+}
+
+// The letters in a bracket from the second on.
+fn others(alloc: Global, bytes: &[u8]) -> Result<Vec<Text<'_>>, Fail> {
+    let mut others = Vec::new(alloc);
+    for i in 3..bytes.len() {
+        if bytes[i].is_ascii_uppercase() {
+            others.push(Text::new(&bytes[i..i + 1]))?;
+        }
+    }
+    Ok(others)
+}
+
+// The sort of a letter, or of letters in a bracket.
+fn written(alloc: Global, bytes: &[u8]) -> Result<RawSort<'_>, Fail> {
+    if bytes.len() < 3 {
+        return Ok(RawSort::Name(Text::new(bytes)));
+    }
+    let others = Seq::from_vec(others(alloc, bytes)?);
+    Ok(RawSort::Kind(Text::new(&bytes[1..2]), others))
+}
+
+fn shown_found(alloc: Global, found: Option<SortId>) -> Result<String, Fail> {
+    match found {
+        Some(s) => {
+            let n = s.0;
+            Ok(format!(in alloc; "{n}")?)
+        }
+        None => Ok(format!(in alloc; "no")?),
+    }
+}
+
+fn shown_sort(alloc: Global, sorts: &Texts, kinds: &[SortId], text: &str) -> Result<String, Fail> {
+    if 65536 < sorts.len() {
+        return shown_found(alloc, None);
+    }
+    let sort = written(alloc, text.as_bytes())?;
+    shown_found(alloc, find_written_sort(sorts, kinds, &sort))
+}
+
+fn assert_sort(
+    rt: &impl Abort,
+    alloc: Global,
+    sorts: &Texts,
+    kinds: &[SortId],
+    line: &str,
+) -> Result<(), Fail> {
+    let (text, want) = line.split_once(" => ").unwrap_or((line, "no arrow"));
+    let told = shown_sort(alloc, sorts, kinds, text)?;
+    assert_eq!(rt; told.as_str(), want, "at {text}");
+    Ok(())
+}
+
+fn assert_sorts(
+    rt: &impl Abort,
+    alloc: Global,
+    sorts: &Texts,
+    kinds: &[SortId],
+) -> Result<(), Fail> {
+    for line in SORTS.lines() {
+        assert_sort(rt, alloc, sorts, kinds, line)?;
     }
     Ok(())
 }
@@ -362,79 +512,81 @@ fn written_sorts(rt: HostRuntime) -> Result<(), Fail> {
     let alloc = rt.alloc();
     let sorts = texts_of(alloc, "A B C")?;
     let kinds = sorts_of(alloc, &[3, 3, 4, 3, 4])?;
-    for line in SORTS.lines() {
-        if let Some((text, want)) = line.split_once(" => ") {
-            let told = shown_sort(alloc, &sorts, kinds.as_slice(), text)?;
-            assert_eq!(rt; told.as_str(), want, "at {text}");
-        }
+    assert_sorts(&rt, alloc, &sorts, kinds.as_slice())
+}
+
+fn push_often(text: &mut String, many: usize, part: &str) -> Result<(), Fail> {
+    for _ in 0..many {
+        text.push_str(part)?;
     }
     Ok(())
 }
 
-// The sort of a letter, or of letters in a bracket.
-fn written<'a>(alloc: Global, bytes: &'a [u8]) -> Result<RawSort<'a>, Fail> {
-    if bytes.len() < 3 {
-        return Ok(RawSort::Name(Text::new(bytes)));
-    }
-    let mut others = Vec::new(alloc);
-    for i in 3..bytes.len() {
-        if bytes[i].is_ascii_uppercase() {
-            others.push(Text::new(&bytes[i..i + 1]))?;
-        }
-    }
-    Ok(RawSort::Kind(Text::new(&bytes[1..2]), Seq::from_vec(others)))
-}
-
-fn shown_sort(alloc: Global, sorts: &Texts, kinds: &[SortId], text: &str) -> Result<String, Fail> {
-    let sort = written(alloc, text.as_bytes())?;
-    if 65536 < sorts.len() {
-        return Ok(String::new(alloc));
-    }
-    match find_written_sort(sorts, kinds, &sort) {
-        Some(s) => Ok(format!(in alloc; "{}", s.0)?),
-        None => Ok(format!(in alloc; "no")?),
-    }
-}
-
 // A term of so many operators over a constant or an unknown name, within so many parentheses.
-fn deep(alloc: Global, calls: u32, parens: u32, leaf: &str) -> Result<String, Fail> {
+fn deep(alloc: Global, calls: usize, parens: usize, leaf: &str) -> Result<String, Fail> {
     let mut text = String::new(alloc);
-    for _ in 0..parens {
-        text.push('(')?;
-    }
-    for _ in 0..calls {
-        text.push_str("X(")?;
-    }
+    push_often(&mut text, parens, "(")?;
+    push_often(&mut text, calls, "X(")?;
     text.push_str(leaf)?;
-    for _ in 0..calls {
-        text.push(')')?;
-    }
-    for _ in 0..parens {
-        text.push(')')?;
-    }
+    push_often(&mut text, calls, ")")?;
+    push_often(&mut text, parens, ")")?;
     Ok(text)
+}
+
+// Each line has the numbers of operators and of parentheses, what stands in them, and the number of symbols; where this
+// is 0, a name is unknown.
+const LIMITS: &str = "0 0 a 1
+0 1000 a 1
+399 0 a 400
+400 0 a 401
+100000 100000 a 100001
+0 0 +(a,a,a) 5
+0 0 +(a,+(a,a)) 5
+0 0 h(a,f(X)) 4
+10 0 P:[A,B] 11
+100000 0 q 0";
+
+fn many(word: &str) -> usize {
+    word.parse::<usize>().unwrap_or(7)
+}
+
+fn deep_of(alloc: Global, calls: &str, line: &str) -> Result<String, Fail> {
+    let (parens, leaf) = line.split_once(' ').unwrap_or((line, ""));
+    deep(alloc, many(calls), many(parens), leaf)
+}
+
+fn assert_count(
+    rt: &impl Abort,
+    alloc: Global,
+    around: &Around,
+    text: &str,
+    symbols: usize,
+) -> Result<(), Fail> {
+    let (told, count) = shown(alloc, around, text)?;
+    let is_unknown = told.as_str() == "unknown";
+    assert!(rt;
+        count == symbols && is_unknown == (symbols == 0),
+        "{symbols}"
+    );
+    Ok(())
+}
+
+fn assert_limit(rt: &impl Abort, alloc: Global, around: &Around, line: &str) -> Result<(), Fail> {
+    let (front, symbols) = line.rsplit_once(' ').unwrap_or((line, ""));
+    let (calls, rest) = front.split_once(' ').unwrap_or((front, ""));
+    let text = deep_of(alloc, calls, rest)?;
+    assert_count(rt, alloc, around, text.as_str(), many(symbols))
+}
+
+fn assert_limits(rt: &impl Abort, alloc: Global, around: &Around) -> Result<(), Fail> {
+    for line in LIMITS.lines() {
+        assert_limit(rt, alloc, around, line)?;
+    }
+    Ok(())
 }
 
 #[test]
 fn limits(rt: HostRuntime) -> Result<(), Fail> {
-    let alloc = rt.alloc();
-    for (calls, parens, leaf, symbols) in [
-        (0, 0, "a", 1),
-        (0, 1000, "a", 1),
-        (399, 0, "a", 400),
-        (400, 0, "a", 401),
-        (100000, 100000, "a", 100001),
-        (0, 0, "+(a,a,a)", 5),
-        (0, 0, "+(a,+(a,a))", 5),
-        (0, 0, "h(a,f(X))", 4),
-        (10, 0, "P:[A,B]", 11),
-        (100000, 0, "q", 0),
-    ] {
-        let text = deep(alloc, calls, parens, leaf)?;
-        let (told, count) = shown(alloc, text.as_str(), 400, true)?;
-        assert_eq!(rt; count, symbols, "at {calls} {parens} {leaf}");
-        let is_unknown = told.as_str() == "unknown";
-        assert_eq!(rt; is_unknown, symbols == 0, "at {calls} {parens} {leaf}");
-    }
-    Ok(())
+    let around = make_around(rt.alloc(), true)?;
+    assert_limits(&rt, rt.alloc(), &around)
 }
