@@ -1,13 +1,13 @@
 //! Terms and names, each rule with its edges.
+use crate::tests::writing::{push_number, push_text};
 use fvn_base::Seq;
 use fvn_syntax::{
     Kinded, Names, Piece, RawSort, Scope, Seen, TermFault, Text, Texts, Variables, cut,
     find_written_sort, read_term, skip_term,
 };
-use fvn_terms::{Args, Axioms, Declarations, OpDecl, OpId, Plain, Rank, SortId, Var};
-use std::alloc::Global;
+use fvn_terms::{Args, Axioms, Declarations, NoMemory, OpDecl, OpId, Plain, Rank, SortId, Var};
+use std::alloc::{AllocError, AllocFailed, Global};
 use std::process::Abort;
-use std::test::Fail;
 
 // Sorts A B of one kind (3), and C of another (4).
 //   0 a : -> A, 1 c : -> C, 2 f : A -> B, 3 g : A C -> C, 4 + : B B -> B [assoc comm],
@@ -154,7 +154,7 @@ D => no
 [D] => no
 [A,D] => no";
 
-fn texts_of(alloc: Global, words: &str) -> Result<Texts, Fail> {
+fn texts_of(alloc: Global, words: &str) -> Result<Texts, NoMemory> {
     let mut texts = Texts::new(alloc);
     for word in words.split(' ') {
         texts.insert(alloc, word.as_bytes())?;
@@ -162,7 +162,7 @@ fn texts_of(alloc: Global, words: &str) -> Result<Texts, Fail> {
     Ok(texts)
 }
 
-fn sorts_of(alloc: Global, numbers: &[u16]) -> Result<Seq<SortId>, Fail> {
+fn sorts_of(alloc: Global, numbers: &[u16]) -> Result<Seq<SortId>, NoMemory> {
     let mut sorts = Vec::new(alloc);
     for n in numbers {
         sorts.push(SortId(*n))?;
@@ -198,7 +198,7 @@ fn axioms(word: &str) -> Axioms {
     }
 }
 
-fn operator(alloc: Global, line: &str) -> Result<OpDecl, Fail> {
+fn operator(alloc: Global, line: &str) -> Result<OpDecl, NoMemory> {
     let mut sorts = Vec::new(alloc);
     for word in line.split(' ').skip(1) {
         sorts.push(SortId(number(word)))?;
@@ -213,7 +213,7 @@ fn operator(alloc: Global, line: &str) -> Result<OpDecl, Fail> {
     })
 }
 
-fn declarations(alloc: Global) -> Result<Declarations, Fail> {
+fn declarations(alloc: Global) -> Result<Declarations, NoMemory> {
     let mut ops = Vec::new(alloc);
     for line in OPERATORS.lines() {
         ops.push(operator(alloc, line)?)?;
@@ -226,7 +226,7 @@ fn declarations(alloc: Global) -> Result<Declarations, Fail> {
     })
 }
 
-fn names(alloc: Global) -> Result<Names, Fail> {
+fn names(alloc: Global) -> Result<Names, NoMemory> {
     Ok(Names {
         module_name: Seq::new(alloc),
         sorts: texts_of(alloc, "A B C")?,
@@ -238,14 +238,8 @@ fn names(alloc: Global) -> Result<Names, Fail> {
     })
 }
 
-fn push_number(out: &mut String, alloc: Global, before: &str, n: usize) -> Result<(), Fail> {
-    out.push_str(before)?;
-    out.push_str(&format!(in alloc; "{n}")?)?;
-    Ok(())
-}
-
 #[cycle(show)]
-fn show(out: &mut String, alloc: Global, t: &Plain) -> Result<(), Fail> {
+fn show(out: &mut String, alloc: Global, t: &Plain) -> Result<(), NoMemory> {
     match t {
         Plain::Var(x) => show_variable(out, alloc, *x),
         Plain::App(op, us) => {
@@ -255,13 +249,13 @@ fn show(out: &mut String, alloc: Global, t: &Plain) -> Result<(), Fail> {
     }
 }
 
-fn show_variable(out: &mut String, alloc: Global, x: Var) -> Result<(), Fail> {
+fn show_variable(out: &mut String, alloc: Global, x: Var) -> Result<(), NoMemory> {
     push_number(out, alloc, "v", x.name as usize)?;
     push_number(out, alloc, ":", usize::from(x.sort.0))
 }
 
 #[cycle(show)]
-fn show_all(out: &mut String, alloc: Global, us: &Args) -> Result<(), Fail> {
+fn show_all(out: &mut String, alloc: Global, us: &Args) -> Result<(), NoMemory> {
     for u in &us.items {
         out.push(' ')?;
         show(out, alloc, u)?;
@@ -270,23 +264,16 @@ fn show_all(out: &mut String, alloc: Global, us: &Args) -> Result<(), Fail> {
     Ok(())
 }
 
-fn push_bytes(out: &mut String, bytes: &[u8]) -> Result<(), Fail> {
-    for b in bytes {
-        out.push(char::from(*b))?;
-    }
-    Ok(())
-}
-
 // Each text, with a space before it.
-fn push_texts(out: &mut String, texts: &Texts) -> Result<(), Fail> {
+fn push_texts(out: &mut String, texts: &Texts) -> Result<(), NoMemory> {
     for i in 0..texts.len() {
         out.push(' ')?;
-        push_bytes(out, texts.text(i))?;
+        push_text(out, texts.text(i))?;
     }
     Ok(())
 }
 
-fn shown_read(alloc: Global, term: &Kinded, seen: &Seen) -> Result<(String, usize), Fail> {
+fn shown_read(alloc: Global, term: &Kinded, seen: &Seen) -> Result<(String, usize), NoMemory> {
     let mut out = String::new(alloc);
     show(&mut out, alloc, &term.term)?;
     push_number(&mut out, alloc, " ", usize::from(term.kind.0))?;
@@ -305,7 +292,7 @@ fn word_of(fault: TermFault) -> &'static str {
 }
 
 // A word, and no symbols.
-fn word(alloc: Global, text: &str) -> Result<(String, usize), Fail> {
+fn word(alloc: Global, text: &str) -> Result<(String, usize), NoMemory> {
     let mut out = String::new(alloc);
     out.push_str(text)?;
     Ok((out, 0))
@@ -317,7 +304,7 @@ fn shown_term(
     limit: usize,
     scope: &Scope<'_>,
     row: &[Piece<'_>],
-) -> Result<(String, usize), Fail> {
+) -> Result<(String, usize), NoMemory> {
     let seen = Seen {
         texts: Texts::new(alloc),
         count: 0,
@@ -333,7 +320,7 @@ fn shown_row(
     limit: usize,
     scope: &Scope<'_>,
     row: &[Piece<'_>],
-) -> Result<(String, usize), Fail> {
+) -> Result<(String, usize), NoMemory> {
     match skip_term(alloc, row)? {
         Some(taken) => shown_term(alloc, limit, scope, &row[..taken]),
         None => word(alloc, ""),
@@ -345,7 +332,7 @@ fn shown_text(
     limit: usize,
     scope: &Scope<'_>,
     text: &str,
-) -> Result<(String, usize), Fail> {
+) -> Result<(String, usize), NoMemory> {
     match cut(alloc, text.as_bytes()) {
         Ok(row) => shown_row(alloc, limit, scope, row.as_slice()),
         Err(_) => word(alloc, ""),
@@ -360,7 +347,7 @@ struct Around {
     guarded: bool,
 }
 
-fn make_around(alloc: Global, guarded: bool) -> Result<Around, Fail> {
+fn make_around(alloc: Global, guarded: bool) -> Result<Around, NoMemory> {
     let declarations = declarations(alloc)?;
     Ok(Around {
         declarations,
@@ -370,7 +357,7 @@ fn make_around(alloc: Global, guarded: bool) -> Result<Around, Fail> {
 }
 
 // The same of a text.
-fn shown(alloc: Global, around: &Around, text: &str) -> Result<(String, usize), Fail> {
+fn shown(alloc: Global, around: &Around, text: &str) -> Result<(String, usize), NoMemory> {
     let names = &around.names;
     if 65536 < names.sorts.len() || 65536 < names.ops.len() {
         return word(alloc, "");
@@ -380,28 +367,28 @@ fn shown(alloc: Global, around: &Around, text: &str) -> Result<(String, usize), 
 }
 
 // How many tokens the term has with which a row begins.
-fn shown_taken(alloc: Global, row: &[Piece<'_>]) -> Result<String, Fail> {
+fn shown_taken(alloc: Global, row: &[Piece<'_>]) -> Result<String, NoMemory> {
     match skip_term(alloc, row)? {
         Some(n) => Ok(format!(in alloc; "{n}")?),
         None => Ok(format!(in alloc; "no")?),
     }
 }
 
-fn shown_form(alloc: Global, text: &str) -> Result<String, Fail> {
+fn shown_form(alloc: Global, text: &str) -> Result<String, NoMemory> {
     match cut(alloc, text.as_bytes()) {
         Ok(row) => shown_taken(alloc, row.as_slice()),
         Err(_) => Ok(format!(in alloc; "fault")?),
     }
 }
 
-fn assert_form(rt: &impl Abort, alloc: Global, text: &str, want: &str) -> Result<(), Fail> {
+fn assert_form(rt: &impl Abort, alloc: Global, text: &str, want: &str) -> Result<(), NoMemory> {
     let told = shown_form(alloc, text)?;
     assert_eq!(rt; told.as_str(), want, "at {text}");
     Ok(())
 }
 
 #[test]
-fn forms(rt: HostRuntime) -> Result<(), Fail> {
+fn forms(rt: HostRuntime) -> Result<(), NoMemory> {
     for line in FORMS.lines() {
         let (text, want) = line.split_once(" => ").unwrap_or((line, "no arrow"));
         assert_form(&rt, rt.alloc(), text, want)?;
@@ -415,13 +402,18 @@ fn assert_term(
     around: &Around,
     text: &str,
     want: &str,
-) -> Result<(), Fail> {
+) -> Result<(), NoMemory> {
     let (told, _) = shown(alloc, around, text)?;
     assert_eq!(rt; told.as_str(), want, "at {text}");
     Ok(())
 }
 
-fn assert_terms(rt: &impl Abort, alloc: Global, around: &Around, lines: &str) -> Result<(), Fail> {
+fn assert_terms(
+    rt: &impl Abort,
+    alloc: Global,
+    around: &Around,
+    lines: &str,
+) -> Result<(), NoMemory> {
     for line in lines.lines() {
         let (text, want) = line.split_once(" => ").unwrap_or((line, "no arrow"));
         assert_term(rt, alloc, around, text, want)?;
@@ -429,23 +421,28 @@ fn assert_terms(rt: &impl Abort, alloc: Global, around: &Around, lines: &str) ->
     Ok(())
 }
 
-fn assert_guarded(rt: &impl Abort, alloc: Global, guarded: bool, lines: &str) -> Result<(), Fail> {
+fn assert_guarded(
+    rt: &impl Abort,
+    alloc: Global,
+    guarded: bool,
+    lines: &str,
+) -> Result<(), NoMemory> {
     let around = make_around(alloc, guarded)?;
     assert_terms(rt, alloc, &around, lines)
 }
 
 #[test]
-fn terms(rt: HostRuntime) -> Result<(), Fail> {
+fn terms(rt: HostRuntime) -> Result<(), NoMemory> {
     assert_guarded(&rt, rt.alloc(), true, TERMS)
 }
 
 #[test]
-fn names_without_guard(rt: HostRuntime) -> Result<(), Fail> {
+fn names_without_guard(rt: HostRuntime) -> Result<(), NoMemory> {
     assert_guarded(&rt, rt.alloc(), false, UNGUARDED)
 }
 
 // The letters in a bracket from the second on.
-fn others(alloc: Global, bytes: &[u8]) -> Result<Vec<Text<'_>>, Fail> {
+fn others(alloc: Global, bytes: &[u8]) -> Result<Vec<Text<'_>>, NoMemory> {
     let mut others = Vec::new(alloc);
     for i in 3..bytes.len() {
         if bytes[i].is_ascii_uppercase() {
@@ -456,7 +453,7 @@ fn others(alloc: Global, bytes: &[u8]) -> Result<Vec<Text<'_>>, Fail> {
 }
 
 // The sort of a letter, or of letters in a bracket.
-fn written(alloc: Global, bytes: &[u8]) -> Result<RawSort<'_>, Fail> {
+fn written(alloc: Global, bytes: &[u8]) -> Result<RawSort<'_>, NoMemory> {
     if bytes.len() < 3 {
         return Ok(RawSort::Name(Text::new(bytes)));
     }
@@ -464,7 +461,7 @@ fn written(alloc: Global, bytes: &[u8]) -> Result<RawSort<'_>, Fail> {
     Ok(RawSort::Kind(Text::new(&bytes[1..2]), others))
 }
 
-fn shown_found(alloc: Global, found: Option<SortId>) -> Result<String, Fail> {
+fn shown_found(alloc: Global, found: Option<SortId>) -> Result<String, NoMemory> {
     match found {
         Some(s) => {
             let n = s.0;
@@ -474,7 +471,12 @@ fn shown_found(alloc: Global, found: Option<SortId>) -> Result<String, Fail> {
     }
 }
 
-fn shown_sort(alloc: Global, sorts: &Texts, kinds: &[SortId], text: &str) -> Result<String, Fail> {
+fn shown_sort(
+    alloc: Global,
+    sorts: &Texts,
+    kinds: &[SortId],
+    text: &str,
+) -> Result<String, NoMemory> {
     if 65536 < sorts.len() {
         return shown_found(alloc, None);
     }
@@ -488,7 +490,7 @@ fn assert_sort(
     sorts: &Texts,
     kinds: &[SortId],
     line: &str,
-) -> Result<(), Fail> {
+) -> Result<(), NoMemory> {
     let (text, want) = line.split_once(" => ").unwrap_or((line, "no arrow"));
     let told = shown_sort(alloc, sorts, kinds, text)?;
     assert_eq!(rt; told.as_str(), want, "at {text}");
@@ -500,7 +502,7 @@ fn assert_sorts(
     alloc: Global,
     sorts: &Texts,
     kinds: &[SortId],
-) -> Result<(), Fail> {
+) -> Result<(), NoMemory> {
     for line in SORTS.lines() {
         assert_sort(rt, alloc, sorts, kinds, line)?;
     }
@@ -508,14 +510,14 @@ fn assert_sorts(
 }
 
 #[test]
-fn written_sorts(rt: HostRuntime) -> Result<(), Fail> {
+fn written_sorts(rt: HostRuntime) -> Result<(), NoMemory> {
     let alloc = rt.alloc();
     let sorts = texts_of(alloc, "A B C")?;
     let kinds = sorts_of(alloc, &[3, 3, 4, 3, 4])?;
     assert_sorts(&rt, alloc, &sorts, kinds.as_slice())
 }
 
-fn push_often(text: &mut String, many: usize, part: &str) -> Result<(), Fail> {
+fn push_often(text: &mut String, many: usize, part: &str) -> Result<(), NoMemory> {
     for _ in 0..many {
         text.push_str(part)?;
     }
@@ -523,7 +525,7 @@ fn push_often(text: &mut String, many: usize, part: &str) -> Result<(), Fail> {
 }
 
 // A term of so many operators over a constant or an unknown name, within so many parentheses.
-fn deep(alloc: Global, calls: usize, parens: usize, leaf: &str) -> Result<String, Fail> {
+fn deep(alloc: Global, calls: usize, parens: usize, leaf: &str) -> Result<String, NoMemory> {
     let mut text = String::new(alloc);
     push_often(&mut text, parens, "(")?;
     push_often(&mut text, calls, "X(")?;
@@ -550,7 +552,7 @@ fn many(word: &str) -> usize {
     word.parse::<usize>().unwrap_or(7)
 }
 
-fn deep_of(alloc: Global, calls: &str, line: &str) -> Result<String, Fail> {
+fn deep_of(alloc: Global, calls: &str, line: &str) -> Result<String, NoMemory> {
     let (parens, leaf) = line.split_once(' ').unwrap_or((line, ""));
     deep(alloc, many(calls), many(parens), leaf)
 }
@@ -561,7 +563,7 @@ fn assert_count(
     around: &Around,
     text: &str,
     symbols: usize,
-) -> Result<(), Fail> {
+) -> Result<(), NoMemory> {
     let (told, count) = shown(alloc, around, text)?;
     let is_unknown = told.as_str() == "unknown";
     assert!(rt;
@@ -571,14 +573,19 @@ fn assert_count(
     Ok(())
 }
 
-fn assert_limit(rt: &impl Abort, alloc: Global, around: &Around, line: &str) -> Result<(), Fail> {
+fn assert_limit(
+    rt: &impl Abort,
+    alloc: Global,
+    around: &Around,
+    line: &str,
+) -> Result<(), NoMemory> {
     let (front, symbols) = line.rsplit_once(' ').unwrap_or((line, ""));
     let (calls, rest) = front.split_once(' ').unwrap_or((front, ""));
     let text = deep_of(alloc, calls, rest)?;
     assert_count(rt, alloc, around, text.as_str(), many(symbols))
 }
 
-fn assert_limits(rt: &impl Abort, alloc: Global, around: &Around) -> Result<(), Fail> {
+fn assert_limits(rt: &impl Abort, alloc: Global, around: &Around) -> Result<(), NoMemory> {
     for line in LIMITS.lines() {
         assert_limit(rt, alloc, around, line)?;
     }
@@ -586,7 +593,7 @@ fn assert_limits(rt: &impl Abort, alloc: Global, around: &Around) -> Result<(), 
 }
 
 #[test]
-fn limits(rt: HostRuntime) -> Result<(), Fail> {
+fn limits(rt: HostRuntime) -> Result<(), NoMemory> {
     let around = make_around(rt.alloc(), true)?;
     assert_limits(&rt, rt.alloc(), &around)
 }

@@ -1,10 +1,11 @@
 //! Statements at the edges of their forms.
+use crate::tests::writing::{push_number, push_text};
 use fvn_lex::LexFault;
 use fvn_statements::{Feature, Form, FormFault, Mark, RawRank, Statement, read_form};
 use fvn_syntax::{Piece, RawSort, Text, cut};
-use std::alloc::Global;
+use fvn_terms::NoMemory;
+use std::alloc::{AllocError, Global};
 use std::process::Abort;
-use std::test::Fail;
 
 // Each line has the text between `is` and `endfm`, and what is read of it: the statements with the numbers of
 // their parts, or the fault.
@@ -192,15 +193,8 @@ eq a = b [variant] => statement 1
 Eq a = b [variant] . => statement 1
 eq a = b [variant] . eq c = d . eq e => left out 2 Equation";
 
-fn push_text(out: &mut String, text: &[u8]) -> Result<(), Fail> {
-    for b in text {
-        out.push(char::from(*b))?;
-    }
-    Ok(())
-}
-
 // The name of a sort, or the first one of a kind in brackets.
-fn push_sort(out: &mut String, sort: &RawSort<'_>) -> Result<(), Fail> {
+fn push_sort(out: &mut String, sort: &RawSort<'_>) -> Result<(), NoMemory> {
     match sort {
         RawSort::Name(text) => push_text(out, text.bytes()),
         RawSort::Kind(text, _) => {
@@ -212,7 +206,7 @@ fn push_sort(out: &mut String, sort: &RawSort<'_>) -> Result<(), Fail> {
     }
 }
 
-fn push_label(out: &mut String, label: &Option<Text<'_>>) -> Result<(), Fail> {
+fn push_label(out: &mut String, label: &Option<Text<'_>>) -> Result<(), NoMemory> {
     if let Some(text) = label {
         out.push('[')?;
         push_text(out, text.bytes())?;
@@ -222,7 +216,7 @@ fn push_label(out: &mut String, label: &Option<Text<'_>>) -> Result<(), Fail> {
 }
 
 // An attribute of an equation, behind a text.
-fn push_mark(out: &mut String, before: &str, mark: &Mark<'_>) -> Result<(), Fail> {
+fn push_mark(out: &mut String, before: &str, mark: &Mark<'_>) -> Result<(), NoMemory> {
     out.push_str(before)?;
     match mark {
         Mark::Variant => {
@@ -237,19 +231,13 @@ fn push_mark(out: &mut String, before: &str, mark: &Mark<'_>) -> Result<(), Fail
 }
 
 // The attributes of an equation, and the bracket that closes.
-fn push_marks(out: &mut String, marks: &[Mark<'_>]) -> Result<(), Fail> {
+fn push_marks(out: &mut String, marks: &[Mark<'_>]) -> Result<(), NoMemory> {
     let mut space = "";
     for mark in marks {
         push_mark(out, space, mark)?;
         space = " ";
     }
     out.push(']')?;
-    Ok(())
-}
-
-fn push_number(out: &mut String, alloc: Global, before: &str, n: usize) -> Result<(), Fail> {
-    out.push_str(before)?;
-    out.push_str(&format!(in alloc; "{n}")?)?;
     Ok(())
 }
 
@@ -260,7 +248,7 @@ fn push_sides(
     label: &Option<Text<'_>>,
     left: usize,
     right: usize,
-) -> Result<(), Fail> {
+) -> Result<(), NoMemory> {
     out.push_str(", eq ")?;
     push_label(out, label)?;
     push_number(out, alloc, "", left)?;
@@ -275,7 +263,7 @@ fn push_rank(
     alloc: Global,
     rank: &RawRank<'_>,
     attributes: usize,
-) -> Result<(), Fail> {
+) -> Result<(), NoMemory> {
     push_number(out, alloc, " ", rank.args.len())?;
     out.push_str(if rank.partial { " ~> " } else { " -> " })?;
     push_sort(out, &rank.result)?;
@@ -287,14 +275,18 @@ fn push_variables(
     alloc: Global,
     names: usize,
     sort: &RawSort<'_>,
-) -> Result<(), Fail> {
+) -> Result<(), NoMemory> {
     push_number(out, alloc, ", vars ", names)?;
     out.push(' ')?;
     push_sort(out, sort)
 }
 
 // What is read of a statement.
-fn push_statement(out: &mut String, alloc: Global, statement: &Statement<'_>) -> Result<(), Fail> {
+fn push_statement(
+    out: &mut String,
+    alloc: Global,
+    statement: &Statement<'_>,
+) -> Result<(), NoMemory> {
     match statement {
         Statement::Sorts { names, .. } => push_number(out, alloc, ", sorts ", names.len()),
         Statement::Subsorts { groups, .. } => push_number(out, alloc, ", subsorts ", groups.len()),
@@ -327,7 +319,7 @@ fn push_statement(out: &mut String, alloc: Global, statement: &Statement<'_>) ->
     }
 }
 
-fn shown_form(alloc: Global, form: &Form<'_>) -> Result<String, Fail> {
+fn shown_form(alloc: Global, form: &Form<'_>) -> Result<String, NoMemory> {
     let mut out = String::new(alloc);
     out.push_str("read")?;
     for statement in form.statements.as_slice() {
@@ -337,19 +329,19 @@ fn shown_form(alloc: Global, form: &Form<'_>) -> Result<String, Fail> {
 }
 
 // A word, and behind it a number.
-fn shown_number(alloc: Global, word: &str, n: usize) -> Result<String, Fail> {
+fn shown_number(alloc: Global, word: &str, n: usize) -> Result<String, NoMemory> {
     let mut out = String::new(alloc);
     push_number(&mut out, alloc, word, n)?;
     Ok(out)
 }
 
-fn shown_left_out(alloc: Global, n: usize, feature: Feature) -> Result<String, Fail> {
+fn shown_left_out(alloc: Global, n: usize, feature: Feature) -> Result<String, NoMemory> {
     let mut out = shown_number(alloc, "left out ", n)?;
     out.push_str(&format!(in alloc; " {feature:?}")?)?;
     Ok(out)
 }
 
-fn shown_fault(alloc: Global, fault: FormFault) -> Result<String, Fail> {
+fn shown_fault(alloc: Global, fault: FormFault) -> Result<String, NoMemory> {
     match fault {
         FormFault::Header => Ok(format!(in alloc; "header")?),
         FormFault::Statement(n) => shown_number(alloc, "statement ", n),
@@ -358,14 +350,14 @@ fn shown_fault(alloc: Global, fault: FormFault) -> Result<String, Fail> {
     }
 }
 
-fn shown_pieces(alloc: Global, pieces: &[Piece<'_>]) -> Result<String, Fail> {
+fn shown_pieces(alloc: Global, pieces: &[Piece<'_>]) -> Result<String, NoMemory> {
     match read_form(alloc, pieces) {
         Ok(form) => shown_form(alloc, &form),
         Err(fault) => shown_fault(alloc, fault),
     }
 }
 
-fn shown(alloc: Global, bytes: &[u8]) -> Result<String, Fail> {
+fn shown(alloc: Global, bytes: &[u8]) -> Result<String, NoMemory> {
     match cut(alloc, bytes) {
         Ok(pieces) => shown_pieces(alloc, pieces.as_slice()),
         Err(LexFault::NoMemory) => Ok(format!(in alloc; "memory")?),
@@ -374,13 +366,13 @@ fn shown(alloc: Global, bytes: &[u8]) -> Result<String, Fail> {
     }
 }
 
-fn assert_shown(rt: &impl Abort, alloc: Global, text: &str, want: &str) -> Result<(), Fail> {
+fn assert_shown(rt: &impl Abort, alloc: Global, text: &str, want: &str) -> Result<(), NoMemory> {
     let told = shown(alloc, text.as_bytes())?;
     assert_eq!(rt; told.as_str(), want, "at {text}");
     Ok(())
 }
 
-fn assert_body(rt: &impl Abort, alloc: Global, body: &str, want: &str) -> Result<(), Fail> {
+fn assert_body(rt: &impl Abort, alloc: Global, body: &str, want: &str) -> Result<(), NoMemory> {
     let mut text = String::new(alloc);
     text.push_str("fmod M is ")?;
     text.push_str(body)?;
@@ -388,7 +380,7 @@ fn assert_body(rt: &impl Abort, alloc: Global, body: &str, want: &str) -> Result
     assert_shown(rt, alloc, text.as_str(), want)
 }
 
-fn assert_bodies(rt: &impl Abort, alloc: Global, lines: &str) -> Result<(), Fail> {
+fn assert_bodies(rt: &impl Abort, alloc: Global, lines: &str) -> Result<(), NoMemory> {
     for line in lines.lines() {
         let (body, want) = line.rsplit_once(" => ").unwrap_or((line, "no arrow"));
         assert_body(rt, alloc, body, want)?;
@@ -397,12 +389,12 @@ fn assert_bodies(rt: &impl Abort, alloc: Global, lines: &str) -> Result<(), Fail
 }
 
 #[test]
-fn bodies(rt: HostRuntime) -> Result<(), Fail> {
+fn bodies(rt: HostRuntime) -> Result<(), NoMemory> {
     assert_bodies(&rt, rt.alloc(), BODIES)
 }
 
 #[test]
-fn equations(rt: HostRuntime) -> Result<(), Fail> {
+fn equations(rt: HostRuntime) -> Result<(), NoMemory> {
     assert_bodies(&rt, rt.alloc(), EQUATIONS)
 }
 
@@ -426,7 +418,7 @@ fmod M is sort A . --- sort . => header
 fmod M is ---( endfm => byte 10";
 
 #[test]
-fn texts(rt: HostRuntime) -> Result<(), Fail> {
+fn texts(rt: HostRuntime) -> Result<(), NoMemory> {
     for line in TEXTS.lines() {
         let (text, want) = line.rsplit_once(" => ").unwrap_or((line, "no arrow"));
         assert_shown(&rt, rt.alloc(), text, want)?;
@@ -434,7 +426,7 @@ fn texts(rt: HostRuntime) -> Result<(), Fail> {
     Ok(())
 }
 
-fn push_often(out: &mut String, text: &str) -> Result<(), Fail> {
+fn push_often(out: &mut String, text: &str) -> Result<(), NoMemory> {
     for _ in 0..100000 {
         out.push_str(text)?;
     }
@@ -445,7 +437,7 @@ fn push_often(out: &mut String, text: &str) -> Result<(), Fail> {
 const LONG: &str =
     "fmod M is sorts| A| . op f : [A|,A|] -> A . eq |f(|a|)| = f(a|,a|) [variant| label x|] . ops |(|: -> A . endfm";
 
-fn push_part(out: &mut String, number: usize, part: &str) -> Result<(), Fail> {
+fn push_part(out: &mut String, number: usize, part: &str) -> Result<(), NoMemory> {
     if number % 2 == 1 {
         return push_often(out, part);
     }
@@ -453,7 +445,7 @@ fn push_part(out: &mut String, number: usize, part: &str) -> Result<(), Fail> {
     Ok(())
 }
 
-fn long_text(alloc: Global) -> Result<String, Fail> {
+fn long_text(alloc: Global) -> Result<String, NoMemory> {
     let mut text = String::new(alloc);
     for (number, part) in LONG.split('|').enumerate() {
         push_part(&mut text, number, part)?;
@@ -463,7 +455,7 @@ fn long_text(alloc: Global) -> Result<String, Fail> {
 
 // Long and deep statements are read without a copy of them.
 #[test]
-fn long_statements(rt: HostRuntime) -> Result<(), Fail> {
+fn long_statements(rt: HostRuntime) -> Result<(), NoMemory> {
     let alloc = rt.alloc();
     let text = long_text(alloc)?;
     let told = shown(alloc, text.as_bytes())?;
