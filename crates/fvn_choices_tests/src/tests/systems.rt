@@ -305,7 +305,10 @@ fn assert_limits(
         many == columns && list.len() % 24 == 0,
         "{columns} columns"
     );
-    assert!(rt; list.contains(&(greatest as u32)), "{columns} columns");
+    assert!(rt;
+        list.contains(&greatest.unsigned_abs()),
+        "{columns} columns"
+    );
     Ok(())
 }
 
