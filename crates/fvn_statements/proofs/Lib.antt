@@ -1,6 +1,7 @@
 -- Lemmas of this crate; the public ones are for callers.
 mod Unequal
 mod GatherExact
+mod Gathering
 mod SortExact
 mod AttributeExact
 mod NamesExact

@@ -1,11 +1,13 @@
 //! Reading attributes of operators.
 ghost use Rattle.std.specs.Prelude.{◌≡◌, ◌||◌, IfOk, codes};
 ghost use Rattle.std.specs.List.{list_any};
-ghost use Rattle.fvn_statements.specs.inner.Attributes.{words_before, words_in_parens, identity_of, attribute_named, attribute_of, is_close, attributes_of};
+ghost use Rattle.fvn_syntax.specs.Pieces.{is_word, is_special};
+ghost use Rattle.fvn_statements.specs.inner.Attributes.{word_of as the_word, made, words_before, words_in_parens, identity_of, attribute_named, attribute_of, is_close, attributes_of};
 ghost use Rattle.fvn_statements.specs.LeftOut.{is_assoc, is_comm, is_ditto, stands, left_out, first_left_out, begins_identity, left_out_at_word, left_out_at, left_out_in};
 
 use crate::reader::{Reader, read_all};
 use crate::statement::{Attribute, Feature, Reading};
+use crate::words::is_text;
 use fvn_base::Seq;
 use fvn_syntax::{Piece, Row, Text};
 use fvn_terms::NoMemory;
@@ -32,7 +34,9 @@ impl<'a> Reader<'a, Text<'a>> for AnyWord {
 pub fn read_word<'a>(row: &'a [Piece<'a>]) -> Option<(Text<'a>, Row<'a>)>
     ensures { result ≡ Rattle.fvn_statements.specs.inner.Attributes.word_of row.now }
 {
-    let (piece, rest) = row.split_first()?;
+    let Some((piece, rest)) = row.split_first() else {
+        return None;
+    };
     if piece.is_word() {
         Some((Text::new(piece.text()), Row::new(rest)))
     } else {
@@ -47,7 +51,9 @@ fn words_before<'a>(words: Seq<Text<'a>>, row: &'a [Piece<'a>]) -> Option<(Seq<T
     if words.is_empty() {
         return None;
     }
-    let (piece, rest) = row.split_first()?;
+    let Some((piece, rest)) = row.split_first() else {
+        return None;
+    };
     if piece.is_special(b")") {
         Some((words, Row::new(rest)))
     } else {
@@ -72,20 +78,63 @@ fn words_in_parens<'a>(
     Ok(words_before(words, rest.pieces()))
 }
 
+// Whether an attribute or the end may begin with a token.
+fn is_behind_identity(piece: &Piece<'_>) -> bool
+    ensures { result ≡ (is_word piece.now || is_special (codes "]") piece.now) }
+{
+    piece.is_word() || piece.is_special(b"]")
+}
+
 // A word, and behind it an attribute or the end.
 fn read_identity<'a>(row: &'a [Piece<'a>]) -> Option<(Attribute<'a>, Row<'a>)>
     ensures { result ≡ identity_of row.now }
 {
-    if row.len() < 2 || !row[0].is_word() {
+    let Some((word, rest)) = row.split_first() else {
         return None;
-    }
-    if row[1].is_word() || row[1].is_special(b"]") {
-        Some((
-            Attribute::Identity(Text::new(row[0].text())),
-            Row::new(&row[1..]),
-        ))
+    };
+    let Some((next, _)) = rest.split_first() else {
+        return None;
+    };
+    if word.is_word() && is_behind_identity(next) {
+        Some((Attribute::Identity(Text::new(word.text())), Row::new(rest)))
     } else {
         None
+    }
+}
+
+// What follows `prec`.
+fn read_precedence<'a>(row: &'a [Piece<'a>]) -> Option<(Attribute<'a>, Row<'a>)>
+    ensures { result ≡ made Attribute.Precedence (the_word row.now) }
+{
+    let Some((text, rest)) = read_word(row) else {
+        return None;
+    };
+    Some((Attribute::Precedence(text), rest))
+}
+
+// What follows `gather`.
+fn read_gather<'a>(
+    alloc: Global,
+    row: &'a [Piece<'a>],
+) -> Result<Option<(Attribute<'a>, Row<'a>)>, NoMemory>
+    ensures { IfOk result (λ r. r ≡ made Attribute.Gather (words_in_parens row.now)) }
+{
+    match words_in_parens(alloc, row)? {
+        None => Ok(None),
+        Some((words, rest)) => Ok(Some((Attribute::Gather(words), rest))),
+    }
+}
+
+// What follows `format`.
+fn read_format<'a>(
+    alloc: Global,
+    row: &'a [Piece<'a>],
+) -> Result<Option<(Attribute<'a>, Row<'a>)>, NoMemory>
+    ensures { IfOk result (λ r. r ≡ made Attribute.Format (words_in_parens row.now)) }
+{
+    match words_in_parens(alloc, row)? {
+        None => Ok(None),
+        Some((words, rest)) => Ok(Some((Attribute::Format(words), rest))),
     }
 }
 
@@ -97,31 +146,22 @@ fn read_named<'a>(
 ) -> Result<Option<(Attribute<'a>, Row<'a>)>, NoMemory>
     ensures { IfOk result (λ r. r ≡ attribute_named word.now row.now) }
 {
-    if word == b"assoc".as_slice() {
+    if is_text(word, b"assoc") {
         Ok(Some((Attribute::Assoc, Row::new(row))))
-    } else if word == b"comm".as_slice() {
+    } else if is_text(word, b"comm") {
         Ok(Some((Attribute::Comm, Row::new(row))))
-    } else if word == b"ctor".as_slice() {
+    } else if is_text(word, b"ctor") {
         Ok(Some((Attribute::Constructor, Row::new(row))))
-    } else if word == b"ditto".as_slice() {
+    } else if is_text(word, b"ditto") {
         Ok(Some((Attribute::Ditto, Row::new(row))))
-    } else if word == b"id:".as_slice() {
+    } else if is_text(word, b"id:") {
         Ok(read_identity(row))
-    } else if word == b"prec".as_slice() {
-        match read_word(row) {
-            None => Ok(None),
-            Some((text, rest)) => Ok(Some((Attribute::Precedence(text), rest))),
-        }
-    } else if word == b"gather".as_slice() {
-        match words_in_parens(alloc, row)? {
-            None => Ok(None),
-            Some((words, rest)) => Ok(Some((Attribute::Gather(words), rest))),
-        }
-    } else if word == b"format".as_slice() {
-        match words_in_parens(alloc, row)? {
-            None => Ok(None),
-            Some((words, rest)) => Ok(Some((Attribute::Format(words), rest))),
-        }
+    } else if is_text(word, b"prec") {
+        Ok(read_precedence(row))
+    } else if is_text(word, b"gather") {
+        read_gather(alloc, row)
+    } else if is_text(word, b"format") {
+        read_format(alloc, row)
     } else {
         Ok(None)
     }
@@ -222,13 +262,13 @@ fn begins_identity(row: &[Piece<'_>]) -> bool
 fn left_out_at_word(word: &[u8], row: &[Piece<'_>]) -> Option<Feature>
     ensures { result ≡ left_out_at_word word.now row.now }
 {
-    if word == b"id:".as_slice() {
+    if is_text(word, b"id:") {
         return Some(Feature::Identity);
     }
-    if (word == b"left".as_slice() || word == b"right".as_slice()) && begins_identity(row) {
+    if (is_text(word, b"left") || is_text(word, b"right")) && begins_identity(row) {
         return Some(Feature::Identity);
     }
-    if word == b"prec".as_slice() || word == b"gather".as_slice() || word == b"format".as_slice() {
+    if is_text(word, b"prec") || is_text(word, b"gather") || is_text(word, b"format") {
         return None;
     }
     Some(Feature::Attribute)
@@ -238,7 +278,9 @@ fn left_out_at_word(word: &[u8], row: &[Piece<'_>]) -> Option<Feature>
 fn left_out_at(row: &[Piece<'_>]) -> Option<Feature>
     ensures { result ≡ left_out_at row.now }
 {
-    let (piece, rest) = row.split_first()?;
+    let Some((piece, rest)) = row.split_first() else {
+        return None;
+    };
     if piece.is_word() {
         left_out_at_word(piece.text(), rest)
     } else {

@@ -17,6 +17,7 @@ ghost use Rattle.fvn_statements.specs.inner.Equations.{
 use crate::attributes::{is_close, read_word};
 use crate::reader::{Reader, read_all};
 use crate::statement::{Feature, Mark, Reading, Statement};
+use crate::words::is_text;
 use fvn_base::Seq;
 use fvn_syntax::{Piece, Row, Text, skip_term};
 use fvn_terms::NoMemory;
@@ -39,11 +40,13 @@ fn read_side<'a>(
 fn read_named<'a>(word: &[u8], row: &'a [Piece<'a>]) -> Option<(Mark<'a>, Row<'a>)>
     ensures { result ≡ mark_named word.now row.now }
 {
-    if word == b"variant".as_slice() {
+    if is_text(word, b"variant") {
         return Some((Mark::Variant, Row::new(row)));
     }
-    if word == b"label".as_slice() {
-        let (text, rest) = read_word(row)?;
+    if is_text(word, b"label") {
+        let Some((text, rest)) = read_word(row) else {
+            return None;
+        };
         return Some((Mark::Label(text), rest));
     }
     None
@@ -88,7 +91,9 @@ fn any_variant(marks: &[Mark<'_>]) -> bool
 fn left_out_at_mark(row: &[Piece<'_>]) -> Option<Feature>
     ensures { result ≡ left_out_at_mark row.now }
 {
-    let piece = row.first()?;
+    let Some(piece) = row.first() else {
+        return None;
+    };
     if piece.is_word() && !piece.is_name(b"label") {
         Some(Feature::Attribute)
     } else {
@@ -124,11 +129,17 @@ fn read_marks<'a>(alloc: Global, row: &'a [Piece<'a>]) -> Result<Reading<Seq<Mar
 fn label_behind<'a>(row: &'a [Piece<'a>]) -> Option<(Option<Text<'a>>, Row<'a>)>
     ensures { result ≡ label_behind row.now }
 {
-    if row.len() < 3 {
+    let Some((name, rest)) = row.split_first() else {
         return None;
-    }
-    if row[0].is_word() && row[1].is_special(b"]") && row[2].is_name(b":") {
-        Some((Some(Text::new(row[0].text())), Row::new(&row[3..])))
+    };
+    let Some((bracket, rest)) = rest.split_first() else {
+        return None;
+    };
+    let Some((colon, rest)) = rest.split_first() else {
+        return None;
+    };
+    if name.is_word() && bracket.is_special(b"]") && colon.is_name(b":") {
+        Some((Some(Text::new(name.text())), Row::new(rest)))
     } else {
         None
     }
@@ -147,7 +158,9 @@ fn read_label<'a>(row: &'a [Piece<'a>]) -> Option<(Option<Text<'a>>, Row<'a>)>
 fn behind_equals<'a>(row: &'a [Piece<'a>]) -> Option<Row<'a>>
     ensures { result ≡ behind_equals row.now }
 {
-    let (first, rest) = row.split_first()?;
+    let Some((first, rest)) = row.split_first() else {
+        return None;
+    };
     if first.is_name(b"=") {
         Some(Row::new(rest))
     } else {

@@ -8,6 +8,7 @@ ghost use Rattle.fvn_statements.specs.inner.Forms.{behind, before_end, frame_of,
 use crate::attributes::read_word;
 use crate::reading::read_statement;
 use crate::statement::{Feature, Reading, Statement};
+use crate::words::is_text;
 use fvn_base::Seq;
 use fvn_syntax::{Piece, Row, Text};
 use fvn_terms::NoMemory;
@@ -56,7 +57,9 @@ impl From<NoMemory> for FormFault {
 fn behind<'a>(row: &'a [Piece<'a>], text: &[u8]) -> Option<Row<'a>>
     ensures { result ≡ behind text.now row.now }
 {
-    let (first, rest) = row.split_first()?;
+    let Some((first, rest)) = row.split_first() else {
+        return None;
+    };
     if first.is_name(text) {
         Some(Row::new(rest))
     } else {
@@ -83,9 +86,19 @@ fn before_end<'a>(row: &'a [Piece<'a>]) -> Option<Row<'a>>
 fn read_frame<'a>(row: &'a [Piece<'a>]) -> Option<(Text<'a>, Row<'a>)>
     ensures { result ≡ frame_of row.now }
 {
-    let (name, rest) = read_word(behind(row, b"fmod")?.pieces())?;
-    let body = before_end(behind(rest.pieces(), b"is")?.pieces())?;
-    if name.bytes() == b"endfm".as_slice() {
+    let Some(rest) = behind(row, b"fmod") else {
+        return None;
+    };
+    let Some((name, rest)) = read_word(rest.pieces()) else {
+        return None;
+    };
+    let Some(rest) = behind(rest.pieces(), b"is") else {
+        return None;
+    };
+    let Some(body) = before_end(rest.pieces()) else {
+        return None;
+    };
+    if is_text(name.bytes(), b"endfm") {
         None
     } else {
         Some((name, body))
@@ -95,7 +108,7 @@ fn read_frame<'a>(row: &'a [Piece<'a>]) -> Option<(Text<'a>, Row<'a>)>
 fn is_stop(piece: &Piece<'_>) -> bool
     ensures { result ≡ is_stop piece.now }
 {
-    piece.is_dot() && piece.text() == b".".as_slice()
+    piece.is_dot() && is_text(piece.text(), b".")
 }
 
 // What stands before and behind the first dot.

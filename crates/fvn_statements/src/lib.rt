@@ -10,6 +10,7 @@ mod reader;
 mod reading;
 mod sorts;
 mod statement;
+mod words;
 
 pub use form::{Form, FormFault, read_form};
 pub use laws::{

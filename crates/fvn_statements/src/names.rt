@@ -304,7 +304,9 @@ impl<'a> Reader<'a, OperatorName<'a>> for AnyName {
 fn read_round<'a>(row: &'a [Piece<'a>]) -> Option<(OperatorName<'a>, Row<'a>)>
     ensures { MatchOption (before_close 0 row.now) (result ≡ None) (λ r. result ≡ round_name r.0 r.1) }
 {
-    let (inside, rest) = before_close(row)?;
+    let Some((inside, rest)) = before_close(row) else {
+        return None;
+    };
     if inside.pieces().is_empty() {
         None
     } else {

@@ -1,6 +1,7 @@
 //! Reading a statement.
 ghost use Rattle.std.specs.Prelude.{◌≡◌, IfOk};
-ghost use Rattle.fvn_statements.specs.inner.Statements.{operator_with, operators_with, operator_of, operators_of, operators_at, keyword_of, statement_of, statement_behind};
+ghost use Rattle.fvn_statements.specs.inner.Names.{sort_names_of, groups_of, variables_of};
+ghost use Rattle.fvn_statements.specs.inner.Statements.{sorts_read, groups_read, variables_read, operator_with, operators_with, operator_of, operators_of, operators_at, keyword_of, statement_of, statement_behind};
 ghost use Rattle.fvn_statements.specs.LeftOut.{feature_of};
 
 use crate::attributes::read_attributes;
@@ -11,6 +12,7 @@ use crate::names::{
 use crate::reader::read_all;
 use crate::sorts::read_rank;
 use crate::statement::{Feature, OperatorName, Reading, Statement};
+use crate::words::is_text;
 use fvn_base::Seq;
 use fvn_syntax::{Piece, Row};
 use fvn_terms::NoMemory;
@@ -30,23 +32,23 @@ pub enum Keyword {
 fn keyword_of(word: &[u8]) -> Option<Keyword>
     ensures { result ≡ keyword_of word.now }
 {
-    if word == b"sort".as_slice() {
+    if is_text(word, b"sort") {
         Some(Keyword::Sorts(false))
-    } else if word == b"sorts".as_slice() {
+    } else if is_text(word, b"sorts") {
         Some(Keyword::Sorts(true))
-    } else if word == b"subsort".as_slice() {
+    } else if is_text(word, b"subsort") {
         Some(Keyword::Subsorts(false))
-    } else if word == b"subsorts".as_slice() {
+    } else if is_text(word, b"subsorts") {
         Some(Keyword::Subsorts(true))
-    } else if word == b"op".as_slice() {
+    } else if is_text(word, b"op") {
         Some(Keyword::Operator)
-    } else if word == b"ops".as_slice() {
+    } else if is_text(word, b"ops") {
         Some(Keyword::Operators)
-    } else if word == b"var".as_slice() {
+    } else if is_text(word, b"var") {
         Some(Keyword::Variables(false))
-    } else if word == b"vars".as_slice() {
+    } else if is_text(word, b"vars") {
         Some(Keyword::Variables(true))
-    } else if word == b"eq".as_slice() {
+    } else if is_text(word, b"eq") {
         Some(Keyword::Equation)
     } else {
         None
@@ -57,19 +59,19 @@ fn keyword_of(word: &[u8]) -> Option<Keyword>
 fn feature_of(word: &[u8]) -> Option<Feature>
     ensures { result ≡ feature_of word.now }
 {
-    if word == b"protecting".as_slice()
-        || word == b"pr".as_slice()
-        || word == b"including".as_slice()
-        || word == b"inc".as_slice()
-        || word == b"extending".as_slice()
-        || word == b"ex".as_slice()
+    if is_text(word, b"protecting")
+        || is_text(word, b"pr")
+        || is_text(word, b"including")
+        || is_text(word, b"inc")
+        || is_text(word, b"extending")
+        || is_text(word, b"ex")
     {
         Some(Feature::Import)
-    } else if word == b"mb".as_slice() || word == b"cmb".as_slice() {
+    } else if is_text(word, b"mb") || is_text(word, b"cmb") {
         Some(Feature::Membership)
-    } else if word == b"ceq".as_slice() || word == b"cq".as_slice() {
+    } else if is_text(word, b"ceq") || is_text(word, b"cq") {
         Some(Feature::Condition)
-    } else if word == b"rl".as_slice() || word == b"crl".as_slice() {
+    } else if is_text(word, b"rl") || is_text(word, b"crl") {
         Some(Feature::Rule)
     } else {
         None
@@ -173,6 +175,52 @@ fn read_operators<'a>(
     read_operators_at(alloc, names, rest.pieces())
 }
 
+// What follows `sort`.
+fn read_sorts<'a>(
+    alloc: Global,
+    plural: bool,
+    row: &'a [Piece<'a>],
+) -> Result<Reading<Statement<'a>>, NoMemory>
+    ensures { IfOk result (λ r. r ≡ sorts_read plural (sort_names_of row.now)) }
+{
+    match read_sort_names(alloc, row)? {
+        None => Ok(Reading::NoForm),
+        Some(names) => Ok(Reading::Read(Statement::Sorts { plural, names })),
+    }
+}
+
+// What follows `subsort`.
+fn read_subsorts<'a>(
+    alloc: Global,
+    plural: bool,
+    row: &'a [Piece<'a>],
+) -> Result<Reading<Statement<'a>>, NoMemory>
+    ensures { IfOk result (λ r. r ≡ groups_read plural (groups_of row.now)) }
+{
+    match read_groups(alloc, row)? {
+        None => Ok(Reading::NoForm),
+        Some(groups) => Ok(Reading::Read(Statement::Subsorts { plural, groups })),
+    }
+}
+
+// What follows `var`.
+fn read_vars<'a>(
+    alloc: Global,
+    plural: bool,
+    row: &'a [Piece<'a>],
+) -> Result<Reading<Statement<'a>>, NoMemory>
+    ensures { IfOk result (λ r. r ≡ variables_read plural (variables_of row.now)) }
+{
+    match read_variables(alloc, row)? {
+        None => Ok(Reading::NoForm),
+        Some((names, sort)) => Ok(Reading::Read(Statement::Variables {
+            plural,
+            names,
+            sort,
+        })),
+    }
+}
+
 // What follows the word that begins a statement.
 fn read_behind<'a>(
     alloc: Global,
@@ -183,25 +231,12 @@ fn read_behind<'a>(
 {
     match keyword {
         None => Ok(Reading::NoForm),
-        Some(Keyword::Sorts(plural)) => match read_sort_names(alloc, row)? {
-            None => Ok(Reading::NoForm),
-            Some(names) => Ok(Reading::Read(Statement::Sorts { plural, names })),
-        },
-        Some(Keyword::Subsorts(plural)) => match read_groups(alloc, row)? {
-            None => Ok(Reading::NoForm),
-            Some(groups) => Ok(Reading::Read(Statement::Subsorts { plural, groups })),
-        },
+        Some(Keyword::Sorts(plural)) => read_sorts(alloc, plural, row),
+        Some(Keyword::Subsorts(plural)) => read_subsorts(alloc, plural, row),
         Some(Keyword::Operator) => read_operator(alloc, row),
         Some(Keyword::Operators) => read_operators(alloc, row),
         Some(Keyword::Equation) => read_equation(alloc, row),
-        Some(Keyword::Variables(plural)) => match read_variables(alloc, row)? {
-            None => Ok(Reading::NoForm),
-            Some((names, sort)) => Ok(Reading::Read(Statement::Variables {
-                plural,
-                names,
-                sort,
-            })),
-        },
+        Some(Keyword::Variables(plural)) => read_vars(alloc, plural, row),
     }
 }
 

@@ -2,6 +2,7 @@
 ghost use Rattle.std.specs.Prelude.{◌≡◌, IfOk};
 ghost use Rattle.fvn_statements.specs.inner.Sorts.{kind_before, bracket_sort, sort_of, arrow_of, rank_of};
 
+use crate::attributes::read_word;
 use crate::reader::{Reader, read_all};
 use crate::statement::RawRank;
 use fvn_base::Seq;
@@ -22,10 +23,10 @@ impl<'a> Reader<'a, Text<'a>> for AfterComma {
         _alloc: Global,
         row: &'a [Piece<'a>],
     ) -> Result<Option<(Text<'a>, Row<'a>)>, NoMemory> {
-        if row.len() < 2 || !row[0].is_special(b",") || !row[1].is_word() {
-            return Ok(None);
+        match row.split_first() {
+            Some((piece, rest)) if piece.is_special(b",") => Ok(read_word(rest)),
+            _ => Ok(None),
         }
-        Ok(Some((Text::new(row[1].text()), Row::new(&row[2..]))))
     }
 }
 
@@ -57,7 +58,9 @@ fn kind_before<'a>(
 ) -> Option<(RawSort<'a>, Row<'a>)>
     ensures { result ≡ kind_before first.entry others.entry row.now }
 {
-    let (piece, rest) = row.split_first()?;
+    let Some((piece, rest)) = row.split_first() else {
+        return None;
+    };
     if piece.is_special(b"]") {
         Some((RawSort::Kind(first, others), Row::new(rest)))
     } else {
@@ -105,7 +108,9 @@ pub fn read_sort<'a>(
 fn read_arrow<'a>(row: &'a [Piece<'a>]) -> Option<(bool, Row<'a>)>
     ensures { result ≡ arrow_of row.now }
 {
-    let (piece, rest) = row.split_first()?;
+    let Some((piece, rest)) = row.split_first() else {
+        return None;
+    };
     if piece.is_name(b"->") {
         Some((false, Row::new(rest)))
     } else if piece.is_name(b"~>") {
