@@ -126,7 +126,7 @@ fn push_sized(out: &mut String, sig: &Signature, u: &Flat) -> Result<(), NoMemor
 {
     push_flat(out, sig, u)?;
     out.push(' ')?;
-    push_digit(out, u.size())?;
+    push_digit(out, (u.size() % 10) as usize)?;
     out.push(' ')?;
     push_sort(out, u.least_sort(sig))
 }
@@ -188,7 +188,7 @@ fn push_renamed(out: &mut String, alloc: Global, sig: &Signature, u: &Flat) -> R
     let (renamed, next) = rename_apart(alloc, sig, u, 3)?;
     push_flat(out, sig, &renamed)?;
     out.push(' ')?;
-    push_digit(out, next as usize)
+    push_digit(out, (next % 10) as usize)
 }
 
 /// The term renamed, and the next free number.
