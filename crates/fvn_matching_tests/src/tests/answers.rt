@@ -11,19 +11,14 @@ fn push_sorts(out: &mut String, list: &[SortId]) -> Result<(), NoMemory> {
     Ok(())
 }
 
-/// The sign with this number, below 20, from the first on.
-fn push_sign(out: &mut String, first: u8, number: usize) -> Result<(), NoMemory> {
-    out.push(char::from(first.wrapping_add((number % 20) as u8)))?;
+fn push_operator(out: &mut String, op: OpId) -> Result<(), NoMemory> {
+    out.push(char::from(b'f'.wrapping_add((op.0 % 20) as u8)))?;
     Ok(())
 }
 
-fn push_operator(out: &mut String, op: OpId) -> Result<(), NoMemory> {
-    push_sign(out, b'f', usize::from(op.0))
-}
-
-/// The last digit of a number.
-pub fn push_digit(out: &mut String, number: usize) -> Result<(), NoMemory> {
-    push_sign(out, b'0', number % 10)
+fn push_digit(out: &mut String, number: usize) -> Result<(), NoMemory> {
+    out.push(char::from(b'0'.wrapping_add((number % 10) as u8)))?;
+    Ok(())
 }
 
 /// A number below 100.

@@ -1,13 +1,8 @@
 //! Flat forms of terms.
-ghost use Rattle.fvn_terms.specs.Plain.{term};
-ghost use Rattle.fvn_terms.specs.Signature.{IsTerm};
-ghost use Rattle.fvn_flat.specs.Fits.{Fits};
-
-use super::answers::push_digit;
 use super::building::{flattened_again, nested, over_arguments, tree};
 use super::rows::{Asked, assert_table};
 use fvn_flat::{Flat, flatten, rename_apart};
-use fvn_samples::{flat_of, is_term, push_flat, push_sort, term_of};
+use fvn_samples::{is_term, push_flat, push_sort, term_of};
 use fvn_sorts::Signature;
 use fvn_terms::{NoMemory, Plain};
 use std::alloc::{AllocError, Global};
@@ -119,83 +114,41 @@ const NESTED: &str = "A; f : -> A; g : -> A; h : A A -> A [assoc comm]
 left => 999 same
 right => 999 same
 tree => 999";
-
-/// A flat form, its size and its least sort.
-fn push_sized(out: &mut String, sig: &Signature, u: &Flat) -> Result<(), NoMemory>
-    requires { Fits sig.now u.now }
-{
-    push_flat(out, sig, u)?;
-    out.push(' ')?;
-    push_digit(out, u.size())?;
-    out.push(' ')?;
-    push_sort(out, u.least_sort(sig))
-}
-
-/// What is wrong where the plain term of a flat form has another one.
-fn push_again(out: &mut String, alloc: Global, sig: &Signature, u: &Flat) -> Result<(), NoMemory>
-    requires { Fits sig.now u.now }
-{
-    let again = flattened_again(alloc, sig, u)?;
-    if !again.same(u) {
-        out.push_str(" other when flattened again")?;
-    }
-    Ok(())
-}
-
-/// What is wrong where the flat forms of the arguments give another one.
-fn push_over(
-    out: &mut String,
-    alloc: Global,
-    sig: &Signature,
-    t: &Plain,
-    u: &Flat,
-) -> Result<(), NoMemory>
-    requires { IsTerm sig.now (term t.now) }
-{
-    let whole = over_arguments(alloc, sig, t)?;
-    if !whole.same(u) {
-        out.push_str(" other over its arguments")?;
-    }
-    Ok(())
-}
-
-fn push_form(out: &mut String, alloc: Global, sig: &Signature, t: &Plain) -> Result<(), NoMemory>
-    requires { IsTerm sig.now (term t.now) }
-{
-    let u = flatten(alloc, sig, t)?;
-    push_sized(out, sig, &u)?;
-    push_again(out, alloc, sig, &u)?;
-    push_over(out, alloc, sig, t, &u)
-}
-
 /// The flat form of the term, its size and its least sort.
 pub fn shown_form(alloc: Global, sig: &Signature, text: &str) -> Result<String, NoMemory> {
     let mut out = String::new(alloc);
     if let Some(t) = term_of(alloc, sig, text)? {
         if is_term(sig, &t) {
-            push_form(&mut out, alloc, sig, &t)?;
+            let u = flatten(alloc, sig, &t)?;
+            push_flat(&mut out, sig, &u)?;
+            out.push_str(" ")?;
+            out.push(char::from((u.size() % 10) as u8 + b'0'))?;
+            out.push_str(" ")?;
+            push_sort(&mut out, u.least_sort(sig))?;
+            if !flattened_again(alloc, sig, &u)?.same(&u) {
+                out.push_str(" other when flattened again")?;
+            }
+            if !over_arguments(alloc, sig, &t)?.same(&u) {
+                out.push_str(" other over its arguments")?;
+            }
         }
     }
     Ok(out)
 }
 
-fn push_renamed(out: &mut String, alloc: Global, sig: &Signature, u: &Flat) -> Result<(), NoMemory>
-    requires { Fits sig.now u.now }
-{
-    if u.size() >= 1000 {
-        return Ok(());
-    }
-    let (renamed, next) = rename_apart(alloc, sig, u, 3)?;
-    push_flat(out, sig, &renamed)?;
-    out.push(' ')?;
-    push_digit(out, next as usize)
-}
-
 /// The term renamed, and the next free number.
 pub fn shown_renamed(alloc: Global, sig: &Signature, text: &str) -> Result<String, NoMemory> {
     let mut out = String::new(alloc);
-    if let Some(u) = flat_of(alloc, sig, text)? {
-        push_renamed(&mut out, alloc, sig, &u)?;
+    if let Some(t) = term_of(alloc, sig, text)? {
+        if is_term(sig, &t) {
+            let u = flatten(alloc, sig, &t)?;
+            if u.size() < 1000 {
+                let (renamed, next) = rename_apart(alloc, sig, &u, 3)?;
+                push_flat(&mut out, sig, &renamed)?;
+                out.push_str(" ")?;
+                out.push(char::from((next % 10) as u8 + b'0'))?;
+            }
+        }
     }
     Ok(out)
 }

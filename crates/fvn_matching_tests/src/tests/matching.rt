@@ -1,6 +1,6 @@
 //! Matches the patterns and targets of tests.
 ghost use Rattle.std.specs.Prelude.{IfOk, IfSome};
-ghost use Rattle.fvn_flat.specs.Fits.{Fits, AllFit};
+ghost use Rattle.fvn_flat.specs.Fits.{Fits};
 
 use super::counting::are_matched;
 use fvn_flat::{Flat, Subst};
@@ -10,77 +10,28 @@ use fvn_sorts::Signature;
 use fvn_terms::NoMemory;
 use std::alloc::{AllocError, Global};
 
-/// The name of a variable, and what it is bound to.
-fn push_binding(out: &mut String, sig: &Signature, s: &Subst, x: &str) -> Result<(), NoMemory> {
-    out.push_str(x)?;
-    out.push(' ')?;
-    if let Some(t) = s.get(var_of(x)) {
-        push_flat(out, sig, t)?;
-    }
-    Ok(())
-}
-
 /// What the variables are bound to that the pairs of the text name.
-fn push_bindings(
-    out: &mut String,
+fn shown_bindings(
+    alloc: Global,
     sig: &Signature,
     s: &Subst,
     pairs: &str,
-) -> Result<(), NoMemory> {
-    let mut before = "";
+) -> Result<String, NoMemory> {
+    let mut out = String::new(alloc);
+    let mut before = false;
     for pair in pairs.split("; ") {
         let (x, _) = pair.split_once(' ').unwrap_or((pair, ""));
-        out.push_str(before)?;
-        push_binding(out, sig, s, x)?;
-        before = "; ";
+        if before {
+            out.push_str("; ")?;
+        }
+        before = true;
+        out.push_str(x)?;
+        out.push_str(" ")?;
+        if let Some(t) = s.get(var_of(x)) {
+            push_flat(&mut out, sig, t)?;
+        }
     }
-    Ok(())
-}
-
-/// The pairs that are wanted; `yes` where any will do.
-fn push_matcher(out: &mut String, sig: &Signature, s: &Subst, want: &str) -> Result<(), NoMemory> {
-    if want != "yes" {
-        return push_bindings(out, sig, s, want);
-    }
-    out.push_str("yes")?;
-    Ok(())
-}
-
-fn push_match(
-    out: &mut String,
-    alloc: Global,
-    sig: &Signature,
-    patterns: &[Flat],
-    targets: &[Flat],
-    want: &str,
-) -> Result<(), NoMemory>
-    requires patterns { AllFit sig.now patterns.now }
-    requires targets { AllFit sig.now targets.now }
-{
-    if patterns.len() != targets.len() {
-        return Ok(());
-    }
-    if let Some(s) = matches(alloc, sig, patterns, targets)? {
-        return push_matcher(out, sig, &s, want);
-    }
-    out.push_str("no")?;
-    Ok(())
-}
-
-fn push_match_with(
-    out: &mut String,
-    alloc: Global,
-    sig: &Signature,
-    patterns: &[Flat],
-    text: &str,
-    want: &str,
-) -> Result<(), NoMemory>
-    requires { AllFit sig.now patterns.now }
-{
-    if let Some(targets) = flats_of(alloc, sig, text)? {
-        push_match(out, alloc, sig, patterns, targets.as_slice(), want)?;
-    }
-    Ok(())
+    Ok(out)
 }
 
 /// What is found for patterns and targets: `no`, or the pairs that are wanted; `yes` where any will do.
@@ -93,7 +44,19 @@ pub fn shown_match(
     let mut out = String::new(alloc);
     let (left, right) = text.split_once(" | ").unwrap_or((text, ""));
     if let Some(patterns) = flats_of(alloc, sig, left)? {
-        push_match_with(&mut out, alloc, sig, patterns.as_slice(), right, want)?;
+        if let Some(targets) = flats_of(alloc, sig, right)? {
+            if patterns.len() == targets.len() {
+                match matches(alloc, sig, patterns.as_slice(), targets.as_slice())? {
+                    None => out.push_str("no")?,
+                    Some(s) => {
+                        if want != "yes" {
+                            return shown_bindings(alloc, sig, &s, want);
+                        }
+                        out.push_str("yes")?;
+                    }
+                }
+            }
+        }
     }
     Ok(out)
 }

@@ -1,7 +1,7 @@
 //! Refines the substitutions of tests.
 ghost use Rattle.std.specs.Prelude.{◌≡◌, IfOk, IfSome, IsTrue, IsSome};
 ghost use Rattle.fvn_terms.specs.Signature.{IsSort};
-ghost use Rattle.fvn_flat.specs.Bindings.{bound, BindingsFit};
+ghost use Rattle.fvn_flat.specs.Bindings.{bound};
 ghost use Rattle.fvn_refine.specs.Refinements.{AreBound};
 
 use fvn_flat::Subst;
@@ -48,60 +48,16 @@ fn vars_of(
     Ok(Some(all))
 }
 
-/// The terms of a substitution.
+/// The pairs of a substitution.
 fn push_subst(out: &mut String, sig: &Signature, s: &Subst) -> Result<(), NoMemory> {
-    let mut before = "";
+    let mut before = false;
     for i in 0..s.len() {
-        out.push_str(before)?;
-        push_flat(out, sig, s.pair(i).1)?;
-        before = "; ";
-    }
-    Ok(())
-}
-
-fn push_substs(out: &mut String, sig: &Signature, found: &[Subst]) -> Result<(), NoMemory> {
-    let mut before = "";
-    for s in found {
-        out.push_str(before)?;
-        push_subst(out, sig, s)?;
-        before = " & ";
-    }
-    Ok(())
-}
-
-fn push_found(out: &mut String, sig: &Signature, found: &[Subst]) -> Result<(), NoMemory> {
-    if !found.is_empty() {
-        return push_substs(out, sig, found);
-    }
-    out.push_str("no")?;
-    Ok(())
-}
-
-fn push_refined(
-    out: &mut String,
-    alloc: Global,
-    sig: &Signature,
-    s: &Subst,
-    xs: &[Var],
-) -> Result<(), NoMemory>
-    requires fits { BindingsFit sig.now s.now }
-    requires bound { AreBound sig.now xs.now s.now }
-{
-    let found = refine(alloc, sig, s, xs)?;
-    push_found(out, sig, found.as_slice())
-}
-
-fn push_refined_at(
-    out: &mut String,
-    alloc: Global,
-    sig: &Signature,
-    s: &Subst,
-    text: &str,
-) -> Result<(), NoMemory>
-    requires { BindingsFit sig.now s.now }
-{
-    if let Some(xs) = vars_of(alloc, sig, s, text)? {
-        push_refined(out, alloc, sig, s, xs.as_slice())?;
+        let (_, t) = s.pair(i);
+        if before {
+            out.push_str("; ")?;
+        }
+        before = true;
+        push_flat(out, sig, t)?;
     }
     Ok(())
 }
@@ -111,7 +67,18 @@ pub fn shown_refined(alloc: Global, sig: &Signature, text: &str) -> Result<Strin
     let mut out = String::new(alloc);
     let (left, right) = text.split_once(" | ").unwrap_or(("", text));
     if let Some(s) = subst_of(alloc, sig, right)? {
-        push_refined_at(&mut out, alloc, sig, &s, left)?;
+        if let Some(xs) = vars_of(alloc, sig, &s, left)? {
+            let found = refine(alloc, sig, &s, xs.as_slice())?;
+            if found.is_empty() {
+                out.push_str("no")?;
+            }
+            for r in found.as_slice() {
+                if !out.is_empty() {
+                    out.push_str(" & ")?;
+                }
+                push_subst(&mut out, sig, r)?;
+            }
+        }
     }
     Ok(out)
 }
