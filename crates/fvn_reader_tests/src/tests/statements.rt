@@ -350,7 +350,7 @@ fn shown_fault(alloc: Global, fault: FormFault) -> Result<String, NoMemory> {
     }
 }
 
-fn shown_pieces(alloc: Global, pieces: &[Piece<'_>]) -> Result<String, NoMemory> {
+fn shown_pieces<'a>(alloc: Global, pieces: &'a [Piece<'a>]) -> Result<String, NoMemory> {
     match read_form(alloc, pieces) {
         Ok(form) => shown_form(alloc, &form),
         Err(fault) => shown_fault(alloc, fault),
