@@ -154,6 +154,24 @@ impl Draft {
         Ok(draft)
     }
 
+    // With a declaration of this shape of each of the operators that a statement names.
+    fn add_each(
+        self,
+        alloc: Global,
+        shape: &Shape,
+        statement: &Statement<'_>,
+    ) -> Result<Draft, NoMemory>
+        requires few { length (with_texts self.names (operators_in statement.now)) ≤ MOST }
+        requires args { All (Names self.collected.sorts) shape.now.rank.args }
+        requires gives { Names self.collected.sorts shape.now.rank.result }
+        ensures { IfOk result (λ d. d ≡ with_names self shape.now (operators_in statement.now)) }
+    {
+        let owned = operator_names(alloc, statement)?;
+        let names = as_texts(alloc, owned.as_slice())?;
+        let draft = self.add_names(alloc, shape, names.as_slice())?;
+        Ok(draft)
+    }
+
     // With a declaration of each of the operators that a statement with this rank and these attributes declares.
     fn add_operators(
         self,
@@ -171,11 +189,8 @@ impl Draft {
         ensures { IfOk result (λ d. d ≡ with_names self (shape_of v.now rank.now attributes.now)
             (operators_in statement.now)) }
     {
-        let owned = operator_names(alloc, statement)?;
-        let names = as_texts(alloc, owned.as_slice())?;
         let shape = shape_of(alloc, v, rank, attributes)?;
-        let draft = self.add_names(alloc, &shape, names.as_slice())?;
-        Ok(draft)
+        self.add_each(alloc, &shape, statement)
     }
 
     // With what a statement declares.
