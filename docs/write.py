@@ -2,7 +2,8 @@
 """Writes docs/CONTRACTS.md and docs/DEFINITIONS.md from the sources.
 
     python3 docs/write.py           writes both
-    python3 docs/write.py --check   fails where the written documents differ from the sources
+    python3 docs/write.py --check   fails where the written documents differ from the sources, or where a crate cites a
+                                    definition of another's specs/inner/
     python3 docs/write.py --lint    prints what is missing: comments, first lines, uses, pages of crates, and laws that stand elsewhere
 
 The words come from the sources: the `//!` line of a crate, the `///` line of a call, the `//` comment over
@@ -717,6 +718,14 @@ def scattered_laws():
                         yield "crates/" + name + ": the law " + call.name + " is stated in " + place[1] + ": " + word
 
 
+def borrowed():
+    """Lines that cite what mirrors another crate's code."""
+    for name, path in source_files():
+        for found in re.finditer(r"Rattle\.(\w+)\.specs\.inner\.(\w+)", read(path)):
+            if found.group(1) != name:
+                yield str(path.relative_to(TOP)) + ": " + found.group(2) + " mirrors the code of " + found.group(1)
+
+
 def main(words):
     if words == ["--lint"]:
         missing = [
@@ -740,6 +749,9 @@ def main(words):
         elif not path.exists() or read(path) != text:
             print("docs/" + name + " differs from the sources: run python3 docs/write.py")
             status = 1
+    for line in borrowed() if words else ():
+        print(line)
+        status = 1
     return status
 
 

@@ -16,6 +16,17 @@ use Rattle.fvn_coherence.proofs.Tight.{IsIdentityForm}
 use Rattle.fvn_coherence.proofs.Members.{StandsAmong, stands_among, count_around, each_around, replaced_among, canon_plain_around}
 use Rattle.fvn_coherence.proofs.TightSteps.{StepsTightly}
 
+module _ (d : Declarations) (f : OpId) where
+  -- an operator that joins nothing stands over its arguments
+  pub build_free : axioms d f ≡ Free → (l : List FlatTerm) → build d f l ≡ fapp f false (fpack l)
+  build_free e [] = refl
+  build_free e (t ∷ l) = rw e refl
+
+  -- over them in order, where it may exchange them
+  pub build_commutative : axioms d f ≡ Comm → (l : List FlatTerm) → build d f l ≡ fapp f false (fpack (sort l))
+  build_commutative e [] = refl
+  build_commutative e (t ∷ l) = rw e refl
+
 module _ (d : Declarations) (equations : Equations) where
   -- a step of the form, which is no identity
   pub record StepsInside (t u : FlatTerm) : Type 0 where
@@ -31,19 +42,11 @@ module _ (d : Declarations) (equations : Equations) where
   some_arguments f (t ∷ before) p after = refl
 
   module _ (f : OpId) where
-    build_free : axioms d f ≡ Free → (l : List FlatTerm) → build d f l ≡ fapp f false (fpack l)
-    build_free e [] = refl
-    build_free e (t ∷ l) = rw e refl
-
-    build_commutative : axioms d f ≡ Comm → (l : List FlatTerm) → build d f l ≡ fapp f false (fpack (sort l))
-    build_commutative e [] = refl
-    build_commutative e (t ∷ l) = rw e refl
-
     module _ (before : List FlatTerm) (a b : FlatTerm) (after : List FlatTerm) (settled : AllByRecursion (Settled d) (before ++ a ∷ after)) (s : StepsTightly d equations a b) where
       pub free_step : axioms d f ≡ Free → StepsInside (build d f (before ++ a ∷ after)) (build d f (before ++ b ∷ after))
       free_step e =
           let each = each_around (Settled d) before a after settled in
-          let form = build_free e (before ++ a ∷ after) in
+          let form = build_free d f e (before ++ a ∷ after) in
           record {
             step = record {
               at = s.at;
@@ -63,7 +66,7 @@ module _ (d : Declarations) (equations : Equations) where
       commutative_step e =
           let m = at_member in
           let each = each_around (Settled d) m.before a m.after (subst (AllByRecursion (Settled d)) m.is (each_sort (Settled d) (before ++ a ∷ after) settled)) in
-          let form : build d f (before ++ a ∷ after) ≡ fapp f false (fpack (m.before ++ a ∷ m.after)) = build_commutative e (before ++ a ∷ after) ∙ ap (λ l. fapp f false (fpack l)) m.is in
+          let form : build d f (before ++ a ∷ after) ≡ fapp f false (fpack (m.before ++ a ∷ m.after)) = build_commutative d f e (before ++ a ∷ after) ∙ ap (λ l. fapp f false (fpack l)) m.is in
           record {
             step = record {
               at = s.at;
@@ -73,13 +76,13 @@ module _ (d : Declarations) (equations : Equations) where
               replaces = subst (λ z. IsReplaced s.at s.given z (fapp f false (fpack (m.before ++ s.replaced ∷ m.after)))) (sym form) (inside (replaced_among s.replaces m.before m.after));
               makes =
                   ap (build d f) (canon_plain_around d m.before s.replaced b m.after each.0 each.1.1 s.makes)
-                  ∙ build_commutative e (m.before ++ b ∷ m.after)
+                  ∙ build_commutative d f e (m.before ++ b ∷ m.after)
                   ∙ ap (λ l. fapp f false (fpack l)) (sort_same_counts (m.before ++ b ∷ m.after) (before ++ b ∷ after) (λ q.
                   let x = count_around q b m.before m.after in
                   let y = count_around q b before after in
                   let z = m.beside q in
                   omega arith))
-                  ∙ sym (build_commutative e (before ++ b ∷ after));
+                  ∙ sym (build_commutative d f e (before ++ b ∷ after));
             };
             no_identity = no_constant (build d f (before ++ a ∷ after)) (ap as_constant form ∙ some_arguments f m.before a m.after);
           }

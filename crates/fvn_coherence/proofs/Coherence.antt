@@ -43,7 +43,7 @@ module _ (R : Term → Term → Type 0) (u v : FlatTerm) (r : R (plain u) (plain
   head_of_nest f t w (fmore x xs) q = inside_term (first_term q)
 
   mutual
-    plain_replaced : {t w : FlatTerm} → IsReplaced u v t w → AtOnePlace R (plain t) (plain w)
+    pub plain_replaced : {t w : FlatTerm} → IsReplaced u v t w → AtOnePlace R (plain t) (plain w)
     plain_replaced here = at_term r
     plain_replaced (inside {f} {joined = true} p) = nest_replaced f p
     plain_replaced (inside {f} {joined = false} p) = inside_term (all_replaced p)

@@ -11,3 +11,7 @@ mod Extending
 mod Redexes
 mod Coherence
 mod SortSteps
+mod FormLists
+mod SummandPlaces
+mod InstancePlaces
+mod InstanceSteps

@@ -17,10 +17,10 @@ use Rattle.fvn_forms.proofs.Eval.{fvar_settled, canon_plain, eval_nest}
 use Rattle.fvn_flat.specs.FlatPlaces.{IsReplaced, IsReplacedAmong, first, later}
 
 -- where p stands in the list
-record IsMember (p : FlatTerm) (l : List FlatTerm) : Type 0 where
-  before : List FlatTerm
-  after : List FlatTerm
-  is : l ≡ before ++ p ∷ after
+pub record IsMember (p : FlatTerm) (l : List FlatTerm) : Type 0 where
+  pub before : List FlatTerm
+  pub after : List FlatTerm
+  pub is : l ≡ before ++ p ∷ after
 
 -- p stands in the list beside these others, in any order
 pub record StandsAmong (p : FlatTerm) (l others : List FlatTerm) : Type 0 where
@@ -29,7 +29,7 @@ pub record StandsAmong (p : FlatTerm) (l others : List FlatTerm) : Type 0 where
   pub is : l ≡ before ++ p ∷ after
   pub beside : SameCounts (before ++ after) others
 
-find_member : (p : FlatTerm) (l : List FlatTerm) → 1 ≤ count p l → IsMember p l
+pub find_member : (p : FlatTerm) (l : List FlatTerm) → 1 ≤ count p l → IsMember p l
 find_member p [] h = absurd (omega arith)
 find_member p (t ∷ l) h = go (same_flat p t) refl (λ k. find_member p l k) where
   go : (b : Bool) → same_flat p t ≡ b → (1 ≤ count p l → IsMember p l) → IsMember p (t ∷ l)

@@ -50,7 +50,7 @@ module _ (d : Declarations) where
   pub parts_joined : (f : OpId) (ts : FlatTerms) → parts d f (fapp f true ts) ≡ funpack ts
   parts_joined f ts = rw (same_op_itself f) refl
 
-  unjoined_free : (f : OpId) (a : Axioms) (t : FlatTerm) (l : List FlatTerm) → FitsUnjoined d a (t ∷ l) → IsAssociative a → ⊥
+  pub unjoined_free : (f : OpId) (a : Axioms) (t : FlatTerm) (l : List FlatTerm) → FitsUnjoined d a (t ∷ l) → IsAssociative a → ⊥
   unjoined_free f Free t l h i = i
   unjoined_free f Comm t l h i = i
   unjoined_free f AssocComm t l h i = cc

@@ -1,13 +1,14 @@
 -- Laws of rules: coherence modulo the axioms, and sorts along steps.
-use Rattle.std.specs.Prelude.{ℕ}
+use Rattle.std.specs.Prelude.{◌⊎◌, ℕ}
 use Rattle.fvn_terms.specs.declared.plain.Var.{Var}
 use Rattle.fvn_terms.specs.declared.plain.OpId.{OpId}
 use Rattle.fvn_terms.specs.declared.plain.SortId.{SortId}
 use Rattle.fvn_terms.specs.declared.declarations.Declarations.{Declarations}
 use Rattle.fvn_terms.specs.Term.{Term, var}
+use Rattle.fvn_terms.specs.Substitution.{Substitution, apply, Occurs}
 use Rattle.fvn_terms.specs.Signature.{IsTerm}
 use Rattle.fvn_terms.specs.Equality.{constant}
-use Rattle.fvn_terms.specs.Sorts.{HasSort}
+use Rattle.fvn_terms.specs.Sorts.{HasSort, IsWellSorted}
 use Rattle.fvn_terms.specs.Theory.{Equations}
 use Rattle.fvn_terms.specs.Rewriting.{Rewrites, TermSequence, IsIrreducible}
 use Rattle.fvn_forms.specs.Flat.{FlatTerm, plain}
@@ -15,9 +16,12 @@ use Rattle.fvn_forms.specs.Canon.{canon}
 use Rattle.fvn_forms.specs.Good.{IsGood}
 use Rattle.fvn_sorts.specs.Queries.{IsCompleted}
 use Rattle.fvn_flat.specs.Rules.{IsIdentity}
+use Rattle.fvn_flat.specs.Fits.{Fits}
+use Rattle.fvn_flat.specs.FlatPlaces.{IsReplaced}
 use Rattle.fvn_rewriting.specs.Losses.{AreSortDecreasing}
 use Rattle.fvn_coherence.specs.Admissible.{AreAdmissible}
 use Rattle.fvn_coherence.specs.PlacedSteps.{StepsAtPlace}
+use Rattle.fvn_coherence.specs.InstanceSteps.{StepsAtPart, StepsInValue}
 
 -- the rules of equations reach, at the places of flat forms, just what the equations reach modulo the axioms
 pub record CoherenceLaws (d : Declarations) (equations : Equations) : Type 0 where
@@ -37,3 +41,17 @@ RulesAreCoherent = (d : Declarations) → IsGood d → IsCompleted d → (equati
 abbrev pub SequencesKeepSorts : Type 0
 SequencesKeepSorts = (d : Declarations) → IsGood d → IsCompleted d → (equations : Equations) → AreAdmissible d equations → AreSortDecreasing d equations →
     (n : ℕ) (t u : Term) → IsTerm d t → TermSequence d equations n t u → (s : SortId) → HasSort d t s → HasSort d u s
+
+-- where the steps of well-sorted instances of a form stand, and which they are
+pub record InstanceLaws (d : Declarations) (equations : Equations) (t : FlatTerm) (s : Substitution) : Type 0 where
+  -- each is one at a part of the form, or within the value of a variable
+  pub placed : (u : Term) → Rewrites d equations (apply s (plain t)) u → StepsAtPart d equations s t u ⊎ StepsInValue d equations s t u
+  -- and at a part, where the values of the form's variables are irreducible
+  pub at_part : ((x : Var) → Occurs x (plain t) → IsIrreducible d equations (s x)) → (u : Term) → Rewrites d equations (apply s (plain t)) u → StepsAtPart d equations s t u
+  -- each step of the instance of a part is one of the whole instance
+  pub steps : (at given replaced : FlatTerm) → IsReplaced at given t replaced → Rewrites d equations (apply s (plain at)) (apply s (plain given)) → Rewrites d equations (apply s (plain t)) (apply s (plain replaced))
+
+-- in a good signature with all that its queries need, for admissible equations and forms that fit
+abbrev pub InstancesStepAtParts : Type 0
+InstancesStepAtParts = (d : Declarations) → IsGood d → IsCompleted d → (equations : Equations) → AreAdmissible d equations →
+    (t : FlatTerm) → Fits d t → (s : Substitution) → IsWellSorted d s → InstanceLaws d equations t s

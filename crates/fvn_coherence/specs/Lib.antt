@@ -1,4 +1,5 @@
 -- The words of steps at places of flat forms.
 pub mod Admissible
 pub mod PlacedSteps
+pub mod InstanceSteps
 pub mod Laws

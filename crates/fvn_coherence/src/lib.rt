@@ -3,4 +3,4 @@
 
 mod laws;
 
-pub use laws::{rules_are_coherent, sequences_keep_sorts};
+pub use laws::{instances_step_at_parts, rules_are_coherent, sequences_keep_sorts};

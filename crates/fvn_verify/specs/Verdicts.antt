@@ -86,8 +86,8 @@ module _ (d : Declarations) (equations : Equations) (s : Substitution) where
       pub found : All HasForm before
 
     -- What is said of the pairs: that both sides of each came to one form, so that they are equal in the theory; or which
-    -- pair is the first whose normal forms differ; or that so many steps led from a side to no normal form, or to a form
-    -- that is too large.
+    -- pair is the first whose normal forms differ; or that so many steps led from a side to no normal form, or at
+    -- most so many to a form that is too large.
     abbrev pub IsVerdict : List (Plain × Plain) → Verdict → Type 0
     IsVerdict pairs Yes = All AreEqual pairs × All MeetInForm pairs
     IsVerdict pairs (No number left right) = IsFirstDifference pairs number left right

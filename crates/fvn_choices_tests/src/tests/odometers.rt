@@ -55,15 +55,19 @@ fn theory(alloc: Global, letter: u8) -> Result<OneTheory, AllocError> {
     }
 }
 
-/// The choices by letter; their cursors have given one already.
+/// The choices of a theory by letter; the cursor has given one already.
+fn choices(rt: &impl Abort, alloc: Global, letter: u8) -> Result<Choices, Fail> {
+    let theory = theory(alloc, letter)?;
+    assert!(rt; keeps(&theory), "{letter}");
+    let mut choices = solve_one(alloc, &theory)?;
+    choices.next();
+    Ok(choices)
+}
+
 fn wheels(rt: &impl Abort, alloc: Global, letters: &str) -> Result<Wheels, Fail> {
     let mut list: Vec<Choices> = Vec::new(alloc);
     for letter in letters.bytes() {
-        let theory = theory(alloc, letter)?;
-        assert!(rt; keeps(&theory), "at {letters}");
-        let mut choices = solve_one(alloc, &theory)?;
-        choices.next();
-        list.push(choices)?;
+        list.push(choices(rt, alloc, letter)?)?;
     }
     Ok(Wheels::new(alloc, list)?)
 }
@@ -110,36 +114,83 @@ fn shown_tags(alloc: Global, tags: &mut Tags) -> Result<Vec<u8>, NoMemory> {
     Ok(text)
 }
 
+/// Shows all lists, goes past the end, where there is none, and begins again.
+fn wheels_in_turn(alloc: Global, wheels: &mut Wheels) -> Result<Vec<u8>, NoMemory> {
+    let mut text = shown_wheels(alloc, wheels)?;
+    wheels.advance();
+    if wheels.current().is_some() {
+        text.push(b'!')?;
+    }
+    wheels.again();
+    Ok(text)
+}
+
+/// Shows all lists, goes past the end, where there is none, and begins again.
+fn tags_in_turn(alloc: Global, tags: &mut Tags) -> Result<Vec<u8>, NoMemory> {
+    let mut text = shown_tags(alloc, tags)?;
+    tags.advance();
+    if tags.current().is_some() {
+        text.push(b'!')?;
+    }
+    tags.again();
+    Ok(text)
+}
+
+fn assert_wheels(
+    rt: &impl Abort,
+    alloc: Global,
+    wheels: &mut Wheels,
+    want: &str,
+) -> Result<(), NoMemory> {
+    let text = wheels_in_turn(alloc, wheels)?;
+    assert!(rt; text.as_slice() == want.as_bytes(), "{want}");
+    Ok(())
+}
+
+fn assert_tags(
+    rt: &impl Abort,
+    alloc: Global,
+    tags: &mut Tags,
+    want: &str,
+) -> Result<(), NoMemory> {
+    let text = tags_in_turn(alloc, tags)?;
+    assert!(rt; text.as_slice() == want.as_bytes(), "{want}");
+    Ok(())
+}
+
+fn assert_wheels_twice(
+    rt: &impl Abort,
+    alloc: Global,
+    letters: &str,
+    want: &str,
+) -> Result<(), Fail> {
+    let mut wheels = wheels(rt, alloc, letters)?;
+    assert_wheels(rt, alloc, &mut wheels, want)?;
+    assert_wheels(rt, alloc, &mut wheels, want)?;
+    Ok(())
+}
+
+fn assert_tags_twice(rt: &impl Abort, alloc: Global, digits: &str, want: &str) -> Result<(), Fail> {
+    let mut tags = tags(alloc, digits)?;
+    assert_tags(rt, alloc, &mut tags, want)?;
+    assert_tags(rt, alloc, &mut tags, want)?;
+    Ok(())
+}
+
 #[test]
 fn wheels_give_each_list_once(rt: HostRuntime) -> Result<(), Fail> {
-    let alloc = rt.alloc();
     for line in WHEELS.lines() {
         let (letters, want) = line.split_once(" => ").unwrap_or((line, ""));
-        let mut wheels = wheels(&rt, alloc, letters)?;
-        for _ in 0..2 {
-            let shown = shown_wheels(alloc, &mut wheels)?;
-            assert_eq!(rt; shown.as_slice(), want.as_bytes(), "at {letters}");
-            wheels.advance();
-            assert!(rt; wheels.current().is_none(), "at {letters}");
-            wheels.again();
-        }
+        assert_wheels_twice(&rt, rt.alloc(), letters, want)?;
     }
     Ok(())
 }
 
 #[test]
 fn tags_give_each_list_once(rt: HostRuntime) -> Result<(), Fail> {
-    let alloc = rt.alloc();
     for line in TAGS.lines() {
         let (digits, want) = line.split_once(" => ").unwrap_or((line, ""));
-        let mut tags = tags(alloc, digits)?;
-        for _ in 0..2 {
-            let shown = shown_tags(alloc, &mut tags)?;
-            assert_eq!(rt; shown.as_slice(), want.as_bytes(), "at {digits}");
-            tags.advance();
-            assert!(rt; tags.current().is_none(), "at {digits}");
-            tags.again();
-        }
+        assert_tags_twice(&rt, rt.alloc(), digits, want)?;
     }
     Ok(())
 }

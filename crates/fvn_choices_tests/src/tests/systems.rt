@@ -77,18 +77,92 @@ fn found<R: Abort>(
     Ok(parts)
 }
 
-/// Why the system is refused, if it is.
-fn refusal<R: Abort>(
-    rt: &R,
+/// Each row has the columns, the most solutions that are allowed and the coefficients of a system, and then the components
+/// of all minimal solutions. The third has columns that only its second row uses, and one that no row uses; in the fourth
+/// the third row uses a column again. The last have no row, a row of zeros, and a row with no solution but zero.
+const KNOWN: &str = "3 24 | 2 -1 -1 | 1 0 2 1 1 1 1 2 0
+4 24 | 1 1 -1 -1 | 0 1 0 1 0 1 1 0 1 0 0 1 1 0 1 0
+5 24 | 1 -1 0 0 0 0 0 1 0 -1 | 0 0 1 0 1 1 1 0 0 0
+4 24 | 1 0 -1 0 0 1 0 -1 1 -1 0 0 | 1 1 1 1
+3 24 | 1 -2 0 0 1 -2 | 4 2 1
+2 1 | 65535 -1 | 1 65535
+3 0 |  | 
+2 0 | 0 0 | 
+2 0 | 1 1 | ";
+
+/// Each row has the same of a system that is refused, and after how many rows there are too many solutions or too wide
+/// ones. The last system has two minimal solutions, one of them wide: too many come before too wide.
+const REFUSED: &str = "10 24 | 1 1 1 1 1 -1 -1 -1 -1 -1 | many 1
+3 24 | 65535 -1 0 0 2 -1 | wide 2
+3 0 | 65535 -1 0 0 2 -1 | many 1
+4 1 | 65535 -1 0 0 0 1 -65535 -65534 | many 2
+4 2 | 65535 -1 0 0 0 1 -65535 -65534 | wide 2";
+
+fn number(word: &str) -> usize {
+    word.parse::<usize>().unwrap_or(7)
+}
+
+fn coefficients(alloc: Global, words: &str) -> Result<Vec<i32>, AllocError> {
+    let mut list = Vec::new(alloc);
+    for word in words.split(' ') {
+        if let Ok(c) = word.parse::<i32>() {
+            list.push(c)?;
+        }
+    }
+    Ok(list)
+}
+
+fn push_number(text: &mut String, alloc: Global, before: &str, n: u32) -> Result<(), AllocError> {
+    text.push_str(before)?;
+    text.push_str(&format!(in alloc; "{n}")?)?;
+    Ok(())
+}
+
+/// The numbers with a space between.
+fn shown(alloc: Global, numbers: &[u32]) -> Result<String, AllocError> {
+    let mut text = String::new(alloc);
+    let mut before = "";
+    for n in numbers {
+        push_number(&mut text, alloc, before, *n)?;
+        before = " ";
+    }
+    Ok(text)
+}
+
+fn shown_fault(alloc: Global, fault: LinFault) -> Result<String, AllocError> {
+    match fault {
+        LinFault::TooMany(rows) => format!(in alloc; "many {rows}"),
+        LinFault::TooWide(rows) => format!(in alloc; "wide {rows}"),
+        LinFault::NoMemory => format!(in alloc; "memory"),
+    }
+}
+
+/// What is found of a system, or why it is refused.
+fn told(
+    rt: &impl Abort,
     alloc: Global,
     columns: usize,
-    coefficients: &[i32],
     most: usize,
-) -> Option<LinFault> {
-    match found(rt, alloc, columns, coefficients, most) {
-        Ok(_) => None,
-        Err(fault) => Some(fault),
+    words: &str,
+) -> Result<String, AllocError> {
+    let list = coefficients(alloc, words)?;
+    match found(rt, alloc, columns, &list, most) {
+        Ok(parts) => shown(alloc, &parts),
+        Err(fault) => shown_fault(alloc, fault),
     }
+}
+
+fn assert_row(
+    rt: &impl Abort,
+    alloc: Global,
+    limits: &str,
+    words: &str,
+    want: &str,
+) -> Result<(), AllocError> {
+    let (columns, most) = limits.split_once(' ').unwrap_or((limits, ""));
+    let text = told(rt, alloc, number(columns), number(most), words)?;
+    assert_eq!(rt; text.as_str(), want, "at {words}");
+    Ok(())
 }
 
 /// The next number of a fixed sequence, below 7.
@@ -176,45 +250,25 @@ fn in_box(alloc: Global, parts: &[u32]) -> Result<Vec<i32>, AllocError> {
     Ok(kept)
 }
 
+fn assert_rows(rt: &impl Abort, alloc: Global, rows: &str) -> Result<(), AllocError> {
+    for row in rows.lines() {
+        let (limits, rest) = row.split_once(" | ").unwrap_or((row, ""));
+        let (words, want) = rest.split_once(" | ").unwrap_or((rest, "no bar"));
+        assert_row(rt, alloc, limits, words, want)?;
+    }
+    Ok(())
+}
+
 #[test]
-fn known_solutions(rt: HostRuntime) -> Result<(), Fail> {
-    let alloc = rt.alloc();
+fn known_solutions(rt: HostRuntime) -> Result<(), AllocError> {
     minimal_below();
     sum_of_minimal();
-    let list = found(&rt, alloc, 3, [2, -1, -1].as_slice(), 24)?;
-    assert_eq!(rt; list.as_slice(), [1, 0, 2, 1, 1, 1, 1, 2, 0].as_slice());
-    let list = found(&rt, alloc, 4, [1, 1, -1, -1].as_slice(), 24)?;
-    assert_eq!(rt;
-        list.as_slice(),
-        [0, 1, 0, 1, 0, 1, 1, 0, 1, 0, 0, 1, 1, 0, 1, 0].as_slice()
-    );
-    // Columns that only the second row uses, and one that no row uses.
-    let list = found(
-        &rt,
-        alloc,
-        5,
-        [1, -1, 0, 0, 0, 0, 0, 1, 0, -1].as_slice(),
-        24,
-    )?;
-    assert_eq!(rt; list.as_slice(), [0, 0, 1, 0, 1, 1, 1, 0, 0, 0].as_slice());
-    // Three rows, with a column that the third uses again.
-    let list = found(
-        &rt,
-        alloc,
-        4,
-        [1, 0, -1, 0, 0, 1, 0, -1, 1, -1, 0, 0].as_slice(),
-        24,
-    )?;
-    assert_eq!(rt; list.as_slice(), [1, 1, 1, 1].as_slice());
-    let list = found(&rt, alloc, 3, [1, -2, 0, 0, 1, -2].as_slice(), 24)?;
-    assert_eq!(rt; list.as_slice(), [4, 2, 1].as_slice());
-    let list = found(&rt, alloc, 2, [65535, -1].as_slice(), 1)?;
-    assert_eq!(rt; list.as_slice(), [1, 65535].as_slice());
-    // No row, a row of zeros, and a row with no solution but zero.
-    assert_eq!(rt; found(&rt, alloc, 3, [].as_slice(), 0)?.len(), 0);
-    assert_eq!(rt; found(&rt, alloc, 2, [0, 0].as_slice(), 0)?.len(), 0);
-    assert_eq!(rt; found(&rt, alloc, 2, [1, 1].as_slice(), 0)?.len(), 0);
-    Ok(())
+    assert_rows(&rt, rt.alloc(), KNOWN)
+}
+
+#[test]
+fn refused_prefixes(rt: HostRuntime) -> Result<(), AllocError> {
+    assert_rows(&rt, rt.alloc(), REFUSED)
 }
 
 /// Two rows of so many columns: a solution has the greatest component in the first column, and 23 solutions
@@ -238,65 +292,65 @@ fn wide_rows(alloc: Global, columns: usize, greatest: i32) -> Result<Vec<i32>, A
     Ok(rows)
 }
 
+fn assert_limits(
+    rt: &impl Abort,
+    alloc: Global,
+    columns: usize,
+    greatest: i32,
+) -> Result<(), Fail> {
+    let rows = wide_rows(alloc, columns, greatest)?;
+    let list = found(rt, alloc, columns, rows.as_slice(), 24)?;
+    let many = list.len() / 24;
+    assert!(rt;
+        many == columns && list.len() % 24 == 0,
+        "{columns} columns"
+    );
+    assert!(rt;
+        list.contains(&greatest.unsigned_abs()),
+        "{columns} columns"
+    );
+    Ok(())
+}
+
 // 24 solutions, which is the most that callers ask for; the most columns; and the greatest component.
 #[test]
 fn systems_at_the_limits(rt: HostRuntime) -> Result<(), Fail> {
-    let alloc = rt.alloc();
     for (columns, greatest) in [(1000, 1), (26, 65535)] {
-        let rows = wide_rows(alloc, columns, greatest)?;
-        let list = found(&rt, alloc, columns, rows.as_slice(), 24)?;
-        assert_eq!(rt; list.len(), 24 * columns, "{columns} columns");
-        assert!(rt;
-            list.iter().any(|a| *a == greatest as u32),
-            "{columns} columns"
-        );
+        assert_limits(&rt, rt.alloc(), columns, greatest)?;
     }
     Ok(())
 }
 
+// 25 solutions of ten columns, where so many are allowed.
 #[test]
-fn refused_prefixes(rt: HostRuntime) -> Result<(), Fail> {
-    let alloc = rt.alloc();
+fn as_many_as_allowed(rt: HostRuntime) -> Result<(), Fail> {
     let ten = [1, 1, 1, 1, 1, -1, -1, -1, -1, -1];
-    assert_eq!(rt;
-        refusal(&rt, alloc, 10, ten.as_slice(), 24),
-        Some(LinFault::TooMany(1))
-    );
-    assert_eq!(rt; found(&rt, alloc, 10, ten.as_slice(), 25)?.len(), 250);
-    let wide = [65535, -1, 0, 0, 2, -1];
-    assert_eq!(rt;
-        refusal(&rt, alloc, 3, wide.as_slice(), 24),
-        Some(LinFault::TooWide(2))
-    );
-    assert_eq!(rt;
-        refusal(&rt, alloc, 3, wide.as_slice(), 0),
-        Some(LinFault::TooMany(1))
-    );
-    // Two minimal solutions, one of them wide: too many come before too wide.
-    let both = [65535, -1, 0, 0, 0, 1, -65535, -65534];
-    assert_eq!(rt;
-        refusal(&rt, alloc, 4, both.as_slice(), 1),
-        Some(LinFault::TooMany(2))
-    );
-    assert_eq!(rt;
-        refusal(&rt, alloc, 4, both.as_slice(), 2),
-        Some(LinFault::TooWide(2))
-    );
+    let list = found(&rt, rt.alloc(), 10, ten.as_slice(), 25)?;
+    assert_eq!(rt; list.len(), 250);
     Ok(())
+}
+
+/// How many solutions the system has, which are those that are listed.
+fn small_solutions(rt: &impl Abort, alloc: Global, coefficients: &[i32]) -> Result<usize, Fail> {
+    let parts = found(rt, alloc, 4, coefficients, 100000)?;
+    let inside = in_box(alloc, &parts)?;
+    let list = listed(alloc, coefficients)?;
+    assert!(rt; inside == list);
+    Ok(list.len() / 4)
+}
+
+/// The same of the next system.
+fn next_solutions(rt: &impl Abort, alloc: Global, state: &mut u64) -> Result<usize, Fail> {
+    let coefficients = small_rows(alloc, state)?;
+    small_solutions(rt, alloc, &coefficients)
 }
 
 #[test]
 fn small_systems_as_listed(rt: HostRuntime) -> Result<(), Fail> {
-    let alloc = rt.alloc();
     let mut state = 20240229;
     let mut all: usize = 0;
-    for turn in 0..200 {
-        let coefficients = small_rows(alloc, &mut state)?;
-        let parts = found(&rt, alloc, 4, coefficients.as_slice(), 100000)?;
-        let inside = in_box(alloc, parts.as_slice())?;
-        let list = listed(alloc, coefficients.as_slice())?;
-        assert_eq!(rt; inside.as_slice(), list.as_slice(), "system {turn}");
-        all = all.wrapping_add(list.len() / 4);
+    for _ in 0..200 {
+        all = all.wrapping_add(next_solutions(&rt, rt.alloc(), &mut state)?);
     }
     // So many minimal solutions do these systems have by another program.
     assert_eq!(rt; all, 321);

@@ -1,45 +1,76 @@
 //! The choices of worked theories, and of random ones against a plain count-down.
+ghost use Rattle.std.specs.Prelude.{◌<◌};
+ghost use Rattle.fvn_acunify.specs.Theory.{IsOneTheory};
+
 use super::kept::{keeps, one_row};
-use fvn_acunify::{OneFault, OneTheory, solve_one};
+use fvn_acunify::{Choices, OneFault, OneTheory, solve_one};
 use fvn_base::Seq;
 use fvn_lindio::{LinFault, Row, Solution, System};
 use std::alloc::{AllocError, Global};
+use std::process::Abort;
 use std::test::Fail;
+
+/// The theory of two and two columns, of which none may be zero; these are constants.
+fn worked(rt: &impl Abort, alloc: Global, constants: &[usize]) -> Result<Choices, Fail> {
+    let theory = one_row(alloc, &[1, 1, -1, -1], constants, false)?;
+    assert!(rt; keeps(&theory));
+    Ok(solve_one(alloc, &theory)?)
+}
+
+/// The choices that come are these, and after them there is none.
+fn assert_given(rt: &impl Abort, choices: &mut Choices, want: &[u32]) {
+    for number in want {
+        assert_eq!(rt; choices.next(), Some(*number));
+    }
+    assert_eq!(rt; choices.next(), None);
+}
+
+fn assert_worked(
+    rt: &impl Abort,
+    alloc: Global,
+    constants: &[usize],
+    want: &[u32],
+) -> Result<(), Fail> {
+    let mut choices = worked(rt, alloc, constants)?;
+    assert_eq!(rt; choices.basis().len(), 4);
+    assert_given(rt, &mut choices, want);
+    assert_given(rt, &mut choices, &[]);
+    choices.again();
+    assert_given(rt, &mut choices, want);
+    Ok(())
+}
 
 #[test]
 fn worked_choices_come_from_the_greatest_down(rt: HostRuntime) -> Result<(), Fail> {
-    let alloc = rt.alloc();
-    for (constants, want) in [
-        ([].as_slice(), [15u32, 14, 13, 11, 9, 7, 6].as_slice()),
-        ([1, 3].as_slice(), [14, 6].as_slice()),
-    ] {
-        let theory = one_row(alloc, &[1, 1, -1, -1], constants, false)?;
-        assert!(rt; keeps(&theory));
-        let mut choices = solve_one(alloc, &theory)?;
-        assert_eq!(rt; choices.basis().len(), 4);
-        for number in want {
-            assert_eq!(rt; choices.next(), Some(*number));
-        }
-        assert_eq!(rt; choices.next(), None);
-        assert_eq!(rt; choices.next(), None);
-        choices.again();
-        assert_eq!(rt; choices.next(), Some(want[0]));
-    }
+    assert_worked(&rt, rt.alloc(), &[], &[15, 14, 13, 11, 9, 7, 6])
+}
+
+#[test]
+fn worked_choices_with_constants(rt: HostRuntime) -> Result<(), Fail> {
+    assert_worked(&rt, rt.alloc(), &[1, 3], &[14, 6])
+}
+
+fn assert_full(rt: &impl Abort, alloc: Global, constants: &[usize], want: u32) -> Result<(), Fail> {
+    let mut choices = worked(rt, alloc, constants)?;
+    choices.list_full();
+    assert_given(rt, &mut choices, &[want]);
     Ok(())
 }
 
 #[test]
 fn full_choices_take_every_solution_without_a_constant(rt: HostRuntime) -> Result<(), Fail> {
-    let alloc = rt.alloc();
-    for (constants, want) in [([].as_slice(), 15u32), ([1, 3].as_slice(), 14)] {
-        let theory = one_row(alloc, &[1, 1, -1, -1], constants, false)?;
-        assert!(rt; keeps(&theory));
-        let mut choices = solve_one(alloc, &theory)?;
-        choices.list_full();
-        assert_eq!(rt; choices.next(), Some(want));
-        assert_eq!(rt; choices.next(), None);
+    assert_full(&rt, rt.alloc(), &[], 15)?;
+    assert_full(&rt, rt.alloc(), &[1, 3], 14)
+}
+
+/// Whether the basis of the first row has too many solutions.
+fn has_too_many(alloc: Global, theory: &OneTheory) -> bool
+    requires { IsOneTheory theory.now }
+{
+    match solve_one(alloc, theory) {
+        Err(OneFault::Basis(LinFault::TooMany(rows))) => rows == 1,
+        _ => false,
     }
-    Ok(())
 }
 
 #[test]
@@ -47,12 +78,7 @@ fn a_refusal_is_handed_on(rt: HostRuntime) -> Result<(), Fail> {
     let alloc = rt.alloc();
     let theory = one_row(alloc, &[1, 1, 1, 1, 1, -1, -1, -1, -1, -1], &[], false)?;
     assert!(rt; keeps(&theory));
-    assert!(rt;
-        matches!(
-            solve_one(alloc, &theory),
-            Err(OneFault::Basis(LinFault::TooMany(1)))
-        )
-    );
+    assert!(rt; has_too_many(alloc, &theory));
     Ok(())
 }
 
@@ -91,19 +117,25 @@ fn wide_theory(alloc: Global, columns: usize, greatest: i32) -> Result<OneTheory
     })
 }
 
+/// The choices of the wide theory.
+fn wide(rt: &impl Abort, alloc: Global, columns: usize, greatest: i32) -> Result<Choices, Fail> {
+    let theory = wide_theory(alloc, columns, greatest)?;
+    assert!(rt; keeps(&theory), "{columns} columns");
+    Ok(solve_one(alloc, &theory)?)
+}
+
+fn assert_wide(rt: &impl Abort, alloc: Global, columns: usize, greatest: i32) -> Result<(), Fail> {
+    let mut choices = wide(rt, alloc, columns, greatest)?;
+    assert_eq!(rt; choices.basis().len(), 24, "{columns} columns");
+    assert_given(rt, &mut choices, &[16_777_215]);
+    Ok(())
+}
+
 // 24 solutions, which are the most; the most columns; and the greatest component.
 #[test]
 fn the_one_choice_of_all_solutions_comes_at_once(rt: HostRuntime) -> Result<(), Fail> {
-    let alloc = rt.alloc();
-    for (columns, greatest) in [(1000, 1), (26, 65_535)] {
-        let theory = wide_theory(alloc, columns, greatest)?;
-        assert!(rt; keeps(&theory), "{columns} columns");
-        let mut choices = solve_one(alloc, &theory)?;
-        assert_eq!(rt; choices.basis().len(), 24, "{columns} columns");
-        assert_eq!(rt; choices.next(), Some(16_777_215), "{columns} columns");
-        assert_eq!(rt; choices.next(), None, "{columns} columns");
-    }
-    Ok(())
+    assert_wide(&rt, rt.alloc(), 1000, 1)?;
+    assert_wide(&rt, rt.alloc(), 26, 65_535)
 }
 
 /// A generator of numbers that look random.
@@ -200,31 +232,41 @@ fn is_plainly_valid(theory: &OneTheory, basis: &[Solution], number: u32) -> bool
     !is_shared(basis, number, theory.constants.as_slice())
 }
 
+/// How many choices there are, which are those of a count down.
+fn assert_count_down(rt: &impl Abort, theory: &OneTheory, choices: &mut Choices) -> u64 {
+    let many = choices.basis().len();
+    if many > 10 {
+        return 0;
+    }
+    let mut given = 0u64;
+    for down in 0..1u32 << many {
+        let number = (1 << many) - 1 - down;
+        if is_plainly_valid(theory, choices.basis(), number) {
+            assert_eq!(rt; choices.next(), Some(number));
+            given = given.wrapping_add(1);
+        }
+    }
+    assert_eq!(rt; choices.next(), None);
+    given
+}
+
+/// The same of a random theory; where it is refused there are none.
+fn random_choices(rt: &impl Abort, alloc: Global, numbers: &mut Numbers) -> Result<u64, Fail> {
+    let theory = random_theory(alloc, numbers)?;
+    assert!(rt; keeps(&theory));
+    match solve_one(alloc, &theory) {
+        Ok(mut choices) => Ok(assert_count_down(rt, &theory, &mut choices)),
+        Err(OneFault::Basis(_)) => Ok(0),
+        Err(fault) => Err(Fail::from(fault)),
+    }
+}
+
 #[test]
 fn random_choices_are_those_of_a_count_down(rt: HostRuntime) -> Result<(), Fail> {
-    let alloc = rt.alloc();
     let mut numbers = Numbers(7);
     let mut given = 0u64;
     for _ in 0..300 {
-        let theory = random_theory(alloc, &mut numbers)?;
-        assert!(rt; keeps(&theory));
-        let solved = solve_one(alloc, &theory);
-        if matches!(solved, Err(OneFault::Basis(_))) {
-            continue;
-        }
-        let mut choices = solved?;
-        let many = choices.basis().len();
-        if many > 10 {
-            continue;
-        }
-        for down in 0..1u32 << many {
-            let number = (1 << many) - 1 - down;
-            if is_plainly_valid(&theory, choices.basis(), number) {
-                assert_eq!(rt; choices.next(), Some(number));
-                given = given.wrapping_add(1);
-            }
-        }
-        assert_eq!(rt; choices.next(), None);
+        given = given.wrapping_add(random_choices(&rt, rt.alloc(), &mut numbers)?);
     }
     assert!(rt; given > 300);
     Ok(())

@@ -4,6 +4,7 @@ use fvn_terms::{
     Args, Axioms, Declarations, NoMemory, OpDecl, OpId, Plain, PlainSubst, Rank, SortId, Var,
 };
 use std::alloc::Global;
+use std::process::Abort;
 
 const X: Var = Var {
     name: 0,
@@ -28,31 +29,58 @@ fn pair(alloc: Global, left: Plain, right: Plain) -> Result<Plain, NoMemory> {
     Ok(Plain::App(OpId(2), Args::from_vec(items)))
 }
 
+// The second operator over a term and the constant.
+fn over(alloc: Global, left: Plain) -> Result<Plain, NoMemory> {
+    pair(alloc, left, constant(alloc, 1))
+}
+
+fn both(alloc: Global, left: Plain, right: Var) -> Result<Plain, NoMemory> {
+    let last = over(alloc, Plain::Var(right))?;
+    pair(alloc, left, last)
+}
+
 #[test]
-fn terms_are_copied_measured_compared_and_instantiated(rt: HostRuntime) -> Result<(), NoMemory> {
+fn terms_are_copied_measured_and_compared(rt: HostRuntime) -> Result<(), NoMemory> {
     let alloc = rt.alloc();
-    let term = pair(
-        alloc,
-        Plain::Var(X),
-        pair(alloc, Plain::Var(Y), constant(alloc, 1))?,
-    )?;
+    let term = both(alloc, Plain::Var(X), Y)?;
     assert_eq!(rt; term.size(), 5);
     assert!(rt; term.copy(alloc)?.same(&term));
     assert!(rt; !term.same(&constant(alloc, 1)));
+    Ok(())
+}
 
+// A constant for X, and X for Y.
+fn replacement(alloc: Global) -> Result<PlainSubst, NoMemory> {
     let mut pairs = Vec::new(alloc);
     pairs.push((X, constant(alloc, 0)))?;
     pairs.push((Y, Plain::Var(X)))?;
-    let substitution = PlainSubst {
+    Ok(PlainSubst {
         pairs: Seq::from_vec(pairs),
-    };
-    let want = pair(
-        alloc,
-        constant(alloc, 0),
-        pair(alloc, Plain::Var(X), constant(alloc, 1))?,
-    )?;
-    assert!(rt; substitution.apply(alloc, &term)?.same(&want));
-    assert!(rt; substitution.get(Y).is_some_and(|t| t.same(&Plain::Var(X))));
+    })
+}
+
+#[test]
+fn terms_are_instantiated(rt: HostRuntime) -> Result<(), NoMemory> {
+    let alloc = rt.alloc();
+    let term = both(alloc, Plain::Var(X), Y)?;
+    let want = both(alloc, constant(alloc, 0), X)?;
+    let found = replacement(alloc)?.apply(alloc, &term)?;
+    assert!(rt; found.same(&want));
+    Ok(())
+}
+
+// Whether a variable is bound to another.
+fn is_bound(substitution: &PlainSubst, x: Var, y: Var) -> bool {
+    match substitution.get(x) {
+        Some(t) => t.same(&Plain::Var(y)),
+        None => false,
+    }
+}
+
+#[test]
+fn bindings_are_found(rt: HostRuntime) -> Result<(), NoMemory> {
+    let substitution = replacement(rt.alloc())?;
+    assert!(rt; is_bound(&substitution, Y, X));
     Ok(())
 }
 
@@ -76,41 +104,74 @@ fn row(alloc: Global, x: Var, width: u16) -> Result<Plain, NoMemory> {
     Ok(Plain::App(OpId(0), Args::from_vec(items)))
 }
 
+// Y for X, and no term for Y.
+fn renaming(alloc: Global) -> Result<PlainSubst, NoMemory> {
+    let mut pairs = Vec::new(alloc);
+    pairs.push((X, Plain::Var(Y)))?;
+    Ok(PlainSubst {
+        pairs: Seq::from_vec(pairs),
+    })
+}
+
+fn large(alloc: Global, x: Var, height: u16, width: u16) -> Result<Plain, NoMemory> {
+    tower(alloc, height, row(alloc, x, width)?)
+}
+
+fn assert_copied(rt: &impl Abort, alloc: Global, term: &Plain) -> Result<(), NoMemory> {
+    assert_eq!(rt; term.size(), 1000);
+    assert!(rt; term.copy(alloc)?.same(term));
+    Ok(())
+}
+
+// The renaming of the one term is the other.
+fn assert_renamed(
+    rt: &impl Abort,
+    alloc: Global,
+    one: &Plain,
+    other: &Plain,
+) -> Result<(), NoMemory> {
+    let found = renaming(alloc)?.apply(alloc, one)?;
+    assert!(rt; found.same(other));
+    Ok(())
+}
+
+fn assert_large(rt: &impl Abort, alloc: Global, height: u16, width: u16) -> Result<(), NoMemory> {
+    let term = large(alloc, X, height, width)?;
+    let other = large(alloc, Y, height, width)?;
+    assert_copied(rt, alloc, &term)?;
+    assert_renamed(rt, alloc, &term, &other)?;
+    assert_renamed(rt, alloc, &other, &other)
+}
+
 // A term of 1,000 symbols is the largest that the program asks for: as deep or as wide as it can be.
 #[test]
 fn large_terms_are_copied_and_instantiated(rt: HostRuntime) -> Result<(), NoMemory> {
-    let alloc = rt.alloc();
     for (height, width) in [(998, 1), (0, 999), (500, 499)] {
-        let term = tower(alloc, height, row(alloc, X, width)?)?;
-        let other = tower(alloc, height, row(alloc, Y, width)?)?;
-        assert_eq!(rt; term.size(), 1000, "at {height}");
-        assert!(rt; term.copy(alloc)?.same(&term), "at {height}");
-
-        // Each X becomes Y, and no Y is bound.
-        let mut pairs = Vec::new(alloc);
-        pairs.push((X, Plain::Var(Y)))?;
-        let substitution = PlainSubst {
-            pairs: Seq::from_vec(pairs),
-        };
-        assert!(rt; substitution.get(Y).is_none());
-        assert!(rt;
-            substitution.apply(alloc, &term)?.same(&other),
-            "at {height}"
-        );
-        assert!(rt;
-            substitution.apply(alloc, &other)?.same(&other),
-            "at {height}"
-        );
+        assert_large(&rt, rt.alloc(), height, width)?;
     }
     Ok(())
 }
 
 #[test]
-fn declarations_answer_for_sorts_and_operators(rt: HostRuntime) -> Result<(), NoMemory> {
-    let alloc = rt.alloc();
+fn what_is_not_bound_has_no_term(rt: HostRuntime) -> Result<(), NoMemory> {
+    assert!(rt; renaming(rt.alloc())?.get(Y).is_none());
+    Ok(())
+}
+
+// One operator of one rank, over one sort and its kind.
+fn declarations(alloc: Global) -> Result<Declarations, NoMemory> {
     let mut kinds = Vec::new(alloc);
     kinds.push(SortId(1))?;
     kinds.push(SortId(1))?;
+    Ok(Declarations {
+        sorts: 1,
+        kinds: Seq::from_vec(kinds),
+        below: Seq::new(alloc),
+        ops: operators(alloc)?,
+    })
+}
+
+fn operators(alloc: Global) -> Result<Seq<OpDecl>, NoMemory> {
     let mut ranks = Vec::new(alloc);
     ranks.push(Rank {
         args: Seq::new(alloc),
@@ -121,19 +182,23 @@ fn declarations_answer_for_sorts_and_operators(rt: HostRuntime) -> Result<(), No
         axioms: Axioms::Free,
         ranks: Seq::from_vec(ranks),
     })?;
-    let declarations = Declarations {
-        sorts: 1,
-        kinds: Seq::from_vec(kinds),
-        below: Seq::new(alloc),
-        ops: Seq::from_vec(ops),
-    };
+    Ok(Seq::from_vec(ops))
+}
+
+// How many ranks an operator has, where it is declared.
+fn ranks_of(declarations: &Declarations, f: OpId) -> Option<usize> {
+    match declarations.declared(f) {
+        Some(o) => Some(o.ranks.len()),
+        None => None,
+    }
+}
+
+#[test]
+fn declarations_answer_for_sorts_and_operators(rt: HostRuntime) -> Result<(), NoMemory> {
+    let declarations = declarations(rt.alloc())?;
     assert_eq!(rt; declarations.kind(SortId(0)), SortId(1));
     assert_eq!(rt; declarations.kind(SortId(7)), SortId(7));
-    assert!(rt;
-        declarations
-            .declared(OpId(0))
-            .is_some_and(|o| o.ranks.len() == 1)
-    );
-    assert!(rt; declarations.declared(OpId(1)).is_none());
+    assert_eq!(rt; ranks_of(&declarations, OpId(0)), Some(1));
+    assert_eq!(rt; ranks_of(&declarations, OpId(1)), None);
     Ok(())
 }
