@@ -14,10 +14,10 @@ use crate::codes::declaration_code;
 use crate::shapes::{Shape, shape_of};
 use fvn_base::Seq;
 use fvn_base::limits::OPERATORS;
-use fvn_naming::{Vocabulary, as_texts, operator_names};
+use fvn_naming::{Vocabulary, operator_names};
 use fvn_sorts::SignatureBuilder;
 use fvn_statements::{Attribute, RawRank, Statement};
-use fvn_syntax::{Text, Texts};
+use fvn_syntax::Texts;
 use fvn_terms::{Axioms, NoMemory, OpId, Rank};
 use std::alloc::Global;
 use std::marker::Model;
@@ -141,7 +141,7 @@ impl Draft {
     }
 
     // With a declaration of each of the operators with these names.
-    fn add_names(self, alloc: Global, shape: &Shape, names: &[Text<'_>]) -> Result<Draft, NoMemory>
+    fn add_names(self, alloc: Global, shape: &Shape, names: &[Seq<u8>]) -> Result<Draft, NoMemory>
         requires few { length (with_texts self.names names.now) ≤ MOST }
         requires args { All (Names self.collected.sorts) shape.now.rank.args }
         requires gives { Names self.collected.sorts shape.now.rank.result }
@@ -149,9 +149,25 @@ impl Draft {
     {
         let mut draft = self;
         for name in names {
-            draft = draft.add(alloc, shape, name.bytes())?;
+            draft = draft.add(alloc, shape, name.as_slice())?;
         }
         Ok(draft)
+    }
+
+    // With a declaration of this shape of each of the operators that a statement names.
+    fn add_each(
+        self,
+        alloc: Global,
+        shape: &Shape,
+        statement: &Statement<'_>,
+    ) -> Result<Draft, NoMemory>
+        requires few { length (with_texts self.names (operators_in statement.now)) ≤ MOST }
+        requires args { All (Names self.collected.sorts) shape.now.rank.args }
+        requires gives { Names self.collected.sorts shape.now.rank.result }
+        ensures { IfOk result (λ d. d ≡ with_names self shape.now (operators_in statement.now)) }
+    {
+        let names = operator_names(alloc, statement)?;
+        self.add_names(alloc, shape, names.as_slice())
     }
 
     // With a declaration of each of the operators that a statement with this rank and these attributes declares.
@@ -171,11 +187,8 @@ impl Draft {
         ensures { IfOk result (λ d. d ≡ with_names self (shape_of v.now rank.now attributes.now)
             (operators_in statement.now)) }
     {
-        let owned = operator_names(alloc, statement)?;
-        let names = as_texts(alloc, owned.as_slice())?;
         let shape = shape_of(alloc, v, rank, attributes)?;
-        let draft = self.add_names(alloc, &shape, names.as_slice())?;
-        Ok(draft)
+        self.add_each(alloc, &shape, statement)
     }
 
     // With what a statement declares.

@@ -11,5 +11,6 @@ mod EquationExact
 mod StatementExact
 mod Results
 mod FormExact
+mod BodyReading
 mod LeftOutLaws
 mod EquationLeftOut

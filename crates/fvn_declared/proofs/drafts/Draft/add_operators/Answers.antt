@@ -2,12 +2,15 @@
 use Rattle.fvn_declared.proofs.RankLemmas.{rank_named}
 use Rattle.fvn_declared.proofs.drafts.Draft.add_operators.Goals as goal
 
-pub add_names-requires-clause-args : goal.add_names-requires-clause-args
-add_names-requires-clause-args c =
+pub add_each-requires-clause-args : goal.add_each-requires-clause-args
+add_each-requires-clause-args c =
     let named = (rank_named c.args.v.now c.args.rank.now c.requires.known).0 in
     rw (c.in_ok-shape.ensures, c.requires.as_many) named
 
-pub add_names-requires-clause-gives : goal.add_names-requires-clause-gives
-add_names-requires-clause-gives c =
+pub add_each-requires-clause-gives : goal.add_each-requires-clause-gives
+add_each-requires-clause-gives c =
     let named = (rank_named c.args.v.now c.args.rank.now c.requires.known).1 in
     rw (c.in_ok-shape.ensures, c.requires.as_many) named
+
+pub returns : goal.returns
+returns c = rw c.in_ok-shape.ensures at c.add_each.ensures
