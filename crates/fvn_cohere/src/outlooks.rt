@@ -1,6 +1,7 @@
 //! What can be said of the shape of a term before all its variables are chosen.
 ghost use Rattle.std.specs.Prelude.{◌≡◌, ◌≤◌, ◌<◌, ◌⊎◌, ◌||◌, ◌&&◌, List, [], length, Contains, Some, None, MatchOption, false, IsTrue, slice_index_or};
 ghost use Rattle.std.specs.List.{list_any, list_all, AllZip};
+ghost use Rattle.fvn_base.specs.declared.limits.TheConstants.{ARGUMENTS as MOST_ARGUMENTS};
 ghost use Rattle.fvn_terms.specs.declared.plain.Var.{Var};
 ghost use Rattle.fvn_terms.specs.declared.plain.SortId.{SortId};
 ghost use Rattle.fvn_terms.specs.Plain.{term};
@@ -215,7 +216,7 @@ fn joined(sig: &Signature, a: Outlook, b: Outlook, low: Option<SortId>, high: So
 
 // The upper bound of an operator over arguments.
 fn high_over(sig: &Signature, f: OpId, parts: &[Outlook]) -> SortId
-    requires { length parts.now ≤ 8 }
+    requires { length parts.now ≤ MOST_ARGUMENTS }
     ensures { result ≡ least_result sig.now f (highs_of parts.now) }
 {
     let mut sorts = [SortId(0); ARGUMENTS];
@@ -309,7 +310,7 @@ fn low_by_ranks(sig: &Signature, f: OpId, parts: &[Outlook]) -> Option<SortId>
 
 // The lower bound of an operator over arguments.
 fn low_over(sig: &Signature, f: OpId, parts: &[Outlook]) -> Option<SortId>
-    requires { length parts.now ≤ 8 }
+    requires { length parts.now ≤ MOST_ARGUMENTS }
     ensures { (ss : List SortId) →
         AllZip (IsLow sig.now) (lows_of parts.now) ss → TakesKinds sig.now f ss →
         IsLow sig.now result (least_result sig.now f ss) }
@@ -353,7 +354,7 @@ fn constant_outlook(sig: &Signature, es: &[OpId], f: OpId) -> Outlook
 
 // The outlook of an operator over arguments.
 fn outlook_over(sig: &Signature, es: &[OpId], f: OpId, parts: &[Outlook]) -> Outlook
-    requires few { length parts.now ≤ 8 }
+    requires few { length parts.now ≤ MOST_ARGUMENTS }
     requires identities { es.now ≡ identities sig.now }
     ensures { (shapes : List Shape) →
         AllZip (Suits sig.now) parts.now shapes → AreArguments sig.now f shapes →

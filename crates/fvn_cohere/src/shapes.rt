@@ -1,5 +1,6 @@
 //! Shapes of terms in which each variable stands for a chosen shape.
 ghost use Rattle.std.specs.Prelude.{◌≡◌, ◌≤◌, ◌<◌, length, slice_index_or};
+ghost use Rattle.fvn_base.specs.declared.limits.TheConstants.{ARGUMENTS as MOST_ARGUMENTS};
 ghost use Rattle.fvn_terms.specs.Plain.{term};
 ghost use Rattle.fvn_terms.specs.Term.{app};
 ghost use Rattle.fvn_terms.specs.Signature.{IsTerm};
@@ -57,7 +58,7 @@ fn is_root_of(e: Option<OpId>, root: Root) -> bool
 
 // The operator over arguments of these shapes, none of them taken for its identity.
 fn compound(sig: &Signature, f: OpId, shapes: &[Shape]) -> Shape
-    requires { length shapes.now ≤ 8 }
+    requires { length shapes.now ≤ MOST_ARGUMENTS }
     ensures { result ≡ compound (least_result sig.now f (sorts_of shapes.now)) }
 {
     let mut sorts = [SortId(0); ARGUMENTS];
@@ -82,7 +83,7 @@ fn shape_at(shapes: &[Shape], i: usize) -> Shape
 
 // The shape of the operator over arguments of these shapes.
 fn shape_over(sig: &Signature, f: OpId, shapes: &[Shape]) -> Shape
-    requires { length shapes.now ≤ 8 }
+    requires { length shapes.now ≤ MOST_ARGUMENTS }
     ensures { result ≡ shape_over sig.now f shapes.now }
 {
     if shapes.len() == 0 {

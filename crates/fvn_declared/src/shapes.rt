@@ -33,9 +33,9 @@ pub struct Shape {
 
 // The place of a name, or the number of all.
 fn place_or_end(texts: &Texts, name: &[u8]) -> u16
-    requires { length texts.now ≤ 256 }
+    requires { length texts.now ≤ MOST_OPERATORS }
     ensures exact { result ≡ place_or_end texts.now name.now }
-    ensures small { result ≤ 256 }
+    ensures small { result ≤ MOST_OPERATORS }
 {
     match texts.place(name) {
         Some(i) => i as u16,

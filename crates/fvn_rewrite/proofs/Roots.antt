@@ -28,7 +28,8 @@ use Rattle.fvn_coherence.specs.Laws.{RulesAreCoherent}
 use Rattle.fvn_rules.specs.declared.rule.Rule.{Rule}
 use Rattle.fvn_rules.specs.Given.{RuleLists, headed, IsNumberedRule}
 use Rattle.fvn_rewrite.specs.inner.Trying.{HasNoMatch, SidesFit, AllSidesFit, NoneMatches, IsGivenBy, TriesAs}
-use Rattle.fvn_rewrite.specs.inner.Walking.{AreUsable, IsNoRedex, IsNext, RootAs}
+use Rattle.fvn_rewrite.specs.inner.Walking.{IsNoRedex, IsNext, RootAs}
+use Rattle.fvn_rewrite.specs.Usable.{AreUsable}
 
 listed_at : {A : Type 0} (xs : List A) (i : ℕ) (x : A) → slice_get xs i ≡ Some x → Contains xs x
 listed_at xs i x is = (i, slice_get_within xs i x is, get_or_from_slice_get xs i x x is)

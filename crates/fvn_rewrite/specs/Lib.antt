@@ -1,4 +1,5 @@
 -- What is promised of steps and normal forms.
+pub mod Usable
 pub mod Normalised
 pub mod Laws
 pub mod inner

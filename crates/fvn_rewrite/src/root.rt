@@ -4,7 +4,8 @@ ghost use Rattle.fvn_flat.specs.Forms.{head_of};
 ghost use Rattle.fvn_flat.specs.Fits.{Fits};
 ghost use Rattle.fvn_cohere.specs.Promises.{equations_of};
 ghost use Rattle.fvn_rewrite.specs.inner.Trying.{AllSidesFit, TriesAs};
-ghost use Rattle.fvn_rewrite.specs.inner.Walking.{AreUsable, RootAs};
+ghost use Rattle.fvn_rewrite.specs.inner.Walking.{RootAs};
+ghost use Rattle.fvn_rewrite.specs.Usable.{AreUsable};
 
 use fvn_coherence::rules_are_coherent;
 use fvn_flat::Flat;

@@ -3,7 +3,8 @@ ghost use Rattle.std.specs.Prelude.{◌≡◌, ◌<◌, ◌+◌, ◌++◌, ◌�
 ghost use Rattle.fvn_flat.specs.Forms.{head_of, args_of};
 ghost use Rattle.fvn_flat.specs.Fits.{Fits};
 ghost use Rattle.fvn_cohere.specs.Promises.{equations_of};
-ghost use Rattle.fvn_rewrite.specs.inner.Walking.{AreUsable, WalkAs, ArgumentSteps, IsNext};
+ghost use Rattle.fvn_rewrite.specs.inner.Walking.{WalkAs, ArgumentSteps, IsNext};
+ghost use Rattle.fvn_rewrite.specs.Usable.{AreUsable};
 
 use crate::root::root_step;
 use fvn_flat::Flat;

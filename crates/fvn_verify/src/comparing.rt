@@ -5,7 +5,8 @@ ghost use Rattle.fvn_terms.specs.Signature.{KeepsKinds, IsTerm};
 ghost use Rattle.fvn_terms.specs.Substitution.{value};
 ghost use Rattle.fvn_cohere.specs.Promises.{equations_of};
 ghost use Rattle.fvn_verify.specs.Verdicts.{IsFormOf};
-ghost use Rattle.fvn_verify.specs.inner.Comparing.{AreKinded, AreUsable, IsSideAs, IsDifference, IsCompared, earlier};
+ghost use Rattle.fvn_verify.specs.inner.Comparing.{AreKinded, IsSideAs, IsDifference, IsCompared, earlier};
+ghost use Rattle.fvn_rewrite.specs.Usable.{AreUsable};
 
 use crate::verdict::Verdict;
 use fvn_flat::{Flat, Normal, flatten};

@@ -7,7 +7,8 @@ ghost use Rattle.fvn_cohere.specs.Promises.{equations_of};
 ghost use Rattle.fvn_coherence.specs.Admissible.{AreAdmissible};
 ghost use Rattle.fvn_rules.specs.Given.{AreRules};
 ghost use Rattle.fvn_verify.specs.Verdicts.{IsVerdict};
-ghost use Rattle.fvn_verify.specs.inner.Comparing.{AreKinded, AreUsable, concluded};
+ghost use Rattle.fvn_verify.specs.inner.Comparing.{AreKinded, concluded};
+ghost use Rattle.fvn_rewrite.specs.Usable.{AreUsable};
 
 use crate::comparing::{Compared, compare, earlier};
 use crate::verdict::Verdict;

@@ -35,6 +35,14 @@ c(X) =? a | {} ==> problem 4
 X =? d | {Y:S --> a} ==> problem 3
 _+_(X,a) =? b | {X:S --> b} ==> no 1";
 
+const FREE: &str = "fmod FREE is sort S . ops a b : -> S . op p : S S -> S . vars X Y : S . endfm";
+
+const OVER_FREE: &str = "\
+p(X,b) =? p(a,Y) | {X:S --> a, Y:S --> b} ==> yes
+p(X,b) =? p(a,Y) | {X:S --> a, Y:S --> a} ==> no 1
+p(X,Y) =? p(Y,X) | {X:S --> #1:S, Y:S --> #1:S} ==> yes
+p(X,Y) =? p(Y,X) | {} ==> no 1";
+
 const SET: &str =
     "fmod SET is sorts Elt Set . subsort Elt < Set . ops a b : -> Elt . op mt : -> Set . op _;_ : Set Set -> Set [assoc comm id: mt] . vars X Y : Set . endfm";
 
@@ -185,6 +193,7 @@ fn all_verified(rt: &impl Abort, alloc: Global, module: &str, rows: &str) -> Res
 #[test]
 fn bindings_are_verified(rt: HostRuntime) -> Result<(), NoMemory> {
     all_verified(&rt, rt.alloc(), AC, OVER_AC)?;
+    all_verified(&rt, rt.alloc(), FREE, OVER_FREE)?;
     all_verified(&rt, rt.alloc(), SET, OVER_SET)?;
     all_verified(&rt, rt.alloc(), ENC, OVER_ENC)?;
     all_verified(&rt, rt.alloc(), NOPRE, OVER_NOPRE)?;

@@ -11,9 +11,6 @@ use Rattle.fvn_terms.specs.Rewriting.{IsConfluent}
 use Rattle.fvn_forms.specs.Flat.{FlatTerm, plain}
 use Rattle.fvn_flat.specs.declared.solver.Normal.{Normal}
 use Rattle.fvn_flat.specs.declared.solver.Normal.TheVariants.{Form, Steps as OutOfSteps, Size as OutOfSize}
-use Rattle.fvn_cohere.specs.Promises.{equations_of}
-use Rattle.fvn_coherence.specs.Admissible.{AreAdmissible}
-use Rattle.fvn_rules.specs.Given.{RuleLists, AreRules}
 use Rattle.fvn_verify.specs.declared.verdict.Verdict.{Verdict}
 use Rattle.fvn_verify.specs.declared.verdict.Verdict.TheVariants.{Yes, No, Steps, Size}
 use Rattle.fvn_verify.specs.declared.comparing.Compared.{Compared}
@@ -23,11 +20,6 @@ use Rattle.fvn_verify.specs.Verdicts.{sides_in_turn, AreEqual, IsFormOf, IsUnfin
 -- both sides are well-kinded
 abbrev pub AreKinded : Declarations → Plain × Plain → Type 0
 AreKinded d p = IsTerm d (term p.0) × IsTerm d (term p.1)
-
--- the rules are those of admissible equations
-pub record AreUsable (d : Declarations) (lists : RuleLists) : Type 0 where
-  pub rules : AreRules d lists
-  pub admissible : AreAdmissible d (equations_of lists.equations)
 
 -- the first difference: the one so far, where there is one
 abbrev pub earlier : Option (ℕ × FlatTerm × FlatTerm) → ℕ → Option (FlatTerm × FlatTerm) → Option (ℕ × FlatTerm × FlatTerm)
