@@ -25,7 +25,12 @@ Crate by crate, what a caller may use: each public call with its clauses. Where 
 [DEFINITIONS.md](DEFINITIONS.md) that it cites stand in place of its text.
 
 Three things hold everywhere. `result` is what a call returns, and `x.now`, `x.old`, `x.new` are what a reference
-points at. A call that allocates takes the allocator and may answer that memory was refused; no clause says when.
+points at. A call that allocates takes the allocator and may answer that memory was refused; no clause says when, and
+"exactly where" has this exception. So has it, in `fvn_outside` and `fvn_tool`, that reading or writing fails, which
+comes only where the count of faults of the source or the sink rose, or stands at its last number. The words of the
+command line and the number of the exit status are made by `main`, of which no contract speaks; `program` beside it
+says which status the number is of.
+
 A law is a call that does nothing and whose contract is a statement about the definitions.
 
 This page is written by `docs/write.py` from the sources.
