@@ -1,5 +1,5 @@
 //! The texts of variables and terms.
-ghost use Rattle.std.specs.Prelude.{◌≡◌, ◌<◌, ◌++◌, ◌∷◌, Some, None, false, length, decimal, IfOk, OnOk};
+ghost use Rattle.std.specs.Prelude.{◌≡◌, ◌<◌, ◌++◌, Some, None, false, IfOk, OnOk};
 ghost use Rattle.fvn_lex.specs.Parts.{is_quoted_after};
 ghost use Rattle.fvn_terms.specs.Signature.{IsSort};
 ghost use Rattle.fvn_sorts.specs.Queries.{IsKind};

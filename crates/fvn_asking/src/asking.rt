@@ -1,5 +1,5 @@
 //! What is asked of the minimal solutions that are taken for a sum operator.
-ghost use Rattle.std.specs.Prelude.{◌≡◌, ◌↔◌, ◌<◌, length, Contains, IfOk, IsTrue};
+ghost use Rattle.std.specs.Prelude.{◌↔◌, ◌<◌, length, Contains, IfOk, IsTrue};
 ghost use Rattle.fvn_terms.specs.Signature.{axioms};
 ghost use Rattle.fvn_flat.specs.Partitions.{HasNoIdentity};
 ghost use Rattle.fvn_nodes.specs.States.{IsClosed, class_of};

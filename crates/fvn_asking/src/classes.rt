@@ -1,9 +1,8 @@
 //! Which operators use a class, and which classes are shared.
-ghost use Rattle.std.specs.Prelude.{◌≡◌, ◌↔◌, ◌<◌, length, Contains, IsTrue};
+ghost use Rattle.std.specs.Prelude.{◌↔◌, ◌<◌, length, Contains, IsTrue};
 ghost use Rattle.fvn_nodes.specs.States.{IsClosed, class_of};
 ghost use Rattle.fvn_frames.specs.Frames.{IsShared, Uses};
 ghost use Rattle.fvn_frames.specs.Readings.{IsReading};
-ghost use Rattle.fvn_frames.specs.Users.{IsWhole};
 
 use crate::users::{is_shared, is_user};
 use fvn_frames::{Reading, Sums};

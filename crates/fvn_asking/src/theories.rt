@@ -1,13 +1,10 @@
 //! What the solver of choices is given for a sum operator.
 ghost use Rattle.std.specs.Prelude.{◌≡◌, Contains, IfOk};
-ghost use Rattle.fvn_lindio.specs.Systems.{coefficients_of};
 ghost use Rattle.fvn_acunify.specs.Theory.{IsOneTheory};
 ghost use Rattle.fvn_nodes.specs.States.{IsClosed, class_of};
 ghost use Rattle.fvn_frames.specs.Readings.{IsReading};
-ghost use Rattle.fvn_frames.specs.Users.{IsWholeSums, IsWhole};
 ghost use Rattle.fvn_plans.specs.Binding.{AreAsked};
 ghost use Rattle.fvn_asking.specs.Listed.{tag_in};
-ghost use Rattle.fvn_asking.specs.inner.Reads.{AreConstantsOf, AreMarksOf};
 
 use crate::asking::{constants_of, marks_of};
 use fvn_acunify::OneTheory;

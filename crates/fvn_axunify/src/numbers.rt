@@ -1,5 +1,5 @@
 //! The numbers of new variables.
-ghost use Rattle.std.specs.Prelude.{◌≡◌, ◌≤◌, ◌<◌, IfOk, All};
+ghost use Rattle.std.specs.Prelude.{◌≤◌, ◌<◌, IfOk, All};
 ghost use Rattle.fvn_base.specs.declared.limits.TheConstants.{NEXT_FRESH};
 ghost use Rattle.fvn_refine.specs.Refinements.{variables_of_terms};
 ghost use Rattle.fvn_axunify.specs.inner.Numbers.{AreBelow, IsAbove, IsAboveAll};

@@ -1,5 +1,5 @@
 //! The search for all unifiers.
-ghost use Rattle.std.specs.Prelude.{◌≡◌, ◌≤◌, ◌<◌, IfOk};
+ghost use Rattle.std.specs.Prelude.{◌≤◌, ◌<◌, IfOk};
 ghost use Rattle.fvn_base.specs.declared.limits.TheConstants.{TERM_SYMBOLS};
 ghost use Rattle.fvn_terms.specs.Substitution.{Substitution};
 ghost use Rattle.fvn_flat.specs.Solving.{problem_of, symbols_of_pairs};

@@ -4,7 +4,7 @@ ghost use Rattle.fvn_cohere.specs.Promises.{IsNumberIn};
 use fvn_cohere::{Collapse, LeftFault, first_left_fault, instances_fit, left_collapses, sort_loss};
 use fvn_module::{Module, read_module};
 use fvn_terms::NoMemory;
-use std::alloc::{AllocError, Global};
+use std::alloc::Global;
 use std::process::Abort;
 use std::string::String;
 

@@ -1,5 +1,5 @@
 //! Whether the classes of a state are of one kind each.
-ghost use Rattle.std.specs.Prelude.{◌≡◌, ◌↔◌, ◌<◌, ℕ, length, IsTrue};
+ghost use Rattle.std.specs.Prelude.{◌↔◌, ◌<◌, ℕ, length, IsTrue};
 ghost use Rattle.fvn_nodes.specs.States.{IsClosed, class_of};
 ghost use Rattle.fvn_plans.specs.Plans.{AreOfOneKind};
 ghost use Rattle.fvn_combine.specs.inner.Alike.{IsOfItsKind};

@@ -1,5 +1,5 @@
 //! What the top of a decision tree asks for.
-ghost use Rattle.std.specs.Prelude.{◌≡◌, IfOk};
+ghost use Rattle.std.specs.Prelude.{IfOk};
 ghost use Rattle.fvn_nodes.specs.Trees.{AreClosed};
 ghost use Rattle.fvn_nodes.specs.States.{class_of};
 ghost use Rattle.fvn_frames.specs.Bases.{AreBases};

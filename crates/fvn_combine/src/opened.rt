@@ -1,5 +1,5 @@
 //! Frames that are open.
-ghost use Rattle.std.specs.Prelude.{◌≡◌, ◌*◌, ◌≤◌, IfOk, OnOk, OnErr, IsTrue};
+ghost use Rattle.std.specs.Prelude.{◌*◌, ◌≤◌, IfOk};
 ghost use Rattle.fvn_terms.specs.Substitution.{Substitution};
 ghost use Rattle.fvn_flat.specs.Solving.{problem_of};
 ghost use Rattle.fvn_nodes.specs.States.{class_of};

@@ -1,6 +1,6 @@
 -- A list of variants with one more, without those that it covers.
-use Rattle.std.proofs.Common.{◌≡◌, ◌≤◌, ◌+◌, ◌⊎◌, inl, inr, ℕ, List, [], ◌∷◌, ◌++◌, length, sym, ap, ◌∙◌, subst, arith}
-use Rattle.std.specs.Prelude.{All, AllPairs, Contains}
+use Rattle.std.proofs.Common.{◌≤◌, ◌+◌, ◌⊎◌, inl, inr, List, [], ◌∷◌, ◌++◌, length, sym, ap, ◌∙◌, subst, arith}
+use Rattle.std.specs.Prelude.{All, Contains}
 use Rattle.std.proofs.lemmas.List.{length-append}
 use Rattle.std.proofs.lemmas.List.Elements.{All-push, Contains-append_left}
 use Rattle.std.proofs.lemmas.List.Quantifiers.{Any-push, all_pairs_push}
@@ -10,7 +10,7 @@ use Rattle.fvn_cover.specs.declared.variant.Variant.{Variant}
 use Rattle.fvn_cover.specs.Covering.{CoversVariant, AreAlike}
 use Rattle.fvn_cover.specs.Pruning.{IsCoveredBySome}
 use Rattle.fvn_cover.specs.Laws.{CoveringIsAPreorder}
-use Rattle.fvn_cover.specs.Adding.{IsLeft, IsAdded}
+use Rattle.fvn_cover.specs.Adding.{IsAdded}
 use Rattle.fvn_cover.proofs.Leftovers.{all_at, any_none, any_of, any_contains, all_left, pairs_left, left_never, left_length, went_or_left}
 
 module _ (d : Declarations) where

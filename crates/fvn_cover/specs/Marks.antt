@@ -1,5 +1,5 @@
 -- Which candidates are covered by what is kept.
-use Rattle.std.specs.Prelude.{◌↔◌, ℕ, Bool, List, All, IsTrue}
+use Rattle.std.specs.Prelude.{◌↔◌, Bool, List, All, IsTrue}
 use Rattle.std.specs.List.{AllZip}
 use Rattle.fvn_terms.specs.declared.declarations.Declarations.{Declarations}
 use Rattle.fvn_cover.specs.declared.variant.Variant.{Variant}

@@ -1,5 +1,5 @@
 //! Declarations as texts, by which one is found among others.
-ghost use Rattle.std.specs.Prelude.{◌≡◌, ◌++◌, ◌∷◌, [], IfOk, OnOk};
+ghost use Rattle.std.specs.Prelude.{◌≡◌, ◌++◌, ◌∷◌, IfOk, OnOk};
 ghost use Rattle.fvn_declared.specs.inner.Codes.{number_code, sorts_code, axioms_code, code};
 
 use fvn_terms::{Axioms, NoMemory, OpId, Rank, SortId};

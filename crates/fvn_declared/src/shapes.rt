@@ -1,13 +1,7 @@
 //! What a statement declares of each of its operators.
 ghost use Rattle.std.specs.Prelude.{◌≡◌, ◌≤◌, map, length, option_map, IfOk};
 ghost use Rattle.fvn_base.specs.declared.limits.TheConstants.{SORTS as MOST_SORTS, OPERATORS as MOST_OPERATORS};
-ghost use Rattle.fvn_declared.specs.Operators.{
-  op_number,
-  rank_number,
-  identity_in,
-  sum_axioms,
-  axioms_of,
-};
+ghost use Rattle.fvn_declared.specs.Operators.{rank_number, identity_in, sum_axioms, axioms_of};
 ghost use Rattle.fvn_statements.specs.LeftOut.{is_assoc, is_comm};
 ghost use Rattle.std.specs.List.{list_any};
 ghost use Rattle.fvn_declared.specs.inner.Shapes.{own_axioms, shape_of};
@@ -16,7 +10,7 @@ ghost use Rattle.fvn_syntax.specs.Texts.{place_or_end};
 use fvn_base::Seq;
 use fvn_naming::{Vocabulary, has_ditto};
 use fvn_statements::{Attribute, RawRank};
-use fvn_syntax::{RawSort, Text, Texts};
+use fvn_syntax::{RawSort, Texts};
 use fvn_terms::{Axioms, NoMemory, OpId, Rank, SortId};
 use std::alloc::Global;
 

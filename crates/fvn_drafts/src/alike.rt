@@ -2,8 +2,7 @@
 ghost use Rattle.std.specs.Prelude.{◌≡◌, ◌<◌, IsTrue, IfSome};
 ghost use Rattle.fvn_drafts.specs.Drafts.{AreAlike, HasEarlierAlike};
 
-use crate::draft::Draft;
-use fvn_terms::{Axioms, Declarations, OpDecl, OpId, Rank, SortId};
+use fvn_terms::{Declarations, OpId, Rank, SortId};
 
 fn same_sorts(some: &[SortId], others: &[SortId]) -> bool
     ensures { IsTrue result → some.now ≡ others.now }

@@ -1,12 +1,12 @@
 //! Where pairs of sorts lead, one word a sort.
-ghost use Rattle.std.specs.Prelude.{◌≡◌, ◌↔◌, ◌<◌, ◌≤◌, ◌++◌, ◌^◌, length, map, All, IfOk, IsTrue, slice_index_or};
+ghost use Rattle.std.specs.Prelude.{◌≡◌, ◌↔◌, ◌<◌, ◌≤◌, ◌^◌, length, map, All, IfOk, IsTrue, slice_index_or};
 ghost use Rattle.std.specs.List.{range_with_len};
 ghost use Rattle.fvn_base.specs.declared.limits.TheConstants.{SORTS};
 ghost use Rattle.fvn_drafts.specs.Collected.{both_ways};
 ghost use Rattle.fvn_drafts.specs.inner.Words.{Has, IsClosure, gaining};
 
 use fvn_terms::{NoMemory, SortId};
-use std::alloc::{AllocFailed, Global};
+use std::alloc::Global;
 
 /// Whether the word has the bit.
 pub fn has(word: u64, k: u16) -> bool

@@ -14,7 +14,7 @@ ghost use Rattle.fvn_drafts.specs.Collected.{
 use crate::collected::{Collected, Declaration};
 use fvn_base::Seq;
 use fvn_terms::{Axioms, Declarations, NoMemory, OpDecl, OpId, Rank, SortId};
-use std::alloc::{AllocError, AllocFailed, Global};
+use std::alloc::Global;
 
 /// From here on a number in a rank names a kind.
 const FIRST_KIND: u16 = 32768;

@@ -1,5 +1,5 @@
 //! The kinds of what was collected.
-ghost use Rattle.std.specs.Prelude.{◌≡◌, ◌↔◌, ◌<◌, ◌≤◌, ◌+◌, ℕ, All, map, length, IfOk, IsTrue, true};
+ghost use Rattle.std.specs.Prelude.{◌≡◌, ◌↔◌, ◌<◌, ◌≤◌, ◌+◌, ℕ, map, IfOk, true};
 ghost use Rattle.fvn_base.specs.declared.limits.TheConstants.{SORTS};
 ghost use Rattle.fvn_forms.specs.SortOrder.{sort_number};
 ghost use Rattle.fvn_drafts.specs.inner.Words.{Has, IsClosure};
@@ -19,7 +19,7 @@ use crate::closure::{both_ways, closure, has};
 use crate::collected::Collected;
 use fvn_base::Seq;
 use fvn_terms::{NoMemory, SortId};
-use std::alloc::{AllocFailed, Global};
+use std::alloc::Global;
 
 /// The kinds of the sorts, and the number after the last kind.
 #[derive(Drop)]

@@ -2,12 +2,12 @@
 ghost use Rattle.std.specs.Prelude.{◌≡◌, ◌++◌, [], map, length, IfOk, slice_index_or};
 ghost use Rattle.fvn_terms.specs.declared.plain.OpId.{OpId};
 ghost use Rattle.fvn_terms.specs.Signature.{declared};
-ghost use Rattle.fvn_forms.specs.Ranks.{kind_rank, written_ranks, swapped_ranks, ranks_of};
+ghost use Rattle.fvn_forms.specs.Ranks.{kind_rank, swapped_ranks, ranks_of};
 
 use crate::axioms::is_commutative;
 use fvn_base::Seq;
-use fvn_terms::{Axioms, Declarations, NoMemory, OpDecl, OpId, Rank, SortId};
-use std::alloc::{AllocError, AllocFailed, Global};
+use fvn_terms::{Declarations, NoMemory, OpId, Rank};
+use std::alloc::Global;
 
 /// The same rank, in memory of its own.
 pub fn copied(alloc: Global, rank: &Rank) -> Result<Rank, NoMemory>

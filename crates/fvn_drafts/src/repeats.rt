@@ -1,12 +1,11 @@
 //! The ranks of a list without those that stand there before.
-ghost use Rattle.std.specs.Prelude.{◌≡◌, Contains, IfOk, IsTrue};
+ghost use Rattle.std.specs.Prelude.{Contains, IfOk, IsTrue};
 ghost use Rattle.fvn_drafts.specs.FoundAlike.{FindAlike};
 
 use crate::alike::same_rank;
 use crate::ranks::copied;
-use fvn_base::Seq;
 use fvn_terms::{NoMemory, Rank};
-use std::alloc::{AllocFailed, Global};
+use std::alloc::Global;
 
 /// Whether the rank is one of these.
 fn is_listed(ranks: &[Rank], rank: &Rank) -> bool

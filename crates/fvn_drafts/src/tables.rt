@@ -1,5 +1,5 @@
 //! Tables of the results of operators with two arguments.
-ghost use Rattle.std.specs.Prelude.{◌≡◌, [], ◌∷◌, map, length, IfOk, slice_index_or};
+ghost use Rattle.std.specs.Prelude.{◌≡◌, [], ◌∷◌, map, IfOk, slice_index_or};
 ghost use Rattle.fvn_terms.specs.declared.plain.OpId.{OpId};
 ghost use Rattle.fvn_forms.specs.Ranks.{ranks_of, result as least_result};
 ghost use Rattle.fvn_drafts.specs.Collected.{first_sorts};
@@ -11,7 +11,7 @@ use crate::draft::Draft;
 use crate::repeats::without_repeats;
 use fvn_base::Seq;
 use fvn_terms::{NoMemory, OpId, Rank, SortId};
-use std::alloc::{AllocError, AllocFailed, Global};
+use std::alloc::Global;
 
 /// The results over a sort as first argument and each sort and kind as second.
 fn row(

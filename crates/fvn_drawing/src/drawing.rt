@@ -1,5 +1,5 @@
 //! The unifier of a choice.
-ghost use Rattle.std.specs.Prelude.{◌≡◌, ◌-◌, ◌^◌, ◌<◌, IfOk};
+ghost use Rattle.std.specs.Prelude.{◌-◌, ◌^◌, ◌<◌, IfOk};
 ghost use Rattle.fvn_nodes.specs.States.{class_of};
 ghost use Rattle.fvn_frames.specs.Readings.{IsReading};
 ghost use Rattle.fvn_asking.specs.Listed.{systems_of, choice_of};

@@ -1,5 +1,5 @@
 //! What bindings unfold to, where it is not too large.
-ghost use Rattle.std.specs.Prelude.{◌≡◌, ◌-◌, ◌^◌, ◌<◌, All, IfOk};
+ghost use Rattle.std.specs.Prelude.{◌-◌, ◌^◌, ◌<◌, All, IfOk};
 ghost use Rattle.fvn_terms.specs.Signature.{IsSort};
 ghost use Rattle.fvn_flat.specs.SolvedLists.{IsTriangular};
 ghost use Rattle.fvn_unfolding.specs.Sizes.{IsFitting, AddUp};

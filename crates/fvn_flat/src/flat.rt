@@ -1,5 +1,5 @@
 //! Flat terms: arguments of sums are one sorted list, and identities are gone.
-ghost use Rattle.std.specs.Prelude.{◌≡◌, ◌-◌, ◌^◌, ◌↔◌, ℕ, min, IsTrue, IfOk};
+ghost use Rattle.std.specs.Prelude.{◌≡◌, ◌-◌, ◌^◌, ◌↔◌, min, IsTrue, IfOk};
 ghost use Rattle.fvn_terms.specs.Substitution.{Occurs};
 ghost use Rattle.fvn_forms.specs.Flat.{fvar, plain, symbols};
 ghost use Rattle.fvn_flat.specs.Forms.{variable_of, head_of, args_of};

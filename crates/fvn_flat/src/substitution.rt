@@ -1,7 +1,5 @@
 //! Substitutions of flat terms.
-ghost use Rattle.std.specs.Prelude.{◌≡◌, ◌<◌, ◌++◌, ◌∷◌, [], ℕ, length, slice_get, is_some, Some, None, MatchOption, IfOk};
-ghost use Rattle.fvn_terms.specs.Signature.{HasKind, IsSort, kind};
-ghost use Rattle.fvn_forms.specs.Flat.{plain};
+ghost use Rattle.std.specs.Prelude.{◌≡◌, ◌<◌, ◌++◌, ◌∷◌, [], length, slice_get, is_some, Some, None, MatchOption, IfOk};
 ghost use Rattle.fvn_forms.specs.Canon.{inst};
 ghost use Rattle.fvn_forms.specs.Settled.{SettledValues};
 ghost use Rattle.fvn_flat.specs.Fits.{Fits};

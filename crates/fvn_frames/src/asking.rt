@@ -1,5 +1,4 @@
 //! The next question of a state that is no frame yet.
-ghost use Rattle.std.specs.Prelude.{◌≡◌};
 ghost use Rattle.fvn_nodes.specs.States.{IsClosed, class_of};
 ghost use Rattle.fvn_frames.specs.Bases.{AreBases};
 ghost use Rattle.fvn_frames.specs.Frames.{IsNearFrame, IsFirstQuestion, IsQuestion};

@@ -1,5 +1,5 @@
 //! Questions whether two classes are one that may be constants of one operator.
-ghost use Rattle.std.specs.Prelude.{◌≡◌, ◌<◌, length, All};
+ghost use Rattle.std.specs.Prelude.{◌<◌, length, All};
 ghost use Rattle.fvn_nodes.specs.States.{IsNaming};
 ghost use Rattle.fvn_frames.specs.inner.Past.{IsOpenPairOr, ArePastClasses, ArePastPairs};
 ghost use Rattle.fvn_frames.specs.Users.{IsWholeSums, IsWhole};

@@ -1,5 +1,5 @@
 //! The sum operators of a table.
-ghost use Rattle.std.specs.Prelude.{◌≡◌, ◌↔◌, ℕ, ◌<◌, ◌++◌, ◌∷◌, [], List, length, Contains, IfOk, OnOk, MatchOption, IsTrue};
+ghost use Rattle.std.specs.Prelude.{◌↔◌, ℕ, ◌<◌, List, length, Contains, IfOk, OnOk, MatchOption, IsTrue};
 ghost use Rattle.fvn_terms.specs.declared.plain.OpId.{OpId as Operator};
 ghost use Rattle.fvn_terms.specs.Signature.{axioms};
 ghost use Rattle.fvn_terms.specs.Equality.{IsAssociative};

@@ -1,6 +1,6 @@
 //! Which columns of a system its rows use.
-ghost use Rattle.std.specs.Prelude.{◌≡◌, ◌≢◌, ◌↔◌, ℕ, ◌<◌, pos, true, false, length, slice_index_or, All, Any, IfOk, IsTrue};
-ghost use Rattle.fvn_lindio.specs.Systems.{IsSystem, coefficients_of, rows_of};
+ghost use Rattle.std.specs.Prelude.{◌≢◌, ◌↔◌, ◌<◌, pos, true, false, length, slice_index_or, All, Any, IfOk, IsTrue};
+ghost use Rattle.fvn_lindio.specs.Systems.{IsSystem, coefficients_of};
 ghost use Rattle.fvn_frames.specs.inner.Reading.{AreUsed};
 
 use fvn_lindio::{Row, System};

@@ -1,5 +1,5 @@
 //! What a reading tells of classes.
-ghost use Rattle.std.specs.Prelude.{◌≡◌, ◌↔◌, ◌<◌, ◌≤◌, length, All, IsTrue};
+ghost use Rattle.std.specs.Prelude.{◌≡◌, ◌↔◌, ◌<◌, length, All, IsTrue};
 ghost use Rattle.fvn_frames.specs.Users.{IsWholeSums, IsWhole, IsMarked, IsFirstUser, HasTwoUsers, IsSharedIn, CanBeConstant, HaveHeads};
 
 use crate::reading::{Reading, Sums};

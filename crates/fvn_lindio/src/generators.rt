@@ -1,5 +1,5 @@
 //! What a row is searched with: the minimal solutions of the rows before, and the units of its new columns.
-ghost use Rattle.std.specs.Prelude.{◌≡◌, ◌≢◌, ◌↔◌, ◌+◌, ◌*◌, ◌<◌, ◌≤◌, ◌^◌, ℕ, List, IfOk, OnOk, IsTrue, All, Contains, length, map, unsigned_abs};
+ghost use Rattle.std.specs.Prelude.{◌≡◌, ◌↔◌, ◌*◌, ◌<◌, ◌≤◌, ℕ, List, IfOk, OnOk, IsTrue, All, Contains, length, unsigned_abs};
 
 use crate::level::Point;
 use crate::system::Row;

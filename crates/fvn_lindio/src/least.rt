@@ -1,6 +1,5 @@
 //! The least of some vectors, in lexicographic order.
-ghost use Rattle.std.specs.Prelude.{◌≡◌, ◌≢◌, ◌⊎◌, ◌↔◌, ◌<◌, ◌≤◌, ℕ, List, IfOk, OnOk, IsTrue, All, AllPairs, Contains, length, slice_index_or};
-ghost use Rattle.fvn_lindio.specs.Vectors.{IsAtOrBelow};
+ghost use Rattle.std.specs.Prelude.{◌≡◌, ◌⊎◌, ◌↔◌, ◌<◌, ℕ, List, IfOk, OnOk, IsTrue, All, AllPairs, Contains, length};
 ghost use Rattle.fvn_base.specs.Order.{IsBefore};
 ghost use Rattle.fvn_lindio.specs.inner.Generators.{vectors_in};
 ghost use Rattle.fvn_lindio.specs.inner.Least.{HasOther, IsLeast, IsPlace, IsUniform, StandsAt};

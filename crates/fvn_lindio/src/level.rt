@@ -1,7 +1,7 @@
 //! One level of the search: the solutions found so far, and the vectors from which it goes on.
-ghost use Rattle.std.specs.Prelude.{◌≡◌, ◌≢◌, pos, ◌↔◌, ◌+◌, ◌*◌, ◌<◌, ◌≤◌, ◌^◌, ℕ, [], IfOk, OnOk, IsTrue, All, Contains, length, nat_eq};
+ghost use Rattle.std.specs.Prelude.{◌≡◌, ◌≢◌, pos, ◌↔◌, ◌+◌, ◌*◌, ◌<◌, [], IfOk, OnOk, IsTrue, All, Contains};
 ghost use Rattle.fvn_lindio.specs.Vectors.{IsAtOrBelow, add};
-ghost use Rattle.fvn_lindio.specs.inner.Search.{IsValue, IsOpposite};
+ghost use Rattle.fvn_lindio.specs.inner.Search.{IsOpposite};
 
 use crate::vector::{is_at_or_below, is_opposite, is_same, sum_of};
 use smallvec::SmallVec;

@@ -1,5 +1,5 @@
 //! Vectors of the search: their order, sums and the value of a row at them.
-ghost use Rattle.std.specs.Prelude.{◌≡◌, ◌↔◌, ◌+◌, ◌*◌, ◌<◌, ◌≤◌, ◌^◌, ℕ, IfOk, IsTrue, All, length, slice_index, slice_set, replicate, unsigned_abs};
+ghost use Rattle.std.specs.Prelude.{◌≡◌, ◌↔◌, ◌+◌, ◌*◌, ◌<◌, ◌≤◌, ◌^◌, IfOk, IsTrue, All, length, slice_set, replicate, unsigned_abs};
 ghost use Rattle.fvn_lindio.specs.Vectors.{IsAtOrBelow, add};
 ghost use Rattle.fvn_base.specs.Order.{IsBefore};
 ghost use Rattle.fvn_lindio.specs.inner.Search.{IsValue, IsOpposite};

@@ -1,5 +1,5 @@
 //! Choices of so many of each piece, one after another.
-ghost use Rattle.std.specs.Prelude.{◌≡◌, ◌≤◌, ◌<◌, ◌*◌, ◌^◌, length, map, replicate, sum, option_map, nat_lt, ◌&&◌, IfOk};
+ghost use Rattle.std.specs.Prelude.{◌≡◌, ◌≤◌, ◌<◌, ◌*◌, ◌^◌, length, replicate, sum, option_map, nat_lt, ◌&&◌, IfOk};
 ghost use Rattle.std.specs.List.{AllZip};
 ghost use Rattle.fvn_match.specs.inner.Choices.{advanced, quotients, reduced};
 

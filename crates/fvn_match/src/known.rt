@@ -1,6 +1,5 @@
 //! Sums without the patterns whose values are known.
 ghost use Rattle.std.specs.Prelude.{◌≡◌, Some, None, MatchOption, IfOk};
-ghost use Rattle.fvn_forms.specs.LeastSort.{IsFlatSubstitution};
 ghost use Rattle.fvn_flat.specs.Bindings.{value};
 ghost use Rattle.fvn_match.specs.inner.Candidates.{IsCandidate};
 ghost use Rattle.fvn_match.specs.inner.Goals.{SumFits, bindings_of};

@@ -1,13 +1,11 @@
 //! Summands of flat terms, as different pieces with their numbers.
-ghost use Rattle.std.specs.Prelude.{◌≡◌, ◌+◌, ◌≤◌, ◌<◌, ◌^◌, ◌↔◌, [], ◌∷◌, ℕ, length, map, replicate, reverse, sum, take, drop, Some, IsTrue, IfOk, MatchBool};
+ghost use Rattle.std.specs.Prelude.{◌≡◌, ◌≤◌, ◌<◌, ◌↔◌, [], ◌∷◌, length, reverse, take, drop, Some, IsTrue, IfOk};
 ghost use Rattle.fvn_terms.specs.Signature.{axioms};
 ghost use Rattle.fvn_terms.specs.Equality.{IsAssociative};
-ghost use Rattle.fvn_forms.specs.Flat.{FlatTerm};
-ghost use Rattle.fvn_forms.specs.InOrder.{InOrder, count};
+ghost use Rattle.fvn_forms.specs.InOrder.{InOrder};
 ghost use Rattle.fvn_forms.specs.Canon.{identity, is_identity, parts};
 ghost use Rattle.fvn_forms.specs.Settled.{Settled};
 ghost use Rattle.fvn_flat.specs.Forms.{head_of};
-ghost use Rattle.fvn_match.specs.inner.Tallies.{tally, AreDistinct};
 ghost use Rattle.fvn_match.specs.inner.Summands.{references, IsTakenAway, IsCounted, IsRun};
 
 use fvn_flat::Flat;

@@ -1,5 +1,5 @@
 //! The signature of a module.
-ghost use Rattle.std.specs.Prelude.{◌≡◌, ◌⊎◌, IfOk, IfErr};
+ghost use Rattle.std.specs.Prelude.{◌≡◌, IfOk, IfErr};
 ghost use Rattle.fvn_sorts.specs.Faults.{IsTooLarge};
 ghost use Rattle.fvn_module.specs.inner.Steps.{IsFinished, IsFinishRefused, IsSigned, IsSigningRefused};
 ghost use Rattle.fvn_naming.specs.Variables.{no_variables};

@@ -7,7 +7,7 @@ use fvn_module::{Module, ModuleFault, Place, read_module};
 use fvn_sorts::SigFault;
 use fvn_statements::Feature;
 use fvn_terms::NoMemory;
-use std::alloc::{AllocError, Global};
+use std::alloc::Global;
 use std::process::Abort;
 
 // Each line has the statements of a module, and the numbers of its sorts, kinds, operators and equations.
@@ -79,6 +79,8 @@ sorts A B . var X : A . var X : B . => 5 3
 sorts A B . var X : [A] . var X : A . => 5 3
 sorts A B . var X : A . var X : C . => 4 3
 sorts A B . var X : [A,B] . => 4 2
+sort A . var X : [B] . => 4 2
+sort A . var X : [A,B] . => 4 2
 sorts A B . op f : [A,B] -> A . => 4 2
 sorts A B . op f : A -> [B,A] . => 4 2
 sorts A B . op a : -> A . eq a = X:[A,B] [variant] . => 4 3

@@ -13,7 +13,7 @@ ghost use Rattle.fvn_naming.specs.Names.{
 };
 
 use fvn_base::Seq;
-use fvn_statements::{OperatorName, RawRank, Statement};
+use fvn_statements::{OperatorName, Statement};
 use fvn_syntax::{Piece, Row, Text, Texts};
 use fvn_terms::NoMemory;
 use std::alloc::Global;

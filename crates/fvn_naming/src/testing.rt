@@ -16,7 +16,6 @@ use crate::variables::VariableTable;
 use crate::vocabulary::Vocabulary;
 use fvn_statements::Statement;
 use fvn_syntax::Text;
-use fvn_terms::NoMemory;
 use std::alloc::Global;
 
 // The fault of a statement whose operators have these names, behind what is declared earlier.

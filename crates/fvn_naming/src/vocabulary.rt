@@ -1,5 +1,5 @@
 //! What all statements of a module declare.
-ghost use Rattle.std.specs.Prelude.{◌≡◌, ◌<◌, ◌≤◌, ◌*◌, map, length, option_map, All, IfOk};
+ghost use Rattle.std.specs.Prelude.{◌≡◌, ◌<◌, ◌*◌, map, option_map, IfOk};
 ghost use Rattle.fvn_forms.specs.SortOrder.{sort_number};
 ghost use Rattle.fvn_syntax.specs.Names.{sort_named, kind_in, kind_of, if_of_kind, bracket, resolve_sort};
 ghost use Rattle.fvn_naming.specs.Vocabulary.{vocabulary_of};

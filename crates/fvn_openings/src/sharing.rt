@@ -1,9 +1,9 @@
 //! The shared classes of a state.
-ghost use Rattle.std.specs.Prelude.{◌≡◌, ◌<◌, ◌≤◌, length, All, Contains, IfOk};
+ghost use Rattle.std.specs.Prelude.{◌<◌, ◌≤◌, length, All, IfOk};
 ghost use Rattle.fvn_nodes.specs.States.{IsClosed, class_of};
 ghost use Rattle.fvn_frames.specs.Readings.{IsReading};
 ghost use Rattle.fvn_openings.specs.Sharing.{AreSharedClasses};
-ghost use Rattle.fvn_openings.specs.inner.Walking.{AreUsersBelow, AreSharedBelow};
+ghost use Rattle.fvn_openings.specs.inner.Walking.{AreUsersBelow};
 
 use fvn_asking::{is_shared_class, uses};
 use fvn_base::Seq;

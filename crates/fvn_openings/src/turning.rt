@@ -1,7 +1,6 @@
 //! Wheels for all sum operators, under tags.
-ghost use Rattle.std.specs.Prelude.{◌≡◌, ◌↔◌, ◌≤◌, ℕ, List, length, map, true, false, Contains, IfOk};
+ghost use Rattle.std.specs.Prelude.{◌≡◌, ◌↔◌, ◌≤◌, ℕ, List, true, false, Contains, IfOk};
 ghost use Rattle.std.specs.List.{AllZip};
-ghost use Rattle.fvn_acunify.specs.Cursor.{Cursor};
 ghost use Rattle.fvn_nodes.specs.States.{IsClosed, class_of};
 ghost use Rattle.fvn_frames.specs.Readings.{IsReading};
 ghost use Rattle.fvn_asking.specs.Listed.{tag_in};

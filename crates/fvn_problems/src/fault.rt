@@ -6,7 +6,7 @@ ghost use Rattle.fvn_problems.specs.Faults.{fault_of};
 use fvn_lex::LexFault;
 use fvn_syntax::TermFault;
 use fvn_terms::NoMemory;
-use std::alloc::{AllocError, AllocFailed};
+use std::alloc::AllocFailed;
 use thiserror::Error;
 
 /// The first fault of a text.

@@ -1,6 +1,5 @@
 //! Reading a problem.
 ghost use Rattle.std.specs.Prelude.{◌≡◌, [], All, IfOk, IfErr};
-ghost use Rattle.fvn_syntax.specs.Raw.{IsTermBefore};
 ghost use Rattle.fvn_problems.specs.Scopes.{AreNamesOf};
 ghost use Rattle.fvn_problems.specs.Variables.{with_sides};
 ghost use Rattle.fvn_problems.specs.Problems.{AreOfOneKind, IsProblem, IsOnlyProblem, RefusesProblem, HasNoProblem, HasVariables};

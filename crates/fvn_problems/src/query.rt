@@ -1,5 +1,5 @@
 //! Reading a term text.
-ghost use Rattle.std.specs.Prelude.{◌≡◌, ◌⊎◌, [], IfOk, IfErr};
+ghost use Rattle.std.specs.Prelude.{◌≡◌, [], IfOk, IfErr};
 ghost use Rattle.fvn_terms.specs.Signature.{IsTerm};
 ghost use Rattle.fvn_terms.specs.Plain.{term};
 ghost use Rattle.fvn_syntax.specs.Raw.{IsTermBefore};

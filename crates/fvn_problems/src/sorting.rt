@@ -1,10 +1,9 @@
 //! The least sort of a written term, piece by piece, with what is not closed on a stack: the term need not be built.
-ghost use Rattle.std.specs.Prelude.{◌≡◌, [], ◌∷◌, ◌++◌, map, reverse, IfOk};
+ghost use Rattle.std.specs.Prelude.{◌≡◌, [], ◌∷◌, map, reverse, IfOk};
 ghost use Rattle.fvn_terms.specs.Signature.{axioms};
 ghost use Rattle.fvn_forms.specs.Canon.{identity};
-ghost use Rattle.fvn_forms.specs.Ranks.{result as least_result};
 ghost use Rattle.fvn_syntax.specs.Pieces.{is_colon_name};
-ghost use Rattle.fvn_syntax.specs.Names.{declared_sort, variable_named, op_named, sort_named, is_sum};
+ghost use Rattle.fvn_syntax.specs.Names.{declared_sort, variable_named, op_named, is_sum};
 ghost use Rattle.fvn_syntax.specs.Texts.{place};
 ghost use Rattle.fvn_problems.specs.declared.sorting.Spot.TheVariants.{Wanted};
 ghost use Rattle.fvn_problems.specs.Scopes.{unguarded, AreNamesOf};

@@ -10,7 +10,7 @@ use fvn_problems::{
     Bindings, Problem, ProblemFault, Query, read_bindings, read_problem, read_query,
 };
 use fvn_terms::NoMemory;
-use std::alloc::{AllocError, AllocFailed, Global};
+use std::alloc::Global;
 use std::process::Abort;
 
 // Each block has a signature with its names, and lines of texts with what they give: `p` a problem, its pairs and then

@@ -1,6 +1,5 @@
 //! Where a node stands: under which operators, and of which theories.
-ghost use Rattle.std.specs.Prelude.{◌≡◌, ◌≢◌, ◌↔◌, ◌⊎◌, ◌<◌, ℕ, length, IsTrue, MatchOption, Contains};
-ghost use Rattle.fvn_nodes.specs.Table.{NodeTable};
+ghost use Rattle.std.specs.Prelude.{◌≡◌, ◌≢◌, ◌↔◌, ◌⊎◌, ◌<◌, length, IsTrue, MatchOption, Contains};
 ghost use Rattle.fvn_purify.specs.Theories.{
   theory,
   IsVariable,

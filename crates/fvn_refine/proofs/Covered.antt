@@ -1,7 +1,6 @@
 -- A well-sorted substitution that is covered on kinds is an instance of a refinement.
 use Rattle.std.proofs.Common.{◌≡◌, ◌⊎◌, ◌<◌, ◌≤◌, Bool, true, false, List, length, refl, sym, ap, ◌∙◌, subst, inl, inr}
 use Rattle.std.specs.List.{Any, Contains}
-use Rattle.std.specs.Option.{option_map}
 use Rattle.std.specs.Prelude.{if◌then◌else◌, ◌&&◌}
 use Rattle.std.proofs.lemmas.Bool.{and_parts, and_from, cases_lt}
 use Rattle.std.proofs.lemmas.List.{get_or_past}
@@ -19,21 +18,21 @@ use Rattle.fvn_terms.proofs.Substitutions.{apply-apply, apply-agree}
 use Rattle.fvn_terms.proofs.Equal.{BEqual-refl, BEqual-trans, BEqual-apply}
 use Rattle.fvn_forms.specs.SortOrder.{same_sort}
 use Rattle.fvn_forms.specs.Flat.{fvar, plain}
-use Rattle.fvn_forms.specs.Canon.{canon, inst}
+use Rattle.fvn_forms.specs.Canon.{canon}
 use Rattle.fvn_forms.specs.Good.{IsGood}
-use Rattle.fvn_forms.specs.LeastSort.{sort_in, least_sort, IsFlatSubstitution}
+use Rattle.fvn_forms.specs.LeastSort.{sort_in, least_sort}
 use Rattle.fvn_forms.proofs.SortTests.{same_sort-true, same_sort-self}
 use Rattle.fvn_forms.proofs.Eval.{canon_settled}
 use Rattle.fvn_forms.proofs.ToCanon.{canon_of_kind}
 use Rattle.fvn_forms.proofs.LeastSort.{sort_in-kind, least_sort_below, least_sort_exact}
-use Rattle.fvn_flat.specs.Bindings.{Bindings, form_or, value, BindingsFit}
+use Rattle.fvn_flat.specs.Bindings.{Bindings, value, BindingsFit}
 use Rattle.fvn_flat.specs.Solving.{substitution}
 use Rattle.fvn_flat.specs.Drawn.{OccursInValues, IsWay}
 use Rattle.fvn_flat.proofs.Instances.{inst_equal}
 use Rattle.fvn_refine.specs.Refinements.{Way, at_sort, IsAtSorts, AreBound, HaveKindsAsSorts, IsLargest, AreRefinements, IsCoveredOnKinds}
 use Rattle.fvn_refine.specs.Laws.{RefinementsCover}
 use Rattle.fvn_refine.proofs.AtSorts.{sorts_flat, value_at_sorts}
-use Rattle.fvn_refine.proofs.Refined.{occurs_in_values, occurs_true, occurs_complete, occurs_false, occurring, bound_value, kinded_value, canon_value, sort_of_var, zip_member, any_member}
+use Rattle.fvn_refine.proofs.Refined.{occurs_in_values, occurs_true, occurs_complete, occurring, kinded_value, canon_value, sort_of_var, zip_member, any_member}
 
 module _ (d : Declarations) where
   -- a sort of a kind of the signature is one of the signature

@@ -1,5 +1,5 @@
 //! How sorts of variables are lowered until terms have given sorts: down the ranks that give them.
-ghost use Rattle.std.specs.Prelude.{◌≡◌, ◌≤◌, ◌∷◌, [], ◌++◌, ◌↔◌, ◌&&◌, if◌then◌else◌, IfOk, IsTrue, MatchOption, length, false};
+ghost use Rattle.std.specs.Prelude.{◌≡◌, ◌≤◌, ◌∷◌, [], ◌&&◌, if◌then◌else◌, IfOk, IsTrue, MatchOption, length, false};
 ghost use Rattle.fvn_terms.specs.Signature.{axioms};
 ghost use Rattle.fvn_terms.specs.Equality.{IsAssociative};
 ghost use Rattle.fvn_forms.specs.SortOrder.{at_or_below};

@@ -1,5 +1,5 @@
 //! The text of each refusal of a problem.
-ghost use Rattle.std.specs.Prelude.{◌≡◌, Some, None, MatchOption, IfOk};
+ghost use Rattle.std.specs.Prelude.{◌≡◌, Some, None, IfOk};
 ghost use Rattle.fvn_reply.specs.ProblemRefusals.{problem_number, problem_text};
 
 use crate::pieces::numbered;

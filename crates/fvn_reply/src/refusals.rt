@@ -2,7 +2,7 @@
 ghost use Rattle.std.specs.Prelude.{◌≡◌, Some, IfOk};
 ghost use Rattle.fvn_reply.specs.Refusals.{feature_word, signature_text, refusal_text};
 
-use crate::pieces::{numbered, push_number, push_word};
+use crate::pieces::{numbered, push_word};
 use crate::signatures::{number, push_told};
 use fvn_base::NoMemory;
 use fvn_lex::LexFault;

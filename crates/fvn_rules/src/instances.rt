@@ -11,7 +11,7 @@ ghost use Rattle.fvn_rules.specs.inner.Making.{goes_to, IsKindedRule, instance_b
 
 use crate::rule::Rule;
 use fvn_cohere::{distinct_variables, identities_below};
-use fvn_flat::{Flat, Subst, flatten};
+use fvn_flat::{Subst, flatten};
 use fvn_module::Equation;
 use fvn_sorts::Signature;
 use fvn_terms::{Args, NoMemory, OpId, Plain, Var};

@@ -1,7 +1,7 @@
 //! Reads flat terms and problems.
 //!
 //! A problem is a row of pairs with `; ` between them, each two terms with ` = ` between them.
-ghost use Rattle.std.specs.Prelude.{◌≡◌, All, IsTrue, IfOk, IfSome};
+ghost use Rattle.std.specs.Prelude.{All, IsTrue, IfOk, IfSome};
 ghost use Rattle.fvn_terms.specs.Signature.{kind, HasKind};
 ghost use Rattle.fvn_forms.specs.Flat.{plain};
 ghost use Rattle.fvn_flat.specs.Fits.{Fits, AllFit};
@@ -13,7 +13,7 @@ use fvn_base::Seq;
 use fvn_flat::{Flat, Pairs, flatten};
 use fvn_sorts::Signature;
 use fvn_terms::{NoMemory, SortId};
-use std::alloc::{AllocError, AllocFailed, Global};
+use std::alloc::Global;
 
 /// The flat form of the term that is written; none where it is not well-kinded.
 pub fn flat_of(alloc: Global, sig: &Signature, text: &str) -> Result<Option<Flat>, NoMemory>

@@ -2,7 +2,6 @@
 use fvn_flat::Flat;
 use fvn_sorts::Signature;
 use fvn_terms::{Axioms, NoMemory, OpId, SortId, Var};
-use std::alloc::AllocError;
 
 fn push_letter(out: &mut String, first: u8, number: u16) -> Result<(), NoMemory> {
     out.push(char::from(first.wrapping_add((number % 20) as u8)))?;

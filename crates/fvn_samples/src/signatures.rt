@@ -3,13 +3,13 @@
 //! A signature is a row of statements with `; ` between them: sorts, as `A B C`; a pair of them, as `A < B`;
 //! declarations, as `f : A B -> C [comm]`. Sorts are A, B, C and on, and operators f, g, h and on. A sort in
 //! brackets is its kind, and `~>` makes a declaration partial.
-ghost use Rattle.std.specs.Prelude.{◌≡◌, ◌≤◌, ◌<◌, All, IsTrue};
+ghost use Rattle.std.specs.Prelude.{◌≤◌, ◌<◌, All, IsTrue};
 ghost use Rattle.fvn_sorts.specs.Collected.{Names};
 
 use fvn_base::Seq;
 use fvn_sorts::{Signature, SignatureBuilder};
 use fvn_terms::{Axioms, NoMemory, OpId, Rank, SortId};
-use std::alloc::{AllocError, AllocFailed, Global};
+use std::alloc::Global;
 
 /// The number of the kind of the first sort in a rank.
 const KIND: u16 = 32768;

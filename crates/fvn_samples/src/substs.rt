@@ -6,7 +6,7 @@ use super::terms::{has_kind, term_of, var_of};
 use fvn_flat::{Subst, flatten};
 use fvn_sorts::Signature;
 use fvn_terms::{NoMemory, Plain, Var};
-use std::alloc::{AllocError, Global};
+use std::alloc::Global;
 
 /// One more variable bound, where it is free and the term is of its kind.
 fn with_pair(

@@ -1,14 +1,14 @@
 //! Reads terms, and decides whether they are well-kinded.
 //!
 //! A term is written with each operator after its arguments, a variable as the letter of its sort and a number.
-ghost use Rattle.std.specs.Prelude.{◌≡◌, ◌<◌, map, length, Contains, IsTrue, IfSome};
+ghost use Rattle.std.specs.Prelude.{◌≡◌, ◌<◌, map, Contains, IsTrue, IfSome};
 ghost use Rattle.fvn_terms.specs.Plain.{term};
 ghost use Rattle.fvn_terms.specs.Signature.{kind, declared, IsSort, HasKind, HaveKinds, IsTerm};
 
 use super::signatures::{operator_of, sort_of};
 use fvn_sorts::Signature;
 use fvn_terms::{Args, NoMemory, OpId, Plain, Rank, SortId, Var};
-use std::alloc::{AllocError, AllocFailed, Global};
+use std::alloc::Global;
 
 fn first_rank<'a>(sig: &'a Signature, op: OpId) -> Option<&'a Rank>
     ensures { IfSome result (λ r. Contains (declared sig.now op).ranks r.now) }

@@ -1,8 +1,8 @@
 //! Reading names of sorts, operators and variables.
-ghost use Rattle.std.specs.Prelude.{◌≡◌, ◌<◌, ◌^◌, ◌∷◌, ◌++◌, IfOk, Some, None, IfSome, MatchOption};
+ghost use Rattle.std.specs.Prelude.{◌≡◌, ◌<◌, ◌^◌, IfOk, Some, None, MatchOption};
 ghost use Rattle.std.specs.List.{list_all};
 ghost use Rattle.fvn_statements.specs.inner.Names.{group_of, sort_names_of, groups_of, whole_sort, declared_sort, variables_of, split_colon, before_close, round_name};
-ghost use Rattle.fvn_statements.specs.Words.{has_colon, begins_with_underscore, ends_with_underscore, are_apart, touch, touch_after, depth_behind, names_touch};
+ghost use Rattle.fvn_statements.specs.Words.{has_colon, begins_with_underscore, ends_with_underscore, are_apart, touch, depth_behind, names_touch};
 
 use crate::reader::{Reader, read_all};
 use crate::sorts::read_sort;

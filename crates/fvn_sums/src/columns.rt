@@ -1,5 +1,5 @@
 //! The columns of a sum system.
-ghost use Rattle.std.specs.Prelude.{◌≡◌, ◌<◌, ◌++◌, ◌↔◌, length, All, IfOk, OnOk, IsTrue};
+ghost use Rattle.std.specs.Prelude.{◌≡◌, ◌<◌, ◌++◌, ◌↔◌, length, IfOk, OnOk, IsTrue};
 ghost use Rattle.fvn_nodes.specs.States.{class_of};
 ghost use Rattle.fvn_sums.specs.NodeSystems.{IsIdentityClass};
 ghost use Rattle.fvn_sums.specs.inner.Collecting.{classes_at, classes_among, AreOnce};

@@ -1,6 +1,5 @@
 //! The rows of a sum system.
-ghost use Rattle.std.specs.Prelude.{◌≡◌, ◌<◌, pos, map, length, slice_get, IfOk, IfSome};
-ghost use Rattle.fvn_forms.specs.InOrder.{one_if};
+ghost use Rattle.std.specs.Prelude.{◌≡◌, ◌<◌, pos, map, length, IfOk, IfSome};
 ghost use Rattle.fvn_lindio.specs.Systems.{coefficients_of};
 ghost use Rattle.fvn_nodes.specs.States.{class_of};
 ghost use Rattle.fvn_sums.specs.NodeSystems.{stands_in, coefficient, row_at, sums};

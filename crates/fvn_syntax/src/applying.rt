@@ -1,8 +1,7 @@
 //! Operators over their arguments.
-ghost use Rattle.std.specs.Prelude.{◌≡◌, ◌≤◌, ◌-◌, [], ◌∷◌, length, IfOk, MatchOption};
-ghost use Rattle.fvn_terms.specs.Signature.{axioms};
+ghost use Rattle.std.specs.Prelude.{◌≡◌, ◌-◌, [], ◌∷◌, IfOk};
 ghost use Rattle.fvn_terms.specs.Plain.{terms};
-ghost use Rattle.fvn_syntax.specs.Names.{is_sum, arity_of};
+ghost use Rattle.fvn_syntax.specs.Names.{arity_of};
 ghost use Rattle.fvn_syntax.specs.Resolve.{wanted, fit_from, fits_number, application_fault, nested_all, applied};
 
 use crate::fault::TermFault;

@@ -18,9 +18,7 @@ pub use fault::TermFault;
 pub use form::skip_term;
 pub use laws::terms_are_well_kinded;
 pub use names::{Names, VarNames, Variables};
-pub use naming::{
-    find_constant, find_last_colon, find_operator, find_sort, find_written_sort, split_sorted,
-};
+pub use naming::{find_constant, find_last_colon, find_operator, find_sort, split_sorted};
 pub use piece::{Piece, Row, Text, cut};
 pub use reading::read_term;
 pub use scope::Scope;

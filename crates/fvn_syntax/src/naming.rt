@@ -2,31 +2,11 @@
 ghost use Rattle.std.specs.Prelude.{◌≡◌, ◌<◌, ◌≤◌, length, IfSome};
 ghost use Rattle.fvn_terms.specs.Signature.{axioms};
 ghost use Rattle.fvn_syntax.specs.Texts.{place};
-ghost use Rattle.fvn_syntax.specs.Names.{
-  last_colon,
-  sort_named,
-  sorted_name,
-  kind_in,
-  kind_of,
-  if_of_kind,
-  bracket,
-  resolve_sort,
-  args_of,
-  arity_of,
-  result_of,
-  is_sum,
-  op_named,
-  constant_named,
-  declared_sort,
-  variable_named,
-  resolve_name,
-};
+ghost use Rattle.fvn_syntax.specs.Names.{last_colon, sort_named, sorted_name, kind_in, kind_of, if_of_kind, args_of, result_of, is_sum, op_named, constant_named, declared_sort, variable_named, resolve_name};
 
 use crate::names::{Names, Variables};
 use crate::piece::Text;
-use crate::sorts::RawSort;
 use crate::texts::Texts;
-use fvn_base::Seq;
 use fvn_terms::{Axioms, Declarations, OpId, SortId};
 
 /// What a name alone stands for: a constant, or the variable of a name and a sort.
@@ -104,38 +84,6 @@ pub fn keep_kind(sorts: &Texts, kinds: &[SortId], kind: SortId, name: &[u8]) -> 
         Some(kind)
     } else {
         None
-    }
-}
-
-// The kind of the sorts of a bracket, which are all of one kind.
-fn find_bracket(
-    sorts: &Texts,
-    kinds: &[SortId],
-    first: &[u8],
-    others: &[Text<'_>],
-) -> Option<SortId>
-    requires { length sorts.now ≤ 65536 }
-    ensures { result ≡ bracket sorts.now kinds.now first.now others.now }
-{
-    let mut kind = find_kind(sorts, kinds, first)?;
-    for other in others {
-        kind = keep_kind(sorts, kinds, kind, other.bytes())?;
-    }
-    Some(kind)
-}
-
-/// The sort that is written: a declared one, or the kind of sorts that are all of one kind.
-///
-/// `kinds` has the kind of each sort.
-pub fn find_written_sort(sorts: &Texts, kinds: &[SortId], written: &RawSort<'_>) -> Option<SortId>
-    requires { length sorts.now ≤ 65536 }
-    ensures { result ≡ resolve_sort sorts.now kinds.now written.now }
-{
-    match written {
-        RawSort::Name(name) => find_sort(sorts, name.bytes()),
-        RawSort::Kind(first, others) => {
-            find_bracket(sorts, kinds, first.bytes(), others.as_slice())
-        }
     }
 }
 

@@ -1,5 +1,5 @@
 //! Reading what a term stands for, piece by piece, with what is not closed on a stack.
-ghost use Rattle.std.specs.Prelude.{◌≡◌, ◌⊎◌, ◌&&◌, ◌++◌, [], ◌∷◌, reverse, Ok, Err, None, IfOk, IfErr};
+ghost use Rattle.std.specs.Prelude.{◌≡◌, ◌⊎◌, ◌&&◌, [], ◌∷◌, reverse, Ok, Err, None, IfOk, IfErr};
 ghost use Rattle.fvn_syntax.specs.declared.fault.TermFault.TheVariants.{NoMemory as OutOfMemory};
 ghost use Rattle.fvn_syntax.specs.Pieces.{without_last, is_reserved};
 ghost use Rattle.fvn_syntax.specs.Raw.{IsTermBefore};

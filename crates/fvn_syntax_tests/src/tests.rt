@@ -1,9 +1,6 @@
 //! Terms and names, each rule with its edges.
 use fvn_base::Seq;
-use fvn_syntax::{
-    Kinded, Names, Piece, RawSort, Scope, Seen, TermFault, Text, Texts, Variables, cut,
-    find_written_sort, read_term, skip_term,
-};
+use fvn_syntax::{Kinded, Names, Piece, Scope, Seen, TermFault, Texts, Variables, cut, read_term, skip_term};
 use fvn_terms::{Args, Axioms, Declarations, OpDecl, OpId, Plain, Rank, SortId};
 use std::alloc::Global;
 use std::test::Fail;
@@ -135,32 +132,12 @@ f(#1:A,q) => reserved
 f(q,#1:A) => unknown
 P#:A => v0:0 3 P#";
 
-// Each line has a written sort, and its number.
-const SORTS: &str = "A => 0
-B => 1
-C => 2
-D => no
-[A] => 3
-[A,B] => 3
-[C] => 4
-[A,C] => no
-[D] => no
-[A,D] => no";
-
 fn texts_of(alloc: Global, words: &str) -> Result<Texts, Fail> {
     let mut texts = Texts::new(alloc);
     for word in words.split(' ') {
         texts.insert(alloc, word.as_bytes())?;
     }
     Ok(texts)
-}
-
-fn sorts_of(alloc: Global, numbers: &[u16]) -> Result<Seq<SortId>, Fail> {
-    let mut sorts = Vec::new(alloc);
-    for n in numbers {
-        sorts.push(SortId(*n))?;
-    }
-    Ok(Seq::from_vec(sorts))
 }
 
 // Each line has the axioms of an operator, and the sorts of its arguments and of its result.
@@ -355,45 +332,6 @@ fn names_without_guard(rt: HostRuntime) -> Result<(), Fail> {
         assert_eq!(rt; told.as_str(), want, "at {text}");
     }
     Ok(())
-}
-
-#[test]
-fn written_sorts(rt: HostRuntime) -> Result<(), Fail> {
-    let alloc = rt.alloc();
-    let sorts = texts_of(alloc, "A B C")?;
-    let kinds = sorts_of(alloc, &[3, 3, 4, 3, 4])?;
-    for line in SORTS.lines() {
-        if let Some((text, want)) = line.split_once(" => ") {
-            let told = shown_sort(alloc, &sorts, kinds.as_slice(), text)?;
-            assert_eq!(rt; told.as_str(), want, "at {text}");
-        }
-    }
-    Ok(())
-}
-
-// The sort of a letter, or of letters in a bracket.
-fn written<'a>(alloc: Global, bytes: &'a [u8]) -> Result<RawSort<'a>, Fail> {
-    if bytes.len() < 3 {
-        return Ok(RawSort::Name(Text::new(bytes)));
-    }
-    let mut others = Vec::new(alloc);
-    for i in 3..bytes.len() {
-        if bytes[i].is_ascii_uppercase() {
-            others.push(Text::new(&bytes[i..i + 1]))?;
-        }
-    }
-    Ok(RawSort::Kind(Text::new(&bytes[1..2]), Seq::from_vec(others)))
-}
-
-fn shown_sort(alloc: Global, sorts: &Texts, kinds: &[SortId], text: &str) -> Result<String, Fail> {
-    let sort = written(alloc, text.as_bytes())?;
-    if 65536 < sorts.len() {
-        return Ok(String::new(alloc));
-    }
-    match find_written_sort(sorts, kinds, &sort) {
-        Some(s) => Ok(format!(in alloc; "{}", s.0)?),
-        None => Ok(format!(in alloc; "no")?),
-    }
 }
 
 // A term of so many operators over a constant or an unknown name, within so many parentheses.

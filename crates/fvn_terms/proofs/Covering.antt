@@ -1,5 +1,5 @@
 -- Covering is reflexive and transitive.
-use Rattle.std.proofs.Common.{◌≡◌, List, [], ◌∷◌, map, refl, sym, subst}
+use Rattle.std.proofs.Common.{List, [], ◌∷◌, map, refl, sym, subst}
 use Rattle.std.specs.List.{AllZip}
 use Rattle.fvn_terms.specs.declared.plain.Var.{Var}
 use Rattle.fvn_terms.specs.declared.declarations.Declarations.{Declarations}
@@ -9,7 +9,6 @@ use Rattle.fvn_terms.specs.Signature.{same}
 use Rattle.fvn_terms.specs.Places.{stop}
 use Rattle.fvn_terms.specs.Equality.{BEqual}
 use Rattle.fvn_terms.specs.Sorts.{IsWellSorted}
-use Rattle.fvn_terms.specs.Variants.{Covers}
 use Rattle.fvn_terms.specs.Laws.{CoveringIsAnOrder}
 use Rattle.fvn_terms.proofs.Substitutions.{apply-apply, apply-var}
 use Rattle.fvn_terms.proofs.Equal.{BEqual-apply, BEqual-trans}

@@ -1,10 +1,10 @@
 -- Axioms keep the variables of a term, and steps with equations bring no new ones.
-use Rattle.std.proofs.Common.{◌≡◌, ℕ, zero, suc, refl, subst, sym, inl, inr}
+use Rattle.std.proofs.Common.{ℕ, zero, suc, refl, subst, sym, inl, inr}
 use Rattle.fvn_terms.specs.declared.plain.Var.{Var}
 use Rattle.fvn_terms.specs.declared.declarations.Declarations.{Declarations}
 use Rattle.fvn_terms.specs.Term.{Term, Terms, var, app, none, more}
 use Rattle.fvn_terms.specs.Substitution.{Substitution, apply, apply_all, Occurs, OccursAmong}
-use Rattle.fvn_terms.specs.Places.{AtOnePlace, AmongOnePlace, here, inside, first, later, Leads, stop, step}
+use Rattle.fvn_terms.specs.Places.{AtOnePlace, AmongOnePlace, here, inside, first, later, stop, step}
 use Rattle.fvn_terms.specs.Equality.{IsAxiom, swap, shift, right_identity, left_identity, IsAxiomEitherWay, BEqual}
 use Rattle.fvn_terms.specs.Theory.{Equations, IsRule}
 use Rattle.fvn_terms.specs.Rewriting.{Rewrites, TermSequence, BringsNoVariable}

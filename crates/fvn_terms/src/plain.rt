@@ -1,5 +1,5 @@
 //! Plain terms: a variable, or an operator over a list of terms.
-ghost use Rattle.std.specs.Prelude.{◌≡◌, ℕ, ◌+◌, ◌-◌, ◌^◌, min, List, IsTrue, ◌↔◌, IfOk, IfSome, IfNone};
+ghost use Rattle.std.specs.Prelude.{◌≡◌, ◌-◌, ◌^◌, min, IsTrue, ◌↔◌, IfOk};
 ghost use Rattle.fvn_terms.specs.Term.{nodes, nodes_all};
 ghost use Rattle.fvn_terms.specs.Plain.{term};
 

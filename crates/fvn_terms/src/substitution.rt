@@ -1,6 +1,6 @@
 //! Substitutions, kept as pairs of a variable and its term.
 ghost use Rattle.std.specs.Prelude.{◌≡◌, Some, None, MatchOption, IfOk};
-ghost use Rattle.fvn_terms.specs.Plain.{term, terms};
+ghost use Rattle.fvn_terms.specs.Plain.{term};
 ghost use Rattle.fvn_terms.specs.Substitution.{bound, value, apply, apply_all};
 
 use crate::plain::{Args, Plain, Var};

@@ -1,18 +1,18 @@
 -- What is noted are the sizes of what variables unfold to.
-use Rattle.std.proofs.Common.{◌≡◌, ◌≢◌, ℕ, suc, ◌+◌, ◌-◌, ◌^◌, ◌<◌, ◌≤◌, Bool, true, false, List, [], ◌∷◌, ◌++◌, length, get_or, take, drop, Option, Some, None, refl, sym, ap, ◌∙◌, subst, inl, inr, arith, All}
-use Rattle.std.specs.Prelude.{◌↔◌, if◌then◌else◌, AllPairs, Any, Contains}
+use Rattle.std.proofs.Common.{◌≡◌, ◌≢◌, ℕ, suc, ◌+◌, ◌-◌, ◌^◌, ◌<◌, ◌≤◌, Bool, true, false, List, [], ◌∷◌, ◌++◌, length, get_or, drop, Option, Some, None, refl, sym, ap, ◌∙◌, subst, arith, All}
+use Rattle.std.specs.Prelude.{if◌then◌else◌, Any, Contains}
 use Rattle.std.proofs.Math.Seq.{drop-cons}
 use Rattle.std.proofs.lemmas.List.{append-nil, drop_all}
 use Rattle.std.proofs.lemmas.List.Elements.{All-head, All-tail, All-contains}
 use Rattle.fvn_terms.specs.declared.plain.Var.{Var}
 use Rattle.fvn_terms.specs.declared.declarations.Declarations.{Declarations}
-use Rattle.fvn_terms.specs.Term.{Term, var}
+use Rattle.fvn_terms.specs.Term.{var}
 use Rattle.fvn_terms.specs.Substitution.{Occurs, apply, same_var}
-use Rattle.fvn_forms.specs.Flat.{FlatTerm, fvar, plain, symbols}
+use Rattle.fvn_forms.specs.Flat.{FlatTerm, plain, symbols}
 use Rattle.fvn_forms.specs.Canon.{canon}
 use Rattle.fvn_flat.specs.Bindings.{Bindings, bound}
-use Rattle.fvn_flat.specs.SolvedLists.{IsTriangular, only, unfolded}
-use Rattle.fvn_flat.proofs.Binding.{same_var_is, same_var_itself}
+use Rattle.fvn_flat.specs.SolvedLists.{IsTriangular, unfolded}
+use Rattle.fvn_flat.proofs.Binding.{same_var_is}
 use Rattle.fvn_plans.specs.Plans.{unfolds_to, size_in}
 use Rattle.fvn_unfolding.specs.Sizes.{AddUp}
 use Rattle.fvn_unfolding.specs.inner.Noted.{capped, noted_size, noted_sizes}

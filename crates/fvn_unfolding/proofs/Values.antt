@@ -1,12 +1,12 @@
 -- Substitutions that give variables what they unfold to.
 use Rattle.std.proofs.Common.{◌≡◌, Bool, true, false, List, [], ◌∷◌, ◌++◌, Option, Some, None, refl, sym, ap, ◌∙◌, subst, inl, inr, arith, All}
-use Rattle.std.specs.Prelude.{◌↔◌, ◌⊎◌, if◌then◌else◌, is_some, Contains}
+use Rattle.std.specs.Prelude.{◌↔◌, if◌then◌else◌, is_some, Contains}
 use Rattle.std.proofs.lemmas.List.Elements.{Contains-append_left, Contains-push, Contains-push_cases}
 use Rattle.fvn_terms.specs.declared.plain.Var.{Var}
 use Rattle.fvn_terms.specs.declared.declarations.Declarations.{Declarations}
 use Rattle.fvn_terms.specs.Substitution.{same_var}
 use Rattle.fvn_terms.specs.Signature.{IsSort}
-use Rattle.fvn_forms.specs.Flat.{FlatTerm, fvar}
+use Rattle.fvn_forms.specs.Flat.{FlatTerm}
 use Rattle.fvn_forms.specs.Good.{IsGood}
 use Rattle.fvn_flat.specs.Bindings.{Bindings, bound, form_or, value, BindingsFit}
 use Rattle.fvn_flat.proofs.Binding.{same_var_is, or_else, bound-append, bound_first}

@@ -2,7 +2,7 @@
 ghost use Rattle.std.specs.Prelude.{◌≡◌, ◌↔◌, Some, is_some, All, Contains, IfOk};
 ghost use Rattle.fvn_terms.specs.declared.plain.Var.{Var as Variable};
 ghost use Rattle.fvn_terms.specs.Signature.{IsSort};
-ghost use Rattle.fvn_forms.specs.Flat.{FlatTerm, plain};
+ghost use Rattle.fvn_forms.specs.Flat.{FlatTerm};
 ghost use Rattle.fvn_flat.specs.Fits.{Fits};
 ghost use Rattle.fvn_flat.specs.Bindings.{bound, value, BindingsFit};
 ghost use Rattle.fvn_plans.specs.Plans.{unfolds_to};

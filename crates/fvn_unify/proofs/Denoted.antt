@@ -1,16 +1,15 @@
 -- What a line denotes is a unifier.
-use Rattle.std.proofs.Common.{◌≡◌, Bool, true, false, List, [], ◌∷◌, ◌++◌, refl, sym, ap, ◌∙◌, subst, inl, inr}
+use Rattle.std.proofs.Common.{◌≡◌, Bool, true, false, List, [], ◌∷◌, ◌++◌, refl, sym, ap, ◌∙◌, subst}
 use Rattle.std.specs.Prelude.{All, Contains, if◌then◌else◌}
-use Rattle.std.specs.List.{list_any}
 use Rattle.std.proofs.lemmas.List.Elements.{All-nil, All-cons, All-head, All-tail, Contains-append_left, Contains-append_right}
 use Rattle.fvn_terms.specs.declared.plain.Var.{Var}
 use Rattle.fvn_terms.specs.declared.declarations.Declarations.{Declarations}
 use Rattle.fvn_terms.specs.Term.{Term, var}
 use Rattle.fvn_terms.specs.Signature.{kind, IsSort, HasKind, same}
-use Rattle.fvn_terms.specs.Substitution.{Substitution, apply, followed_by, same_var, Occurs}
+use Rattle.fvn_terms.specs.Substitution.{Substitution, apply, followed_by, Occurs}
 use Rattle.fvn_terms.specs.Equality.{BEqual}
 use Rattle.fvn_terms.specs.Sorts.{HasSort, IsWellSorted}
-use Rattle.fvn_terms.specs.Unifiers.{Problem as TermPairs, IsInstance}
+use Rattle.fvn_terms.specs.Unifiers.{Problem as TermPairs}
 use Rattle.fvn_terms.proofs.Equal.{BEqual-refl, BEqual-sym, BEqual-trans}
 use Rattle.fvn_terms.proofs.Substitutions.{apply-var}
 use Rattle.fvn_terms.proofs.Occurrences.{occurs_value, BEqual-occurs}
@@ -22,15 +21,10 @@ use Rattle.fvn_flat.specs.Problems.{variables, variables_of}
 use Rattle.fvn_flat.specs.Variables.{listed}
 use Rattle.fvn_flat.proofs.VariableLists.{variables_list}
 use Rattle.fvn_refine.proofs.Refined.{listed_member, member_listed}
-use Rattle.fvn_syntax.specs.Pieces.{Text}
-use Rattle.fvn_problems.specs.declared.problem.Problem.{Problem}
-use Rattle.fvn_problems.specs.Problems.{HasVariables}
-use Rattle.fvn_module.specs.Contents.{Contents}
-use Rattle.fvn_answer.specs.Denoting.{Denotes, Reads}
+use Rattle.fvn_answer.specs.Denoting.{Reads}
 use Rattle.fvn_answer.specs.Laws.{EqualLinesAreInstances, LinesDenoteOneSubstitution}
 use Rattle.fvn_axunify.proofs.SameValues.{apply_equal}
-use Rattle.fvn_unify.specs.Asked.{pairs_of, Unifies, IsInstanceOf}
-use Rattle.fvn_unify.specs.Solutions.{IsLineOf}
+use Rattle.fvn_unify.specs.Asked.{pairs_of}
 use Rattle.fvn_unify.specs.Laws.{on_variables, LinesDenoteUnifiers}
 use Rattle.fvn_unify.proofs.Asking.{asked}
 

@@ -1,5 +1,5 @@
 -- The law of lines.
-use Rattle.std.specs.Prelude.{List, Bool, if◌then◌else◌}
+use Rattle.std.specs.Prelude.{List, if◌then◌else◌}
 use Rattle.std.specs.List.{list_any}
 use Rattle.fvn_terms.specs.declared.plain.Var.{Var}
 use Rattle.fvn_terms.specs.Term.{var}

@@ -2,7 +2,7 @@
 use fvn_commands::Status;
 use fvn_terms::NoMemory;
 use fvn_unify::unify_reply;
-use std::alloc::{AllocError, Global};
+use std::alloc::Global;
 use std::process::Abort;
 use std::string::String;
 

@@ -3,7 +3,7 @@ ghost use Rattle.std.specs.Prelude.{◌≡◌, ◌≤◌, IsTrue, All, length, u
 ghost use Rattle.fvn_lindio.specs.Systems.{IsSystem, coefficients_of};
 
 use fvn_base::Seq;
-use fvn_lindio::{LinFault, Row, Solution, System, basis, minimal_below, sum_of_minimal};
+use fvn_lindio::{LinFault, Row, System, basis, minimal_below, sum_of_minimal};
 use std::alloc::{AllocError, Global};
 use std::process::Abort;
 use std::test::Fail;

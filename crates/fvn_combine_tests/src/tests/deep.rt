@@ -6,8 +6,7 @@ use fvn_base::Seq;
 use fvn_flat::{Flat, Pairs};
 use fvn_sorts::Signature;
 use fvn_terms::{NoMemory, OpId, Plain};
-use std::alloc::{AllocError, Global};
-use std::process::Abort;
+use std::alloc::Global;
 
 // Two variables under as many operators are one; two constants are not.
 const DEEP: &str = "variables => 00:FF:

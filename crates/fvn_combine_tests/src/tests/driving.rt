@@ -1,5 +1,5 @@
 //! Asks the questions of a tree until it is empty.
-ghost use Rattle.std.specs.Prelude.{◌≡◌, ◌<◌, length, IfOk, IfSome, OnOk, IsTrue};
+ghost use Rattle.std.specs.Prelude.{◌<◌, length, IfOk, IfSome, OnOk, IsTrue};
 ghost use Rattle.fvn_nodes.specs.States.{IsClosed, IsOpen, IsNaming};
 ghost use Rattle.fvn_nodes.specs.Trees.{AreClosed, weight};
 

@@ -12,7 +12,7 @@ use fvn_nodes::table_of;
 use fvn_samples::are_sides;
 use fvn_sorts::Signature;
 use fvn_terms::{NoMemory, Var};
-use std::alloc::{AllocError, Global};
+use std::alloc::Global;
 
 /// Whether no variable is a fresh one.
 fn are_named(vars: &[Var]) -> bool

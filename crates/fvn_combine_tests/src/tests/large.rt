@@ -8,8 +8,7 @@ use fvn_nodes::{Tree, table_of};
 use fvn_samples::is_term;
 use fvn_sorts::Signature;
 use fvn_terms::{Args, NoMemory, OpId, Plain, SortId, Var};
-use std::alloc::{AllocError, Global};
-use std::process::Abort;
+use std::alloc::Global;
 
 // Pairs of terms, how many nodes their table has, and how the one state of its tree joins them: each node of one side
 // with one of the other, each with itself alone, or none but the two sides; none where there is no state.

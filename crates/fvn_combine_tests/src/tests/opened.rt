@@ -21,7 +21,7 @@ use fvn_sorts::Signature;
 use fvn_sums::tables_hold_arguments;
 use fvn_terms::{NoMemory, OpId};
 use fvn_wheels::Tags;
-use std::alloc::{AllocError, Global};
+use std::alloc::Global;
 
 /// A number is a sign from 0 on.
 fn push_number(out: &mut String, number: usize) -> Result<(), NoMemory> {

@@ -6,8 +6,7 @@ use fvn_nodes::{start, table_of};
 use fvn_samples::problem_of;
 use fvn_sorts::Signature;
 use fvn_terms::NoMemory;
-use std::alloc::{AllocError, Global};
-use std::process::Abort;
+use std::alloc::Global;
 
 // A problem, and what is held of it before any question is asked.
 //

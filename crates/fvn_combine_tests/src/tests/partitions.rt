@@ -7,8 +7,7 @@ use fvn_nodes::table_of;
 use fvn_samples::problem_of;
 use fvn_sorts::Signature;
 use fvn_terms::NoMemory;
-use std::alloc::{AllocError, Global};
-use std::process::Abort;
+use std::alloc::Global;
 
 // A problem, its table, and all partitions of its nodes.
 //

@@ -2,7 +2,6 @@
 use super::tables::push_after;
 use fvn_purify::{Classes, Head, Split};
 use fvn_terms::{NoMemory, OpId};
-use std::alloc::AllocError;
 
 /// The number of a node is a sign from 0 on.
 fn push_numbers(out: &mut String, list: &[usize]) -> Result<(), NoMemory> {

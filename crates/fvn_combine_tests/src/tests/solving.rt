@@ -9,7 +9,7 @@ use fvn_flat::{Pairs, SizeCause, SolveEnd};
 use fvn_samples::problem_of;
 use fvn_sorts::Signature;
 use fvn_terms::NoMemory;
-use std::alloc::{AllocError, Global};
+use std::alloc::Global;
 
 /// The word of an end.
 fn word_of(end: &SolveEnd) -> &'static str {

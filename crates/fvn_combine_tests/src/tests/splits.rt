@@ -4,8 +4,7 @@ use super::splitting::push_problem;
 use fvn_samples::problem_of;
 use fvn_sorts::Signature;
 use fvn_terms::NoMemory;
-use std::alloc::{AllocError, Global};
-use std::process::Abort;
+use std::alloc::Global;
 
 // A problem; the nodes of its parts, of those with a head and of its pairs, and its operators with axioms; all
 // its splits, in any order.

@@ -10,7 +10,7 @@ use fvn_purify::{Classes, Splits, purify};
 use fvn_samples::are_sides;
 use fvn_sorts::Signature;
 use fvn_terms::NoMemory;
-use std::alloc::{AllocError, Global};
+use std::alloc::Global;
 
 /// Writes the splits that are given, each behind a space.
 fn push_splits(

@@ -1,7 +1,6 @@
 //! Writes tables and states of tests.
 use fvn_nodes::{Node, State, Table};
 use fvn_terms::NoMemory;
-use std::alloc::AllocError;
 
 /// The sign with this number from the first on.
 pub fn push_after(out: &mut String, first: u8, number: usize) -> Result<(), NoMemory> {

@@ -9,8 +9,7 @@ use fvn_flat::Pairs;
 use fvn_samples::problem_of;
 use fvn_sorts::Signature;
 use fvn_terms::NoMemory;
-use std::alloc::{AllocError, Global};
-use std::process::Abort;
+use std::alloc::Global;
 
 // One sort A; constants f and g, free operators h and i, a commutative operator j, sums k and n, and sums l and m with
 // the identity g.

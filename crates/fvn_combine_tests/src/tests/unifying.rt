@@ -12,7 +12,7 @@ use fvn_match::matches;
 use fvn_samples::flat_of;
 use fvn_sorts::Signature;
 use fvn_terms::NoMemory;
-use std::alloc::{AllocError, AllocFailed, Global};
+use std::alloc::Global;
 
 /// The next unifier; the name of an end is written.
 fn next(combiner: &mut Combiner, out: &mut String) -> Result<Option<Subst>, NoMemory>

@@ -60,10 +60,6 @@ flat_top_run ts = ap flat_top (flat_run_marks ts [] [])
 abbrev pub coded_mark : Coded FlatMark
 coded_mark = coded_option (coded⊎ coded_var (coded× coded_op coded_bool))
 
--- lists of flat forms as lists of marks
-abbrev pub coded_flats : Coded FlatTerms
-coded_flats = code_by (List FlatMark) (coded_list coded_mark) (λ ts. flat_marks ts []) (λ k. flat_top (flat_run k [])) flat_top_run
-
 -- a flat form as the list of it alone
 abbrev pub flat_first : FlatTerms → FlatTerm
 flat_first fnone = fapp (record { 0 = 0 }) true fnone

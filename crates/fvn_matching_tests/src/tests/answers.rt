@@ -2,7 +2,7 @@
 use fvn_samples::{is_sort, push_sort};
 use fvn_sorts::{SigFault, Signature};
 use fvn_terms::{Axioms, NoMemory, OpId, Rank, SortId};
-use std::alloc::{AllocError, AllocFailed, Global};
+use std::alloc::Global;
 
 fn push_sorts(out: &mut String, list: &[SortId]) -> Result<(), NoMemory> {
     for s in list {

@@ -4,7 +4,7 @@ use fvn_cover::{OpenGate, Variant, covers, marks, prune};
 use fvn_samples::push_flat;
 use fvn_sorts::Signature;
 use fvn_terms::NoMemory;
-use std::alloc::{AllocError, Global};
+use std::alloc::Global;
 use std::thread::Threads;
 
 /// Whether one variant covers the other; nothing where they cannot be compared.

@@ -7,7 +7,7 @@ use fvn_match::{matches, matches_both};
 use fvn_samples::{flat_of, is_term};
 use fvn_sorts::Signature;
 use fvn_terms::{Args, NoMemory, OpId, Plain, SortId, Var};
-use std::alloc::{AllocError, Global};
+use std::alloc::Global;
 use std::slice;
 
 /// The operator of sums.

@@ -3,7 +3,7 @@ use super::answers::{push_fault, push_signature};
 use fvn_samples::{collected, with_operator, with_sorts};
 use fvn_sorts::{SignatureBuilder, all_shared};
 use fvn_terms::{NoMemory, OpId};
-use std::alloc::{AllocError, Global};
+use std::alloc::Global;
 use std::process::Abort;
 
 // Each line has a signature and its first fault: the condition, then the operator and the sorts.

@@ -5,8 +5,7 @@ use fvn_flat::{Flat, flatten, rename_apart};
 use fvn_samples::{is_term, push_flat, push_sort, term_of};
 use fvn_sorts::Signature;
 use fvn_terms::{NoMemory, Plain};
-use std::alloc::{AllocError, Global};
-use std::process::Abort;
+use std::alloc::Global;
 
 // Blocks: a signature, and then terms with their flat form, size and least sort.
 //

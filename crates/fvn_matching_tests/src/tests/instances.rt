@@ -7,8 +7,7 @@ use fvn_flat::Subst;
 use fvn_samples::{flat_of, push_flat, subst_of, var_of};
 use fvn_sorts::Signature;
 use fvn_terms::{NoMemory, Var};
-use std::alloc::{AllocError, Global};
-use std::process::Abort;
+use std::alloc::Global;
 
 // Blocks: a signature, and then substitutions with a term and what they make of it, all bound variables
 // replaced at once; two substitutions one after the other; a substitution for one variable only; two terms.

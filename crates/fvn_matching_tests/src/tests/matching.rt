@@ -8,7 +8,7 @@ use fvn_match::matches;
 use fvn_samples::{flat_of, flats_of, push_flat, var_of};
 use fvn_sorts::Signature;
 use fvn_terms::NoMemory;
-use std::alloc::{AllocError, Global};
+use std::alloc::Global;
 
 /// What the variables are bound to that the pairs of the text name.
 fn shown_bindings(

@@ -1,7 +1,6 @@
 //! Patterns and targets with what is found for them.
 use super::rows::{Asked, assert_table};
 use fvn_terms::NoMemory;
-use std::process::Abort;
 
 // Blocks: a signature, and then patterns and targets with the one matcher that there is, `yes` where there
 // are more or where no variable is bound, and `no` where there is none.

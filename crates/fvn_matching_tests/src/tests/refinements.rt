@@ -1,7 +1,6 @@
 //! Substitutions on kinds with their refinements.
 use super::rows::{Asked, assert_table};
 use fvn_terms::NoMemory;
-use std::process::Abort;
 
 // Blocks: a signature, and then substitutions with their refinements, or `no`.
 //

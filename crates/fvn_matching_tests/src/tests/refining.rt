@@ -1,5 +1,5 @@
 //! Refines the substitutions of tests.
-ghost use Rattle.std.specs.Prelude.{◌≡◌, IfOk, IfSome, IsTrue, IsSome};
+ghost use Rattle.std.specs.Prelude.{IfOk, IfSome, IsTrue, IsSome};
 ghost use Rattle.fvn_terms.specs.Signature.{IsSort};
 ghost use Rattle.fvn_flat.specs.Bindings.{bound};
 ghost use Rattle.fvn_refine.specs.Refinements.{AreBound};
@@ -9,7 +9,7 @@ use fvn_refine::refine;
 use fvn_samples::{is_sort, push_flat, subst_of, var_of};
 use fvn_sorts::Signature;
 use fvn_terms::{NoMemory, Var};
-use std::alloc::{AllocError, AllocFailed, Global};
+use std::alloc::Global;
 
 /// Whether the variable is bound, and its sort is known.
 fn is_bound(sig: &Signature, s: &Subst, x: Var) -> bool

@@ -3,7 +3,6 @@ use fvn_base::Seq;
 use fvn_flat::{AxiomSolver, Pairs, SolveEnd};
 use fvn_flat_tests::GroundSolver;
 use fvn_terms::{Declarations, NoMemory};
-use std::process::Abort;
 
 /// A problem without pairs has one unifier.
 #[test]

@@ -3,8 +3,7 @@ use super::rows::{Asked, assert_table};
 use fvn_samples::{has_kind, kind_of, push_sort, term_of};
 use fvn_sorts::Signature;
 use fvn_terms::{NoMemory, Plain, SortId};
-use std::alloc::{AllocError, Global};
-use std::process::Abort;
+use std::alloc::Global;
 
 // Signatures, each with terms and their least sorts. An operator is written after its arguments, and a
 // sort stands for a variable of it.

@@ -8,7 +8,7 @@ use fvn_cover::Variant;
 use fvn_samples::{flats_of, is_sort, subst_of, var_of};
 use fvn_sorts::Signature;
 use fvn_terms::{NoMemory, Var};
-use std::alloc::{AllocError, AllocFailed, Global};
+use std::alloc::Global;
 
 /// The variables that are bound, where their sorts are known.
 fn vars_of(alloc: Global, sig: &Signature, text: &str) -> Result<Option<Vec<Var>>, NoMemory>

@@ -1,7 +1,7 @@
 //! Modules at the limits of what is read.
 use super::assert_statements;
 use fvn_terms::NoMemory;
-use std::alloc::{AllocError, Global};
+use std::alloc::Global;
 use std::process::Abort;
 
 // How many of what a module has, and what is read of it.

@@ -3,7 +3,7 @@ use fvn_module::{Equation, Module, read_module};
 use fvn_sorts::Signature;
 use fvn_syntax::Names;
 use fvn_terms::{Args, Axioms, NoMemory, OpId, Plain, SortId, Var};
-use std::alloc::{AllocError, Global};
+use std::alloc::Global;
 use std::process::Abort;
 
 // Each module comes with its sorts, each with the sorts above it and its kind; with its operators, each with its axioms

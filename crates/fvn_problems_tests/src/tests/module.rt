@@ -8,7 +8,7 @@ use fvn_base::Seq;
 use fvn_sorts::{Signature, SignatureBuilder};
 use fvn_syntax::{Names, Texts, Variables};
 use fvn_terms::{Axioms, NoMemory, OpId, Rank, SortId};
-use std::alloc::{AllocError, AllocFailed, Global};
+use std::alloc::Global;
 use std::process::Abort;
 
 /// The number of the kind of the first sort in a rank.

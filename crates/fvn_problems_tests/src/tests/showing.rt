@@ -4,7 +4,7 @@ use fvn_lex::LexFault;
 use fvn_problems::ProblemFault;
 use fvn_syntax::{Names, VarNames};
 use fvn_terms::{Args, NoMemory, OpId, Plain, SortId, Var};
-use std::alloc::{AllocError, AllocFailed, Global};
+use std::alloc::Global;
 
 fn push_text(out: &mut String, text: &[u8]) -> Result<(), NoMemory> {
     for b in text {

@@ -1,5 +1,5 @@
 //! The conditions on the sorts of sums.
-ghost use Rattle.std.specs.Prelude.{◌≡◌, ◌↔◌, ◌<◌, IsTrue};
+ghost use Rattle.std.specs.Prelude.{◌↔◌, ◌<◌, IsTrue};
 ghost use Rattle.fvn_terms.specs.Signature.{kind};
 ghost use Rattle.fvn_sorts.specs.inner.Searches.{
   IsFirstList,

@@ -19,7 +19,7 @@ ghost use Rattle.fvn_sorts.specs.inner.Pairs.{
 use fvn_base::Seq;
 use fvn_drafts::Draft;
 use fvn_terms::{NoMemory, Rank, SortId};
-use std::alloc::{AllocError, AllocFailed, Global};
+use std::alloc::Global;
 
 /// The sorts and kinds at or below both.
 fn common(alloc: Global, draft: &Draft, x: SortId, y: SortId) -> Result<Vec<SortId>, NoMemory>

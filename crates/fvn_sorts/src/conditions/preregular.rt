@@ -8,7 +8,7 @@ use crate::conditions::pairs::have_third;
 use fvn_base::Seq;
 use fvn_drafts::{Draft, appended};
 use fvn_terms::{NoMemory, Rank, SortId};
-use std::alloc::{AllocError, AllocFailed, Global};
+use std::alloc::Global;
 
 /// Whether the rank takes arguments of these kinds.
 fn takes(draft: &Draft, rank: &Rank, kinds: &[SortId]) -> bool

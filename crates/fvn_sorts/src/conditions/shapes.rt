@@ -12,7 +12,7 @@ use fvn_drafts::{
     Collected, Declaration, Draft, first_axioms, identity_of, is_associative, is_commutative,
     meant_or_kind,
 };
-use fvn_terms::{Axioms, Declarations, OpDecl, OpId, Rank, SortId};
+use fvn_terms::{Axioms, Declarations, OpId, Rank, SortId};
 
 /// A condition that speaks of the declarations of one operator alone.
 #[derive(Clone, Copy)]

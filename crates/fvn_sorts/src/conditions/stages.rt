@@ -15,8 +15,8 @@ use fvn_base::Seq;
 use fvn_drafts::{
     Collected, Draft, has_earlier_alike, identity_of, is_associative, without_repeats,
 };
-use fvn_terms::{Axioms, Declarations, NoMemory, OpId, Rank, SortId};
-use std::alloc::{AllocFailed, Global};
+use fvn_terms::{Declarations, NoMemory, OpId, SortId};
+use std::alloc::Global;
 
 /// A sort on a cycle of the order.
 fn cycle_fault(draft: &Draft, collected: &Collected) -> Option<SigFault>

@@ -1,5 +1,5 @@
 //! Sorts that give the same results as first arguments: of those the first alone need be looked at.
-ghost use Rattle.std.specs.Prelude.{◌≡◌, ◌<◌, IsTrue};
+ghost use Rattle.std.specs.Prelude.{IsTrue};
 ghost use Rattle.fvn_terms.specs.Signature.{kind};
 ghost use Rattle.fvn_sorts.specs.inner.Searches.{GivesListed, AreListed, AreTwins, HasTwin};
 

@@ -1,5 +1,5 @@
 //! Good signatures.
-ghost use Rattle.std.specs.Prelude.{◌≡◌, ◌+◌, ◌<◌, ◌≤◌, ◌↔◌, ℕ, IsTrue, length, slice_get, Some, MatchOption};
+ghost use Rattle.std.specs.Prelude.{◌≡◌, ◌+◌, ◌<◌, ◌↔◌, IsTrue, length, slice_get, Some, MatchOption};
 ghost use Rattle.fvn_terms.specs.declared.plain.OpId.{OpId};
 ghost use Rattle.fvn_terms.specs.declared.plain.SortId.{SortId};
 ghost use Rattle.fvn_terms.specs.Signature.{kind, axioms, AtOrBelow, IsSort};

@@ -1,5 +1,5 @@
 //! The least sort of a term.
-ghost use Rattle.std.specs.Prelude.{◌≡◌, ◌↔◌, ℕ, Some, None, Option, IsTrue};
+ghost use Rattle.std.specs.Prelude.{◌≡◌, ◌↔◌, Some, None, Option, IsTrue};
 ghost use Rattle.fvn_terms.specs.declared.plain.OpId.{OpId};
 ghost use Rattle.fvn_terms.specs.Term.{app};
 ghost use Rattle.fvn_terms.specs.Plain.{term};

@@ -8,7 +8,7 @@ ghost use Rattle.fvn_sorts.specs.Queries.{is_below, is_direct, direct_subsorts, 
 use fvn_base::Seq;
 use fvn_drafts::Draft;
 use fvn_terms::{NoMemory, SortId};
-use std::alloc::{AllocError, AllocFailed, Global};
+use std::alloc::Global;
 
 fn is_below(draft: &Draft, s: SortId, q: SortId) -> bool
     ensures { result ≡ is_below draft.now.declarations s q }

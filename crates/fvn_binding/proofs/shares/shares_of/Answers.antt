@@ -13,7 +13,7 @@ use Rattle.fvn_binding.specs.inner.Planning.{AreShares}
 use Rattle.fvn_binding.proofs.Standing.{stands, one_share, all_of_shares}
 use Rattle.fvn_binding.proofs.Sharing.{asked_within, item_vector, item_sized, few_taken, variable_for_same, columns_within}
 use Rattle.fvn_binding.proofs.shares.shares_of.Goals as goal
-use Rattle.fvn_binding.proofs.shares.shares_of.Goals.{After-as_slice-in-loop-solution, After-as_slice-solution-items}
+use Rattle.fvn_binding.proofs.shares.shares_of.Goals.{After-as_slice-solution-items}
 
 few : (c : After-as_slice-solution-items) → length c.as_slice-solution-items.result.now ≤ length c.args.basis.now
 few c = few_taken c.args.basis.now c.in_ok-solutions.solutions.items c.as_slice-solution-items.result.now c.args.number c.as_slice-solution-items.ensures.value c.in_ok-solutions.ensures

@@ -2,7 +2,7 @@
 use Rattle.std.proofs.Common.{refl, sym, ◌∙◌, subst}
 use Rattle.std.proofs.lemmas.Bool.{false≢true}
 use Rattle.fvn_lindio.specs.declared.system.Solution.{Solution}
-use Rattle.fvn_frames.proofs.Walked.{more_of, all_of}
+use Rattle.fvn_frames.proofs.Walked.{more_of}
 use Rattle.fvn_frames.specs.inner.Touched.{HasBoth}
 use Rattle.fvn_frames.proofs.touched.have_both.Goals as goal
 

@@ -1,5 +1,5 @@
 -- One more column.
-use Rattle.std.proofs.Common.{◌⊎◌, ℕ, List, get_or, sym, ◌∙◌, subst, inl, inr}
+use Rattle.std.proofs.Common.{ℕ, List, get_or, sym, ◌∙◌, subst, inl, inr}
 use Rattle.std.proofs.lemmas.Bool.{false≢true}
 use Rattle.fvn_nodes.specs.States.{IsOpen}
 use Rattle.fvn_frames.specs.Users.{CanBeConstant, HaveHeads}

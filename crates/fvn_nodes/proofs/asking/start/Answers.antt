@@ -5,7 +5,7 @@ use Rattle.fvn_nodes.specs.inner.Starts.{IsSingles, IsJoinedFrom}
 use Rattle.fvn_nodes.specs.inner.Chains.{HasRoom}
 use Rattle.fvn_nodes.proofs.Starting.{singles_naming, started_sides, start_is}
 use Rattle.fvn_nodes.proofs.asking.start.Goals as goal
-use Rattle.fvn_nodes.proofs.asking.start.Goals.{After-nodes, After-join_sides}
+use Rattle.fvn_nodes.proofs.asking.start.Goals.{After-join_sides}
 
 -- each node in a class of its own, and then the sides joined
 begun : (c : goal.After-join_sides) → IsSingles (length c.args.table.now.nodes) (state_of c.in_ok-closing.closing)

@@ -1,7 +1,6 @@
 -- One sort more, and in the end all of the kind.
-use Rattle.std.proofs.Common.{refl, ◌≡◌, ◌<◌, ◌≤◌, ap, ◌∙◌, arith}
+use Rattle.std.proofs.Common.{refl, ap, arith}
 use Rattle.std.proofs.lemmas.Bool.{iff_false}
-use Rattle.fvn_terms.specs.Signature.{kind}
 use Rattle.fvn_openings.proofs.Absorbing.{more_pass, all_absorb}
 use Rattle.fvn_openings.proofs.neutral.all_pass.Goals as goal
 

@@ -1,5 +1,5 @@
 -- One more variable.
-use Rattle.std.proofs.Common.{◌≡◌, List, get_or, take, sym, subst, All}
+use Rattle.std.proofs.Common.{List, get_or, take, sym, subst, All}
 use Rattle.std.proofs.lemmas.List.{take_more, take_all}
 use Rattle.fvn_terms.specs.declared.plain.Var.{Var}
 use Rattle.fvn_flat.specs.Bindings.{Bindings}

@@ -1,9 +1,8 @@
 -- One more binding.
-use Rattle.std.proofs.Common.{◌≡◌, sym, ap, ◌∙◌, subst}
-use Rattle.fvn_terms.specs.declared.plain.Var.{Var}
+use Rattle.std.proofs.Common.{sym, ap, ◌∙◌, subst}
 use Rattle.fvn_forms.specs.Flat.{FlatTerm}
 use Rattle.fvn_unfolding.specs.Sizes.{IsFitting}
-use Rattle.fvn_unfolding.specs.inner.Replaced.{step, replaced}
+use Rattle.fvn_unfolding.specs.inner.Replaced.{replaced}
 use Rattle.fvn_unfolding.proofs.Steps.{variable_fits, step_fits, replaced_more, replaced_all}
 use Rattle.fvn_unfolding.proofs.replacing.unfolded.Goals as goal
 

@@ -1,5 +1,5 @@
 -- A variable that is bound stays bound, and another is bound to what it unfolds to.
-use Rattle.std.proofs.Common.{◌≡◌, [], ◌∷◌, ◌++◌, refl, sym, ap, ◌∙◌, inl, inr}
+use Rattle.std.proofs.Common.{[], ◌∷◌, ◌++◌, refl, sym, ap, ◌∙◌, inl, inr}
 use Rattle.fvn_forms.specs.Flat.{FlatTerm}
 use Rattle.fvn_flat.specs.Bindings.{bound}
 use Rattle.fvn_unfolding.proofs.Values.{some_of, none_of}

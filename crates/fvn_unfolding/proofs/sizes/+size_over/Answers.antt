@@ -7,7 +7,7 @@ use Rattle.fvn_flat.specs.Forms.{args_of}
 use Rattle.fvn_flat.proofs.Instances.{each_at}
 use Rattle.fvn_flat.proofs.Smaller.{argument_is_smaller}
 use Rattle.fvn_unfolding.specs.inner.Noted.{capped, noted_size}
-use Rattle.fvn_unfolding.proofs.Measuring.{args_settled, size_of_all, size_of_all-take_more, size_in_is, size_of_variable, capped_itself}
+use Rattle.fvn_unfolding.proofs.Measuring.{args_settled, size_of_all, size_of_all-take_more, size_in_is, capped_itself}
 use Rattle.fvn_unfolding.proofs.sizes.+size_over.Goals as goal
 
 pub size_over-requires : goal.size_over-requires

@@ -1,5 +1,5 @@
 -- One more variable, and all of them.
-use Rattle.std.proofs.Common.{◌≡◌, ◌≤◌, ◌<◌, ◌∙◌, ℕ, List, [], ◌∷◌, ◌++◌, length, get_or, take, refl, sym, ap, subst, All, arith}
+use Rattle.std.proofs.Common.{◌≤◌, ◌<◌, ◌∙◌, [], ◌∷◌, get_or, take, refl, sym, ap, subst, All, arith}
 use Rattle.std.proofs.lemmas.List.{take_more, take_all, get_or_default}
 use Rattle.std.proofs.lemmas.List.Elements.{All-append, All-cons, All-nil}
 use Rattle.fvn_terms.specs.declared.plain.Var.{Var}
