@@ -1,8 +1,9 @@
 -- Equations up to the first that loses a sort.
-use Rattle.std.proofs.Common.{◌≡◌, ◌≤◌, ◌<◌, ◌+◌, ◌-◌, ℕ, zero, suc, Bool, true, false, List, [], ◌∷◌, ◌++◌, length, take, get_or, Some, refl, sym, ap, ◌∙◌, subst, arith}
+use Rattle.std.proofs.Common.{◌≡◌, ◌≤◌, ◌<◌, ◌+◌, ◌-◌, ℕ, zero, suc, Bool, true, false, List, [], ◌∷◌, ◌++◌, length, take, get_or, ◌⊎◌, inl, inr, Option, Some, None, refl, sym, ap, ◌∙◌, subst, arith}
 use Rattle.std.specs.Prelude.{slice_get}
 use Rattle.std.specs.List.{All}
 use Rattle.std.proofs.lemmas.List.{take_more, take_all}
+use Rattle.std.proofs.lemmas.Option.{slice_get_cases}
 use Rattle.std.proofs.lemmas.List.Elements.{All-push, All-contains}
 use Rattle.fvn_base.proofs.Membership.{map_contains}
 use Rattle.fvn_base.proofs.Options.{Some-injective}
@@ -24,6 +25,15 @@ split_at (q ∷ list) zero e within is = (equations_of list, (ap (λ z. sides_of
 split_at (q ∷ list) (suc i) e within is =
     let r = split_at list i e (omega (arith, within)) is in
     (r.0, (ap (λ l. sides_of q ∷ l) r.1.0, ap suc r.1.1))
+
+-- the equation at a place of the list
+pub equation_in : (list : List Equation) (i : ℕ) → i < length list → (e : Equation) × (slice_get list i ≡ Some e) × (e ≡ get_or list i e)
+equation_in list i within = found (slice_get_cases list i).1
+  where
+    found : ((e : Equation) × (i < length list) × (slice_get list i ≡ Some e) × (get_or list i e ≡ e)) ⊎ ((length list ≤ i) × (slice_get list i ≡ None)) →
+        (e : Equation) × (slice_get list i ≡ Some e) × (e ≡ get_or list i e)
+    found (inl w) = (w.0, w.2, sym w.3)
+    found (inr w) = absurd (omega (arith, within, w.0))
 
 -- what holds of the equation that is found at its number
 pub of_found : (P : Equation → Type 0) (m : Contents) (number : ℕ) (e : Equation) → slice_get m.equations (number - 1) ≡ Some e → P e → OfEquation m number P
@@ -63,6 +73,28 @@ module _ (d : Declarations) where
           earlier = decreasing_sides (take i list) h;
           loses = subst (LosesAs d (term e.left) (term e.right)) e_is l;
         }
+
+    -- what is told of the equation of the next number
+    abbrev pub TellsOf : ℕ → Bool → Type 0
+    TellsOf i b = (e : Equation) → slice_get list (i + 1 - 1) ≡ Some e → LosesAs d (term e.left) (term e.right) b
+
+    pub told_at : (i : ℕ) (b : Bool) (e : Equation) → slice_get list i ≡ Some e → TellsOf i b → LosesAs d (term e.left) (term e.right) b
+    told_at i b e is l = l e (subst (λ n. slice_get list n ≡ Some e) back is)
+      where
+        back : i ≡ i + 1 - 1
+        back = omega arith
+
+    -- the equation of one number more
+    pub decreasing_more_at : (i : ℕ) → i < length list → AreDecreasing (take i list) → (b : Bool) → b ≡ false → TellsOf i b → AreDecreasing (take (i + 1) list)
+    decreasing_more_at i within h b is l =
+        let w = equation_in list i within in
+        decreasing_more i w.0 within w.2 h b is (told_at i b w.0 w.1 l)
+
+    -- the first number that is told to lose
+    pub first_loss_at : (i : ℕ) → i < length list → AreDecreasing (take i list) → (b : Bool) → b ≡ true → TellsOf i b → IsFirstLoss d (equations_of list) (i + 1)
+    first_loss_at i within h b is l =
+        let w = equation_in list i within in
+        first_loss i w.0 within w.2 h b is (told_at i b w.0 w.1 l)
 
     pub all_decreasing : (i : ℕ) → length list ≤ i → AreDecreasing (take i list) → AreSortDecreasing d (equations_of list)
     all_decreasing i past h = decreasing_sides list (subst AreDecreasing (take_all i list past) h)

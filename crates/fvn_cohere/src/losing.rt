@@ -3,9 +3,10 @@ ghost use Rattle.std.specs.Prelude.{MatchOption, IfOk};
 ghost use Rattle.fvn_terms.specs.Plain.{term};
 ghost use Rattle.fvn_rewriting.specs.Kinds.{IsKindedEquation};
 ghost use Rattle.fvn_rewriting.specs.Losses.{AreSortDecreasing, IsFirstLoss};
-ghost use Rattle.fvn_cohere.specs.Promises.{LosesAs, equations_of};
+ghost use Rattle.fvn_cohere.specs.Promises.{IsNumberIn, OfEquation, LosesAs, equations_of};
 
 use crate::choosing::unchosen;
+use crate::equations::equation_at;
 use crate::identities::identities;
 use crate::searching::{Search, Sought};
 use crate::shapes::Chosen;
@@ -40,6 +41,18 @@ fn loses(alloc: Global, sig: &Signature, left: &Plain, right: &Plain) -> Result<
     Ok(found)
 }
 
+// Whether the equation of this number loses a sort.
+fn loses_at(alloc: Global, declared: &Module, number: usize) -> Result<bool, NoMemory>
+    requires { IsNumberIn declared.now number }
+    ensures { IfOk result (λ b. OfEquation declared.now number
+        (λ e. LosesAs declared.now.signature (term e.left) (term e.right) b)) }
+{
+    let sig = declared.signature();
+    let e = equation_at(declared, number);
+    let found = loses(alloc, sig, &e.left, &e.right)?;
+    Ok(found)
+}
+
 /// The number, from 1, of the first equation of the module that is not sort-decreasing; none where each
 /// is.
 ///
@@ -51,14 +64,12 @@ pub fn sort_loss(alloc: Global, declared: &Module) -> Result<Option<usize>, NoMe
         (AreSortDecreasing declared.now.signature (equations_of declared.now.equations))
         (IsFirstLoss declared.now.signature (equations_of declared.now.equations))) }
 {
-    declared.recall_readable();
-    let sig = declared.signature();
     let list = declared.equations();
     for i in 0..list.len() {
-        let e = &list[i];
-        let found = loses(alloc, sig, &e.left, &e.right)?;
+        let number = i + 1;
+        let found = loses_at(alloc, declared, number)?;
         if found {
-            return Ok(Some(i + 1));
+            return Ok(Some(number));
         }
     }
     Ok(None)
