@@ -7,6 +7,7 @@ ghost use Rattle.fvn_flat.specs.Fits.{Fits};
 ghost use Rattle.fvn_flat.specs.inner.SumSorts.{with_summand, whole_sort};
 
 use crate::flat::{Flat, Node};
+use fvn_base::limits::ARGUMENTS;
 use fvn_sorts::Signature;
 use fvn_terms::{OpId, SortId};
 
@@ -48,7 +49,7 @@ impl Flat {
                     }
                     return whole_sort(sig, *f, sum);
                 }
-                let mut sorts = [SortId(0); 8];
+                let mut sorts = [SortId(0); ARGUMENTS];
                 let mut i: usize = 0;
                 for u in ts {
                     sorts[i] = u.sort_in(sig);
