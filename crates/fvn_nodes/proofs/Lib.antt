@@ -1,13 +1,13 @@
 -- Lemmas on tables of nodes, their classes and what is decided of them.
 pub mod Nodes
-mod Terms
+pub mod Terms
 mod Entering
 mod Walking
 mod Pairing
 mod Entries
-mod Once
+pub mod Once
 mod Tables
-mod Subterms
+pub mod Subterms
 pub mod Admitting
 mod Moves
 mod Joining
@@ -18,6 +18,8 @@ mod Openness
 mod Starting
 mod Growing
 mod Swapping
+pub mod Heading
 mod Kernels
 mod Flatness
+pub mod NodesOf
 mod Places
