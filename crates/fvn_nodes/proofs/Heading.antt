@@ -1,5 +1,5 @@
 -- What heads the value of a node whose operator has no identity.
-use Rattle.std.proofs.Common.{◌≡◌, ℕ, ◌≤◌, false, List, [], ◌∷◌, ◌++◌, length, map, refl, sym, ap, ◌∙◌, subst, arith, Some, None}
+use Rattle.std.proofs.Common.{◌≡◌, ℕ, ◌≤◌, false, List, [], ◌∷◌, ◌++◌, length, map, refl, sym, ap, ◌∙◌, subst, arith, Some}
 use Rattle.std.specs.List.{AllByRecursion}
 use Rattle.std.proofs.lemmas.List.{length-append}
 use Rattle.fvn_terms.specs.declared.plain.OpId.{OpId}
@@ -26,6 +26,13 @@ use Rattle.fvn_nodes.specs.Unifiers.{value_at}
 use Rattle.fvn_nodes.specs.declared.table.Node.{Node}
 use Rattle.fvn_nodes.proofs.Nodes.{term_at-over}
 
+-- axioms without an identity have none
+pub identity_of : (a : Axioms) (e : OpId) → HasNoIdentity a → identity a ≡ Some e → ⊥
+identity_of Free e b i = cc
+identity_of Comm e b i = cc
+identity_of AssocComm e b i = cc
+identity_of (AssocCommId o) e b i = b
+
 module _ (d : Declarations) (f : OpId) where
   -- a free operator stands over its arguments, and a commutative one over these in order
   pub build_free : axioms d f ≡ Free → (vs : List FlatTerm) → build d f vs ≡ fapp f false (fpack vs)
@@ -42,39 +49,40 @@ module _ (d : Declarations) (f : OpId) where
   head_joined (t ∷ []) h = absurd (omega arith)
   head_joined (t ∷ u ∷ us) h = refl
 
-  some_part : axioms d f ≡ AssocComm → (t : FlatTerm) → Settled d t → 1 ≤ length (parts d f t)
-  some_part e t h = go (parts d f t) refl
+  -- under an operator without an identity each form has summands
+  pub some_part : HasNoIdentity (axioms d f) → (t : FlatTerm) → Settled d t → 1 ≤ length (parts d f t)
+  some_part bare t h = go (parts d f t) refl
     where
       go : (l : List FlatTerm) → parts d f t ≡ l → 1 ≤ length (parts d f t)
-      go [] is = absurd (let p = parts_none d f t h is in let q : None ≡ Some p.0 = sym (ap identity e) ∙ p.1 in cc)
-      go (u ∷ us) is = let n = ap length is in omega arith
+      go [] is = absurd (let p = parts_none d f t h is in identity_of (axioms d f) p.0 bare p.1)
+      go (u ∷ us) is = let n = ap length is in omega (arith, n)
 
-  head_sum : axioms d f ≡ AssocComm → (a b : FlatTerm) → Settled d a → Settled d b → head_of (build d f (a ∷ b ∷ [])) ≡ Some f
-  head_sum e a b ha hb =
-      ap head_of (build_sum d f (subst IsAssociative (sym e) tt) a (b ∷ []))
+  head_sum : HasNoIdentity (axioms d f) → IsAssociative (axioms d f) → (a b : FlatTerm) → Settled d a → Settled d b → head_of (build d f (a ∷ b ∷ [])) ≡ Some f
+  head_sum bare assoc a b ha hb =
+      ap head_of (build_sum d f assoc a (b ∷ []))
       ∙ head_joined (sort (all_parts d f (a ∷ b ∷ []))) (
       let l = length_sort (all_parts d f (a ∷ b ∷ [])) in
       let m = length-append (parts d f a) (parts d f b ++ []) in
       let n = length-append (parts d f b) [] in
-      let p = some_part e a ha in
-      let q = some_part e b hb in
-      omega (arith, l, m, n)
+      let p = some_part bare a ha in
+      let q = some_part bare b hb in
+      omega (arith, l, m, n, p, q)
       )
 
   -- an operator without an identity heads what it builds, if an associative one stands over two
   pub build_head : HasNoIdentity (axioms d f) → (vs : List FlatTerm) → AllByRecursion (Settled d) vs → (IsAssociative (axioms d f) → length vs ≡ 2) → head_of (build d f vs) ≡ Some f
   build_head bare vs settled two = go (axioms d f) refl
     where
-      pair : (vs : List FlatTerm) → AllByRecursion (Settled d) vs → length vs ≡ 2 → axioms d f ≡ AssocComm → head_of (build d f vs) ≡ Some f
-      pair [] h n e = absurd (omega arith)
-      pair (a ∷ []) h n e = absurd (omega arith)
-      pair (a ∷ b ∷ []) h n e = head_sum e a b h.0 h.1.0
-      pair (a ∷ b ∷ v ∷ vs) h n e = absurd (omega arith)
+      pair : (vs : List FlatTerm) → AllByRecursion (Settled d) vs → length vs ≡ 2 → IsAssociative (axioms d f) → head_of (build d f vs) ≡ Some f
+      pair [] h n e = absurd (omega (arith, n))
+      pair (a ∷ []) h n e = absurd (omega (arith, n))
+      pair (a ∷ b ∷ []) h n e = head_sum bare e a b h.0 h.1.0
+      pair (a ∷ b ∷ v ∷ vs) h n e = absurd (omega (arith, n))
 
       go : (a : Axioms) → axioms d f ≡ a → head_of (build d f vs) ≡ Some f
       go Free e = ap head_of (build_free e vs)
       go Comm e = ap head_of (build_commutative e vs)
-      go AssocComm e = pair vs settled (two (subst IsAssociative (sym e) tt)) e
+      go AssocComm e = let assoc = subst IsAssociative (sym e) tt in pair vs settled (two assoc) assoc
       go (AssocCommId o) e = absurd (subst HasNoIdentity e bare)
 
 -- a well-kinded associative operator has two arguments

@@ -1,5 +1,6 @@
 -- Lemmas on tables of nodes, their classes and what is decided of them.
 pub mod Nodes
+pub mod Lists
 pub mod Terms
 mod Entering
 mod Walking
@@ -16,6 +17,7 @@ mod Chaining
 mod Settling
 mod Openness
 mod Starting
+pub mod Powers
 mod Growing
 mod Swapping
 pub mod Heading

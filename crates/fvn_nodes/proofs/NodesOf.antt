@@ -20,7 +20,8 @@ use Rattle.fvn_nodes.specs.Laws.{class_at}
 use Rattle.fvn_nodes.specs.declared.table.Node.TheVariants.{Var}
 use Rattle.fvn_nodes.proofs.Nodes.{length-terms_of, term_at-variable, variable_at}
 use Rattle.fvn_nodes.proofs.Terms.{once_contains, own_place}
-use Rattle.fvn_nodes.proofs.Subterms.{only_one, listed_subterm}
+use Rattle.fvn_nodes.proofs.Subterms.{listed_subterm}
+use Rattle.fvn_nodes.proofs.Lists.{only_one}
 
 -- a variable of a problem is a subterm
 mutual

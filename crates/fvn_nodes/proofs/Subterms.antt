@@ -1,5 +1,5 @@
 -- Subterms, and the terms of nodes, are well-kinded where the terms of a problem are.
-use Rattle.std.proofs.Common.{◌≡◌, ℕ, zero, suc, ◌<◌, List, [], ◌∷◌, ◌++◌, length, sym, subst, inl, inr, arith, Contains}
+use Rattle.std.proofs.Common.{ℕ, ◌<◌, List, [], ◌∷◌, ◌++◌, length, sym, subst, inl, inr, Contains}
 use Rattle.std.proofs.lemmas.List.Elements.{All-head, All-tail, Contains-append_cases}
 use Rattle.fvn_base.proofs.Membership.{contains_cases, contains_none, contains_map}
 use Rattle.fvn_terms.specs.declared.plain.OpId.{OpId}
@@ -13,11 +13,7 @@ use Rattle.fvn_forms.proofs.ToCanon.{identity_is}
 use Rattle.fvn_flat.specs.Problems.{subterms, subterms_among, subterms_of, IsProblem}
 use Rattle.fvn_nodes.specs.Table.{NodeTable, IsTableOf, IsUnitOf, term_at}
 use Rattle.fvn_nodes.proofs.Terms.{contains_once}
-
--- a list of one
-pub only_one : {X : Type 0} (x y : X) → Contains (y ∷ []) x → y ≡ x
-only_one x y (zero, l, e) = e
-only_one x y (suc k, l, e) = absurd (omega (arith, l))
+use Rattle.fvn_nodes.proofs.Lists.{only_one}
 
 module _ (d : Declarations) where
   mutual
