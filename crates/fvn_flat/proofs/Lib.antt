@@ -15,6 +15,7 @@ pub mod Instances
 pub mod Binding
 mod Listed
 pub mod Composing
+pub mod ListedVariables
 mod Renamings
 mod SortsOfFlats
 pub mod VariableLists

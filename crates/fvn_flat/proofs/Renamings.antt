@@ -1,73 +1,30 @@
 -- Fresh variables for those of a form.
-use Rattle.std.proofs.Common.{◌≡◌, ℕ, ◌+◌, ◌<◌, ◌≤◌, Bool, true, false, List, [], ◌∷◌, ◌++◌, length, take, get_or, Some, None, refl, sym, ap, ◌∙◌, subst, inl, inr, arith}
+use Rattle.std.proofs.Common.{◌≡◌, ℕ, ◌+◌, ◌<◌, ◌≤◌, Bool, true, false, List, [], ◌∷◌, ◌++◌, length, take, get_or, Some, None, refl, sym, ap, ◌∙◌, subst, arith}
 use Rattle.std.specs.Prelude.{◌||◌, if◌then◌else◌}
+use Rattle.std.proofs.lemmas.Bool.{or_parts}
 use Rattle.std.proofs.lemmas.List.{take_more, length-take}
 use Rattle.fvn_terms.specs.declared.plain.Var.{Var}
 use Rattle.fvn_terms.specs.declared.declarations.Declarations.{Declarations}
 use Rattle.fvn_terms.specs.Term.{nodes_all}
 use Rattle.fvn_terms.specs.Signature.{kind, IsSort, HasKind}
-use Rattle.fvn_terms.specs.Substitution.{same_var, Occurs, OccursAmong}
-use Rattle.fvn_forms.specs.Flat.{FlatTerm, FlatTerms, fvar, fapp, fnone, fmore, fpack, plain, plain_all, symbols}
+use Rattle.fvn_terms.specs.Substitution.{same_var}
+use Rattle.fvn_forms.specs.Flat.{FlatTerm, FlatTerms, fvar, fapp, fnone, fmore, plain, plain_all, symbols}
 use Rattle.fvn_forms.specs.Settled.{Settled}
 use Rattle.fvn_forms.proofs.Sizes.{symbols_all, symbols_joined}
 use Rattle.fvn_flat.specs.Bindings.{bound, form_or, value, BindsOnce, BindingsFit}
 use Rattle.fvn_flat.specs.Variables.{listed, with_variable, with_variables, with_all_variables, distinct_variables, fresh_for, renaming, RenamesApart}
-use Rattle.fvn_flat.proofs.Occurrences.{occurs_in_app}
-use Rattle.fvn_flat.proofs.Binding.{same_var_is, same_var_itself}
-
-either_false : (a b : Bool) → (a || b) ≡ false → (a ≡ false) × (b ≡ false)
-either_false true b e = cc
-either_false false b e = (refl, e)
-
-or_false : (a b : Bool) → a ≡ false → b ≡ false → (a || b) ≡ false
-or_false true b p q = cc
-or_false false b p q = q
-
--- no variable is listed twice
-abbrev pub Distinct : List Var → Type 0
-Distinct [] = Unit {0}
-Distinct (x ∷ vars) = (listed vars x ≡ false) × Distinct vars
+use Rattle.fvn_flat.proofs.Binding.{same_var_is}
+use Rattle.fvn_flat.proofs.ListedVariables.{Distinct, with_variables_distinct, occurring_listed}
 
 bound_none : (n : ℕ) (vars : List Var) (x : Var) → listed vars x ≡ false → bound (renaming n vars) x ≡ None
 bound_none n [] x e = refl
 bound_none n (y ∷ vars) x e =
-    let both = either_false (same_var y x) (listed vars x) e in
+    let both = or_parts (same_var y x) (listed vars x) e in
     ap (λ b. if b then Some (fvar (fresh_for n y)) else bound (renaming (n + 1) vars) x) both.0 ∙ bound_none (n + 1) vars x both.1
 
 pub renaming_binds_once : (n : ℕ) (vars : List Var) → Distinct vars → BindsOnce (renaming n vars)
 renaming_binds_once n [] h = tt
 renaming_binds_once n (x ∷ vars) h = (bound_none (n + 1) vars x h.0, renaming_binds_once (n + 1) vars h.1)
-
-other_way : (x y : Var) → same_var y x ≡ false → same_var x y ≡ false
-other_way x y e = go (same_var x y) refl
-  where
-    go : (b : Bool) → same_var x y ≡ b → same_var x y ≡ false
-    go true f = let q : same_var y x ≡ true = subst (λ z. same_var y z ≡ true) (sym (same_var_is x y f)) (same_var_itself y) in cc
-    go false f = f
-
-listed_none : (vars : List Var) (x y : Var) → listed vars y ≡ false → same_var x y ≡ false → listed (vars ++ x ∷ []) y ≡ false
-listed_none [] x y e n = or_false (same_var x y) false n refl
-listed_none (z ∷ vars) x y e n = let both = either_false (same_var z y) (listed vars y) e in or_false (same_var z y) (listed (vars ++ x ∷ []) y) both.0 (listed_none vars x y both.1 n)
-
-Distinct-push : (vars : List Var) (x : Var) → Distinct vars → listed vars x ≡ false → Distinct (vars ++ x ∷ [])
-Distinct-push [] x h e = (refl, tt)
-Distinct-push (y ∷ vars) x h e = let both = either_false (same_var y x) (listed vars x) e in (listed_none vars x y h.0 (other_way x y both.0), Distinct-push vars x h.1 both.1)
-
-with_variable_distinct : (vars : List Var) (x : Var) → Distinct vars → Distinct (with_variable vars x)
-with_variable_distinct vars x h = go (listed vars x) refl
-  where
-    go : (b : Bool) → listed vars x ≡ b → Distinct (if listed vars x then vars else vars ++ x ∷ [])
-    go true e = subst (λ b. Distinct (if b then vars else vars ++ x ∷ [])) (sym e) h
-    go false e = subst (λ b. Distinct (if b then vars else vars ++ x ∷ [])) (sym e) (Distinct-push vars x h e)
-
-mutual
-  with_variables_distinct : (t : FlatTerm) (vars : List Var) → Distinct vars → Distinct (with_variables t vars)
-  with_variables_distinct (fvar x) vars h = with_variable_distinct vars x h
-  with_variables_distinct (fapp f joined ts) vars h = with_all_distinct ts vars h
-
-  with_all_distinct : (ts : FlatTerms) (vars : List Var) → Distinct vars → Distinct (with_all_variables ts vars)
-  with_all_distinct fnone vars h = h
-  with_all_distinct (fmore t ts) vars h = with_all_distinct ts (with_variables t vars) (with_variables_distinct t vars h)
 
 pub variables_are_distinct : (t : FlatTerm) → Distinct (distinct_variables t)
 variables_are_distinct t = with_variables_distinct t [] tt
@@ -105,15 +62,6 @@ mutual
 pub few_variables : (t : FlatTerm) → length (distinct_variables t) ≤ symbols t
 few_variables t = let e = with_variables_length t [] in omega arith
 
-with_all-push : (l : List FlatTerm) (t : FlatTerm) (vars : List Var) → with_all_variables (fpack (l ++ t ∷ [])) vars ≡ with_variables t (with_all_variables (fpack l) vars)
-with_all-push [] t vars = refl
-with_all-push (u ∷ l) t vars = with_all-push l t (with_variables u vars)
-
--- the variables of one more argument
-pub with_all-step : (l : List FlatTerm) (i : ℕ) (t : FlatTerm) (vars : List Var) → i < length l → t ≡ get_or l i t → with_all_variables (fpack (take (i + 1) l)) vars ≡ with_variables t (with_all_variables (fpack (take i l)) vars)
-with_all-step l i t vars within is =
-    ap (λ m. with_all_variables (fpack m) vars) (take_more l i t within ∙ ap (λ u. take i l ++ u ∷ []) (sym is)) ∙ with_all-push (take i l) t vars
-
 renaming-push : (n : ℕ) (vars : List Var) (x : Var) → renaming n (vars ++ x ∷ []) ≡ renaming n vars ++ (x, fvar (fresh_for (n + length vars) x)) ∷ []
 renaming-push n [] x = let e : n ≡ n + 0 = omega arith in ap (λ m. (x, fvar (fresh_for m x)) ∷ []) e
 renaming-push n (y ∷ vars) x =
@@ -142,55 +90,6 @@ module _ (d : Declarations) where
     settled = λ x. subst (Settled d) (sym (value_renamed n vars x).1) tt;
     keeps_kinds = λ x i. subst (λ u. HasKind d (plain u) (kind d x.sort)) (sym (value_renamed n vars x).1) (subst (IsSort d) (sym (value_renamed n vars x).2) i, ap (kind d) (value_renamed n vars x).2);
   }
-
-either_true : (b : Bool) → (b || true) ≡ true
-either_true true = refl
-either_true false = refl
-
-listed_left : (vars : List Var) (y x : Var) → listed vars x ≡ true → listed (vars ++ y ∷ []) x ≡ true
-listed_left [] y x e = cc
-listed_left (z ∷ vars) y x e = go (same_var z x) refl (listed_left vars y x)
-  where
-    go : (b : Bool) → same_var z x ≡ b → (listed vars x ≡ true → listed (vars ++ y ∷ []) x ≡ true) → (same_var z x || listed (vars ++ y ∷ []) x) ≡ true
-    go true f ih = ap (λ b. b || listed (vars ++ y ∷ []) x) f
-    go false f ih = ap (λ b. b || listed (vars ++ y ∷ []) x) f ∙ ih (ap (λ b. b || listed vars x) (sym f) ∙ e)
-
-listed_last : (vars : List Var) (x : Var) → listed (vars ++ x ∷ []) x ≡ true
-listed_last [] x = ap (λ b. b || false) (same_var_itself x)
-listed_last (z ∷ vars) x = ap (λ b. same_var z x || b) (listed_last vars x) ∙ either_true (same_var z x)
-
-listed_still : (vars : List Var) (y x : Var) → listed vars x ≡ true → listed (with_variable vars y) x ≡ true
-listed_still vars y x e = go (listed vars y)
-  where
-    go : (b : Bool) → listed (if b then vars else vars ++ y ∷ []) x ≡ true
-    go true = e
-    go false = listed_left vars y x e
-
-listed_now : (vars : List Var) (x : Var) → listed (with_variable vars x) x ≡ true
-listed_now vars x = go (listed vars x) refl
-  where
-    go : (b : Bool) → listed vars x ≡ b → listed (if b then vars else vars ++ x ∷ []) x ≡ true
-    go true e = e
-    go false e = listed_last vars x
-
-mutual
-  still_listed : (t : FlatTerm) (vars : List Var) (x : Var) → listed vars x ≡ true → listed (with_variables t vars) x ≡ true
-  still_listed (fvar y) vars x e = listed_still vars y x e
-  still_listed (fapp f joined ts) vars x e = still_all_listed ts vars x e
-
-  still_all_listed : (ts : FlatTerms) (vars : List Var) (x : Var) → listed vars x ≡ true → listed (with_all_variables ts vars) x ≡ true
-  still_all_listed fnone vars x e = e
-  still_all_listed (fmore t ts) vars x e = still_all_listed ts (with_variables t vars) x (still_listed t vars x e)
-
-mutual
-  occurring_listed : (t : FlatTerm) (vars : List Var) (x : Var) → Occurs x (plain t) → listed (with_variables t vars) x ≡ true
-  occurring_listed (fvar y) vars x h = subst (λ z. listed (with_variable vars z) x ≡ true) h (listed_now vars x)
-  occurring_listed (fapp f joined ts) vars x h = among_listed ts vars x ((occurs_in_app x f joined ts).0 h)
-
-  among_listed : (ts : FlatTerms) (vars : List Var) (x : Var) → OccursAmong x (plain_all ts) → listed (with_all_variables ts vars) x ≡ true
-  among_listed fnone vars x h = absurd h
-  among_listed (fmore t ts) vars x (inl h) = still_all_listed ts (with_variables t vars) x (occurring_listed t vars x h)
-  among_listed (fmore t ts) vars x (inr h) = among_listed ts (with_variables t vars) x h
 
 -- the fresh variable of a listed one
 named : (m : ℕ) (vars : List Var) (x : Var) → listed vars x ≡ true → (n : ℕ) × (value (renaming m vars) x ≡ fvar (fresh_for n x)) × (m ≤ n) × (n < m + length vars)

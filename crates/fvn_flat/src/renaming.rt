@@ -14,8 +14,8 @@ use std::alloc::Global;
 /// The greatest first number of fresh variables, and the most symbols of a term that is renamed.
 pub const MOST_RENAMED: u32 = 1_000_000;
 
-// Whether the variable stands in the list.
-pub(crate) fn is_listed(vars: &[Var], x: Var) -> bool
+/// Whether the variable stands in the list.
+pub fn is_listed(vars: &[Var], x: Var) -> bool
     ensures { result ≡ listed vars.now x }
 {
     for y in vars {
@@ -26,8 +26,8 @@ pub(crate) fn is_listed(vars: &[Var], x: Var) -> bool
     false
 }
 
-// The variables with one more at the end, if it is not there yet.
-fn with_variable(vars: Vec<Var>, x: Var) -> Result<Vec<Var>, NoMemory>
+/// The variables with one more at the end, if it is not there yet.
+pub fn with_variable(vars: Vec<Var>, x: Var) -> Result<Vec<Var>, NoMemory>
     ensures { IfOk result (λ all. all.items ≡ with_variable vars.items x) }
 {
     let mut all = vars;
@@ -39,8 +39,8 @@ fn with_variable(vars: Vec<Var>, x: Var) -> Result<Vec<Var>, NoMemory>
 }
 
 impl Flat {
-    // The list with the term's variables that are not there yet.
-    fn with_variables(&self, vars: Vec<Var>) -> Result<Vec<Var>, NoMemory>
+    /// The list with the term's variables that are not there yet, in order of first occurrence.
+    pub fn with_variables(&self, vars: Vec<Var>) -> Result<Vec<Var>, NoMemory>
         ensures { IfOk result (λ all. all.items ≡ with_variables self.now vars.items) }
     {
         match &self.node {

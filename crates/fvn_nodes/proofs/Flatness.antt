@@ -17,7 +17,7 @@ use Rattle.fvn_forms.proofs.Eval.{canon_plain, canon_respects}
 use Rattle.fvn_flat.specs.Fits.{Fits}
 use Rattle.fvn_flat.specs.Problems.{subterms, subterms_among, subterms_of, plain_pairs}
 use Rattle.fvn_flat.specs.Solving.{FlatPairs}
-use Rattle.fvn_nodes.proofs.Subterms.{only_one}
+use Rattle.fvn_nodes.proofs.Lists.{only_one}
 
 module _ (d : Declarations) where
   -- the term is the plain one of a flat form

@@ -1,9 +1,8 @@
 -- How trees change.
-use Rattle.std.proofs.Common.{◌≡◌, ◌≢◌, ◌⊎◌, ℕ, zero, suc, ◌+◌, ◌-◌, ◌*◌, ◌^◌, ◌<◌, ◌≤◌, List, [], ◌∷◌, ◌++◌, length, take, get_or, set, refl, sym, ap, ◌∙◌, subst, inl, inr, arith, All, Any, AllPairs, Option, Some, None, slice_get}
+use Rattle.std.proofs.Common.{◌≡◌, ◌≢◌, ◌⊎◌, ℕ, zero, suc, ◌+◌, ◌-◌, ◌^◌, ◌<◌, ◌≤◌, List, [], ◌∷◌, ◌++◌, length, take, get_or, set, refl, sym, ap, ◌∙◌, subst, inl, inr, arith, All, Any, AllPairs, Option, Some, None, slice_get}
 use Rattle.std.specs.Prelude.{MatchOption, IfSome}
 use Rattle.std.specs.Option.{option_to_list}
-use Rattle.std.proofs.Math.Nat.{pow-le-pow_right, one-le-pow}
-use Rattle.std.proofs.lemmas.Grind.{pow_more}
+use Rattle.std.proofs.Math.Nat.{one-le-pow}
 use Rattle.std.proofs.lemmas.Bool.{cases_eq}
 use Rattle.std.proofs.lemmas.List.{take_at, length_push, length-append, get_or_append_left, get_or-append-add, set_split, set-append_left, drop_all, append_assoc, append-nil, nil_from_length}
 use Rattle.std.proofs.lemmas.List.Elements.{All-nil, All-cons, All-append, All-take}
@@ -17,6 +16,7 @@ use Rattle.fvn_nodes.specs.Trees.{weight, IsToCome, AreClosed, IsAsked}
 use Rattle.fvn_nodes.specs.declared.state.State.{State}
 use Rattle.fvn_nodes.specs.declared.asking.Answers.{Answers}
 use Rattle.fvn_nodes.specs.inner.Starts.{listed}
+use Rattle.fvn_nodes.proofs.Powers.{powers_fall}
 
 pub any_here : {A : Type 0} (P : A → Type 0) (x : A) (xs : List A) → P x → Any P (x ∷ xs)
 any_here P x xs h = (0, x, omega arith, refl, h)
@@ -30,17 +30,6 @@ any_none P h = let l = h.2 in omega arith
 any_one : {A : Type 0} (P : A → Type 0) (x : A) → Any P (x ∷ []) → P x
 any_one P x (zero, y, l, e, h) = subst P (sym e) h
 any_one P x (suc k, y, l, e, h) = absurd (omega (arith, l))
-
--- a power of three is more than two lower ones together
-pub powers_fall : (a b m : ℕ) → a < m → b < m → 3 ^ a + 3 ^ b < 3 ^ m
-powers_fall a b zero h k = absurd (omega arith)
-powers_fall a b (suc m) h k =
-    let three : zero < 3 = omega arith in
-    let x : 3 ^ a ≤ 3 ^ m = pow-le-pow_right three (omega arith) in
-    let y : 3 ^ b ≤ 3 ^ m = pow-le-pow_right three (omega arith) in
-    let e : 3 ^ suc m ≡ 3 ^ m * 3 = ap (λ n. 3 ^ n) (let q : suc m ≡ m + 1 = omega arith in q) ∙ pow_more 3 m in
-    let p : 1 ≤ 3 ^ m = one-le-pow m 3 three in
-    omega arith
 
 pub weight_push : (states : List State) (s : State) → weight (states ++ s ∷ []) ≡ weight states + 3 ^ open_pairs s
 weight_push states s = sum_by-append (λ r. 3 ^ open_pairs r) states (s ∷ []) ∙ ap (λ n. weight states + n) (sum_by-cons (λ r. 3 ^ open_pairs r) s [] ∙ omega arith)

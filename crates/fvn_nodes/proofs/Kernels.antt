@@ -1,44 +1,39 @@
 -- The partition of nodes that a substitution makes.
-use Rattle.std.proofs.Common.{◌≡◌, ◌⊎◌, ℕ, zero, suc, ◌+◌, ◌≤◌, ◌-◌, true, false, List, [], ◌∷◌, ◌++◌, length, map, refl, sym, ap, ◌∙◌, subst, inl, inr, arith, All, Option, Some, None}
+use Rattle.std.proofs.Common.{◌≡◌, ◌⊎◌, ℕ, zero, suc, ◌+◌, ◌≤◌, ◌-◌, true, false, List, [], ◌∷◌, length, map, refl, sym, ap, ◌∙◌, subst, inl, inr, arith, All, Some}
 use Rattle.std.specs.Prelude.{if◌then◌else◌}
 use Rattle.std.specs.Ordering.{is_gt}
-use Rattle.std.specs.List.{AllByRecursion}
 use Rattle.std.proofs.lemmas.Bool.{cases_lt, cases_Bool}
-use Rattle.std.proofs.lemmas.List.{length-map, get_or-map, length-append}
+use Rattle.std.proofs.lemmas.List.{length-map, get_or-map}
 use Rattle.std.proofs.lemmas.Option.{slice_get_within}
 use Rattle.fvn_terms.specs.declared.plain.OpId.{OpId}
-use Rattle.fvn_terms.specs.declared.plain.SortId.{SortId}
-use Rattle.fvn_terms.specs.declared.declarations.Axioms.{Axioms}
-use Rattle.fvn_terms.specs.declared.declarations.Axioms.TheVariants.{Free, Comm, AssocComm, AssocCommId}
+use Rattle.fvn_terms.specs.declared.declarations.Axioms.TheVariants.{Free, Comm}
 use Rattle.fvn_terms.specs.declared.declarations.Declarations.{Declarations}
-use Rattle.fvn_terms.specs.Term.{Term, app, pack}
-use Rattle.fvn_terms.specs.Substitution.{Substitution, apply, apply_all}
-use Rattle.fvn_terms.specs.Signature.{kind, axioms, HaveKinds, IsTerm}
+use Rattle.fvn_terms.specs.Term.{Term}
+use Rattle.fvn_terms.specs.Substitution.{Substitution, apply}
+use Rattle.fvn_terms.specs.Signature.{axioms, IsTerm}
 use Rattle.fvn_terms.specs.Equality.{BEqual, IsAssociative}
 use Rattle.fvn_terms.specs.Unifiers.{Problem}
 use Rattle.fvn_terms.proofs.Equal.{HasKind-apply}
 use Rattle.fvn_forms.specs.Flat.{FlatTerm, FlatTerms, fvar, fapp, fnone, fpack, funpack}
 use Rattle.fvn_forms.specs.Order.{flat_cmp, same_flat}
 use Rattle.fvn_forms.specs.InOrder.{sort}
-use Rattle.fvn_forms.specs.Canon.{identity, parts, all_parts, joined, built, build, canon, eval_all}
-use Rattle.fvn_forms.specs.Settled.{Settled}
+use Rattle.fvn_forms.specs.Canon.{build}
 use Rattle.fvn_forms.specs.FitsKinds.{FitsKinds}
 use Rattle.fvn_forms.proofs.Order.{same_flat_is, same_flat_itself}
 use Rattle.fvn_forms.proofs.Sums.{funpack-fpack}
-use Rattle.fvn_forms.proofs.Build.{build_sum, parts_none}
-use Rattle.fvn_forms.proofs.Eval.{canon_settled, canon_respects}
-use Rattle.fvn_forms.proofs.InOrder.{length_sort}
+use Rattle.fvn_forms.proofs.Eval.{canon_respects}
 use Rattle.fvn_forms.proofs.ToCanon.{b_equal_iff_canon}
+use Rattle.fvn_flat.specs.Forms.{head_of}
 use Rattle.fvn_flat.specs.Problems.{IsProblem}
-use Rattle.fvn_flat.specs.Partitions.{HasNoIdentity}
 use Rattle.fvn_flat.specs.SolvedLists.{IsKindUnifier}
-use Rattle.fvn_nodes.specs.Table.{NodeTable, term_at, IsOver, IsOrdered, IsWellMade, IsTableOf}
+use Rattle.fvn_nodes.specs.Table.{NodeTable, term_at, IsOver, IsWellMade, IsTableOf}
 use Rattle.fvn_nodes.specs.Classes.{AreTogether, AreAlike}
 use Rattle.fvn_nodes.specs.Unifiers.{value_at, first_at, kernel, Partitions}
 use Rattle.fvn_nodes.specs.declared.table.Node.{Node}
 use Rattle.fvn_nodes.specs.declared.table.Node.TheVariants.{App}
 use Rattle.fvn_nodes.proofs.Nodes.{term_at-over}
 use Rattle.fvn_nodes.proofs.Subterms.{node_kinded}
+use Rattle.fvn_nodes.proofs.Heading.{build_free, build_commutative, build_head, two_arguments, value_over, values_settled}
 
 -- the first number at which a value is found
 module _ (values : ℕ → FlatTerm) where
@@ -85,11 +80,6 @@ module _ (values : ℕ → FlatTerm) where
   pub first_tells : (i j : ℕ) → first_at values (values i) i ≡ first_at values (values j) j → values i ≡ values j
   first_tells i j e = sym (first_value i) ∙ ap values e ∙ first_value j
 
--- the operator at the head of a form
-abbrev pub head : FlatTerm → Option OpId
-head (fvar x) = None
-head (fapp f joined ts) = Some f
-
 -- two forms in order
 sorted_two : (a b v w : FlatTerm) → sort (a ∷ b ∷ []) ≡ sort (v ∷ w ∷ []) → ((a ≡ v) × (b ≡ w)) ⊎ ((a ≡ w) × (b ≡ v))
 sorted_two a b v w e = elim (cases_Bool (is_gt (flat_cmp a b))) [
@@ -110,56 +100,6 @@ sorted_two a b v w e = elim (cases_Bool (is_gt (flat_cmp a b))) [
     before x y t = ap (λ b. if b then y ∷ x ∷ [] else x ∷ y ∷ []) t
 
 module _ (d : Declarations) (f : OpId) where
-  -- a free operator stands over its arguments, and a commutative one over these in order
-  build_free : axioms d f ≡ Free → (vs : List FlatTerm) → build d f vs ≡ fapp f false (fpack vs)
-  build_free e [] = refl
-  build_free e (v ∷ vs) = ap (λ a. built d a f (v ∷ vs)) e
-
-  build_commutative : axioms d f ≡ Comm → (vs : List FlatTerm) → build d f vs ≡ fapp f false (fpack (sort vs))
-  build_commutative e [] = refl
-  build_commutative e (v ∷ vs) = ap (λ a. built d a f (v ∷ vs)) e
-
-  -- what joins two members or more is a sum of them
-  head_joined : (l : List FlatTerm) → 2 ≤ length l → head (joined d f l) ≡ Some f
-  head_joined [] h = absurd (omega arith)
-  head_joined (t ∷ []) h = absurd (omega arith)
-  head_joined (t ∷ u ∷ us) h = refl
-
-  some_part : axioms d f ≡ AssocComm → (t : FlatTerm) → Settled d t → 1 ≤ length (parts d f t)
-  some_part e t h = go (parts d f t) refl
-    where
-      go : (l : List FlatTerm) → parts d f t ≡ l → 1 ≤ length (parts d f t)
-      go [] is = absurd (let p = parts_none d f t h is in let q : None ≡ Some p.0 = sym (ap identity e) ∙ p.1 in cc)
-      go (u ∷ us) is = let n = ap length is in omega arith
-
-  head_sum : axioms d f ≡ AssocComm → (a b : FlatTerm) → Settled d a → Settled d b → head (build d f (a ∷ b ∷ [])) ≡ Some f
-  head_sum e a b ha hb =
-      ap head (build_sum d f (subst IsAssociative (sym e) tt) a (b ∷ []))
-      ∙ head_joined (sort (all_parts d f (a ∷ b ∷ []))) (
-      let l = length_sort (all_parts d f (a ∷ b ∷ [])) in
-      let m = length-append (parts d f a) (parts d f b ++ []) in
-      let n = length-append (parts d f b) [] in
-      let p = some_part e a ha in
-      let q = some_part e b hb in
-      omega (arith, l, m, n)
-      )
-
-  -- an operator without an identity heads what it builds, if an associative one stands over two
-  pub build_head : HasNoIdentity (axioms d f) → (vs : List FlatTerm) → AllByRecursion (Settled d) vs → (IsAssociative (axioms d f) → length vs ≡ 2) → head (build d f vs) ≡ Some f
-  build_head bare vs settled two = go (axioms d f) refl
-    where
-      pair : (vs : List FlatTerm) → AllByRecursion (Settled d) vs → length vs ≡ 2 → axioms d f ≡ AssocComm → head (build d f vs) ≡ Some f
-      pair [] h n e = absurd (omega arith)
-      pair (a ∷ []) h n e = absurd (omega arith)
-      pair (a ∷ b ∷ []) h n e = head_sum e a b h.0 h.1.0
-      pair (a ∷ b ∷ v ∷ vs) h n e = absurd (omega arith)
-
-      go : (a : Axioms) → axioms d f ≡ a → head (build d f vs) ≡ Some f
-      go Free e = ap head (build_free e vs)
-      go Comm e = ap head (build_commutative e vs)
-      go AssocComm e = pair vs settled (two (subst IsAssociative (sym e) tt)) e
-      go (AssocCommId o) e = absurd (subst HasNoIdentity e bare)
-
   fpack-injective : (vs ws : List FlatTerm) → fpack vs ≡ fpack ws → vs ≡ ws
   fpack-injective vs ws e = sym (funpack-fpack vs) ∙ ap funpack e ∙ funpack-fpack ws
 
@@ -169,41 +109,15 @@ module _ (d : Declarations) (f : OpId) where
 
   pub free_arguments : axioms d f ≡ Free → (vs ws : List FlatTerm) → build d f vs ≡ build d f ws → vs ≡ ws
   unfolding under
-  free_arguments e vs ws same = fpack-injective vs ws (ap under (sym (build_free e vs) ∙ same ∙ build_free e ws))
+  free_arguments e vs ws same = fpack-injective vs ws (ap under (sym (build_free d f e vs) ∙ same ∙ build_free d f e ws))
 
   pub commutative_arguments : axioms d f ≡ Comm → (a b v w : FlatTerm) → build d f (a ∷ b ∷ []) ≡ build d f (v ∷ w ∷ []) → ((a ≡ v) × (b ≡ w)) ⊎ ((a ≡ w) × (b ≡ v))
   unfolding under
   commutative_arguments e a b v w same =
-      sorted_two a b v w (fpack-injective (sort (a ∷ b ∷ [])) (sort (v ∷ w ∷ [])) (ap under (sym (build_commutative e (a ∷ b ∷ [])) ∙ same ∙ build_commutative e (v ∷ w ∷ []))))
+      sorted_two a b v w (fpack-injective (sort (a ∷ b ∷ [])) (sort (v ∷ w ∷ [])) (ap under (sym (build_commutative d f e (a ∷ b ∷ [])) ∙ same ∙ build_commutative d f e (v ∷ w ∷ []))))
 
--- a well-kinded associative operator has two arguments
-pub two_arguments : (d : Declarations) → FitsKinds d → (f : OpId) (ts : List Term) → IsTerm d (app f (pack ts)) → IsAssociative (axioms d f) → length ts ≡ 2
-two_arguments d fits f ts h assoc =
-    let alike = fits.associative f h.1.rank assoc h.1.listed in
-    count ts (kind d h.1.rank.result) (kind d h.1.rank.result) (subst (HaveKinds d (pack ts)) alike h.1.args)
-  where
-    count : (ts : List Term) (k q : SortId) → HaveKinds d (pack ts) (k ∷ q ∷ []) → length ts ≡ 2
-    count [] k q h = absurd h
-    count (t ∷ []) k q h = absurd h.1
-    count (t ∷ u ∷ []) k q h = refl
-    count (t ∷ u ∷ v ∷ vs) k q h = absurd h.1.1
-
--- the value of an operator over nodes is built from the values of these
+-- classes and values
 module _ (d : Declarations) (s : Substitution) (nodes : List Node) where
-  abbrev value : ℕ → FlatTerm
-  value = value_at d s nodes
-
-  values_of : (ks : List ℕ) → eval_all d fvar (apply_all s (pack (map (term_at nodes) ks))) ≡ map (value_at d s nodes) ks
-  values_of [] = refl
-  values_of (k ∷ ks) = ap (λ l. value_at d s nodes k ∷ l) (values_of ks)
-
-  pub value_over : (ordered : IsOrdered nodes) (i : ℕ) (f : OpId) (ks : List ℕ) → IsOver nodes i f ks → value_at d s nodes i ≡ build d f (map (value_at d s nodes) ks)
-  value_over ordered i f ks is = ap (λ t. canon d (apply s t)) (term_at-over nodes ordered i f ks is) ∙ ap (build d f) (values_of ks)
-
-  values_settled : (ks : List ℕ) → AllByRecursion (Settled d) (map (value_at d s nodes) ks)
-  values_settled [] = tt
-  values_settled (k ∷ ks) = (canon_settled d (apply s (term_at nodes k)), values_settled ks)
-
   same_class : (i j : ℕ) → value_at d s nodes i ≡ value_at d s nodes j → kernel d s nodes i ≡ kernel d s nodes j
   same_class i j e = first_same (value_at d s nodes) i j e
 
@@ -253,7 +167,7 @@ module _ (d : Declarations) (fits : FitsKinds d) (problem : Problem) (is_problem
         one_head = λ bare other.
             let a = build_head d f bare (map values ks) (values_settled d s t.nodes ks) (two_nodes i f ks left) in
             let b = build_head d g other (map values ls) (values_settled d s t.nodes ls) (two_nodes j g ls right) in
-            let r : Some f ≡ Some g = sym a ∙ ap head same ∙ b in
+            let r : Some f ≡ Some g = sym a ∙ ap head_of same ∙ b in
             cc;
         free = λ is one. values_together d s t.nodes ks ls (free_arguments d f is (map values ks) (map values ls) (same ∙ ap (λ o. build d o (map values ls)) (sym one)));
         commutative = λ is one a b v w p q.

@@ -1,13 +1,14 @@
 -- Lemmas on tables of nodes, their classes and what is decided of them.
 pub mod Nodes
-mod Terms
+pub mod Lists
+pub mod Terms
 mod Entering
 mod Walking
 mod Pairing
 mod Entries
-mod Once
+pub mod Once
 mod Tables
-mod Subterms
+pub mod Subterms
 pub mod Admitting
 mod Moves
 mod Joining
@@ -16,8 +17,11 @@ mod Chaining
 mod Settling
 mod Openness
 mod Starting
+pub mod Powers
 mod Growing
 mod Swapping
+pub mod Heading
 mod Kernels
 mod Flatness
+pub mod NodesOf
 mod Places

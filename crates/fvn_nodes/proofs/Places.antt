@@ -1,55 +1,26 @@
 -- Partitions of nodes and of terms.
-use Rattle.std.proofs.Common.{◌≡◌, ◌≢◌, ◌⊎◌, ℕ, zero, suc, ◌<◌, not, List, [], ◌∷◌, length, map, get_or, refl, sym, ap, ◌∙◌, subst, inl, inr, arith, All, AllPairs, Contains, Some}
-use Rattle.std.specs.Prelude.{if◌then◌else◌}
-use Rattle.std.proofs.lemmas.Bool.{cases_Bool, false_from_ne_true, not_from_false}
+use Rattle.std.proofs.Common.{◌≡◌, ◌⊎◌, ℕ, ◌<◌, List, [], ◌∷◌, length, map, refl, sym, ap, ◌∙◌, subst, inl, inr, arith, All, Contains}
 use Rattle.std.proofs.lemmas.List.{get_or-map, length-map}
 use Rattle.std.proofs.lemmas.List.Elements.{All-head, All-tail, All-map}
 use Rattle.std.proofs.lemmas.Option.{slice_get_within}
-use Rattle.fvn_base.proofs.Membership.{contains_cases, contains_none, contains_filter}
 use Rattle.fvn_terms.specs.declared.plain.OpId.{OpId}
 use Rattle.fvn_terms.specs.declared.declarations.Axioms.TheVariants.{Free, Comm}
 use Rattle.fvn_terms.specs.declared.declarations.Declarations.{Declarations}
 use Rattle.fvn_terms.specs.Term.{Term, Terms, app, none, more, pack}
 use Rattle.fvn_terms.specs.Signature.{axioms}
-use Rattle.fvn_terms.specs.Equality.{two, constant, BEqual}
+use Rattle.fvn_terms.specs.Equality.{two, BEqual}
 use Rattle.fvn_terms.specs.Unifiers.{Problem}
-use Rattle.fvn_forms.specs.Canon.{identity}
-use Rattle.fvn_forms.proofs.ToCanon.{identity_is}
 use Rattle.fvn_flat.specs.Fits.{Fits}
-use Rattle.fvn_flat.specs.Problems.{subterms_of, same_term, once, plain_pairs}
-use Rattle.fvn_flat.specs.Partitions.{PlaceByPlace, IsUnit, IsNode, IsPartition}
+use Rattle.fvn_flat.specs.Problems.{subterms_of, plain_pairs}
+use Rattle.fvn_flat.specs.Partitions.{PlaceByPlace, IsNode, IsPartition}
 use Rattle.fvn_flat.specs.Solving.{FlatPairs}
-use Rattle.fvn_nodes.specs.Table.{nothing, NodeTable, IsWellMade, IsTableOf, IsUnitOf, IsOver, terms_of, term_at}
+use Rattle.fvn_nodes.specs.Table.{NodeTable, IsWellMade, IsTableOf, IsOver, term_at}
 use Rattle.fvn_nodes.specs.Classes.{AreTogether, MeetEitherWay, AreAlike, IsNodePartition}
-use Rattle.fvn_nodes.specs.Laws.{place_of, class_at, ArePartitionsOf}
+use Rattle.fvn_nodes.specs.Laws.{class_at, ArePartitionsOf}
 use Rattle.fvn_nodes.specs.declared.table.Node.TheVariants.{App}
-use Rattle.fvn_nodes.proofs.Terms.{same_term_itself, same_term_is}
-use Rattle.fvn_nodes.proofs.Nodes.{length-terms_of, term_at-over, application_at, arguments_within}
-use Rattle.fvn_nodes.proofs.Subterms.{listed_subterm}
+use Rattle.fvn_nodes.proofs.NodesOf.{node_of, is_node, own_class}
+use Rattle.fvn_nodes.proofs.Nodes.{term_at-over, application_at, arguments_within}
 use Rattle.fvn_nodes.proofs.Flatness.{IsFlatTerm, flat_equal, pairs_flat, constant_flat}
-
--- a term of a list in which each stands once has its own place
-distinct_tail : (t : Term) (ts : List Term) → AllPairs ◌≢◌ (t ∷ ts) → AllPairs ◌≢◌ ts
-distinct_tail t ts h i j d l m = h (suc i) (suc j) d (omega arith) (omega arith)
-
-own_place : (ts : List Term) → AllPairs ◌≢◌ ts → (i : ℕ) (d : Term) → i < length ts → place_of ts (get_or ts i d) ≡ i
-own_place [] h i d l = absurd (omega arith)
-own_place (t ∷ ts) h zero d l = ap (λ b. if b then 0 else suc (place_of ts t)) (same_term_itself t)
-own_place (t ∷ ts) h (suc i) d l =
-    let u = get_or ts i d in
-    let other = false_from_ne_true (same_term t u) (λ e. h 0 (suc i) d (omega arith) l (same_term_is t u e)) in
-    ap (λ b. if b then 0 else suc (place_of ts u)) other ∙ ap suc (own_place ts (distinct_tail t ts h) i d (omega arith))
-
--- what is listed stands there once
-once_contains : (ts : List Term) (u : Term) → Contains ts u → Contains (once ts) u
-once_contains [] u c = absurd (contains_none u c)
-once_contains (t ∷ ts) u c = elim (contains_cases t ts u c) [
-  | inl e ↦ (0, omega arith, e)
-  | inr r ↦ elim (cases_Bool (same_term t u)) [
-    | inl s ↦ (0, omega arith, same_term_is t u s)
-    | inr n ↦ let k = contains_filter (λ v. not (same_term t v)) (once ts) u (once_contains ts u r) (not_from_false (same_term t u) n) in let l = k.1 in (suc k.0, omega (arith, l), k.2)
-  ]
-]
 
 -- arguments place by place, as terms and as nodes
 by_places : (class : Term → ℕ) (number : ℕ → ℕ) (at : ℕ → Term) (n : ℕ) → ((i : ℕ) → i < n → class (at i) ≡ number i) → (ks ls : List ℕ) → All (λ k. k < n) ks → All (λ k. k < n) ls → PlaceByPlace class (pack (map at ks)) (pack (map at ls)) → AreTogether number ks ls
@@ -73,62 +44,6 @@ to_places class number at n same (k ∷ ks) (l ∷ ls) left right e =
     (same k (All-head P k ks left) ∙ first ∙ sym (same l (All-head P l ls right)), to_places class number at n same ks ls (All-tail P k ks left) (All-tail P l ls right) rest)
 
 module _ (d : Declarations) (problem : Problem) (flat : (u : Term) → Contains (subterms_of problem) u → IsFlatTerm d u) (t : NodeTable) (made : IsWellMade t) (table : IsTableOf d problem t) where
-  -- the node of a term
-  record NodeOf (u : Term) : Type 0 where
-    number : ℕ
-    within : number < length t.nodes
-    is : term_at t.nodes number ≡ u
-
-  subterm_node : (u : Term) → Contains (subterms_of problem) u → NodeOf u
-  subterm_node u c =
-      let listed = subst (λ l. Contains l u) (sym table.subterms) (once_contains (subterms_of problem) u c) in
-      let n = length-map t.subterms (term_at t.nodes) in
-      let l : listed.0 < length t.subterms = let m = listed.1 in omega arith in
-      let i : ℕ = get_or t.subterms listed.0 0 in
-      record {
-        number = i;
-        within = made.subterms listed.0 0 l;
-        is = sym (get_or-map (term_at t.nodes) t.subterms listed.0 0 u l) ∙ listed.2;
-      }
-
-  some_same : {A : Type 0} (x y : A) → Some x ≡ Some y → x ≡ y
-  some_same x y e = cc
-
-  unit_node : (u : Term) → IsUnit d problem u → NodeOf u
-  unit_node u unit =
-      let is : identity (axioms d unit.operator) ≡ Some unit.constant_of = ap identity unit.identity in
-      let found = table.all_units unit.operator unit.constant_of unit.heads is in
-      let k = found.0 in
-      let p = found.1 in
-      let entry : IsUnitOf d problem p.0 (term_at t.nodes p.1) = subst (λ q. IsUnitOf d problem q.0 (term_at t.nodes q.1)) found.3 (table.units k p found.2) in
-      let same = some_same entry.constant_of unit.constant_of (sym entry.identity ∙ ap (λ f. identity (axioms d f)) found.4 ∙ is) in
-      record {
-        number = p.1;
-        within = subst (λ q. q.1 < length t.nodes) found.3 (made.units k p found.2);
-        is = entry.is ∙ ap constant same ∙ sym unit.is;
-      }
-
-  node_of : (u : Term) → IsNode d problem u → NodeOf u
-  node_of u (inl c) = subterm_node u c
-  node_of u (inr unit) = unit_node u unit
-
-  -- the term of a node
-  is_node : (i : ℕ) → i < length t.nodes → IsNode d problem (term_at t.nodes i)
-  is_node i h = elim (table.only i h) [
-    | inl c ↦ inl (listed_subterm d problem t table i c)
-    | inr a ↦
-        let k = a.0 in
-        let p = a.1 in
-        let entry : IsUnitOf d problem p.0 (term_at t.nodes p.1) = subst (λ q. IsUnitOf d problem q.0 (term_at t.nodes q.1)) a.3 (table.units k p a.2) in
-        inr record {
-          operator = p.0;
-          heads = entry.heads;
-          constant_of = entry.constant_of;
-          identity = identity_is (axioms d p.0) entry.constant_of entry.identity;
-          is = ap (term_at t.nodes) (sym a.4) ∙ entry.is;
-        }
-  ]
-
   -- an application that is a node's term is an operator over nodes
   record OverNodes (f : OpId) (ts : Terms) : Type 0 where
     number : ℕ
@@ -141,7 +56,7 @@ module _ (d : Declarations) (problem : Problem) (flat : (u : Term) → Contains 
 
   over_nodes : (f : OpId) (ts : Terms) → IsNode d problem (app f ts) → OverNodes f ts
   over_nodes f ts h =
-      let n = node_of (app f ts) h in
+      let n = node_of made table (app f ts) h in
       let at = application_at t.nodes made.ordered n.number f ts n.within n.is in
       record {
         number = n.number;
@@ -153,19 +68,12 @@ module _ (d : Declarations) (problem : Problem) (flat : (u : Term) → Contains 
         arguments_are = arguments_within t.nodes made.ordered n.number f at.arguments at.is;
       }
 
-  -- a node's place is its number
-  pub place_at : (i : ℕ) → i < length t.nodes → place_of (terms_of t.nodes) (term_at t.nodes i) ≡ i
-  place_at i h = own_place (terms_of t.nodes) made.distinct i nothing (let l = length-terms_of t.nodes in omega (arith, l))
-
-  pub own_class : (class : ℕ → ℕ) (i : ℕ) → i < length t.nodes → class_at t class (term_at t.nodes i) ≡ class i
-  own_class class i h = ap class (place_at i h)
-
   module _ (class : ℕ → ℕ) (partition : IsNodePartition d t class) where
     abbrev of_term : Term → ℕ
     of_term = class_at t class
 
     number_is : {f : OpId} {ts : Terms} → (n : OverNodes f ts) → of_term (app f ts) ≡ class n.number
-    number_is n = sym (ap of_term n.is) ∙ own_class class n.number n.within
+    number_is n = sym (ap of_term n.is) ∙ own_class made table class n.number n.within
 
     -- operators of one class
     alike : (f g : OpId) (ts us : Terms) (a : OverNodes f ts) (b : OverNodes g us) → of_term (app f ts) ≡ of_term (app g us) → AreAlike d (λ a v. ⊥) class f g a.arguments b.arguments
@@ -184,7 +92,7 @@ module _ (d : Declarations) (problem : Problem) (flat : (u : Term) → Contains 
         let a = over_nodes f ts h in
         let b = over_nodes f us k in
         let together =
-        by_places of_term class (term_at t.nodes) (length t.nodes) (own_class class) a.arguments b.arguments a.arguments_are b.arguments_are (subst (λ l. PlaceByPlace of_term l (pack (map (term_at t.nodes) b.arguments))) (sym a.terms) (subst (PlaceByPlace of_term ts) (sym b.terms) places))
+        by_places of_term class (term_at t.nodes) (length t.nodes) (own_class made table class) a.arguments b.arguments a.arguments_are b.arguments_are (subst (λ l. PlaceByPlace of_term l (pack (map (term_at t.nodes) b.arguments))) (sym a.terms) (subst (PlaceByPlace of_term ts) (sym b.terms) places))
         in
         number_is a ∙ (partition.nodes a.number b.number f f a.arguments b.arguments a.over b.over).congruent refl together ∙ sym (number_is b)
 
@@ -192,7 +100,7 @@ module _ (d : Declarations) (problem : Problem) (flat : (u : Term) → Contains 
     free f ts us is h k e =
         let a = over_nodes f ts h in
         let b = over_nodes f us k in
-        let places = to_places of_term class (term_at t.nodes) (length t.nodes) (own_class class) a.arguments b.arguments a.arguments_are b.arguments_are ((alike f f ts us a b e).free is refl) in
+        let places = to_places of_term class (term_at t.nodes) (length t.nodes) (own_class made table class) a.arguments b.arguments a.arguments_are b.arguments_are ((alike f f ts us a b e).free is refl) in
         subst (λ l. PlaceByPlace of_term l us) a.terms (subst (PlaceByPlace of_term (pack (map (term_at t.nodes) a.arguments))) b.terms places)
 
     -- two arguments, as nodes
@@ -213,8 +121,8 @@ module _ (d : Declarations) (problem : Problem) (flat : (u : Term) → Contains 
           first = a;
           second = b;
           are = refl;
-          first_is = sym (ap of_term x) ∙ own_class class a (h 0 0 (omega arith));
-          second_is = sym (ap of_term y) ∙ own_class class b (h 1 0 (omega arith));
+          first_is = sym (ap of_term x) ∙ own_class made table class a (h 0 0 (omega arith));
+          second_is = sym (ap of_term y) ∙ own_class made table class b (h 1 0 (omega arith));
         }
     both (a ∷ b ∷ k ∷ ks) u v h e = cc
 
@@ -238,7 +146,7 @@ module _ (d : Declarations) (problem : Problem) (flat : (u : Term) → Contains 
     sides_are sides within h =
         let T : ℕ × ℕ → Term × Term = λ p. (term_at t.nodes p.0, term_at t.nodes p.1) in
         let P = λ (p : Term × Term). of_term p.0 ≡ of_term p.1 in
-        All-map P T sides (λ k e l. let w = within k e l in own_class class _ w.0 ∙ h k e l ∙ sym (own_class class _ w.1))
+        All-map P T sides (λ k e l. let w = within k e l in own_class made table class _ w.0 ∙ h k e l ∙ sym (own_class made table class _ w.1))
 
     pub node_partition : IsPartition d problem of_term
     node_partition = record {
@@ -255,7 +163,7 @@ module _ (d : Declarations) (problem : Problem) (flat : (u : Term) → Contains 
     of_node i = class (term_at t.nodes i)
 
     term_is : (i : ℕ) (f : OpId) (ks : List ℕ) → IsOver t.nodes i f ks → IsNode d problem (app f (pack (map (term_at t.nodes) ks)))
-    term_is i f ks is = subst (IsNode d problem) (term_at-over t.nodes made.ordered i f ks is) (is_node i (slice_get_within t.nodes i (App f ks) is))
+    term_is i f ks is = subst (IsNode d problem) (term_at-over t.nodes made.ordered i f ks is) (is_node made table i (slice_get_within t.nodes i (App f ks) is))
 
     class_is : (i : ℕ) (f : OpId) (ks : List ℕ) → IsOver t.nodes i f ks → of_node i ≡ class (app f (pack (map (term_at t.nodes) ks)))
     class_is i f ks is = ap class (term_at-over t.nodes made.ordered i f ks is)
@@ -311,5 +219,5 @@ pub partitions_of_nodes : (d : Declarations) (pairs : FlatPairs) → All (λ p. 
 partitions_of_nodes d pairs fit t made table = record {
   of_nodes = node_partition d (plain_pairs pairs) (pairs_flat d pairs fit) t made table;
   of_terms = term_partition d (plain_pairs pairs) (pairs_flat d pairs fit) t made table;
-  same = own_class d (plain_pairs pairs) (pairs_flat d pairs fit) t made table;
+  same = own_class made table;
 }

@@ -1,8 +1,6 @@
--- Subterms are well-kinded where the terms of a problem are.
-use Rattle.std.proofs.Common.{◌≡◌, ℕ, zero, suc, ◌<◌, List, [], ◌∷◌, ◌++◌, length, sym, subst, inl, inr, arith, All, Contains}
-use Rattle.std.specs.Prelude.{not}
-use Rattle.std.specs.List.{filter}
-use Rattle.std.proofs.lemmas.List.Elements.{All-head, All-tail, All-cons, All-filter, All-contains, All-contains_itself, Contains-append_cases}
+-- Subterms, and the terms of nodes, are well-kinded where the terms of a problem are.
+use Rattle.std.proofs.Common.{ℕ, ◌<◌, List, [], ◌∷◌, ◌++◌, length, sym, subst, inl, inr, Contains}
+use Rattle.std.proofs.lemmas.List.Elements.{All-head, All-tail, Contains-append_cases}
 use Rattle.fvn_base.proofs.Membership.{contains_cases, contains_none, contains_map}
 use Rattle.fvn_terms.specs.declared.plain.OpId.{OpId}
 use Rattle.fvn_terms.specs.declared.plain.SortId.{SortId}
@@ -12,21 +10,10 @@ use Rattle.fvn_terms.specs.Signature.{kind, axioms, HasKind, HaveKinds, IsTerm}
 use Rattle.fvn_terms.specs.Unifiers.{Problem}
 use Rattle.fvn_forms.specs.FitsKinds.{FitsKinds}
 use Rattle.fvn_forms.proofs.ToCanon.{identity_is}
-use Rattle.fvn_flat.specs.Problems.{subterms, subterms_among, subterms_of, same_term, once, IsProblem}
+use Rattle.fvn_flat.specs.Problems.{subterms, subterms_among, subterms_of, IsProblem}
 use Rattle.fvn_nodes.specs.Table.{NodeTable, IsTableOf, IsUnitOf, term_at}
-
--- a list of one
-pub only_one : {X : Type 0} (x y : X) → Contains (y ∷ []) x → y ≡ x
-only_one x y (zero, l, e) = e
-only_one x y (suc k, l, e) = absurd (omega (arith, l))
-
--- what is listed once is listed
-pub contains_once : (ts : List Term) (u : Term) → Contains (once ts) u → Contains ts u
-contains_once ts u c = All-contains (Contains ts) (once ts) u (all_once (Contains ts) ts (All-contains_itself ts)) c
-  where
-    all_once : (P : Term → Type 0) (ts : List Term) → All P ts → All P (once ts)
-    all_once P [] h = h
-    all_once P (t ∷ ts) h = All-cons P t (filter (λ u. not (same_term t u)) (once ts)) (All-head P t ts h) (All-filter (λ u. not (same_term t u)) P (once ts) (all_once P ts (All-tail P t ts h)))
+use Rattle.fvn_nodes.proofs.Terms.{contains_once}
+use Rattle.fvn_nodes.proofs.Lists.{only_one}
 
 module _ (d : Declarations) where
   mutual

@@ -1,41 +1,22 @@
 -- The columns that are collected, and what a solver asks of the rows over them.
 use Rattle.std.proofs.Common.{◌≡◌, ◌≢◌, ℕ, zero, suc, ◌+◌, ◌-◌, ◌<◌, ◌≤◌, Bool, true, false, List, [], ◌∷◌, ◌++◌, length, map, get_or, refl, sym, ap, ◌∙◌, subst, inl, inr, arith, All, Contains, Option, Some, None, slice_get}
 use Rattle.std.specs.Prelude.{pos, negsuc, ◌-ℤ◌, unsigned_abs, nat_eq, nat_lt, cond}
-use Rattle.std.specs.List.{flat_map, list_any}
-use Rattle.std.proofs.lemmas.Bool.{ltb-true, eqb-true, eq-eqb, or_cases, or_left, or_right}
+use Rattle.std.proofs.lemmas.Bool.{ltb-true}
 use Rattle.std.proofs.lemmas.List.{length-map, get_or_default}
-use Rattle.std.proofs.lemmas.List.Elements.{All-contains, All-contains_itself, All-weaker, All-map, Contains-append_left, Contains-append_right, Contains-append_cases, Contains-push, Contains-push_cases}
+use Rattle.std.proofs.lemmas.List.Elements.{All-contains, All-map, Contains-append_left, Contains-push, Contains-push_cases}
 use Rattle.std.proofs.lemmas.List.Quantifiers.{all_pairs_push}
 use Rattle.fvn_base.specs.declared.limits.TheConstants.{COLUMNS, COMPONENT}
-use Rattle.fvn_base.proofs.Membership.{contains_here, contains_later, contains_cases, contains_none, contains_map}
+use Rattle.fvn_base.proofs.Membership.{contains_cases, contains_none, contains_map}
 use Rattle.fvn_base.proofs.Pigeonhole.{length-le_within}
 use Rattle.fvn_terms.specs.declared.plain.OpId.{OpId}
 use Rattle.fvn_forms.specs.InOrder.{one_if}
 use Rattle.fvn_lindio.specs.declared.system.System.{System}
 use Rattle.fvn_lindio.specs.Systems.{rows_of, IsSystem}
 use Rattle.fvn_nodes.specs.Table.{NodeTable}
+use Rattle.fvn_nodes.proofs.Lists.{contains_flat_map, flat_map_contains}
 use Rattle.fvn_sums.specs.NodeSystems.{HoldsArguments, addends, sums, stands_in, coefficient, row_at, IsIdentityClass, IsNodeColumn, IsNodeSystem}
 use Rattle.fvn_sums.specs.inner.Collecting.{classes_with, classes_at, classes_among, AreOnce}
 use Rattle.fvn_sums.proofs.Members.{addends_over, over_addends}
-
-all_from : {X : Type 0} (P : X → Type 0) (xs : List X) → ((x : X) → Contains xs x → P x) → All P xs
-all_from P xs h = All-weaker (Contains xs) P h xs (All-contains_itself xs)
-
--- whether y stands in the list
-abbrev pub has : ℕ → List ℕ → Bool
-has y xs = list_any (λ x. nat_eq x y) xs
-
-pub has-contains : (y : ℕ) (xs : List ℕ) → has y xs ≡ true → Contains xs y
-has-contains y [] e = cc
-has-contains y (x ∷ xs) e = elim (or_cases (nat_eq x y) (has y xs) e) [
-  | inl p ↦ (0, omega arith, eqb-true x y p)
-  | inr q ↦ let r = has-contains y xs q in let l = r.1 in (suc r.0, omega (arith, l), r.2)
-]
-
-pub contains-has : (y : ℕ) (xs : List ℕ) → Contains xs y → has y xs ≡ true
-contains-has y [] c = absurd (let l = c.1 in omega (arith, l))
-contains-has y (x ∷ xs) (zero, l, e) = or_left (nat_eq x y) (has y xs) (eq-eqb x y e)
-contains-has y (x ∷ xs) (suc k, l, e) = or_right (nat_eq x y) (has y xs) (contains-has y xs (k, omega (arith, l), e))
 
 module _ (Left : ℕ → Type 0) where
   pub once_none : AreOnce Left [] []
@@ -83,20 +64,6 @@ module _ (Left : ℕ → Type 0) where
       | inr e ↦ absurd (n (subst Left e left))
     ];
   }
-
-contains_flat_map : {X A : Type 0} (f : X → List A) (xs : List X) (x : X) (a : A) → Contains xs x → Contains (f x) a → Contains (flat_map f xs) a
-contains_flat_map f [] x a c h = absurd (contains_none x c)
-contains_flat_map f (y ∷ xs) x a c h = elim (contains_cases y xs x c) [
-  | inl e ↦ Contains-append_left (f y) (flat_map f xs) a (subst (λ z. Contains (f z) a) (sym e) h)
-  | inr r ↦ Contains-append_right (f y) (flat_map f xs) a (contains_flat_map f xs x a r h)
-]
-
-flat_map_contains : {X A : Type 0} (f : X → List A) (xs : List X) (a : A) → Contains (flat_map f xs) a → (x : X) × Contains xs x × Contains (f x) a
-flat_map_contains f [] a c = absurd (contains_none a c)
-flat_map_contains f (y ∷ xs) a c = elim (Contains-append_cases (f y) (flat_map f xs) a c) [
-  | inl h ↦ (y, contains_here y xs, h)
-  | inr r ↦ let q = flat_map_contains f xs a r in (q.0, contains_later y xs q.0 q.1, q.2)
-]
 
 -- a difference is at most both parts together
 difference_le : (m n : ℕ) → unsigned_abs (pos m -ℤ pos n) ≤ m + n

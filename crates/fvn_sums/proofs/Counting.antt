@@ -1,9 +1,9 @@
 -- Sums of values add up exactly where the counts of their summands solve the sum system.
-use Rattle.std.proofs.Common.{◌≡◌, ℕ, ◌+◌, ◌<◌, List, [], ◌∷◌, ◌++◌, length, map, get_or, refl, sym, ap, ◌∙◌, subst, inl, inr, arith, All, Contains, Option, Some, None, slice_get}
+use Rattle.std.proofs.Common.{◌≡◌, ℕ, ◌+◌, ◌<◌, List, [], ◌∷◌, ◌++◌, length, map, get_or, refl, sym, ap, ◌∙◌, subst, inl, inr, arith, Contains, Option, Some, None, slice_get}
 use Rattle.std.specs.Prelude.{ℤ, pos, ◌↔◌}
 use Rattle.std.proofs.lemmas.Bool.{cases_eq}
 use Rattle.std.proofs.lemmas.List.{length-map, get_or-map}
-use Rattle.std.proofs.lemmas.List.Elements.{All-contains, All-contains_itself, All-weaker}
+use Rattle.std.proofs.lemmas.List.Elements.{All-contains}
 use Rattle.fvn_base.proofs.Decided.{some_or_none}
 use Rattle.fvn_base.proofs.Membership.{contains_map, map_contains}
 use Rattle.fvn_terms.specs.declared.plain.OpId.{OpId}
@@ -21,14 +21,12 @@ use Rattle.fvn_lindio.specs.declared.system.System.{System}
 use Rattle.fvn_lindio.specs.Systems.{IsZeroAt, IsUnused, Solves, rows_of}
 use Rattle.fvn_flat.specs.SolvedLists.{component}
 use Rattle.fvn_nodes.specs.Table.{NodeTable, IsOver}
+use Rattle.fvn_nodes.proofs.Lists.{all_from}
 use Rattle.fvn_sums.specs.NodeSystems.{addends, sums, coefficient, row_at, IsIdentityClass, IsNodeColumn, IsNodeSystem}
 use Rattle.fvn_sums.specs.Values.{AddUp, AddsNothing, Counts}
 use Rattle.fvn_sums.proofs.Weighing.{zero_row, nothing_row, component-map, component-out}
 use Rattle.fvn_sums.proofs.Zeroes.{AgreeWhereUsed, agree_zero, agree_swap, unused_told, zeroed}
 use Rattle.fvn_sums.proofs.Members.{addends_over, over_addends, listed_sum, sum_listed}
-
-all_from : {X : Type 0} (P : X → Type 0) (xs : List X) → ((x : X) → Contains xs x → P x) → All P xs
-all_from P xs h = All-weaker (Contains xs) P h xs (All-contains_itself xs)
 
 module _ (d : Declarations) (t : NodeTable) (class : ℕ → ℕ) (f : OpId) (assoc : IsAssociative (axioms d f)) (columns : List ℕ) (system : System) (is : IsNodeSystem t class f columns system) (value : ℕ → FlatTerm) (settled : (k : ℕ) → Settled d (value k)) (nothing : AddsNothing d t class f value) where
   rows : List (List ℤ)

@@ -1,8 +1,7 @@
 -- Lemmas on sum systems over nodes, and on values of classes.
-mod Terms
 pub mod Weighing
-mod Zeroes
-mod Members
+pub mod Zeroes
+pub mod Members
 mod Counting
 mod Collected
 mod OfProblems

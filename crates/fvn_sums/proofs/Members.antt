@@ -1,14 +1,16 @@
 -- The sums by an operator among the nodes.
-use Rattle.std.proofs.Common.{◌≡◌, ℕ, ◌<◌, Bool, true, false, List, [], ◌∷◌, refl, sym, ap, ◌∙◌, Option, Some, None, All, Contains, slice_get, arith}
+use Rattle.std.proofs.Common.{◌≡◌, ℕ, ◌<◌, Bool, true, false, List, [], ◌∷◌, length, refl, sym, ap, ◌∙◌, inl, inr, Option, Some, None, All, Contains, slice_get, arith}
 use Rattle.std.specs.Prelude.{if◌then◌else◌, IfSome}
-use Rattle.fvn_base.proofs.Membership.{contains_filter, filter_contains}
+use Rattle.std.proofs.lemmas.Option.{slice_get_within}
+use Rattle.fvn_base.proofs.Membership.{contains_cases, contains_none, contains_filter, filter_contains}
 use Rattle.fvn_terms.specs.declared.plain.OpId.{OpId}
 use Rattle.fvn_forms.specs.Canon.{same_op}
 use Rattle.fvn_forms.proofs.Sums.{same_op_is, same_op_itself}
-use Rattle.fvn_nodes.specs.Table.{NodeTable, IsOver}
+use Rattle.fvn_nodes.specs.Table.{NodeTable, IsOrdered, IsOver}
 use Rattle.fvn_nodes.specs.declared.table.Node.{Node}
 use Rattle.fvn_nodes.specs.declared.table.Node.TheVariants.{Var, App}
-use Rattle.fvn_sums.specs.NodeSystems.{is_headed, pair, addends, sums}
+use Rattle.fvn_nodes.proofs.Nodes.{arguments_within}
+use Rattle.fvn_sums.specs.NodeSystems.{is_headed, pair, addends, sums, IsNodeColumn}
 
 pub pair_is : (ks : List ℕ) (p : ℕ × ℕ) → pair ks ≡ Some p → ks ≡ p.0 ∷ p.1 ∷ []
 pair_is [] p e = cc
@@ -53,3 +55,18 @@ pair_within n [] h = tt
 pair_within n (a ∷ []) h = tt
 pair_within n (a ∷ b ∷ []) h = (h 0 0 (omega arith), h 1 0 (omega arith))
 pair_within n (a ∷ b ∷ c ∷ ks) h = tt
+
+-- the class of a column is that of a node
+pub column_of_node : {t : NodeTable} {class : ℕ → ℕ} → IsOrdered t.nodes → (f : OpId) (k : ℕ) → IsNodeColumn t class f k → (i : ℕ) × ((i < length t.nodes) × (class i ≡ k))
+column_of_node {t} {class} ordered f k h =
+    let args = arguments_within t.nodes ordered h.sum f (h.left ∷ h.right ∷ []) h.over in
+    elim (contains_cases (class h.sum) (class h.left ∷ class h.right ∷ []) k h.among) [
+      | inl e ↦ (h.sum, (slice_get_within t.nodes h.sum (App f (h.left ∷ h.right ∷ [])) h.over, e))
+      | inr r ↦ elim (contains_cases (class h.left) (class h.right ∷ []) k r) [
+        | inl e ↦ (h.left, (args 0 0 (omega arith), e))
+        | inr q ↦ elim (contains_cases (class h.right) [] k q) [
+          | inl e ↦ (h.right, (args 1 0 (omega arith), e))
+          | inr z ↦ absurd (contains_none k z)
+        ]
+      ]
+    ]

@@ -4,7 +4,7 @@ use Rattle.std.specs.Prelude.{ℤ, pos, ◌-ℤ◌, ◌+◌, nat_eq, cond, if◌
 use Rattle.std.specs.List.{filter}
 use Rattle.std.proofs.lemmas.List.Elements.{All-head, All-tail, All-contains, All-contains_itself, All-weaker, Contains-append_left, Contains-append_right, Contains-append_cases}
 use Rattle.std.proofs.lemmas.Option.{slice_get_within}
-use Rattle.fvn_base.proofs.Membership.{contains_here, contains_later, contains_cases, contains_none, contains_map, map_contains, contains_filter, filter_contains}
+use Rattle.fvn_base.proofs.Membership.{contains_here, contains_later, contains_cases, contains_none, contains_map, contains_filter, filter_contains}
 use Rattle.fvn_terms.specs.declared.plain.OpId.{OpId}
 use Rattle.fvn_terms.specs.declared.declarations.Axioms.{Axioms}
 use Rattle.fvn_terms.specs.declared.declarations.Axioms.TheVariants.{Free, Comm, AssocComm, AssocCommId}
@@ -21,14 +21,16 @@ use Rattle.fvn_lindio.specs.declared.system.System.{System}
 use Rattle.fvn_flat.specs.Problems.{subterms, subterms_among, subterms_of, once}
 use Rattle.fvn_flat.specs.Partitions.{Heads}
 use Rattle.fvn_flat.specs.SumSystems.{is_headed_by, classes_of, coefficient as coefficient_of, row_of, IsClassOfIdentity, IsColumn, IsSumSystem}
-use Rattle.fvn_nodes.specs.Table.{nothing, NodeTable, IsWellMade, IsTableOf, IsUnitOf, IsOver, terms_of, term_at}
+use Rattle.fvn_nodes.specs.Table.{NodeTable, IsWellMade, IsTableOf, IsUnitOf, IsOver, term_at}
 use Rattle.fvn_nodes.specs.Laws.{class_at}
 use Rattle.fvn_nodes.specs.declared.table.Node.{Node}
 use Rattle.fvn_nodes.specs.declared.table.Node.TheVariants.{Var, App}
-use Rattle.fvn_nodes.proofs.Nodes.{length-terms_of, term_at-over, term_at-variable, term_at-injective, application_at, arguments_within, node_at}
+use Rattle.fvn_nodes.proofs.Nodes.{term_at-over, term_at-variable, term_at-injective, application_at, arguments_within, node_at}
+use Rattle.fvn_nodes.proofs.Terms.{once_contains, contains_once}
+use Rattle.fvn_nodes.proofs.Subterms.{listed_subterm}
+use Rattle.fvn_nodes.proofs.NodesOf.{listed_node, subterm_within, own_class}
 use Rattle.fvn_sums.specs.NodeSystems.{is_headed, pair, addends, HoldsArguments, coefficient, row_at, IsIdentityClass, IsNodeColumn, IsNodeSystem}
 use Rattle.fvn_sums.proofs.Members.{headed_over}
-use Rattle.fvn_sums.proofs.Terms.{once_contains, own_place}
 
 map_same : {A B : Type 0} (f g : A → B) → ((x : A) → f x ≡ g x) → (xs : List A) → map f xs ≡ map g xs
 map_same f g h [] = refl
@@ -78,38 +80,19 @@ below_listed_of (p ∷ problem) f us c u h = elim (Contains-append_cases (subter
   | inr r ↦ Contains-append_right (subterms p.0 ++ subterms p.1) (subterms_of problem) u (below_listed_of problem f us r u h)
 ]
 
-contains_once : (ts : List Term) (u : Term) → Contains (once ts) u → Contains ts u
-contains_once [] u c = c
-contains_once (t ∷ ts) u c = elim (contains_cases t (filter _ (once ts)) u c) [
-  | inl e ↦ subst (Contains (t ∷ ts)) e (contains_here t ts)
-  | inr r ↦ contains_later t ts u (contains_once ts u (filter_contains _ (once ts) u r).0)
-]
-
 module _ (d : Declarations) (problem : Problem) (t : NodeTable) (made : IsWellMade t) (table : IsTableOf d problem t) where
-  listed_term : (i : ℕ) → Contains t.subterms i → Contains (once (subterms_of problem)) (term_at t.nodes i)
-  listed_term i c = subst (λ l. Contains l (term_at t.nodes i)) table.subterms (contains_map (term_at t.nodes) t.subterms i c)
-
-  term_listed : (u : Term) → Contains (once (subterms_of problem)) u → (i : ℕ) × (Contains t.subterms i × (term_at t.nodes i ≡ u))
-  term_listed u c = map_contains (term_at t.nodes) t.subterms u (subst (λ l. Contains l u) (sym table.subterms) c)
-
-  subterm_within : (i : ℕ) → Contains t.subterms i → i < length t.nodes
-  subterm_within i c = All-contains (λ i. i < length t.nodes) t.subterms i made.subterms c
-
   pub holds_arguments : HoldsArguments t
   holds_arguments i f ks c over = All-weaker (λ k. Contains ks k) (Contains t.subterms) at ks (All-contains_itself ks)
     where
       at : (k : ℕ) → Contains ks k → Contains t.subterms k
       at k h =
-          let whole : Contains (subterms_of problem) (app f (pack (map (term_at t.nodes) ks))) = subst (Contains (subterms_of problem)) (term_at-over t.nodes made.ordered i f ks over) (contains_once (subterms_of problem) (term_at t.nodes i) (listed_term i c)) in
-          let r = term_listed (term_at t.nodes k) (once_contains (subterms_of problem) (term_at t.nodes k) (below_listed_of problem f (map (term_at t.nodes) ks) whole (term_at t.nodes k) (contains_map (term_at t.nodes) ks k h))) in
-          subst (Contains t.subterms) (term_at-injective t.nodes made.distinct r.0 k (subterm_within r.0 r.1.0) (All-contains (λ k. k < length t.nodes) ks k (arguments_within t.nodes made.ordered i f ks over) h) r.1.1) r.1.0
+          let whole : Contains (subterms_of problem) (app f (pack (map (term_at t.nodes) ks))) = subst (Contains (subterms_of problem)) (term_at-over t.nodes made.ordered i f ks over) (listed_subterm d problem t table i c) in
+          let r = listed_node made table (term_at t.nodes k) (below_listed_of problem f (map (term_at t.nodes) ks) whole (term_at t.nodes k) (contains_map (term_at t.nodes) ks k h)) in
+          subst (Contains t.subterms) (term_at-injective t.nodes made.distinct r.0 k (subterm_within made table r.0 r.1.0) (All-contains (λ k. k < length t.nodes) ks k (arguments_within t.nodes made.ordered i f ks over) h) r.1.1) r.1.0
 
   module _ (class : ℕ → ℕ) (f : OpId) where
     abbrev of_term : Term → ℕ
     of_term = class_at t class
-
-    own_class : (i : ℕ) → i < length t.nodes → of_term (term_at t.nodes i) ≡ class i
-    own_class i h = ap class (own_place (terms_of t.nodes) made.distinct i nothing (let l = length-terms_of t.nodes in omega (arith, h, l)))
 
     two_term : (i a b : ℕ) → IsOver t.nodes i f (a ∷ b ∷ []) → term_at t.nodes i ≡ two f (term_at t.nodes a) (term_at t.nodes b)
     two_term i a b over = term_at-over t.nodes made.ordered i f (a ∷ b ∷ []) over
@@ -126,9 +109,9 @@ module _ (d : Declarations) (problem : Problem) (t : NodeTable) (made : IsWellMa
         let u = term_at t.nodes a in
         let v = term_at t.nodes b in
         ap (classes_of of_term) (two_term i a b over)
-        ∙ ap (λ k. k ∷ of_term u ∷ of_term v ∷ []) (ap of_term (sym (two_term i a b over)) ∙ own_class i w.0)
-        ∙ ap (λ k. class i ∷ k ∷ of_term v ∷ []) (own_class a w.1)
-        ∙ ap (λ k. class i ∷ class a ∷ k ∷ []) (own_class b w.2)
+        ∙ ap (λ k. k ∷ of_term u ∷ of_term v ∷ []) (ap of_term (sym (two_term i a b over)) ∙ own_class made table class i w.0)
+        ∙ ap (λ k. class i ∷ k ∷ of_term v ∷ []) (own_class made table class a w.1)
+        ∙ ap (λ k. class i ∷ class a ∷ k ∷ []) (own_class made table class b w.2)
 
     -- the identity's class, by the signature and by the table
     identity_in : (k : ℕ) → Heads d problem f → (x : Axioms) → axioms d f ≡ x → IsClassOfIdentity of_term x k → IsIdentityClass t class f k
@@ -142,25 +125,25 @@ module _ (d : Declarations) (problem : Problem) (t : NodeTable) (made : IsWellMa
         let within : p.1 < length t.nodes = subst (λ q. q.1 < length t.nodes) r.3 (made.units r.0 p r.2) in
         let same : Some unit.constant_of ≡ Some o = sym unit.identity ∙ ap (λ g. identity (axioms d g)) r.4 ∙ ap identity e in
         let one : unit.constant_of ≡ o = cc in
-        (r.0, p, r.2, r.3, (r.4, sym (own_class p.1 within) ∙ ap of_term (unit.is ∙ ap constant one) ∙ h))
+        (r.0, p, r.2, r.3, (r.4, sym (own_class made table class p.1 within) ∙ ap of_term (unit.is ∙ ap constant one) ∙ h))
 
     identity_out : (k : ℕ) → IsIdentityClass t class f k → IsClassOfIdentity of_term (axioms d f) k
     identity_out k (j, p, l, at, same) =
         let unit : IsUnitOf d problem p.0 (term_at t.nodes p.1) = subst (λ q. IsUnitOf d problem q.0 (term_at t.nodes q.1)) at (table.units j p l) in
         let within : p.1 < length t.nodes = subst (λ q. q.1 < length t.nodes) at (made.units j p l) in
         let is : axioms d f ≡ AssocCommId unit.constant_of = identity_is (axioms d f) unit.constant_of (ap (λ g. identity (axioms d g)) (sym same.0) ∙ unit.identity) in
-        subst (λ x. IsClassOfIdentity of_term x k) (sym is) (ap of_term (sym unit.is) ∙ own_class p.1 within ∙ same.1)
+        subst (λ x. IsClassOfIdentity of_term x k) (sym is) (ap of_term (sym unit.is) ∙ own_class made table class p.1 within ∙ same.1)
 
     column_to : (k : ℕ) → IsNodeColumn t class f k → IsColumn d problem of_term f k
     column_to k h =
         let u = term_at t.nodes h.left in
         let v = term_at t.nodes h.right in
         let is = two_term h.sum h.left h.right h.over in
-        let there = listed_term h.sum h.listed in
-        let heads : Heads d problem f = record { arguments = more u (more v none); listed = subst (Contains (subterms_of problem)) is (contains_once (subterms_of problem) (term_at t.nodes h.sum) there) } in
+        let there = listed_subterm d problem t table h.sum h.listed in
+        let heads : Heads d problem f = record { arguments = more u (more v none); listed = subst (Contains (subterms_of problem)) is there } in
         record {
           sum = term_at t.nodes h.sum;
-          listed = contains_filter (is_headed_by f) (once (subterms_of problem)) (term_at t.nodes h.sum) there (ap (is_headed_by f) is ∙ same_op_itself f);
+          listed = contains_filter (is_headed_by f) (once (subterms_of problem)) (term_at t.nodes h.sum) (once_contains (subterms_of problem) (term_at t.nodes h.sum) there) (ap (is_headed_by f) is ∙ same_op_itself f);
           among = subst (λ l. Contains l k) (sym (classes_are h.sum h.left h.right h.over)) h.among;
           no_identity = λ z. h.no_identity (identity_in k heads (axioms d f) refl z);
         }
@@ -182,8 +165,8 @@ module _ (d : Declarations) (problem : Problem) (t : NodeTable) (made : IsWellMa
     column_back k h =
         let c = filter_contains (is_headed_by f) (once (subterms_of problem)) h.sum h.listed in
         let b = binary h.sum k c.1 h.among in
-        let r = term_listed h.sum c.0 in
-        let a = application_at t.nodes made.ordered r.0 f (more b.first (more b.second none)) (subterm_within r.0 r.1.0) (r.1.1 ∙ b.is) in
+        let r = listed_node made table h.sum (contains_once (subterms_of problem) h.sum c.0) in
+        let a = application_at t.nodes made.ordered r.0 f (more b.first (more b.second none)) (subterm_within made table r.0 r.1.0) (r.1.1 ∙ b.is) in
         go r.0 r.1.0 a.arguments a.is a.terms (subst (λ u. Contains (classes_of of_term u) k) (sym r.1.1) h.among)
       where
         go : (i : ℕ) → Contains t.subterms i → (ks : List ℕ) → IsOver t.nodes i f ks → {u v : Term} → pack (map (term_at t.nodes) ks) ≡ more u (more v none) → Contains (classes_of of_term (term_at t.nodes i)) k → IsNodeColumn t class f k
@@ -221,9 +204,9 @@ module _ (d : Declarations) (problem : Problem) (t : NodeTable) (made : IsWellMa
             let w = both_within i a b over in
             let u = term_at t.nodes a in
             let v = term_at t.nodes b in
-            ap (λ x. difference k x (class b) (class i)) (sym (own_class a w.1))
-            ∙ ap (λ y. difference k (of_term u) y (class i)) (sym (own_class b w.2))
-            ∙ ap (λ z. difference k (of_term u) (of_term v) z) (sym (own_class i w.0) ∙ ap of_term (two_term i a b over))
+            ap (λ x. difference k x (class b) (class i)) (sym (own_class made table class a w.1))
+            ∙ ap (λ y. difference k (of_term u) y (class i)) (sym (own_class made table class b w.2))
+            ∙ ap (λ z. difference k (of_term u) (of_term v) z) (sym (own_class made table class i w.0) ∙ ap of_term (two_term i a b over))
         go (a ∷ b ∷ x ∷ ks) over = refl
 
     row_same : (columns : List ℕ) (i : ℕ) → is_headed f (slice_get t.nodes i) ≡ true → row_at t class f columns i ≡ row_of of_term columns (term_at t.nodes i)

@@ -3,45 +3,36 @@ use Rattle.std.proofs.Common.{◌≡◌, ℕ, zero, suc, ◌<◌, List, [], ◌�
 use Rattle.std.proofs.lemmas.List.{length-map, get_or-map}
 use Rattle.std.proofs.lemmas.List.Elements.{All-head, All-tail, All-map}
 use Rattle.std.proofs.lemmas.Option.{slice_get_within}
-use Rattle.fvn_terms.specs.declared.plain.OpId.{OpId}
 use Rattle.fvn_terms.specs.declared.plain.SortId.{SortId}
 use Rattle.fvn_terms.specs.declared.declarations.Declarations.{Declarations}
-use Rattle.fvn_terms.specs.Term.{Term, pack}
-use Rattle.fvn_terms.specs.Substitution.{Substitution, apply, apply_all}
+use Rattle.fvn_terms.specs.Term.{Term}
+use Rattle.fvn_terms.specs.Substitution.{Substitution, apply}
 use Rattle.fvn_terms.specs.Signature.{HasKind, KeepsKinds}
 use Rattle.fvn_terms.specs.Equality.{BEqual}
 use Rattle.fvn_terms.specs.Unifiers.{Problem}
 use Rattle.fvn_terms.proofs.Equal.{HasKind-apply}
-use Rattle.fvn_forms.specs.Flat.{FlatTerm, fvar}
-use Rattle.fvn_forms.specs.Canon.{build, eval_all, canon}
+use Rattle.fvn_forms.specs.Flat.{FlatTerm}
+use Rattle.fvn_forms.specs.Canon.{build, canon}
 use Rattle.fvn_forms.specs.FitsKinds.{FitsKinds}
 use Rattle.fvn_forms.proofs.Eval.{canon_settled, canon_respects}
 use Rattle.fvn_forms.proofs.ToCanon.{b_equal_iff_canon}
 use Rattle.fvn_flat.specs.Problems.{IsProblem}
 use Rattle.fvn_flat.specs.SolvedLists.{IsKindUnifier}
-use Rattle.fvn_nodes.specs.Table.{NodeTable, term_at, IsOver, IsOrdered, IsWellMade, IsTableOf}
+use Rattle.fvn_nodes.specs.Table.{NodeTable, term_at, IsWellMade, IsTableOf}
 use Rattle.fvn_nodes.specs.States.{Admits, IsNaming, class_of}
 use Rattle.fvn_nodes.specs.Unifiers.{value_at, kernel}
 use Rattle.fvn_nodes.specs.Laws.{UnifiersPartition}
 use Rattle.fvn_nodes.specs.declared.state.State.{State}
 use Rattle.fvn_nodes.specs.declared.table.Node.{Node}
 use Rattle.fvn_nodes.specs.declared.table.Node.TheVariants.{Var, App}
-use Rattle.fvn_nodes.proofs.Nodes.{term_at-over, term_at-variable, node_at, arguments_within}
+use Rattle.fvn_nodes.proofs.Nodes.{term_at-variable, node_at, arguments_within}
 use Rattle.fvn_nodes.proofs.Admitting.{named_within}
+use Rattle.fvn_nodes.proofs.Heading.{value_over}
 use Rattle.fvn_sums.specs.Values.{AreValues, Gives}
 
 map_same : {A B : Type 0} (f g : A → B) (P : A → Type 0) → ((x : A) → P x → f x ≡ g x) → (xs : List A) → All P xs → map f xs ≡ map g xs
 map_same f g P h [] all = refl
 map_same f g P h (x ∷ xs) all = ap (λ y. y ∷ map f xs) (h x (All-head P x xs all)) ∙ ap (λ ys. g x ∷ ys) (map_same f g P h xs (All-tail P x xs all))
-
--- the value of an operator over nodes is built from the values of these
-module _ (d : Declarations) (s : Substitution) (nodes : List Node) where
-  values_of : (ks : List ℕ) → eval_all d fvar (apply_all s (pack (map (term_at nodes) ks))) ≡ map (value_at d s nodes) ks
-  values_of [] = refl
-  values_of (k ∷ ks) = ap (λ l. value_at d s nodes k ∷ l) (values_of ks)
-
-  value_over : IsOrdered nodes → (i : ℕ) (f : OpId) (ks : List ℕ) → IsOver nodes i f ks → value_at d s nodes i ≡ build d f (map (value_at d s nodes) ks)
-  value_over ordered i f ks is = ap (λ t. canon d (apply s t)) (term_at-over nodes ordered i f ks is) ∙ ap (build d f) (values_of ks)
 
 pub unifiers_have_values : UnifiersPartition → (d : Declarations) → FitsKinds d → (problem : Problem) → IsProblem d problem → (t : NodeTable) → IsWellMade t → IsTableOf d problem t → (s : Substitution) → IsKindUnifier d problem s → (r : State) → length r.names ≡ length t.nodes → IsNaming r →
     Admits r (kernel d s t.nodes) → AreValues d t (class_of r) (value_at d s t.nodes)

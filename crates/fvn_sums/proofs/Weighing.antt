@@ -10,7 +10,7 @@ use Rattle.fvn_lindio.specs.Systems.{above, below, up, down, IsZeroAt}
 use Rattle.fvn_flat.specs.SolvedLists.{component}
 
 -- a difference is above zero or below by what its parts differ
-balance : (m n : ℕ) → above (pos m -ℤ pos n) + n ≡ below (pos m -ℤ pos n) + m
+pub balance : (m n : ℕ) → above (pos m -ℤ pos n) + n ≡ below (pos m -ℤ pos n) + m
 balance m zero = omega arith
 balance m (suc n) = go (nat_lt m (suc n)) refl
   where

@@ -32,7 +32,7 @@ pub agree_swap : (row : List ℤ) (x y : List ℕ) → length x ≡ length y →
 agree_swap row x y n h j l = elim (h j (omega (arith, n))) [ inl z ↦ inl z | inr e ↦ inr (sym e) ]
 
 -- whether a number is zero
-zero_told : (z : ℤ) → Decided (z ≡ pos 0)
+pub zero_told : (z : ℤ) → Decided (z ≡ pos 0)
 zero_told (pos zero) = inl refl
 zero_told (pos (suc n)) = inr (λ e. let f : above (pos (suc n)) ≡ 0 = ap above e in omega (arith, f))
 zero_told (negsuc n) = inr (λ e. let f : below (negsuc n) ≡ 0 = ap below e in omega (arith, f))

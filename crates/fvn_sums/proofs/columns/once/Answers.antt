@@ -5,7 +5,8 @@ use Rattle.std.proofs.lemmas.List.{take_more}
 use Rattle.fvn_nodes.specs.States.{class_of}
 use Rattle.fvn_sums.specs.NodeSystems.{IsIdentityClass}
 use Rattle.fvn_sums.specs.inner.Collecting.{AreOnce}
-use Rattle.fvn_sums.proofs.Collected.{has, has-contains, contains-has, once_new, once_old, once_left}
+use Rattle.fvn_nodes.proofs.Once.{has, has-contains, contains-has}
+use Rattle.fvn_sums.proofs.Collected.{once_new, once_old, once_left}
 use Rattle.fvn_sums.proofs.columns.once.Goals as goal
 
 pub loop-k-preserved-then-contains : goal.loop-k-preserved-then-contains

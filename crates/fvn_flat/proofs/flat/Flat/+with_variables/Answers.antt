@@ -1,7 +1,7 @@
 -- The variables of one more argument.
 use Rattle.std.proofs.Common.{sym, ap, ◌∙◌}
 use Rattle.fvn_flat.specs.Variables.{with_variables}
-use Rattle.fvn_flat.proofs.Renamings.{with_all-step}
+use Rattle.fvn_flat.proofs.ListedVariables.{with_all-step}
 use Rattle.fvn_flat.proofs.flat.Flat.+with_variables.Goals as goal
 
 pub loop-t-preserved : goal.loop-t-preserved
