@@ -1,6 +1,8 @@
 //! Terms and names, each rule with its edges.
 use fvn_base::Seq;
-use fvn_syntax::{Kinded, Names, Piece, Scope, Seen, TermFault, Texts, Variables, cut, read_term, skip_term};
+use fvn_syntax::{
+    Kinded, Names, Piece, Scope, Seen, TermFault, Texts, Variables, cut, read_term, skip_term,
+};
 use fvn_terms::{Args, Axioms, Declarations, OpDecl, OpId, Plain, Rank, SortId};
 use std::alloc::Global;
 use std::test::Fail;
@@ -138,6 +140,14 @@ fn texts_of(alloc: Global, words: &str) -> Result<Texts, Fail> {
         texts.insert(alloc, word.as_bytes())?;
     }
     Ok(texts)
+}
+
+fn sorts_of(alloc: Global, numbers: &[u16]) -> Result<Seq<SortId>, Fail> {
+    let mut sorts = Vec::new(alloc);
+    for n in numbers {
+        sorts.push(SortId(*n))?;
+    }
+    Ok(Seq::from_vec(sorts))
 }
 
 // Each line has the axioms of an operator, and the sorts of its arguments and of its result.
