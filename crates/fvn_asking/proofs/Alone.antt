@@ -14,6 +14,7 @@ use Rattle.fvn_flat.specs.SolvedLists.{component}
 use Rattle.fvn_nodes.specs.Table.{NodeTable, IsWellMade}
 use Rattle.fvn_nodes.specs.States.{IsClosed, class_of}
 use Rattle.fvn_nodes.specs.declared.state.State.{State}
+use Rattle.fvn_nodes.proofs.Lists.{all_from}
 use Rattle.fvn_frames.specs.Readings.{IsReading}
 use Rattle.fvn_frames.specs.declared.reading.Sums.{Sums}
 use Rattle.fvn_frames.specs.declared.reading.Reading.{Reading}
@@ -23,7 +24,7 @@ use Rattle.fvn_frames.specs.Users.{IsSharedIn}
 use Rattle.fvn_plans.specs.Binding.{IsConstant}
 use Rattle.fvn_asking.specs.inner.Reads.{IsBoundIn, AreConstantsOf, HasOneOf, MayBeAliasIn}
 use Rattle.fvn_asking.proofs.Chosen.{chosen_all}
-use Rattle.fvn_asking.proofs.Reading.{all_from, are_sums, sums_whole, shared_in, shared_from}
+use Rattle.fvn_frames.proofs.ReadOfState.{are_sums, sums_whole, shared_in, shared_from}
 use Rattle.fvn_asking.proofs.Binding.{bound_iff}
 use Rattle.fvn_asking.proofs.Demands.{constant_at}
 
