@@ -135,7 +135,9 @@ m X:S =? Y:S # {X:S --> f(f(Q1:S,Q2:S),f(Q3:S,Q4:S)), Y:S --> f(f(Q5:S,Q6:S),f(Q
 m X:S =? Y:S # {X:S --> _+_(Q7:S,Q6:S,Q5:S,Q4:S,Q3:S,Q2:S,Q1:S), Y:S --> f(Q3:S,_+_(Q1:S,Q8:S))} => read back
 m X:S =? Y:S # {X:S --> _+_(Q1:S,Q2:S,Q3:S,Q4:S,Q5:S,Q6:S,Q7:S,Q8:S,Q9:S,Q10:S,Q11:S)} => read back
 m f(X:S,Y:S) =? Z:S # {X:S --> c(f(Q1:S,Q2:S),f(Q3:S,a)), Y:S --> _+_(Q4:S,Q5:S,Q6:S), Z:S --> f(Q7:S,b)} => read back
-m f(f(A:S,B:S),f(C:S,D:S)) =? f(f(E:S,F:S),G:S) # {} => read back";
+m f(f(A:S,B:S),f(C:S,D:S)) =? f(f(E:S,F:S),G:S) # {} => read back
+u f(V1:S,f(V2:S,f(V3:S,f(V4:S,f(V5:S,f(V6:S,f(V7:S,f(V8:S,f(V9:S,f(V10:S,f(V11:S,f(V12:S,f(V13:S,f(V14:S,f(V15:S,f(V16:S,f(V17:S,f(V18:S,f(V19:S,V20:S))))))))))))))))))) =? a # {V1:S --> Q4:S, V2:S --> c(Q2:S,Q4:S), V3:S --> a, V4:S --> _+_(Q2:S,b,Q2:S), V5:S --> f(Q1:S,a), V6:S --> Q2:S, V7:S --> c(Q1:S,Q6:S), V8:S --> a, V9:S --> _+_(Q5:S,b,Q6:S), V10:S --> f(Q3:S,a), V11:S --> Q1:S, V12:S --> c(Q5:S,Q1:S), V13:S --> a, V14:S --> _+_(Q4:S,b,Q5:S), V15:S --> f(Q4:S,a), V16:S --> Q3:S, V17:S --> c(Q4:S,Q3:S), V18:S --> a, V19:S --> _+_(Q1:S,b,Q4:S), V20:S --> f(Q6:S,a)} => {V1:S --> #1:S, V2:S --> c(#1:S,#2:S), V3:S --> a, V4:S --> _+_(#2:S,#2:S,b), V5:S --> f(#3:S,a), V6:S --> #2:S, V7:S --> c(#3:S,#4:S), V8:S --> a, V9:S --> _+_(#4:S,#5:S,b), V10:S --> f(#6:S,a), V11:S --> #3:S, V12:S --> c(#3:S,#5:S), V13:S --> a, V14:S --> _+_(#1:S,#5:S,b), V15:S --> f(#1:S,a), V16:S --> #6:S, V17:S --> c(#1:S,#6:S), V18:S --> a, V19:S --> _+_(#1:S,#3:S,b), V20:S --> f(#4:S,a)}
+m f(V1:S,f(V2:S,f(V3:S,f(V4:S,f(V5:S,f(V6:S,f(V7:S,f(V8:S,f(V9:S,f(V10:S,f(V11:S,f(V12:S,f(V13:S,f(V14:S,f(V15:S,f(V16:S,f(V17:S,f(V18:S,f(V19:S,V20:S))))))))))))))))))) =? a # {} => read back";
 
 // Each row has what an end is, lines with strokes between, and the text of the answer, where a stroke stands for a line
 // feed.

@@ -47,3 +47,6 @@ pub const NEXT_FRESH: u32 = 2_000_000;
 
 /// The first number of a new variable that the expansion of a variant may be given.
 pub const EXPANDED_FRESH: u32 = 2_000_000_000;
+
+/// From here on a number in a rank names a kind, and not a sort.
+pub const FIRST_KIND: u16 = 32_768;

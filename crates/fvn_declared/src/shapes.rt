@@ -8,14 +8,12 @@ ghost use Rattle.fvn_declared.specs.inner.Shapes.{own_axioms, shape_of};
 ghost use Rattle.fvn_syntax.specs.Texts.{place_or_end};
 
 use fvn_base::Seq;
+use fvn_base::limits::FIRST_KIND;
 use fvn_naming::{Vocabulary, has_ditto};
 use fvn_statements::{Attribute, RawRank};
 use fvn_syntax::{RawSort, Texts};
 use fvn_terms::{Axioms, NoMemory, OpId, Rank, SortId};
 use std::alloc::Global;
-
-/// From here on a number in a rank names a kind.
-const FIRST_KIND: u16 = 32768;
 
 /// A rank, whether it is partial, and axioms unless they are those of an earlier declaration.
 #[derive(Drop)]

@@ -13,11 +13,9 @@ ghost use Rattle.fvn_drafts.specs.Collected.{
 
 use crate::collected::{Collected, Declaration};
 use fvn_base::Seq;
+use fvn_base::limits::FIRST_KIND;
 use fvn_terms::{Axioms, Declarations, NoMemory, OpDecl, OpId, Rank, SortId};
 use std::alloc::Global;
-
-/// From here on a number in a rank names a kind.
-const FIRST_KIND: u16 = 32768;
 
 /// The sort that a number in a rank names.
 fn meant(collected: &Collected, list: &[SortId], s: SortId) -> SortId

@@ -87,6 +87,12 @@ p #1:A =? ***( => comment 8
 p X =? ***( =? => comment 5
 p q ~ => byte 2
 p X =? a --- b$ . => X:A = a | X:A
+p \r$X =?\r$  a\r$ => X:A = a | X:A
+p X =? Y /\\\r$  f(X) =? X:A .\r$ => X:A = Y:B & f(X:A) = X:A | X:A Y:B
+p X =? a --- b\r$ . => X:A = a | X:A
+p X =? --- b\r a => text
+p X\r=?\r\ra\r.\r => X:A = a | X:A
+p X =? a`\r$ => unknown
 t @ => byte 0
 t a *** ~ => a |
 t a => a |
@@ -94,6 +100,7 @@ t a . => a |
 t (a) => a |
 t f(X) => f(X:A) | X:A
 t +(Y,X,Y) . => +(Y:B,+(X:A,Y:B)) | Y:B X:A
+t \r$f(X)\r$ .\r$ => f(X:A) | X:A
 t a =? b => text
 t a . . => text
 t . => text
@@ -124,6 +131,7 @@ b X =? Y # {Y --> +(#1:A,Q:B)} => Y:B := +(2:A,3:B)
 b X =? Y # {Y --> +(#1:A,#1:B), X --> #1:A} => Y:B := +(2:A,2:B); X:A := 2:A
 b X =? X:B # {X --> a, X:B --> b} => X:A := a; X:B := b
 b a =? b # {} =>
+b X =?\rY # {\r$  X --> a,\r$  Y --> --- c\r$ b\r$}\r$ => X:A := a; Y:B := b
 b X =? Y #  => text
 b X =? Y # {} . => text
 b X =? Y # {X --> a} . => text
@@ -190,7 +198,29 @@ b dec(X,k) =? a # {X:Msg --> enc(a,k)} => X:Msg := enc(a,k)
 Elt; Set; Elt < Set; a : -> Elt; b : -> Elt; mt : -> Set; _;_ : Set Set -> Set [assoc comm id: mt]; X:Set; Y:Set
 b E:Elt =? a # {E:Elt --> _;_(a,b)} => sort
 b E:Elt =? a # {E:Elt --> _;_(a,mt)} => E:Elt := _;_(a,mt)
-b _;_(X,mt) =? X # {} =>";
+b _;_(X,mt) =? X # {} =>
+
+S`; T`{S`}; S` < T`{S`}; a` : -> S`; `( : -> T`{S`}; f`,g : S` T`{S`} -> S`; X`:S`; `Y:T`{S`}
+p X` =? a` => X`:S` = a` | X`:S`
+p f`,g(X` ,`() =? a` => f`,g(X`:S`,`() = a` | X`:S`
+p f`,g(a` ,f`,g(X` ,`Y)) =? X`:S` . => f`,g(a`,f`,g(X`:S`,`Y:T`{S`})) = X`:S` | X`:S` `Y:T`{S`}
+p (X` ) =? ((a` )) => X`:S` = a` | X`:S`
+p Z`:T`{S`} =? `( => Z`:T`{S`} = `( | Z`:T`{S`}
+p Z`:[S` ] =? Z`:[T`{S`}] => Z`:*2 = Z`:*2 | Z`:*2
+p f`,g(X`,`() =? a` => unknown
+p f`,g`(X` ,`() =? a` => text
+p (X`) =? a` => text
+p Z`:[S`] =? a` => text
+p X` =? a`\r => X`:S` = a` | X`:S`
+p a` =? f`,g => unknown
+p `# =? a` => unknown
+p #`:S` =? a` => reserved
+t f`,g(X` ,`Y)\r$ => f`,g(X`:S`,`Y:T`{S`}) | X`:S` `Y:T`{S`}
+b X` =? `Y # {X` --> a` , `Y --> `(} => X`:S` := a`; `Y:T`{S`} := `(
+b X` =? `Y # {\r$X` -->\r$f`,g(a` ,`()\r$} => X`:S` := f`,g(a`,`()
+b X` =? `Y # {X` --> a`, `Y --> `(} => text
+b X` =? `Y # {X` --> a`} => text
+b X` =? `Y # {X` --> `(} => sort";
 
 fn shown_problem(alloc: Global, module: &Module, problem: &Problem) -> Result<String, NoMemory> {
     let mut out = String::new(alloc);

@@ -152,3 +152,25 @@ fn rules_are_these(rt: HostRuntime) -> Result<(), NoMemory> {
     }
     Ok(())
 }
+
+// Adds 256 equations to statements, and the rule of each to what is shown: a free left side has no other.
+fn push_many(alloc: Global, statements: &mut String, want: &mut String) -> Result<(), NoMemory> {
+    let mut before = "";
+    for n in 1..=256u32 {
+        statements.push_str(" eq g(g(X)) = a [variant] .")?;
+        want.push_str(&format!(in alloc; "{before}{n} f1(f1(x0)) = f0")?)?;
+        before = ", ";
+    }
+    Ok(())
+}
+
+#[test]
+fn as_many_equations_as_a_module_has(rt: HostRuntime) -> Result<(), NoMemory> {
+    let alloc = rt.alloc();
+    let mut statements = String::new(alloc);
+    let mut want = String::new(alloc);
+    statements.push_str("sort S . op a : -> S . op g : S -> S . var X : S .")?;
+    push_many(alloc, &mut statements, &mut want)?;
+    want.push_str(" | f1 1")?;
+    assert_shown(&rt, alloc, statements.as_str(), want.as_str())
+}

@@ -7,12 +7,10 @@ ghost use Rattle.std.specs.Prelude.{◌≤◌, ◌<◌, All, IsTrue};
 ghost use Rattle.fvn_sorts.specs.Collected.{Names};
 
 use fvn_base::Seq;
+use fvn_base::limits::FIRST_KIND;
 use fvn_sorts::{Signature, SignatureBuilder};
 use fvn_terms::{Axioms, NoMemory, OpId, Rank, SortId};
 use std::alloc::Global;
-
-/// The number of the kind of the first sort in a rank.
-const KIND: u16 = 32768;
 
 /// More operators than a signature has.
 const MOST_OPERATORS: u16 = 1000;
@@ -26,7 +24,7 @@ fn names(sorts: u16, s: SortId) -> bool
     if s.0 < sorts {
         return true;
     }
-    s.0 >= KIND && s.0 - KIND < sorts
+    s.0 >= FIRST_KIND && s.0 - FIRST_KIND < sorts
 }
 
 fn all_names(sorts: u16, list: &[SortId]) -> bool
@@ -51,7 +49,7 @@ fn number(word: &str, first: u8) -> u16 {
 /// A sort is a letter from A on, and its kind this letter in brackets.
 pub fn sort_of(word: &str) -> SortId {
     match word.strip_prefix("[") {
-        Some(rest) => SortId(number(rest, b'A').wrapping_add(KIND)),
+        Some(rest) => SortId(number(rest, b'A').wrapping_add(FIRST_KIND)),
         None => SortId(number(word, b'A')),
     }
 }

@@ -33,6 +33,19 @@ vars X Y : [A,B] . => read, vars 2 [A]
 var : : A . => read, vars 1 A
 var X : : . => read, vars 1 :
 vars : X : A : A . => read, vars 4 A
+op a` : -> A . => read, op 1 0 -> A 0
+op f`[a`] : A` -> A` . => read, op 1 1 -> A` 0
+op f : [A` ] -> [B` ,A] . => read, op 1 1 -> [B`] 0
+op f : A A -> A [assoc comm id: e` ] . => read, op 1 2 -> A 3
+ops a` `( _`,_ : A A -> A [assoc comm] . => read, ops 3 2 -> A 2
+ops (a` ) b : -> A . => read, ops 2 0 -> A 0
+vars X` `Y : [A` ] . => read, vars 2 [A`]
+subsort A` < B` . => read, subsorts 2
+sort A .\r\tsubsort A < B .\r => read, sorts 1, subsorts 2
+sort A`. => statement 1
+op f : [A`] -> A . => statement 1
+op f : A A -> A [assoc comm id: e`] . => left out 1 Identity
+ops (a`) b : -> A . => statement 1
 op . : -> A . => statement 1
 . => statement 1
 sort A => statement 1
@@ -136,6 +149,11 @@ eq X: = b [variant] . => read, eq 1 = 1 [variant]
 eq : = a [variant] . => read, eq 1 = 1 [variant]
 eq a = : [variant] . => read, eq 1 = 1 [variant]
 eq a = X:S [variant] . => read, eq 1 = 1 [variant]
+eq f`(a`,b`) = a` [variant] . => read, eq 1 = 1 [variant]
+eq f` (a` ,b` ) = X:[A` ] [label l` variant] . => read, eq 6 = 4 [label l` variant]
+eq\r[l` ]\r: a\r=\rb`\r[variant]\r.\r => read, eq [l`] : 1 = 1 [variant]
+eq f(a`) = b [variant] . => statement 1
+eq [l`] : a = b [variant] . => statement 1
 eq a = b . => left out 1 Equation
 eq [l] : a = b . => left out 1 Equation
 eq a = X: . => left out 1 Equation
@@ -346,29 +364,35 @@ fn equations(rt: HostRuntime) -> Result<(), Fail> {
     Ok(())
 }
 
-// Each line has a whole text, and what is read of it.
-const TEXTS: &str = "fmod M is endfm => read
-fmod fmod is endfm => read
-fmod is is endfm => read
- => header
-fmod M is => header
-fmod M endfm => header
-fmod is endfm => header
-fmod endfm is endfm => header
-fmod ( is endfm => header
-fmod . is endfm => header
-mod M is endfm => header
-fmod M is endfm endfm => header
-fmod M is sort A . endfm . => header
-fmod M is sort endfm . endfm => header
-fmod M is sort A endfm => statement 1
-fmod M is sort A . --- sort . => header
-fmod M is ---( endfm => byte 10";
+// Each row has a whole text, and what is read of it.
+const TEXTS: &str = "\
+    fmod M is endfm => read;\
+    fmod fmod is endfm => read;\
+    fmod is is endfm => read;\
+    \u{20}=> header;\
+    fmod M is => header;\
+    fmod M endfm => header;\
+    fmod is endfm => header;\
+    fmod endfm is endfm => header;\
+    fmod ( is endfm => header;\
+    fmod . is endfm => header;\
+    mod M is endfm => header;\
+    fmod M is endfm endfm => header;\
+    fmod M is sort A . endfm . => header;\
+    fmod M is sort endfm . endfm => header;\
+    fmod M is sort A endfm => statement 1;\
+    fmod M is sort A . --- sort . => header;\
+    fmod M is ---( endfm => byte 10;\
+    fmod M` is endfm => read;\
+    fmod M`{X`} is\rsort A .\rendfm\r => read, sorts 1;\
+    fmod M is --- a comment .\r\nsort A .\r\nendfm => read, sorts 1;\
+    fmod M is --- a comment .\rsort A .\rendfm => header;\
+    fmod M is\r\n  sorts A` B .\r\n  subsort A` < B .\r\n  op f`( : A` -> B [ctor] .\r\n  vars X` Y : B .\r\n  eq [l` ] : f`( (X` ) = X` [variant] .\r\nendfm\r\n => read, sorts 2, subsorts 2, op 1 1 -> B 1, vars 2 B, eq [l`] : 4 = 1 [variant]";
 
 #[test]
 fn texts(rt: HostRuntime) -> Result<(), Fail> {
-    for line in TEXTS.lines() {
-        if let Some((text, want)) = line.rsplit_once(" => ") {
+    for row in TEXTS.split(';') {
+        if let Some((text, want)) = row.rsplit_once(" => ") {
             assert_eq!(rt;
                 shown(rt.alloc(), text.as_bytes())?.as_str(),
                 want,

@@ -27,6 +27,7 @@ const WITH_ELEMENTS: &str =
 // end stands twice, since it is told again.
 const UNIFIED: &str = "A0 A1 i = f h A2 i => 1 | A0 f h; A1 A1; A2 A1
 A0 h A1 i = A1 A2 i => 1 | A0 A1; A1 A1 h; A2 A1 h
+A0 A1 i A2 i A3 i A4 i A5 i A6 i A7 i A8 i A9 i Ab i Ac i Ad i Ae i Af i Ag i Ah i Ai i Aj i Ak i = f g i f i g i f i g i f i g i f i g i f i g i f i g i f i g i f i g i f i g i => 1 | A0 f; A1 g; A2 f; A3 g; A4 f; A5 g; A6 f; A7 g; A8 f; A9 g; Ab f; Ac g; Ad f; Ae g; Af f; Ag g; Ah f; Ai g; Aj f; Ak g
 A0 A0 i = A1 A1 h i => 0
 f h = g h => 0
 f = f => 1
@@ -94,7 +95,8 @@ f h = g h => complete 0
 A0 A0 i = A1; A1 A1 i = A2; A2 A2 i = A3 => complete 1
 A0 A0 i = A1; A1 A1 i = A2; A2 A2 i = A3; A3 A3 i = A4 => size 0
 f f i f f i i f f i f f i i i = f f i f f i i f f i f f i i i => problem 0
-A0 A1 k A2 k A3 k A4 k = A5 A6 k A7 k A8 k A9 k => basis 0";
+A0 A1 k A2 k A3 k A4 k = A5 A6 k A7 k A8 k A9 k => basis 0
+A0 = A1; A2 = A3; A4 = A5; A6 = A7; A8 = A9; Ab = Ac; Ad = Ae; Af = Ag; Ah = Ai; Aj = Ak => complete 1";
 
 /// What is found of the unifiers of a problem that may be given.
 fn push_unified(

@@ -6,8 +6,8 @@ use fvn_terms::NoMemory;
 //
 // First stand the variables whose values are to have their sorts, where there are any, and then each variable with
 // its term. Of refinements only the terms are shown. A term is written with each operator after its arguments, a
-// variable as the letter of its sort and a number. The summands of a flat sum stand in square brackets. Kinds have
-// the letters after the sorts.
+// variable as the letter of its sort and a number, behind 9 a letter from b on, which is shown as 0, 1 and so on.
+// The summands of a flat sum stand in square brackets. Kinds have the letters after the sorts.
 //
 // The signatures are: even and odd numbers with a free sum; sets of elements with the empty set; numbers of which
 // some are zero, with a sum that has no identity; two sorts with two maximal lower ones, and a partial operator; two
@@ -27,6 +27,7 @@ A9, B8, C7 | C7 D2; A9 D0 D1 f; B8 D1 D2 f => A2; f(B0 B1); f(B1 A2) & B2; f(A0 
 A9 D0 D1 f; B8 D1 D2 f => f(D0 D1); f(D1 D2)
 A9 | A9 D0 D1 f; B8 D1 D2 f => f(A0 A1); f(A1 D2) & f(B0 B1); f(B1 D2)
 A9, A9 | A9 D0 D1 f; B8 D2 => f(A0 A1); D2 & f(B0 B1); D2
+A0, C1, C2, C3, C4, C5, C6, C7, C8, C9, Cb, Cc, Cd, Ce, Cf, Cg, Ch, Ci, Cj, Ck | A0 D0 D1 f; C1 D1; C2 D2; C3 D3; C4 D4; C5 D5; C6 D6; C7 D7; C8 D8; C9 D9; Cb Db; Cc Dc; Cd Dd; Ce De; Cf Df; Cg Dg; Ch Dh; Ci Di; Cj Dj; Ck Dk => f(A0 A1); A1; C2; C3; C4; C5; C6; C7; C8; C9; C0; C1; C2; C3; C4; C5; C6; C7; C8; C9 & f(B0 B1); B1; C2; C3; C4; C5; C6; C7; C8; C9; C0; C1; C2; C3; C4; C5; C6; C7; C8; C9
 
 A B; A < B; f : B B -> B [assoc comm id: g]; g : -> B; h : -> A
 A9, B8, B7 | A9 C0 C1 f; B8 C0; B7 C1 => no

@@ -5,14 +5,12 @@ ghost use Rattle.fvn_sorts.specs.Collected.{Names as Named};
 ghost use Rattle.fvn_problems.specs.Scopes.{AreNamesOf};
 
 use fvn_base::Seq;
+use fvn_base::limits::FIRST_KIND;
 use fvn_sorts::{Signature, SignatureBuilder};
 use fvn_syntax::{Names, Texts, Variables};
 use fvn_terms::{Axioms, NoMemory, OpId, Rank, SortId};
 use std::alloc::Global;
 use std::process::Abort;
-
-/// The number of the kind of the first sort in a rank.
-const KIND: u16 = 32768;
 
 /// A signature and its names.
 #[derive(Drop)]
@@ -27,7 +25,7 @@ fn names(sorts: u16, s: SortId) -> bool
     if s.0 < sorts {
         return true;
     }
-    s.0 >= KIND && s.0 - KIND < sorts
+    s.0 >= FIRST_KIND && s.0 - FIRST_KIND < sorts
 }
 
 fn all_names(sorts: u16, list: &[SortId]) -> bool
