@@ -1,29 +1,17 @@
 //! Numberings of the variables of values.
 ghost use Rattle.std.specs.Prelude.{◌≡◌, [], ◌∷◌, IfOk, OnOk};
-ghost use Rattle.fvn_flat.specs.Variables.{listed, with_variable, with_variables};
+ghost use Rattle.fvn_flat.specs.Variables.{with_variable, with_variables};
 ghost use Rattle.fvn_answer.specs.Numberings.{IsNumbering};
 ghost use Rattle.fvn_answer.specs.Lines.{forms_in};
 ghost use Rattle.fvn_answer.specs.inner.Shown.{shown, with_values};
 
 use crate::printed::Printed;
-use fvn_flat::{Flat, Subst};
+use fvn_flat::{Flat, Subst, is_listed};
 use fvn_terms::{NoMemory, Var};
 use std::alloc::Global;
 
 /// The most variables of a line for which the numbering is the one that gives the least text.
 pub const FEW_VARIABLES: usize = 6;
-
-/// Whether the variable stands in the list.
-pub(crate) fn is_listed(vars: &[Var], x: Var) -> bool
-    ensures { result ≡ listed vars.now x }
-{
-    for y in vars {
-        if *y == x {
-            return true;
-        }
-    }
-    false
-}
 
 // Puts a variable at the end where it is new.
 fn add_variable(vars: &mut Vec<Var>, x: Var) -> Result<(), NoMemory>

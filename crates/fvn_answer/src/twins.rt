@@ -5,10 +5,9 @@ ghost use Rattle.fvn_flat.specs.Bindings.{value};
 ghost use Rattle.fvn_flat.specs.Forms.{variable_of, args_of};
 ghost use Rattle.fvn_answer.specs.inner.Twins.{is_here, times, KeepsText, KeepsTexts, KeepsPrinted, AreTwins, HasTwin, IsPassedOver};
 
-use crate::numbering::is_listed;
 use crate::printed::Printed;
 use crate::texts::{may_exchange, operator};
-use fvn_flat::{Flat, Subst};
+use fvn_flat::{Flat, Subst, is_listed};
 use fvn_sorts::Signature;
 use fvn_terms::Var;
 

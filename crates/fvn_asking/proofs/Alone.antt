@@ -1,8 +1,8 @@
 -- Shared classes that are sums of a constant alone, by columns and by classes.
-use Rattle.std.proofs.Common.{◌≡◌, ◌≢◌, ℕ, zero, suc, ◌+◌, ◌<◌, ◌≤◌, List, [], ◌∷◌, ◌++◌, length, take, get_or, slice_index, refl, sym, ap, ◌∙◌, subst, inl, inr, arith, All, Contains, Option}
+use Rattle.std.proofs.Common.{◌≡◌, ◌≢◌, ℕ, suc, ◌+◌, ◌<◌, ◌≤◌, List, [], ◌∷◌, ◌++◌, length, take, get_or, slice_index, sym, ap, ◌∙◌, subst, inl, inr, arith, All, Contains, Option}
 use Rattle.std.specs.Prelude.{AllPairs, if◌then◌else◌}
 use Rattle.std.specs.List.{sum_by}
-use Rattle.std.proofs.lemmas.Bool.{cases_lt, cases_eq, eq-eqb, ne_eqb}
+use Rattle.std.proofs.lemmas.Bool.{cases_lt, cases_eq, ne_eqb}
 use Rattle.std.proofs.lemmas.List.{take_more, take_all, get_or-map, length-map}
 use Rattle.std.proofs.lemmas.List.Elements.{All-get_or, All-push, All-weaker}
 use Rattle.fvn_terms.specs.declared.plain.OpId.{OpId}
@@ -14,6 +14,8 @@ use Rattle.fvn_flat.specs.SolvedLists.{component}
 use Rattle.fvn_nodes.specs.Table.{NodeTable, IsWellMade}
 use Rattle.fvn_nodes.specs.States.{IsClosed, class_of}
 use Rattle.fvn_nodes.specs.declared.state.State.{State}
+use Rattle.fvn_nodes.proofs.Lists.{all_from}
+use Rattle.fvn_sums.proofs.Weighing.{component_at}
 use Rattle.fvn_frames.specs.Readings.{IsReading}
 use Rattle.fvn_frames.specs.declared.reading.Sums.{Sums}
 use Rattle.fvn_frames.specs.declared.reading.Reading.{Reading}
@@ -23,7 +25,7 @@ use Rattle.fvn_frames.specs.Users.{IsSharedIn}
 use Rattle.fvn_plans.specs.Binding.{IsConstant}
 use Rattle.fvn_asking.specs.inner.Reads.{IsBoundIn, AreConstantsOf, HasOneOf, MayBeAliasIn}
 use Rattle.fvn_asking.proofs.Chosen.{chosen_all}
-use Rattle.fvn_asking.proofs.Reading.{all_from, are_sums, sums_whole, shared_in, shared_from}
+use Rattle.fvn_frames.proofs.ReadOfState.{are_sums, sums_whole, shared_in, shared_from}
 use Rattle.fvn_asking.proofs.Binding.{bound_iff}
 use Rattle.fvn_asking.proofs.Demands.{constant_at}
 
@@ -67,17 +69,6 @@ has_column n vectors all j l = All-weaker (λ v. length v ≡ n) (λ v. j < leng
 pub has_constants : (n : ℕ) (vectors : List (List ℕ)) → All (λ v. length v ≡ n) vectors → (constants : List ℕ) → ((j : ℕ) → Contains constants j → j < n) → All (λ v. All (λ c. c < length v) constants) vectors
 has_constants n vectors all constants below = All-weaker (λ v. length v ≡ n) (λ v. All (λ c. c < length v) constants) (λ v e. all_from (λ c. c < length v) constants (λ c m. let b = below c m in omega (arith, e, b))) vectors all
 
--- the component of a column's class is that of the column
-pub component_at : (columns v : List ℕ) → AllPairs ◌≢◌ columns → (j : ℕ) → j < length columns → component columns v (slice_index columns j) ≡ slice_index v j
-component_at [] v distinct j l = absurd (omega (arith, l))
-component_at (c ∷ columns) [] distinct j l = refl
-component_at (c ∷ columns) (n ∷ v) distinct zero l = ap (λ b. if b then n else component columns v c) (eq-eqb c c refl)
-component_at (c ∷ columns) (n ∷ v) distinct (suc j) l =
-    let k = slice_index columns j in
-    let other : c ≢ k = distinct 0 (suc j) 0 (omega arith) l in
-    ap (λ b. if b then n else component columns v k) (ne_eqb c k other)
-    ∙ component_at columns v (λ a b d m o. distinct (suc a) (suc b) d (omega (arith, m)) (omega (arith, o))) j (omega (arith, l))
-
 -- a class with a component has a column
 pub component_column : (columns v : List ℕ) (k : ℕ) → 0 < component columns v k → (j : ℕ) × (j < length columns) × (slice_index columns j ≡ k)
 component_column [] v k h = absurd (omega (arith, h))
@@ -89,7 +80,7 @@ component_column (c ∷ columns) (n ∷ v) k h = elim (cases_eq c k) [
       (suc r.0, (let l = r.1 in omega (arith, l)), r.2)
 ]
 
--- so are the sums
+-- the sum of the components of a column's class is that of the column
 pub component_sum : (columns : List ℕ) → AllPairs ◌≢◌ columns → (j : ℕ) → j < length columns → (vectors : List (List ℕ)) → sum_by (λ v. component columns v (slice_index columns j)) vectors ≡ column_sum j vectors
 component_sum columns distinct j l vectors = λ i. sum_by (λ v. component_at columns v distinct j l i) vectors
 

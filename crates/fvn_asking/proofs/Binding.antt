@@ -13,7 +13,7 @@ use Rattle.fvn_frames.specs.declared.reading.Reading.{Reading}
 use Rattle.fvn_plans.specs.Binding.{IsBound, solid, alone, tagged}
 use Rattle.fvn_asking.specs.Listed.{tag_in}
 use Rattle.fvn_asking.specs.inner.Reads.{IsBoundUnder, IsBoundIn}
-use Rattle.fvn_asking.proofs.Reading.{marked_to, marked_from, sum_operator, users_differ, two_users_of, one_user, head_none, no_head, shared_from}
+use Rattle.fvn_frames.proofs.ReadOfState.{marked_to, marked_from, sum_operator, users_differ, two_users_of, one_user, head_none, no_head, shared_from}
 
 module _ (d : Declarations) (t : NodeTable) (made : IsWellMade t) (s : State) (closed : IsClosed d t s) (r : Reading) (reading : IsReading d t (class_of s) r) (tags : List (Option OpId)) (e : Sums) (listed : Contains r.sums e) (k : ℕ) (within : k < length t.nodes) where
   under : IsBound d t (class_of s) (tag_in tags) e.operator k → (o : Option OpId) → head_of r k ≡ o → IsBoundUnder r tags e k o

@@ -13,13 +13,14 @@ use Rattle.fvn_acunify.specs.Theory.{IsOneTheory}
 use Rattle.fvn_nodes.specs.Table.{NodeTable, IsWellMade}
 use Rattle.fvn_nodes.specs.States.{IsClosed, class_of}
 use Rattle.fvn_nodes.specs.declared.state.State.{State}
+use Rattle.fvn_nodes.proofs.Lists.{all_from}
 use Rattle.fvn_frames.specs.Readings.{IsReading}
 use Rattle.fvn_frames.specs.declared.reading.Sums.{Sums}
 use Rattle.fvn_frames.specs.declared.reading.Reading.{Reading}
 use Rattle.fvn_plans.specs.Binding.{IsConstant, IsRequired, AreAsked}
 use Rattle.fvn_asking.specs.Listed.{tag_in}
 use Rattle.fvn_asking.specs.inner.Reads.{IsConstantAt, AreConstantsBelow, AreConstantsOf, IsRequiredIn, AreMarksBelow, AreMarksOf}
-use Rattle.fvn_asking.proofs.Reading.{all_from, are_sums, sums_whole, shared_in, shared_from}
+use Rattle.fvn_frames.proofs.ReadOfState.{are_sums, sums_whole, shared_in, shared_from}
 use Rattle.fvn_asking.proofs.Binding.{bound_iff}
 
 module _ (r : Reading) (tags : List (Option OpId)) (e : Sums) where

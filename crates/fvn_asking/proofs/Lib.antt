@@ -1,6 +1,4 @@
 -- The lemmas of the crate.
-mod Using
-pub mod Reading
 mod Binding
 mod Demands
 mod Chosen

@@ -12,8 +12,7 @@ ghost use Rattle.fvn_asking.specs.inner.Reads.{IsBoundIn, HasOneOf, IsAloneAt, M
 use crate::asking::constants_of;
 use crate::bound::is_bound_in;
 use crate::taking::taken;
-use crate::users::is_shared;
-use fvn_frames::{Reading, Sums};
+use fvn_frames::{Reading, Sums, is_shared};
 use fvn_lindio::Solution;
 use fvn_nodes::{State, Table};
 use fvn_sorts::Signature;

@@ -15,9 +15,8 @@ ghost use Rattle.fvn_asking.specs.inner.Reads.{
 };
 
 use crate::bound::is_bound_in;
-use crate::users::is_shared;
 use fvn_base::Seq;
-use fvn_frames::{Reading, Sums};
+use fvn_frames::{Reading, Sums, is_shared};
 use fvn_nodes::{State, Table};
 use fvn_sorts::Signature;
 use fvn_terms::{Axioms, NoMemory, OpId};

@@ -7,8 +7,7 @@ ghost use Rattle.fvn_plans.specs.Binding.{IsBound};
 ghost use Rattle.fvn_asking.specs.Listed.{tag_in};
 ghost use Rattle.fvn_asking.specs.inner.Reads.{IsBoundIn};
 
-use crate::users::{has_two_users, is_user};
-use fvn_frames::{Reading, Sums};
+use fvn_frames::{Reading, Sums, has_two_users, is_user};
 use fvn_nodes::{State, Table};
 use fvn_sorts::Signature;
 use fvn_terms::OpId;

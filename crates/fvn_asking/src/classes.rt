@@ -4,8 +4,7 @@ ghost use Rattle.fvn_nodes.specs.States.{IsClosed, class_of};
 ghost use Rattle.fvn_frames.specs.Frames.{IsShared, Uses};
 ghost use Rattle.fvn_frames.specs.Readings.{IsReading};
 
-use crate::users::{is_shared, is_user};
-use fvn_frames::{Reading, Sums};
+use fvn_frames::{Reading, Sums, is_shared, is_user};
 use fvn_nodes::{State, Table};
 use fvn_sorts::Signature;
 

@@ -7,7 +7,6 @@ mod bound;
 mod classes;
 mod taking;
 mod theories;
-mod users;
 
 pub use aliases::has_no_alias;
 pub use asking::{Requirements, asked};

@@ -5,7 +5,6 @@ ghost use Rattle.fvn_axunify.specs.inner.Asked.{with_pairs, AreVariablesOf};
 
 use fvn_base::Seq;
 use fvn_flat::{Flat, Pairs};
-use fvn_refine::with_variables;
 use fvn_terms::{NoMemory, Var};
 use std::alloc::Global;
 
@@ -15,8 +14,8 @@ fn variables_of_pairs(alloc: Global, pairs: &[(Flat, Flat)]) -> Result<Vec<Var>,
 {
     let mut vars = Vec::new(alloc);
     for (left, right) in pairs {
-        vars = with_variables(left, vars)?;
-        vars = with_variables(right, vars)?;
+        vars = left.with_variables(vars)?;
+        vars = right.with_variables(vars)?;
     }
     Ok(vars)
 }

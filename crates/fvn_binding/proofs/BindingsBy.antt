@@ -32,10 +32,11 @@ use Rattle.fvn_binding.specs.declared.binders.Binder.TheVariants.{Nothing, Membe
 use Rattle.fvn_binding.specs.declared.shares.Share.{Share}
 use Rattle.fvn_binding.specs.inner.Ordering.{IsOrderOf}
 use Rattle.fvn_binding.specs.inner.Planning.{name_in, IsBinderOf, form_of, plan_of, over_names, bound_by, AreClassesBelow, AreVariablesBelow}
-use Rattle.fvn_binding.proofs.NodesOf.{node_of, is_node, node_variable, variable_place}
+use Rattle.fvn_nodes.proofs.NodesOf.{node_of, is_node, node_variable, variable_place}
+use Rattle.fvn_nodes.proofs.Lists.{all_from}
 use Rattle.fvn_binding.proofs.Classes.{class_within, class_itself}
 use Rattle.fvn_binding.proofs.Forms.{over_classes_is, sum_at_place}
-use Rattle.fvn_binding.proofs.Made.{all_from, IsMade, are_kinded, entry_within, columns_at, parts_at}
+use Rattle.fvn_binding.proofs.Made.{IsMade, are_kinded, entry_within, columns_at, parts_at}
 use Rattle.fvn_binding.proofs.Reaching.{reached_new, form_reaches}
 
 abbrev NotItself : Variable × FlatTerm → Type 0
@@ -95,11 +96,11 @@ module _ {d : Declarations} {given : Pairs} {first : ℕ} {t : NodeTable} {s : S
   -- a class has a node
   class_node : (k : ℕ) → IsClass d (problem_of given) (class_at t (class_of s)) k → (i : ℕ) × (i < length t.nodes) × (class_of s i ≡ k)
   class_node k c =
-      let n = node_of d (problem_of given) t m.frame.made m.frame.ready.table c.0 c.1 in
+      let n = node_of m.frame.made m.frame.ready.table c.0 c.1 in
       (n.number, n.within, sym (m.frame.partitions.same (class_of s) n.number n.within) ∙ ap (class_at t (class_of s)) n.is ∙ c.2)
 
   node_class : (i : ℕ) → i < length t.nodes → IsClass d (problem_of given) (class_at t (class_of s)) (class_of s i)
-  node_class i l = (term_at t.nodes i, is_node d (problem_of given) t m.frame.made m.frame.ready.table i l, m.frame.partitions.same (class_of s) i l)
+  node_class i l = (term_at t.nodes i, is_node m.frame.made m.frame.ready.table i l, m.frame.partitions.same (class_of s) i l)
 
   -- a new variable is none of the problem
   not_given : (x : Variable) → x.fresh ≡ true → first ≤ x.name → Contains (variables_of (problem_of given)) x → ⊥
@@ -122,7 +123,7 @@ module _ {d : Declarations} {given : Pairs} {first : ℕ} {t : NodeTable} {s : S
     pub variable_form : (b : Variable × FlatTerm) → Contains vars b → (i : ℕ) × (i < length t.nodes) × Contains (variables_of (problem_of given)) b.0 × (term_at t.nodes i ≡ var b.0) × (b.1 ≡ fvar (name_in names (class_of s i)))
     variable_form b listed =
         let f = v.from b listed in
-        let given_so = node_variable d (problem_of given) t m.frame.made m.frame.ready.table f.0 b.0 f.1 f.2 in
+        let given_so = node_variable m.frame.made m.frame.ready.table f.0 b.0 f.2 in
         (f.0, f.1, given_so, term_at-variable t.nodes f.0 b.0 f.2, f.3)
 
     class_bound : (k : ℕ) (u : FlatTerm) → IsClass d (problem_of given) (class_at t (class_of s)) k → bound_as d (problem_of given) (class_at t (class_of s)) plan (plan.form k) k ≡ Some u → Contains (vars ++ placed) (name_in names k, u)
@@ -135,7 +136,7 @@ module _ {d : Declarations} {given : Pairs} {first : ℕ} {t : NodeTable} {s : S
 
     variable_bound : (x : Variable) → Contains (variables_of (problem_of given)) x → Contains (vars ++ placed) (x, fvar (name_in names (class_at t (class_of s) (var x))))
     variable_bound x given_so =
-        let n = variable_place d (problem_of given) t m.frame.made m.frame.ready.table x given_so in
+        let n = variable_place m.frame.made m.frame.ready.table x given_so in
         let same : class_of s n.0 ≡ class_at t (class_of s) (var x) = sym (m.frame.partitions.same (class_of s) n.0 n.1) ∙ ap (class_at t (class_of s)) n.3 in
         Contains-append_left vars placed (x, fvar (name_in names (class_at t (class_of s) (var x)))) (subst (λ k. Contains vars (x, fvar (name_in names k))) same (v.every n.0 x n.1 n.2))
 

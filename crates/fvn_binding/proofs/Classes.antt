@@ -8,7 +8,7 @@ use Rattle.fvn_terms.specs.declared.plain.OpId.{OpId}
 use Rattle.fvn_terms.specs.declared.plain.SortId.{SortId}
 use Rattle.fvn_terms.specs.declared.declarations.Rank.{Rank}
 use Rattle.fvn_terms.specs.declared.declarations.Declarations.{Declarations}
-use Rattle.fvn_terms.specs.Term.{Term, var, app}
+use Rattle.fvn_terms.specs.Term.{var}
 use Rattle.fvn_terms.specs.Signature.{kind, declared, axioms, IsSort, HasKind, IsTerm}
 use Rattle.fvn_terms.specs.Equality.{IsAssociative}
 use Rattle.fvn_forms.specs.Good.{IsGood}
@@ -20,23 +20,12 @@ use Rattle.fvn_nodes.specs.declared.table.Node.TheVariants.{App}
 use Rattle.fvn_nodes.proofs.Nodes.{term_at-over, arguments_within}
 use Rattle.fvn_nodes.proofs.Admitting.{named_within}
 use Rattle.fvn_sums.specs.NodeSystems.{IsNodeColumn}
+use Rattle.fvn_sums.proofs.Members.{column_of_node}
 use Rattle.fvn_plans.specs.Plans.{AreOfOneKind, IsNameOf}
+use Rattle.fvn_plans.proofs.KindsOf.{kind_itself, IsKindOf}
 use Rattle.fvn_binding.specs.inner.Planning.{name_in, no_name, AreNames, AreKinded, AreApart}
 
 module _ {d : Declarations} (good : IsGood d) where
-  -- a kind that a term has is a sort, and its own kind
-  pub kind_itself : (u : Term) (k : SortId) → HasKind d u k → IsSort d k × (kind d k ≡ k)
-  kind_itself (var x) k r = (subst (IsSort d) r.1 (good.kinded.listed x.sort r.0), ap (kind d) (sym r.1) ∙ good.kinded.own x.sort ∙ r.1)
-  kind_itself (app f ts) k r =
-      let s = r.rank.result in
-      (subst (IsSort d) r.result (good.kinded.listed s (good.kinded.ranks f r.rank r.listed).1), ap (kind d) (sym r.result) ∙ good.kinded.own s ∙ r.result)
-
-  -- a declaration of f gives this kind
-  pub record IsKindOf (f : OpId) (k : SortId) : Type 0 where
-    pub rank : Rank
-    pub listed : Contains (declared d f).ranks rank
-    pub gives : kind d rank.result ≡ k
-
   -- a variable whose sort is the kind of what f gives
   pub kind_of_new : (f : OpId) (r : Rank) → Contains (declared d f).ranks r → (x : Variable) → x.sort ≡ kind d r.result → HasKind d (var x) (kind d r.result)
   kind_of_new f r m x e = (
@@ -56,22 +45,8 @@ module _ {d : Declarations} {t : NodeTable} (made : IsWellMade t) {s : State} (c
   class_itself i l = let w = closed.whole in (closed.naming.named i (omega (arith, l, w))).1
 
   -- the class of a column is that of a node
-  pub column_node : (f : OpId) (k : ℕ) → IsNodeColumn t (class_of s) f k → (i : ℕ) × (i < length t.nodes) × (class_of s i ≡ k)
-  column_node f k m =
-      let args = arguments_within t.nodes made.ordered m.sum f (m.left ∷ m.right ∷ []) m.over in
-      elim (contains_cases (class_of s m.sum) (class_of s m.left ∷ class_of s m.right ∷ []) k m.among) [
-        | inl e ↦ (m.sum, slice_get_within t.nodes m.sum (App f (m.left ∷ m.right ∷ [])) m.over, e)
-        | inr r ↦ elim (contains_cases (class_of s m.left) (class_of s m.right ∷ []) k r) [
-          | inl e ↦ (m.left, args 0 0 (omega arith), e)
-          | inr q ↦ elim (contains_cases (class_of s m.right) [] k q) [
-            | inl e ↦ (m.right, args 1 0 (omega arith), e)
-            | inr z ↦ absurd (contains_none k z)
-          ]
-        ]
-      ]
-
   pub column_within : (f : OpId) (k : ℕ) → IsNodeColumn t (class_of s) f k → k < length t.nodes
-  column_within f k m = let n = column_node f k m in subst (λ k. k < length t.nodes) n.2 (class_within n.0 n.1)
+  column_within f k m = let n = column_of_node made.ordered f k m in subst (λ k. k < length t.nodes) n.1.1 (class_within n.0 n.1.0)
 
   module _ (good : IsGood d) (kinded : (i : ℕ) → i < length t.nodes → IsTerm d (term_at t.nodes i)) (kinds : AreOfOneKind d t (class_of s)) {first : ℕ} {names : List Variable} (are : AreNames d t first names) where
     name_sort : (k : ℕ) → k < length t.nodes → (q : SortId) → HasKind d (term_at t.nodes k) q → HasKind d (var (name_in names k)) q

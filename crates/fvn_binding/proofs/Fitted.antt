@@ -16,6 +16,7 @@ use Rattle.fvn_flat.specs.declared.solver.Pairs.{Pairs}
 use Rattle.fvn_nodes.specs.Table.{NodeTable}
 use Rattle.fvn_nodes.specs.States.{class_of}
 use Rattle.fvn_nodes.specs.declared.state.State.{State}
+use Rattle.fvn_nodes.proofs.Lists.{all_from}
 use Rattle.fvn_frames.specs.declared.reading.Reading.{Reading}
 use Rattle.fvn_asking.specs.Listed.{tag_in}
 use Rattle.fvn_unfolding.specs.Sizes.{IsFitting}
@@ -28,7 +29,7 @@ use Rattle.fvn_binding.proofs.Summing.{sum_flat, sum_kind}
 use Rattle.fvn_binding.proofs.Classes.{name_kind, column_kind}
 use Rattle.fvn_binding.proofs.Sources.{bound_column}
 use Rattle.fvn_binding.proofs.Forms.{name_forms, member_flat, member_kind, sum_at_place}
-use Rattle.fvn_binding.proofs.Made.{all_from, IsMade, has_sums, node_terms, are_kinded, entry_within, entry_operator}
+use Rattle.fvn_binding.proofs.Made.{IsMade, has_sums, node_terms, are_kinded, entry_within, entry_operator}
 use Rattle.fvn_binding.proofs.Parts.{summable}
 use Rattle.fvn_binding.proofs.BindingsBy.{class_form, variable_form}
 

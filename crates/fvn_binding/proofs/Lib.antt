@@ -2,7 +2,6 @@
 mod Ordering
 mod Naming
 mod Members
-pub mod NodesOf
 mod Occurring
 mod Classes
 mod Sources

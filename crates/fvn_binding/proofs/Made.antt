@@ -3,7 +3,7 @@ use Rattle.std.proofs.Common.{◌≡◌, ◌≢◌, ℕ, suc, ◌+◌, ◌<◌, 
 use Rattle.std.specs.Prelude.{slice_get, if◌then◌else◌}
 use Rattle.std.proofs.lemmas.Bool.{cases_Bool}
 use Rattle.std.proofs.lemmas.List.{get_or-map, length-map, get_or_default}
-use Rattle.std.proofs.lemmas.List.Elements.{All-contains, All-weaker, All-contains_itself}
+use Rattle.std.proofs.lemmas.List.Elements.{All-contains}
 use Rattle.std.proofs.lemmas.Option.{slice_get_within, slice_get-get_or, get_or_from_slice_get}
 use Rattle.fvn_base.specs.declared.limits.TheConstants.{MINIMAL_SOLUTIONS}
 use Rattle.fvn_base.proofs.Membership.{contains_none, contains_map, map_contains, filter_contains}
@@ -35,7 +35,9 @@ use Rattle.fvn_frames.specs.declared.reading.Sums.{Sums}
 use Rattle.fvn_frames.specs.declared.reading.Reading.{Reading}
 use Rattle.fvn_plans.specs.Choosing.{taken, AreSystems, IsPossible}
 use Rattle.fvn_plans.specs.Tables.{HasSums}
-use Rattle.fvn_plans.proofs.Kinded.{node_kinded, tables_have_sums}
+use Rattle.fvn_nodes.proofs.Subterms.{node_kinded}
+use Rattle.fvn_nodes.proofs.Lists.{all_from}
+use Rattle.fvn_plans.proofs.Kinded.{tables_have_sums}
 use Rattle.fvn_asking.specs.Listed.{tag_in, at_operator, systems_of, choice_of}
 use Rattle.fvn_asking.proofs.Listing.{at_place}
 use Rattle.fvn_binding.specs.declared.binders.Binder.{Binder}
@@ -43,9 +45,6 @@ use Rattle.fvn_binding.specs.declared.shares.Share.{Share}
 use Rattle.fvn_binding.specs.Ready.{IsReady, AreListed}
 use Rattle.fvn_binding.specs.inner.Planning.{part_of, AreNames, AreBinders, AreAllShares, AreKinded, AreApart, AreSized}
 use Rattle.fvn_binding.proofs.Classes.{class_within, names_kinded, names_apart}
-
-pub all_from : {X : Type 0} (P : X → Type 0) (xs : List X) → ((x : X) → Contains xs x → P x) → All P xs
-all_from P xs h = All-weaker (Contains xs) P h xs (All-contains_itself xs)
 
 -- what is listed at an operator's place is listed at the place of one of the operators
 at_some : {A : Type 0} (sums : List Sums) (xs : List (List A)) (f : OpId) (x : A) → Contains (at_operator [] sums xs f) x → (i : ℕ) × (s : Sums) × (slice_get sums i ≡ Some s) × (s.operator ≡ f)
@@ -85,7 +84,7 @@ module _ {d : Declarations} {given : Pairs} {first : ℕ} {t : NodeTable} {s : S
   has_sums = tables_have_sums d c.good.fits (problem_of given) c.ready.is_given.kinds t c.made c.ready.table
 
   pub node_terms : (i : ℕ) → i < length t.nodes → IsTerm d (term_at t.nodes i)
-  node_terms = node_kinded d c.good.fits (problem_of given) c.ready.is_given.kinds t c.made c.ready.table
+  node_terms = node_kinded d c.good.fits (problem_of given) c.ready.is_given.kinds t c.ready.table
 
   pub are_kinded : {names : List Variable} → AreNames d t first names → AreKinded d t (class_of s) names
   are_kinded names = names_kinded c.made c.ready.closed c.good node_terms c.ready.kinds names

@@ -24,6 +24,7 @@ use Rattle.fvn_flat.specs.declared.solver.Pairs.{Pairs}
 use Rattle.fvn_nodes.specs.Table.{NodeTable}
 use Rattle.fvn_nodes.specs.States.{class_of}
 use Rattle.fvn_nodes.specs.declared.state.State.{State}
+use Rattle.fvn_nodes.proofs.Lists.{all_from}
 use Rattle.fvn_frames.specs.declared.reading.Sums.{Sums}
 use Rattle.fvn_frames.specs.declared.reading.Reading.{Reading}
 use Rattle.fvn_plans.specs.Binding.{IsBound, IsConstant}
@@ -33,10 +34,12 @@ use Rattle.fvn_binding.specs.declared.binders.Binder.{Binder}
 use Rattle.fvn_binding.specs.declared.binders.Binder.TheVariants.{Nothing, Member, Sum}
 use Rattle.fvn_binding.specs.declared.shares.Share.{Share}
 use Rattle.fvn_binding.specs.inner.Planning.{name_in, part_of, StandsAt, AreShares, IsBinderOf, IsSummable, IsMaking}
-use Rattle.fvn_binding.proofs.Standing.{chosen_listed, length-chosen}
-use Rattle.fvn_binding.proofs.Classes.{IsKindOf, kind_of_new, column_within, column_kind, names_differ}
+use Rattle.fvn_plans.proofs.Columns.{chosen_listed, sum_by_same, sum_by_map}
+use Rattle.fvn_binding.proofs.Standing.{length-chosen}
+use Rattle.fvn_plans.proofs.KindsOf.{IsKindOf}
+use Rattle.fvn_binding.proofs.Classes.{kind_of_new, column_within, column_kind, names_differ}
 use Rattle.fvn_binding.proofs.Sources.{bound_column}
-use Rattle.fvn_binding.proofs.Made.{all_from, start_of, IsMade, has_sums, node_terms, entry_within, entry_operator, columns_at, taken_at, few_at}
+use Rattle.fvn_binding.proofs.Made.{start_of, IsMade, has_sums, node_terms, entry_within, entry_operator, columns_at, taken_at, few_at}
 
 -- the element at a place
 pub element_at : {X : Type 0} (xs : List X) (i : ℕ) → i < length xs → (x : X) × (slice_get xs i ≡ Some x)
@@ -47,14 +50,6 @@ element_at (x ∷ xs) (suc i) l = element_at xs i (omega (arith, l))
 -- the place of an element
 pub place_at : {X : Type 0} (xs : List X) (x : X) (m : Contains xs x) → slice_get xs m.0 ≡ Some x
 place_at xs x (i, l, e) = slice_get-get_or xs i x l ∙ ap Some e
-
-sum_by_same : {X : Type 0} (f g : X → ℕ) → ((x : X) → f x ≡ g x) → (xs : List X) → sum_by f xs ≡ sum_by g xs
-sum_by_same f g h [] = refl
-sum_by_same f g h (x ∷ xs) = let a = sum_by-cons f x xs in let b = sum_by-cons g x xs in let s = h x in let r = sum_by_same f g h xs in omega (arith, a, b, s, r)
-
-sum_by_map : {X Y : Type 0} (f : Y → ℕ) (g : X → Y) (xs : List X) → sum_by f (map g xs) ≡ sum_by (λ x. f (g x)) xs
-sum_by_map f g [] = refl
-sum_by_map f g (x ∷ xs) = let a = sum_by-cons f (g x) (map g xs) in let b = sum_by-cons (λ x. f (g x)) x xs in let r = sum_by_map f g xs in omega (arith, a, b, r)
 
 -- a sum above zero has an element above zero
 some_above : {X : Type 0} (f : X → ℕ) (xs : List X) → 0 < sum_by f xs → (x : X) × (Contains xs x × (0 < f x))

@@ -16,6 +16,7 @@ use Rattle.fvn_nodes.specs.Table.{NodeTable}
 use Rattle.fvn_nodes.specs.States.{class_of}
 use Rattle.fvn_nodes.specs.declared.state.State.{State}
 use Rattle.fvn_nodes.specs.declared.table.Node.TheVariants.{App}
+use Rattle.fvn_nodes.proofs.Lists.{all_from}
 use Rattle.fvn_frames.specs.Frames.{IsSumOperator}
 use Rattle.fvn_frames.specs.declared.reading.Sums.{Sums}
 use Rattle.fvn_frames.specs.declared.reading.Reading.{Reading}
@@ -29,7 +30,7 @@ use Rattle.fvn_binding.specs.declared.shares.Share.{Share}
 use Rattle.fvn_binding.specs.inner.Planning.{name_in, part_of, IsBinderOf, form_of, plan_of}
 use Rattle.fvn_binding.proofs.Classes.{name_is}
 use Rattle.fvn_binding.proofs.Sources.{bound_operator}
-use Rattle.fvn_binding.proofs.Made.{all_from, start_of, IsMade, has_sums, node_terms, place_of, operator_rank, entry_within, entry_operator, parts_at, part_operator}
+use Rattle.fvn_binding.proofs.Made.{start_of, IsMade, has_sums, node_terms, place_of, operator_rank, entry_within, entry_operator, parts_at, part_operator}
 use Rattle.fvn_binding.proofs.Parts.{element_at, place_at, share_stands, solutions_are, few_shares, share_taken, component_is, number_of, shares_differ}
 
 -- the number after those of all new variables

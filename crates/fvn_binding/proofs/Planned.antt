@@ -21,11 +21,11 @@ use Rattle.fvn_nodes.specs.declared.table.Node.TheVariants.{Var}
 use Rattle.fvn_nodes.proofs.Nodes.{term_at-variable}
 use Rattle.fvn_plans.specs.Choosing.{Systems, Choice, AreSystems, IsPossible}
 use Rattle.fvn_plans.specs.Laws.{IsPlanned}
-use Rattle.fvn_plans.proofs.Kinded.{node_kinded}
+use Rattle.fvn_nodes.proofs.Subterms.{node_kinded}
 use Rattle.fvn_unfolding.specs.Sizes.{IsFitting}
 use Rattle.fvn_binding.specs.Ready.{IsReady, AreVariablesOf, ArePlanned}
-use Rattle.fvn_binding.proofs.Made.{all_from}
-use Rattle.fvn_binding.proofs.NodesOf.{node_variable, variable_place}
+use Rattle.fvn_nodes.proofs.NodesOf.{node_variable, variable_place}
+use Rattle.fvn_nodes.proofs.Lists.{all_from}
 
 module _ {d : Declarations} {given : Pairs} {first : ℕ} {t : NodeTable} {s : State} {y : Systems} {c : Choice} {bindings : Bindings} where
   -- they are a plan's, so that the laws of plans hold of them
@@ -54,12 +54,12 @@ module _ {d : Declarations} {given : Pairs} {first : ℕ} {t : NodeTable} {s : S
   -- the variables of the table are those of the problem
   pub variables_exact : (x : Variable) → Contains vars x ↔ Contains (variables_of (problem_of given)) x
   variables_exact x = (
-    λ m. let p = (are.exact x).0 m in node_variable d (problem_of given) t made ready.table p.0 x (slice_get_within t.nodes p.0 (Var x) p.1) p.1,
-    λ m. let p = variable_place d (problem_of given) t made ready.table x m in (are.exact x).1 (p.0, p.2),
+    λ m. let p = (are.exact x).0 m in node_variable made ready.table p.0 x p.1,
+    λ m. let p = variable_place made ready.table x m in (are.exact x).1 (p.0, p.2),
   )
 
   pub variables_sorted : All (λ x. IsSort d x.sort) vars
   variables_sorted = all_from (λ (x : Variable). IsSort d x.sort) vars (λ x m.
       let p = (are.exact x).0 m in
-      let r = node_kinded d good.fits (problem_of given) ready.is_given.kinds t made ready.table p.0 (slice_get_within t.nodes p.0 (Var x) p.1) in
+      let r = node_kinded d good.fits (problem_of given) ready.is_given.kinds t ready.table p.0 (slice_get_within t.nodes p.0 (Var x) p.1) in
       (subst (λ u. HasKind d u r.0) (term_at-variable t.nodes p.0 x p.1) r.1).0)

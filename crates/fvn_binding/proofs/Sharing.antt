@@ -20,7 +20,8 @@ use Rattle.fvn_frames.specs.declared.reading.Sums.{Sums}
 use Rattle.fvn_binding.specs.declared.shares.Share.{Share}
 use Rattle.fvn_binding.specs.inner.Planning.{variable_for, AreShares, AreAllShares}
 use Rattle.fvn_binding.proofs.Fronts.{AreFront}
-use Rattle.fvn_binding.proofs.Standing.{chosen_listed, length-chosen}
+use Rattle.fvn_plans.proofs.Columns.{chosen_listed}
+use Rattle.fvn_binding.proofs.Standing.{length-chosen}
 use Rattle.fvn_binding.proofs.Classes.{column_within}
 use Rattle.fvn_base.proofs.Membership.{contains_map}
 

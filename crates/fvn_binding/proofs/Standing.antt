@@ -1,36 +1,23 @@
 -- What stands for solutions: the name of a constant, or a new variable.
-use Rattle.std.proofs.Common.{◌≡◌, ◌≢◌, ℕ, zero, suc, ◌+◌, ◌<◌, ◌≤◌, ◌/◌, ◌%◌, Bool, true, false, List, [], ◌∷◌, ◌++◌, length, map, take, drop, get_or, slice_index, refl, sym, ap, ◌∙◌, subst, inl, inr, arith, Contains, Option, Some}
-use Rattle.std.specs.Prelude.{◌==◌, if◌then◌else◌, AllPairs, slice_get}
-use Rattle.std.proofs.lemmas.Bool.{cases_lt, eq-eqb, ne_eqb, lt-ltb, le-ltb}
+use Rattle.std.proofs.Common.{◌≡◌, ℕ, ◌+◌, ◌<◌, ◌≤◌, ◌/◌, ◌%◌, Bool, true, false, List, [], ◌∷◌, ◌++◌, length, map, take, drop, get_or, slice_index, refl, sym, ap, ◌∙◌, subst, inl, inr, arith, Contains, Option, Some}
+use Rattle.std.specs.Prelude.{◌==◌, if◌then◌else◌, slice_get}
+use Rattle.std.proofs.lemmas.Bool.{cases_lt, lt-ltb, le-ltb}
 use Rattle.std.proofs.lemmas.List.{get_or_default, get_or_append_left, get_or_push, length_push, drop_all, take_all, take_more, map-append, length-map, length-take-le}
-use Rattle.std.proofs.lemmas.List.Elements.{Contains-get_or}
 use Rattle.std.proofs.lemmas.Option.{slice_get_within, slice_get-get_or, get_or_from_slice_get}
 use Rattle.fvn_base.proofs.Drops.{drop-at}
 use Rattle.fvn_base.proofs.Membership.{contains_here, contains_later, contains_cases, contains_none}
-use Rattle.fvn_base.proofs.Pigeonhole.{AllPairs-tail, AllPairs-first}
 use Rattle.fvn_terms.specs.declared.plain.Var.{Var as Variable}
 use Rattle.fvn_terms.specs.declared.plain.OpId.{OpId}
 use Rattle.fvn_terms.specs.declared.declarations.Declarations.{Declarations}
 use Rattle.fvn_acunify.specs.ValidChoice.{chosen}
 use Rattle.fvn_flat.specs.SolvedLists.{component}
 use Rattle.fvn_nodes.specs.Table.{NodeTable}
+use Rattle.fvn_sums.proofs.Weighing.{component_at}
 use Rattle.fvn_frames.specs.declared.reading.Sums.{Sums}
 use Rattle.fvn_frames.specs.Readings.{AreSums}
 use Rattle.fvn_plans.specs.Binding.{IsConstant, AreAsked}
 use Rattle.fvn_binding.specs.declared.shares.Share.{Share}
 use Rattle.fvn_binding.specs.inner.Planning.{name_in, variable_for, IsNewAt, StandsAt, AreShares}
-
--- what is taken is among what is there
-pub chosen_listed : (b : ℕ) (basis : List (List ℕ)) (v : List ℕ) → Contains (chosen b basis) v → Contains basis v
-chosen_listed b [] v c = c
-chosen_listed b (u ∷ basis) v c = go (b % 2 == 1) c (chosen_listed (b / 2) basis v)
-  where
-    go : (t : Bool) → Contains (if t then u ∷ chosen (b / 2) basis else chosen (b / 2) basis) v → (Contains (chosen (b / 2) basis) v → Contains basis v) → Contains (u ∷ basis) v
-    go true c rest = elim (contains_cases u (chosen (b / 2) basis) v c) [
-      | inl e ↦ subst (Contains (u ∷ basis)) e (contains_here u basis)
-      | inr r ↦ contains_later u basis v (rest r)
-    ]
-    go false c rest = contains_later u basis v (rest c)
 
 pub length-chosen : (b : ℕ) (basis : List (List ℕ)) → length (chosen b basis) ≤ length basis
 length-chosen b [] = omega arith
@@ -39,17 +26,6 @@ length-chosen b (u ∷ basis) = go (b % 2 == 1) (length-chosen (b / 2) basis)
     go : (t : Bool) → length (chosen (b / 2) basis) ≤ length basis → length (if t then u ∷ chosen (b / 2) basis else chosen (b / 2) basis) ≤ length (u ∷ basis)
     go true l = omega (arith, l)
     go false l = omega (arith, l)
-
--- the component in a column of a list without repetition
-pub component_at : (columns v : List ℕ) → AllPairs ◌≢◌ columns → (j : ℕ) → j < length columns → component columns v (get_or columns j 0) ≡ get_or v j 0
-component_at [] v h j l = absurd (omega (arith, l))
-component_at (c ∷ columns) [] h j l = refl
-component_at (c ∷ columns) (n ∷ v) h zero l = ap (λ b. if b then n else component columns v c) (eq-eqb c c refl)
-component_at (c ∷ columns) (n ∷ v) h (suc j) l =
-    let k = get_or columns j 0 in
-    let within : j < length columns = omega (arith, l) in
-    ap (λ b. if b then n else component columns v k) (ne_eqb c k (AllPairs-first ◌≢◌ c columns k h (Contains-get_or columns j 0 within)))
-    ∙ component_at columns v (AllPairs-tail ◌≢◌ c columns h) j within
 
 module _ (columns : List ℕ) (names : List Variable) (v : List ℕ) (fresh : Variable) where
   -- a constant that the vector has, and one that it has not

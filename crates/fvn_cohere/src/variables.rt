@@ -1,36 +1,13 @@
 //! The variables of a term, each once.
 ghost use Rattle.std.specs.Prelude.{◌≡◌, fold, IfOk};
 ghost use Rattle.fvn_terms.specs.Plain.{term};
-ghost use Rattle.fvn_flat.specs.Variables.{listed, with_variable};
+ghost use Rattle.fvn_flat.specs.Variables.{with_variable};
 ghost use Rattle.fvn_flat.specs.Problems.{variables, variables_among};
 ghost use Rattle.fvn_rewriting.specs.Choices.{distinct_variables_of};
 
+use fvn_flat::with_variable;
 use fvn_terms::{Args, NoMemory, Plain, Var};
 use std::alloc::Global;
-
-// Whether the variable stands in the list.
-fn is_listed(vars: &[Var], x: Var) -> bool
-    ensures { result ≡ listed vars.now x }
-{
-    for y in vars {
-        if *y == x {
-            return true;
-        }
-    }
-    false
-}
-
-// The variables with one more at the end, if it is not there yet.
-fn with_variable(vars: Vec<Var>, x: Var) -> Result<Vec<Var>, NoMemory>
-    ensures { IfOk result (λ all. all.items ≡ with_variable vars.items x) }
-{
-    let mut all = vars;
-    if is_listed(all.as_slice(), x) {
-        return Ok(all);
-    }
-    all.push(x)?;
-    Ok(all)
-}
 
 // The variables with those of a term that are not there yet.
 #[cycle(with_variables)]

@@ -9,7 +9,7 @@ use Rattle.fvn_nodes.specs.States.{IsClosed, class_of}
 use Rattle.fvn_nodes.specs.declared.state.State.{State}
 use Rattle.fvn_nodes.proofs.Admitting.{named_within}
 use Rattle.fvn_plans.specs.Plans.{AreOfOneKind}
-use Rattle.fvn_plans.proofs.Kinded.{node_kinded}
+use Rattle.fvn_nodes.proofs.Subterms.{node_kinded}
 use Rattle.fvn_combine.specs.Tasks.{Combining, IsCombining}
 use Rattle.fvn_combine.specs.inner.Alike.{IsOfItsKind}
 
@@ -23,7 +23,7 @@ module _ (k : Combining) (is : IsCombining k) (s : State) (closed : IsClosed k.d
       omega (arith, n, whole)
 
   kinded : (i : ℕ) → i < length k.table.nodes → IsTerm k.declarations (term_at k.table.nodes i)
-  kinded i l = node_kinded k.declarations is.good.fits (problem_of k.given) is.is_given.kinds k.table is.well_made is.table_of i l
+  kinded i l = node_kinded k.declarations is.good.fits (problem_of k.given) is.is_given.kinds k.table is.table_of i l
 
   -- what a node and the node that names its class are told to be
   module _ (i : ℕ) (l : i < length k.table.nodes) (own named : SortId) (own_is : (q : SortId) → HasKind k.declarations (term_at k.table.nodes i) q → own ≡ q) (named_is : (q : SortId) → HasKind k.declarations (term_at k.table.nodes (class_of s i)) q → named ≡ q) where

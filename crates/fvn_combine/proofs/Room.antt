@@ -22,7 +22,7 @@ use Rattle.fvn_sums.specs.NodeSystems.{is_headed}
 use Rattle.fvn_frames.specs.Readings.{IsReading}
 use Rattle.fvn_frames.specs.declared.reading.Sums.{Sums}
 use Rattle.fvn_frames.specs.declared.reading.Reading.{Reading}
-use Rattle.fvn_binding.proofs.NodesOf.{once_contains}
+use Rattle.fvn_nodes.proofs.Terms.{once_contains}
 use Rattle.fvn_combine.specs.Tasks.{Combining, IsCombining}
 
 -- one operator heads a node

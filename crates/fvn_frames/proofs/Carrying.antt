@@ -3,7 +3,7 @@ use Rattle.std.proofs.Common.{◌≡◌, ◌⊎◌, ℕ, zero, suc, ◌+◌, ◌
 use Rattle.std.specs.Prelude.{ℤ, pos, nat_eq, if◌then◌else◌}
 use Rattle.std.proofs.lemmas.Bool.{cases_eq, cases_lt, eq-eqb, ne_eqb}
 use Rattle.std.proofs.lemmas.List.{get_or-map, get_or_default, length-map, ext_get_or}
-use Rattle.std.proofs.lemmas.List.Elements.{All-contains, All-contains_itself, All-weaker, Contains-get_or}
+use Rattle.std.proofs.lemmas.List.Elements.{All-contains, Contains-get_or}
 use Rattle.std.proofs.lemmas.List.Sums.{sum_by-cons}
 use Rattle.fvn_base.proofs.Membership.{contains_cases, contains_none, contains_map, map_contains}
 use Rattle.fvn_terms.specs.declared.plain.OpId.{OpId}
@@ -12,11 +12,9 @@ use Rattle.fvn_lindio.specs.Vectors.{IsAtOrBelow, IsNonZero}
 use Rattle.fvn_lindio.specs.Systems.{IsZeroAt, IsUnused, Solves, IsMinimal, rows_of}
 use Rattle.fvn_flat.specs.SolvedLists.{component}
 use Rattle.fvn_nodes.specs.Table.{NodeTable}
+use Rattle.fvn_nodes.proofs.Lists.{all_from}
 use Rattle.fvn_sums.specs.NodeSystems.{addends, sums, coefficient, row_at, IsNodeSystem}
 use Rattle.fvn_sums.proofs.Weighing.{component_at, component-out, zero_row, nothing_row}
-
-all_from : {X : Type 0} (P : X → Type 0) (xs : List X) → ((x : X) → Contains xs x → P x) → All P xs
-all_from P xs h = All-weaker (Contains xs) P h xs (All-contains_itself xs)
 
 -- the component in a column that is listed, of the values of a function
 mapped : (g : ℕ → ℕ) (ks : List ℕ) (k : ℕ) → (component ks (map g ks) k ≡ g k) ⊎ (Contains ks k → ⊥)

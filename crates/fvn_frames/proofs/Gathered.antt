@@ -1,21 +1,20 @@
 -- The sum operators that are gathered, and which columns they use.
-use Rattle.std.proofs.Common.{◌≡◌, ◌≢◌, ℕ, ◌<◌, true, List, [], ◌∷◌, ◌++◌, length, map, get_or, sym, ap, ◌∙◌, subst, inl, inr, arith, All, Contains, Option, Some, None, slice_get}
+use Rattle.std.proofs.Common.{◌≡◌, ◌≢◌, ℕ, ◌<◌, List, [], ◌∷◌, ◌++◌, length, map, get_or, sym, ap, ◌∙◌, subst, inl, inr, arith, All, Contains, Option, Some, None, slice_get}
 use Rattle.std.specs.Prelude.{pos, MatchOption, Any, Bool}
 use Rattle.std.proofs.lemmas.List.{get_or-map}
 use Rattle.std.proofs.lemmas.List.Elements.{Contains-append_left, Contains-push, Contains-push_cases, Contains-get_or, All-weaker, All-contains_itself}
 use Rattle.std.proofs.lemmas.List.Quantifiers.{all_pairs_push}
-use Rattle.fvn_base.proofs.Membership.{contains_none, contains_map, map_contains, contains_filter, filter_contains}
+use Rattle.fvn_base.proofs.Membership.{contains_none, contains_map, map_contains}
 use Rattle.fvn_terms.specs.declared.plain.OpId.{OpId}
 use Rattle.fvn_terms.specs.declared.declarations.Declarations.{Declarations}
 use Rattle.fvn_terms.specs.Signature.{axioms}
 use Rattle.fvn_terms.specs.Equality.{IsAssociative}
-use Rattle.fvn_forms.proofs.Sums.{same_op_is, same_op_itself}
 use Rattle.fvn_lindio.specs.declared.system.System.{System}
 use Rattle.fvn_lindio.specs.Systems.{IsSystem, rows_of}
 use Rattle.fvn_nodes.specs.Table.{NodeTable, IsOver}
-use Rattle.fvn_nodes.specs.declared.table.Node.{Node}
-use Rattle.fvn_nodes.specs.declared.table.Node.TheVariants.{Var, App}
-use Rattle.fvn_sums.specs.NodeSystems.{is_headed, addends, sums, coefficient, row_at, IsNodeSystem}
+use Rattle.fvn_nodes.specs.declared.table.Node.TheVariants.{App}
+use Rattle.fvn_sums.specs.NodeSystems.{addends, sums, coefficient, row_at, IsNodeSystem}
+use Rattle.fvn_sums.proofs.Members.{headed_over, listed_sum, sum_listed}
 use Rattle.fvn_frames.specs.Frames.{Uses}
 use Rattle.fvn_frames.specs.Readings.{AreSumOperators, AreSums}
 use Rattle.fvn_frames.specs.inner.Reading.{IsAdded, AreUsed, AreOperatorsAmong}
@@ -66,19 +65,14 @@ module _ (d : Declarations) (t : NodeTable) where
     ];
   })
 
-  headed_over : (f : OpId) (n : Option Node) → is_headed f n ≡ true → (ks : List ℕ) × (n ≡ Some (App f ks))
-  headed_over f None e = cc
-  headed_over f (Some (Var x)) e = cc
-  headed_over f (Some (App g ks)) e = let o = same_op_is f g e in (ks, ap (λ h. Some (App h ks)) (sym o))
-
   -- the operators of all subterms are the sum operators
   pub operators_are : (list : List OpId) → AreOperatorsAmong d t t.subterms list → AreSumOperators d t list
   operators_are list h = record {
     distinct = h.distinct;
     exact = λ f. (
-      λ c. let r = h.from f c in record { associative = r.0; sum = r.1; listed = contains_filter (λ i. is_headed f (slice_get t.nodes i)) t.subterms r.1 r.2 (ap (is_headed f) r.4 ∙ same_op_itself f) },
+      λ c. let r = h.from f c in record { associative = r.0; sum = r.1; listed = listed_sum t f r.1 r.3 r.2 r.4 },
       λ o.
-          let m = filter_contains (λ i. is_headed f (slice_get t.nodes i)) t.subterms o.sum o.listed in
+          let m = sum_listed t f o.sum o.listed in
           let r = headed_over f (slice_get t.nodes o.sum) m.1 in
           h.all f o.sum r.0 m.0 r.1 o.associative,
     );

@@ -6,4 +6,5 @@ mod Gathered
 mod Heading
 mod Using
 mod Carrying
+pub mod ReadOfState
 mod Framing

@@ -13,3 +13,4 @@ mod users;
 
 pub use asking::{first_question, question_on_all, question_on_touched};
 pub use reading::{Reading, Sums, read};
+pub use users::{has_two_users, is_shared, is_user};

@@ -4,8 +4,8 @@ ghost use Rattle.fvn_frames.specs.Users.{IsWholeSums, IsWhole, IsMarked, IsFirst
 
 use crate::reading::{Reading, Sums};
 
-// Whether the operator uses class k.
-pub(crate) fn is_user(sums: &Sums, k: usize) -> bool
+/// Whether the operator uses class k.
+pub fn is_user(sums: &Sums, k: usize) -> bool
     requires { length sums.now.used ≡ length sums.now.columns }
     ensures { IsTrue result ↔ IsMarked sums.now k }
 {
@@ -36,8 +36,8 @@ fn first_user(sums: &[Sums], n: usize, start: usize, k: usize) -> Option<usize>
     None
 }
 
-// Whether two sum operators use class k.
-fn has_two_users(sums: &[Sums], n: usize, k: usize) -> bool
+/// Whether two sum operators use class k.
+pub fn has_two_users(sums: &[Sums], n: usize, k: usize) -> bool
     requires whole { All (IsWholeSums n) sums.now }
     ensures { IsTrue result ↔ HasTwoUsers sums.now k }
 {
@@ -47,8 +47,8 @@ fn has_two_users(sums: &[Sums], n: usize, k: usize) -> bool
     }
 }
 
-// Whether class k is shared.
-pub(crate) fn is_shared(reading: &Reading, n: usize, k: usize) -> bool
+/// Whether class k is shared.
+pub fn is_shared(reading: &Reading, n: usize, k: usize) -> bool
     requires whole { IsWhole n reading.now }
     requires within { k < n }
     ensures { IsTrue result ↔ IsSharedIn reading.now k }

@@ -3,24 +3,11 @@ ghost use Rattle.std.specs.Prelude.{◌≡◌, ◌++◌, map, IfOk};
 ghost use Rattle.fvn_terms.specs.Substitution.{Occurs};
 ghost use Rattle.fvn_terms.specs.Variants.{OccursInSome};
 ghost use Rattle.fvn_forms.specs.Flat.{plain};
-ghost use Rattle.fvn_flat.specs.Variables.{listed};
 ghost use Rattle.fvn_match.specs.inner.Variables.{AreOnce, Collects, AreVariablesOf};
 
-use fvn_flat::Flat;
+use fvn_flat::{Flat, is_listed};
 use fvn_terms::{NoMemory, Var};
 use std::alloc::Global;
-
-// Whether the variable stands in the list.
-fn is_listed(vars: &[Var], x: Var) -> bool
-    ensures { result ≡ listed vars.now x }
-{
-    for y in vars {
-        if *y == x {
-            return true;
-        }
-    }
-    false
-}
 
 // The variables with one more at the end, if it is not there yet.
 fn with_variable(vars: Vec<Var>, x: Var) -> Result<Vec<Var>, NoMemory>

@@ -21,12 +21,13 @@ use Rattle.fvn_nodes.specs.Table.{NodeTable, IsWellMade}
 use Rattle.fvn_nodes.specs.States.{class_of}
 use Rattle.fvn_nodes.specs.declared.state.State.{State}
 use Rattle.fvn_sums.specs.NodeSystems.{addends, sums, coefficient, IsNodeColumn}
+use Rattle.fvn_sums.proofs.Zeroes.{zero_told}
 use Rattle.fvn_frames.specs.Frames.{IsSumOperator, IsSolid, Uses, IsShared, IsFrame}
 use Rattle.fvn_plans.specs.Binding.{IsBound, solid, alone, tagged, IsConstant, IsRequired, AreAsked}
 use Rattle.fvn_plans.specs.Choosing.{Systems, AreSystems}
 use Rattle.fvn_plans.specs.Tables.{HasSums}
 use Rattle.fvn_obeying.specs.Obeying.{IsTold, GoWith, ObeyTags}
-use Rattle.fvn_obeying.proofs.Values.{zero_told, head_of_solid, bound_used}
+use Rattle.fvn_obeying.proofs.Values.{head_of_solid, bound_used}
 
 -- the places at which a list has a property, from a number on
 record Places (P : ℕ → Type 0) (n : ℕ) (xs : List ℕ) : Type 0 where

@@ -17,6 +17,7 @@ use Rattle.fvn_nodes.specs.Table.{NodeTable, IsWellMade}
 use Rattle.fvn_nodes.specs.States.{class_of}
 use Rattle.fvn_nodes.specs.declared.state.State.{State}
 use Rattle.fvn_sums.specs.NodeSystems.{addends, sums, coefficient, row_at, IsNodeSystem}
+use Rattle.fvn_sums.proofs.Zeroes.{zero_told}
 use Rattle.fvn_supports.specs.Laws.{MadeUpByTaken}
 use Rattle.fvn_supports.specs.Pieces.{has_some, number_of, taken as with_pieces}
 use Rattle.fvn_frames.specs.Frames.{IsFrame, IsSumOperator, Uses, IsShared}
@@ -35,7 +36,7 @@ use Rattle.fvn_obeying.proofs.Marked.{number_by, marked, number_small, chosen_ma
 use Rattle.fvn_obeying.proofs.Taken.{contains_counted, laid_counts, sum_by_alike}
 use Rattle.fvn_obeying.proofs.Touching.{touched_none}
 use Rattle.fvn_obeying.proofs.TwoSummands.{shared_two}
-use Rattle.fvn_obeying.proofs.Values.{zero_told, bound_used, may_be, constants_differ}
+use Rattle.fvn_obeying.proofs.Values.{bound_used, may_be, constants_differ}
 
 -- some component of a vector that is not zero
 some_component : (v : List ℕ) → 0 < sum_by (λ a. a) v → (j : ℕ) × (j < length v) × (0 < get_or v j 0)

@@ -18,9 +18,9 @@ use Rattle.fvn_plans.specs.Choosing.{Systems, Choice}
 use Rattle.fvn_plans.specs.Covering.{CoversOnKinds}
 use Rattle.fvn_plans.specs.Plans.{AreBindingsBy, unfolds_to}
 use Rattle.fvn_obeying.specs.Laws.{UnifiersGoWith, TablesHaveSums, ValuesObeyChoices, ObeyedChoicesFall, ObeyedChoicesCover, FramesCover}
-use Rattle.fvn_plans.proofs.Kinded.{node_kinded}
+use Rattle.fvn_nodes.proofs.Subterms.{node_kinded}
 use Rattle.fvn_obeying.proofs.Later.{later, later_flat, value_of_variable}
-use Rattle.fvn_obeying.proofs.NodesOf.{variable_node}
+use Rattle.fvn_nodes.proofs.NodesOf.{variable_node}
 use Rattle.fvn_obeying.proofs.Rightly.{binding_right}
 use Rattle.fvn_obeying.proofs.Setting.{Setting}
 use Rattle.fvn_obeying.proofs.Unfolding.{IsRight, unfolding_covers}
@@ -33,8 +33,8 @@ module _ {d : Declarations} {problem : Problem} {t : NodeTable} {s : State} {y :
     where
       sorted : (x : Var) → Contains (variables_of problem) x → IsSort d x.sort
       sorted x among =
-          let n = variable_node d problem t g.made g.table x among in
-          (subst (IsTerm d) n.is (node_kinded d g.good.fits problem g.kinded t g.made g.table n.number n.within)).1.0
+          let n = variable_node g.made g.table x among in
+          (subst (IsTerm d) n.is (node_kinded d g.good.fits problem g.kinded t g.table n.number n.within)).1.0
 
 pub obeyed_choices_cover : UnifiersPartition → UnifiersGoWith → TablesHaveSums → ObeyedChoicesCover
 obeyed_choices_cover partitions go_with sums d good problem kinded t made table s frame told y systems u unifier admits c obeying first next plan after plan_by bindings by =

@@ -24,7 +24,7 @@ use Rattle.fvn_plans.specs.Choosing.{Systems, Choice, AreTakenTogether, argument
 use Rattle.fvn_plans.specs.Tables.{HasSums}
 use Rattle.fvn_obeying.specs.Obeying.{IsTold, GoWith}
 use Rattle.fvn_obeying.specs.Obeyed.{AreObeying}
-use Rattle.fvn_obeying.proofs.Heads.{build_free, build_commutative}
+use Rattle.fvn_nodes.proofs.Heading.{build_free, build_commutative}
 use Rattle.fvn_obeying.proofs.Taken.{laid_counts, contains_counted}
 use Rattle.fvn_obeying.proofs.TwoSummands.{shared_two, solid_two}
 use Rattle.fvn_obeying.proofs.Values.{bound_used, constant_why}

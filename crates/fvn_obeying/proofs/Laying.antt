@@ -9,7 +9,7 @@ use Rattle.fvn_forms.proofs.InOrder.{count_append}
 use Rattle.fvn_acunify.specs.ValidChoice.{column_sum}
 use Rattle.fvn_supports.specs.Pieces.{has_some, taken, AreMadeUp}
 use Rattle.fvn_obeying.specs.LaidOut.{copies, laid_out}
-use Rattle.fvn_plans.proofs.Combined.{Sized, weight, get_or-combination}
+use Rattle.fvn_supports.proofs.Combining.{Sized, weight, get_or-combination}
 
 count_copies : (q : FlatTerm) (n : ℕ) (z : List FlatTerm) → count q (copies n z) ≡ count q z * n
 count_copies q zero z = omega arith

@@ -19,7 +19,6 @@ mod Falling
 mod Unfolding
 mod Spread
 mod Entries
-mod NodesOf
 mod Setting
 mod Standing
 mod Later

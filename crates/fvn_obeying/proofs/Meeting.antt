@@ -1,9 +1,9 @@
 -- What is counted of values that go with a frame meets what is asked of a choice.
-use Rattle.std.proofs.Common.{◌≡◌, ◌≢◌, ℕ, zero, ◌<◌, List, [], ◌∷◌, length, get_or, sym, ap, ◌∙◌, subst, inl, inr, arith, All, Contains, Option, slice_get}
+use Rattle.std.proofs.Common.{◌≡◌, ◌≢◌, ℕ, zero, ◌<◌, List, [], ◌∷◌, length, get_or, sym, ap, ◌∙◌, subst, inl, inr, arith, Contains, Option, slice_get}
 use Rattle.std.specs.Prelude.{Bool, pos, ◌↔◌}
 use Rattle.std.proofs.lemmas.Bool.{cases_order}
 use Rattle.std.proofs.lemmas.List.{get_or-map}
-use Rattle.std.proofs.lemmas.List.Elements.{All-contains, All-contains_itself, All-weaker}
+use Rattle.std.proofs.lemmas.List.Elements.{All-contains}
 use Rattle.fvn_base.proofs.Membership.{contains_map}
 use Rattle.fvn_terms.specs.declared.plain.OpId.{OpId}
 use Rattle.fvn_terms.specs.declared.declarations.Declarations.{Declarations}
@@ -18,6 +18,7 @@ use Rattle.fvn_flat.specs.SolvedLists.{component}
 use Rattle.fvn_nodes.specs.Table.{NodeTable, IsWellMade}
 use Rattle.fvn_nodes.specs.States.{class_of}
 use Rattle.fvn_nodes.specs.declared.state.State.{State}
+use Rattle.fvn_nodes.proofs.Lists.{all_from}
 use Rattle.fvn_sums.specs.NodeSystems.{addends, sums, coefficient, row_at, IsNodeSystem}
 use Rattle.fvn_sums.specs.Values.{AddUp, AddsNothing}
 use Rattle.fvn_sums.specs.Laws.{CountsSolve}
@@ -28,9 +29,6 @@ use Rattle.fvn_obeying.specs.Obeying.{IsTold, GoWith, ObeyTags}
 use Rattle.fvn_obeying.specs.Laws.{CountsMeet}
 use Rattle.fvn_obeying.proofs.Values.{constant_alone, constants_differ, may_be, bound_used, required_some}
 pub use Rattle.fvn_sums.proofs.Weighing.{component_at}
-
-all_from : {X : Type 0} (P : X → Type 0) (xs : List X) → ((x : X) → Contains xs x → P x) → All P xs
-all_from P xs h = All-weaker (Contains xs) P h xs (All-contains_itself xs)
 
 -- a column that f uses is used by some row
 pub not_unused : (d : Declarations) (t : NodeTable) (class : ℕ → ℕ) (f : OpId) (columns : List ℕ) (system : System) → IsNodeSystem t class f columns system → (j : ℕ) → j < length columns → Uses d t class f (get_or columns j 0) → IsUnused (rows_of system) j → ⊥

@@ -45,9 +45,9 @@ use Rattle.fvn_plans.specs.Choosing.{Systems, Choice}
 use Rattle.fvn_plans.specs.Plans.{IsFormBy}
 use Rattle.fvn_obeying.specs.LaidOut.{laid_for}
 use Rattle.fvn_obeying.proofs.Entries.{entries, members_are, spread_are, each_entry}
-use Rattle.fvn_plans.proofs.Kinded.{node_kinded}
+use Rattle.fvn_nodes.proofs.Subterms.{node_kinded}
 use Rattle.fvn_obeying.proofs.Later.{later, later_flat, value_of_name, value_of_part, value_of_variable}
-use Rattle.fvn_obeying.proofs.NodesOf.{node_of, variable_node, class_of_node}
+use Rattle.fvn_nodes.proofs.NodesOf.{node_of, variable_node, own_class}
 use Rattle.fvn_obeying.proofs.Setting.{Setting, value_kinded, class_within, same_value, column_rank, column_within, name_kinded, name_of_kind, column_name}
 use Rattle.fvn_obeying.proofs.Spread.{variables_in, spread, Stands, value_of_sum, sort_of_sum}
 use Rattle.fvn_obeying.proofs.Standing.{as_many, entry_some, entry_pieces, entry_settled, entry_kinded, variable_kinded}
@@ -166,7 +166,7 @@ module _ {d : Declarations} {problem : Problem} {t : NodeTable} {s : State} {y :
     names_are [] h = refl
     names_are (j ∷ js) h =
         let P = λ (j : ℕ). j < length t.nodes in
-        ap (λ n. more (var (plan.name n)) (names_of d problem (class_at t class) plan (pack (map (term_at t.nodes) js)))) (class_of_node d problem t g.made g.table class j (All-head P j js h))
+        ap (λ n. more (var (plan.name n)) (names_of d problem (class_at t class) plan (pack (map (term_at t.nodes) js)))) (own_class g.made g.table class j (All-head P j js h))
         ∙ ap (more (var (plan.name (class j)))) (names_are js (All-tail P j js h))
 
     all_within : All (λ j. j < length t.nodes) ks
@@ -191,7 +191,7 @@ module _ {d : Declarations} {problem : Problem} {t : NodeTable} {s : State} {y :
         ((n.0, n.1 ∙ same), names_kinded js (All-tail P j js h) qs k.1)
 
     node_kind : IsTerm d (term_at t.nodes i)
-    node_kind = node_kinded d g.good.fits problem g.kinded t g.made g.table i within_node
+    node_kind = node_kinded d g.good.fits problem g.kinded t g.table i within_node
 
     args_kinded : HasKind d (app f (pack (map (term_at t.nodes) ks))) node_kind.0
     args_kinded = subst (λ v. HasKind d v node_kind.0) (term_at-over t.nodes g.made.ordered i f ks over) node_kind.1
@@ -301,10 +301,10 @@ module _ {d : Declarations} {problem : Problem} {t : NodeTable} {s : State} {y :
 
   variable_right : (b : Var × FlatTerm) → Contains (variables_of problem) b.0 → b.1 ≡ fvar (plan.name (class_at t class (var b.0))) → Right b
   variable_right b among is =
-      let n = variable_node d problem t g.made g.table b.0 among in
+      let n = variable_node g.made g.table b.0 among in
       let i = n.number in
       let l = class_within g i n.within in
-      let of : class_at t class (var b.0) ≡ class i = ap (class_at t class) (sym n.is) ∙ class_of_node d problem t g.made g.table class i n.within in
+      let of : class_at t class (var b.0) ≡ class i = ap (class_at t class) (sym n.is) ∙ own_class g.made g.table class i n.within in
       let bound : b.1 ≡ fvar (plan.name (class i)) = is ∙ ap (λ k. fvar (plan.name k)) of in
       let value : values (class i) ≡ canon d (u b.0) = same_value g i n.within ∙ ap (λ v. canon d (apply u v)) n.is in
       let whole : later g (plan.name (class i)) ≡ later g b.0 = value_of_name g (class i) l ∙ value ∙ sym (value_of_variable g b.0 among) in
@@ -322,7 +322,7 @@ module _ {d : Declarations} {problem : Problem} {t : NodeTable} {s : State} {y :
 
   pub binding_right : (b : Var × FlatTerm) → IsBinding d problem (class_at t class) plan b → Right b
   binding_right b (inl h) =
-      let n = node_of d problem t g.made g.table h.1.0 h.1.1 in
-      let of : class n.number ≡ h.0 = sym (class_of_node d problem t g.made g.table class n.number n.within) ∙ ap (class_at t class) n.is ∙ h.1.2 in
+      let n = node_of g.made g.table h.1.0 h.1.1 in
+      let of : class n.number ≡ h.0 = sym (own_class g.made g.table class n.number n.within) ∙ ap (class_at t class) n.is ∙ h.1.2 in
       class_right h.0 b (subst (λ k. k < length t.nodes) of (class_within g n.number n.within)) h.2 h.3
   binding_right b (inr h) = variable_right b h.0 h.2

@@ -33,7 +33,7 @@ use Rattle.fvn_obeying.specs.CoveringChoices.{IsAfterNumbersOf}
 use Rattle.fvn_obeying.specs.Obeyed.{AreObeying}
 use Rattle.fvn_plans.specs.Tables.{HasSums}
 use Rattle.fvn_obeying.specs.Obeying.{IsTold, GoWith}
-use Rattle.fvn_plans.proofs.Kinded.{node_kinded}
+use Rattle.fvn_nodes.proofs.Subterms.{node_kinded}
 use Rattle.fvn_obeying.proofs.Values.{own_name}
 
 -- a frame that admits a unifier's partition, a choice that the unifier's values obey, and a plan of the choice
@@ -86,7 +86,7 @@ module _ {d : Declarations} {problem : Problem} {t : NodeTable} {s : State} {y :
   column_rank f k uses =
       let i = uses.column.sum in
       let over = uses.column.over in
-      let h = node_kinded d g.good.fits problem g.kinded t g.made g.table i (slice_get_within t.nodes i (App f (uses.column.left ∷ uses.column.right ∷ [])) over) in
+      let h = node_kinded d g.good.fits problem g.kinded t g.table i (slice_get_within t.nodes i (App f (uses.column.left ∷ uses.column.right ∷ [])) over) in
       let kinded : HasKind d (two f (term_at t.nodes uses.column.left) (term_at t.nodes uses.column.right)) h.0 =
       subst (λ v. HasKind d v h.0) (term_at-over t.nodes g.made.ordered i f (uses.column.left ∷ uses.column.right ∷ []) over) h.1
       in
@@ -101,7 +101,7 @@ module _ {d : Declarations} {problem : Problem} {t : NodeTable} {s : State} {y :
       let over = uses.column.over in
       let within = slice_get_within t.nodes i (App f (a ∷ b ∷ [])) over in
       let args = arguments_within t.nodes g.made.ordered i f (a ∷ b ∷ []) over in
-      let h = node_kinded d g.good.fits problem g.kinded t g.made g.table i within in
+      let h = node_kinded d g.good.fits problem g.kinded t g.table i within in
       let is = term_at-over t.nodes g.made.ordered i f (a ∷ b ∷ []) over in
       let whole : HasKind d (two f (term_at t.nodes a) (term_at t.nodes b)) h.0 = subst (λ v. HasKind d v h.0) is h.1 in
       let gives : h.0 ≡ kind d r.result = sym whole.result ∙ (g.good.fits.agree f whole.rank r whole.listed listed).1 in

@@ -4,8 +4,8 @@ use Rattle.std.specs.Prelude.{Bool, ◌↔◌}
 use Rattle.std.specs.List.{flat_map}
 use Rattle.std.proofs.lemmas.Bool.{cases_eq, false_from_ne_true}
 use Rattle.std.proofs.lemmas.List.{same_lists, length-replicate, get_or-replicate, get_or_default}
-use Rattle.std.proofs.lemmas.List.Elements.{All-contains_itself, All-weaker, Contains-get_or, Contains-append_left, Contains-append_right}
-use Rattle.fvn_base.proofs.Membership.{contains_here, contains_later, contains_cases, contains_none}
+use Rattle.std.proofs.lemmas.List.Elements.{All-contains_itself, All-weaker, Contains-get_or}
+use Rattle.fvn_base.proofs.Membership.{contains_here, contains_later}
 use Rattle.fvn_terms.specs.declared.plain.OpId.{OpId}
 use Rattle.fvn_terms.specs.declared.declarations.Declarations.{Declarations}
 use Rattle.fvn_forms.specs.Flat.{FlatTerm}
@@ -15,6 +15,7 @@ use Rattle.fvn_forms.specs.Canon.{parts}
 use Rattle.fvn_forms.proofs.Order.{same_flat_is}
 use Rattle.fvn_lindio.specs.declared.system.System.{System}
 use Rattle.fvn_lindio.specs.Systems.{IsMinimal, rows_of}
+use Rattle.fvn_nodes.proofs.Lists.{contains_flat_map}
 use Rattle.fvn_supports.specs.Laws.{CountsAreMadeUp, PiecesChoose}
 use Rattle.fvn_obeying.specs.Laws.{CountsMeet, IsChosen}
 
@@ -31,13 +32,6 @@ zeroes_long n = length-replicate n 0
 
 zeroes_at : (n j e : ℕ) → j < n → get_or {A = ℕ} (replicate n 0) j e ≡ 0
 zeroes_at n j e l = get_or-replicate n j 0 e l
-
-contains_flat_map : {X A : Type 0} (f : X → List A) (xs : List X) (x : X) (a : A) → Contains xs x → Contains (f x) a → Contains (flat_map f xs) a
-contains_flat_map f [] x a c h = absurd (contains_none x c)
-contains_flat_map f (y ∷ xs) x a c h = elim (contains_cases y xs x c) [
-  | inl e ↦ Contains-append_left (f y) (flat_map f xs) a (subst (λ z. Contains (f z) a) (sym e) h)
-  | inr r ↦ Contains-append_right (f y) (flat_map f xs) a (contains_flat_map f xs x a r h)
-]
 
 module _ (d : Declarations) (f : OpId) (values : ℕ → FlatTerm) (columns : List ℕ) (system : System) (wide : system.columns ≡ length columns) (basis : List (List ℕ)) (constants : List ℕ) (may_be_zero : List Bool) (meet : CountsMeet d f values columns system basis constants may_be_zero) where
   listed : List FlatTerm

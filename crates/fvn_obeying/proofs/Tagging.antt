@@ -19,7 +19,7 @@ use Rattle.fvn_nodes.specs.Laws.{UnifiersPartition}
 use Rattle.fvn_nodes.proofs.Admitting.{admits_apart, named_within}
 use Rattle.fvn_sums.specs.Laws.{UnifiersHaveValues}
 use Rattle.fvn_obeying.specs.Obeying.{GoWith, IsSumOf, ObeyTags}
-use Rattle.fvn_plans.proofs.Kinded.{node_kinded}
+use Rattle.fvn_nodes.proofs.Subterms.{node_kinded}
 
 -- the operator of a form that is a sum
 abbrev pub sum_head : FlatTerm → Option OpId
@@ -49,8 +49,8 @@ unifiers_go_with have law d fits problem is_problem t made table u unifier s clo
       let ci : class_of s i < length t.nodes = omega (arith, ni, w) in
       let cj : class_of s j < length t.nodes = omega (arith, nj, w) in
       let p = law d fits problem is_problem t made table u unifier in
-      let a = node_kinded d fits problem is_problem t made table (class_of s i) ci in
-      let b = node_kinded d fits problem is_problem t made table (class_of s j) cj in
+      let a = node_kinded d fits problem is_problem t table (class_of s i) ci in
+      let b = node_kinded d fits problem is_problem t table (class_of s j) cj in
       let left = HasKind-apply d u unifier.0 (term_at t.nodes (class_of s i)) a.0 a.1 in
       let right = HasKind-apply d u unifier.0 (term_at t.nodes (class_of s j)) b.0 b.1 in
       let equal = (b_equal_iff_canon d fits (apply u (term_at t.nodes (class_of s i))) (apply u (term_at t.nodes (class_of s j))) (a.0, left) (b.0, right)).1 same in

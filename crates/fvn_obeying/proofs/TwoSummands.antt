@@ -19,7 +19,7 @@ use Rattle.fvn_frames.specs.Frames.{IsFrame, IsSolid, IsShared}
 use Rattle.fvn_plans.specs.Binding.{IsBound, solid, alone, tagged}
 use Rattle.fvn_plans.specs.Tables.{HasSums}
 use Rattle.fvn_obeying.specs.Obeying.{IsTold, GoWith, ObeyTags}
-use Rattle.fvn_obeying.proofs.Heads.{some_part}
+use Rattle.fvn_nodes.proofs.Heading.{some_part}
 
 -- a form that is a sum of f has two summands
 two_summands : (d : Declarations) (f : OpId) (ts : FlatTerms) (v : FlatTerm) → v ≡ fapp f true ts → Settled d v → 2 ≤ length (parts d f v)

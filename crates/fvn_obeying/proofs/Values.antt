@@ -1,14 +1,12 @@
 -- The values of classes: constants are single summands, and bound classes have summands.
-use Rattle.std.proofs.Common.{◌≡◌, ◌≢◌, ◌⊎◌, ℕ, zero, suc, ◌+◌, ◌-◌, ◌<◌, ◌≤◌, true, false, List, [], ◌∷◌, length, map, get_or, refl, sym, ap, ◌∙◌, subst, inl, inr, arith, Contains, Option, Some, None, slice_get}
-use Rattle.std.specs.Prelude.{Bool, if◌then◌else◌, nat_lt, cond, ℤ, pos, negsuc, ◌-ℤ◌}
+use Rattle.std.proofs.Common.{◌≡◌, ◌≢◌, ◌⊎◌, ℕ, ◌+◌, ◌-◌, ◌<◌, ◌≤◌, true, List, [], ◌∷◌, length, map, get_or, refl, sym, ap, ◌∙◌, subst, inl, inr, arith, Contains, Option, Some, slice_get}
+use Rattle.std.specs.Prelude.{cond, pos, ◌-ℤ◌}
 use Rattle.std.specs.List.{AllByRecursion}
-use Rattle.std.proofs.lemmas.Bool.{cases_eq, eq-eqb, ne_eqb, ltb-true, ltb-false}
+use Rattle.std.proofs.lemmas.Bool.{cases_eq, eq-eqb, ne_eqb}
 use Rattle.std.proofs.lemmas.List.{length-map}
 use Rattle.std.proofs.lemmas.Option.{slice_get_within}
-use Rattle.fvn_base.proofs.Membership.{contains_cases, contains_none, contains_filter}
+use Rattle.fvn_base.proofs.Membership.{contains_filter}
 use Rattle.fvn_terms.specs.declared.plain.OpId.{OpId}
-use Rattle.fvn_terms.specs.declared.declarations.Axioms.{Axioms}
-use Rattle.fvn_terms.specs.declared.declarations.Axioms.TheVariants.{Free, Comm, AssocComm, AssocCommId}
 use Rattle.fvn_terms.specs.declared.declarations.Declarations.{Declarations}
 use Rattle.fvn_terms.specs.Signature.{axioms}
 use Rattle.fvn_terms.specs.Equality.{IsAssociative}
@@ -20,45 +18,25 @@ use Rattle.fvn_forms.proofs.InOrder.{count_itself}
 use Rattle.fvn_forms.proofs.Sums.{same_op_itself}
 use Rattle.fvn_forms.proofs.Build.{count_parts_build}
 use Rattle.fvn_lindio.specs.Systems.{above, below}
+use Rattle.fvn_flat.specs.Forms.{head_of}
 use Rattle.fvn_flat.specs.Partitions.{HasNoIdentity}
 use Rattle.fvn_nodes.specs.Table.{NodeTable, IsWellMade, IsOver}
 use Rattle.fvn_nodes.specs.States.{IsOpen, class_of}
 use Rattle.fvn_nodes.specs.declared.state.State.{State}
 use Rattle.fvn_nodes.specs.declared.table.Node.TheVariants.{App}
-use Rattle.fvn_nodes.proofs.Nodes.{arguments_within}
 use Rattle.fvn_nodes.proofs.Admitting.{decided, named_within}
+use Rattle.fvn_nodes.proofs.Heading.{identity_of, some_part, build_head}
 use Rattle.fvn_sums.specs.NodeSystems.{is_headed, addends, stands_in, coefficient, IsNodeColumn}
+use Rattle.fvn_sums.proofs.Members.{column_of_node, over_addends}
+use Rattle.fvn_sums.proofs.Weighing.{balance}
 use Rattle.fvn_frames.specs.Frames.{IsSolid, Uses, IsShared, MayBeConstant, HaveTwoHeads, IsFrame}
 use Rattle.fvn_plans.specs.Binding.{IsBound, solid, alone, tagged, IsConstant, IsRequired}
 use Rattle.fvn_plans.specs.Tables.{HasSums}
 use Rattle.fvn_obeying.specs.Obeying.{IsTold, GoWith, IsSumOf, ObeyTags}
-use Rattle.fvn_obeying.proofs.Heads.{head, build_head, build_constant, single_part, some_part}
-
--- a difference is above zero or below by what its parts differ
-balance : (m n : ℕ) → above (pos m -ℤ pos n) + n ≡ below (pos m -ℤ pos n) + m
-balance m zero = omega arith
-balance m (suc n) = go (nat_lt m (suc n)) refl
-  where
-    go : (b : Bool) → nat_lt m (suc n) ≡ b → above (cond b (negsuc (suc n - suc m)) (pos (m - suc n))) + suc n ≡ below (cond b (negsuc (suc n - suc m)) (pos (m - suc n))) + m
-    go true e = let l = ltb-true m (suc n) e in omega (arith, l)
-    go false e = let l = ltb-false m (suc n) e in omega (arith, l)
-
-pub zero_told : (z : ℤ) → (z ≡ pos 0) ⊎ (z ≡ pos 0 → ⊥)
-zero_told (pos zero) = inl refl
-zero_told (pos (suc n)) = inr (λ e. let f : above (pos (suc n)) ≡ 0 = ap above e in omega (arith, f))
-zero_told (negsuc n) = inr (λ e. let f : below (negsuc n) ≡ 0 = ap below e in omega (arith, f))
+use Rattle.fvn_obeying.proofs.Heads.{build_constant, single_part}
 
 equal_parts : (m n : ℕ) → pos m -ℤ pos n ≡ pos 0 → m ≡ n
 equal_parts m n e = let b = balance m n in let a : above (pos m -ℤ pos n) ≡ 0 = ap above e in let c : below (pos m -ℤ pos n) ≡ 0 = ap below e in omega (arith, a, b, c)
-
-over_addends : (f : OpId) (a b : ℕ) → addends f (Some (App f (a ∷ b ∷ []))) ≡ Some (a, b)
-over_addends f a b = ap (λ t. if t then Some (a, b) else None) (same_op_itself f)
-
-identity_of : (a : Axioms) (e : OpId) → HasNoIdentity a → identity a ≡ Some e → ⊥
-identity_of Free e b i = cc
-identity_of Comm e b i = cc
-identity_of AssocComm e b i = cc
-identity_of (AssocCommId o) e b i = b
 
 module _ (d : Declarations) (t : NodeTable) (made : IsWellMade t) (has : HasSums d t) (s : State) (frame : IsFrame d t s) (told : IsTold d t (class_of s)) (values : ℕ → FlatTerm) (go_with : GoWith d t s values) (tag : ℕ → Option OpId) (obey : ObeyTags d t (class_of s) tag values) where
   abbrev class : ℕ → ℕ
@@ -69,10 +47,10 @@ module _ (d : Declarations) (t : NodeTable) (made : IsWellMade t) (has : HasSums
   settled_values (k ∷ ks) = (go_with.are.settled (class k), settled_values ks)
 
   -- an operator without an identity that heads a member heads the value
-  pub head_of_solid : (f : OpId) (k : ℕ) → IsSolid d t class f k → head (values k) ≡ Some f
+  pub head_of_solid : (f : OpId) (k : ℕ) → IsSolid d t class f k → head_of (values k) ≡ Some f
   head_of_solid f k h =
-      ap (λ n. head (values n)) (sym h.of)
-      ∙ ap head (go_with.are.built h.member f h.arguments h.over)
+      ap (λ n. head_of (values n)) (sym h.of)
+      ∙ ap head_of (go_with.are.built h.member f h.arguments h.over)
       ∙ build_head d f h.no_identity (map (λ k. values (class k)) h.arguments) (settled_values h.arguments)
       (λ assoc. length-map h.arguments (λ k. values (class k)) ∙ (has.pairs h.member f h.arguments h.over assoc).0)
 
@@ -82,18 +60,7 @@ module _ (d : Declarations) (t : NodeTable) (made : IsWellMade t) (has : HasSums
     pub within : k < length t.nodes
 
   pub own_name : (f : OpId) (k : ℕ) → IsNodeColumn t class f k → IsName k
-  own_name f k h =
-      let args = arguments_within t.nodes made.ordered h.sum f (h.left ∷ h.right ∷ []) h.over in
-      elim (contains_cases (class h.sum) (class h.left ∷ class h.right ∷ []) k h.among) [
-        | inl e ↦ at h.sum (slice_get_within t.nodes h.sum (App f (h.left ∷ h.right ∷ [])) h.over) e
-        | inr r ↦ elim (contains_cases (class h.left) (class h.right ∷ []) k r) [
-          | inl e ↦ at h.left (args 0 0 (omega arith)) e
-          | inr q ↦ elim (contains_cases (class h.right) [] k q) [
-            | inl e ↦ at h.right (args 1 0 (omega arith)) e
-            | inr z ↦ absurd (contains_none k z)
-          ]
-        ]
-      ]
+  own_name f k h = let n = column_of_node made.ordered f k h in at n.0 n.1.0 n.1.1
     where
       at : (i : ℕ) → i < length t.nodes → class i ≡ k → IsName k
       at i l e =
@@ -117,7 +84,7 @@ module _ (d : Declarations) (t : NodeTable) (made : IsWellMade t) (has : HasSums
 
   constant_no_sum : (f : OpId) (k : ℕ) → IsConstant d t class tag f k → IsSumOf f (values k) → ⊥
   constant_no_sum f k h sum = elim (constant_why f k h) [
-    | inl p ↦ p.1 (let e : Some p.0 ≡ Some f = sym (head_of_solid p.0 k p.2) ∙ ap head sum.1 in cc)
+    | inl p ↦ p.1 (let e : Some p.0 ≡ Some f = sym (head_of_solid p.0 k p.2) ∙ ap head_of sum.1 in cc)
     | inr shared ↦ h.not_bound (tagged h.used shared ((obey k f shared h.used).1 sum))
   ]
 
@@ -144,7 +111,7 @@ module _ (d : Declarations) (t : NodeTable) (made : IsWellMade t) (has : HasSums
           let value : values (class p.1) ≡ fconstant e = go_with.are.built p.1 e [] over in
           elim (constant_why f k h) [
             | inl q ↦
-                let heads : Some q.0 ≡ Some e = sym (head_of_solid q.0 k q.2) ∙ ap head is in
+                let heads : Some q.0 ≡ Some e = sym (head_of_solid q.0 k q.2) ∙ ap head_of is in
                 let g_is : q.0 ≡ e = cc in
                 let m : IsSolid d t class e k = subst (λ o. IsSolid d t class o k) g_is q.2 in
                 let plain : IsAssociative (axioms d e) → ⊥ = λ assoc. (let n = (has.pairs p.1 e [] over assoc).0 in omega (arith, n)) in
@@ -173,7 +140,7 @@ module _ (d : Declarations) (t : NodeTable) (made : IsWellMade t) (has : HasSums
 
   -- two constants that are touched together differ
   pub constants_differ : (f : OpId) (k l : ℕ) → IsConstant d t class tag f k → IsConstant d t class tag f l → k ≢ l → HaveTwoHeads d t class k l ⊎ (IsOpen s k l → ⊥) → values k ≢ values l
-  constants_differ f k l hk hl n (inl two) e = two.different (let p : Some two.first ≡ Some two.second = sym (head_of_solid two.first k two.heads_first) ∙ ap head e ∙ head_of_solid two.second l two.heads_second in cc)
+  constants_differ f k l hk hl n (inl two) e = two.different (let p : Some two.first ≡ Some two.second = sym (head_of_solid two.first k two.heads_first) ∙ ap head_of e ∙ head_of_solid two.second l two.heads_second in cc)
   constants_differ f k l hk hl n (inr closed_pair) e = elim (same_class k l (own_name f k hk.used.column) (own_name f l hl.used.column).within) [
     | inl o ↦ closed_pair o
     | inr r ↦ elim r [

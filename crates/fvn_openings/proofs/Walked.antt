@@ -19,7 +19,7 @@ use Rattle.fvn_frames.specs.Readings.{IsReading}
 use Rattle.fvn_frames.specs.declared.reading.Sums.{Sums}
 use Rattle.fvn_frames.specs.declared.reading.Reading.{Reading}
 use Rattle.fvn_asking.specs.Aliases.{HasNoAlias}
-use Rattle.fvn_asking.proofs.Reading.{column_within}
+use Rattle.fvn_frames.proofs.ReadOfState.{column_within}
 use Rattle.fvn_asking.proofs.Listing.{operators_differ}
 use Rattle.fvn_wheels.specs.Wheels.{Wheel}
 use Rattle.fvn_openings.specs.declared.sharing.SharedClass.{SharedClass}

@@ -5,6 +5,7 @@ use Rattle.std.proofs.lemmas.Bool.{cases_lt}
 use Rattle.std.proofs.lemmas.List.{length-map}
 use Rattle.std.proofs.lemmas.List.Elements.{All-contains, Contains-append_left, Contains-append_right}
 use Rattle.fvn_base.proofs.Membership.{contains_here, contains_cases, contains_none}
+use Rattle.fvn_base.proofs.Options.{Some-injective}
 use Rattle.fvn_terms.specs.declared.plain.Var.{Var}
 use Rattle.fvn_terms.specs.declared.plain.OpId.{OpId}
 use Rattle.fvn_terms.specs.declared.declarations.Declarations.{Declarations}
@@ -72,12 +73,9 @@ module _ {d : Declarations} {given : Pairs} {first : ℕ} {t : NodeTable} {s : S
       let p = u.1 in
       let m : Contains t.units p = (u.0, u.2, u.3) in
       let unit = has.units p m in
-      let same = some_same unit.0 e (sym unit.1 ∙ ap (λ o. identity (axioms d o)) u.4 ∙ id) in
+      let same = Some-injective (sym unit.1 ∙ ap (λ o. identity (axioms d o)) u.4 ∙ id) in
       let together = (h.partition.nodes i p.1 e e [] [] over (subst (λ o. IsOver t.nodes p.1 o []) same unit.2)).congruent refl refl in
       column.no_identity (u.0, p, u.2, u.3, (u.4, sym together ∙ of))
-    where
-      some_same : (a b : OpId) → Some a ≡ Some b → a ≡ b
-      some_same a b e = cc
 
   -- where the variables in a sum are single summands, so are its members
   module _ (g : OpId) (sum_of : IsSumOperator d t g) where
@@ -194,9 +192,6 @@ module _ {d : Declarations} {given : Pairs} {first : ℕ} {t : NodeTable} {s : S
           | inr r ↦ absurd (name_not_given h k (class_below h k is) (subst (Contains (variables_of (problem_of given))) named r.0))
         ]
       where
-        some_same : (u v : FlatTerm) → Some u ≡ Some v → u ≡ v
-        some_same u v e = cc
-
         map_none : (ks : List ℕ) → map (λ k. value h (class_of s k)) ks ≡ [] → ks ≡ []
         map_none [] e = refl
         map_none (x ∷ xs) e = cc
@@ -208,7 +203,7 @@ module _ {d : Declarations} {given : Pairs} {first : ℕ} {t : NodeTable} {s : S
             let built = ap (value h) (sym n.of) ∙ simple_built h by.0 n.operator n.arguments n.over n.simple in
             subst (IsPiece d f) (sym built)
             (simple_piece d f n.operator n.simple (map (λ k. value h (class_of s k)) n.arguments) (λ o id same none. no_identity f k constant by.0 o n.of (subst (λ ks. IsOver t.nodes by.0 o ks) (map_none n.arguments none) (subst (λ g. IsOver t.nodes by.0 g n.arguments) same n.over)) id))
-        at (as_sum g) by e = sum_piece f g (λ same. constant.not_bound (subst (λ o. IsBound d t (class_of s) c.tag o k) (sym same) by)) k (column_class h f k constant.used.column) constant by (λ x o. smaller x (subst (λ w. Occurs x (plain w)) (some_same _ b.1 e) o))
+        at (as_sum g) by e = sum_piece f g (λ same. constant.not_bound (subst (λ o. IsBound d t (class_of s) c.tag o k) (sym same) by)) k (column_class h f k constant.used.column) constant by (λ x o. smaller x (subst (λ w. Occurs x (plain w)) (Some-injective e) o))
 
     all_alone : (x : Var) → IsAlone x
     all_alone = triangular_induction bindings h.bindings_by.triangular IsAlone (λ x u f k sum_of constant named. unbound_piece f x u) bound_alone

@@ -1,7 +1,8 @@
 -- A class is bound to a sum of one operator at most, and then no free or commutative operator heads a member.
-use Rattle.std.proofs.Common.{◌≡◌, ℕ, true, List, refl, sym, ap, ◌∙◌, subst, inl, inr, Option, Some}
+use Rattle.std.proofs.Common.{◌≡◌, ℕ, true, List, refl, sym, ap, ◌∙◌, subst, inl, inr, Option}
 use Rattle.fvn_base.specs.Decided.{Decided}
 use Rattle.fvn_base.proofs.Decided.{decided_by}
+use Rattle.fvn_base.proofs.Options.{Some-injective}
 use Rattle.fvn_terms.specs.declared.plain.OpId.{OpId}
 use Rattle.fvn_terms.specs.declared.declarations.Axioms.{Axioms}
 use Rattle.fvn_terms.specs.declared.declarations.Axioms.TheVariants.{Free, Comm, AssocComm, AssocCommId}
@@ -35,9 +36,6 @@ simple_unsummed Comm h s = s
 simple_unsummed AssocComm h s = h
 simple_unsummed (AssocCommId e) h s = h
 
-some_same : {A : Type 0} (x y : A) → Some x ≡ Some y → x ≡ y
-some_same x y e = cc
-
 module _ {d : Declarations} {t : NodeTable} {class : ℕ → ℕ} (partition : IsNodePartition d t class) where
   -- members whose operators have no identity have one operator
   pub one_head : (i j : ℕ) (f g : OpId) (ks ls : List ℕ) → IsOver t.nodes i f ks → IsOver t.nodes j g ls → class i ≡ class j → HasNoIdentity (axioms d f) → HasNoIdentity (axioms d g) → f ≡ g
@@ -60,7 +58,7 @@ module _ {d : Declarations} {t : NodeTable} {class : ℕ → ℕ} (partition : I
     bound_once f g k (alone v soft only) (tagged u shared e) = sym (only g u)
     bound_once f g k (tagged v shared q) (solid b r) = absurd (shared.soft g r)
     bound_once f g k (tagged v shared q) (alone u soft only) = only f v
-    bound_once f g k (tagged v shared q) (tagged u again e) = some_same f g (sym q ∙ e)
+    bound_once f g k (tagged v shared q) (tagged u again e) = Some-injective (sym q ∙ e)
 
     -- where a free or commutative operator heads a member, it is bound to no sum
     pub simple_unbound : {y : Systems} {c : Choice} (f : OpId) (k i : ℕ) → IsSimpleAt d t class y c k i → IsBound d t class tag f k → ⊥

@@ -1,18 +1,14 @@
 -- Components of solutions by classes, and the solutions that are taken.
-use Rattle.std.proofs.Common.{◌≡◌, ◌≢◌, ℕ, ◌+◌, ◌/◌, ◌%◌, ◌==◌, ◌<◌, ◌≤◌, Bool, true, false, List, [], ◌∷◌, length, map, get_or, sum_by, count_by, filter, refl, sym, ap, ◌∙◌, subst, inl, inr, arith, All, AllPairs, Contains}
+use Rattle.std.proofs.Common.{◌≡◌, ◌≢◌, ℕ, ◌+◌, ◌/◌, ◌%◌, ◌==◌, ◌<◌, ◌≤◌, Bool, true, false, List, [], ◌∷◌, length, map, get_or, sum_by, count_by, filter, refl, sym, ap, ◌∙◌, subst, inl, inr, arith, AllPairs, Contains}
 use Rattle.std.specs.Prelude.{if◌then◌else◌, cond}
 use Rattle.std.proofs.lemmas.Bool.{cases_eq, ne_eqb}
 use Rattle.std.proofs.lemmas.List.{get_or_default}
-use Rattle.std.proofs.lemmas.List.Elements.{All-weaker, All-contains_itself}
 use Rattle.std.proofs.lemmas.List.Sums.{sum_by-cons, length-filter}
 use Rattle.fvn_base.proofs.Membership.{contains_here, contains_later, contains_cases, contains_none, contains_filter, filter_contains}
 use Rattle.fvn_base.proofs.Pigeonhole.{AllPairs-tail, AllPairs-first, AllPairs-cons}
 use Rattle.fvn_acunify.specs.ValidChoice.{chosen, column_sum}
 use Rattle.fvn_flat.specs.SolvedLists.{component}
 pub use Rattle.fvn_sums.proofs.Weighing.{component_at}
-
-pub all_from : {X : Type 0} (P : X → Type 0) (xs : List X) → ((x : X) → Contains xs x → P x) → All P xs
-all_from P xs h = All-weaker (Contains xs) P h xs (All-contains_itself xs)
 
 -- a class with a component other than 0 has a column
 pub column_listed : (columns v : List ℕ) (k : ℕ) → 0 < component columns v k → Contains columns k

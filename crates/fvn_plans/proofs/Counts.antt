@@ -14,7 +14,7 @@ use Rattle.fvn_forms.specs.Canon.{parts, all_parts, inst}
 use Rattle.fvn_forms.proofs.InOrder.{count_append}
 use Rattle.fvn_forms.proofs.Sums.{all_parts-append}
 use Rattle.fvn_flat.specs.SolvedLists.{Part, members}
-use Rattle.fvn_plans.proofs.Combined.{weight}
+use Rattle.fvn_supports.proofs.Combining.{weight}
 use Rattle.fvn_plans.proofs.Members.{times_in}
 
 -- each part so many times

@@ -4,18 +4,17 @@ use Rattle.std.specs.List.{AllByRecursion}
 use Rattle.std.proofs.lemmas.List.Elements.{All-head, All-tail, All-contains}
 use Rattle.std.proofs.lemmas.Option.{slice_get_within}
 use Rattle.fvn_base.proofs.Membership.{contains_cases, contains_none}
+use Rattle.fvn_base.proofs.Options.{Some-injective}
 use Rattle.fvn_terms.specs.declared.plain.Var.{Var}
 use Rattle.fvn_terms.specs.declared.plain.OpId.{OpId}
 use Rattle.fvn_terms.specs.declared.plain.SortId.{SortId}
 use Rattle.fvn_terms.specs.declared.declarations.Axioms.{Axioms}
 use Rattle.fvn_terms.specs.declared.declarations.Axioms.TheVariants.{Free, Comm, AssocComm, AssocCommId}
-use Rattle.fvn_terms.specs.declared.declarations.Rank.{Rank}
 use Rattle.fvn_terms.specs.declared.declarations.Declarations.{Declarations}
-use Rattle.fvn_terms.specs.Term.{Term, var, app, pack}
-use Rattle.fvn_terms.specs.Signature.{kind, declared, axioms, IsSort, HasKind, HaveKinds, IsTerm, KeepsKinds}
+use Rattle.fvn_terms.specs.Term.{var, app, pack}
+use Rattle.fvn_terms.specs.Signature.{kind, axioms, IsSort, HasKind, HaveKinds, IsTerm, KeepsKinds}
 use Rattle.fvn_terms.specs.Equality.{constant, IsAssociative}
 use Rattle.fvn_forms.specs.Flat.{FlatTerm, fvar, plain}
-use Rattle.fvn_forms.specs.Good.{IsGood}
 use Rattle.fvn_forms.specs.Canon.{identity, empty_sum, sum, canon}
 use Rattle.fvn_forms.proofs.KindsKept.{kind_unique, both_of_kind}
 use Rattle.fvn_forms.proofs.KindsOfSums.{sum_of_forms_of_kind}
@@ -31,15 +30,16 @@ use Rattle.fvn_nodes.specs.States.{class_of}
 use Rattle.fvn_nodes.specs.declared.state.State.{State}
 use Rattle.fvn_nodes.specs.declared.table.Node.TheVariants.{App}
 use Rattle.fvn_nodes.proofs.Nodes.{term_at-over, arguments_within}
+use Rattle.fvn_nodes.proofs.NodesOf.{own_class, variable_place}
+use Rattle.fvn_nodes.proofs.Subterms.{node_kinded}
 use Rattle.fvn_sums.specs.NodeSystems.{IsNodeColumn}
 use Rattle.fvn_frames.specs.Frames.{IsSumOperator}
 use Rattle.fvn_plans.specs.Binding.{IsBound}
 use Rattle.fvn_plans.specs.Choosing.{Systems, Choice}
 use Rattle.fvn_plans.specs.Plans.{IsFormBy}
 use Rattle.fvn_plans.specs.Laws.{IsPlanned}
+use Rattle.fvn_plans.proofs.KindsOf.{kind_itself, IsKindOf, kind_of_unique}
 use Rattle.fvn_plans.proofs.Triangular.{unfolded_keeps}
-use Rattle.fvn_plans.proofs.Kinded.{node_kinded}
-use Rattle.fvn_plans.proofs.Places.{own_class, variable_node}
 use Rattle.fvn_plans.proofs.Valid.{bound_column}
 use Rattle.fvn_plans.proofs.Planned.{has_sums, class_within, class_itself, class_below, bound_operator}
 use Rattle.fvn_plans.proofs.Parts.{part_stands}
@@ -52,26 +52,9 @@ bare Comm e = tt
 bare AssocComm e = tt
 bare (AssocCommId o) e = cc
 
-module _ {d : Declarations} (good : IsGood d) where
-  -- a kind that a term has is a sort, and its own kind
-  pub kind_itself : (u : Term) (k : SortId) → HasKind d u k → IsSort d k × (kind d k ≡ k)
-  kind_itself (var x) k r = (subst (IsSort d) r.1 (good.kinded.listed x.sort r.0), ap (kind d) (sym r.1) ∙ good.kinded.own x.sort ∙ r.1)
-  kind_itself (app f ts) k r =
-      let s = r.rank.result in
-      (subst (IsSort d) r.result (good.kinded.listed s (good.kinded.ranks f r.rank r.listed).1), ap (kind d) (sym r.result) ∙ good.kinded.own s ∙ r.result)
-
-  -- the kind of what f gives
-  pub record IsKindOf (f : OpId) (k : SortId) : Type 0 where
-    pub rank : Rank
-    pub listed : Contains (declared d f).ranks rank
-    pub gives : kind d rank.result ≡ k
-
-  pub kind_of_unique : (f : OpId) (k q : SortId) → IsKindOf f k → IsKindOf f q → k ≡ q
-  kind_of_unique f k q a b = sym a.gives ∙ (good.fits.agree f a.rank b.rank a.listed b.listed).1 ∙ b.gives
-
 module _ {d : Declarations} {given : Pairs} {first : ℕ} {t : NodeTable} {s : State} {y : Systems} {c : Choice} {next : ℕ} {plan : Plan} {bindings : Bindings} (h : IsPlanned d given first t s y c next plan bindings) where
   pub term_kinded : (i : ℕ) → i < length t.nodes → IsTerm d (term_at t.nodes i)
-  term_kinded i l = node_kinded d h.good.fits (problem_of given) h.is_given.kinds t h.well_made h.table i l
+  term_kinded i l = node_kinded d h.good.fits (problem_of given) h.is_given.kinds t h.table i l
 
   -- the name of a class has the kind of each node in it
   pub name_kind : (i : ℕ) → i < length t.nodes → (k : SortId) → HasKind d (term_at t.nodes i) k → HasKind d (var (plan.name (class_of s i))) k
@@ -159,9 +142,6 @@ module _ {d : Declarations} {given : Pairs} {first : ℕ} {t : NodeTable} {s : S
   pub bound_kind : (k : ℕ) → IsClass d (problem_of given) (class_at t (class_of s)) k → (u : FlatTerm) → bound_as d (problem_of given) (class_at t (class_of s)) plan (plan.form k) k ≡ Some u → HasKind d (plain u) (kind d (plan.name k).sort)
   bound_kind k is u e = go (plan.form k) (h.plan_by.forms k (class_below h k is)) e
     where
-      some_same : (a b : FlatTerm) → Some a ≡ Some b → a ≡ b
-      some_same a b e = cc
-
       go : (form : Form) → IsFormBy d t (class_of s) y c k form → bound_as d (problem_of given) (class_at t (class_of s)) plan form k ≡ Some u → HasKind d (plain u) (kind d (plan.name k).sort)
       go unbound by e = cc
       go (as_member v) by e =
@@ -171,22 +151,22 @@ module _ {d : Declarations} {given : Pairs} {first : ℕ} {t : NodeTable} {s : S
           let r = term_kinded i within in
           let named = class_kind i k within m.of r.0 r.1 in
           let whole = canon_of_kind d h.good.fits (app m.operator (names_of d (problem_of given) (class_at t (class_of s)) plan (pack (map (term_at t.nodes) m.arguments)))) r.0 (over_names_kind i m.operator m.arguments m.over r.0 r.1) in
-          let same = sym (over_classes_is i m.operator m.arguments m.over) ∙ ap (over_classes d (problem_of given) (class_at t (class_of s)) plan) by.2 ∙ some_same _ u e in
+          let same = sym (over_classes_is i m.operator m.arguments m.over) ∙ ap (over_classes d (problem_of given) (class_at t (class_of s)) plan) by.2 ∙ Some-injective e in
           subst (HasKind d (plain u)) (sym named.1) (subst (λ w. HasKind d (plain w) r.0) same whole)
       go (as_sum f) by e =
           let sum_of = bound_operator h f k by in
           let column = ((h.systems.is_system f sum_of).exact k).0 (bound_column (has_sums h) (class_of s) y h.systems c f sum_of k by) in
           let q = column_kind f sum_of.associative k column in
-          subst (HasKind d (plain u)) (sym q.1.0.1) (subst (λ w. HasKind d (plain w) q.0) (some_same _ u e) (sum_kind f k by q.0 q.1.1))
+          subst (HasKind d (plain u)) (sym q.1.0.1) (subst (λ w. HasKind d (plain w) q.0) (Some-injective e) (sum_kind f k by q.0 q.1.1))
 
   binding_kind : (b : Var × FlatTerm) → IsBinding d (problem_of given) (class_at t (class_of s)) plan b → HasKind d (plain b.1) (kind d b.0.sort)
   binding_kind b (inl r) = subst (λ x. HasKind d (plain b.1) (kind d x.sort)) (sym r.2) (bound_kind r.0 r.1 b.1 r.3)
   binding_kind b (inr r) =
       let x = b.0 in
-      let n = variable_node h.well_made h.table x r.0 in
-      let own = ap (class_at t (class_of s)) (sym n.2) ∙ own_class h.well_made h.table (class_of s) n.0 n.1 in
+      let n = variable_place h.well_made h.table x r.0 in
+      let own = ap (class_at t (class_of s)) (sym n.3) ∙ own_class h.well_made h.table (class_of s) n.0 n.1 in
       let kinded = term_kinded n.0 n.1 in
-      let there : HasKind d (var x) kinded.0 = subst (λ u. HasKind d u kinded.0) n.2 kinded.1 in
+      let there : HasKind d (var x) kinded.0 = subst (λ u. HasKind d u kinded.0) n.3 kinded.1 in
       subst (λ u. HasKind d (plain u) (kind d x.sort)) (sym (r.2 ∙ ap (λ m. fvar (plan.name m)) own)) (subst (HasKind d (var (plan.name (class_of s n.0)))) (sym there.1) (name_kind n.0 n.1 kinded.0 kinded.1))
 
   -- what the bindings unfold to keeps kinds

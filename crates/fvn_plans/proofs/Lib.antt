@@ -1,19 +1,18 @@
 -- Lemmas of choices and of their plans; the public ones are for callers.
 pub mod Triangular
-mod Terms
 pub mod Kinded
 mod Places
-mod Columns
+pub mod Columns
 mod Using
-mod Solids
+pub mod Solids
 mod Valid
 mod Planned
 mod Bound
 mod Parts
 mod Members
 mod Standing
+pub mod KindsOf
 mod Kinding
-pub mod Combined
 mod Counts
 mod Values
 mod Occurring

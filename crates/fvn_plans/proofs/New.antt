@@ -3,6 +3,7 @@ use Rattle.std.proofs.Common.{◌≡◌, ◌≢◌, ℕ, ◌<◌, ◌≤◌, tru
 use Rattle.std.specs.List.{AllByRecursion}
 use Rattle.std.proofs.lemmas.List.Elements.{All-head, All-tail, All-contains}
 use Rattle.std.proofs.lemmas.Option.{slice_get_within}
+use Rattle.fvn_base.proofs.Options.{Some-injective}
 use Rattle.fvn_terms.specs.declared.plain.Var.{Var}
 use Rattle.fvn_terms.specs.declared.plain.OpId.{OpId}
 use Rattle.fvn_terms.specs.declared.declarations.Declarations.{Declarations}
@@ -22,16 +23,17 @@ use Rattle.fvn_nodes.specs.States.{class_of}
 use Rattle.fvn_nodes.specs.declared.state.State.{State}
 use Rattle.fvn_nodes.specs.declared.table.Node.TheVariants.{App}
 use Rattle.fvn_nodes.proofs.Nodes.{arguments_within}
+use Rattle.fvn_nodes.proofs.NodesOf.{own_class, variable_place}
 use Rattle.fvn_frames.specs.Frames.{IsSumOperator}
 use Rattle.fvn_plans.specs.Choosing.{Systems, Choice}
 use Rattle.fvn_plans.specs.Plans.{IsForSolution, IsFormBy, unfolds_to}
 use Rattle.fvn_plans.specs.Laws.{IsPlanned, PlannedBindingsUnfoldToNew}
 use Rattle.fvn_plans.proofs.Triangular.{unfolded_bound, unfolded_occurs}
-use Rattle.fvn_plans.proofs.Places.{own_class, variable_node}
 use Rattle.fvn_plans.proofs.Planned.{class_within, class_below, column_class, name_not_given, bound_operator}
 use Rattle.fvn_plans.proofs.Parts.{part_stands}
 use Rattle.fvn_plans.proofs.Members.{each_member}
-use Rattle.fvn_plans.proofs.Kinding.{kind_itself, term_kinded, over_names_kind, over_classes_is, bindings_keep}
+use Rattle.fvn_plans.proofs.KindsOf.{kind_itself}
+use Rattle.fvn_plans.proofs.Kinding.{term_kinded, over_names_kind, over_classes_is, bindings_keep}
 use Rattle.fvn_plans.proofs.Occurring.{canon_occurs, sum_occurs}
 
 module _ {d : Declarations} {given : Pairs} {first : ℕ} {t : NodeTable} {s : State} {y : Systems} {c : Choice} {next : ℕ} {plan : Plan} {bindings : Bindings} (h : IsPlanned d given first t s y c next plan bindings) where
@@ -86,38 +88,35 @@ module _ {d : Declarations} {given : Pairs} {first : ℕ} {t : NodeTable} {s : S
   class_new : (k : ℕ) → IsClass d (problem_of given) (class_at t (class_of s)) k → (u : FlatTerm) → bound_as d (problem_of given) (class_at t (class_of s)) plan (plan.form k) k ≡ Some u → (z : Var) → Occurs z (plain u) → IsNewOne z
   class_new k is u e z o = go (plan.form k) (h.plan_by.forms k (class_below h k is)) e
     where
-      some_same : (a b : FlatTerm) → Some a ≡ Some b → a ≡ b
-      some_same a b e = cc
-
       go : (form : Form) → IsFormBy d t (class_of s) y c k form → bound_as d (problem_of given) (class_at t (class_of s)) plan form k ≡ Some u → IsNewOne z
       go unbound by e = cc
       go (as_member v) by e =
           let m = by.1 in
           let within = slice_get_within t.nodes by.0 (App m.operator m.arguments) m.over in
           let r = term_kinded h by.0 within in
-          let same = sym (some_same _ u e) ∙ ap (over_classes d (problem_of given) (class_at t (class_of s)) plan) (sym by.2) ∙ over_classes_is h by.0 m.operator m.arguments m.over in
+          let same = sym (Some-injective e) ∙ ap (over_classes d (problem_of given) (class_at t (class_of s)) plan) (sym by.2) ∙ over_classes_is h by.0 m.operator m.arguments m.over in
           let there = canon_occurs d h.good.fits z (app m.operator (names_of d (problem_of given) (class_at t (class_of s)) plan (pack (map (term_at t.nodes) m.arguments)))) r.0 (over_names_kind h by.0 m.operator m.arguments m.over r.0 r.1) (subst (λ w. Occurs z (plain w)) same o) in
           names_new z m.arguments (arguments_within t.nodes h.well_made.ordered by.0 m.operator m.arguments m.over) there
       go (as_sum f) by e =
           let sum = bound_operator h f k by in
           let l = members_of d (problem_of given) (class_at t (class_of s)) plan f k in
           let all = each_member (λ u. Occurs z (plain u) → IsNewOne z) (plan.columns f) (plan.parts f) k (λ p m some o. subst IsNewOne (sym o) (part_new f sum p m)) in
-          among_new z l all (sum_occurs z d f l (subst (λ w. Occurs z (plain w)) (sym (some_same _ u e)) o))
+          among_new z l all (sum_occurs z d f l (subst (λ w. Occurs z (plain w)) (sym (Some-injective e)) o))
 
   binding_new : (b : Var × FlatTerm) → IsBinding d (problem_of given) (class_at t (class_of s)) plan b → (z : Var) → Occurs z (plain b.1) → IsNewOne z
   binding_new b (inl r) z o = class_new r.0 r.1 b.1 r.3 z o
   binding_new b (inr r) z o =
-      let n = variable_node h.well_made h.table b.0 r.0 in
-      let own = ap (class_at t (class_of s)) (sym n.2) ∙ own_class h.well_made h.table (class_of s) n.0 n.1 in
+      let n = variable_place h.well_made h.table b.0 r.0 in
+      let own = ap (class_at t (class_of s)) (sym n.3) ∙ own_class h.well_made h.table (class_of s) n.0 n.1 in
       let e : z ≡ plan.name (class_of s n.0) = subst (λ u. Occurs z (plain u)) (r.2 ∙ ap (λ m. fvar (plan.name m)) own) o in
       subst IsNewOne (sym e) (name_new (class_of s n.0) (class_within h n.0 n.1))
 
   pub unfolding_new : (x : Var) → Contains (variables_of (problem_of given)) x → (z : Var) → Occurs z (plain (unfolds_to d bindings x)) → IsNewOne z
   unfolding_new x m z o =
-      let n = variable_node h.well_made h.table x m in
-      let own = ap (class_at t (class_of s)) (sym n.2) ∙ own_class h.well_made h.table (class_of s) n.0 n.1 in
+      let n = variable_place h.well_made h.table x m in
+      let own = ap (class_at t (class_of s)) (sym n.3) ∙ own_class h.well_made h.table (class_of s) n.0 n.1 in
       let kinded = term_kinded h n.0 n.1 in
-      let there : HasKind d (var x) kinded.0 = subst (λ u. HasKind d u kinded.0) n.2 kinded.1 in
+      let there : HasKind d (var x) kinded.0 = subst (λ u. HasKind d u kinded.0) n.3 kinded.1 in
       let inside = canon_occurs d h.good.fits z (unfolded bindings x) (kind d x.sort) (bindings_keep h x there.0) o in
       let within = class_within h n.0 n.1 in
       let named = plan.name (class_at t (class_of s) (var x)) in

@@ -8,8 +8,8 @@ use Rattle.fvn_nodes.specs.Table.{term_at}
 use Rattle.fvn_nodes.specs.Unifiers.{kernel}
 use Rattle.fvn_nodes.specs.Laws.{UnifiersPartition}
 use Rattle.fvn_nodes.proofs.Admitting.{admits_same}
+use Rattle.fvn_nodes.proofs.Subterms.{node_kinded}
 use Rattle.fvn_plans.specs.Laws.{ClassesHaveOneKind}
-use Rattle.fvn_plans.proofs.Kinded.{node_kinded}
 
 pub classes_have_one_kind : UnifiersPartition → ClassesHaveOneKind
 classes_have_one_kind law = λ d fits problem is_problem t made table u unifier s closed admits i j k li lj same h.
@@ -17,6 +17,6 @@ classes_have_one_kind law = λ d fits problem is_problem t made table u unifier 
     let together = admits_same s (kernel d u t.nodes) admits i j (omega (arith, whole, li)) (omega (arith, whole, lj)) same in
     let equal = ((law d fits problem is_problem t made table u unifier).exact i j li lj).0 together in
     let there = b_equal_keeps_kind d fits equal k (HasKind-apply d u unifier.0 (term_at t.nodes i) k h) in
-    let own = node_kinded d fits problem is_problem t made table j lj in
+    let own = node_kinded d fits problem is_problem t table j lj in
     let here = HasKind-apply d u unifier.0 (term_at t.nodes j) own.0 own.1 in
     subst (HasKind d (term_at t.nodes j)) (kind_unique d fits (apply u (term_at t.nodes j)) own.0 k here there) own.1

@@ -14,10 +14,10 @@ use Rattle.fvn_forms.specs.Canon.{same_op, identity, is_identity, parts, all_par
 use Rattle.fvn_forms.specs.Settled.{Settled, IsPiece}
 use Rattle.fvn_forms.proofs.InOrder.{length_sort}
 use Rattle.fvn_forms.proofs.Sums.{same_op_is}
-use Rattle.fvn_forms.proofs.Build.{parts_none, parts_build, sort_is_nil}
+use Rattle.fvn_forms.proofs.Build.{parts_build, sort_is_nil}
 use Rattle.fvn_flat.specs.Partitions.{HasNoIdentity}
 use Rattle.fvn_flat.specs.SolvedLists.{IsSimple}
-use Rattle.fvn_plans.proofs.Solids.{identity_of}
+use Rattle.fvn_nodes.proofs.Heading.{some_part}
 
 module _ (d : Declarations) where
   -- what has two summands under one operator is a single summand under any other
@@ -39,23 +39,15 @@ module _ (d : Declarations) where
       go false two = absurd (omega (arith, two))
   long_piece f g n (fapp o false (fmore t ts)) two = absurd (omega (arith, two))
 
-  -- under an operator without an identity each form has a summand
-  some_part : (f : OpId) → HasNoIdentity (axioms d f) → (v : FlatTerm) → Settled d v → 1 ≤ length (parts d f v)
-  some_part f bare v h = go (parts d f v) refl
-    where
-      go : (l : List FlatTerm) → parts d f v ≡ l → 1 ≤ length (parts d f v)
-      go [] is = absurd (let p = parts_none d f v h is in identity_of (axioms d f) p.0 bare p.1)
-      go (u ∷ us) is = let n = ap length is in omega (arith, n)
-
-  -- what such an operator builds over two has two
+  -- what an operator without an identity builds over two has two
   pub long_sum : (f : OpId) → HasNoIdentity (axioms d f) → IsAssociative (axioms d f) → (a b : FlatTerm) → Settled d a → Settled d b → 2 ≤ length (parts d f (build d f (a ∷ b ∷ [])))
   long_sum f bare assoc a b ha hb =
       let e = ap length (parts_build d f assoc a (b ∷ []) (ha, (hb, tt))) in
       let l = length_sort (all_parts d f (a ∷ b ∷ [])) in
       let m = length-append (parts d f a) (parts d f b ++ []) in
       let n = length-append (parts d f b) [] in
-      let p = some_part f bare a ha in
-      let q = some_part f bare b hb in
+      let p = some_part d f bare a ha in
+      let q = some_part d f bare b hb in
       omega (arith, e, l, m, n, p, q)
 
   -- what is no sum and not the identity

@@ -1,7 +1,5 @@
 -- The classes of a state with its plan, and their names.
-use Rattle.std.proofs.Common.{◌≡◌, ◌≢◌, ℕ, ◌<◌, ◌≤◌, true, [], ◌∷◌, length, sym, ap, ◌∙◌, subst, inl, inr, arith, Contains}
-use Rattle.std.proofs.lemmas.Option.{slice_get_within}
-use Rattle.fvn_base.proofs.Membership.{contains_cases, contains_none}
+use Rattle.std.proofs.Common.{◌≡◌, ◌≢◌, ℕ, ◌<◌, ◌≤◌, true, length, sym, ap, ◌∙◌, subst, arith, Contains}
 use Rattle.fvn_terms.specs.declared.plain.Var.{Var}
 use Rattle.fvn_terms.specs.declared.plain.OpId.{OpId}
 use Rattle.fvn_terms.specs.declared.declarations.Declarations.{Declarations}
@@ -10,13 +8,12 @@ use Rattle.fvn_flat.specs.Problems.{variables_of}
 use Rattle.fvn_flat.specs.Solving.{problem_of}
 use Rattle.fvn_flat.specs.SolvedLists.{Plan, IsClass}
 use Rattle.fvn_flat.specs.declared.solver.Pairs.{Pairs}
-use Rattle.fvn_nodes.specs.Table.{NodeTable, IsOrdered, term_at}
+use Rattle.fvn_nodes.specs.Table.{NodeTable, term_at}
 use Rattle.fvn_nodes.specs.Laws.{class_at}
 use Rattle.fvn_nodes.specs.States.{class_of}
 use Rattle.fvn_nodes.specs.declared.state.State.{State}
-use Rattle.fvn_nodes.specs.declared.table.Node.TheVariants.{App}
-use Rattle.fvn_nodes.proofs.Nodes.{arguments_within}
 use Rattle.fvn_nodes.proofs.Admitting.{named_within}
+use Rattle.fvn_nodes.proofs.NodesOf.{node_of, is_node, own_class}
 use Rattle.fvn_sums.specs.NodeSystems.{IsNodeColumn}
 use Rattle.fvn_frames.specs.Frames.{IsSumOperator}
 use Rattle.fvn_plans.specs.Binding.{IsBound, solid, alone, tagged}
@@ -24,23 +21,9 @@ use Rattle.fvn_plans.specs.Choosing.{Systems, Choice}
 use Rattle.fvn_plans.specs.Plans.{IsForSolution}
 use Rattle.fvn_plans.specs.Laws.{IsPlanned}
 use Rattle.fvn_plans.specs.Tables.{HasSums}
+use Rattle.fvn_sums.proofs.Members.{column_of_node}
 use Rattle.fvn_plans.proofs.Kinded.{tables_have_sums}
-use Rattle.fvn_plans.proofs.Places.{node_of, is_node, own_class, sum_operator}
-
--- the class of a column is that of a node
-pub column_of_node : {t : NodeTable} {class : ℕ → ℕ} → IsOrdered t.nodes → (f : OpId) (k : ℕ) → IsNodeColumn t class f k → (i : ℕ) × ((i < length t.nodes) × (class i ≡ k))
-column_of_node {t} {class} ordered f k h =
-    let args = arguments_within t.nodes ordered h.sum f (h.left ∷ h.right ∷ []) h.over in
-    elim (contains_cases (class h.sum) (class h.left ∷ class h.right ∷ []) k h.among) [
-      | inl e ↦ (h.sum, (slice_get_within t.nodes h.sum (App f (h.left ∷ h.right ∷ [])) h.over, e))
-      | inr r ↦ elim (contains_cases (class h.left) (class h.right ∷ []) k r) [
-        | inl e ↦ (h.left, (args 0 0 (omega arith), e))
-        | inr q ↦ elim (contains_cases (class h.right) [] k q) [
-          | inl e ↦ (h.right, (args 1 0 (omega arith), e))
-          | inr z ↦ absurd (contains_none k z)
-        ]
-      ]
-    ]
+use Rattle.fvn_plans.proofs.Places.{sum_operator}
 
 module _ {d : Declarations} {given : Pairs} {first : ℕ} {t : NodeTable} {s : State} {y : Systems} {c : Choice} {next : ℕ} {plan : Plan} {bindings : Bindings} (h : IsPlanned d given first t s y c next plan bindings) where
   pub has_sums : HasSums d t

@@ -2,6 +2,7 @@
 use Rattle.std.proofs.Common.{◌≡◌, ℕ, false, List, [], ◌∷◌, map, refl, sym, ap, ◌∙◌, subst, inl, inr, All, Some}
 use Rattle.std.specs.List.{AllByRecursion}
 use Rattle.std.proofs.lemmas.List.Elements.{All-contains}
+use Rattle.fvn_base.proofs.Options.{Some-injective}
 use Rattle.fvn_terms.specs.declared.plain.Var.{Var}
 use Rattle.fvn_terms.specs.declared.plain.OpId.{OpId}
 use Rattle.fvn_terms.specs.declared.declarations.Declarations.{Declarations}
@@ -22,13 +23,13 @@ use Rattle.fvn_nodes.specs.Table.{NodeTable, term_at}
 use Rattle.fvn_nodes.specs.Laws.{class_at}
 use Rattle.fvn_nodes.specs.States.{class_of}
 use Rattle.fvn_nodes.specs.declared.state.State.{State}
+use Rattle.fvn_nodes.proofs.Lists.{all_from}
 use Rattle.fvn_supports.specs.Laws.{CombinationsSolve}
 use Rattle.fvn_sums.specs.Laws.{CountsSolve}
 use Rattle.fvn_plans.specs.Choosing.{Systems, Choice}
 use Rattle.fvn_plans.specs.Plans.{IsFormBy, unfolds_to, size_in}
 use Rattle.fvn_plans.specs.Laws.{IsPlanned, SizesAddUp}
 use Rattle.fvn_plans.proofs.Triangular.{unfolding_bound, unfolding_settled}
-use Rattle.fvn_plans.proofs.Columns.{all_from}
 use Rattle.fvn_plans.proofs.Planned.{class_below, bound_operator}
 use Rattle.fvn_plans.proofs.Members.{each_member}
 use Rattle.fvn_plans.proofs.Kinding.{over_classes_is}
@@ -62,20 +63,17 @@ module _ {d : Declarations} {given : Pairs} {first : ℕ} {t : NodeTable} {s : S
     class_adds : (k : ℕ) → IsClass d (problem_of given) (class_at t (class_of s)) k → (u : FlatTerm) → bound_as d (problem_of given) (class_at t (class_of s)) plan (plan.form k) k ≡ Some u → AddsUp u
     class_adds k is u e = go (plan.form k) (h.plan_by.forms k (class_below h k is)) e
       where
-        some_same : (a b : FlatTerm) → Some a ≡ Some b → a ≡ b
-        some_same a b e = cc
-
         go : (form : Form) → IsFormBy d t (class_of s) y c k form → bound_as d (problem_of given) (class_at t (class_of s)) plan form k ≡ Some u → AddsUp u
         go unbound by e = cc
         go (as_member v) by e =
             let m = by.1 in
             let ts = pack (map (term_at t.nodes) m.arguments) in
-            let same = sym (over_classes_is h by.0 m.operator m.arguments m.over) ∙ ap (over_classes d (problem_of given) (class_at t (class_of s)) plan) by.2 ∙ some_same _ u e in
+            let same = sym (over_classes_is h by.0 m.operator m.arguments m.over) ∙ ap (over_classes d (problem_of given) (class_at t (class_of s)) plan) by.2 ∙ Some-injective e in
             subst AddsUp same (size_built d (unfolds_to d bindings) (unfolding_settled d bindings) m.operator m.simple (eval_all d fvar (names_of d (problem_of given) (class_at t (class_of s)) plan ts)) (names_variables ts))
         go (as_sum f) by e =
             let sum_of = bound_operator h f k by in
             let l = members_of d (problem_of given) (class_at t (class_of s)) plan f k in
-            subst AddsUp (some_same _ u e)
+            subst AddsUp (Some-injective e)
             (size_sum d (unfolds_to d bindings) (unfolding_settled d bindings) f sum_of.associative l (members_or_identity h f k by)
             (each_member IsVariable (plan.columns f) (plan.parts f) k (λ p m some. (p.variable, refl)))
             (each_instance h (IsPiece d f) l (each_member (λ w. IsPiece d f (inst d (unfolds_to d bindings) w)) (plan.columns f) (plan.parts f) k (λ p m some. part_piece h solve combine f sum_of p m))))

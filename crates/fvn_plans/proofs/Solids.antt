@@ -1,23 +1,16 @@
 -- What an associative operator without an identity heads has a column of its sum system.
-use Rattle.std.proofs.Common.{◌≡◌, ℕ, List, [], ◌∷◌, length, refl, sym, ap, ◌∙◌, subst, arith, Some}
+use Rattle.std.proofs.Common.{◌≡◌, ℕ, List, [], ◌∷◌, length, refl, sym, ap, ◌∙◌, subst, arith}
 use Rattle.fvn_terms.specs.declared.plain.OpId.{OpId}
-use Rattle.fvn_terms.specs.declared.declarations.Axioms.{Axioms}
-use Rattle.fvn_terms.specs.declared.declarations.Axioms.TheVariants.{Free, Comm, AssocComm, AssocCommId}
 use Rattle.fvn_terms.specs.declared.declarations.Declarations.{Declarations}
 use Rattle.fvn_terms.specs.Signature.{axioms}
 use Rattle.fvn_terms.specs.Equality.{IsAssociative}
 use Rattle.fvn_forms.specs.Canon.{identity}
 use Rattle.fvn_flat.specs.Partitions.{HasNoIdentity}
 use Rattle.fvn_nodes.specs.Table.{NodeTable, IsOver}
+use Rattle.fvn_nodes.proofs.Heading.{identity_of}
 use Rattle.fvn_sums.specs.NodeSystems.{IsIdentityClass, IsNodeColumn}
 use Rattle.fvn_frames.specs.Frames.{IsSolid}
 use Rattle.fvn_plans.specs.Tables.{HasSums}
-
-pub identity_of : (a : Axioms) (e : OpId) → HasNoIdentity a → identity a ≡ Some e → ⊥
-identity_of Free e b i = cc
-identity_of Comm e b i = cc
-identity_of AssocComm e b i = cc
-identity_of (AssocCommId o) e b i = b
 
 -- two arguments
 pub record IsPair (ks : List ℕ) : Type 0 where

@@ -15,13 +15,14 @@ use Rattle.fvn_nodes.specs.States.{class_of}
 use Rattle.fvn_nodes.specs.declared.state.State.{State}
 use Rattle.fvn_nodes.specs.declared.table.Node.TheVariants.{Var as Variable}
 use Rattle.fvn_nodes.proofs.Nodes.{term_at-variable}
+use Rattle.fvn_nodes.proofs.NodesOf.{own_class, node_variable}
 use Rattle.fvn_supports.specs.Laws.{CombinationsSolve}
 use Rattle.fvn_sums.specs.Values.{Gives}
 use Rattle.fvn_sums.specs.Laws.{NodeSystemsAreSumSystems, CountsSolve, ValuesUnify}
 use Rattle.fvn_plans.specs.Choosing.{Systems, Choice}
 use Rattle.fvn_plans.specs.Laws.{IsPlanned, PlannedBindingsAreSolved}
 use Rattle.fvn_plans.proofs.Triangular.{unfolding_bound}
-use Rattle.fvn_plans.proofs.Places.{own_class, node_variable, heads_sum}
+use Rattle.fvn_plans.proofs.Places.{heads_sum}
 use Rattle.fvn_plans.proofs.Planned.{class_within, class_below, name_not_given}
 use Rattle.fvn_plans.proofs.Standing.{rests_on, parts_apart, forms_are, names_are}
 use Rattle.fvn_plans.proofs.Kinding.{bindings_keep}

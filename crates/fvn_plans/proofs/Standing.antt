@@ -20,15 +20,17 @@ use Rattle.fvn_nodes.specs.States.{class_of}
 use Rattle.fvn_nodes.specs.declared.state.State.{State}
 use Rattle.fvn_nodes.specs.declared.table.Node.TheVariants.{App}
 use Rattle.fvn_nodes.proofs.Nodes.{term_at-over}
+use Rattle.fvn_nodes.proofs.NodesOf.{is_node, own_class}
+use Rattle.fvn_nodes.proofs.Lists.{all_from}
 use Rattle.fvn_sums.specs.Laws.{NodeSystemsAreSumSystems}
 use Rattle.fvn_frames.specs.Frames.{IsSumOperator, Uses}
 use Rattle.fvn_plans.specs.Binding.{IsBound, IsConstant}
 use Rattle.fvn_plans.specs.Choosing.{Systems, Choice, member_count}
 use Rattle.fvn_plans.specs.Plans.{IsFormBy}
 use Rattle.fvn_plans.specs.Laws.{IsPlanned}
-use Rattle.fvn_plans.proofs.Columns.{all_from, sum_by_map, sum_by_same, chosen_distinct}
+use Rattle.fvn_plans.proofs.Columns.{sum_by_map, sum_by_same, chosen_distinct}
 use Rattle.fvn_plans.proofs.Members.{times_in, length_members}
-use Rattle.fvn_plans.proofs.Places.{is_node, own_class, sum_heads}
+use Rattle.fvn_plans.proofs.Places.{sum_heads}
 use Rattle.fvn_plans.proofs.Using.{uses_or_unused}
 use Rattle.fvn_plans.proofs.Bound.{form_of_sum, bound_of_form}
 use Rattle.fvn_plans.proofs.Planned.{class_below, column_class, names_apart, solution_no_name, solution_not_given, bound_operator}

@@ -1,6 +1,6 @@
 -- Which columns of a sum system its operator uses, and what solutions have in them.
-use Rattle.std.proofs.Common.{◌≡◌, ◌≢◌, ℕ, zero, suc, ◌<◌, List, length, get_or, refl, sym, ap, ◌∙◌, subst, ◌⊎◌, inl, inr, arith, Contains, slice_get}
-use Rattle.std.specs.Prelude.{ℤ, pos, negsuc}
+use Rattle.std.proofs.Common.{◌≡◌, ◌≢◌, ℕ, zero, ◌<◌, List, length, get_or, refl, sym, ap, ◌∙◌, subst, ◌⊎◌, inl, inr, arith, Contains, slice_get}
+use Rattle.std.specs.Prelude.{ℤ, pos}
 use Rattle.std.proofs.lemmas.Bool.{cases_eq}
 use Rattle.std.proofs.lemmas.List.{get_or-map, get_or_default}
 use Rattle.std.proofs.lemmas.List.Elements.{All-contains, All-map}
@@ -12,18 +12,14 @@ use Rattle.fvn_terms.specs.declared.declarations.Declarations.{Declarations}
 use Rattle.fvn_terms.specs.Signature.{axioms}
 use Rattle.fvn_terms.specs.Equality.{IsAssociative}
 use Rattle.fvn_lindio.specs.declared.system.System.{System}
-use Rattle.fvn_lindio.specs.Systems.{above, below, IsUnused, Solves, rows_of}
+use Rattle.fvn_lindio.specs.Systems.{IsUnused, Solves, rows_of}
 use Rattle.fvn_flat.specs.SolvedLists.{component}
 use Rattle.fvn_nodes.specs.Table.{NodeTable}
+use Rattle.fvn_nodes.proofs.Lists.{all_from}
 use Rattle.fvn_sums.specs.NodeSystems.{addends, sums, coefficient, row_at, IsNodeSystem}
+use Rattle.fvn_sums.proofs.Zeroes.{zero_told}
 use Rattle.fvn_frames.specs.Frames.{Uses}
-use Rattle.fvn_plans.proofs.Columns.{all_from, component_at, column_listed, column_is}
-
--- whether a number is zero
-zero_told : (z : ℤ) → Decided (z ≡ pos 0)
-zero_told (pos zero) = inl refl
-zero_told (pos (suc n)) = inr (λ e. let f : above (pos (suc n)) ≡ 0 = ap above e in omega (arith, f))
-zero_told (negsuc n) = inr (λ e. let f : below (negsuc n) ≡ 0 = ap below e in omega (arith, f))
+use Rattle.fvn_plans.proofs.Columns.{component_at, column_listed, column_is}
 
 other_told : (z : ℤ) → Decided (z ≢ pos 0)
 other_told z = elim (zero_told z) [ inl e ↦ inr (λ n. n e) | inr n ↦ inl n ]

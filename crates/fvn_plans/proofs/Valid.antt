@@ -8,11 +8,12 @@ use Rattle.fvn_terms.specs.declared.declarations.Declarations.{Declarations}
 use Rattle.fvn_acunify.specs.ValidChoice.{touched, column_sum, IsValid}
 use Rattle.fvn_flat.specs.SolvedLists.{component}
 use Rattle.fvn_nodes.specs.Table.{NodeTable}
+use Rattle.fvn_nodes.proofs.Lists.{all_from}
 use Rattle.fvn_frames.specs.Frames.{IsSumOperator, IsShared}
 use Rattle.fvn_plans.specs.Binding.{IsBound, solid, alone, tagged, IsConstant, IsRequired, AreAsked}
 use Rattle.fvn_plans.specs.Choosing.{Systems, Choice, taken, AreSystems, AreTakenTogether, IsAcceptable, member_count}
 use Rattle.fvn_plans.specs.Laws.{ValidChoicesAreAcceptable}
-use Rattle.fvn_plans.proofs.Columns.{all_from, component_at, column_is, column_sum_is, few_pass, one_passes}
+use Rattle.fvn_plans.proofs.Columns.{component_at, column_is, column_sum_is, few_pass, one_passes}
 use Rattle.fvn_plans.specs.Tables.{HasSums}
 use Rattle.fvn_plans.proofs.Kinded.{tables_have_sums}
 use Rattle.fvn_plans.proofs.Solids.{solid_column}

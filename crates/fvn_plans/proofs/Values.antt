@@ -33,6 +33,8 @@ use Rattle.fvn_nodes.specs.declared.state.State.{State}
 use Rattle.fvn_nodes.specs.declared.table.Node.{Node}
 use Rattle.fvn_nodes.specs.declared.table.Node.TheVariants.{App}
 use Rattle.fvn_nodes.proofs.Nodes.{term_at-over, arguments_within}
+use Rattle.fvn_nodes.proofs.NodesOf.{own_class}
+use Rattle.fvn_nodes.proofs.Lists.{all_from}
 use Rattle.fvn_supports.specs.Laws.{CombinationsSolve}
 use Rattle.fvn_sums.specs.NodeSystems.{IsNodeSystem}
 use Rattle.fvn_sums.specs.Values.{AreValues, AddsNothing, Counts}
@@ -43,11 +45,11 @@ use Rattle.fvn_plans.specs.Choosing.{Systems, Choice, taken}
 use Rattle.fvn_plans.specs.Plans.{IsSimpleAt, unfolds_to}
 use Rattle.fvn_plans.specs.Laws.{IsPlanned}
 use Rattle.fvn_plans.proofs.Triangular.{unfolding_bound, unfolding_settled}
-use Rattle.fvn_plans.proofs.Columns.{all_from, component_at, sum_by_map}
-use Rattle.fvn_plans.proofs.Combined.{get_or-combination}
+use Rattle.fvn_plans.proofs.Columns.{component_at, sum_by_map}
+use Rattle.fvn_supports.proofs.Combining.{get_or-combination}
 use Rattle.fvn_plans.proofs.Counts.{of_part, weighed, weighed_alike, weight_of_parts, weighed_same, count_members}
 use Rattle.fvn_plans.proofs.Members.{times_in}
-use Rattle.fvn_plans.proofs.Places.{own_class, sum_operator}
+use Rattle.fvn_plans.proofs.Places.{sum_operator}
 use Rattle.fvn_plans.proofs.Solids.{pair_of}
 use Rattle.fvn_plans.proofs.Bound.{one_head, simple_bare, form_of_member, form_of_sum, bound_decided}
 use Rattle.fvn_plans.proofs.Using.{uses_or_unused}

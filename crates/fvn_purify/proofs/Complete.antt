@@ -42,10 +42,11 @@ use Rattle.fvn_purify.specs.declared.classes.Head.TheVariants.{Free, Pair, Sum, 
 use Rattle.fvn_purify.specs.declared.split.Split.{Split}
 use Rattle.fvn_purify.specs.declared.choosing.Partial.{Partial}
 use Rattle.fvn_purify.specs.declared.choosing.Partial.TheVariants.{Asking, Choosing}
-use Rattle.fvn_purify.proofs.Elements.{contains_at, all_from, any_here, any_none, any_one, any_contains, all_pairs_none, all_pairs_one}
+use Rattle.fvn_purify.proofs.Elements.{contains_at, any_here, any_none, any_one, any_contains, all_pairs_none, all_pairs_one}
 use Rattle.fvn_purify.proofs.Numbers.{number_same, number_tells, nat_eq-same}
 use Rattle.fvn_purify.proofs.Decided.{one_operator, nodes}
-use Rattle.fvn_purify.proofs.Kinded.{node_kinded}
+use Rattle.fvn_nodes.proofs.Subterms.{node_kinded}
+use Rattle.fvn_nodes.proofs.Lists.{all_from}
 use Rattle.fvn_purify.proofs.Solid.{value_headed, value_constant}
 use Rattle.fvn_purify.proofs.Asked.{choice}
 

@@ -7,6 +7,7 @@ use Rattle.std.proofs.lemmas.List.Elements.{All-contains, Contains-append_cases}
 use Rattle.fvn_base.proofs.Membership.{contains_here}
 use Rattle.fvn_terms.specs.declared.declarations.Declarations.{Declarations}
 use Rattle.fvn_nodes.specs.States.{open_pairs}
+use Rattle.fvn_nodes.proofs.Lists.{all_from}
 use Rattle.fvn_purify.specs.Parts.{Outline}
 use Rattle.fvn_purify.specs.Cursor.{IsAheadOf, HasSamePending, IsAtEnd, IsGivenFrom}
 use Rattle.fvn_purify.specs.inner.Choices.{base, places_count, weight, IsSound, ShareNoSplit, IsExpansion, IsKept}
@@ -15,7 +16,7 @@ use Rattle.fvn_purify.specs.Weight.{cursor_weight}
 use Rattle.fvn_purify.specs.declared.split.Split.{Split}
 use Rattle.fvn_purify.specs.declared.choosing.Partial.{Partial}
 use Rattle.fvn_purify.specs.declared.choosing.Partial.TheVariants.{Asking, Choosing}
-use Rattle.fvn_purify.proofs.Elements.{contains_left, contains_right, all_from, any_here, any_one, any_from, any_contains, any_left, any_right, any_append, any_none, all_pairs_append, all_pairs_front, all_pairs_cross}
+use Rattle.fvn_purify.proofs.Elements.{contains_left, contains_right, any_here, any_one, any_from, any_contains, any_left, any_right, any_append, any_none, all_pairs_append, all_pairs_front, all_pairs_cross}
 
 module _ (d : Declarations) (c : Outline) (below : List Partial) (top : Partial) (kept : IsKept (cursor d c (below ++ top ∷ []))) where
   abbrev Ahead : Split → Partial → Type 0

@@ -1,10 +1,11 @@
 -- Elements of lists: some, all, and each with a later one.
-use Rattle.std.proofs.Common.{◌≡◌, ◌⊎◌, ℕ, zero, suc, ◌<◌, List, [], ◌∷◌, ◌++◌, map, length, get_or, refl, sym, ap, ◌∙◌, subst, inl, inr, arith, Some, slice_get, All, Any, AllPairs, Contains}
+use Rattle.std.proofs.Common.{◌≡◌, ◌⊎◌, ℕ, zero, suc, ◌<◌, List, [], ◌∷◌, ◌++◌, map, length, refl, sym, ap, ◌∙◌, subst, inl, inr, arith, Some, slice_get, Any, AllPairs, Contains}
 use Rattle.std.proofs.lemmas.Option.{slice_get_within, slice_get-get_or, get_or_from_slice_get}
 use Rattle.std.proofs.lemmas.List.Kept.{AllPairs-cons}
-use Rattle.std.proofs.lemmas.List.Elements.{All-contains_itself, Contains-append_cases}
+use Rattle.std.proofs.lemmas.List.Elements.{Contains-append_cases}
 use Rattle.fvn_base.proofs.Membership.{contains_here, contains_later, contains_cases, contains_none, map_contains}
 use Rattle.fvn_base.proofs.Pigeonhole.{AllPairs-tail, AllPairs-first}
+use Rattle.fvn_nodes.proofs.Lists.{all_from}
 
 module _ {A : Type 0} where
   pub contains_left : (xs ys : List A) (y : A) → Contains xs y → Contains (xs ++ ys) y
@@ -49,9 +50,6 @@ module _ {A : Type 0} where
   slice_get-some [] k l = absurd (omega arith)
   slice_get-some (x ∷ xs) zero l = (x, refl)
   slice_get-some (x ∷ xs) (suc k) l = slice_get-some xs k (omega arith)
-
-  pub all_from : (P : A → Type 0) (xs : List A) → ((x : A) → Contains xs x → P x) → All P xs
-  all_from P xs f k d l = f (get_or xs k d) (All-contains_itself xs k d l)
 
   pub any_here : (P : A → Type 0) (x : A) (xs : List A) → P x → Any P (x ∷ xs)
   any_here P x xs h = (0, x, omega arith, refl, h)

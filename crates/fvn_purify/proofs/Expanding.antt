@@ -11,6 +11,7 @@ use Rattle.fvn_nodes.specs.States.{IsClosed, class_of, open_pairs}
 use Rattle.fvn_nodes.specs.Questions.{IsAnswer, AreAnswers}
 use Rattle.fvn_nodes.specs.declared.state.State.{State}
 use Rattle.fvn_nodes.specs.declared.asking.Answers.{Answers}
+use Rattle.fvn_nodes.proofs.Lists.{all_from}
 use Rattle.fvn_purify.specs.Parts.{Outline}
 use Rattle.fvn_purify.specs.Splits.{AreHeadsOfParts, AreWaysOfPairs}
 use Rattle.fvn_purify.specs.Cursor.{BeginsWith, IsAhead, IsAheadOf}
@@ -20,7 +21,7 @@ use Rattle.fvn_purify.specs.declared.split.Split.{Split}
 use Rattle.fvn_purify.specs.declared.choosing.Leaf.{Leaf}
 use Rattle.fvn_purify.specs.declared.choosing.Partial.{Partial}
 use Rattle.fvn_purify.specs.declared.choosing.Partial.TheVariants.{Asking, Choosing}
-use Rattle.fvn_purify.proofs.Elements.{slice_get-middle, all_from, any_here, any_none, any_one, any_from, any_contains, any_left, any_right, any_append, all_pairs_none, all_pairs_one, all_pairs_two, all_pairs_map}
+use Rattle.fvn_purify.proofs.Elements.{slice_get-middle, any_here, any_none, any_one, any_from, any_contains, any_left, any_right, any_append, all_pairs_none, all_pairs_one, all_pairs_two, all_pairs_map}
 use Rattle.fvn_purify.proofs.Fronts.{heads_front, ways_front}
 use Rattle.fvn_purify.proofs.Recorded.{questions_agree}
 use Rattle.fvn_purify.proofs.Heads.{no_heads}

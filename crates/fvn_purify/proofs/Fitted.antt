@@ -23,8 +23,8 @@ use Rattle.fvn_purify.specs.Parts.{outline, ArePlaces, AreClassesOf, may_collaps
 use Rattle.fvn_purify.specs.inner.Choices.{AreStepped, HasUnits}
 use Rattle.fvn_purify.specs.declared.classes.Classes.{Classes}
 use Rattle.fvn_purify.specs.declared.classes.Places.{Places}
-use Rattle.fvn_purify.proofs.Elements.{all_from}
-use Rattle.fvn_purify.proofs.Kinded.{unit_kinded}
+use Rattle.fvn_nodes.proofs.Subterms.{unit_kinded}
+use Rattle.fvn_nodes.proofs.Lists.{all_from}
 
 module _ (d : Declarations) (t : NodeTable) (places : Places) (are : ArePlaces d t places) where
   listed_within : (i : ℕ) → Contains (are.abstracted ++ are.shared) i → i < length t.nodes

@@ -17,6 +17,7 @@ use Rattle.fvn_nodes.specs.Classes.{IsNodePartition, IsPartitionBut}
 use Rattle.fvn_nodes.specs.States.{Admits, IsClosed, class_of}
 use Rattle.fvn_nodes.specs.declared.state.State.{State}
 use Rattle.fvn_nodes.specs.declared.table.Node.TheVariants.{App}
+use Rattle.fvn_nodes.proofs.Lists.{all_from}
 use Rattle.fvn_purify.specs.Parts.{Outline}
 use Rattle.fvn_purify.specs.Heads.{head_by, operator_head, IsTheory}
 use Rattle.fvn_purify.specs.Splits.{IsInUnit, HasTheory, CanHead, AreHeadsOfParts}
@@ -24,7 +25,7 @@ use Rattle.fvn_purify.specs.inner.Options.{IsEarlier, IsUnitIn, Forces, by_earli
 use Rattle.fvn_purify.specs.inner.Choices.{AreStepped, AreOptions, IsDecided}
 use Rattle.fvn_purify.specs.declared.classes.Head.{Head}
 use Rattle.fvn_purify.specs.declared.classes.Head.TheVariants.{Free, Pair, Sum, Identity}
-use Rattle.fvn_purify.proofs.Elements.{contains_at, slice_get-left, slice_get-middle, slice_get-push, all_from, all_pairs_one}
+use Rattle.fvn_purify.proofs.Elements.{contains_at, slice_get-left, slice_get-middle, slice_get-push, all_pairs_one}
 use Rattle.fvn_purify.proofs.Decided.{one_unit, admitted_same, decided_same, nodes}
 
 module _ (d : Declarations) (c : Outline) (class : ℕ → ℕ) where

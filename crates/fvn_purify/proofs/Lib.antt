@@ -11,7 +11,6 @@ mod Fronts
 mod Expanding
 mod Leaves
 mod Cursors
-mod Kinded
 mod Solid
 mod Asked
 mod Complete

@@ -9,11 +9,12 @@ use Rattle.fvn_nodes.specs.Table.{IsOver}
 use Rattle.fvn_nodes.specs.States.{Admits, IsClosed, class_of}
 use Rattle.fvn_nodes.specs.declared.state.State.{State}
 use Rattle.fvn_nodes.specs.declared.table.Node.TheVariants.{App}
+use Rattle.fvn_nodes.proofs.Lists.{all_from}
 use Rattle.fvn_purify.specs.Parts.{Outline}
 use Rattle.fvn_purify.specs.Splits.{IsWayOfPair, AreWaysOfPairs}
 use Rattle.fvn_purify.specs.inner.Options.{AreFirst, IsForcedWay, IsWayOptions}
 use Rattle.fvn_purify.specs.inner.Choices.{AreStepped, AreOptions, IsDecided}
-use Rattle.fvn_purify.proofs.Elements.{contains_at, slice_get-middle, slice_get-push, all_from, all_pairs_one, all_pairs_two}
+use Rattle.fvn_purify.proofs.Elements.{contains_at, slice_get-middle, slice_get-push, all_pairs_one, all_pairs_two}
 use Rattle.fvn_purify.proofs.Decided.{one_operator, admitted_same, decided_tests}
 
 module _ (d : Declarations) (c : Outline) (class : ℕ → ℕ) where

@@ -1,8 +1,9 @@
 -- Weights fall.
-use Rattle.std.proofs.Common.{◌≡◌, ℕ, zero, suc, ◌+◌, ◌-◌, ◌*◌, ◌^◌, ◌<◌, ◌≤◌, List, [], ◌∷◌, map, length, sum_by, sym, ap, ◌∙◌, arith}
-use Rattle.std.proofs.Math.Nat.{pow-le-pow_right, one-le-pow, mul-lt-mul_of_pos_right, add-mul}
+use Rattle.std.proofs.Common.{◌≡◌, ℕ, suc, ◌+◌, ◌-◌, ◌*◌, ◌^◌, ◌<◌, ◌≤◌, List, [], ◌∷◌, map, length, sum_by, sym, ap, ◌∙◌, arith}
+use Rattle.std.proofs.Math.Nat.{one-le-pow, mul-lt-mul_of_pos_right, add-mul}
 use Rattle.std.proofs.lemmas.Grind.{pow_more}
 use Rattle.std.proofs.lemmas.List.Sums.{sum_by-cons}
+use Rattle.fvn_nodes.proofs.Powers.{powers_fall}
 
 -- what each of several weighs, as often as there are some
 pub sum_by-same : {A B : Type 0} (weight : B → ℕ) (f : A → B) (w : ℕ) → ((x : A) → weight (f x) ≡ w) → (xs : List A) → sum_by weight (map f xs) ≡ length xs * w
@@ -25,24 +26,13 @@ choices_fall b n m k few less some =
     below : (n b p : ℕ) {q : ℕ} → n < b → 1 ≤ p → q ≡ p * b → n * p < q
     below n b p few some e = grind arith
 
--- a power of three is more than two lower ones together
-pub powers_fall : (a b m : ℕ) → a < m → b < m → 3 ^ a + 3 ^ b < 3 ^ m
-powers_fall a b zero h k = absurd (omega arith)
-powers_fall a b (suc m) h k =
-    let three : zero < 3 = omega arith in
-    let x : 3 ^ a ≤ 3 ^ m = pow-le-pow_right three (omega arith) in
-    let y : 3 ^ b ≤ 3 ^ m = pow-le-pow_right three (omega arith) in
-    let e : 3 ^ suc m ≡ 3 ^ m * 3 = ap (λ n. 3 ^ n) (let q : suc m ≡ m + 1 = omega arith in q) ∙ pow_more 3 m in
-    let p : 1 ≤ 3 ^ m = one-le-pow m 3 three in
-    omega arith
-
 times : (x y z p : ℕ) → x + y < z → 1 ≤ p → x * p + y * p < z * p
 times x y z p h some =
     let r : (x + y) * p < z * p = mul-lt-mul_of_pos_right h (omega arith) in
     let e : (x + y) * p ≡ x * p + y * p = add-mul x y p in
     omega arith
 
--- so are they after a factor
+-- a power of three is more than two lower ones together, also after a factor
 pub two_fall : (a b m p : ℕ) → a < m → b < m → 1 ≤ p → 3 ^ a * p + 3 ^ b * p < 3 ^ m * p
 two_fall a b m p h k some = times (3 ^ a) (3 ^ b) (3 ^ m) p (powers_fall a b m h k) some
 

@@ -40,7 +40,8 @@ use Rattle.fvn_refine.proofs.Ways.{beside_else, beside_map, beside_below, row_lo
 use Rattle.fvn_refine.proofs.Sorts.{sort_agrees, under_lower}
 use Rattle.fvn_refine.proofs.Finding.{taken_new, taken_old, taken_cases, finds_here, finds_both}
 use Rattle.fvn_refine.proofs.InOrder.{placed_from, placed_all, placed_in_order}
-use Rattle.fvn_refine.proofs.VariablesListed.{Distinct, other_way, occurs_in_terms, terms_distinct}
+use Rattle.fvn_flat.proofs.ListedVariables.{Distinct, other_way}
+use Rattle.fvn_refine.proofs.VariablesListed.{occurs_in_terms, terms_distinct}
 
 -- lists, place by place
 pub zip_map : {A B C : Type 0} (R : B → C → Type 0) (f : A → B) (xs : List A) (ys : List C) → AllZip (λ x y. R (f x) y) xs ys → AllZip R (map f xs) ys

@@ -13,4 +13,4 @@ mod variables;
 
 pub use laws::refinements_cover;
 pub use refining::refine;
-pub use variables::{variables_of_terms, with_variables};
+pub use variables::variables_of_terms;

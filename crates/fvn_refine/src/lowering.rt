@@ -20,9 +20,8 @@ ghost use Rattle.fvn_refine.specs.inner.Found.{
 use crate::arguments::arguments;
 use crate::places::{beside, placed};
 use crate::rows::{alone, is_at_or_below, with_row, with_rows};
-use crate::variables::is_listed;
 use fvn_base::Seq;
-use fvn_flat::Flat;
+use fvn_flat::{Flat, is_listed};
 use fvn_sorts::Signature;
 use fvn_terms::{Axioms, NoMemory, OpId, SortId, Var};
 use std::alloc::Global;

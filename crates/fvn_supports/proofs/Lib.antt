@@ -1,5 +1,5 @@
 -- Lemmas on combinations of vectors, on pieces, and on the choice that they make.
-mod Combining
+pub mod Combining
 mod Placing
 mod Picking
 mod Choosing

@@ -8,7 +8,7 @@ use Rattle.fvn_lindio.specs.Systems.{vectors_of}
 use Rattle.fvn_frames.specs.Users.{IsWholeSums, IsWhole}
 use Rattle.fvn_asking.specs.Listed.{tag_in}
 use Rattle.fvn_asking.specs.Aliases.{HasNoAlias}
-use Rattle.fvn_asking.proofs.Reading.{reading_whole, sums_whole}
+use Rattle.fvn_frames.proofs.ReadOfState.{reading_whole, sums_whole}
 use Rattle.fvn_asking.specs.inner.Reads.{MayBeAliasIn}
 use Rattle.fvn_asking.proofs.Alone.{taken_long, has_column, has_constants, alias_among, no_alias_of_columns, alias_of_column}
 use Rattle.fvn_asking.proofs.aliases.has_no_alias.Goals as goal

@@ -2,7 +2,7 @@
 use Rattle.std.proofs.Common.{◌<◌, length, List, sym, subst}
 use Rattle.fvn_nodes.specs.declared.table.Node.{Node}
 use Rattle.fvn_frames.specs.Users.{IsWholeSums, IsWhole}
-use Rattle.fvn_asking.proofs.Reading.{reading_whole, sums_whole}
+use Rattle.fvn_frames.proofs.ReadOfState.{reading_whole, sums_whole}
 use Rattle.fvn_asking.proofs.Binding.{bound_iff}
 use Rattle.fvn_asking.proofs.bound.is_bound.Goals as goal
 

@@ -2,7 +2,7 @@
 use Rattle.std.proofs.Common.{◌<◌, length, List, sym, subst}
 use Rattle.fvn_nodes.specs.declared.table.Node.{Node}
 use Rattle.fvn_frames.specs.Users.{IsWhole}
-use Rattle.fvn_asking.proofs.Reading.{reading_whole, shared_in, shared_from}
+use Rattle.fvn_frames.proofs.ReadOfState.{reading_whole, shared_in, shared_from}
 use Rattle.fvn_asking.proofs.classes.is_shared_class.Goals as goal
 
 pub is_shared-requires : goal.is_shared-requires

@@ -1,5 +1,5 @@
 -- What is read, and what it means.
-use Rattle.fvn_asking.proofs.Reading.{are_sums, marked_to, marked_from}
+use Rattle.fvn_frames.proofs.ReadOfState.{are_sums, marked_to, marked_from}
 use Rattle.fvn_asking.proofs.classes.uses.Goals as goal
 
 pub is_user-requires : goal.is_user-requires

@@ -5,7 +5,7 @@ use Rattle.fvn_nodes.specs.States.{class_of}
 use Rattle.fvn_frames.specs.Users.{IsWholeSums, IsWhole}
 use Rattle.fvn_plans.specs.Binding.{AreAsked}
 use Rattle.fvn_asking.specs.Listed.{tag_in}
-use Rattle.fvn_asking.proofs.Reading.{reading_whole, sums_whole}
+use Rattle.fvn_frames.proofs.ReadOfState.{reading_whole, sums_whole}
 use Rattle.fvn_asking.proofs.Demands.{are_asked, one_theory}
 use Rattle.fvn_asking.proofs.theories.theory.Goals as goal
 

@@ -2,8 +2,7 @@
 use Rattle.std.proofs.Common.{◌≡◌, false, All, subst}
 use Rattle.std.proofs.lemmas.List.Elements.{All-contains}
 use Rattle.fvn_terms.specs.declared.plain.Var.{Var}
-use Rattle.fvn_flat.specs.Solving.{problem_of}
-use Rattle.fvn_binding.proofs.NodesOf.{variable_place}
+use Rattle.fvn_nodes.proofs.NodesOf.{variable_place}
 use Rattle.fvn_combine_tests.proofs.tests.given.has_named.Goals as goal
 
 abbrev IsNamed : Var → Type 0
@@ -11,6 +10,6 @@ IsNamed x = x.fresh ≡ false
 
 pub returns : goal.returns
 returns c told x listed =
-    let place = variable_place c.args.sig.now (problem_of c.args.problem.now) c.in_ok-table.table c.recall_well_made.ensures c.in_ok-table.ensures x listed in
+    let place = variable_place c.recall_well_made.ensures c.in_ok-table.ensures x listed in
     let among = (c.in_ok-vars.ensures.exact x).1 (place.0, place.2) in
     All-contains IsNamed c.in_ok-vars.vars.items x (subst (All IsNamed) c.as_slice.ensures.value (c.are_named-named.ensures told)) among

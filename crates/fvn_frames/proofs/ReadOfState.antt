@@ -1,28 +1,25 @@
 -- What a reading tells of a state.
-use Rattle.std.proofs.Common.{◌≡◌, ◌≢◌, ◌⊎◌, ℕ, ◌<◌, List, [], ◌∷◌, length, get_or, refl, sym, ap, ◌∙◌, subst, inl, inr, arith, All, Contains, Option, Some, None}
+use Rattle.std.proofs.Common.{◌≡◌, ◌≢◌, ◌⊎◌, ℕ, ◌<◌, List, length, get_or, refl, sym, ap, ◌∙◌, subst, inl, inr, arith, Contains, Option, Some, None}
 use Rattle.std.specs.Prelude.{slice_get}
 use Rattle.std.proofs.lemmas.Bool.{cases_order}
 use Rattle.std.proofs.lemmas.List.{get_or_default, get_or-map, length-map}
-use Rattle.std.proofs.lemmas.List.Elements.{All-contains, All-contains_itself, All-weaker}
+use Rattle.std.proofs.lemmas.List.Elements.{All-contains, All-weaker}
 use Rattle.std.proofs.lemmas.Option.{slice_get_within, slice_get-get_or, get_or_from_slice_get}
-use Rattle.fvn_base.proofs.Membership.{contains_cases, contains_none, contains_map, map_contains}
+use Rattle.fvn_base.proofs.Membership.{contains_map, map_contains}
 use Rattle.fvn_terms.specs.declared.plain.OpId.{OpId}
 use Rattle.fvn_terms.specs.declared.declarations.Declarations.{Declarations}
 use Rattle.fvn_nodes.specs.Table.{NodeTable, IsWellMade}
 use Rattle.fvn_nodes.specs.States.{IsClosed, class_of}
 use Rattle.fvn_nodes.specs.declared.state.State.{State}
-use Rattle.fvn_nodes.specs.declared.table.Node.TheVariants.{App}
-use Rattle.fvn_nodes.proofs.Nodes.{arguments_within}
 use Rattle.fvn_nodes.proofs.Admitting.{named_within}
+use Rattle.fvn_nodes.proofs.Lists.{all_from}
 use Rattle.fvn_sums.specs.NodeSystems.{IsNodeColumn}
+use Rattle.fvn_sums.proofs.Members.{column_of_node}
 use Rattle.fvn_frames.specs.Frames.{IsSumOperator, IsSolid, Uses, IsShared}
 use Rattle.fvn_frames.specs.Readings.{AreSums, IsReading}
 use Rattle.fvn_frames.specs.Users.{IsWholeSums, IsWhole, IsMarked, IsUserAt, HasTwoUsers, head_of, IsSharedIn}
 use Rattle.fvn_frames.specs.declared.reading.Sums.{Sums}
 use Rattle.fvn_frames.specs.declared.reading.Reading.{Reading}
-
-pub all_from : {X : Type 0} (P : X → Type 0) (xs : List X) → ((x : X) → Contains xs x → P x) → All P xs
-all_from P xs h = All-weaker (Contains xs) P h xs (All-contains_itself xs)
 
 -- the entries at one place are one
 one_entry : (sums : List Sums) (x y : Sums) (c : Contains sums x) (e : Contains sums y) → c.0 ≡ e.0 → x ≡ y
@@ -34,19 +31,7 @@ module _ (d : Declarations) (t : NodeTable) (made : IsWellMade t) (s : State) (c
 
   -- the class of a column is that of a node
   pub column_within : (f : OpId) (k : ℕ) → IsNodeColumn t (class_of s) f k → k < length t.nodes
-  column_within f k h =
-      let args = arguments_within t.nodes made.ordered h.sum f (h.left ∷ h.right ∷ []) h.over in
-      let at : (i : ℕ) → i < length t.nodes → class_of s i ≡ k → k < length t.nodes = λ i l e. subst (λ n. n < length t.nodes) e (class_within i l) in
-      elim (contains_cases (class_of s h.sum) (class_of s h.left ∷ class_of s h.right ∷ []) k h.among) [
-        | inl e ↦ at h.sum (slice_get_within t.nodes h.sum (App f (h.left ∷ h.right ∷ [])) h.over) e
-        | inr r ↦ elim (contains_cases (class_of s h.left) (class_of s h.right ∷ []) k r) [
-          | inl e ↦ at h.left (args 0 0 (omega arith)) e
-          | inr q ↦ elim (contains_cases (class_of s h.right) [] k q) [
-            | inl e ↦ at h.right (args 1 0 (omega arith)) e
-            | inr z ↦ absurd (contains_none k z)
-          ]
-        ]
-      ]
+  column_within f k h = let n = column_of_node made.ordered f k h in subst (λ k. k < length t.nodes) n.1.1 (class_within n.0 n.1.0)
 
   module _ (r : Reading) (reading : IsReading d t (class_of s) r) where
     pub are_sums : (e : Sums) → Contains r.sums e → AreSums d t (class_of s) e
@@ -82,12 +67,12 @@ module _ (d : Declarations) (t : NodeTable) (made : IsWellMade t) (s : State) (c
     marked_from e c k m = subst (Uses d t (class_of s) e.operator) m.2 (((are_sums e c).exact m.0 m.1).0 m.3)
 
     -- the entry of an operator that uses a class
-    record Entry (f : OpId) : Type 0 where
-      entry : Sums
-      listed : Contains r.sums entry
-      operator : entry.operator ≡ f
+    pub record Entry (f : OpId) : Type 0 where
+      pub entry : Sums
+      pub listed : Contains r.sums entry
+      pub operator : entry.operator ≡ f
 
-    entry_of : (f : OpId) (k : ℕ) → Uses d t (class_of s) f k → Entry f
+    pub entry_of : (f : OpId) (k : ℕ) → Uses d t (class_of s) f k → Entry f
     entry_of f k u =
         let m = map_contains (λ e. e.operator) r.sums f ((reading.operators.exact f).1 (record { associative = u.associative; sum = u.row; listed = u.listed })) in
         record { entry = m.0; listed = m.1.0; operator = m.1.1 }
