@@ -175,3 +175,35 @@ fn a_module_of_1048577_bytes_is_too_long(rt: HostRuntime) -> Result<(), NoMemory
         "{X:S --> #1:S} | complete 1",
     )
 }
+
+/// Sums of constants.
+const SUMS: &str =
+    "fmod SUMS is sort S . ops a b c d e f g h : -> S . op _+_ : S S -> S [assoc comm] . vars X Y Z : S . endfm";
+
+/// Each constant is a summand of one of three variables, and each of these has some: 3^8 - 3 * 2^8 + 3 = 5,796 ways.
+const MANY: [&str; 2] = ["unify", "_+_(X,Y,Z) =? _+_(a,b,c,d,e,f,g,h)"];
+
+fn lines_in(text: &[u8]) -> usize {
+    let mut count = 0usize;
+    for b in text {
+        if *b == b'\n' {
+            count = count.saturating_add(1);
+        }
+    }
+    count
+}
+
+/// As many unifiers as are told, and that there may be more.
+fn is_full(text: &[u8]) -> bool {
+    lines_in(text) == 4_097 && text.ends_with(b"\nbound unifiers 4096\n")
+}
+
+#[test]
+fn of_over_4096_unifiers_4096_are_told(rt: HostRuntime) -> Result<(), NoMemory> {
+    let mut setting = plain(&MANY, SUMS.as_bytes());
+    setting.room = 1_000_000;
+    let (status, text) = answer(rt.alloc(), &setting)?;
+    assert_eq!(rt; status, Status::Ended);
+    assert!(rt; is_full(text.as_slice()));
+    Ok(())
+}
