@@ -14,7 +14,7 @@ use Rattle.fvn_problems.specs.Variables.{IsNamed}
 use Rattle.fvn_answer.specs.inner.Readable.{AreReadable}
 use Rattle.fvn_answer.specs.Lines.{values, variant, values_of, asked_name, written_pair, text}
 use Rattle.fvn_answer.specs.Writing.{text_of, sorted, written}
-use Rattle.fvn_answer.specs.inner.Bytes.{beside, with_pairs, IsPrintable}
+use Rattle.fvn_answer.specs.inner.Bytes.{beside, pair_text, with_pairs, IsPrintable}
 use Rattle.fvn_answer.specs.inner.Shown.{HavePrintable, value_texts}
 use Rattle.fvn_answer.proofs.Joining.{IsEndedPair, texts_of, bindings-text, variant-text}
 use Rattle.fvn_answer.proofs.Printing.{got, written-ended, operator-filled}
