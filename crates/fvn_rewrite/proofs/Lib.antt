@@ -6,3 +6,8 @@ mod Replacing
 mod Reaching
 mod Ending
 mod Harmless
+mod Values
+mod Bound
+mod InsideOut
+mod Seen
+mod Beginning

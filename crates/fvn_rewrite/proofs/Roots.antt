@@ -52,7 +52,7 @@ module _ (d : Declarations) where
     numbered f rule listed = All-contains (IsNumberedRule d lists.equations) lists.rules rule usable.rules.sound (usable.rules.given f rule listed).0
 
     -- what is needed under a head is made from the equations
-    is_rule : (f : OpId) (rule : Rule) → Contains (headed lists f) rule → IsRuleOf d (equations_of lists.equations) rule.left rule.right
+    pub is_rule : (f : OpId) (rule : Rule) → Contains (headed lists f) rule → IsRuleOf d (equations_of lists.equations) rule.left rule.right
     is_rule f rule listed =
         let n = numbered f rule listed in
         (sides_of n.equation, contains_map sides_of lists.equations n.equation (listed_at lists.equations n.before n.equation n.is), n.made)

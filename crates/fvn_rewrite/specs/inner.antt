@@ -2,3 +2,9 @@
 pub mod Trying
 pub mod Walking
 pub mod Turns
+pub mod SortedTerms
+pub mod SortedCode
+pub mod Content
+pub mod SortedFalls
+pub mod Fitting
+pub mod Making

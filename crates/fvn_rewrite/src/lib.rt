@@ -1,9 +1,13 @@
 //! Rewriting with the rules of a module: one step, and normal forms.
 #![tactic(auto)]
 
+mod fitting;
 mod laws;
+mod making;
 mod normalising;
+mod quick;
 mod root;
+mod shared;
 mod stepping;
 mod walking;
 

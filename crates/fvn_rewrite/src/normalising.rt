@@ -7,6 +7,7 @@ ghost use Rattle.fvn_rules.specs.Given.{AreRules};
 ghost use Rattle.fvn_rewrite.specs.Normalised.{IsNormalised};
 ghost use Rattle.fvn_rewrite.specs.inner.Turns.{TurnAs};
 
+use crate::quick::begin;
 use crate::stepping::step;
 use fvn_flat::{Flat, Normal};
 use fvn_rules::Rules;
@@ -64,8 +65,9 @@ pub fn normal(
 {
     rewriting_is_lawful();
     // Each form is tested for its size before a step is sought, the first one too.
-    let mut reached = t.copy(alloc)?;
-    let mut left = steps;
+    let begun = begin(alloc, sig, rules, t, steps, size)?;
+    let mut left = begun.left;
+    let mut reached = begun.form;
     loop {
         let now = take_turn(alloc, sig, rules, &reached, size)?;
         match now {

@@ -26,7 +26,9 @@ ENC sorts Msg Key . op a : -> Msg . op k : -> Key . ops enc dec : Msg Key -> Msg
 GROUP sort S . op 1 : -> S . op * : S S -> S [assoc comm id: 1] . op - : S -> S . ops from to : S S -> S . vars X Y : S . eq *(X,-(X)) = 1 [variant] . eq -(1) = 1 [variant] . eq -(-(X)) = X [variant] .
 COMM sort S . ops a b : -> S . op c : S S -> S [comm] . ops from to : S S -> S . vars X Y : S . eq c(X,a) = X [variant] .
 SORTED sorts A B . subsort A < B . op a : -> A . op b : -> B . op g : B -> B . ops from to : B B -> B . vars X Y : B . var Z : A . eq g(Z) = Z [variant] .
-GROW sort S . op a : -> S . ops f s : S -> S . ops from to : S S -> S . vars X Y : S . eq f(X) = f(s(X)) [variant] .";
+GROW sort S . op a : -> S . ops f s : S -> S . ops from to : S S -> S . vars X Y : S . eq f(X) = f(s(X)) [variant] .
+TAIL sort S . op 0 : -> S . op s : S -> S . op t : S S S -> S . ops from to : S S -> S . vars X Y Z : S . eq t(X,s(Y),Z) = t(X,Y,Z) [variant] . eq t(s(X),0,Z) = t(X,Z,Z) [variant] . eq t(0,0,Z) = Z [variant] .
+SHARED sort S . ops a b : -> S . ops d k : S -> S . ops p q : S S -> S . ops from to : S S -> S . vars X Y : S . eq d(X) = p(X,X) [variant] . eq k(X) = a [variant] . eq q(X,X) = X [variant] .";
 
 // Each line has the name of a module, a number of steps, a number of symbols, a term and another term. Then comes what a
 // search for the normal form of the first term ends with under these limits, with one step less, and with one symbol less:
@@ -119,7 +121,22 @@ COLLAPSE 0 1 h(e,e) => e | form form size
 COLLAPSE 1 3 h(e,f(a,b)) => c | form steps size
 COLLAPSE 1 5 h(a,f(a,b)) => h(a,c) | form steps size
 COLLAPSE 1 5 f(a,f(b,d)) => f(d,c) | form steps size
-SORTED 3 4 g(g(g(a))) => a | form steps size";
+SORTED 3 4 g(g(g(a))) => a | form steps size
+PLUS 41 83 +(s(s(s(s(s(s(s(s(s(s(s(s(s(s(s(s(s(s(s(s(s(s(s(s(s(s(s(s(s(s(s(s(s(s(s(s(s(s(s(s(0)))))))))))))))))))))))))))))))))))))))),s(s(s(s(s(s(s(s(s(s(s(s(s(s(s(s(s(s(s(s(s(s(s(s(s(s(s(s(s(s(s(s(s(s(s(s(s(s(s(s(0))))))))))))))))))))))))))))))))))))))))) => s(s(s(s(s(s(s(s(s(s(s(s(s(s(s(s(s(s(s(s(s(s(s(s(s(s(s(s(s(s(s(s(s(s(s(s(s(s(s(s(s(s(s(s(s(s(s(s(s(s(s(s(s(s(s(s(s(s(s(s(s(s(s(s(s(s(s(s(s(s(s(s(s(s(s(s(s(s(s(s(0)))))))))))))))))))))))))))))))))))))))))))))))))))))))))))))))))))))))))))))))) | form steps size
+PLUS 40 122 +(s(s(s(s(s(s(s(s(s(s(s(s(s(s(s(s(s(s(s(s(s(s(s(s(s(s(s(s(s(s(s(s(s(s(s(s(s(s(s(0))))))))))))))))))))))))))))))))))))))),s(s(s(s(s(s(s(s(s(s(s(s(s(s(s(s(s(s(s(s(s(s(s(s(s(s(s(s(s(s(s(s(s(s(s(s(s(s(s(s(s(s(s(s(s(s(s(s(s(s(s(s(s(s(s(s(s(s(s(s(s(s(s(s(s(s(s(s(s(s(s(s(s(s(s(s(s(s(s(s(0))))))))))))))))))))))))))))))))))))))))))))))))))))))))))))))))))))))))))))))))) => s(s(s(s(s(s(s(s(s(s(s(s(s(s(s(s(s(s(s(s(s(s(s(s(s(s(s(s(s(s(s(s(s(s(s(s(s(s(s(s(s(s(s(s(s(s(s(s(s(s(s(s(s(s(s(s(s(s(s(s(s(s(s(s(s(s(s(s(s(s(s(s(s(s(s(s(s(s(s(s(s(s(s(s(s(s(s(s(s(s(s(s(s(s(s(s(s(s(s(s(s(s(s(s(s(s(s(s(s(s(s(s(s(s(s(s(s(s(s(0))))))))))))))))))))))))))))))))))))))))))))))))))))))))))))))))))))))))))))))))))))))))))))))))))))))))))))))))))))))) | form steps size
+TAIL 0 5 t(X,0,s(Y)) => t(X,0,s(Y)) | form form size
+TAIL 4 7 t(s(0),s(0),s(0)) => s(0) | form steps size
+TAIL 1271 114 t(s(s(s(s(s(s(s(s(s(s(s(s(s(s(s(s(s(s(s(s(s(s(s(s(s(s(s(s(s(s(0)))))))))))))))))))))))))))))),s(s(s(s(s(s(s(s(s(s(s(s(s(s(s(s(s(s(s(s(s(s(s(s(s(s(s(s(s(s(s(s(s(s(s(s(s(s(s(s(0)))))))))))))))))))))))))))))))))))))))),s(s(s(s(s(s(s(s(s(s(s(s(s(s(s(s(s(s(s(s(s(s(s(s(s(s(s(s(s(s(s(s(s(s(s(s(s(s(s(s(0))))))))))))))))))))))))))))))))))))))))) => s(s(s(s(s(s(s(s(s(s(s(s(s(s(s(s(s(s(s(s(s(s(s(s(s(s(s(s(s(s(s(s(s(s(s(s(s(s(s(s(0)))))))))))))))))))))))))))))))))))))))) | form steps size
+SHARED 1 3 d(X) => p(X,X) | form steps size
+SHARED 3 15 d(d(d(a))) => p(p(p(a,a),p(a,a)),p(p(a,a),p(a,a))) | form steps size
+SHARED 10 100 d(d(d(d(d(d(d(d(d(d(a)))))))))) => a | size size size
+SHARED 1 4 k(d(X)) => a | steps steps size
+SHARED 2 4 k(d(X)) => a | form steps size
+SHARED 0 3 q(a,b) => q(a,b) | form form size
+SHARED 0 7 q(p(a,X),p(a,Y)) => q(p(a,X),p(a,Y)) | form form size
+SHARED 1 7 q(p(a,X),p(a,X)) => p(a,X) | form steps size
+SHARED 4 7 q(d(k(b)),d(a)) => p(a,a) | form steps size
+SHARED 2 7 q(d(X),p(X,X)) => p(X,X) | form steps size";
 
 // A row of the table.
 #[derive(Drop)]

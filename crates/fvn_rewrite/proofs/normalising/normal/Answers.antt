@@ -1,16 +1,12 @@
 -- One turn more.
-use Rattle.std.proofs.Common.{◌+◌, sym, subst, arith}
+use Rattle.std.proofs.Common.{◌+◌, arith}
 use Rattle.fvn_cohere.specs.Promises.{equations_of}
-use Rattle.fvn_rewrite.specs.Normalised.{IsReached}
-use Rattle.fvn_rewrite.proofs.Reaching.{reached_itself, reached_more}
+use Rattle.fvn_rewrite.proofs.Reaching.{reached_more}
 use Rattle.fvn_rewrite.proofs.Ending.{form_end, unfinished_end, large_end}
 use Rattle.fvn_rewrite.proofs.normalising.normal.Goals as goal
 
 pub loop-reached-init : goal.loop-reached-init
-loop-reached-init c =
-    let d = c.args.sig.now in
-    let E = equations_of c.args.rules.now.equations in
-    (0, omega arith, subst (IsReached d E 0 c.args.t.now) (sym c.in_ok-reached.ensures) (reached_itself d E c.args.t.now c.requires.term))
+loop-reached-init c = let b = c.in_ok-begun.ensures in (b.count, b.spent, b.reached)
 
 pub take_turn-requires : goal.take_turn-requires
 take_turn-requires c = record { term = c.loop-reached.invariant.2.fits; rules = c.requires.rules; admissible = c.requires.admissible }

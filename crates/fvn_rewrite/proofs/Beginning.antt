@@ -1,0 +1,33 @@
+-- What a first pass needs of the rules, and where turns from the root begin.
+use Rattle.std.proofs.Common.{◌≡◌, ℕ, sym, subst, arith}
+use Rattle.fvn_terms.specs.declared.declarations.Declarations.{Declarations}
+use Rattle.fvn_terms.specs.Theory.{Equations}
+use Rattle.fvn_terms.specs.Laws.{RewritingIsLawful}
+use Rattle.fvn_forms.specs.Flat.{FlatTerm}
+use Rattle.fvn_forms.specs.Good.{IsGood}
+use Rattle.fvn_sorts.specs.Queries.{IsCompleted}
+use Rattle.fvn_flat.specs.Fits.{Fits}
+use Rattle.fvn_rewriting.specs.Laws.{SequencesAreLawful, KindedTheoriesAreLawful, RulesAreLawful}
+use Rattle.fvn_cohere.specs.Promises.{equations_of}
+use Rattle.fvn_rules.specs.Given.{RuleLists}
+use Rattle.fvn_rewrite.specs.Normalised.{IsReached}
+use Rattle.fvn_rewrite.specs.Usable.{AreUsable}
+use Rattle.fvn_rewrite.specs.inner.Making.{AreLawful, IsBegun}
+use Rattle.fvn_rewrite.specs.declared.quick.Begun.{Begun}
+use Rattle.fvn_rewrite.proofs.Reaching.{reached_itself}
+use Rattle.fvn_rewrite.proofs.Roots.{have_one_kind, is_rule, sides_fit}
+
+-- usable rules have what the pass needs
+pub lawful : (d : Declarations) (lists : RuleLists) → AreUsable d lists → IsGood d → IsCompleted d → RulesAreLawful → RewritingIsLawful → SequencesAreLawful → KindedTheoriesAreLawful → AreLawful d lists
+lawful d lists usable good completed rules rewriting sequences kinds = record {
+  good = good;
+  fit = sides_fit d lists usable good completed rules;
+  steps = λ f rule listed s sorted. (rules d good completed (equations_of lists.equations) (have_one_kind d lists usable)).steps rule.left rule.right (is_rule d lists usable f rule listed) s sorted;
+  rewriting = rewriting d (equations_of lists.equations);
+  sequences = sequences d (equations_of lists.equations);
+  kinds = kinds d good.fits (equations_of lists.equations) (have_one_kind d lists usable);
+}
+
+-- the form itself, with all steps left
+pub begun_itself : (d : Declarations) (equations : Equations) (t : FlatTerm) (steps : ℕ) (begun : Begun) → Fits d t → begun.form ≡ t → begun.left ≡ steps → IsBegun d equations t steps begun
+begun_itself d equations t steps begun fits is left = record { count = 0; spent = omega (arith, left); reached = subst (IsReached d equations 0 t) (sym is) (reached_itself d equations t fits) }

@@ -1,0 +1,84 @@
+//! Where turns from the root begin: a first pass from the inside out goes before them.
+ghost use Rattle.std.specs.Prelude.{IfOk, IfSome};
+ghost use Rattle.fvn_flat.specs.Fits.{Fits};
+ghost use Rattle.fvn_cohere.specs.Promises.{equations_of};
+ghost use Rattle.fvn_coherence.specs.Admissible.{AreAdmissible};
+ghost use Rattle.fvn_rules.specs.Given.{AreRules};
+ghost use Rattle.fvn_rewrite.specs.inner.Making.{AreLawful, IsMade, IsBegun};
+
+use crate::making::make;
+use fvn_flat::{Flat, flatten};
+use fvn_rewriting::{kinded_theories_are_lawful, rules_are_lawful, sequences_are_lawful};
+use fvn_rules::Rules;
+use fvn_sorts::Signature;
+use fvn_terms::{NoMemory, rewriting_is_lawful};
+use std::alloc::Global;
+
+// How deep forms are taken apart, so that the stack suffices.
+const DEPTH: u64 = 1000;
+
+// A form to which steps lead, and how many steps are left.
+#[derive(Drop)]
+pub(crate) struct Begun {
+    pub(crate) form: Flat,
+    pub(crate) left: u64,
+}
+
+// What the pass comes to; nothing where a limit is met, or an operator has axioms.
+fn quick(
+    alloc: Global,
+    sig: &Signature,
+    rules: &Rules,
+    t: &Flat,
+    steps: u64,
+    size: u64,
+) -> Result<Option<Begun>, NoMemory>
+    requires term { Fits sig.now t.now }
+    requires laws { AreLawful sig.now rules.now }
+    ensures { IfOk result (λ o. IfSome o
+        (IsBegun sig.now (equations_of rules.now.equations) t.now steps)) }
+{
+    let made = make(alloc, sig, rules, size, DEPTH, t, &[], steps)?;
+    match made {
+        Some(one) => {
+            let plain = one.value.to_plain(alloc)?;
+            let form = flatten(alloc, sig, &plain)?;
+            Ok(Some(Begun {
+                form,
+                left: one.left,
+            }))
+        }
+        None => Ok(None),
+    }
+}
+
+// Where turns from the root begin: what the pass comes to, or the form itself.
+pub(crate) fn begin(
+    alloc: Global,
+    sig: &Signature,
+    rules: &Rules,
+    t: &Flat,
+    steps: u64,
+    size: u64,
+) -> Result<Begun, NoMemory>
+    requires term { Fits sig.now t.now }
+    requires rules { AreRules sig.now rules.now }
+    requires admissible { AreAdmissible sig.now (equations_of rules.now.equations) }
+    ensures { IfOk result (IsBegun sig.now (equations_of rules.now.equations) t.now steps) }
+{
+    sig.recall_good();
+    sig.recall_completed();
+    rewriting_is_lawful();
+    sequences_are_lawful();
+    kinded_theories_are_lawful();
+    rules_are_lawful();
+    let large = t.size() > size;
+    if !large {
+        let made = quick(alloc, sig, rules, t, steps, size)?;
+        if let Some(begun) = made {
+            return Ok(begun);
+        }
+    }
+    let form = t.copy(alloc)?;
+    Ok(Begun { form, left: steps })
+}
