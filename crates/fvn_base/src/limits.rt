@@ -48,5 +48,8 @@ pub const NEXT_FRESH: u32 = 2_000_000;
 /// The first number of a new variable that the expansion of a variant may be given.
 pub const EXPANDED_FRESH: u32 = 2_000_000_000;
 
+/// Sorts, and operators, that a text may name: a number of 16 bits stands for each.
+pub const NAMES: usize = 65_536;
+
 /// From here on a number in a rank names a kind, and not a sort.
 pub const FIRST_KIND: u16 = 32_768;

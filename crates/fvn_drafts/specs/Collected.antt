@@ -1,6 +1,7 @@
 -- What a builder collected, and the signature that it becomes.
 use Rattle.std.specs.Prelude.{◌≡◌, ◌≤◌, ◌<◌, ◌⊎◌, ℕ, ◌+◌, ◌-◌, Bool, nat_eq, nat_lt, if◌then◌else◌, List, [], ◌∷◌, ◌++◌, map, filter, find, count_by, unwrap_or, slice_index_or, All, Contains}
 use Rattle.std.specs.List.{range_with_len}
+use Rattle.fvn_base.specs.declared.limits.TheConstants.{FIRST_KIND}
 use Rattle.fvn_terms.specs.declared.plain.OpId.{OpId}
 use Rattle.fvn_terms.specs.declared.plain.SortId.{SortId}
 use Rattle.fvn_terms.specs.declared.declarations.Axioms.{Axioms}
@@ -22,7 +23,7 @@ same_op f g = nat_eq f.0 g.0
 
 -- from here on a number in a rank names the kind of the sort with that number less this
 abbrev pub first_kind_number : ℕ
-first_kind_number = 32768
+first_kind_number = FIRST_KIND
 
 -- the number names one of n sorts, or the kind of one
 abbrev pub Names : ℕ → SortId → Type 0

@@ -1,5 +1,6 @@
 //! Terms with fresh variables.
 ghost use Rattle.std.specs.Prelude.{◌≡◌, ◌+◌, ◌<◌, ◌≤◌, ◌^◌, length, IfOk};
+ghost use Rattle.fvn_base.specs.declared.limits.TheConstants.{FIRST_FRESH};
 ghost use Rattle.fvn_forms.specs.Flat.{symbols};
 ghost use Rattle.fvn_forms.specs.Canon.{inst};
 ghost use Rattle.fvn_flat.specs.Fits.{Fits};
@@ -10,9 +11,6 @@ use crate::substitution::Subst;
 use fvn_sorts::Signature;
 use fvn_terms::{NoMemory, Var};
 use std::alloc::Global;
-
-/// The greatest first number of fresh variables, and the most symbols of a term that is renamed.
-pub const MOST_RENAMED: u32 = 1_000_000;
 
 /// Whether the variable stands in the list.
 pub fn is_listed(vars: &[Var], x: Var) -> bool
@@ -80,7 +78,7 @@ fn renaming(alloc: Global, vars: &[Var], first: u32) -> Result<Vec<(Var, Flat)>,
 
 /// The term with its variables renamed to fresh ones of the same sorts, and the next free number.
 ///
-/// They are numbered from `first` in order of first occurrence.
+/// They are numbered from `first` in order of first occurrence, and stay below `NEXT_FRESH`.
 pub fn rename_apart(
     alloc: Global,
     sig: &Signature,
@@ -88,8 +86,8 @@ pub fn rename_apart(
     first: u32,
 ) -> Result<(Flat, u32), NoMemory>
     requires term { Fits sig.now t.now }
-    requires number { first ≤ MOST_RENAMED }
-    requires size { symbols t.now ≤ MOST_RENAMED }
+    requires number { first ≤ FIRST_FRESH }
+    requires size { symbols t.now ≤ FIRST_FRESH }
     // Distinct variables go to distinct fresh ones, numbered from `first` up to below the next number.
     ensures renamed { IfOk result (λ r. r.0 ≡ inst sig.now (fresh_names first t.now) t.now) }
     ensures apart { IfOk result (λ r. RenamesApart t.now first r.1 (fresh_names first t.now)) }

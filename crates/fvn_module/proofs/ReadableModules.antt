@@ -2,7 +2,7 @@
 use Rattle.std.proofs.Common.{◌≡◌, ◌<◌, ◌≤◌, List, [], length, slice_get, Some, refl, sym, arith}
 use Rattle.std.specs.List.{All}
 use Rattle.std.proofs.lemmas.Option.{slice_get_within}
-use Rattle.fvn_base.specs.declared.limits.TheConstants.{SORTS, OPERATORS, EQUATIONS}
+use Rattle.fvn_base.specs.declared.limits.TheConstants.{SORTS, OPERATORS, EQUATIONS, NAMES}
 use Rattle.fvn_lex.specs.Cut.{Piece}
 use Rattle.fvn_lex.specs.Join.{IsPiece}
 use Rattle.fvn_terms.specs.declared.plain.OpId.{OpId}
@@ -52,10 +52,10 @@ readable-module f row pieces form named good complete few es is = record {
   ops_few : length (operators_of f.statements) ≤ OPERATORS
   ops_few = let n = operators-long f.statements in let l = good.limits.operators in omega arith
 
-  sorts_small : length (sorts_of f.statements) ≤ 65536
+  sorts_small : length (sorts_of f.statements) ≤ NAMES
   sorts_small = let l : length (sorts_of f.statements) ≤ SORTS = good.limits.sorts in omega arith
 
-  ops_small : length (operators_of f.statements) ≤ 65536
+  ops_small : length (operators_of f.statements) ≤ NAMES
   ops_small = let l = ops_few in omega arith
 
   constant : (g : OpId) (w : Text) → slice_get (operators_of f.statements) g.0 ≡ Some w →

@@ -1,5 +1,6 @@
 -- What names are read in.
 use Rattle.std.specs.Prelude.{Bool, ◌≤◌, length}
+use Rattle.fvn_base.specs.declared.limits.TheConstants.{NAMES}
 use Rattle.fvn_terms.specs.declared.declarations.Declarations.{Declarations}
 use Rattle.fvn_syntax.specs.declared.names.Names.{Names}
 
@@ -12,4 +13,4 @@ pub record Scope : Type 0 where
 
 -- sorts and operators have numbers
 abbrev pub IsNumbered : Names → Type 0
-IsNumbered names = (length names.sorts ≤ 65536) × (length names.ops ≤ 65536)
+IsNumbered names = (length names.sorts ≤ NAMES) × (length names.ops ≤ NAMES)

@@ -1,5 +1,6 @@
 //! What single names stand for.
 ghost use Rattle.std.specs.Prelude.{◌≡◌, ◌<◌, ◌≤◌, length, IfSome};
+ghost use Rattle.fvn_base.specs.declared.limits.TheConstants.{NAMES};
 ghost use Rattle.fvn_terms.specs.Signature.{axioms};
 ghost use Rattle.fvn_syntax.specs.Texts.{place};
 ghost use Rattle.fvn_syntax.specs.Names.{last_colon, sort_named, sorted_name, kind_in, kind_of, if_of_kind, args_of, result_of, is_sum, op_named, constant_named, declared_sort, variable_named, resolve_name};
@@ -33,7 +34,7 @@ pub fn find_last_colon(text: &[u8]) -> Option<usize>
 
 /// The sort of a name.
 pub fn find_sort(sorts: &Texts, name: &[u8]) -> Option<SortId>
-    requires { length sorts.now ≤ 65536 }
+    requires { length sorts.now ≤ NAMES }
     ensures { result ≡ sort_named sorts.now name.now }
 {
     match sorts.place(name) {
@@ -44,7 +45,7 @@ pub fn find_sort(sorts: &Texts, name: &[u8]) -> Option<SortId>
 
 /// The name and the sort in NAME:SORT, split at its last colon.
 pub fn split_sorted<'a>(sorts: &Texts, text: &'a [u8]) -> Option<(Text<'a>, SortId)>
-    requires { length sorts.now ≤ 65536 }
+    requires { length sorts.now ≤ NAMES }
     ensures { result ≡ sorted_name sorts.now text.now }
 {
     let i = find_last_colon(text)?;
@@ -67,7 +68,7 @@ fn kind_among(kinds: &[SortId], s: SortId) -> SortId
 
 /// The kind of the sort of a name.
 pub fn find_kind(sorts: &Texts, kinds: &[SortId], name: &[u8]) -> Option<SortId>
-    requires { length sorts.now ≤ 65536 }
+    requires { length sorts.now ≤ NAMES }
     ensures { result ≡ kind_of kinds.now (sort_named sorts.now name.now) }
 {
     let s = find_sort(sorts, name)?;
@@ -76,7 +77,7 @@ pub fn find_kind(sorts: &Texts, kinds: &[SortId], name: &[u8]) -> Option<SortId>
 
 /// The kind, where the name is that of a sort of it.
 pub fn keep_kind(sorts: &Texts, kinds: &[SortId], kind: SortId, name: &[u8]) -> Option<SortId>
-    requires { length sorts.now ≤ 65536 }
+    requires { length sorts.now ≤ NAMES }
     ensures { result ≡ if_of_kind kinds.now kind (sort_named sorts.now name.now) }
 {
     let s = find_sort(sorts, name)?;
@@ -125,7 +126,7 @@ pub fn is_sum_operator(d: &Declarations, op: OpId) -> bool
 
 /// The operator of a name.
 pub fn find_operator(names: &Names, name: &[u8]) -> Option<OpId>
-    requires { length names.now.ops ≤ 65536 }
+    requires { length names.now.ops ≤ NAMES }
     ensures { result ≡ op_named names.now name.now }
 {
     match names.ops.place(name) {
@@ -136,7 +137,7 @@ pub fn find_operator(names: &Names, name: &[u8]) -> Option<OpId>
 
 /// The constant of a name.
 pub fn find_constant(d: &Declarations, names: &Names, name: &[u8]) -> Option<OpId>
-    requires { length names.now.ops ≤ 65536 }
+    requires { length names.now.ops ≤ NAMES }
     ensures { result ≡ constant_named d.now names.now name.now }
 {
     let op = find_operator(names, name)?;
@@ -157,7 +158,7 @@ fn find_declared(variables: &Variables, name: &[u8]) -> Option<SortId>
 
 /// The variable of a name: a declared one, or else NAME:SORT.
 pub fn find_variable<'a>(names: &Names, name: &'a [u8]) -> Option<(Text<'a>, SortId)>
-    requires { length names.now.sorts ≤ 65536 }
+    requires { length names.now.sorts ≤ NAMES }
     ensures { result ≡ variable_named names.now name.now }
 {
     match find_declared(&names.variables, name) {
@@ -168,8 +169,8 @@ pub fn find_variable<'a>(names: &Names, name: &'a [u8]) -> Option<(Text<'a>, Sor
 
 /// What a name alone stands for: a declared constant, or else a declared variable, or else NAME:SORT.
 pub fn find_meaning<'a>(d: &Declarations, names: &Names, name: &'a [u8]) -> Option<Meaning<'a>>
-    requires sorts { length names.now.sorts ≤ 65536 }
-    requires ops { length names.now.ops ≤ 65536 }
+    requires sorts { length names.now.sorts ≤ NAMES }
+    requires ops { length names.now.ops ≤ NAMES }
     ensures { result ≡ resolve_name d.now names.now name.now }
 {
     if let Some(op) = find_constant(d, names, name) {

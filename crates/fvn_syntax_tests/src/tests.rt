@@ -1,5 +1,5 @@
 //! Terms and names, each rule with its edges.
-use fvn_base::Seq;
+use fvn_base::{Seq, limits};
 use fvn_syntax::{
     Kinded, Names, Piece, Scope, Seen, TermFault, Texts, Variables, cut, read_term, skip_term,
 };
@@ -290,7 +290,7 @@ fn shown_row(
 fn shown(alloc: Global, text: &str, limit: usize, guarded: bool) -> Result<(String, usize), Fail> {
     let d = declarations(alloc)?;
     let names = names(alloc)?;
-    if 65536 < names.sorts.len() || 65536 < names.ops.len() {
+    if limits::NAMES < names.sorts.len() || limits::NAMES < names.ops.len() {
         return Ok((String::new(alloc), 0));
     }
     let scope = Scope::new(&d, &names, guarded);
