@@ -34,32 +34,33 @@ sort A . op f : [A] -> A . op g : A -> A . var X : [A] . eq f(X) = g(X) [variant
 
 // Each line has statements, a sort and a number, and what is wrong with the sum of so many variables of the sort as a
 // left side: with many its instances are more than 4,096 by identities, or 16,777,216 by sorts and identities.
-const LIMITS: &str = "sort S . op e : -> S . op + : S S -> S [assoc comm id: e] . => S 12 variable 1
-sort S . op e : -> S . op + : S S -> S [assoc comm id: e] . => S 13 many 1
-sort S . op + : S S -> S [assoc comm] . => [S] 24 none 0
-sort S . op + : S S -> S [assoc comm] . => [S] 25 many 1
-sort S . op + : S S -> S [assoc comm] . => [S] 100 many 1
-sort S . op + : S S -> S [assoc comm] . => S 100 none 0
-sorts A B C D E F G H I J K L M N O . subsorts A B C D E F G H I J K L M N < O . op + : O O -> O [assoc comm] . => [O] 6 none 0
-sorts A B C D E F G H I J K L M N O . subsorts A B C D E F G H I J K L M N < O . op + : O O -> O [assoc comm] . => [O] 7 many 1
-sorts A B . subsort A < B . ops d e : -> A . op + : B B -> B [assoc comm id: d] . op * : B B -> B [assoc comm id: e] . => B 7 variable 1
-sorts A B . subsort A < B . ops d e : -> A . op + : B B -> B [assoc comm id: d] . op * : B B -> B [assoc comm id: e] . => B 8 many 1
-sorts A B . subsort A < B . op d : -> B . op + : B B -> B [assoc comm id: d] . => A 100 none 0";
+const LIMITS: &str =
+    "sort S . op e : -> S . op + : S S -> S [assoc comm id: e] . => S 12 | variable 1
+sort S . op e : -> S . op + : S S -> S [assoc comm id: e] . => S 13 | many 1
+sort S . op + : S S -> S [assoc comm] . => [S] 24 | none 0
+sort S . op + : S S -> S [assoc comm] . => [S] 25 | many 1
+sort S . op + : S S -> S [assoc comm] . => [S] 100 | many 1
+sort S . op + : S S -> S [assoc comm] . => S 100 | none 0
+sorts A B C D E F G H I J K L M N O . subsorts A B C D E F G H I J K L M N < O . op + : O O -> O [assoc comm] . => [O] 6 | none 0
+sorts A B C D E F G H I J K L M N O . subsorts A B C D E F G H I J K L M N < O . op + : O O -> O [assoc comm] . => [O] 7 | many 1
+sorts A B . subsort A < B . ops d e : -> A . op + : B B -> B [assoc comm id: d] . op * : B B -> B [assoc comm id: e] . => B 7 | variable 1
+sorts A B . subsort A < B . ops d e : -> A . op + : B B -> B [assoc comm id: d] . op * : B B -> B [assoc comm id: e] . => B 8 | many 1
+sorts A B . subsort A < B . op d : -> B . op + : B B -> B [assoc comm id: d] . => A 100 | none 0";
 
 // Each line has statements, a sort, a number and a term, and the number of the equation, or 0, where one between the sum
 // of so many variables of the sort and the term loses a sort. There are up to 16,777,216 instances by sorts and identities:
 // a search that tried each would not end in time. For three variables `bench/equations.py` prints the same numbers.
-const LOSSES: &str = "sorts A B . subsort A < B . op + : B B -> B [assoc comm] . => B 24 A:B 0
-sorts A B . subsort A < B . op + : B B -> B [assoc comm] . op + : A A -> A [ditto] . => B 24 Axx:B 0
-sorts A B . subsort A < B . op + : B B -> B [assoc comm] . op + : A A -> A [ditto] . => B 24 +(A:B,Axx:B) 0
-sorts B A . subsort A < B . op + : B B -> B [assoc comm] . op + : A A -> A [ditto] . op g : B -> B . => B 24 g(A:B) 1
-sorts A B . subsort A < B . op + : B B -> B [assoc comm] . op g : B -> B . => [B] 15 g(A:[B]) 0
-sorts A C D . subsorts A C < D . op + : D D -> D [assoc comm] . => D 15 +(A:D,Ax:D) 0
-sorts A C D . subsorts A C < D . op + : D D -> D [assoc comm] . op + : A A -> A [ditto] . op + : C C -> C [ditto] . => D 15 Ax:D 0
-sorts A C D . subsorts A C < D . op + : D D -> D [assoc comm] . op + : A A -> A [ditto] . op + : C C -> C [ditto] . op h : D -> A . => D 15 h(Ax:D) 1
-sorts A B . subsort A < B . op e : -> A . op + : B B -> B [assoc comm id: e] . => B 12 +(A:B,Axx:B) 0
-sorts A B . subsort A < B . op e : -> A . op + : B B -> B [assoc comm id: e] . op g : B -> B . => B 12 g(Ax:B) 1
-sorts A B . subsort A < B . op e : -> A . op + : B B -> B [assoc comm id: e] . => B 12 Ax:B 0";
+const LOSSES: &str = "sorts A B . subsort A < B . op + : B B -> B [assoc comm] . => B 24 | A:B | 0
+sorts A B . subsort A < B . op + : B B -> B [assoc comm] . op + : A A -> A [ditto] . => B 24 | Axx:B | 0
+sorts A B . subsort A < B . op + : B B -> B [assoc comm] . op + : A A -> A [ditto] . => B 24 | +(A:B,Axx:B) | 0
+sorts B A . subsort A < B . op + : B B -> B [assoc comm] . op + : A A -> A [ditto] . op g : B -> B . => B 24 | g(A:B) | 1
+sorts A B . subsort A < B . op + : B B -> B [assoc comm] . op g : B -> B . => [B] 15 | g(A:[B]) | 0
+sorts A C D . subsorts A C < D . op + : D D -> D [assoc comm] . => D 15 | +(A:D,Ax:D) | 0
+sorts A C D . subsorts A C < D . op + : D D -> D [assoc comm] . op + : A A -> A [ditto] . op + : C C -> C [ditto] . => D 15 | Ax:D | 0
+sorts A C D . subsorts A C < D . op + : D D -> D [assoc comm] . op + : A A -> A [ditto] . op + : C C -> C [ditto] . op h : D -> A . => D 15 | h(Ax:D) | 1
+sorts A B . subsort A < B . op e : -> A . op + : B B -> B [assoc comm id: e] . => B 12 | +(A:B,Axx:B) | 0
+sorts A B . subsort A < B . op e : -> A . op + : B B -> B [assoc comm id: e] . op g : B -> B . => B 12 | g(Ax:B) | 1
+sorts A B . subsort A < B . op e : -> A . op + : B B -> B [assoc comm id: e] . => B 12 | Ax:B | 0";
 
 // What the left side of an equation becomes.
 fn told(alloc: Global, module: &Module, number: usize) -> Result<&'static str, NoMemory>
@@ -75,32 +76,92 @@ fn told(alloc: Global, module: &Module, number: usize) -> Result<&'static str, N
     }
 }
 
+fn push_number(
+    text: &mut String,
+    alloc: Global,
+    before: &str,
+    number: usize,
+) -> Result<(), NoMemory> {
+    text.push_str(before)?;
+    text.push_str(&format!(in alloc; "{number}")?)?;
+    Ok(())
+}
+
 // The first left side that is at fault, and how.
-fn fault_of(alloc: Global, module: &Module) -> Result<String, NoMemory> {
-    let (word, number) = match first_left_fault(alloc, module)? {
-        None => ("none", 0),
-        Some(LeftFault::TooManyInstances(number)) => ("many", number),
-        Some(LeftFault::BecomesVariable(number)) => ("variable", number),
-        Some(LeftFault::BecomesIdentity(number)) => ("identity", number),
-    };
-    Ok(format!(in alloc; "{word} {number}")?)
+fn push_fault(text: &mut String, alloc: Global, module: &Module) -> Result<(), NoMemory> {
+    match first_left_fault(alloc, module)? {
+        None => push_number(text, alloc, "none ", 0),
+        Some(LeftFault::TooManyInstances(number)) => push_number(text, alloc, "many ", number),
+        Some(LeftFault::BecomesVariable(number)) => push_number(text, alloc, "variable ", number),
+        Some(LeftFault::BecomesIdentity(number)) => push_number(text, alloc, "identity ", number),
+    }
+}
+
+// The first equation that loses a sort.
+fn push_loss(text: &mut String, alloc: Global, module: &Module) -> Result<(), NoMemory> {
+    let first = sort_loss(alloc, module)?.unwrap_or(0);
+    push_number(text, alloc, "", first)
+}
+
+fn push_told(text: &mut String, alloc: Global, module: &Module) -> Result<(), NoMemory> {
+    for i in 0..module.equations().len() {
+        text.push_str(told(alloc, module, i + 1)?)?;
+    }
+    Ok(())
 }
 
 // What becomes of all equations.
-fn shown(alloc: Global, module: &Module) -> Result<String, NoMemory> {
-    let mut text = String::new(alloc);
-    for i in 0..module.equations().len() {
-        let word = told(alloc, module, i + 1)?;
-        text.push_str(word)?;
-    }
-    let first = sort_loss(alloc, module)?.unwrap_or(0);
-    let fault = fault_of(alloc, module)?;
-    text.push_str(&format!(in alloc; "| {first} | {fault}")?)?;
-    Ok(text)
+fn push_all(text: &mut String, alloc: Global, module: &Module) -> Result<(), NoMemory> {
+    push_told(text, alloc, module)?;
+    text.push_str("| ")?;
+    push_loss(text, alloc, module)?;
+    text.push_str(" | ")?;
+    push_fault(text, alloc, module)
 }
 
-// The text of a module with these statements.
-fn text_of(alloc: Global, statements: &str) -> Result<String, NoMemory> {
+// What is shown of a module.
+#[derive(Clone, Copy)]
+enum Part {
+    All,
+    Fault,
+    Loss,
+}
+
+fn push_part(
+    text: &mut String,
+    alloc: Global,
+    module: &Module,
+    part: Part,
+) -> Result<(), NoMemory> {
+    match part {
+        Part::All => push_all(text, alloc, module),
+        Part::Fault => push_fault(text, alloc, module),
+        Part::Loss => push_loss(text, alloc, module),
+    }
+}
+
+fn push_shown(text: &mut String, alloc: Global, bytes: &[u8], part: Part) -> Result<(), NoMemory> {
+    match read_module(alloc, bytes) {
+        Ok(module) => push_part(text, alloc, &module, part),
+        Err(_) => push_number(text, alloc, "no module ", 0),
+    }
+}
+
+fn assert_shown(
+    rt: &impl Abort,
+    alloc: Global,
+    module: &str,
+    part: Part,
+    want: &str,
+) -> Result<(), NoMemory> {
+    let mut text = String::new(alloc);
+    push_shown(&mut text, alloc, module.as_bytes(), part)?;
+    assert_eq!(rt; text.as_str(), want, "at {module}");
+    Ok(())
+}
+
+// A module with these statements.
+fn module_of(alloc: Global, statements: &str) -> Result<String, NoMemory> {
     let mut text = String::new(alloc);
     text.push_str("fmod M is ")?;
     text.push_str(statements)?;
@@ -108,155 +169,113 @@ fn text_of(alloc: Global, statements: &str) -> Result<String, NoMemory> {
     Ok(text)
 }
 
-// What becomes of the equations of a text.
-fn shown_of(alloc: Global, bytes: &[u8]) -> Result<String, NoMemory> {
-    match read_module(alloc, bytes) {
-        Ok(module) => shown(alloc, &module),
-        Err(_) => Ok(String::new(alloc)),
-    }
-}
-
-fn assert_shown(
+fn assert_all(
     rt: &impl Abort,
     alloc: Global,
     statements: &str,
     want: &str,
 ) -> Result<(), NoMemory> {
-    let text = text_of(alloc, statements)?;
-    let out = shown_of(alloc, text.as_bytes())?;
-    assert_eq!(rt; out.as_str(), want, "at {statements}");
-    Ok(())
+    let text = module_of(alloc, statements)?;
+    assert_shown(rt, alloc, text.as_str(), Part::All, want)
 }
 
 #[test]
 fn equations_collapse_and_lose_sorts(rt: HostRuntime) -> Result<(), NoMemory> {
     for row in EQUATIONS.lines() {
-        if let Some((statements, want)) = row.split_once(" => ") {
-            assert_shown(&rt, rt.alloc(), statements, want)?;
-        }
+        let (statements, want) = row.split_once(" => ").unwrap_or((row, "no arrow"));
+        assert_all(&rt, rt.alloc(), statements, want)?;
     }
+    Ok(())
+}
+
+// A variable with a name of its own.
+fn push_variable(text: &mut String, sort: &str, number: usize) -> Result<(), NoMemory> {
+    text.push('A')?;
+    for _ in 0..number {
+        text.push('x')?;
+    }
+    text.push(':')?;
+    text.push_str(sort)?;
     Ok(())
 }
 
 // A sum of so many variables of a sort.
 fn push_sum(text: &mut String, sort: &str, count: usize) -> Result<(), NoMemory> {
-    text.push_str("+(")?;
+    let mut before = "+(";
     for i in 0..count {
-        if i > 0 {
-            text.push_str(",")?;
-        }
-        text.push('A')?;
-        for _ in 0..i {
-            text.push('x')?;
-        }
-        text.push_str(":")?;
-        text.push_str(sort)?;
+        text.push_str(before)?;
+        push_variable(text, sort, i)?;
+        before = ",";
     }
-    text.push_str(")")?;
+    text.push(')')?;
     Ok(())
 }
 
-// The statements, and an equation between a sum and the same sum.
-fn statements_of(
-    alloc: Global,
-    statements: &str,
-    sort: &str,
-    count: usize,
-) -> Result<String, NoMemory> {
-    let mut text = String::new(alloc);
-    text.push_str(statements)?;
-    text.push_str(" eq ")?;
-    push_sum(&mut text, sort, count)?;
-    text.push_str(" = ")?;
-    push_sum(&mut text, sort, count)?;
-    text.push_str(" [variant] .")?;
-    Ok(text)
+// The right side: a term, or the same sum where there is no term.
+fn push_right(text: &mut String, sort: &str, count: usize, right: &str) -> Result<(), NoMemory> {
+    if right.is_empty() {
+        return push_sum(text, sort, count);
+    }
+    text.push_str(right)?;
+    Ok(())
 }
 
-// The same of the left sides of a text.
-fn fault_of_text(alloc: Global, bytes: &[u8]) -> Result<String, NoMemory> {
-    match read_module(alloc, bytes) {
-        Ok(module) => fault_of(alloc, &module),
-        Err(_) => Ok(String::new(alloc)),
-    }
+fn push_equation(text: &mut String, sort: &str, count: usize, right: &str) -> Result<(), NoMemory> {
+    text.push_str(" eq ")?;
+    push_sum(text, sort, count)?;
+    text.push_str(" = ")?;
+    push_right(text, sort, count, right)?;
+    text.push_str(" [variant] . endfm")?;
+    Ok(())
+}
+
+// A module with these statements and an equation between a sum and a term, or the same sum.
+fn sum_module(alloc: Global, statements: &str, sum: &str, right: &str) -> Result<String, NoMemory> {
+    let (sort, number) = sum.split_once(' ').unwrap_or((sum, ""));
+    let mut text = String::new(alloc);
+    text.push_str("fmod M is ")?;
+    text.push_str(statements)?;
+    push_equation(&mut text, sort, number.parse::<usize>().unwrap_or(0), right)?;
+    Ok(text)
 }
 
 fn assert_limit(
     rt: &impl Abort,
     alloc: Global,
     statements: &str,
-    want: &str,
+    row: &str,
 ) -> Result<(), NoMemory> {
-    let (sort, rest) = want.split_once(" ").unwrap_or((want, ""));
-    let (number, said) = rest.split_once(" ").unwrap_or((rest, ""));
-    let count = number.parse::<usize>().unwrap_or(0);
-    let equation = statements_of(alloc, statements, sort, count)?;
-    let text = text_of(alloc, equation.as_str())?;
-    let fault = fault_of_text(alloc, text.as_bytes())?;
-    assert_eq!(rt; fault.as_str(), said, "at {statements}");
-    Ok(())
+    let (sum, want) = row.split_once(" | ").unwrap_or((row, "no bar"));
+    let text = sum_module(alloc, statements, sum, "")?;
+    assert_shown(rt, alloc, text.as_str(), Part::Fault, want)
 }
 
 #[test]
 fn instances_are_few(rt: HostRuntime) -> Result<(), NoMemory> {
     for row in LIMITS.lines() {
-        if let Some((statements, want)) = row.split_once(" => ") {
-            assert_limit(&rt, rt.alloc(), statements, want)?;
-        }
+        let (statements, rest) = row.split_once(" => ").unwrap_or((row, "no arrow"));
+        assert_limit(&rt, rt.alloc(), statements, rest)?;
     }
     Ok(())
-}
-
-// The statements, and an equation between a sum and a term.
-fn loss_statements(
-    alloc: Global,
-    statements: &str,
-    sort: &str,
-    count: usize,
-    right: &str,
-) -> Result<String, NoMemory> {
-    let mut text = String::new(alloc);
-    text.push_str(statements)?;
-    text.push_str(" eq ")?;
-    push_sum(&mut text, sort, count)?;
-    text.push_str(&format!(in alloc; " = {right} [variant] .")?)?;
-    Ok(text)
-}
-
-// The first equation of a text that loses a sort.
-fn loss_of_text(alloc: Global, bytes: &[u8]) -> Result<String, NoMemory> {
-    match read_module(alloc, bytes) {
-        Ok(module) => {
-            let first = sort_loss(alloc, &module)?.unwrap_or(0);
-            Ok(format!(in alloc; "{first}")?)
-        }
-        Err(_) => Ok(String::new(alloc)),
-    }
 }
 
 fn assert_loss(
     rt: &impl Abort,
     alloc: Global,
     statements: &str,
-    want: &str,
+    row: &str,
 ) -> Result<(), NoMemory> {
-    let (sort, rest) = want.split_once(" ").unwrap_or((want, ""));
-    let (number, last) = rest.split_once(" ").unwrap_or((rest, ""));
-    let (right, lost) = last.split_once(" ").unwrap_or((last, ""));
-    let count = number.parse::<usize>().unwrap_or(0);
-    let equation = loss_statements(alloc, statements, sort, count, right)?;
-    let text = text_of(alloc, equation.as_str())?;
-    let first = loss_of_text(alloc, text.as_bytes())?;
-    assert_eq!(rt; first.as_str(), lost, "at {statements}");
-    Ok(())
+    let (sum, rest) = row.split_once(" | ").unwrap_or((row, ""));
+    let (right, want) = rest.split_once(" | ").unwrap_or((rest, "no bar"));
+    let text = sum_module(alloc, statements, sum, right)?;
+    assert_shown(rt, alloc, text.as_str(), Part::Loss, want)
 }
 
 #[test]
 fn losses_are_found_among_many_instances(rt: HostRuntime) -> Result<(), NoMemory> {
     for row in LOSSES.lines() {
-        if let Some((statements, want)) = row.split_once(" => ") {
-            assert_loss(&rt, rt.alloc(), statements, want)?;
-        }
+        let (statements, rest) = row.split_once(" => ").unwrap_or((row, "no arrow"));
+        assert_loss(&rt, rt.alloc(), statements, rest)?;
     }
     Ok(())
 }
