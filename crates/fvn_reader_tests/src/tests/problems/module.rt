@@ -75,12 +75,19 @@ pub struct Stated {
     words: Words,
 }
 
+/// The sort of a word, where there is a word.
+fn push_named(list: &mut Vec<SortId>, sorts: &Texts, word: &str) -> Result<(), NoMemory> {
+    if word.is_empty() {
+        return Ok(());
+    }
+    list.push(SortId(place_of(sorts, word)))?;
+    Ok(())
+}
+
 fn sorts_of(alloc: Global, sorts: &Texts, text: &str) -> Result<Vec<SortId>, NoMemory> {
     let mut list = Vec::new(alloc);
     for word in text.split(' ') {
-        if !word.is_empty() {
-            list.push(SortId(place_of(sorts, word)))?;
-        }
+        push_named(&mut list, sorts, word)?;
     }
     Ok(list)
 }

@@ -3,7 +3,7 @@ use Rattle.std.proofs.Common.{arith, subst}
 use Rattle.std.specs.Prelude.{All}
 use Rattle.fvn_terms.specs.Signature.{IsSort}
 use Rattle.fvn_problems.proofs.Fitting.{are-names}
-use Rattle.fvn_problems_tests.proofs.tests.module.are_names.Goals as goal
+use Rattle.fvn_reader_tests.proofs.tests.problems.module.are_names.Goals as goal
 
 pub returns : goal.returns
 returns c h =

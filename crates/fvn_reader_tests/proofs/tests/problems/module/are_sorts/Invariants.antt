@@ -2,7 +2,7 @@
 use Rattle.std.proofs.Common.{ℕ, ◌<◌, get_or}
 use Rattle.fvn_terms.specs.declared.plain.SortId.{SortId}
 use Rattle.fvn_terms.specs.Signature.{IsSort}
-use Rattle.fvn_problems_tests.proofs.tests.module.are_sorts.Given as goal
+use Rattle.fvn_reader_tests.proofs.tests.problems.module.are_sorts.Given as goal
 
 -- each number so far is a sort
 abbrev pub invariant-loop-s : goal.invariant-loop-s

@@ -2,8 +2,8 @@
 mod module;
 mod showing;
 
-use crate::tests::module::{Module, are_names, finished, make_stated};
-use crate::tests::showing::{
+use crate::tests::problems::module::{Module, are_names, finished, make_stated};
+use crate::tests::problems::showing::{
     push_between, push_fault, push_pair, push_term, push_variable, push_variables,
 };
 use fvn_problems::{

@@ -2,7 +2,7 @@
 use Rattle.std.proofs.Common.{ℕ, ◌<◌, get_or}
 use Rattle.fvn_terms.specs.declared.plain.SortId.{SortId}
 use Rattle.fvn_sorts.specs.Collected.{Names}
-use Rattle.fvn_problems_tests.proofs.tests.module.all_names.Given as goal
+use Rattle.fvn_reader_tests.proofs.tests.problems.module.all_names.Given as goal
 
 -- each sort so far is named
 abbrev pub invariant-loop-s : goal.invariant-loop-s

@@ -1,25 +1,17 @@
 //! Shows terms and faults in tests.
-
+use crate::tests::writing::{push_number, push_text};
 use fvn_lex::LexFault;
 use fvn_problems::ProblemFault;
 use fvn_syntax::{Names, VarNames};
 use fvn_terms::{Args, NoMemory, OpId, Plain, SortId, Var};
 use std::alloc::Global;
 
-fn push_text(out: &mut String, text: &[u8]) -> Result<(), NoMemory> {
-    for b in text {
-        out.push(char::from(*b))?;
-    }
-    Ok(())
-}
-
 /// A sort by its name, a kind by a star and its number.
 fn push_sort(alloc: Global, out: &mut String, names: &Names, s: SortId) -> Result<(), NoMemory> {
     if usize::from(s.0) < names.sorts.len() {
         push_text(out, names.sort_text(s))
     } else {
-        out.push_str(&format!(in alloc; "*{}", s.0)?)?;
-        Ok(())
+        push_number(out, alloc, "*", usize::from(s.0))
     }
 }
 
@@ -42,7 +34,7 @@ pub fn push_variable(
     if (x.name as usize) < texts.texts.len() && !x.fresh {
         push_text(out, texts.text(x.name))?;
     } else {
-        out.push_str(&format!(in alloc; "{}", x.name)?)?;
+        push_number(out, alloc, "", x.name as usize)?;
     }
     out.push(':')?;
     push_sort(alloc, out, names, x.sort)
@@ -108,11 +100,6 @@ pub fn push_between(out: &mut String, text: &str) -> Result<(), NoMemory> {
     Ok(())
 }
 
-fn push_offset(alloc: Global, out: &mut String, word: &str, n: usize) -> Result<(), NoMemory> {
-    out.push_str(&format!(in alloc; "{word} {n}")?)?;
-    Ok(())
-}
-
 fn word_of(fault: ProblemFault) -> &'static str {
     match fault {
         ProblemFault::Text => "text",
@@ -129,8 +116,8 @@ fn word_of(fault: ProblemFault) -> &'static str {
 /// The fault by its name.
 pub fn push_fault(alloc: Global, out: &mut String, fault: ProblemFault) -> Result<(), NoMemory> {
     match fault {
-        ProblemFault::Lex(LexFault::BadByte(n)) => push_offset(alloc, out, "byte", n),
-        ProblemFault::Lex(LexFault::BlockComment(n)) => push_offset(alloc, out, "comment", n),
+        ProblemFault::Lex(LexFault::BadByte(n)) => push_number(out, alloc, "byte ", n),
+        ProblemFault::Lex(LexFault::BlockComment(n)) => push_number(out, alloc, "comment ", n),
         _ => {
             out.push_str(word_of(fault))?;
             Ok(())

@@ -1,9 +1,11 @@
 //! Statements at the edges of their forms.
+use crate::tests::writing::{push_number, push_text};
 use fvn_lex::LexFault;
-use fvn_statements::{Form, FormFault, Mark, Statement, read_form};
-use fvn_syntax::{RawSort, Text, cut};
+use fvn_statements::{Feature, Form, FormFault, Mark, RawRank, Statement, read_form};
+use fvn_syntax::{Piece, RawSort, Text, cut};
+use fvn_terms::NoMemory;
 use std::alloc::Global;
-use std::test::Fail;
+use std::process::Abort;
 
 // Each line has the text between `is` and `endfm`, and what is read of it: the statements with the numbers of
 // their parts, or the fault.
@@ -209,15 +211,8 @@ eq a = b [variant] => statement 1
 Eq a = b [variant] . => statement 1
 eq a = b [variant] . eq c = d . eq e => left out 2 Equation";
 
-fn push_text(out: &mut String, text: &[u8]) -> Result<(), Fail> {
-    for b in text {
-        out.push(char::from(*b))?;
-    }
-    Ok(())
-}
-
 // The name of a sort, or the first one of a kind in brackets.
-fn push_sort(out: &mut String, sort: &RawSort<'_>) -> Result<(), Fail> {
+fn push_sort(out: &mut String, sort: &RawSort<'_>) -> Result<(), NoMemory> {
     match sort {
         RawSort::Name(text) => push_text(out, text.bytes()),
         RawSort::Kind(text, _) => {
@@ -229,7 +224,7 @@ fn push_sort(out: &mut String, sort: &RawSort<'_>) -> Result<(), Fail> {
     }
 }
 
-fn push_label(out: &mut String, label: &Option<Text<'_>>) -> Result<(), Fail> {
+fn push_label(out: &mut String, label: &Option<Text<'_>>) -> Result<(), NoMemory> {
     if let Some(text) = label {
         out.push('[')?;
         push_text(out, text.bytes())?;
@@ -238,79 +233,111 @@ fn push_label(out: &mut String, label: &Option<Text<'_>>) -> Result<(), Fail> {
     Ok(())
 }
 
+// An attribute of an equation, behind a text.
+fn push_mark(out: &mut String, before: &str, mark: &Mark<'_>) -> Result<(), NoMemory> {
+    out.push_str(before)?;
+    match mark {
+        Mark::Variant => {
+            out.push_str("variant")?;
+            Ok(())
+        }
+        Mark::Label(text) => {
+            out.push_str("label ")?;
+            push_text(out, text.bytes())
+        }
+    }
+}
+
 // The attributes of an equation, and the bracket that closes.
-fn push_marks(out: &mut String, marks: &[Mark<'_>]) -> Result<(), Fail> {
+fn push_marks(out: &mut String, marks: &[Mark<'_>]) -> Result<(), NoMemory> {
     let mut space = "";
     for mark in marks {
-        out.push_str(space)?;
-        match mark {
-            Mark::Variant => out.push_str("variant")?,
-            Mark::Label(text) => {
-                out.push_str("label ")?;
-                push_text(out, text.bytes())?;
-            }
-        }
+        push_mark(out, space, mark)?;
         space = " ";
     }
     out.push(']')?;
     Ok(())
 }
 
+// The label of an equation, the numbers of tokens of its sides, and the bracket that opens.
+fn push_sides(
+    out: &mut String,
+    alloc: Global,
+    label: &Option<Text<'_>>,
+    left: usize,
+    right: usize,
+) -> Result<(), NoMemory> {
+    out.push_str(", eq ")?;
+    push_label(out, label)?;
+    push_number(out, alloc, "", left)?;
+    push_number(out, alloc, " = ", right)?;
+    out.push_str(" [")?;
+    Ok(())
+}
+
+// The numbers of arguments and of attributes, with the sort of the result between.
+fn push_rank(
+    out: &mut String,
+    alloc: Global,
+    rank: &RawRank<'_>,
+    attributes: usize,
+) -> Result<(), NoMemory> {
+    push_number(out, alloc, " ", rank.args.len())?;
+    out.push_str(if rank.partial { " ~> " } else { " -> " })?;
+    push_sort(out, &rank.result)?;
+    push_number(out, alloc, " ", attributes)
+}
+
+fn push_variables(
+    out: &mut String,
+    alloc: Global,
+    names: usize,
+    sort: &RawSort<'_>,
+) -> Result<(), NoMemory> {
+    push_number(out, alloc, ", vars ", names)?;
+    out.push(' ')?;
+    push_sort(out, sort)
+}
+
 // What is read of a statement.
-fn push_statement(out: &mut String, alloc: Global, statement: &Statement<'_>) -> Result<(), Fail> {
+fn push_statement(
+    out: &mut String,
+    alloc: Global,
+    statement: &Statement<'_>,
+) -> Result<(), NoMemory> {
     match statement {
-        Statement::Sorts { names, .. } => {
-            let n = names.len();
-            out.push_str(&format!(in alloc; ", sorts {n}")?)?;
-        }
-        Statement::Subsorts { groups, .. } => {
-            let n = groups.len();
-            out.push_str(&format!(in alloc; ", subsorts {n}")?)?;
-        }
-        Statement::Variables { names, sort, .. } => {
-            let n = names.len();
-            out.push_str(&format!(in alloc; ", vars {n} ")?)?;
-            push_sort(out, sort)?;
-        }
+        Statement::Sorts { names, .. } => push_number(out, alloc, ", sorts ", names.len()),
+        Statement::Subsorts { groups, .. } => push_number(out, alloc, ", subsorts ", groups.len()),
+        Statement::Variables { names, sort, .. } => push_variables(out, alloc, names.len(), sort),
         Statement::Equation {
             label,
             left,
             right,
             marks,
         } => {
-            let (n, k) = (left.pieces().len(), right.pieces().len());
-            out.push_str(", eq ")?;
-            push_label(out, label)?;
-            out.push_str(&format!(in alloc; "{n} = {k} [")?)?;
-            push_marks(out, marks.as_slice())?;
+            push_sides(out, alloc, label, left.pieces().len(), right.pieces().len())?;
+            push_marks(out, marks.as_slice())
         }
         Statement::Operator {
             name,
             rank,
             attributes,
         } => {
-            let (n, k, m) = (name.pieces().len(), rank.args.len(), attributes.len());
-            let arrow = if rank.partial { "~>" } else { "->" };
-            out.push_str(&format!(in alloc; ", op {n} {k} {arrow} ")?)?;
-            push_sort(out, &rank.result)?;
-            out.push_str(&format!(in alloc; " {m}")?)?;
+            push_number(out, alloc, ", op ", name.pieces().len())?;
+            push_rank(out, alloc, rank, attributes.len())
         }
         Statement::Operators {
             names,
             rank,
             attributes,
         } => {
-            let (n, k, m) = (names.len(), rank.args.len(), attributes.len());
-            let arrow = if rank.partial { "~>" } else { "->" };
-            out.push_str(&format!(in alloc; ", ops {n} {k} {arrow} ")?)?;
-            push_sort(out, &rank.result)?;
-            out.push_str(&format!(in alloc; " {m}")?)?;
+            push_number(out, alloc, ", ops ", names.len())?;
+            push_rank(out, alloc, rank, attributes.len())
         }
     }
-    Ok(())
 }
 
-fn shown_form(alloc: Global, form: &Form<'_>) -> Result<String, Fail> {
+fn shown_form(alloc: Global, form: &Form<'_>) -> Result<String, NoMemory> {
     let mut out = String::new(alloc);
     out.push_str("read")?;
     for statement in form.statements.as_slice() {
@@ -319,49 +346,74 @@ fn shown_form(alloc: Global, form: &Form<'_>) -> Result<String, Fail> {
     Ok(out)
 }
 
-fn shown_fault(alloc: Global, fault: FormFault) -> Result<String, Fail> {
+// A word, and behind it a number.
+fn shown_number(alloc: Global, word: &str, n: usize) -> Result<String, NoMemory> {
+    let mut out = String::new(alloc);
+    push_number(&mut out, alloc, word, n)?;
+    Ok(out)
+}
+
+fn shown_left_out(alloc: Global, n: usize, feature: Feature) -> Result<String, NoMemory> {
+    let mut out = shown_number(alloc, "left out ", n)?;
+    out.push_str(&format!(in alloc; " {feature:?}")?)?;
+    Ok(out)
+}
+
+fn shown_fault(alloc: Global, fault: FormFault) -> Result<String, NoMemory> {
     match fault {
         FormFault::Header => Ok(format!(in alloc; "header")?),
-        FormFault::Statement(n) => Ok(format!(in alloc; "statement {n}")?),
-        FormFault::LeftOut(n, feature) => Ok(format!(in alloc; "left out {n} {feature:?}")?),
+        FormFault::Statement(n) => shown_number(alloc, "statement ", n),
+        FormFault::LeftOut(n, feature) => shown_left_out(alloc, n, feature),
         FormFault::NoMemory => Ok(format!(in alloc; "memory")?),
     }
 }
 
-fn shown(alloc: Global, bytes: &[u8]) -> Result<String, Fail> {
+fn shown_pieces<'a>(alloc: Global, pieces: &'a [Piece<'a>]) -> Result<String, NoMemory> {
+    match read_form(alloc, pieces) {
+        Ok(form) => shown_form(alloc, &form),
+        Err(fault) => shown_fault(alloc, fault),
+    }
+}
+
+fn shown(alloc: Global, bytes: &[u8]) -> Result<String, NoMemory> {
     match cut(alloc, bytes) {
-        Ok(pieces) => match read_form(alloc, pieces.as_slice()) {
-            Ok(form) => shown_form(alloc, &form),
-            Err(fault) => shown_fault(alloc, fault),
-        },
+        Ok(pieces) => shown_pieces(alloc, pieces.as_slice()),
         Err(LexFault::NoMemory) => Ok(format!(in alloc; "memory")?),
-        Err(LexFault::BadByte(n)) => Ok(format!(in alloc; "byte {n}")?),
-        Err(LexFault::BlockComment(n)) => Ok(format!(in alloc; "byte {n}")?),
+        Err(LexFault::BadByte(n)) => shown_number(alloc, "byte ", n),
+        Err(LexFault::BlockComment(n)) => shown_number(alloc, "byte ", n),
     }
 }
 
-#[test]
-fn bodies(rt: HostRuntime) -> Result<(), Fail> {
-    let alloc = rt.alloc();
-    for line in BODIES.lines() {
-        if let Some((body, want)) = line.rsplit_once(" => ") {
-            let text = format!(in alloc; "fmod M is {body} endfm")?;
-            assert_eq!(rt; shown(alloc, text.as_bytes())?.as_str(), want, "at {body}");
-        }
+fn assert_shown(rt: &impl Abort, alloc: Global, text: &str, want: &str) -> Result<(), NoMemory> {
+    let told = shown(alloc, text.as_bytes())?;
+    assert_eq!(rt; told.as_str(), want, "at {text}");
+    Ok(())
+}
+
+fn assert_body(rt: &impl Abort, alloc: Global, body: &str, want: &str) -> Result<(), NoMemory> {
+    let mut text = String::new(alloc);
+    text.push_str("fmod M is ")?;
+    text.push_str(body)?;
+    text.push_str(" endfm")?;
+    assert_shown(rt, alloc, text.as_str(), want)
+}
+
+fn assert_bodies(rt: &impl Abort, alloc: Global, lines: &str) -> Result<(), NoMemory> {
+    for line in lines.lines() {
+        let (body, want) = line.rsplit_once(" => ").unwrap_or((line, "no arrow"));
+        assert_body(rt, alloc, body, want)?;
     }
     Ok(())
 }
 
 #[test]
-fn equations(rt: HostRuntime) -> Result<(), Fail> {
-    let alloc = rt.alloc();
-    for line in EQUATIONS.lines() {
-        if let Some((body, want)) = line.rsplit_once(" => ") {
-            let text = format!(in alloc; "fmod M is {body} endfm")?;
-            assert_eq!(rt; shown(alloc, text.as_bytes())?.as_str(), want, "at {body}");
-        }
-    }
-    Ok(())
+fn bodies(rt: HostRuntime) -> Result<(), NoMemory> {
+    assert_bodies(&rt, rt.alloc(), BODIES)
+}
+
+#[test]
+fn equations(rt: HostRuntime) -> Result<(), NoMemory> {
+    assert_bodies(&rt, rt.alloc(), EQUATIONS)
 }
 
 // Each row has a whole text, and what is read of it.
@@ -390,46 +442,47 @@ const TEXTS: &str = "\
     fmod M is\r\n  sorts A` B .\r\n  subsort A` < B .\r\n  op f`( : A` -> B [ctor] .\r\n  vars X` Y : B .\r\n  eq [l` ] : f`( (X` ) = X` [variant] .\r\nendfm\r\n => read, sorts 2, subsorts 2, op 1 1 -> B 1, vars 2 B, eq [l`] : 4 = 1 [variant]";
 
 #[test]
-fn texts(rt: HostRuntime) -> Result<(), Fail> {
+fn texts(rt: HostRuntime) -> Result<(), NoMemory> {
     for row in TEXTS.split(';') {
-        if let Some((text, want)) = row.rsplit_once(" => ") {
-            assert_eq!(rt;
-                shown(rt.alloc(), text.as_bytes())?.as_str(),
-                want,
-                "at {text}"
-            );
-        }
+        let (text, want) = row.rsplit_once(" => ").unwrap_or((row, "no arrow"));
+        assert_shown(&rt, rt.alloc(), text, want)?;
     }
     Ok(())
 }
 
-fn push_often(out: &mut String, text: &str) -> Result<(), Fail> {
+fn push_often(out: &mut String, text: &str) -> Result<(), NoMemory> {
     for _ in 0..100000 {
         out.push_str(text)?;
     }
     Ok(())
 }
 
+// Parts between bars, of which every second one stands 100,000 times.
+const LONG: &str =
+    "fmod M is sorts| A| . op f : [A|,A|] -> A . eq |f(|a|)| = f(a|,a|) [variant| label x|] . ops |(|: -> A . endfm";
+
+fn push_part(out: &mut String, number: usize, part: &str) -> Result<(), NoMemory> {
+    if number % 2 == 1 {
+        return push_often(out, part);
+    }
+    out.push_str(part)?;
+    Ok(())
+}
+
+fn long_text(alloc: Global) -> Result<String, NoMemory> {
+    let mut text = String::new(alloc);
+    for (number, part) in LONG.split('|').enumerate() {
+        push_part(&mut text, number, part)?;
+    }
+    Ok(text)
+}
+
 // Long and deep statements are read without a copy of them.
 #[test]
-fn long_statements(rt: HostRuntime) -> Result<(), Fail> {
+fn long_statements(rt: HostRuntime) -> Result<(), NoMemory> {
     let alloc = rt.alloc();
-    let mut text = String::new(alloc);
-    text.push_str("fmod M is sorts")?;
-    push_often(&mut text, " A")?;
-    text.push_str(" . op f : [A")?;
-    push_often(&mut text, ",A")?;
-    text.push_str("] -> A . eq ")?;
-    push_often(&mut text, "f(")?;
-    text.push('a')?;
-    push_often(&mut text, ")")?;
-    text.push_str(" = f(a")?;
-    push_often(&mut text, ",a")?;
-    text.push_str(") [variant")?;
-    push_often(&mut text, " label x")?;
-    text.push_str("] . ops ")?;
-    push_often(&mut text, "(")?;
-    text.push_str(": -> A . endfm")?;
-    assert_eq!(rt; shown(alloc, text.as_bytes())?.as_str(), "statement 4");
+    let text = long_text(alloc)?;
+    let told = shown(alloc, text.as_bytes())?;
+    assert_eq!(rt; told.as_str(), "statement 4");
     Ok(())
 }

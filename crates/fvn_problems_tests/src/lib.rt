@@ -1,5 +1,0 @@
-//! Tests of problems, through the public calls of their crate alone: that crate is proved once, and not again with its tests.
-#![tactic(auto)]
-
-#[cfg(test)]
-mod tests;
