@@ -2,7 +2,7 @@
 use Rattle.std.proofs.Common.{sym, subst}
 use Rattle.fvn_cohere.specs.Promises.{equations_of}
 use Rattle.fvn_coherence.specs.Admissible.{AreAdmissible}
-use Rattle.fvn_rewrite_tests.proofs.tests.outcomes_in.Goals as goal
+use Rattle.fvn_equation_tests.proofs.tests.normal_forms.outcomes_in.Goals as goal
 
 pub outcomes_by-requires : goal.outcomes_by-requires
 outcomes_by-requires c =

@@ -1,4 +1,5 @@
 //! The rules of modules, and those that are needed under each head.
+use crate::tests::texts::module_of;
 use fvn_module::{Module, read_module};
 use fvn_rules::{Rule, Rules, extend};
 use fvn_terms::{Args, NoMemory, OpId, Plain};
@@ -115,15 +116,6 @@ fn shown(alloc: Global, module: &Module) -> Result<String, NoMemory> {
     shown_rules(alloc, &rules)
 }
 
-// The text of a module with these statements.
-fn text_of(alloc: Global, statements: &str) -> Result<String, NoMemory> {
-    let mut text = String::new(alloc);
-    text.push_str("fmod M is ")?;
-    text.push_str(statements)?;
-    text.push_str(" endfm")?;
-    Ok(text)
-}
-
 // The rules of a text.
 fn shown_of(alloc: Global, bytes: &[u8]) -> Result<String, NoMemory> {
     match read_module(alloc, bytes) {
@@ -138,7 +130,7 @@ fn assert_shown(
     statements: &str,
     want: &str,
 ) -> Result<(), NoMemory> {
-    let text = text_of(alloc, statements)?;
+    let text = module_of(alloc, statements)?;
     let out = shown_of(alloc, text.as_bytes())?;
     assert_eq!(rt; out.as_str(), want, "at {statements}");
     Ok(())

@@ -5,6 +5,7 @@ ghost use Rattle.fvn_cohere.specs.Promises.{equations_of};
 ghost use Rattle.fvn_coherence.specs.Admissible.{AreAdmissible};
 ghost use Rattle.fvn_rules.specs.Given.{AreRules};
 
+use crate::tests::texts::module_of;
 use fvn_cohere::first_left_fault;
 use fvn_flat::{Flat, Normal, flatten};
 use fvn_module::{Module, read_module};
@@ -181,19 +182,15 @@ fn statements_of(name: &str) -> &'static str {
     ""
 }
 
-// The module of a row, with one equation more for each of its terms.
-fn text_of(alloc: Global, row: &Row<'_>) -> Result<String, NoMemory> {
-    let statements = statements_of(row.name);
-    let from = row.from;
-    let to = row.to;
+// The statements of a row, with one equation more for each of its terms.
+fn row_statements(alloc: Global, row: &Row<'_>) -> Result<String, NoMemory> {
     let mut text = String::new(alloc);
-    text.push_str("fmod M is ")?;
-    text.push_str(statements)?;
+    text.push_str(statements_of(row.name))?;
     text.push_str(" eq from(X,Y) = ")?;
-    text.push_str(from)?;
+    text.push_str(row.from)?;
     text.push_str(" [variant] . eq to(X,Y) = ")?;
-    text.push_str(to)?;
-    text.push_str(" [variant] . endfm")?;
+    text.push_str(row.to)?;
+    text.push_str(" [variant] .")?;
     Ok(text)
 }
 
@@ -297,7 +294,8 @@ fn outcomes_of(alloc: Global, bytes: &[u8], row: &Row<'_>) -> Result<String, NoM
 
 fn assert_row(rt: &impl Abort, alloc: Global, line: &str) -> Result<(), NoMemory> {
     let row = row_of(line);
-    let text = text_of(alloc, &row)?;
+    let statements = row_statements(alloc, &row)?;
+    let text = module_of(alloc, statements.as_str())?;
     let out = outcomes_of(alloc, text.as_bytes(), &row)?;
     assert_eq!(rt; out.as_str(), row.want, "at {line}");
     Ok(())

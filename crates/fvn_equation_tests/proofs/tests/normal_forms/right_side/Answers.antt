@@ -4,7 +4,7 @@ use Rattle.std.proofs.lemmas.List.Elements.{All-get_or}
 use Rattle.fvn_terms.specs.Plain.{term}
 use Rattle.fvn_terms.specs.Signature.{IsTerm}
 use Rattle.fvn_module.specs.Readable.{IsReadableEquation}
-use Rattle.fvn_rewrite_tests.proofs.tests.right_side.Goals as goal
+use Rattle.fvn_equation_tests.proofs.tests.normal_forms.right_side.Goals as goal
 
 pub flatten-requires : goal.flatten-requires
 flatten-requires c =

@@ -1,6 +1,7 @@
 //! What becomes of the equations of modules.
 ghost use Rattle.fvn_cohere.specs.Promises.{IsNumberIn};
 
+use crate::tests::texts::module_of;
 use fvn_cohere::{Collapse, LeftFault, first_left_fault, instances_fit, left_collapses, sort_loss};
 use fvn_module::{Module, read_module};
 use fvn_terms::NoMemory;
@@ -158,15 +159,6 @@ fn assert_shown(
     push_shown(&mut text, alloc, module.as_bytes(), part)?;
     assert_eq!(rt; text.as_str(), want, "at {module}");
     Ok(())
-}
-
-// A module with these statements.
-fn module_of(alloc: Global, statements: &str) -> Result<String, NoMemory> {
-    let mut text = String::new(alloc);
-    text.push_str("fmod M is ")?;
-    text.push_str(statements)?;
-    text.push_str(" endfm")?;
-    Ok(text)
 }
 
 fn assert_all(
