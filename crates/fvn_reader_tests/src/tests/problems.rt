@@ -2,7 +2,7 @@
 mod module;
 mod showing;
 
-use crate::tests::problems::module::{Module, are_names, finished, make_stated};
+use crate::tests::problems::module::{Module, are_names, read_module};
 use crate::tests::problems::showing::{
     push_between, push_fault, push_pair, push_term, push_variable, push_variables,
 };
@@ -364,7 +364,7 @@ fn told(rt: &impl Abort, alloc: Global, module: &Module, text: &str) -> Result<S
 }
 
 fn module_of(rt: &impl Abort, alloc: Global, text: &str) -> Result<Module, NoMemory> {
-    match finished(alloc, make_stated(rt, alloc, text)?) {
+    match read_module(rt, alloc, text)? {
         Some(module) => Ok(module),
         None => {
             assert!(rt; false, "at {text}");
@@ -397,10 +397,19 @@ fn lines_are_told(
     Ok(())
 }
 
-fn block_is_told(rt: &impl Abort, alloc: Global, block: &str) -> Result<(), NoMemory> {
-    let (text, lines) = block.split_once('\n').unwrap_or((block, ""));
-    let module = module_of(rt, alloc, text)?;
+fn told_in_module(
+    rt: &impl Abort,
+    alloc: Global,
+    statements: &str,
+    lines: &str,
+) -> Result<(), NoMemory> {
+    let module = module_of(rt, alloc, statements)?;
     lines_are_told(rt, alloc, &module, lines)
+}
+
+fn block_is_told(rt: &impl Abort, alloc: Global, block: &str) -> Result<(), NoMemory> {
+    let (statements, lines) = block.split_once('\n').unwrap_or((block, ""));
+    told_in_module(rt, alloc, statements, lines)
 }
 
 fn blocks_are_told(rt: &impl Abort, alloc: Global, blocks: &str) -> Result<(), NoMemory> {
@@ -509,16 +518,30 @@ fn deep_is_told(
     Ok(())
 }
 
-fn deep_are_told(rt: &impl Abort, alloc: Global, lines: &str) -> Result<(), NoMemory> {
-    let (statements, _) = TEXTS.split_once('\n').unwrap_or((TEXTS, ""));
-    let module = module_of(rt, alloc, statements)?;
+fn deep_lines_are_told(
+    rt: &impl Abort,
+    alloc: Global,
+    module: &Module,
+    lines: &str,
+) -> Result<(), NoMemory> {
     for line in lines.lines() {
-        deep_is_told(rt, alloc, &module, line)?;
+        deep_is_told(rt, alloc, module, line)?;
     }
     Ok(())
 }
 
+fn deep_are_told(
+    rt: &impl Abort,
+    alloc: Global,
+    statements: &str,
+    lines: &str,
+) -> Result<(), NoMemory> {
+    let module = module_of(rt, alloc, statements)?;
+    deep_lines_are_told(rt, alloc, &module, lines)
+}
+
 #[test]
 fn symbols_are_counted_last(rt: HostRuntime) -> Result<(), NoMemory> {
-    deep_are_told(&rt, rt.alloc(), DEEP)
+    let (statements, _) = TEXTS.split_once('\n').unwrap_or((TEXTS, ""));
+    deep_are_told(&rt, rt.alloc(), statements, DEEP)
 }

@@ -45,9 +45,15 @@ fn place_of(texts: &Texts, word: &str) -> u16 {
     (place % 1000) as u16
 }
 
+/// What stands before and behind the first of these marks.
+fn cut<'a>(text: &'a str, mark: &str) -> (&'a str, &'a str) {
+    text.split_once(mark).unwrap_or((text, ""))
+}
+
 fn axioms_of(ops: &Texts, text: &str) -> Axioms {
     if let Some((_, identity)) = text.split_once("id: ") {
-        return Axioms::AssocCommId(OpId(place_of(ops, identity)));
+        let (name, _) = cut(identity, "]");
+        return Axioms::AssocCommId(OpId(place_of(ops, name)));
     }
     if text.starts_with("assoc") {
         return Axioms::AssocComm;
@@ -61,18 +67,52 @@ fn axioms_of(ops: &Texts, text: &str) -> Axioms {
 
 /// What the statements of a text name.
 #[derive(Drop)]
-pub struct Words {
+struct Words {
     sorts: Texts,
     ops: Texts,
     variables: Texts,
     variable_sorts: Vec<SortId>,
 }
 
-/// The signature so far, and what is named in it.
-#[derive(Drop)]
-pub struct Stated {
-    builder: SignatureBuilder,
-    words: Words,
+fn add_variable(words: &mut Words, alloc: Global, name: &str, sort: &str) -> Result<(), NoMemory> {
+    let number = place_of(&words.sorts, sort);
+    words.variables.insert(alloc, name.as_bytes())?;
+    words.variable_sorts.push(SortId(number))?;
+    Ok(())
+}
+
+/// The name that a statement declares: of a sort, an operator or a variable, and none of a pair of sorts.
+fn add_name(words: &mut Words, alloc: Global, text: &str) -> Result<(), NoMemory> {
+    if text.contains(" < ") {
+        return Ok(());
+    }
+    if let Some((name, _)) = text.split_once(" : ") {
+        words.ops.insert(alloc, name.as_bytes())?;
+        return Ok(());
+    }
+    if let Some((name, sort)) = text.split_once(":") {
+        return add_variable(words, alloc, name, sort);
+    }
+    words.sorts.insert(alloc, text.as_bytes())?;
+    Ok(())
+}
+
+fn add_names(words: &mut Words, alloc: Global, text: &str) -> Result<(), NoMemory> {
+    for statement in text.split("; ") {
+        add_name(words, alloc, statement)?;
+    }
+    Ok(())
+}
+
+fn words_of(alloc: Global, text: &str) -> Result<Words, NoMemory> {
+    let mut words = Words {
+        sorts: Texts::new(alloc),
+        ops: Texts::new(alloc),
+        variables: Texts::new(alloc),
+        variable_sorts: Vec::new(alloc),
+    };
+    add_names(&mut words, alloc, text)?;
+    Ok(words)
 }
 
 /// The sort of a word, where there is a word.
@@ -92,71 +132,85 @@ fn sorts_of(alloc: Global, sorts: &Texts, text: &str) -> Result<Vec<SortId>, NoM
     Ok(list)
 }
 
-fn one_sort(rt: &impl Abort, builder: SignatureBuilder) -> Result<SignatureBuilder, NoMemory> {
-    assert!(rt; builder.sort_count() < 100);
-    builder.sort()
-}
-
-fn with_sort(
-    rt: &impl Abort,
-    alloc: Global,
-    stated: Stated,
-    name: &str,
-) -> Result<Stated, NoMemory> {
-    let Stated { builder, mut words } = stated;
-    let builder = one_sort(rt, builder)?;
-    words.sorts.insert(alloc, name.as_bytes())?;
-    Ok(Stated { builder, words })
-}
-
-fn one_pair(
-    rt: &impl Abort,
-    builder: SignatureBuilder,
-    low: SortId,
-    high: SortId,
-) -> Result<SignatureBuilder, NoMemory> {
-    assert!(rt; low.0 < builder.sort_count() && high.0 < builder.sort_count());
-    builder.subsort(low, high)
-}
-
-fn with_pair(rt: &impl Abort, stated: Stated, low: &str, high: &str) -> Result<Stated, NoMemory> {
-    let Stated { builder, words } = stated;
-    let low = SortId(place_of(&words.sorts, low));
-    let high = SortId(place_of(&words.sorts, high));
-    let builder = one_pair(rt, builder, low, high)?;
-    Ok(Stated { builder, words })
-}
-
-/// A declaration of an operator, as `A B -> C [comm]`.
+/// A declaration of an operator.
 #[derive(Drop)]
 struct Declared {
-    op: OpId,
+    op: u16,
     args: Vec<SortId>,
-    result: SortId,
+    result: u16,
     axioms: Axioms,
 }
 
+/// What a statement adds to a signature.
+#[derive(Drop)]
+enum Said {
+    Nothing,
+    Sort,
+    Pair(u16, u16),
+    Operator(Declared),
+}
+
+/// A declaration, as `A B -> C [comm]`.
 fn read_declared(
     alloc: Global,
     words: &Words,
     name: &str,
     text: &str,
 ) -> Result<Declared, NoMemory> {
-    let (from, to) = text.split_once("-> ").unwrap_or((text, ""));
-    let (gives, attributes) = to.split_once(" [").unwrap_or((to, ""));
+    let (from, to) = cut(text, "-> ");
+    let (gives, attributes) = cut(to, " [");
+    let op = place_of(&words.ops, name);
+    let result = place_of(&words.sorts, gives);
+    let axioms = axioms_of(&words.ops, attributes);
     let args = sorts_of(alloc, &words.sorts, from)?;
     Ok(Declared {
-        op: OpId(place_of(&words.ops, name)),
+        op,
         args,
-        result: SortId(place_of(&words.sorts, gives)),
-        axioms: axioms_of(
-            &words.ops,
-            attributes.strip_suffix("]").unwrap_or(attributes),
-        ),
+        result,
+        axioms,
     })
 }
 
-fn one_operator(
+/// A sort, a pair of them, a declaration, or a variable.
+fn read_statement(alloc: Global, words: &Words, text: &str) -> Result<Said, NoMemory> {
+    if let Some((low, high)) = text.split_once(" < ") {
+        return Ok(Said::Pair(place_of(&words.sorts, low), place_of(&words.sorts, high)));
+    }
+    if let Some((name, rank)) = text.split_once(" : ") {
+        let declared = read_declared(alloc, words, name, rank)?;
+        return Ok(Said::Operator(declared));
+    }
+    Ok(if text.contains(":") {
+        Said::Nothing
+    } else {
+        Said::Sort
+    })
+}
+
+fn read_statements(alloc: Global, words: &Words, text: &str) -> Result<Vec<Said>, NoMemory> {
+    let mut list = Vec::new(alloc);
+    for statement in text.split("; ") {
+        list.push(read_statement(alloc, words, statement)?)?;
+    }
+    Ok(list)
+}
+
+fn with_sort(rt: &impl Abort, builder: SignatureBuilder) -> Result<SignatureBuilder, NoMemory> {
+    assert!(rt; builder.sort_count() < 100);
+    builder.sort()
+}
+
+fn with_pair(
+    rt: &impl Abort,
+    builder: SignatureBuilder,
+    low: u16,
+    high: u16,
+) -> Result<SignatureBuilder, NoMemory> {
+    assert!(rt; low < builder.sort_count() && high < builder.sort_count());
+    builder.subsort(SortId(low), SortId(high))
+}
+
+fn with_operator(
     rt: &impl Abort,
     builder: SignatureBuilder,
     declared: Declared,
@@ -167,79 +221,57 @@ fn one_operator(
         result,
         axioms,
     } = declared;
-    assert!(rt; op.0 <= builder.op_count());
+    assert!(rt; op <= builder.op_count());
     assert!(rt; builder.op_count() < 1000);
     assert!(rt; all_names(builder.sort_count(), args.as_slice()));
-    assert!(rt; names(builder.sort_count(), result));
+    assert!(rt; names(builder.sort_count(), SortId(result)));
     let rank = Rank {
         args: Seq::from_vec(args),
-        result,
+        result: SortId(result),
     };
-    builder.op(op, rank, false, axioms)
+    builder.op(OpId(op), rank, false, axioms)
 }
 
-/// One more declaration.
-fn with_operator(
+fn with_said(
+    rt: &impl Abort,
+    builder: SignatureBuilder,
+    said: Said,
+) -> Result<SignatureBuilder, NoMemory> {
+    match said {
+        Said::Nothing => Ok(builder),
+        Said::Sort => with_sort(rt, builder),
+        Said::Pair(low, high) => with_pair(rt, builder, low, high),
+        Said::Operator(declared) => with_operator(rt, builder, declared),
+    }
+}
+
+fn built(rt: &impl Abort, alloc: Global, list: Vec<Said>) -> Result<SignatureBuilder, NoMemory> {
+    let mut builder = SignatureBuilder::new(alloc);
+    for said in list {
+        builder = with_said(rt, builder, said)?;
+    }
+    Ok(builder)
+}
+
+fn builder_of(
     rt: &impl Abort,
     alloc: Global,
-    stated: Stated,
-    name: &str,
+    words: &Words,
     text: &str,
-) -> Result<Stated, NoMemory> {
-    let Stated { builder, mut words } = stated;
-    let declared = read_declared(alloc, &words, name, text)?;
-    words.ops.insert(alloc, name.as_bytes())?;
-    let builder = one_operator(rt, builder, declared)?;
-    Ok(Stated { builder, words })
+) -> Result<SignatureBuilder, NoMemory> {
+    let list = read_statements(alloc, words, text)?;
+    built(rt, alloc, list)
 }
 
-/// One more variable.
-fn with_variable(
-    alloc: Global,
-    stated: Stated,
-    name: &str,
-    sort: &str,
-) -> Result<Stated, NoMemory> {
-    let Stated { builder, mut words } = stated;
-    let sort = SortId(place_of(&words.sorts, sort));
-    words.variables.insert(alloc, name.as_bytes())?;
-    words.variable_sorts.push(sort)?;
-    Ok(Stated { builder, words })
-}
-
-/// One statement: a sort, a pair of them, a declaration, or a variable.
-fn with_statement(
+/// The signature of the text, where it is good.
+fn signature_of(
     rt: &impl Abort,
     alloc: Global,
-    stated: Stated,
+    words: &Words,
     text: &str,
-) -> Result<Stated, NoMemory> {
-    if let Some((low, high)) = text.split_once(" < ") {
-        return with_pair(rt, stated, low, high);
-    }
-    if let Some((name, rank)) = text.split_once(" : ") {
-        return with_operator(rt, alloc, stated, name, rank);
-    }
-    if let Some((name, sort)) = text.split_once(":") {
-        return with_variable(alloc, stated, name, sort);
-    }
-    with_sort(rt, alloc, stated, text)
-}
-
-/// What the statements of the text give.
-pub fn make_stated(rt: &impl Abort, alloc: Global, text: &str) -> Result<Stated, NoMemory> {
-    let words = Words {
-        sorts: Texts::new(alloc),
-        ops: Texts::new(alloc),
-        variables: Texts::new(alloc),
-        variable_sorts: Vec::new(alloc),
-    };
-    let builder = SignatureBuilder::new(alloc);
-    let mut stated = Stated { builder, words };
-    for statement in text.split("; ") {
-        stated = with_statement(rt, alloc, stated, statement)?;
-    }
-    Ok(stated)
+) -> Result<Option<Signature>, NoMemory> {
+    let builder = builder_of(rt, alloc, words, text)?;
+    Ok(builder.finish(alloc).ok())
 }
 
 fn names_of(alloc: Global, words: Words) -> Names {
@@ -261,12 +293,16 @@ fn names_of(alloc: Global, words: Words) -> Names {
     }
 }
 
-/// The module, where its signature is good.
-pub fn finished(alloc: Global, stated: Stated) -> Option<Module> {
-    let Stated { builder, words } = stated;
-    let signature = builder.finish(alloc).ok()?;
-    let names = names_of(alloc, words);
-    Some(Module { signature, names })
+/// The signature of a text and its names; none where the signature is not good.
+pub fn read_module(rt: &impl Abort, alloc: Global, text: &str) -> Result<Option<Module>, NoMemory> {
+    let words = words_of(alloc, text)?;
+    match signature_of(rt, alloc, &words, text)? {
+        None => Ok(None),
+        Some(signature) => Ok(Some(Module {
+            signature,
+            names: names_of(alloc, words),
+        })),
+    }
 }
 
 fn are_sorts(signature: &Signature, list: &[SortId]) -> bool
