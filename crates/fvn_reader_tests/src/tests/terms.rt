@@ -1,4 +1,7 @@
 //! Terms and names, each rule with its edges.
+ghost use Rattle.std.specs.Prelude.{[]};
+ghost use Rattle.fvn_syntax.specs.Raw.{IsTermBefore};
+
 use crate::tests::writing::{push_number, push_text};
 use fvn_base::{Seq, limits};
 use fvn_syntax::{
@@ -291,7 +294,9 @@ fn shown_term(
     limit: usize,
     scope: &Scope<'_>,
     row: &[Piece<'_>],
-) -> Result<(String, usize), NoMemory> {
+) -> Result<(String, usize), NoMemory>
+    requires { IsTermBefore [] row.now }
+{
     let seen = Seen {
         texts: Texts::new(alloc),
         count: 0,
