@@ -1,4 +1,4 @@
-//! Which equations of a module lose a sort, and what their left sides collapse to.
+//! Which equations lose a sort, and what their left sides collapse to.
 #![tactic(auto)]
 
 mod choosing;
