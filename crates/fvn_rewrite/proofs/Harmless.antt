@@ -3,9 +3,8 @@ use Rattle.std.proofs.Common.{sym, subst}
 use Rattle.std.proofs.lemmas.List.Elements.{All-contains}
 use Rattle.fvn_base.proofs.Membership.{map_contains}
 use Rattle.fvn_terms.specs.declared.declarations.Declarations.{Declarations}
-use Rattle.fvn_module.specs.declared.equation.Equation.{Equation}
-use Rattle.fvn_module.specs.Readable.{IsReadableEquation}
-use Rattle.fvn_cohere.specs.Promises.{sides_of}
+use Rattle.fvn_theory.specs.declared.equation.Equation.{Equation}
+use Rattle.fvn_theory.specs.Equations.{sides_of, IsReadableEquation}
 use Rattle.fvn_cohere.specs.LeftFaults.{IsHarmless}
 use Rattle.fvn_rewrite_coherence.specs.Admissible.{IsAdmissible}
 use Rattle.fvn_rewrite.specs.Laws.{HarmlessEquationsAreAdmissible}

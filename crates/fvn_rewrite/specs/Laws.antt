@@ -1,7 +1,7 @@
 -- Laws of equations whose rules are used.
 use Rattle.fvn_module.specs.Contents.{Contents}
 use Rattle.fvn_module.specs.Readable.{IsReadable}
-use Rattle.fvn_cohere.specs.Promises.{equations_of}
+use Rattle.fvn_theory.specs.Equations.{equations_of}
 use Rattle.fvn_cohere.specs.LeftFaults.{AreHarmless}
 use Rattle.fvn_rewrite_coherence.specs.Admissible.{AreAdmissible}
 

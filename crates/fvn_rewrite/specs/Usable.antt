@@ -1,6 +1,6 @@
 -- Rules that steps are made with.
 use Rattle.fvn_terms.specs.declared.declarations.Declarations.{Declarations}
-use Rattle.fvn_cohere.specs.Promises.{equations_of}
+use Rattle.fvn_theory.specs.Equations.{equations_of}
 use Rattle.fvn_rewrite_coherence.specs.Admissible.{AreAdmissible}
 use Rattle.fvn_rewrite_rules.specs.Given.{RuleLists, AreRules}
 

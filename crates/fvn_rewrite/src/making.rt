@@ -5,7 +5,7 @@ ghost use Rattle.fvn_terms.specs.Signature.{axioms, IsTerm};
 ghost use Rattle.fvn_terms.specs.Substitution.{apply, apply_all};
 ghost use Rattle.fvn_forms.specs.Flat.{fpack, plain, plain_all};
 ghost use Rattle.fvn_flat.specs.Fits.{Fits, AllFit};
-ghost use Rattle.fvn_cohere.specs.Promises.{equations_of};
+ghost use Rattle.fvn_theory.specs.Equations.{equations_of};
 ghost use Rattle.fvn_rewrite.specs.inner.SortedTerms.{spack, terms_of, AreSorted};
 ghost use Rattle.fvn_rewrite.specs.inner.Fitting.{sorted_bound, sorted_or, standing_for, AreBindings};
 ghost use Rattle.fvn_rewrite.specs.inner.Making.{AreLawful, IsMade, AreMade, TurnsTo};

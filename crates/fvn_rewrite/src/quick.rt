@@ -1,7 +1,7 @@
 //! Where turns from the root begin: a first pass from the inside out goes before them.
 ghost use Rattle.std.specs.Prelude.{IfOk, IfSome};
 ghost use Rattle.fvn_flat.specs.Fits.{Fits};
-ghost use Rattle.fvn_cohere.specs.Promises.{equations_of};
+ghost use Rattle.fvn_theory.specs.Equations.{equations_of};
 ghost use Rattle.fvn_rewrite_coherence.specs.Admissible.{AreAdmissible};
 ghost use Rattle.fvn_rewrite_rules.specs.Given.{AreRules};
 ghost use Rattle.fvn_rewrite.specs.inner.Making.{AreLawful, IsMade, IsBegun};

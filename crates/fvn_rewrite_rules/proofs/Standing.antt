@@ -32,6 +32,7 @@ use Rattle.fvn_flat.proofs.Binding.{same_var_is, same_var_itself}
 use Rattle.fvn_rewrite_laws.specs.Kinds.{HasOneKind}
 use Rattle.fvn_rewrite_laws.proofs.Collapsing.{keeps}
 use Rattle.fvn_rewrite_rules.specs.declared.rule.Rule.{Rule}
+use Rattle.fvn_rewrite_rules.specs.Given.{HasOldVariables}
 use Rattle.fvn_rewrite_rules.specs.inner.Making.{IsKindedRule, new_variable, beside, extended, extension_under, extension_of, AreInstances, StandsFor, AreRulesFrom}
 use Rattle.fvn_rewrite_rules.proofs.General.{renaming_sorted, HasInstance-of}
 use Rattle.fvn_rewrite_rules.proofs.Choosing.{instance_kinded}
@@ -95,7 +96,7 @@ module _ (d : Declarations) where
       left = e ∙ sym (as_it_is l (subst (Settled d) e kinded.left));
       right = f ∙ sym (as_it_is r (subst (Settled d) f kinded.right));
     };
-    instance = HasInstance-of d rule l r e f;
+    instance = HasInstance-of d rule l e;
     head = ap head_of e;
   }
 
@@ -138,9 +139,6 @@ module _ (d : Declarations) (good : IsGood d) (completed : IsCompleted d) (equat
 
       not_left : Occurs z (plain rule.left) → ⊥
       not_left o = z_fresh z (not_fresh z (left_variable rule.left rule.right i z o)) refl
-
-      not_right : Occurs z (plain rule.right) → ⊥
-      not_right o = z_fresh z (not_fresh z (brings_none z (right_variable rule.left rule.right i z o))) refl
 
       canon_left : (x : Var) → x.sort ≡ k → beside d f x rule.left ≡ canon d (two f (plain rule.left) (var x))
       canon_left x e = beside_canon d good f rule.left k kinded.left kinded.kinds.left heads associative x e rule.left kinded.left kinded.kinds.left
@@ -229,7 +227,6 @@ module _ (d : Declarations) (good : IsGood d) (completed : IsCompleted d) (equat
             by = λ y. var (swapped z x y);
             well_sorted = renaming_sorted d (swapped z x) back;
             left = renamed_equal d good (swapped z x) back (beside d f z rule.left) (beside d f x rule.left) k (wide_kind rule.left kinded.left kinded.kinds.left) (renamed_beside d f z x rule.left kinded.left not_left);
-            right = renamed_equal d good (swapped z x) back (beside d f z rule.right) (beside d f x rule.right) k (wide_kind rule.right kinded.right kinded.kinds.right) (renamed_beside d f z x rule.right kinded.right not_right);
           };
           head = beside_head d good f rule.left k kinded.left kinded.kinds.left heads associative z ∙ sym (beside_head d good f rule.left k kinded.left kinded.kinds.left heads associative x);
         }
@@ -239,6 +236,19 @@ module _ (d : Declarations) (good : IsGood d) (completed : IsCompleted d) (equat
 
             wide_kind : (u : FlatTerm) → Settled d u → HasKind d (plain u) k → HasKind d (plain (beside d f z u)) k
             wide_kind u s h = beside_kind d good f rule.left k kinded.left kinded.kinds.left heads associative z z_sort u s h
+
+      -- its variables are those of the rule, and the new one
+      pub extended_old : HasOldVariables (extended d rule f)
+      extended_old y o =
+          elim (known z z_sort (λ p. z_fresh z (not_fresh z p) refl) (λ p. z_fresh z (not_fresh z (brings_none z p)) refl) y o) as (λ _. (y.fresh ≡ false) ⊎ (y.name ≡ 0)) [
+            | inl e ↦ inl e
+            | inr e ↦ inr (sym (ap (λ (v : Var). v.name) e))
+          ]
+
+    -- those of an instance are those of the equation
+    pub instance_old : (rule : Rule) → IsIdentityInstance d equation rule.left rule.right → HasOldVariables rule
+    instance_old rule i x (inl o) = inl (not_fresh x (left_variable rule.left rule.right i x o))
+    instance_old rule i x (inr o) = inl (not_fresh x (brings_none x (right_variable rule.left rule.right i x o)))
 
     -- instances and the extensions of these are all rules
     module _ (number : ℕ) (rules : List Rule) (all : AreInstances d number equation rules) where
@@ -281,8 +291,20 @@ module _ (d : Declarations) (good : IsGood d) (completed : IsCompleted d) (equat
             (Contains-append_right rules wide (extended d rule f) (filter_map_contains (extension_of d) rules rule (extended d rule f) w.1.0 (extension_is d rule f heads (associative_joins (axioms d f) e.associative))), rw (l_is, r_is) at stands),
           )
 
+      old_from : (rule : Rule) → Contains (rules ++ wide) rule → HasOldVariables rule
+      old_from rule c = go (Contains-append_cases rules wide rule c) where
+        at : (i : Rule) × (Contains rules i × (extension_of d i ≡ Some rule)) → HasOldVariables rule
+        at w =
+            let x = extension_only d w.0 rule w.1.1 in
+            subst HasOldVariables x.is
+            (extended_old w.0 (all.sound w.0 w.1.0).1 (kinded_of w.0 w.1.0) x.operator x.head (joins_associative (axioms d x.operator) x.joins_it))
+
+        go : Contains rules rule ⊎ Contains wide rule → HasOldVariables rule
+        go (inl i) = instance_old rule (all.sound rule i).1
+        go (inr i) = at (contains_filter_map (extension_of d) rules rule i)
+
       pub all_rules : AreRulesFrom d number equation (rules ++ wide)
-      all_rules = record { sound = sound_from; complete = complete_from }
+      all_rules = record { sound = sound_from; complete = complete_from; old = old_from }
         where
           complete_from : (l r : FlatTerm) → IsRuleFrom d equation l r → (rule : Rule) × (Contains (rules ++ wide) rule × StandsFor d l r rule)
           complete_from l r (inl i) = let w = instance_given l r i in (w.0, (Contains-append_left rules wide w.0 w.1.0, same_stands d l r w.0 (kinded_of w.0 w.1.0) w.1.1.0 w.1.1.1))

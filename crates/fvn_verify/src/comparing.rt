@@ -3,7 +3,7 @@ ghost use Rattle.std.specs.Prelude.{◌≡◌, ◌<◌, IfOk};
 ghost use Rattle.fvn_terms.specs.Plain.{term};
 ghost use Rattle.fvn_terms.specs.Signature.{KeepsKinds, IsTerm};
 ghost use Rattle.fvn_terms.specs.Substitution.{value};
-ghost use Rattle.fvn_cohere.specs.Promises.{equations_of};
+ghost use Rattle.fvn_theory.specs.Equations.{equations_of};
 ghost use Rattle.fvn_verify.specs.Verdicts.{IsFormOf};
 ghost use Rattle.fvn_verify.specs.inner.Comparing.{AreKinded, IsSideAs, IsDifference, IsCompared, earlier};
 ghost use Rattle.fvn_rewrite.specs.Usable.{AreUsable};

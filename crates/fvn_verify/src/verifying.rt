@@ -3,7 +3,7 @@ ghost use Rattle.std.specs.Prelude.{◌≡◌, ◌<◌, All, IfOk};
 ghost use Rattle.fvn_terms.specs.Signature.{KeepsKinds};
 ghost use Rattle.fvn_terms.specs.Substitution.{value};
 ghost use Rattle.fvn_problems.specs.Problems.{AreOfOneKind};
-ghost use Rattle.fvn_cohere.specs.Promises.{equations_of};
+ghost use Rattle.fvn_theory.specs.Equations.{equations_of};
 ghost use Rattle.fvn_rewrite_coherence.specs.Admissible.{AreAdmissible};
 ghost use Rattle.fvn_rewrite_rules.specs.Given.{AreRules};
 ghost use Rattle.fvn_verify.specs.Verdicts.{IsVerdict};

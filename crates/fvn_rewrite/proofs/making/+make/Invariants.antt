@@ -1,7 +1,7 @@
 -- The arguments so far, the operator so far, and the measures of the recursion.
 use Rattle.std.proofs.Common.{◌+◌, ◌*◌}
 use Rattle.fvn_terms.specs.Term.{app}
-use Rattle.fvn_cohere.specs.Promises.{equations_of}
+use Rattle.fvn_theory.specs.Equations.{equations_of}
 use Rattle.fvn_rewrite.specs.inner.SortedTerms.{terms_of}
 use Rattle.fvn_rewrite.proofs.InsideOut.{ArePartlyMade, IsSettling}
 use Rattle.fvn_rewrite.proofs.making.+make.Given as goal

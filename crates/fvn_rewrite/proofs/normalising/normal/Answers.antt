@@ -1,6 +1,6 @@
 -- One turn more.
 use Rattle.std.proofs.Common.{◌+◌, arith}
-use Rattle.fvn_cohere.specs.Promises.{equations_of}
+use Rattle.fvn_theory.specs.Equations.{equations_of}
 use Rattle.fvn_rewrite.proofs.Reaching.{reached_more}
 use Rattle.fvn_rewrite.proofs.Ending.{form_end, unfinished_end, large_end}
 use Rattle.fvn_rewrite.proofs.normalising.normal.Goals as goal

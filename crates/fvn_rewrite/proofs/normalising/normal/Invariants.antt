@@ -1,6 +1,6 @@
 -- As many steps as are used up.
 use Rattle.std.proofs.Common.{◌≡◌, ◌+◌, ℕ}
-use Rattle.fvn_cohere.specs.Promises.{equations_of}
+use Rattle.fvn_theory.specs.Equations.{equations_of}
 use Rattle.fvn_rewrite.specs.Normalised.{IsReached}
 use Rattle.fvn_rewrite.proofs.normalising.normal.Given as goal
 

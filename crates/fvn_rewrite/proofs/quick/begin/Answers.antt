@@ -1,6 +1,6 @@
 -- The laws, and the form itself.
 use Rattle.std.proofs.Common.{refl}
-use Rattle.fvn_cohere.specs.Promises.{equations_of}
+use Rattle.fvn_theory.specs.Equations.{equations_of}
 use Rattle.fvn_rewrite.proofs.Beginning.{lawful, begun_itself}
 use Rattle.fvn_rewrite.proofs.quick.begin.Goals as goal
 

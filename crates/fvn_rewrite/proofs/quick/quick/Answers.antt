@@ -2,7 +2,7 @@
 use Rattle.std.proofs.Common.{[], refl}
 use Rattle.fvn_terms.specs.Substitution.{apply}
 use Rattle.fvn_forms.specs.Flat.{plain}
-use Rattle.fvn_cohere.specs.Promises.{equations_of}
+use Rattle.fvn_theory.specs.Equations.{equations_of}
 use Rattle.fvn_rewrite.specs.inner.Fitting.{standing_for}
 use Rattle.fvn_rewrite.specs.inner.Making.{IsMade}
 use Rattle.fvn_rewrite.proofs.InsideOut.{begun_here, made_is_term}

@@ -1,5 +1,5 @@
 -- What the walk finds.
-use Rattle.fvn_cohere.specs.Promises.{equations_of}
+use Rattle.fvn_theory.specs.Equations.{equations_of}
 use Rattle.fvn_rewrite.proofs.Found.{found_none}
 use Rattle.fvn_rewrite.proofs.stepping.step.Goals as goal
 

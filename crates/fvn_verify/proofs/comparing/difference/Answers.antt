@@ -1,7 +1,7 @@
 -- The forms of the sides are equal, or differ.
 use Rattle.std.proofs.Common.{◌≡◌, false, true, refl, sym, subst}
 use Rattle.fvn_terms.specs.Substitution.{value}
-use Rattle.fvn_cohere.specs.Promises.{equations_of}
+use Rattle.fvn_theory.specs.Equations.{equations_of}
 use Rattle.fvn_verify.specs.Verdicts.{IsFormOf, MeetInForm}
 use Rattle.fvn_verify.proofs.Forms.{meet_equal, are_different}
 use Rattle.fvn_verify.proofs.comparing.difference.Goals as goal

@@ -6,7 +6,7 @@ use Rattle.fvn_terms.specs.Substitution.{value}
 use Rattle.fvn_terms.specs.Equality.{BEqual}
 use Rattle.fvn_forms.specs.Flat.{plain}
 use Rattle.fvn_forms.specs.Canon.{canon}
-use Rattle.fvn_cohere.specs.Promises.{equations_of}
+use Rattle.fvn_theory.specs.Equations.{equations_of}
 use Rattle.fvn_verify.proofs.Forms.{instance-kinded, side_as}
 use Rattle.fvn_verify.proofs.comparing.form_of.Goals as goal
 

@@ -1,7 +1,7 @@
 -- One more pair is compared; after the last one the verdict is told.
 use Rattle.std.proofs.Common.{◌+◌, take, sym, subst}
 use Rattle.fvn_terms.specs.Substitution.{value}
-use Rattle.fvn_cohere.specs.Promises.{equations_of}
+use Rattle.fvn_theory.specs.Equations.{equations_of}
 use Rattle.fvn_verify.specs.declared.comparing.Compared.TheVariants.{Found}
 use Rattle.fvn_verify.specs.Verdicts.{IsVerdict}
 use Rattle.fvn_verify.specs.inner.Comparing.{AreKinded, IsCompared, IsSoFar}

@@ -1,7 +1,7 @@
 -- Forms of all sides of the pairs before this one were found, and this is their first difference.
 use Rattle.std.proofs.Common.{take}
 use Rattle.fvn_terms.specs.Substitution.{value}
-use Rattle.fvn_cohere.specs.Promises.{equations_of}
+use Rattle.fvn_theory.specs.Equations.{equations_of}
 use Rattle.fvn_verify.specs.inner.Comparing.{IsSoFar}
 use Rattle.fvn_verify.proofs.verifying.verify_pairs.Given as goal
 
