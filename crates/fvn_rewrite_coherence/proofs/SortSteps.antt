@@ -30,7 +30,7 @@ use Rattle.fvn_forms.proofs.LeastSort.{sort_in-kind, sort_of_build, least_sort_b
 use Rattle.fvn_sorts.specs.Queries.{IsCompleted}
 use Rattle.fvn_rewrite_laws.specs.Losses.{AreSortDecreasing}
 use Rattle.fvn_rewrite_laws.specs.Laws.{KindedLaws}
-use Rattle.fvn_rewrite_coherence.specs.Admissible.{AreAdmissible}
+use Rattle.fvn_rewrite_laws.specs.Admissible.{AreAdmissible}
 use Rattle.fvn_rewrite_coherence.proofs.SumSteps.{sum_with_nothing}
 use Rattle.fvn_rewrite_coherence.proofs.ArgumentSteps.{StepsInside}
 use Rattle.fvn_rewrite_coherence.proofs.PlaceInduction.{commutes, app_of, KeptUnjoined, KeptBeside, at_one_place}

@@ -25,7 +25,7 @@ use Rattle.fvn_forms.proofs.Instances.{inst_settled}
 use Rattle.fvn_forms.proofs.ToCanon.{identity_is}
 use Rattle.fvn_flat.specs.FlatPlaces.{IsReplaced, here}
 use Rattle.fvn_flat.specs.Rules.{IsIdentityInstance}
-use Rattle.fvn_rewrite_coherence.specs.Admissible.{AreAdmissible}
+use Rattle.fvn_rewrite_laws.specs.Admissible.{AreAdmissible}
 use Rattle.fvn_rewrite_coherence.proofs.Tight.{IsIdentityForm, sum_of_two_form, IsTight, identity_back, joined_back, instance_parts}
 
 -- the flat forms of the values of a substitution

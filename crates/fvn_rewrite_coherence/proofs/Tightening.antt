@@ -27,7 +27,7 @@ use Rattle.fvn_rewrite_laws.proofs.Identities.{op_listed, listed_op, identity_li
 use Rattle.fvn_rewrite_laws.proofs.Listing.{occurs_test, occurs_if, test_if}
 use Rattle.fvn_rewrite_laws.proofs.Choosing.{occurring_sort}
 use Rattle.fvn_rewrite_laws.proofs.Collapsing.{keeps}
-use Rattle.fvn_rewrite_coherence.specs.Admissible.{AreAdmissible}
+use Rattle.fvn_rewrite_laws.specs.Admissible.{AreAdmissible}
 use Rattle.fvn_rewrite_coherence.proofs.Tight.{IsIdentityForm, IsTight, tight_where}
 use Rattle.fvn_rewrite_coherence.proofs.TightSteps.{values, values_settled, IsTightInstance}
 
