@@ -8,7 +8,7 @@ ghost use Rattle.fvn_cohere.specs.inner.Collapsing.{fault_of_collapse};
 
 use crate::collapsing::{Collapse, left_collapses};
 use crate::fitting::instances_fit;
-use fvn_sorts::Signature;
+use fvn_signature::Signature;
 use fvn_terms::NoMemory;
 use fvn_theory::Equation;
 use std::alloc::Global;

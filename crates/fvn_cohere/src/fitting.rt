@@ -11,7 +11,7 @@ use crate::equations::equation_at;
 use crate::identities::{identities, identities_below, sorts_below};
 use crate::variables::distinct_variables;
 use fvn_base::limits::{IDENTITY_INSTANCES, SORT_INSTANCES};
-use fvn_sorts::Signature;
+use fvn_signature::Signature;
 use fvn_terms::{NoMemory, OpId, Plain, SortId};
 use fvn_theory::Equation;
 use std::alloc::Global;

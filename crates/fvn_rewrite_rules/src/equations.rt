@@ -9,7 +9,7 @@ use crate::extensions::extensions;
 use crate::instances::instances;
 use crate::rule::Rule;
 use fvn_cohere::all_identities;
-use fvn_sorts::Signature;
+use fvn_signature::Signature;
 use fvn_terms::{NoMemory, OpId};
 use fvn_theory::Equation;
 use std::alloc::Global;

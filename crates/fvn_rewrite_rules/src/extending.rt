@@ -7,7 +7,7 @@ use crate::equations::{copied, rules_of};
 use crate::heads::table;
 use crate::rules::Rules;
 use fvn_rewrite_laws::rules_are_lawful;
-use fvn_sorts::Signature;
+use fvn_signature::Signature;
 use fvn_terms::NoMemory;
 use fvn_theory::Equation;
 use std::alloc::Global;

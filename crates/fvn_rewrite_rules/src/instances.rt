@@ -12,7 +12,7 @@ ghost use Rattle.fvn_rewrite_rules.specs.inner.Making.{goes_to, IsKindedRule, in
 use crate::rule::Rule;
 use fvn_cohere::{distinct_variables, identities_below};
 use fvn_flat::{Subst, flatten};
-use fvn_sorts::Signature;
+use fvn_signature::Signature;
 use fvn_terms::{Args, NoMemory, OpId, Plain, Var};
 use fvn_theory::Equation;
 use std::alloc::Global;

@@ -13,7 +13,7 @@ use crate::verdict::Verdict;
 use fvn_flat::Flat;
 use fvn_rewrite::Rewriter;
 use fvn_rewrite_rules::Rules;
-use fvn_sorts::Signature;
+use fvn_signature::Signature;
 use fvn_terms::{NoMemory, Plain, PlainSubst};
 use fvn_theory::Bounds;
 use std::alloc::Global;

@@ -3,7 +3,7 @@ use Rattle.std.proofs.Common.{List, sym, subst}
 use Rattle.std.specs.Prelude.{All}
 use Rattle.fvn_terms.specs.declared.declarations.Declarations.{Declarations}
 use Rattle.fvn_forms.specs.Good.{IsGood}
-use Rattle.fvn_sorts.specs.Queries.{IsCompleted}
+use Rattle.fvn_signature.specs.Queries.{IsCompleted}
 use Rattle.fvn_theory.specs.declared.equation.Equation.{Equation}
 use Rattle.fvn_theory.specs.Equations.{equations_of, IsReadableEquation}
 use Rattle.fvn_rewrite_laws.specs.Laws.{RuleLaws, RulesAreLawful}

@@ -1,7 +1,7 @@
 -- What the signature and the rules keep.
 use Rattle.std.proofs.Common.{subst}
 use Rattle.fvn_forms.specs.Good.{IsGood}
-use Rattle.fvn_sorts.specs.Queries.{IsCompleted}
+use Rattle.fvn_signature.specs.Queries.{IsCompleted}
 use Rattle.fvn_rewrite.specs.Usable.{Rewriting, AreUsable}
 use Rattle.fvn_rewrite.proofs.rewriter.Rewriter.recall.Goals as goal
 
