@@ -6,6 +6,7 @@ use Rattle.fvn_terms.specs.declared.declarations.Declarations.{Declarations}
 use Rattle.fvn_terms.specs.Term.{Term, var}
 use Rattle.fvn_terms.specs.Substitution.{Substitution, apply}
 use Rattle.fvn_terms.specs.Signature.{kind, axioms}
+use Rattle.fvn_terms.specs.Equality.{is_sum}
 use Rattle.fvn_forms.specs.Flat.{FlatTerm, fvar, fconstant, plain}
 use Rattle.fvn_forms.specs.Canon.{build, canon, inst}
 use Rattle.fvn_forms.specs.Settled.{Settled}
@@ -13,7 +14,6 @@ use Rattle.fvn_forms.specs.LeastSort.{least_sort}
 use Rattle.fvn_flat.specs.Forms.{head_of}
 use Rattle.fvn_flat.specs.Bindings.{Bindings, value}
 use Rattle.fvn_flat.specs.Rules.{IsIdentityChoice, IsIdentityInstance, IsRuleFrom}
-use Rattle.fvn_flat.specs.Joining.{joins}
 use Rattle.fvn_rewrite_laws.specs.Choices.{identities_below}
 use Rattle.fvn_rewrite_laws.specs.Kinds.{HasOneKind}
 use Rattle.fvn_rewrite_rules.specs.declared.rule.Rule.{Rule}
@@ -61,7 +61,7 @@ module _ (d : Declarations) where
   -- the same, where this heads the left side and is associative
   abbrev pub extension_under : Rule → Option OpId → Option Rule
   extension_under rule None = None
-  extension_under rule (Some f) = if joins (axioms d f) then Some (extended rule f) else None
+  extension_under rule (Some f) = if is_sum (axioms d f) then Some (extended rule f) else None
 
   -- the extension of a rule, where an associative operator heads its left side
   abbrev pub extension_of : Rule → Option Rule
