@@ -2,10 +2,10 @@
 ghost use Rattle.std.specs.Prelude.{◌≡◌};
 ghost use Rattle.fvn_module.specs.Readable.{IsReadable};
 
-use crate::equation::Equation;
 use fvn_base::Seq;
 use fvn_sorts::Signature;
 use fvn_syntax::Names;
+use fvn_theory::Equation;
 use std::marker::Model;
 
 /// A module that was read: its signature, its names, and its equations in the order of its text.

@@ -5,7 +5,8 @@ use Rattle.fvn_terms.specs.declared.declarations.Declarations.{Declarations}
 use Rattle.fvn_terms.specs.Signature.{kind, AtOrBelow}
 use Rattle.fvn_forms.specs.Good.{IsGood}
 use Rattle.fvn_signature.specs.declared.collected.Collected.{Collected}
-use Rattle.fvn_signature.specs.Collected.{completed}
+use Rattle.fvn_signature.specs.Collected.{IsClosed, completed}
+use Rattle.fvn_sorts.specs.Faults.{HasNoFault}
 use Rattle.fvn_sorts.specs.Joined.{Joined}
 use Rattle.fvn_sorts.specs.Queries.{IsKind, IsMaximalOf, IsBelow, IsDirectSubsort, direct_subsorts, IsCompleted}
 
@@ -24,3 +25,7 @@ DirectSubsortsCover = (d : Declarations) → IsGood d → (s t : SortId) → t.0
 -- in a good and completed signature the direct subsorts of a kind are its maximal sorts
 abbrev pub DirectSubsortsOfKinds : Type 0
 DirectSubsortsOfKinds = (d : Declarations) → IsGood d → IsCompleted d → (k s : SortId) → IsKind d k → Contains (direct_subsorts d k) s ↔ IsMaximalOf d k s
+
+-- what was collected without a fault is a good signature, in which sorts, kinds, the order and operators go together
+abbrev pub FaultlessSignaturesAreGood : Type 0
+FaultlessSignaturesAreGood = (c : Collected) → IsClosed c → HasNoFault c → IsGood (completed c) × IsCompleted (completed c)

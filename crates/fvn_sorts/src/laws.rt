@@ -4,6 +4,7 @@ ghost use Rattle.fvn_sorts.specs.Laws.{
   DirectSubsortsAreListed,
   DirectSubsortsCover,
   DirectSubsortsOfKinds,
+  FaultlessSignaturesAreGood,
 };
 
 /// Two declared sorts have one kind exactly where the order joins them, along pairs in either direction.
@@ -24,4 +25,9 @@ pub fn direct_subsorts_cover()
 /// In a good and completed signature the direct subsorts of a kind are its maximal sorts.
 pub fn direct_subsorts_of_kinds()
     ensures { DirectSubsortsOfKinds }
+{}
+
+/// What was collected without a fault is a good signature, in which sorts, kinds, the order and operators go together.
+pub fn faultless_signatures_are_good()
+    ensures { FaultlessSignaturesAreGood }
 {}

@@ -11,6 +11,6 @@ pub use conditions::fault::SigFault;
 pub use fvn_signature::{Collected, Declaration};
 pub use laws::{
     direct_subsorts_are_listed, direct_subsorts_cover, direct_subsorts_of_kinds,
-    kinds_are_components,
+    faultless_signatures_are_good, kinds_are_components,
 };
 pub use queries::signature::{Signature, all_shared};

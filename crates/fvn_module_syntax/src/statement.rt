@@ -51,14 +51,6 @@ pub enum Feature {
     Equation,
 }
 
-/// What was read of some tokens: they are of a form, or a left-out form stands in them, or they are of none.
-#[derive(Drop)]
-pub enum Reading<T> {
-    Read(T),
-    LeftOut(Feature),
-    NoForm,
-}
-
 /// What stands before a dot. Of two words that begin a statement the plural is marked.
 #[derive(Drop)]
 pub enum Statement<'a> {
