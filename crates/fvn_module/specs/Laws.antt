@@ -1,7 +1,7 @@
 -- What is proved of all texts.
 use Rattle.std.specs.Prelude.{◌≡◌, ◌⊎◌}
 use Rattle.fvn_forms.specs.Good.{IsGood}
-use Rattle.fvn_sorts.specs.Queries.{IsCompleted}
+use Rattle.fvn_signature.specs.Queries.{IsCompleted}
 use Rattle.fvn_syntax.specs.Pieces.{Text}
 use Rattle.fvn_module.specs.declared.fault.ModuleFault.{ModuleFault}
 use Rattle.fvn_module.specs.declared.fault.ModuleFault.TheVariants.{NoMemory}

@@ -3,7 +3,7 @@ ghost use Rattle.std.specs.Prelude.{◌≡◌};
 ghost use Rattle.fvn_module.specs.Readable.{IsReadable};
 
 use fvn_base::Seq;
-use fvn_sorts::Signature;
+use fvn_signature::Signature;
 use fvn_syntax::Names;
 use fvn_theory::Equation;
 use std::marker::Model;

@@ -4,13 +4,8 @@
 mod builder;
 mod conditions;
 mod laws;
-mod queries;
 
 pub use builder::SignatureBuilder;
 pub use conditions::fault::SigFault;
-pub use fvn_signature::{Collected, Declaration};
-pub use laws::{
-    direct_subsorts_are_listed, direct_subsorts_cover, direct_subsorts_of_kinds,
-    faultless_signatures_are_good, kinds_are_components,
-};
-pub use queries::signature::{Signature, all_shared};
+pub use fvn_signature::{Collected, Declaration, Signature};
+pub use laws::faultless_signatures_are_good;
