@@ -14,7 +14,7 @@ use fvn_base::Seq;
 use fvn_base::limits::TEXT_SYMBOLS;
 use fvn_signature::Signature;
 use fvn_syntax::{
-    Names, Scope, Seen, TermFault, Texts, VarNames, read_term, terms_are_well_kinded,
+    Names, Scope, Seen, TermFault, Texts, VarNames, resolve_term, terms_are_well_kinded,
 };
 use fvn_terms::{NoMemory, Plain, Var};
 use std::alloc::Global;
@@ -38,8 +38,8 @@ fn read_pair(
     ensures ok { IfOk result (ReadsPair scope.now seen halves.now) }
     ensures err { IfErr result (MemoryOr (RefusesPair scope.now seen.texts halves.now)) }
 {
-    let (left, seen) = read_term(alloc, TEXT_SYMBOLS, scope, seen, halves.left.pieces())?;
-    let (right, seen) = read_term(alloc, TEXT_SYMBOLS, scope, seen, halves.right.pieces())?;
+    let (left, seen) = resolve_term(alloc, TEXT_SYMBOLS, scope, seen, halves.left.pieces())?;
+    let (right, seen) = resolve_term(alloc, TEXT_SYMBOLS, scope, seen, halves.right.pieces())?;
     if left.kind.0 != right.kind.0 {
         return Err(TermFault::WrongKind);
     }

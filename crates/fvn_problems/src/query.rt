@@ -15,7 +15,7 @@ use crate::vars::add_variables;
 use fvn_base::Seq;
 use fvn_base::limits::TEXT_SYMBOLS;
 use fvn_signature::Signature;
-use fvn_syntax::{Names, Piece, Scope, Seen, Texts, VarNames, read_term, terms_are_well_kinded};
+use fvn_syntax::{Names, Piece, Scope, Seen, Texts, VarNames, resolve_term, terms_are_well_kinded};
 use fvn_terms::{NoMemory, Plain, Var};
 use std::alloc::Global;
 
@@ -46,7 +46,7 @@ fn ask(alloc: Global, scope: &Scope<'_>, row: &[Piece<'_>]) -> Result<Query, Pro
         texts: Texts::new(alloc),
         count: 0,
     };
-    match read_term(alloc, TEXT_SYMBOLS, scope, seen, row) {
+    match resolve_term(alloc, TEXT_SYMBOLS, scope, seen, row) {
         Err(fault) => Err(term_fault(fault)),
         Ok((read, seen)) => {
             if TEXT_SYMBOLS < seen.count {
@@ -87,7 +87,7 @@ fn query_of(
 /// What a term text asks in a signature and its names, or its first fault.
 ///
 /// Tokens, form, the names from left to right, and the number of symbols are tested in this order.
-pub fn read_query(
+pub fn read_term(
     alloc: Global,
     signature: &Signature,
     names: &Names,
