@@ -2,5 +2,7 @@
 #![tactic(auto)]
 
 mod engines;
+mod loaded;
 
 pub use engines::{extend, verify};
+pub use loaded::{Loaded, load_with_rules};
