@@ -35,9 +35,14 @@ const SYMBOLS: usize = TERM_SYMBOLS as usize;
 ///
 /// In the terms, the names of the problem have the numbers that they have there; greater numbers stand for other
 /// names.
-#[derive(Drop)]
 pub struct Bindings {
     pub subst: PlainSubst,
+}
+
+impl Drop for Bindings {
+    fn drop(self) {
+        let Bindings { subst: _ } = self;
+    }
 }
 
 // The same texts, in memory of their own.

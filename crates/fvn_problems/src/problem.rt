@@ -20,11 +20,20 @@ use fvn_terms::{NoMemory, Plain, Var};
 use std::alloc::Global;
 
 /// Pairs of terms, their variables in order of first occurrence, each once, and their names.
-#[derive(Drop)]
 pub struct Problem {
     pub pairs: Seq<(Plain, Plain)>,
     pub vars: Seq<Var>,
     pub names: VarNames,
+}
+
+impl Drop for Problem {
+    fn drop(self) {
+        let Problem {
+            pairs: _,
+            vars: _,
+            names: _,
+        } = self;
+    }
 }
 
 // Reads both sides of a pair.

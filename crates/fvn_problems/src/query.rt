@@ -20,11 +20,20 @@ use fvn_terms::{NoMemory, Plain, Var};
 use std::alloc::Global;
 
 /// A term, its variables in order of first occurrence, each once, and their names.
-#[derive(Drop)]
 pub struct Query {
     pub term: Plain,
     pub vars: Seq<Var>,
     pub names: VarNames,
+}
+
+impl Drop for Query {
+    fn drop(self) {
+        let Query {
+            term: _,
+            vars: _,
+            names: _,
+        } = self;
+    }
 }
 
 // The variables of a term.
