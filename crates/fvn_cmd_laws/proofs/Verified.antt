@@ -28,8 +28,7 @@ use Rattle.fvn_cmd.specs.declared.status.Status.TheVariants.{Solved, Nothing, Us
 use Rattle.fvn_cmd.specs.Statuses.{IsSpoken, IsAnswering}
 use Rattle.fvn_cmd.specs.Texts.{line, Is}
 use Rattle.fvn_cmd.specs.Laws.{ReadersAreLawful}
-use Rattle.fvn_cmd.specs.Checks.{IsFirstRefusal, IsFirstRefusalOf}
-use Rattle.fvn_cmd.specs.Refusing.{IsProblemRefusalLine, IsFirstProblemRefusal, IsFirstBindingRefusal, AsksNoProblem, AreNoBindings, IsProblemRefusalOf, IsBindingRefusalOf}
+use Rattle.fvn_cmd.specs.Refusing.{IsFirstRefusal, IsFirstRefusalOf, IsProblemRefusalLine, IsFirstProblemRefusal, IsFirstBindingRefusal, AsksNoProblem, AreNoBindings, IsProblemRefusalOf, IsBindingRefusalOf}
 use Rattle.fvn_cmd_verify.specs.Verdicts.{status_of_verdict, IsVerdictText, IsToldAs, IsVerdictOn, TellsVerdict}
 use Rattle.fvn_cmd_verify.specs.Replies.{IsVerifyText, AreSolvedBy, IsAskedIn, IsAskedOf, IsVerifyReply, module_refused, problem_refused, bindings_refused, verified}
 use Rattle.fvn_cmd_laws.specs.Verified.{AreConfluentIn, HasConfluentEquations, AreVerdictsOrOne, TellsYes, TellsNo, TellsYesOrNo, StaysWithin, AllStayWithin}

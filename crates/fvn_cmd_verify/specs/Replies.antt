@@ -14,8 +14,7 @@ use Rattle.fvn_verify.specs.declared.verdict.Verdict.{Verdict}
 use Rattle.fvn_verify.specs.Verdicts.{AreEqual}
 use Rattle.fvn_cmd.specs.declared.status.Status.{Status}
 use Rattle.fvn_cmd.specs.declared.status.Status.TheVariants.{Solved, Nothing, Usage, ModuleRefused, ProblemRefused, Ended, ReadFault, WriteFault, NoMemory}
-use Rattle.fvn_cmd.specs.Checks.{IsRefusalLine, IsFirstRefusal}
-use Rattle.fvn_cmd.specs.Refusing.{IsProblemRefusalLine, IsFirstProblemRefusal, IsFirstBindingRefusal}
+use Rattle.fvn_cmd.specs.Refusing.{IsRefusalLine, IsFirstRefusal, IsProblemRefusalLine, IsFirstProblemRefusal, IsFirstBindingRefusal}
 use Rattle.fvn_cmd_verify.specs.Verdicts.{IsToldAs, TellsVerdict}
 
 -- this status and this text tell some verdict in some module

@@ -17,8 +17,8 @@ use Rattle.fvn_cmd.specs.declared.status.Status.TheVariants.{Solved, Nothing, Us
 use Rattle.fvn_cmd.specs.Statuses.{IsSilent, IsSpoken, IsAnswering}
 use Rattle.fvn_cmd.specs.Laws.{ReadersAreLawful}
 use Rattle.fvn_cmd.specs.Texts.{Is}
-use Rattle.fvn_cmd.specs.Checks.{IsFirstRefusalOf, told_lines, TellsSorts}
-use Rattle.fvn_cmd.specs.Refusing.{AsksNoProblem, AreNoBindings, IsProblemRefusalOf, IsBindingRefusalOf}
+use Rattle.fvn_cmd.specs.Refusing.{IsFirstRefusalOf, AsksNoProblem, AreNoBindings, IsProblemRefusalOf, IsBindingRefusalOf}
+use Rattle.fvn_cmd_check.specs.Checks.{told_lines, TellsSorts}
 use Rattle.fvn_cmd_verify.specs.Verdicts.{TellsVerdict}
 use Rattle.fvn_cmd_verify.specs.Replies.{AreSolvedBy, IsAskedIn, IsAskedOf, IsVerifyReply}
 use Rattle.fvn_cmd_unify.specs.Replies.{IsAnswer, IsToBeUnified}

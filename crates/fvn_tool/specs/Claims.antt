@@ -10,8 +10,8 @@ use Rattle.fvn_cmd.specs.declared.status.Status.{Status}
 use Rattle.fvn_cmd.specs.declared.status.Status.TheVariants.{Solved, Nothing, Usage, ModuleRefused, ProblemRefused, ReadFault, WriteFault, NoMemory}
 use Rattle.fvn_cmd.specs.Statuses.{IsSilent, IsAnswering}
 use Rattle.fvn_cmd.specs.Texts.{Is}
-use Rattle.fvn_cmd.specs.Checks.{IsFirstRefusalOf, IsCheckText, told_lines, TellsSorts}
-use Rattle.fvn_cmd.specs.Refusing.{AsksNoProblem, AreNoBindings, IsProblemRefusalOf, IsBindingRefusalOf}
+use Rattle.fvn_cmd.specs.Refusing.{IsFirstRefusalOf, AsksNoProblem, AreNoBindings, IsProblemRefusalOf, IsBindingRefusalOf}
+use Rattle.fvn_cmd_check.specs.Checks.{IsCheckText, told_lines, TellsSorts}
 use Rattle.fvn_cmd_verify.specs.Verdicts.{TellsVerdict}
 use Rattle.fvn_cmd_verify.specs.Replies.{IsVerifyText, AreSolvedBy, IsAskedIn, IsAskedOf}
 use Rattle.fvn_cmd_unify.specs.Replies.{IsAnswer, IsToBeUnified}
