@@ -3,15 +3,23 @@ use fvn_base::Seq;
 use fvn_syntax::{RawSort, Row, Text};
 
 /// Sorts of arguments and of a result; between them stands `->`, or for a partial operator `~>`.
-#[derive(Drop)]
 pub struct RawRank<'a> {
     pub args: Seq<RawSort<'a>>,
     pub partial: bool,
     pub result: RawSort<'a>,
 }
 
+impl Drop for RawRank<'_> {
+    fn drop(self) {
+        let RawRank {
+            args: _,
+            partial: _,
+            result: _,
+        } = self;
+    }
+}
+
 /// An attribute of an operator.
-#[derive(Drop)]
 pub enum Attribute<'a> {
     Assoc,
     Comm,
@@ -23,6 +31,21 @@ pub enum Attribute<'a> {
     Format(Seq<Text<'a>>),
 }
 
+impl Drop for Attribute<'_> {
+    fn drop(self) {
+        match self {
+            Attribute::Assoc => {}
+            Attribute::Comm => {}
+            Attribute::Identity(_) => {}
+            Attribute::Constructor => {}
+            Attribute::Ditto => {}
+            Attribute::Precedence(_) => {}
+            Attribute::Gather(_) => {}
+            Attribute::Format(_) => {}
+        }
+    }
+}
+
 /// An attribute of an equation.
 #[derive(Drop)]
 pub enum Mark<'a> {
@@ -31,10 +54,18 @@ pub enum Mark<'a> {
 }
 
 /// A name behind `ops`: a word, or tokens in parentheses.
-#[derive(Drop)]
 pub enum OperatorName<'a> {
     Single(Text<'a>),
     Round(Row<'a>),
+}
+
+impl Drop for OperatorName<'_> {
+    fn drop(self) {
+        match self {
+            OperatorName::Single(_) => {}
+            OperatorName::Round(_) => {}
+        }
+    }
 }
 
 /// A form of Maude's modules that is left out here.
@@ -51,16 +82,7 @@ pub enum Feature {
     Equation,
 }
 
-/// What was read of some tokens: they are of a form, or a left-out form stands in them, or they are of none.
-#[derive(Drop)]
-pub enum Reading<T> {
-    Read(T),
-    LeftOut(Feature),
-    NoForm,
-}
-
 /// What stands before a dot. Of two words that begin a statement the plural is marked.
-#[derive(Drop)]
 pub enum Statement<'a> {
     Sorts {
         plural: bool,
@@ -91,4 +113,40 @@ pub enum Statement<'a> {
         right: Row<'a>,
         marks: Seq<Mark<'a>>,
     },
+}
+
+impl Drop for Statement<'_> {
+    fn drop(self) {
+        match self {
+            Statement::Sorts {
+                plural: _,
+                names: _,
+            } => {}
+            Statement::Subsorts {
+                plural: _,
+                groups: _,
+            } => {}
+            Statement::Operator {
+                name: _,
+                rank: _,
+                attributes: _,
+            } => {}
+            Statement::Operators {
+                names: _,
+                rank: _,
+                attributes: _,
+            } => {}
+            Statement::Variables {
+                plural: _,
+                names: _,
+                sort: _,
+            } => {}
+            Statement::Equation {
+                label: _,
+                left: _,
+                right: _,
+                marks: _,
+            } => {}
+        }
+    }
 }

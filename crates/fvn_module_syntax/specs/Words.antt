@@ -3,8 +3,8 @@ use Rattle.std.specs.Prelude.{ℕ, ◌&&◌, ◌==◌, ◌+◌, ◌-◌, not, Bo
 use Rattle.std.specs.List.{list_any}
 use Rattle.fvn_lex.specs.Cut.{Piece}
 use Rattle.fvn_syntax.specs.Pieces.{Text, is_word, is_special}
-use Rattle.fvn_module_statements.specs.declared.statement.OperatorName.{OperatorName}
-use Rattle.fvn_module_statements.specs.declared.statement.OperatorName.TheVariants.{Single, Round}
+use Rattle.fvn_module_syntax.specs.declared.statement.OperatorName.{OperatorName}
+use Rattle.fvn_module_syntax.specs.declared.statement.OperatorName.TheVariants.{Single, Round}
 
 -- the byte of a colon
 abbrev pub is_colon : ℕ → Bool

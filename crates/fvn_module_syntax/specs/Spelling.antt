@@ -3,15 +3,15 @@ use Rattle.std.specs.Prelude.{Bool, true, false, List, [], ◌∷◌, ◌++◌, 
 use Rattle.fvn_lex.specs.Cut.{Piece}
 use Rattle.fvn_syntax.specs.Pieces.{Text, word, left_paren, right_paren, left_bracket, right_bracket}
 use Rattle.fvn_syntax.specs.Raw.{spell_sort}
-use Rattle.fvn_module_statements.specs.declared.statement.RawRank.{RawRank}
-use Rattle.fvn_module_statements.specs.declared.statement.Attribute.{Attribute}
-use Rattle.fvn_module_statements.specs.declared.statement.Attribute.TheVariants.{Assoc, Comm, Identity, Constructor, Ditto, Precedence, Gather, Format}
-use Rattle.fvn_module_statements.specs.declared.statement.Mark.{Mark}
-use Rattle.fvn_module_statements.specs.declared.statement.Mark.TheVariants.{Variant, Label}
-use Rattle.fvn_module_statements.specs.declared.statement.OperatorName.{OperatorName}
-use Rattle.fvn_module_statements.specs.declared.statement.OperatorName.TheVariants.{Single, Round}
-use Rattle.fvn_module_statements.specs.declared.statement.Statement.{Statement}
-use Rattle.fvn_module_statements.specs.declared.statement.Statement.TheVariants.{Sorts, Subsorts, Operator, Operators, Variables, Equation}
+use Rattle.fvn_module_syntax.specs.declared.statement.RawRank.{RawRank}
+use Rattle.fvn_module_syntax.specs.declared.statement.Attribute.{Attribute}
+use Rattle.fvn_module_syntax.specs.declared.statement.Attribute.TheVariants.{Assoc, Comm, Identity, Constructor, Ditto, Precedence, Gather, Format}
+use Rattle.fvn_module_syntax.specs.declared.statement.Mark.{Mark}
+use Rattle.fvn_module_syntax.specs.declared.statement.Mark.TheVariants.{Variant, Label}
+use Rattle.fvn_module_syntax.specs.declared.statement.OperatorName.{OperatorName}
+use Rattle.fvn_module_syntax.specs.declared.statement.OperatorName.TheVariants.{Single, Round}
+use Rattle.fvn_module_syntax.specs.declared.statement.Statement.{Statement}
+use Rattle.fvn_module_syntax.specs.declared.statement.Statement.TheVariants.{Sorts, Subsorts, Operator, Operators, Variables, Equation}
 
 -- one after another
 abbrev pub each : {A : Type 0} → (A → List Piece) → List A → List Piece

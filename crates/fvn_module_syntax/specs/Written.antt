@@ -6,17 +6,17 @@ use Rattle.fvn_syntax.specs.Pieces.{Text, right_bracket, is_name, is_special}
 use Rattle.fvn_syntax.specs.declared.sorts.RawSort.{RawSort}
 use Rattle.fvn_syntax.specs.declared.sorts.RawSort.TheVariants.{Name, Kind}
 use Rattle.fvn_syntax.specs.Raw.{RawTerm, spell, IsWritten as IsWrittenTerm, EndsBefore}
-use Rattle.fvn_module_statements.specs.declared.statement.RawRank.{RawRank}
-use Rattle.fvn_module_statements.specs.declared.statement.Attribute.{Attribute}
-use Rattle.fvn_module_statements.specs.declared.statement.Attribute.TheVariants.{Assoc, Comm, Identity, Constructor, Ditto, Precedence, Gather, Format}
-use Rattle.fvn_module_statements.specs.declared.statement.Mark.TheVariants.{Variant}
-use Rattle.fvn_module_statements.specs.declared.statement.OperatorName.{OperatorName}
-use Rattle.fvn_module_statements.specs.declared.statement.OperatorName.TheVariants.{Single, Round}
-use Rattle.fvn_module_statements.specs.declared.statement.Statement.{Statement}
-use Rattle.fvn_module_statements.specs.declared.statement.Statement.TheVariants.{Sorts, Subsorts, Operator, Operators, Variables, Equation}
-use Rattle.fvn_module_statements.specs.Spelling.{bracketed, spell_mark, equals}
-use Rattle.fvn_module_statements.specs.Words.{has_colon, touch, names_touch, depth_behind}
-use Rattle.fvn_module_statements.specs.LeftOut.{left_out_in}
+use Rattle.fvn_module_syntax.specs.declared.statement.RawRank.{RawRank}
+use Rattle.fvn_module_syntax.specs.declared.statement.Attribute.{Attribute}
+use Rattle.fvn_module_syntax.specs.declared.statement.Attribute.TheVariants.{Assoc, Comm, Identity, Constructor, Ditto, Precedence, Gather, Format}
+use Rattle.fvn_module_syntax.specs.declared.statement.Mark.TheVariants.{Variant}
+use Rattle.fvn_module_syntax.specs.declared.statement.OperatorName.{OperatorName}
+use Rattle.fvn_module_syntax.specs.declared.statement.OperatorName.TheVariants.{Single, Round}
+use Rattle.fvn_module_syntax.specs.declared.statement.Statement.{Statement}
+use Rattle.fvn_module_syntax.specs.declared.statement.Statement.TheVariants.{Sorts, Subsorts, Operator, Operators, Variables, Equation}
+use Rattle.fvn_module_syntax.specs.Spelling.{bracketed, spell_mark, equals}
+use Rattle.fvn_module_syntax.specs.Words.{has_colon, touch, names_touch, depth_behind}
+use Rattle.fvn_module_syntax.specs.LeftOut.{left_out_in}
 
 -- there is one or more
 abbrev pub NotEmpty : {A : Type 0} → List A → Type 0
