@@ -5,9 +5,8 @@ ghost use Rattle.fvn_cmd_check.specs.Checks.{IsCheckReply, TellsSorts};
 
 use fvn_cmd::{Answer, Status, refuse_module};
 use fvn_cmd_texts::{sorts_text, summary_text};
-use fvn_cohere::sort_loss;
 use fvn_module::Module;
-use fvn_module_loading::load;
+use fvn_module_loading::{load, sort_loss};
 use fvn_terms::NoMemory;
 use std::alloc::Global;
 

@@ -3,7 +3,7 @@ use Rattle.std.specs.Prelude.{ℕ, List, All}
 use Rattle.fvn_terms.specs.Substitution.{value}
 use Rattle.fvn_module.specs.declared.fault.ModuleFault.{ModuleFault}
 use Rattle.fvn_module.specs.Contents.{Contents}
-use Rattle.fvn_cohere.specs.Promises.{equations_of}
+use Rattle.fvn_theory.specs.Equations.{equations_of}
 use Rattle.fvn_module_loading.specs.Loading.{IsLoaded}
 use Rattle.fvn_problems.specs.declared.fault.ProblemFault.{ProblemFault}
 use Rattle.fvn_problems.specs.declared.problem.Problem.{Problem}
