@@ -163,6 +163,8 @@ pub record IsReport (run : Run) : Type 0 where
   -- faults come only from the outside
   pub read_fault : run.status ≡ ReadFault → HasFailed run.source
   pub write_fault : run.status ≡ WriteFault → HasFailed run.sink
+  -- and where the source counted one, the status says so
+  pub failed_read : run.source.faults_before < run.source.faults_after → run.status ≡ ReadFault
   -- what is refused at every command
   pub usage : RefusesWords run
   pub too_long : RefusesLongText run
