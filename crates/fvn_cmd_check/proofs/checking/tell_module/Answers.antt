@@ -1,7 +1,7 @@
 -- The lines on a module.
 use Rattle.std.proofs.Common.{◌∙◌}
-use Rattle.fvn_cmd.proofs.Replying.{tells_sorts}
-use Rattle.fvn_cmd.proofs.checking.tell_module.Goals as goal
+use Rattle.fvn_cmd_check.proofs.Replying.{tells_sorts}
+use Rattle.fvn_cmd_check.proofs.checking.tell_module.Goals as goal
 
 pub returns : goal.returns
 returns c =

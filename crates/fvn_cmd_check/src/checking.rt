@@ -1,26 +1,14 @@
 //! The answer to `check`.
-ghost use Rattle.std.specs.Prelude.{◌≡◌, IfOk};
-ghost use Rattle.fvn_cmd.specs.Checks.{IsCheckReply, IsRefusalLine, TellsSorts};
+ghost use Rattle.std.specs.Prelude.{IfOk};
 ghost use Rattle.fvn_cmd.specs.Texts.{bytes_of};
+ghost use Rattle.fvn_cmd_check.specs.Checks.{IsCheckReply, TellsSorts};
 
-use crate::answer::Answer;
-use crate::status::Status;
-use fvn_cmd_texts::{refusal_text, sorts_text, summary_text};
-use fvn_cohere::sort_loss;
-use fvn_module::{Module, ModuleFault};
-use fvn_module_loading::load;
+use fvn_cmd::{Answer, Status, refuse_module};
+use fvn_cmd_texts::{sorts_text, summary_text};
+use fvn_module::Module;
+use fvn_module_loading::{load, sort_loss};
 use fvn_terms::NoMemory;
 use std::alloc::Global;
-
-/// The refusal of a module.
-pub fn refuse_module(alloc: Global, fault: &ModuleFault) -> Result<Answer, NoMemory>
-    ensures status { IfOk result (λ a. a.status ≡ Status.ModuleRefused) }
-    ensures text { IfOk result (λ a. IsRefusalLine fault.now (bytes_of a.text)) }
-{
-    let text = refusal_text(alloc, fault)?;
-    let answer = Answer::one_line(Status::ModuleRefused, text)?;
-    Ok(answer)
-}
 
 // What is told of a module: how much it declares, and whether its equations keep sorts.
 fn tell_module(alloc: Global, declared: &Module) -> Result<Answer, NoMemory>

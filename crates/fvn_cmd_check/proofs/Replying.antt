@@ -9,7 +9,8 @@ use Rattle.fvn_cmd.specs.declared.status.Status.{Status}
 use Rattle.fvn_cmd.specs.declared.status.Status.TheVariants.{Solved, ModuleRefused}
 use Rattle.fvn_cmd.specs.declared.answer.Answer.{Answer}
 use Rattle.fvn_cmd.specs.Texts.{line, bytes_of}
-use Rattle.fvn_cmd.specs.Checks.{IsRefusalLine, TellsSorts, IsCheckReply, refused, told}
+use Rattle.fvn_cmd.specs.Refusing.{IsRefusalLine}
+use Rattle.fvn_cmd_check.specs.Checks.{TellsSorts, IsCheckReply, refused, told}
 
 -- the lines on a module
 pub tells_sorts : (m : Contents) (loss : Option ℕ) → IsLossOf m loss → (summary sorts : List ℕ) → summary ≡ summary_text m → sorts ≡ sorts_text loss →
