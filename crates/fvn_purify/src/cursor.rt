@@ -1,16 +1,9 @@
-//! All splits of a problem, one after another.
-ghost use Rattle.std.specs.Prelude.{◌≡◌, ◌↔◌, ◌-◌, ◌<◌, ◌++◌, length, take, Option, IfOk, OnOk, OnErr, IfSome};
-ghost use Rattle.fvn_terms.specs.Substitution.{Substitution};
-ghost use Rattle.fvn_terms.specs.Unifiers.{Problem};
-ghost use Rattle.fvn_flat.specs.Problems.{IsProblem};
-ghost use Rattle.fvn_flat.specs.SolvedLists.{IsKindUnifier};
-ghost use Rattle.fvn_purify.specs.Parts.{AreClassesOf, outline};
-ghost use Rattle.fvn_purify.specs.Obeying.{ObeysSplit};
-ghost use Rattle.fvn_purify.specs.Splits.{IsSplit, HasOneFree};
-ghost use Rattle.fvn_purify.specs.Cursor.{Pending, HasSamePending, IsGivenFrom};
-ghost use Rattle.fvn_combine_nodes.specs.Questions.{IsStart};
-ghost use Rattle.fvn_combine_nodes.specs.declared.state.State.{State};
-ghost use Rattle.fvn_purify.specs.inner.Choices.{IsKept, asking};
+//! The cursor over the splits of a problem: each is given once.
+ghost use Rattle.std.specs.Prelude.{◌≡◌, ◌-◌, ◌<◌, ◌++◌, length, take, IfOk, OnOk, OnErr, IfSome};
+ghost use Rattle.fvn_purify.specs.Parts.{outline};
+ghost use Rattle.fvn_purify.specs.Splits.{HasOneFree};
+ghost use Rattle.fvn_purify.specs.Cursor.{HasSamePending, IsGivenFrom};
+ghost use Rattle.fvn_purify.specs.inner.Choices.{IsKept};
 ghost use Rattle.fvn_purify.specs.inner.Founds.{cursor, IsFoundFrom};
 ghost use Rattle.fvn_purify.specs.Weight.{cursor_weight};
 ghost use Rattle.fvn_purify.specs.declared.split.Split.{Split as InSplit};
@@ -20,7 +13,6 @@ use crate::classes::Classes;
 use crate::split::Split;
 use crate::stepping::{Step, take_step};
 use fvn_base::Seq;
-use fvn_combine_nodes::{start, unifiers_partition};
 use fvn_sorts::Signature;
 use fvn_terms::NoMemory;
 use std::alloc::Global;
@@ -37,10 +29,10 @@ enum Found {
 /// A cursor over the splits of a problem's parts. It is seen as what is decided of those to come.
 #[derive(Drop)]
 pub struct Splits<'a> {
-    alloc: Global,
-    sig: &'a Signature,
-    classes: &'a Classes,
-    partials: Vec<Partial>,
+    pub(crate) alloc: Global,
+    pub(crate) sig: &'a Signature,
+    pub(crate) classes: &'a Classes,
+    pub(crate) partials: Vec<Partial>,
 }
 
 impl<'a> Model for Splits<'a> {
@@ -135,53 +127,7 @@ fn next_split(
     }
 }
 
-// The state that every partition has, if there is a partition.
-fn begun(alloc: Global, sig: &Signature, classes: &Classes) -> Result<Vec<Partial>, NoMemory>
-    ensures { IfOk result (λ partials.
-        (r : Option State) × IsStart sig.now classes.now.table r × (partials.items ≡ asking r)) }
-{
-    let mut partials = Vec::new(alloc);
-    match start(alloc, sig, &classes.table)? {
-        None => Ok(partials),
-        Some(state) => {
-            partials.push(Partial::Asking(state))?;
-            Ok(partials)
-        }
-    }
-}
-
 impl<'a> Splits<'a> {
-    /// The splits of a problem's parts, none of them given yet.
-    pub fn new(
-        alloc: Global,
-        sig: &'a Signature,
-        classes: &'a Classes,
-    ) -> Result<Splits<'a>, NoMemory>
-        requires classes { (problem : Problem) ×
-            IsProblem sig.now problem × AreClassesOf sig.now problem classes.now }
-        ensures of { IfOk result (λ s.
-            (s.declarations ≡ sig.now) × (s.outline ≡ outline classes.now)) }
-        // All splits are to come, and nothing else.
-        ensures exact { IfOk result (λ s. (split : InSplit) →
-            Pending s split ↔ IsSplit sig.now (outline classes.now) split) }
-        // Every unifier on kinds obeys one of them.
-        ensures complete { IfOk result (λ s. (problem : Problem) (u : Substitution) →
-            IsProblem sig.now problem → AreClassesOf sig.now problem classes.now →
-            IsKindUnifier sig.now problem u → (split : InSplit) ×
-            ObeysSplit sig.now (outline classes.now) u split × Pending s split) }
-    {
-        sig.recall_good();
-        classes.table.recall_well_made();
-        unifiers_partition();
-        let partials = begun(alloc, sig, classes)?;
-        Ok(Splits {
-            alloc,
-            sig,
-            classes,
-            partials,
-        })
-    }
-
     /// The next split, or none where all are given. At want of memory the same are to come as
     /// before.
     pub fn advance(&mut self) -> Result<Option<Split>, NoMemory>

@@ -8,7 +8,7 @@ use Rattle.fvn_purify.specs.inner.Choices.{IsKept}
 use Rattle.fvn_purify.specs.inner.Founds.{cursor}
 use Rattle.fvn_purify.proofs.Fitted.{stepped}
 use Rattle.fvn_purify.proofs.Complete.{begun_kept, begun_exact, obeyed_split}
-use Rattle.fvn_purify.proofs.splits.Splits.new.Goals as goal
+use Rattle.fvn_purify.proofs.beginning.splits.Goals as goal
 
 pub invariant_of-result : goal.invariant_of-result
 invariant_of-result c =

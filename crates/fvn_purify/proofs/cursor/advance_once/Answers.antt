@@ -3,8 +3,8 @@ use Rattle.std.proofs.Common.{◌≡◌, ◌-◌, ◌∷◌, ◌++◌, [], lengt
 use Rattle.fvn_purify.specs.Parts.{outline}
 use Rattle.fvn_purify.specs.inner.Choices.{IsStepOf}
 use Rattle.fvn_purify.proofs.Lasts.{last_split, last_kept, last_same, last_falls, whole_kept, whole_given, without_last_falls}
-use Rattle.fvn_purify.proofs.splits.advance_once.Goals.{In-Some}
-use Rattle.fvn_purify.proofs.splits.advance_once.Goals as goal
+use Rattle.fvn_purify.proofs.cursor.advance_once.Goals.{In-Some}
+use Rattle.fvn_purify.proofs.cursor.advance_once.Goals as goal
 
 is : (c : goal.In-Some) → c.args.partials.now.items ≡ take (length c.args.partials.now.items - 1) c.args.partials.now.items ++ c.in-Some.top.now ∷ []
 is c = last_split c.args.partials.now.items c.in-Some.top.now (c.in-Some.ensures.value ∙ ap (λ l. slice_get l (length l - 1)) c.as_slice.ensures.value)

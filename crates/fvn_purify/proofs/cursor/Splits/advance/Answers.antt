@@ -7,7 +7,7 @@ use Rattle.fvn_purify.specs.Cursor.{HasSamePending, IsGivenFrom}
 use Rattle.fvn_purify.specs.inner.Founds.{cursor}
 use Rattle.fvn_purify.specs.Weight.{cursor_weight}
 use Rattle.fvn_purify.proofs.Lasts.{given_free, on_err}
-use Rattle.fvn_purify.proofs.splits.Splits.advance.Goals as goal
+use Rattle.fvn_purify.proofs.cursor.Splits.advance.Goals as goal
 
 pub returns-in_err-found-clause-no_memory : goal.returns-in_err-found-clause-no_memory
 returns-in_err-found-clause-no_memory c =

@@ -5,7 +5,7 @@ use Rattle.fvn_purify.specs.Cursor.{HasSamePending}
 use Rattle.fvn_purify.specs.inner.Founds.{cursor, IsFoundFrom}
 use Rattle.fvn_purify.proofs.Cursors.{same_then_given, same_then_same}
 use Rattle.fvn_purify.proofs.Lasts.{on_err}
-use Rattle.fvn_purify.proofs.splits.next_split.Goals as goal
+use Rattle.fvn_purify.proofs.cursor.next_split.Goals as goal
 
 pub returns-in_err-advance_once-clause-no_memory : goal.returns-in_err-advance_once-clause-no_memory
 returns-in_err-advance_once-clause-no_memory c =

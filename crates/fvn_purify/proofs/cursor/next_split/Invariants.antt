@@ -5,7 +5,7 @@ use Rattle.fvn_purify.specs.Cursor.{HasSamePending}
 use Rattle.fvn_purify.specs.inner.Choices.{IsKept}
 use Rattle.fvn_purify.specs.inner.Founds.{cursor}
 use Rattle.fvn_purify.specs.Weight.{cursor_weight}
-use Rattle.fvn_purify.proofs.splits.next_split.Given as goal
+use Rattle.fvn_purify.proofs.cursor.next_split.Given as goal
 
 abbrev pub invariant-steps : goal.invariant-steps
 invariant-steps l = record {
