@@ -13,12 +13,13 @@ use Rattle.fvn_terms.specs.declared.declarations.Axioms.TheVariants.{Free, Comm,
 use Rattle.fvn_terms.specs.declared.declarations.Declarations.{Declarations}
 use Rattle.fvn_terms.specs.Term.{var, app, pack}
 use Rattle.fvn_terms.specs.Signature.{kind, axioms, IsSort, HasKind, HaveKinds, IsTerm, KeepsKinds}
-use Rattle.fvn_terms.specs.Equality.{constant, IsAssociative}
+use Rattle.fvn_terms.specs.Equality.{constant, IsAssociative, identity}
 use Rattle.fvn_forms.specs.Flat.{FlatTerm, fvar, plain}
-use Rattle.fvn_forms.specs.Canon.{identity, empty_sum, sum, canon}
+use Rattle.fvn_forms.specs.Canon.{empty_sum, sum, canon}
 use Rattle.fvn_forms.proofs.KindsKept.{kind_unique, both_of_kind}
 use Rattle.fvn_forms.proofs.KindsOfSums.{sum_of_forms_of_kind}
-use Rattle.fvn_forms.proofs.ToCanon.{identity_is, canon_of_kind}
+use Rattle.fvn_forms.proofs.ToCanon.{canon_of_kind}
+use Rattle.fvn_terms.proofs.AxiomWords.{identity_is}
 use Rattle.fvn_flat.specs.Bindings.{Bindings}
 use Rattle.fvn_flat.specs.Partitions.{HasNoIdentity}
 use Rattle.fvn_flat.specs.Solving.{problem_of}

@@ -17,7 +17,8 @@ use Rattle.fvn_terms.specs.Signature.{kind, declared, axioms, HasKind, HaveKinds
 use Rattle.fvn_terms.specs.Unifiers.{Problem}
 use Rattle.fvn_forms.specs.Flat.{FlatTerm, fvar, plain, plain_all, fpack}
 use Rattle.fvn_forms.specs.InOrder.{count, SameCounts}
-use Rattle.fvn_forms.specs.Canon.{parts, sum, build, canon, eval_all, inst, identity, empty_sum}
+use Rattle.fvn_forms.specs.Canon.{parts, sum, build, canon, eval_all, inst, empty_sum}
+use Rattle.fvn_terms.specs.Equality.{identity}
 use Rattle.fvn_forms.specs.Settled.{Settled, IsPiece}
 use Rattle.fvn_forms.specs.Ranks.{result}
 use Rattle.fvn_forms.specs.LeastSort.{sort_in, least_sort, KeepsKindsOfVariables}
@@ -30,7 +31,8 @@ use Rattle.fvn_forms.proofs.KindsKept.{kind_unique}
 use Rattle.fvn_forms.proofs.LeastSort.{sort_lowers, sort_of_build}
 use Rattle.fvn_forms.proofs.SortOrder.{AtOrBelow-from_same}
 use Rattle.fvn_forms.proofs.Sums.{sum_parts, sum_same_counts}
-use Rattle.fvn_forms.proofs.ToCanon.{canon_of_kind, identity_is}
+use Rattle.fvn_forms.proofs.ToCanon.{canon_of_kind}
+use Rattle.fvn_terms.proofs.AxiomWords.{identity_is}
 use Rattle.fvn_flat.specs.Problems.{variables_of}
 use Rattle.fvn_flat.specs.SolvedLists.{Plan, Form, unbound, as_member, as_sum, members, IsSimple, IsBinding, bound_as, bound_to, names_of, over_classes}
 use Rattle.fvn_combine_nodes.specs.Table.{NodeTable, IsOver, term_at}

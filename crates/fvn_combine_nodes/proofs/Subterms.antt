@@ -9,7 +9,7 @@ use Rattle.fvn_terms.specs.Term.{Term, Terms, var, app, none, more}
 use Rattle.fvn_terms.specs.Signature.{kind, axioms, HasKind, HaveKinds, IsTerm}
 use Rattle.fvn_terms.specs.Unifiers.{Problem}
 use Rattle.fvn_forms.specs.FitsKinds.{FitsKinds}
-use Rattle.fvn_forms.proofs.ToCanon.{identity_is}
+use Rattle.fvn_terms.proofs.AxiomWords.{identity_is}
 use Rattle.fvn_flat.specs.Problems.{subterms, subterms_among, subterms_of, IsProblem}
 use Rattle.fvn_combine_nodes.specs.Table.{NodeTable, IsTableOf, IsUnitOf, term_at}
 use Rattle.fvn_combine_nodes.proofs.Terms.{contains_once}

@@ -2,7 +2,7 @@
 ghost use Rattle.std.specs.Prelude.{◌≡◌, ◌≢◌, ◌⊎◌, ◌↔◌, ◌<◌, [], ◌∷◌, length, map, is_some, All, IsTrue};
 ghost use Rattle.std.specs.List.{list_any};
 ghost use Rattle.fvn_terms.specs.Signature.{axioms};
-ghost use Rattle.fvn_forms.specs.Canon.{identity};
+ghost use Rattle.fvn_terms.specs.Equality.{identity};
 ghost use Rattle.fvn_combine_nodes.specs.Classes.{AreTogether, MeetEitherWay, AreAlike, IsNodePartition, MeetInPairs};
 ghost use Rattle.fvn_combine_nodes.specs.States.{class_of, is_same, is_apart, IsOpen, IsNaming};
 ghost use Rattle.fvn_combine_nodes.specs.inner.Closing.{state_of, renamed, is_straight, then_move, HasMoved, IsClosureOf};

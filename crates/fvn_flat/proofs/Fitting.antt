@@ -20,7 +20,8 @@ use Rattle.fvn_forms.proofs.InOrder.{each_append}
 use Rattle.fvn_forms.proofs.Sums.{funpack-fpack, SettledAll-fpack, SettledAll-funpack}
 use Rattle.fvn_forms.proofs.Build.{HasIdentity, build_settled, build_sum, all_parts_nonempty}
 use Rattle.fvn_forms.proofs.Eval.{fvar_settled, canon_settled, eval_nest, canon_plain, canon_plain_all}
-use Rattle.fvn_forms.proofs.ToCanon.{identity_is, build_plain, to_canon, canon_of_kind, b_equal_iff_canon}
+use Rattle.fvn_forms.proofs.ToCanon.{build_plain, to_canon, canon_of_kind, b_equal_iff_canon}
+use Rattle.fvn_terms.proofs.AxiomWords.{identity_is}
 use Rattle.fvn_forms.proofs.KindsOfSums.{build_of_kind, nest_parts_of_kind, parts_of_kind, two_of_kind, sum_of_forms_of_kind}
 use Rattle.fvn_flat.specs.Forms.{args_of}
 use Rattle.fvn_flat.specs.Fits.{Fits, AllFit, AllOfKind, TakesAsDeclared, Takes, operator_over, plain_over, FitWhere, IsEqualWhereBothFit}

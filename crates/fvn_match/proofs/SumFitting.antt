@@ -21,7 +21,7 @@ use Rattle.fvn_forms.specs.FitsKinds.{FitsKinds}
 use Rattle.fvn_forms.proofs.InOrder.{each_append, count_append}
 use Rattle.fvn_forms.proofs.Sums.{parts_are_pieces, parts_are_settled, all_parts-pieces}
 use Rattle.fvn_forms.proofs.Build.{HasIdentity, sum_settled, build_sum}
-use Rattle.fvn_forms.proofs.ToCanon.{identity_is}
+use Rattle.fvn_terms.proofs.AxiomWords.{identity_is}
 use Rattle.fvn_forms.proofs.KindsOfSums.{parts_of_kind, sum_of_forms_of_kind}
 use Rattle.fvn_flat.specs.Forms.{head_of, args_of}
 use Rattle.fvn_flat.specs.Fits.{AllFit, TakesAsDeclared, Takes}

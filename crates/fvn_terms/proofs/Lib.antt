@@ -1,4 +1,5 @@
 -- Lemmas on terms, substitutions and steps; the public ones are for callers.
+pub mod AxiomWords
 pub mod Plains
 pub mod Substitutions
 pub mod Steps

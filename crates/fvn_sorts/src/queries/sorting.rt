@@ -4,9 +4,9 @@ ghost use Rattle.fvn_terms.specs.declared.plain.OpId.{OpId};
 ghost use Rattle.fvn_terms.specs.Term.{app};
 ghost use Rattle.fvn_terms.specs.Plain.{term};
 ghost use Rattle.fvn_terms.specs.Signature.{axioms, IsTerm};
-ghost use Rattle.fvn_terms.specs.Equality.{IsAssociative};
+ghost use Rattle.fvn_terms.specs.Equality.{IsAssociative, identity};
 ghost use Rattle.fvn_terms.specs.Sorts.{IsLeastSort};
-ghost use Rattle.fvn_forms.specs.Canon.{identity, as_constant, canon};
+ghost use Rattle.fvn_forms.specs.Canon.{as_constant, canon};
 ghost use Rattle.fvn_forms.specs.LeastSort.{least_sort};
 
 use crate::queries::signature::Signature;
