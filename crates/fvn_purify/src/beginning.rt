@@ -17,7 +17,7 @@ use crate::choosing::Partial;
 use crate::classes::Classes;
 use crate::cursor::Splits;
 use fvn_combine_nodes::{start, unifiers_partition};
-use fvn_sorts::Signature;
+use fvn_signature::Signature;
 use fvn_terms::NoMemory;
 use std::alloc::Global;
 
