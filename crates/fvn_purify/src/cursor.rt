@@ -13,12 +13,7 @@ use crate::classes::Classes;
 use crate::split::Split;
 use crate::stepping::{Step, take_step};
 use fvn_base::Seq;
-<<<<<<< HEAD:crates/fvn_purify/src/cursor.rt
 use fvn_signature::Signature;
-=======
-use fvn_combine_nodes::{start, unifiers_partition};
-use fvn_signature::Signature;
->>>>>>> 8775e94cbb635c9559d2d11ee86d1ece7c62c40a:crates/fvn_purify/src/splits.rt
 use fvn_terms::NoMemory;
 use std::alloc::Global;
 use std::marker::Model;
