@@ -8,7 +8,7 @@ use crate::builder::SignatureBuilder;
 use crate::conditions::fault::SigFault;
 use crate::conditions::sizes::is_too_large;
 use crate::conditions::stages::first_fault;
-use fvn_signature::{Collected, draft_of};
+use fvn_signature::{Collected, Signature, draft_of};
 use fvn_terms::NoMemory;
 use std::alloc::Global;
 
