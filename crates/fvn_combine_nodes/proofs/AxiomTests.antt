@@ -1,7 +1,6 @@
 -- What tests of axioms tell of them.
 use Rattle.std.proofs.Common.{◌≡◌, Bool, true, false, refl, sym, ap, ◌∙◌, is_some}
 use Rattle.std.specs.Prelude.{◌↔◌, IsTrue, not}
-use Rattle.fvn_terms.specs.declared.plain.OpId.{OpId}
 use Rattle.fvn_terms.specs.declared.declarations.Axioms.{Axioms}
 use Rattle.fvn_terms.specs.declared.declarations.Axioms.TheVariants.{Free, Comm, AssocComm, AssocCommId}
 use Rattle.fvn_terms.specs.Equality.{identity, is_sum, is_commutative, is_free}

@@ -1,5 +1,5 @@
 -- A sum is no commutative operator, and of the others commutativity alone exchanges arguments.
-use Rattle.std.proofs.Common.{true, false, sym, ap, ◌∙◌}
+use Rattle.std.proofs.Common.{sym, ap, ◌∙◌}
 use Rattle.fvn_terms.specs.Equality.{is_commutative}
 use Rattle.fvn_combine_nodes.proofs.AxiomTests.{commutative_no_sum, only_commutative}
 use Rattle.fvn_combine_nodes.proofs.operators.is_only_commutative.Goals as goal
