@@ -12,7 +12,7 @@ mod TwoSummands
 mod Taken
 mod Marked
 pub mod Touching
-pub mod NeutralTold
+mod NeutralTold
 mod Chosen
 mod Obeying
 mod Falling
