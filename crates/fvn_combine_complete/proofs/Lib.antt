@@ -1,4 +1,4 @@
--- Lemmas on the values of classes at a frame.
+-- Lemmas on the values of classes at a leaf.
 mod Heads
 mod Values
 mod Meeting

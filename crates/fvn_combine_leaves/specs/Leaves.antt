@@ -1,4 +1,4 @@
--- Frames: states in which nothing is open that decides what classes are bound to.
+-- Leaves: states in which nothing is open that decides what classes are bound to.
 use Rattle.std.specs.Prelude.{◌≡◌, ◌≢◌, ◌⊎◌, ℕ, ◌<◌, pos, List, length, slice_get, Option, Some, None, Contains}
 use Rattle.fvn_terms.specs.declared.plain.OpId.{OpId}
 use Rattle.fvn_terms.specs.declared.declarations.Declarations.{Declarations}
@@ -71,14 +71,14 @@ module _ (d : Declarations) (t : NodeTable) where
       pub right : 0 < component columns solution l
 
   -- Commutative nodes meet, and it is known which shared classes have identities.
-  pub record IsNearFrame (s : State) : Type 0 where
+  pub record IsNearLeaf (s : State) : Type 0 where
     pub closed : IsClosed d t s
     pub partition : IsNodePartition d t (class_of s)
     -- whether a shared class has the identity of an operator that uses it
     pub identities : (f : OpId) (k : ℕ) → IsShared (class_of s) k → Uses (class_of s) f k → (p : OpId × ℕ) → Contains t.units p → p.0 ≡ f → IsOpen s k p.1 → ⊥
 
   -- Nothing is open that decides what a class is bound to.
-  pub record IsFrame (s : State) : Type 0 where
+  pub record IsLeaf (s : State) : Type 0 where
     pub closed : IsClosed d t s
     pub partition : IsNodePartition d t (class_of s)
     -- whether a shared class has the identity of an operator that uses it
@@ -86,12 +86,12 @@ module _ (d : Declarations) (t : NodeTable) where
     -- whether two classes are one, where both may be constants of an operator and a minimal solution has both
     pub constants : (f : OpId) (k l : ℕ) → MayBeConstant (class_of s) f k → MayBeConstant (class_of s) f l → AreTouched (class_of s) f k l → HaveTwoHeads (class_of s) k l ⊎ (IsOpen s k l → ⊥)
 
-  -- the question on two nodes is open; where there is none, the state is nearly a frame
+  -- the question on two nodes is open; where there is none, the state is nearly a leaf
   abbrev pub IsFirstQuestion : State → Option (ℕ × ℕ) → Type 0
-  IsFirstQuestion s None = IsNearFrame s
+  IsFirstQuestion s None = IsNearLeaf s
   IsFirstQuestion s (Some p) = (p.0 < length t.nodes) × (p.1 < length t.nodes) × IsOpen s p.0 p.1
 
-  -- so it is; where there is none, the state is a frame
+  -- so it is; where there is none, the state is a leaf
   abbrev pub IsQuestion : State → Option (ℕ × ℕ) → Type 0
-  IsQuestion s None = IsFrame s
+  IsQuestion s None = IsLeaf s
   IsQuestion s (Some p) = (p.0 < length t.nodes) × (p.1 < length t.nodes) × IsOpen s p.0 p.1

@@ -4,7 +4,7 @@ use Rattle.std.proofs.lemmas.Bool.{false≢true}
 use Rattle.fvn_flat.specs.Solving.{problem_of}
 use Rattle.fvn_combine_nodes.specs.States.{class_of}
 use Rattle.fvn_combine_candidates.specs.Refusals.{IsOpenFault}
-use Rattle.fvn_combine.proofs.looking.look_at_near_frame.Goals as goal
+use Rattle.fvn_combine.proofs.looking.look_at_near_leaf.Goals as goal
 
 pub returns-then-not-are_of_one_kind : goal.returns-then-not-are_of_one_kind
 returns-then-not-are_of_one_kind c = λ u h.
@@ -20,5 +20,5 @@ returns-in-Err-Basis c =
     let first = subst (IsOpenFault c.args.reading.sums) c.in-Err-Basis.field-0-is c.in-Err-Basis.ensures.refused in
     c.refusals_are_causes.ensures k.declarations k.given k.first is.is_given k.table is.well_made is.table_of (class_of c.args.state.now) c.requires.near.partition c.args.reading c.requires.reading c.in-Err-Basis.f c.in-Err-Basis.system first
 
-pub look_at_frame-requires-clause-kinds : goal.look_at_frame-requires-clause-kinds
-look_at_frame-requires-clause-kinds c = c.are_of_one_kind.ensures.0 c.if-not-are_of_one_kind.false
+pub look_at_leaf-requires-clause-kinds : goal.look_at_leaf-requires-clause-kinds
+look_at_leaf-requires-clause-kinds c = c.are_of_one_kind.ensures.0 c.if-not-are_of_one_kind.false

@@ -1,4 +1,4 @@
--- A frame that is open, and its choices that are still to come.
+-- A leaf that is open, and its choices that are still to come.
 use Rattle.std.specs.Prelude.{◌≡◌, ◌⊎◌, ℕ, List, length, Option, Some, None}
 use Rattle.fvn_terms.specs.declared.plain.OpId.{OpId}
 use Rattle.fvn_terms.specs.Substitution.{Substitution}
@@ -6,7 +6,7 @@ use Rattle.fvn_lindio.specs.declared.system.Solution.{Solution}
 use Rattle.fvn_flat.specs.Solving.{problem_of}
 use Rattle.fvn_combine_nodes.specs.States.{class_of}
 use Rattle.fvn_combine_nodes.specs.declared.state.State.{State}
-use Rattle.fvn_combine_leaves.specs.Frames.{IsFrame}
+use Rattle.fvn_combine_leaves.specs.Leaves.{IsLeaf}
 use Rattle.fvn_combine_leaves.specs.Readings.{IsReading}
 use Rattle.fvn_combine_leaves.specs.declared.reading.Reading.{Reading}
 use Rattle.fvn_acunify_product.specs.Tags.{PendingTags}
@@ -46,7 +46,7 @@ module _ (k : Combining) (s : State) where
   IsCoveredByCurrent r bases None u = ⊥
   IsCoveredByCurrent r bases (Some v) u = IsCoveredUnder r bases v u
 
-  -- numbers under the current tags of an open frame that are still to come cover u
+  -- numbers under the current tags of an open leaf that are still to come cover u
   abbrev pub IsCoveredNow : Opened → Substitution → Type 0
   IsCoveredNow o u = IsCoveredByCurrent o.reading o.bases o.turning u
 
@@ -58,14 +58,14 @@ module _ (k : Combining) (s : State) where
     pub as_many : length numbers ≡ length o.reading.sums
     pub covered : (tags : List (Option OpId)) → AreTags o.shared options tags → IsCoveredBy o.reading o.bases tags numbers u
 
-  -- a choice of the frame that is still to come covers u
+  -- a choice of the leaf that is still to come covers u
   abbrev pub IsCoveredToCome : Opened → Substitution → Type 0
   IsCoveredToCome o u = IsCoveredNow o u ⊎ IsCoveredLater o u
 
-  -- what is read of the frame, its minimal solutions, its shared classes and their tags, and the wheels under current tags
+  -- what is read of the leaf, its minimal solutions, its shared classes and their tags, and the wheels under current tags
   pub record IsOpened (o : Opened) : Type 0 where
     pub ready : IsReady k.declarations k.given k.first k.table s
-    pub frame : IsFrame k.declarations k.table s
+    pub leaf : IsLeaf k.declarations k.table s
     pub reading : IsReading k.declarations k.table (class_of s) o.reading
     pub bases : AreBases o.reading.sums o.bases
     pub shared : AreSharedClasses k.declarations k.table (class_of s) o.shared

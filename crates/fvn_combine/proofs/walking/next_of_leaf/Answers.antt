@@ -3,12 +3,12 @@ use Rattle.std.proofs.Common.{◌<◌, ◌≤◌, ap, sym, subst, inr, arith}
 use Rattle.std.proofs.Math.Nat.{le_trans, lt_of_lt_of_le}
 use Rattle.std.proofs.lemmas.Result.{err_from_is_err_and}
 use Rattle.fvn_acunify_product.specs.Tags.{Tagging, tags_left}
-use Rattle.fvn_combine.specs.Frames.{IsCoveredNow, IsCoveredToCome}
+use Rattle.fvn_combine.specs.Leaves.{IsCoveredNow, IsCoveredToCome}
 use Rattle.fvn_combine.specs.Advancing.{IsCovered}
 use Rattle.fvn_combine.specs.inner.Found.{IsDrawnFrom, AreDrawnFrom, IsTurned, LeavesLess}
-use Rattle.fvn_combine.specs.Work.{frame_left}
+use Rattle.fvn_combine.specs.Work.{leaf_left}
 use Rattle.fvn_combine.proofs.Walk.{to_come_was, to_come_kept, to_come_or, later_alone}
-use Rattle.fvn_combine.proofs.walking.next_of_frame.Goals as goal
+use Rattle.fvn_combine.proofs.walking.next_of_leaf.Goals as goal
 
 pub returns-in_err-next_of_current-clause-fewer : goal.returns-in_err-next_of_current-clause-fewer
 returns-in_err-next_of_current-clause-fewer c = λ u h.
@@ -84,7 +84,7 @@ tags-preserved c =
       fewer = λ u h. c.tags.invariant.fewer u (to_come_was k s old new c.next_of_current.ensures.same c.next_of_current.ensures.fewer u (inr (turned.3 u h)));
       kept = λ u h. turned.2 u (later_alone k s old new c.next_of_current.ensures.same none u (c.tags.invariant.kept u h));
       less =
-          let less : frame_left k new ≤ frame_left k old = subst (LeavesLess (frame_left k old) (frame_left k new)) c.in-Nothing.is c.in_ok-next_of_current.ensures.falls in
+          let less : leaf_left k new ≤ leaf_left k old = subst (LeavesLess (leaf_left k old) (leaf_left k new)) c.in-Nothing.is c.in_ok-next_of_current.ensures.falls in
           le_trans turned.4 (le_trans less c.tags.invariant.less);
     }
 
@@ -101,13 +101,13 @@ tags-smaller c =
 pub returns-in-Unifier-clause-falls : goal.returns-in-Unifier-clause-falls
 returns-in-Unifier-clause-falls c =
     let k = c.args.task.now in
-    let less : frame_left k c.next_of_current.new.opened < frame_left k c.tags.opened = subst (LeavesLess (frame_left k c.tags.opened) (frame_left k c.next_of_current.new.opened)) c.in-Unifier.is c.in_ok-next_of_current.ensures.falls in
+    let less : leaf_left k c.next_of_current.new.opened < leaf_left k c.tags.opened = subst (LeavesLess (leaf_left k c.tags.opened) (leaf_left k c.next_of_current.new.opened)) c.in-Unifier.is c.in_ok-next_of_current.ensures.falls in
     lt_of_lt_of_le less c.tags.invariant.less
 
 pub returns-then-not-branch-clause-falls : goal.returns-then-not-branch-clause-falls
 returns-then-not-branch-clause-falls c =
     let k = c.args.task.now in
     let new = c.next_of_current.new.opened in
-    let less : frame_left k new ≤ frame_left k c.tags.opened = subst (LeavesLess (frame_left k c.tags.opened) (frame_left k new)) c.in-Nothing.is c.in_ok-next_of_current.ensures.falls in
+    let less : leaf_left k new ≤ leaf_left k c.tags.opened = subst (LeavesLess (leaf_left k c.tags.opened) (leaf_left k new)) c.in-Nothing.is c.in_ok-next_of_current.ensures.falls in
     let over = subst (IsTurned k c.args.state.now new c.turn.new.opened) c.if-not-branch.true c.in_ok-turn.ensures.turned in
-    subst (λ o. frame_left k o ≤ frame_left k c.args.opened.now) (sym over.0) (le_trans less c.tags.invariant.less)
+    subst (λ o. leaf_left k o ≤ leaf_left k c.args.opened.now) (sym over.0) (le_trans less c.tags.invariant.less)

@@ -1,4 +1,4 @@
--- What a reading tells of a state, and frames.
+-- What a reading tells of a state, and leaves.
 use Rattle.std.proofs.Common.{◌≡◌, ◌≢◌, ◌⊎◌, ℕ, ◌<◌, List, [], ◌∷◌, length, get_or, sym, ap, ◌∙◌, subst, subst₂, slice_get, inl, inr, arith, All, Contains, Option, Some, None}
 use Rattle.std.proofs.lemmas.List.{get_or_default}
 use Rattle.std.proofs.lemmas.List.Elements.{All-contains}
@@ -17,7 +17,7 @@ use Rattle.fvn_combine_nodes.specs.declared.state.State.{State}
 use Rattle.fvn_combine_nodes.proofs.Nodes.{arguments_within}
 use Rattle.fvn_combine_nodes.proofs.Lists.{all_from}
 use Rattle.fvn_combine_systems.proofs.Weighing.{component_at}
-use Rattle.fvn_combine_leaves.specs.Frames.{IsSolid, Uses, IsShared, MayBeConstant, HaveTwoHeads, AreTouched, IsNearFrame, IsFrame, IsFirstQuestion, IsQuestion}
+use Rattle.fvn_combine_leaves.specs.Leaves.{IsSolid, Uses, IsShared, MayBeConstant, HaveTwoHeads, AreTouched, IsNearLeaf, IsLeaf, IsFirstQuestion, IsQuestion}
 use Rattle.fvn_combine_leaves.specs.Bases.{AreBases}
 use Rattle.fvn_combine_leaves.specs.Readings.{AreSums, IsReading}
 use Rattle.fvn_combine_leaves.specs.inner.Past.{IsOpenPairOr, IsPastIdentity, ArePastIdentities, ArePastClasses, ArePastPairs}
@@ -80,8 +80,8 @@ module _ (d : Declarations) (t : NodeTable) (made : IsWellMade t) (s : State) (c
             | inr closed_pair ↦ inr closed_pair
           ]
 
-    -- nearly a frame
-    near_is : IsNodePartition d t (class_of s) → ((k : ℕ) → k < length s.names → IsSharedIn r k → ArePastIdentities t s r.sums k) → IsNearFrame d t s
+    -- nearly a leaf
+    near_is : IsNodePartition d t (class_of s) → ((k : ℕ) → k < length s.names → IsSharedIn r k → ArePastIdentities t s r.sums k) → IsNearLeaf d t s
     near_is partition past = record {
       closed = closed;
       partition = partition;
@@ -99,9 +99,9 @@ module _ (d : Declarations) (t : NodeTable) (made : IsWellMade t) (s : State) (c
     first_asked partition None past = near_is partition past
     first_asked partition (Some p) h = pair_question ((k : ℕ) → k < length s.names → IsSharedIn r k → ArePastIdentities t s r.sums k) p h
 
-    -- a frame, where classes that may be constants and that a solution has both of are told apart
-    frame_is : IsNearFrame d t s → ((f : OpId) (k l : ℕ) → MayBeConstant d t (class_of s) f k → MayBeConstant d t (class_of s) f l → AreTouched d t (class_of s) f k l → HaveTwoHeads d t (class_of s) k l ⊎ (IsOpen s k l → ⊥)) → IsFrame d t s
-    frame_is near h = record {
+    -- a leaf, where classes that may be constants and that a solution has both of are told apart
+    leaf_is : IsNearLeaf d t s → ((f : OpId) (k l : ℕ) → MayBeConstant d t (class_of s) f k → MayBeConstant d t (class_of s) f l → AreTouched d t (class_of s) f k l → HaveTwoHeads d t (class_of s) k l ⊎ (IsOpen s k l → ⊥)) → IsLeaf d t s
+    leaf_is near h = record {
       closed = near.closed;
       partition = near.partition;
       identities = near.identities;
@@ -109,8 +109,8 @@ module _ (d : Declarations) (t : NodeTable) (made : IsWellMade t) (s : State) (c
     }
 
     -- the answer where all pairs are asked
-    pub asked_on_all : IsNearFrame d t s → (o : Option (ℕ × ℕ)) → IsOpenPairOr s (All (λ e. ArePastPairs s r e e.columns) r.sums) o → IsQuestion d t s o
-    asked_on_all near None pairs = frame_is near (λ f k l mk ml touched.
+    pub asked_on_all : IsNearLeaf d t s → (o : Option (ℕ × ℕ)) → IsOpenPairOr s (All (λ e. ArePastPairs s r e e.columns) r.sums) o → IsQuestion d t s o
+    asked_on_all near None pairs = leaf_is near (λ f k l mk ml touched.
         let a = entry_of d t made s closed r reading f k mk.used in
         apart_at pairs a.entry a.listed k l (subst (λ o. MayBeConstant d t (class_of s) o k) (sym a.operator) mk) (subst (λ o. MayBeConstant d t (class_of s) o l) (sym a.operator) ml))
     asked_on_all near (Some p) h = pair_question (All (λ e. ArePastPairs s r e e.columns) r.sums) p h
@@ -169,8 +169,8 @@ module _ (d : Declarations) (t : NodeTable) (made : IsWellMade t) (s : State) (c
               ]
 
       -- the answer where pairs are asked that a solution has both of
-      pub asked_on_touched : IsNearFrame d t s → (o : Option (ℕ × ℕ)) → IsOpenPairOr s (AreAllPast s r r.sums bases) o → IsQuestion d t s o
-      asked_on_touched near None past = frame_is near (λ f k l mk ml touched.
+      pub asked_on_touched : IsNearLeaf d t s → (o : Option (ℕ × ℕ)) → IsOpenPairOr s (AreAllPast s r r.sums bases) o → IsQuestion d t s o
+      asked_on_touched near None past = leaf_is near (λ f k l mk ml touched.
           let a = entry_of d t made s closed r reading f k mk.used in
           apart_where_touched past a.entry a.listed k l (subst (λ o. MayBeConstant d t (class_of s) o k) (sym a.operator) mk) (subst (λ o. MayBeConstant d t (class_of s) o l) (sym a.operator) ml)
           (subst (λ o. AreTouched d t (class_of s) o k l) (sym a.operator) touched))
