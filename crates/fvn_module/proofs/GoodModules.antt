@@ -3,7 +3,6 @@ use Rattle.std.proofs.Common.{sym, subst}
 use Rattle.fvn_lex.specs.Laws.{PiecesStandAlone}
 use Rattle.fvn_terms.specs.declared.declarations.Declarations.{Declarations}
 use Rattle.fvn_forms.specs.Good.{IsGood}
-use Rattle.fvn_signature.specs.Collected.{completed}
 use Rattle.fvn_sorts.specs.declared.conditions.fault.SigFault.TheVariants as sig
 use Rattle.fvn_signature.specs.Queries.{IsCompleted}
 use Rattle.fvn_sorts.specs.Laws.{FaultlessSignaturesAreGood}

@@ -1,15 +1,8 @@
 -- What holds of every module that was read.
 use Rattle.std.specs.Prelude.{◌≡◌, ◌≢◌, ◌≤◌, false, List, length, slice_get, All, AllPairs, Some, None}
 use Rattle.fvn_lex.specs.Join.{IsPiece}
-use Rattle.fvn_base.specs.declared.limits.TheConstants.{SORTS, OPERATORS, EQUATIONS, TEXT_SYMBOLS}
-use Rattle.fvn_terms.specs.declared.plain.Var.{Var}
+use Rattle.fvn_base.specs.declared.limits.TheConstants.{SORTS, OPERATORS, EQUATIONS}
 use Rattle.fvn_terms.specs.declared.plain.OpId.{OpId}
-use Rattle.fvn_terms.specs.declared.plain.SortId.{SortId}
-use Rattle.fvn_terms.specs.declared.declarations.Declarations.{Declarations}
-use Rattle.fvn_terms.specs.Term.{nodes}
-use Rattle.fvn_terms.specs.Plain.{term}
-use Rattle.fvn_terms.specs.Substitution.{Occurs}
-use Rattle.fvn_terms.specs.Signature.{HasKind}
 use Rattle.fvn_syntax.specs.declared.names.Names.{Names}
 use Rattle.fvn_syntax.specs.Pieces.{Text, word, is_colon_name}
 use Rattle.fvn_syntax.specs.Names.{arity_of, sorted_name}

@@ -16,7 +16,7 @@ use crate::variables::brings_none;
 use fvn_base::Seq;
 use fvn_base::limits::{EQUATIONS, TEXT_SYMBOLS};
 use fvn_module_syntax::Statement;
-use fvn_syntax::{Kinded, Piece, Scope, Seen, TermFault, Texts, read_term};
+use fvn_syntax::{Kinded, Piece, Scope, Seen, TermFault, Texts, resolve_term};
 use fvn_theory::Equation;
 use std::alloc::Global;
 
@@ -56,7 +56,7 @@ fn read_side(
     ensures err { IfErr result (IsReadRefused scope.now number texts row.now) }
 {
     let seen = Seen { texts, count: 0 };
-    match read_term(alloc, TEXT_SYMBOLS, scope, seen, row) {
+    match resolve_term(alloc, TEXT_SYMBOLS, scope, seen, row) {
         Ok((read, seen)) => Ok(Side {
             read,
             texts: seen.texts,

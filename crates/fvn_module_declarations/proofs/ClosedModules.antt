@@ -1,12 +1,11 @@
 -- What statements without a fault among their names collect is closed.
-use Rattle.std.proofs.Common.{◌≡◌, ℕ, ◌+◌, ◌<◌, ◌≤◌, max, Bool, true, false, cond, List, [], ◌∷◌, ◌++◌, length, map, refl, sym, ap, subst, ◌∙◌, ◌⊎◌, inl, inr, arith}
+use Rattle.std.proofs.Common.{◌≡◌, ◌+◌, ◌<◌, ◌≤◌, max, Bool, true, false, cond, List, [], ◌∷◌, ◌++◌, length, map, refl, sym, ap, subst, ◌∙◌, inl, inr, arith}
 use Rattle.std.specs.List.{All, Contains, list_any}
 use Rattle.std.proofs.lemmas.List.Elements.{All-nil, All-head, All-tail, All-weaker, All-contains, All-contains_itself, Contains-append_cases}
 use Rattle.std.proofs.lemmas.Map.Views.{Contains-from_any}
 use Rattle.fvn_base.specs.declared.limits.TheConstants.{SORTS, OPERATORS}
 use Rattle.fvn_base.proofs.Membership.{contains_none}
 use Rattle.fvn_terms.specs.declared.plain.SortId.{SortId}
-use Rattle.fvn_terms.specs.declared.declarations.Rank.{Rank}
 use Rattle.fvn_signature.specs.declared.collected.Declaration.{Declaration}
 use Rattle.fvn_signature.specs.declared.collected.Collected.{Collected}
 use Rattle.fvn_signature.specs.Collected.{IsClosed, Names, op_number}
@@ -18,7 +17,7 @@ use Rattle.fvn_module_syntax.specs.declared.statement.RawRank.{RawRank}
 use Rattle.fvn_module_syntax.specs.declared.statement.Attribute.{Attribute}
 use Rattle.fvn_module_syntax.specs.declared.statement.Statement.{Statement}
 use Rattle.fvn_module_syntax.specs.declared.statement.Statement.TheVariants.{Sorts, Subsorts, Operator, Operators, Variables, Equation}
-use Rattle.fvn_module_names.specs.Names.{joined, name_text, sorts_of, operators_of}
+use Rattle.fvn_module_names.specs.Names.{joined, name_text, sorts_of}
 use Rattle.fvn_module_names.specs.Order.{same_pair, with_all, crossed, declared_among, pairs_between, pairs_of_groups, pairs_in, with_pairs}
 use Rattle.fvn_module_names.specs.Faults.{has_unknown_sort, HasNames}
 use Rattle.fvn_module_names.specs.Vocabulary.{Vocabulary, vocabulary_of}

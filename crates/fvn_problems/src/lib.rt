@@ -23,4 +23,4 @@ pub use laws::{
     refused_problems_ask_nothing, refused_queries_ask_nothing,
 };
 pub use problem::{Problem, read_problem};
-pub use query::{Query, read_query};
+pub use query::{Query, read_term};

@@ -4,7 +4,7 @@ use Rattle.fvn_terms.specs.Signature.{IsTerm}
 use Rattle.std.proofs.lemmas.Result.{IfOk-weaker, IfErr-weaker}
 use Rattle.fvn_problems.specs.Queries.{IsQuery, IsOnlyQuery, RefusesQuery, HasNoQuery, HasVariables}
 use Rattle.fvn_problems.proofs.QueryTexts.{query-only, query-kinded, query-vars, query-none}
-use Rattle.fvn_problems.proofs.query.read_query.Goals as goal
+use Rattle.fvn_problems.proofs.query.read_term.Goals as goal
 
 pub returns-clause-only : goal.returns-clause-only
 returns-clause-only c =

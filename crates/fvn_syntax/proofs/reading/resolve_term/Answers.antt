@@ -1,6 +1,6 @@
 -- What is read is what each written term of the pieces stands for, and a fault is the first of it.
 use Rattle.fvn_syntax.proofs.TermMeaning.{reads-ok, refuses-err}
-use Rattle.fvn_syntax.proofs.reading.read_term.Goals as goal
+use Rattle.fvn_syntax.proofs.reading.resolve_term.Goals as goal
 
 pub returns-clause-ok : goal.returns-clause-ok
 returns-clause-ok c =
