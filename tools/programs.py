@@ -40,9 +40,9 @@ def listed(top):
     return {name.strip(): words.split() for name, colon, words in lines if colon}
 
 
-def needed(uses):
-    """Returns the crates of the repository that the program is made of, itself first."""
-    found = [PROGRAM]
+def needed(uses, top=PROGRAM):
+    """Returns the crates of the repository that this one is made of, itself first."""
+    found = [top]
     for name in found:
         found += [it for it in uses[name] if it in uses and it not in found]
     return found
