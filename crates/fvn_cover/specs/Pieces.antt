@@ -1,4 +1,4 @@
--- Ranges of pieces.
+-- Pieces of a list: where each begins, and ranges of them.
 use Rattle.std.specs.Prelude.{◌≡◌, ◌<◌, ◌≤◌, ℕ, ◌+◌, ◌*◌, ◌/◌}
 use Rattle.fvn_cover.specs.declared.marking.TheConstants.{WORKERS}
 
