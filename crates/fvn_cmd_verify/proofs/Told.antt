@@ -42,14 +42,14 @@ module _ (d : Declarations) (equations : List Equation) (bounds : Bounds) (p : P
   fits_verdict (Steps start reached) h = h.1.1.start_fits
   fits_verdict (Size f) h = tt
 
--- a verdict in the signature and the equations of a module is one in the module
-pub told_verdict_on : (m : Contents) (d : Declarations) → d ≡ m.signature → (equations : List Equation) → equations ≡ m.equations → (steps : ℕ) (p : Problem) (b : Bindings) (v : Verdict) →
-    IsVerdict (setting d (equations_of equations) (value b.subst.pairs) (record { steps = steps; size = TERM_SYMBOLS })) p.pairs v → (status : Status) (text : List ℕ) → IsToldAs m steps v status text → TellsVerdict m steps p b status text
-told_verdict_on m d signature_is equations equations_are steps p b v h status text told = (
+-- a verdict by the equations of a module is one in the module
+pub told_verdict_on : (m : Contents) (equations : List Equation) → equations ≡ m.equations → (steps : ℕ) (p : Problem) (b : Bindings) (v : Verdict) →
+    IsVerdict (setting m.signature (equations_of equations) (value b.subst.pairs) (record { steps = steps; size = TERM_SYMBOLS })) p.pairs v → (status : Status) (text : List ℕ) → IsToldAs m steps v status text →
+    TellsVerdict m steps p b status text
+told_verdict_on m equations equations_are steps p b v h status text told = (
   v,
   (
-    subst (λ es. IsVerdict (setting m.signature (equations_of es) (value b.subst.pairs) (record { steps = steps; size = TERM_SYMBOLS })) p.pairs v) equations_are
-        (subst (λ x. IsVerdict (setting x (equations_of equations) (value b.subst.pairs) (record { steps = steps; size = TERM_SYMBOLS })) p.pairs v) signature_is h),
+    subst (λ es. IsVerdict (setting m.signature (equations_of es) (value b.subst.pairs) (record { steps = steps; size = TERM_SYMBOLS })) p.pairs v) equations_are h,
     told,
   ),
 )

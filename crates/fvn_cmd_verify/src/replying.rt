@@ -15,12 +15,11 @@ use fvn_base::limits::TERM_SYMBOLS;
 use fvn_cmd::{Answer, refuse_module, refuse_problem};
 use fvn_cohere::harmless_equations_are_admissible;
 use fvn_module::Module;
+use fvn_module_engines::{extend, verify};
 use fvn_module_loading::load;
 use fvn_problems::{Bindings, Problem, read_bindings, read_problem};
-use fvn_rewrite_rules::extend;
 use fvn_terms::NoMemory;
 use fvn_theory::Bounds;
-use fvn_verify::verify;
 use std::alloc::Global;
 
 // The answer to a problem under bindings.
@@ -39,20 +38,12 @@ fn verified(
 {
     declared.recall_readable();
     harmless_equations_are_admissible();
-    let signature = declared.signature();
-    let rules = extend(alloc, signature, declared.equations())?;
+    let rules = extend(alloc, declared)?;
     let bounds = Bounds {
         steps,
         size: TERM_SYMBOLS,
     };
-    let verdict = verify(
-        alloc,
-        signature,
-        &rules,
-        problem.pairs.as_slice(),
-        &bindings.subst,
-        bounds,
-    )?;
+    let verdict = verify(alloc, declared, &rules, problem, bindings, bounds)?;
     let answer = tell(alloc, declared, steps, verdict)?;
     Ok(answer)
 }
