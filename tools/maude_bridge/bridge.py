@@ -12,6 +12,9 @@ WRAPPER = "FVN-ASKED"
 # Warnings that speak of sorts alone, where each statement was read all the same; fvn tests what they say.
 READ = re.compile(r"sort declarations for .*|superfluous \[\] notation in operation declaration.*", re.S)
 
+# Warnings that follow from others.
+FOLLOWS = re.compile(r"could not be patched up|unpatchable errors|unusable view")
+
 
 class Usage(Exception):
     """Wrong words, or a file that cannot be read."""
@@ -27,12 +30,14 @@ class Said(Exception):
 
 def main(words, top, usage):
     """Runs the bridge, and gives its exit status."""
+    closed = [it for it in (0, 1, 2) if held_open(it)]
     try:
         text, notes = Bridge(words, top, usage).written()
         for it in notes:
             tell(it)
-        sys.stdout.buffer.write(text.encode("utf-8", "surrogateescape"))
-        sys.stdout.buffer.flush()
+        if 1 in closed:
+            raise OSError("standard output is closed")
+        write(1, text)
         return 0
     except (Usage, ask.Missing) as it:
         tell(str(it))
@@ -44,19 +49,34 @@ def main(words, top, usage):
     except source.Refused as it:
         tell(sentence(it))
         return 1
-    except (OSError, ValueError) as it:
+    except OSError as it:
         tell(f"the text could not be written: {it}")
-        # So that nothing is tried again at the end.
-        os.dup2(os.open(os.devnull, os.O_WRONLY), 1)
         return 7
 
 
-def tell(text):
-    """Says something on standard error, where that is open."""
+def held_open(stream):
+    """Whether this stream of the process was closed; then nothing else is opened in its place."""
     try:
-        sys.stderr.buffer.write(f"from-maude: {text}\n".encode("utf-8", "surrogateescape"))
-        sys.stderr.buffer.flush()
-    except (OSError, ValueError, AttributeError):
+        os.fstat(stream)
+        return False
+    except OSError:
+        while os.open(os.devnull, os.O_RDWR) < stream:
+            pass
+        return True
+
+
+def write(stream, text):
+    """Writes the whole text to a stream of the process."""
+    left = text.encode("utf-8", "surrogateescape")
+    while left:
+        left = left[os.write(stream, left):]
+
+
+def tell(text):
+    """Says something on standard error, where that can be written."""
+    try:
+        write(2, f"from-maude: {text}\n")
+    except OSError:
         pass
 
 
@@ -182,7 +202,8 @@ class Bridge:
     def module_faults(self, warned, program):
         """The faults that Maude found in what was asked for, one for each statement."""
         faults, group = [], []
-        for it in [it for it in warned if self.counts(it, program)]:
+        heeded = [it for it in warned if self.counts(it, program)]
+        for it in [it for it in heeded if not FOLLOWS.search(it.text)] or heeded:
             if group and (group[-1][:4] != it[:4] or group[-1].text.startswith("no parse for statement")):
                 faults.append(self.warned_fault(group))
                 group = []
@@ -211,18 +232,20 @@ class Bridge:
             if head.startswith(("no parse for statement", "multiple distinct parses for statement")) or head.endswith(":") and rest:
                 statement = rest
             words.append(head.strip(" .:"))
+        if own and not statement:
+            statement = self.sources.statement_at(file, group[0].line)
         reason = "Maude does not read it as it stands: " + "; ".join(dict.fromkeys(it for it in words if len(words) == 1 or it != "no parse for statement"))
-        return source.Refused(reason + self.hint(" ".join(words) + " " + statement), statement, file or self.module, group[0].line if file else 0)
+        bad = [it for one in words for it in re.findall(r"(?:bad token|undeclared sort) (\S+)", one)]
+        return source.Refused(reason + self.hint([*bad, *statement.split()]), statement, file or self.module, group[0].line if file else 0)
 
-    def hint(self, text):
-        """The word of BOOL that the text has, where no module has it."""
-        if "BOOL" in self.met:
-            return ""
+    def hint(self, words):
+        """The first of these words that only BOOL has, where no module has it; or a sign that is a part of a word."""
+        joined = next((it for it in words if len(it) > 2 and ("=?" in it or "/\\" in it) and it not in self.met), "")
+        if joined:
+            return f"; write spaces around `=?` and `/\\`, where {joined} is no name"
         mine = {piece for it in self.met if "_" in it for piece in it.split("_")} | self.met_operators()
-        words = [it for it in re.split(r"[\s()\[\],.]+", text) if it in rules.BOOLEAN and it not in mine]
-        bad = re.findall(r"bad token (\S+?)\.?(?=[;\s]|$)", text)
-        word = next((it for it in [*bad, *words] if it in words), "")
-        return f"; `{word}` needs BOOL, which fvn leaves out" if word else ""
+        word = next((it for it in words if it in rules.BOOLEAN and it not in mine), "")
+        return f"; `{word}` needs BOOL, which fvn leaves out" if word and "BOOL" not in self.met else ""
 
     def met_operators(self):
         """The names of operators of the modules that are asked for."""
@@ -232,9 +255,11 @@ class Bridge:
         """The fault of a term that Maude does not read, or reads in two ways."""
         if said and not warned:
             return []
-        words = "; ".join(it.text.partition("\n")[0].strip(" .:") for it in warned) or "it has no answer"
+        words = [it.text.partition("\n")[0].strip(" .:") for it in warned] or ["it has no answer"]
+        said = "; ".join(dict.fromkeys(it for it in words if len(words) == 1 or it != "no parse for term"))
+        bad = [it for one in words for it in re.findall(r"bad token (\S+)", one)]
         text = " ".join(it.text for it in term)
-        return [source.Refused(f"Maude does not read this term: {words}" + self.hint(words + " " + text), text)]
+        return [source.Refused(f"Maude does not read this term: {said}" + self.hint([*bad, *text.split()]), text)]
 
     def ruled(self, said):
         """The text for fvn, where no statement of the module is left out."""
@@ -242,7 +267,7 @@ class Bridge:
             self.flat = flat.Flat(said)
             if self.flat.header[0] not in ("fmod", "mod", "omod"):
                 raise source.Refused(f"{self.flat.header[0]} {self.module} is no module of sorts, operators and equations", file=self.file)
-            name = self.asked_name if len(self.name) == 1 else flat.quoted("".join(it.text for it in self.name))
+            name = self.asked_name if len(self.name) == 1 else flat.quoted(self.module)
             ruled = rules.Ruled(self.flat, name)
         except flat.Unlike as it:
             raise source.Refused(f"Maude's answer is not understood: {it}", file=self.file) from None

@@ -5,7 +5,7 @@ from .flat import quoted_sorts
 
 # Attributes of operators that fvn takes, that say nothing of the equations, and that are put in other words.
 TAKEN = {"assoc", "comm", "id:", "ctor", "prec", "gather", "format"}
-DROPPED = {"memo", "frozen", "strat", "metadata", "latex", "config", "object", "obj", "message", "msg", "portal"}
+DROPPED = {"memo", "frozen", "metadata", "latex", "config", "object", "obj", "message", "msg", "portal"}
 # Built-in constants that are no more than their names.
 PLAIN = re.compile(r"\(\s*id-hook System(True|False)\s*\)")
 FORMS = {"mb": "memberships are left out by fvn", "cmb": "memberships are left out by fvn",
@@ -76,6 +76,8 @@ class Ruled:
         for name, more in operator.attributes:
             if name in TAKEN:
                 kept.append((name, more))
+            elif name == "strat":
+                self.strategy(statement, operator, more)
             elif name in DROPPED or name == "special":
                 self.drop(statement, f"{name} of {operator.name} is dropped")
             elif name == "iter":
@@ -84,6 +86,16 @@ class Ruled:
                 self.faults.append(Fault(statement, f"fvn leaves out the attribute {name}"))
         self.judge_axioms(statement, operator)
         self.write(statement, operator.text(kept))
+
+    def strategy(self, statement, operator, more):
+        """Drops a strategy that rewrites the arguments and then the whole, or in a module without equations any."""
+        order = more.strip("()").split()
+        if order == [*map(str, range(1, len(operator.arguments) + 1)), "0"]:
+            return
+        if self.flat.equations and (order[-1:] != ["0"] or len(set(order)) <= len(operator.arguments)):
+            self.faults.append(Fault(statement, f"its strategy {more} does not rewrite every argument and then the whole, and fvn rewrites everywhere"))
+        else:
+            self.drop(statement, f"strat of {operator.name} is dropped")
 
     def judge_axioms(self, statement, operator):
         """Tells of axioms that fvn leaves out."""

@@ -177,6 +177,12 @@ class Sources:
         """The part in which a line of a file stands."""
         return next((it for it in self.parts if it.file == file and it.line <= line <= it.tokens[-1].line), None)
 
+    def statement_at(self, file, line):
+        """The statement that stands on this line, where it is one alone."""
+        part = self.part_at(file, line)
+        found = [it for it in part.statements() if it[0].line <= line <= it[-1].line] if part else []
+        return " ".join(it.text for it in found[0]) + " ." if len(found) == 1 else ""
+
 
 class Copy:
     """A text of which some pieces are kept, or replaced, where they stand, and the rest is blank but for its line ends."""
