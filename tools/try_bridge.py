@@ -5,9 +5,9 @@
 
 For each module of examples/mixfix and its problems, the following must hold. The bridge ends with 0, and where
 examples/flattened has the texts, it writes these. Maude reads what it writes again as the same module and the same
-problems. Maude's `irredundant unify`, asked over the user's file, counts as many unifiers as `fvn unify` over the text.
-`fvn verify` says yes to Maude's unifiers, as Maude prints them and the bridge reads them, and to its own answers, written
-in the syntax of the module by the bridge and read by it again.
+problems. Maude's `irredundant unify`, asked over the user's file, counts as many unifiers as `fvn unify` over the
+text. `fvn verify` says yes to Maude's unifiers, as Maude prints them and the bridge reads them, and to its own answers,
+written in the syntax of the module by the bridge and read by it again.
 
 For each case of examples/mixfix/cases, the call in its first lines must end with the status that stands there, standard
 error must have the words behind `says:`, and where it ends with 0 standard output the lines behind `writes:`.
@@ -28,6 +28,8 @@ sys.dont_write_bytecode = True
 from maude_bridge import ask  # noqa: E402
 
 MIXFIX, FLATTENED = f"{TOP}/examples/mixfix", f"{TOP}/examples/flattened"
+# What the first lines of a case tell.
+TOLD = ("call", "status", "says", "writes", "without", "needs")
 # So many unifiers of a problem are verified.
 MOST = 12
 
@@ -35,7 +37,7 @@ MOST = 12
 def ran(words, text="", **more):
     """The status, the standard output and the standard error of a command."""
     done = subprocess.run(words, input=text.encode(), stdout=subprocess.PIPE, stderr=subprocess.PIPE, check=False, **more)
-    return done.returncode, done.stdout.decode(errors="surrogateescape"), done.stderr.decode(errors="surrogateescape")
+    return done.returncode, *(it.decode(errors="surrogateescape") for it in (done.stdout, done.stderr))
 
 
 def bridge(*words, text=""):
@@ -72,7 +74,8 @@ class Module:
             self.compare(text, lines.splitlines())
             self.again(text, lines.splitlines())
             self.count(text, lines.splitlines())
-        return f"{self.name}: {len(self.problems)} problems, {self.unifiers} unifiers: {'; '.join(self.faults) or 'all hold'}"
+        held = "; ".join(self.faults) or "all hold"
+        return f"{self.name}: {len(self.problems)} problems, {self.unifiers} unifiers: {held}"
 
     def compare(self, text, lines):
         """Compares with the texts of examples/flattened."""
@@ -101,10 +104,12 @@ class Module:
                 continue
             status, answer, _ = ran([self.program, "unify", line], text)
             told = answer.splitlines()
-            self.expect(f"unifiers of {problem}", (status, told[-1:]), (0 if unifiers else 1, [f"complete {len(unifiers)}"]))
+            wanted = f"complete {len(unifiers)}"
+            self.expect(f"unifiers of {problem}", (status, told[-1:]), (0 if unifiers else 1, [wanted]))
             self.verify(problem, line, text, "\n\n".join(unifiers[:MOST]))
-            status, mixed, said = bridge("--mixfix", self.file, self.module, text="\n".join(told[:-1][:MOST] + told[-1:]) + "\n")
-            self.expect(f"answers to {problem} in the syntax of the module", (status, mixed.splitlines()[-1:]), (0, told[-1:]))
+            answer = "\n".join(told[:-1][:MOST] + told[-1:]) + "\n"
+            status, mixed, said = bridge("--mixfix", self.file, self.module, text=answer)
+            self.expect(f"answers to {problem} written back", (status, mixed.splitlines()[-1:]), (0, told[-1:]))
             self.verify(problem, line, text, *mixed.splitlines()[:-1])
 
     def maudes(self, lines):
@@ -115,11 +120,13 @@ class Module:
         found = []
         for problem, line in zip(self.problems, lines):
             for asked in (problem.strip().removesuffix(" ."), line):
-                text = "\n".join(["set include BOOL off .", f"load {os.path.basename(self.file)}", *head, f"select {name} .", f"irredundant unify {asked} .", ""])
+                text = "\n".join(["set include BOOL off .", f"load {os.path.basename(self.file)}", *head,
+                                  f"select {name} .", f"irredundant unify {asked} .", ""])
                 said = ran([*self.maude, *ask.FLAGS], text, cwd=MIXFIX, env=ask.environment_of(self.maude, MIXFIX))[1]
                 answer = re.search(r"^irredundant unify in .*", said, re.M | re.S)
                 if answer:
-                    found.append(["Unifier" + it for it in re.split(r"^Unifier", answer[0].replace("\nBye.", ""), flags=re.M)[1:]])
+                    parts = re.split(r"^Unifier", answer[0].replace("\nBye.", ""), flags=re.M)
+                    found.append(["Unifier" + it for it in parts[1:]])
                     break
         return found
 
@@ -136,7 +143,7 @@ class Module:
 def case(path, program):
     """Runs a case, and gives the line that tells of it and whether it holds."""
     text = read(path)
-    told = {it: re.findall(rf"^--- {it}: (.*)", text, re.M) for it in ("call", "status", "says", "writes", "without", "needs")}
+    told = {it: re.findall(rf"^--- {it}: (.*)", text, re.M) for it in TOLD}
     words = [it.replace("<tab>", "\t").replace("<line>", "\n") for it in shlex.split(told["call"][0])]
     status, out, said = ran([f"{TOP}/from-maude", *words], cwd=os.path.dirname(path))
     faults = [] if status == int(told["status"][0]) else [f"status {status} ({said.strip()})"]
@@ -155,7 +162,8 @@ def streams():
     with tempfile.TemporaryDirectory(prefix="a folder ") as folder:
         shutil.copy(f"{MIXFIX}/vending.maude", f"{folder}/a file.maude")
         os.symlink(f"{TOP}/from-maude", f"{folder}/from-maude")
-        rows = [("a path with spaces", 'exec ./from-maude "a file.maude" VENDING "M =? q"', 0), ("a folder as file", "exec ./from-maude . VENDING", 2),
+        rows = [("a path with spaces", 'exec ./from-maude "a file.maude" VENDING "M =? q"', 0),
+                ("a folder as file", "exec ./from-maude . VENDING", 2),
                 ("no file", "exec ./from-maude none.maude VENDING", 2), ("no words", "exec ./from-maude", 2),
                 ("no Maude", 'FVN_MAUDE=no-such-maude exec ./from-maude "a file.maude" VENDING', 2),
                 ("an output that is closed", 'exec ./from-maude "a file.maude" VENDING >&-', 7),
@@ -181,20 +189,24 @@ def main(words):
         print(f"{it}: nothing is tried")
         return 2
     program, held, failed = built(), 0, 0
-    names = sorted(it[:-6] for it in os.listdir(MIXFIX) if it.endswith(".maude"))
-    cases = sorted(it for it in os.listdir(f"{MIXFIX}/cases") if it.endswith(".maude"))
-    rows = [lambda it=it: (lambda one: (one.tried(), not one.faults))(Module(it, maude, program)) for it in names if not words or any(w in it for w in words)]
-    rows += [lambda it=it: case(f"{MIXFIX}/cases/{it}", program) for it in cases if not words or any(w in it for w in words)]
-    for line, holds in told(rows, words):
+    for line, holds in tries(words, maude, program):
         print(line, flush=True)
         held, failed = held + holds, failed + (not holds)
-    print(f"{held} hold, {failed} do not" + ("" if program else "; there is no program fvn, and what it would say was not compared"))
+    print(f"{held} hold, {failed} do not" + ("" if program else "; there is no program fvn to compare with"))
     return 1 if failed else 0
 
 
-def told(rows, words):
-    for it in rows:
-        yield it()
+def tries(words, maude, program):
+    """Tries one after the other, and gives the line of each and whether it holds."""
+    for folder in (MIXFIX, f"{MIXFIX}/cases"):
+        for it in sorted(os.listdir(folder)):
+            if not it.endswith(".maude") or words and not any(word in it for word in words):
+                continue
+            if folder == MIXFIX:
+                one = Module(it[:-6], maude, program)
+                yield one.tried(), not one.faults
+            else:
+                yield case(f"{folder}/{it}", program)
     if not words:
         yield from streams()
 

@@ -16,7 +16,7 @@ class Missing(Exception):
 
 
 class Warned(NamedTuple):
-    """A warning of Maude: the file, or the number of the question (none: -1), the line, the module or view, and its words."""
+    """A warning of Maude: its file, or the number of a question (none: -1), the line, what it speaks of, and its words."""
     file: str
     question: int
     line: int
@@ -34,13 +34,13 @@ def command_of(words):
     command = shlex.split(words)
     program = shutil.which(command[0]) if command else None
     if not program:
-        raise Missing(f"there is no command {words}: install Maude (https://maude.cs.illinois.edu, or the package maude "
-                      "of Debian), or name it in FVN_MAUDE")
+        raise Missing(f"there is no command {words}: install Maude (https://maude.cs.illinois.edu, or the package "
+                      "maude of Debian), or name it in FVN_MAUDE")
     return [os.path.abspath(program), *command[1:]]
 
 
 def environment_of(command, folder):
-    """The environment of Maude in this folder: its library is that which lies beside its program, where nothing else is said."""
+    """The environment of Maude in this folder: its library is that beside its program, where nothing else is said."""
     found = {**os.environ, "PWD": folder}
     for word in command:
         beside = os.path.join(os.path.dirname(os.path.dirname(os.path.realpath(word))), "share", "maude")

@@ -1,19 +1,16 @@
-"""The bridge itself: from the words of the command line to the text that fvn takes, or to the reasons why there is none."""
+"""The bridge itself: from the words of the command line to a text that fvn takes, or to the reasons why not."""
 import os
-import re
 import shutil
 import subprocess
 import sys
 import tempfile
 
-from . import ask, flat, places, rules, source, texts
+from . import ask, flat, heed, places, rules, source, texts, told
 
+# The name of the module that stands for an expression.
 WRAPPER = "FVN-ASKED"
-# Warnings that speak of sorts alone, where each statement was read all the same; fvn tests what they say.
-READ = re.compile(r"sort declarations for .*|superfluous \[\] notation in operation declaration.*", re.S)
-
-# Warnings that follow from others.
-FOLLOWS = re.compile(r"could not be patched up|unpatchable errors|unusable view")
+# The kinds of modules that go in.
+SHOWN = ("fmod", "mod", "omod")
 
 
 class Usage(Exception):
@@ -21,7 +18,7 @@ class Usage(Exception):
 
 
 class Said(Exception):
-    """The text is not written, for these reasons."""
+    """Nothing is written, for these reasons."""
 
     def __init__(self, faults):
         super().__init__(len(faults))
@@ -30,15 +27,10 @@ class Said(Exception):
 
 def main(words, top, usage):
     """Runs the bridge, and gives its exit status."""
+    sys.setrecursionlimit(6000)
     closed = [it for it in (0, 1, 2) if held_open(it)]
     try:
         text, notes = Bridge(words, top, usage).written()
-        for it in notes:
-            tell(it)
-        if 1 in closed:
-            raise OSError("standard output is closed")
-        write(1, text)
-        return 0
     except (Usage, ask.Missing) as it:
         tell(str(it))
         return 2
@@ -49,9 +41,19 @@ def main(words, top, usage):
     except source.Refused as it:
         tell(sentence(it))
         return 1
+    except RecursionError:
+        tell("a term is too deep")
+        return 1
+    for it in notes:
+        tell(it)
+    try:
+        if 1 in closed:
+            raise OSError("standard output is closed")
+        write(1, text)
     except OSError as it:
         tell(f"the text could not be written: {it}")
         return 7
+    return 0
 
 
 def held_open(stream):
@@ -87,6 +89,11 @@ def sentence(fault):
     return f"{place}{statement}{': ' if statement else ''}{fault.reason}"
 
 
+def stop(faults):
+    if faults:
+        raise Said(faults)
+
+
 class Bridge:
     """One call: its words, the user's sources, and what Maude said."""
 
@@ -99,211 +106,149 @@ class Bridge:
         self.file, self.module, self.said = words[0], words[1], words[2:]
         if os.path.isdir(self.file):
             raise Usage(f"{self.file} is a folder, and no file of Maude")
-        if not os.path.isfile(self.file) and not os.path.exists(self.file):
+        if not os.path.exists(self.file):
             raise Usage(f"there is no file {self.file}")
         self.command = ask.command_of(os.environ.get("FVN_MAUDE") or "maude")
+        self.program = self.found_program()
         self.name = source.tokens(self.module)
-        if not self.name:
-            raise Usage("the name of the module is empty")
+        if not self.name or {".", *source.ENDS.values()} & {it.text for it in self.name}:
+            raise Usage(f"`{self.module}` is no name of a module and no expression")
+        # The name by which Maude is asked.
+        self.asked = self.name[0].text if len(self.name) == 1 else WRAPPER
+
+    def found_program(self):
+        """The built program fvn, where there is one; the script of that name is none."""
+        named = os.environ.get("FVN_PROGRAM")
+        if named:
+            if not shutil.which(named):
+                raise Usage(f"FVN_PROGRAM is {named}, and there is no such program")
+            return os.path.abspath(shutil.which(named))
+        built = os.path.join("crates", "fvn", "out", "fvn")
+        if os.access(os.path.join(self.top, built), os.X_OK):
+            return os.path.join(self.top, built)
+        found = shutil.which("fvn")
+        beside = os.path.dirname(os.path.realpath(found)) if found else ""
+        if found and os.path.isdir(os.path.join(beside, "crates")):
+            found = shutil.which(os.path.join(beside, built))
+        return os.path.abspath(found) if found else None
 
     def written(self):
         """The text for standard output, and what is to be said beside it."""
-        program = self.program()
         with tempfile.TemporaryDirectory(prefix="from-maude-") as folder:
             try:
                 self.sources = source.Sources(self.file, folder)
             except OSError as it:
                 raise Usage(f"{it.filename or self.file} cannot be read: {it.strerror}") from None
-            known, self.met = self.sources.reach([it.text for it in self.name])
-            self.known = known
+            known, met = self.sources.reach([it.text for it in self.name])
             self.places = places.Places(self.sources, known, self.name)
+            self.heed = heed.Heed(self.sources, known, met, self.places.operator_names())
             self.judge_name()
             lines = self.mixed_lines() if self.mixfix else [it for one in self.said for it in texts_of(one)]
-            answers = self.answers(folder, [it for it in lines if isinstance(it, texts.Text)], program)
+            answers = self.answers(folder, [it for it in lines if isinstance(it, texts.Text)])
         ruled = self.ruled(answers[0])
         if self.mixfix:
-            return "".join(f"{it}\n" for it in self.mixed(lines, answers[1:])), []
-        self.check(program, ruled)
+            written = self.mixed(lines, answers[1:])
+            return "".join(f"{it}\n" for it in written), []
+        self.check(ruled)
         if not self.said:
             return ruled.text(), self.notes(ruled)
-        return "".join(f"{it}\n" for it in self.prefixed(lines, answers[1:], ruled, program)), []
-
-    def program(self):
-        """The built program fvn, where there is one; the script of that name is none."""
-        named = os.environ.get("FVN_PROGRAM")
-        if named:
-            found = shutil.which(named)
-            if not found:
-                raise Usage(f"FVN_PROGRAM is {named}, and there is no such program")
-            return os.path.abspath(found)
-        built = os.path.join(self.top, "crates", "fvn", "out", "fvn")
-        if os.access(built, os.X_OK):
-            return built
-        found = shutil.which("fvn")
-        if found and os.path.isdir(os.path.join(os.path.dirname(os.path.realpath(found)), "crates")):
-            found = shutil.which(os.path.join(os.path.dirname(os.path.realpath(found)), "crates", "fvn", "out", "fvn"))
-        return os.path.abspath(found) if found else None
+        return "".join(f"{it}\n" for it in self.prefixed(lines, answers[1:], ruled)), []
 
     def judge_name(self):
-        """Refuses a module with parameters, a theory and a view, and tells which modules there are."""
-        part = self.sources.named(self.name[0].text) if len(self.name) == 1 else None
-        if not part:
-            return
-        reason = ""
-        if part.kind in ("fth", "th", "oth", "sth", "smod", "view"):
+        """Refuses a module with parameters, a theory and a view."""
+        part = self.sources.named(self.asked)
+        if part and part.kind not in SHOWN:
             reason = f"{part.kind} {part.name} is no module of sorts, operators and equations"
-        elif part.parameters:
-            reason = (f"{part.name} has the parameter {part.parameters.replace(' ,', ',')}: name an instance, as `{part.name}{{V}}`, with a view V")
-        if reason:
             raise source.Refused(reason, file=part.file, line=part.line)
+        if part and part.parameters:
+            raise source.Refused(instance_of(part.name, part.parameters), file=part.file, line=part.line)
 
     def mixed_lines(self):
         """The lines to be written back: those in braces as bindings, the others as they are."""
-        lines = self.said or sys.stdin.buffer.read().decode("utf-8", "surrogateescape").splitlines()
+        lines = self.said or sys.stdin.buffer.read().decode("utf-8", "surrogateescape").split("\n")
+        lines = lines[:-1] if lines[-1:] == [""] else lines
         return [texts_of(it)[0] if it.startswith("{") else it for it in lines]
 
-    def answers(self, folder, lines, program):
+    def answers(self, folder, lines):
         """What Maude answers: the flattened module, and for each line its terms."""
-        name, head = self.name[0].text, ["set include BOOL off .", "load 0.maude"]
-        if len(self.name) > 1:
-            name = WRAPPER
+        head = ["set include BOOL off .", "load 0.maude"]
+        if self.asked == WRAPPER:
             head.append(f"mod {WRAPPER} is including {' '.join(it.text for it in self.name)} . endm")
-        head += ["set print mixfix off .", f"select {name} ."]
+        head += ["set print mixfix off .", f"select {self.asked} ."]
         terms = [term for line in lines for term in line.terms]
         questions = ["show all .", f"set print mixfix {'on' if self.mixfix else 'off'} ."]
         questions += [f"parse ( {' '.join(it.text for it in term)} ) ." for term in terms]
         said, warned = ask.asked(self.command, folder, head, questions)
-        self.asked_name = name
-        faults = self.module_faults([it for it in warned if it.question < 2], program)
-        if not faults and said[0].split()[1:2] != [name]:
-            faults = [self.missing(said[0], warned)]
-        self.stop(faults)
-        self.stop([fault for n, it in enumerate(terms) for fault in self.term_faults(it, said[n + 2], [w for w in warned if w.question == n + 2])])
-        rows, at = [said[0]], 2
+        stop(self.heed.module_faults([it for it in warned if it.question < 2], self.program))
+        if said[0].split()[1:2] != [self.asked]:
+            raise self.missing(said[0], warned)
+        faults = []
+        for n, term in enumerate(terms, 2):
+            speaks = [it for it in warned if it.question == n]
+            if speaks or not said[n]:
+                faults.append(self.heed.term_fault(term, speaks))
+        stop(faults)
+        rows, left = [said[0]], said[2:]
         for line in lines:
-            rows.append(said[at:at + len(line.terms)])
-            at += len(line.terms)
+            rows.append(left[:len(line.terms)])
+            left = left[len(line.terms):]
         return rows
 
     def missing(self, said, warned):
         """Why Maude shows another module, or none."""
-        name = self.module
-        if said.split()[1:2] and said.split()[1].startswith(name + "{"):
-            return source.Refused(f"{name} has a parameter: name an instance, as `{name}{{V}}`, with a view V")
-        if any(re.match(r"no module|module .* does not exist", it.text) for it in warned) or not warned:
-            there = ", ".join(dict.fromkeys(it.name for it in self.sources.parts if it.kind in ("fmod", "mod", "omod")))
-            raise Usage(f"there is no module {name} in {self.file}" + (f": it has {there}" if there else ""))
-        return source.Refused(f"Maude does not show {name}: " + "; ".join(it.text for it in warned), file=self.file)
-
-    def stop(self, faults):
-        if faults:
-            raise Said(faults)
-
-    def module_faults(self, warned, program):
-        """The faults that Maude found in what was asked for, one for each statement."""
-        faults, group = [], []
-        heeded = [it for it in warned if self.counts(it, program)]
-        for it in [it for it in heeded if not FOLLOWS.search(it.text)] or heeded:
-            if group and (group[-1][:4] != it[:4] or group[-1].text.startswith("no parse for statement")):
-                faults.append(self.warned_fault(group))
-                group = []
-            group.append(it)
-        return faults + ([self.warned_fault(group)] if group else [])
-
-    def counts(self, warned, program):
-        """Whether a warning speaks of what was asked for, and of more than what fvn tests."""
-        if READ.match(warned.text):
-            return not program and "superfluous" not in warned.text
-        own = re.fullmatch(r"([0-9]+)\.maude", warned.file)
-        if own:
-            part = self.sources.part_at(self.sources.files[int(own[1])], warned.line)
-            return not part or part.name in self.known
-        if warned.file:
-            return warned.name.split("{")[0] in self.met
-        return not re.match(r"no module", warned.text)
-
-    def warned_fault(self, group):
-        """One fault for the warnings of one statement."""
-        own = re.fullmatch(r"([0-9]+)\.maude", group[0].file)
-        file = self.sources.files[int(own[1])] if own else group[0].file
-        statement, words = "", []
-        for it in group:
-            head, _, rest = it.text.partition("\n")
-            if head.startswith(("no parse for statement", "multiple distinct parses for statement")) or head.endswith(":") and rest:
-                statement = rest
-            words.append(head.strip(" .:"))
-        if own and not statement:
-            statement = self.sources.statement_at(file, group[0].line)
-        reason = "Maude does not read it as it stands: " + "; ".join(dict.fromkeys(it for it in words if len(words) == 1 or it != "no parse for statement"))
-        bad = [it for one in words for it in re.findall(r"(?:bad token|undeclared sort) (\S+)", one)]
-        return source.Refused(reason + self.hint([*bad, *statement.split()]), statement, file or self.module, group[0].line if file else 0)
-
-    def hint(self, words):
-        """The first of these words that only BOOL has, where no module has it; or a sign that is a part of a word."""
-        joined = next((it for it in words if len(it) > 2 and ("=?" in it or "/\\" in it) and it not in self.met), "")
-        if joined:
-            return f"; write spaces around `=?` and `/\\`, where {joined} is no name"
-        mine = {piece for it in self.met if "_" in it for piece in it.split("_")} | self.met_operators()
-        word = next((it for it in words if it in rules.BOOLEAN and it not in mine), "")
-        return f"; `{word}` needs BOOL, which fvn leaves out" if word and "BOOL" not in self.met else ""
-
-    def met_operators(self):
-        """The names of operators of the modules that are asked for."""
-        return {name for _, names, _ in self.places.operators for name in names}
-
-    def term_faults(self, term, said, warned):
-        """The fault of a term that Maude does not read, or reads in two ways."""
-        if said and not warned:
-            return []
-        words = [it.text.partition("\n")[0].strip(" .:") for it in warned] or ["it has no answer"]
-        said = "; ".join(dict.fromkeys(it for it in words if len(words) == 1 or it != "no parse for term"))
-        bad = [it for one in words for it in re.findall(r"bad token (\S+)", one)]
-        text = " ".join(it.text for it in term)
-        return [source.Refused(f"Maude does not read this term: {said}" + self.hint([*bad, *text.split()]), text)]
+        if said.split()[1:2] and said.split()[1].startswith(self.module + "{"):
+            return source.Refused(instance_of(self.module, ""), file=self.file)
+        if not warned or any("no module" in it.text or "does not exist" in it.text for it in warned):
+            there = ", ".join(dict.fromkeys(it.name for it in self.sources.parts if it.kind in SHOWN))
+            return Usage(f"there is no module {self.module} in {self.file}{': it has ' if there else ''}{there}")
+        return source.Refused(f"Maude does not show {self.module}: {'; '.join(it.text for it in warned)}", file=self.file)
 
     def ruled(self, said):
         """The text for fvn, where no statement of the module is left out."""
         try:
             self.flat = flat.Flat(said)
-            if self.flat.header[0] not in ("fmod", "mod", "omod"):
-                raise source.Refused(f"{self.flat.header[0]} {self.module} is no module of sorts, operators and equations", file=self.file)
-            name = self.asked_name if len(self.name) == 1 else flat.quoted(self.module)
+            if self.flat.header[0] not in SHOWN:
+                reason = f"{self.flat.header[0]} {self.module} is no module of sorts, operators and equations"
+                raise source.Refused(reason, file=self.file)
+            name = self.asked if len(self.name) == 1 else flat.quoted(self.module)
             ruled = rules.Ruled(self.flat, name)
         except flat.Unlike as it:
             raise source.Refused(f"Maude's answer is not understood: {it}", file=self.file) from None
         if not self.mixfix:
-            self.stop(self.located(ruled.faults))
+            stop(self.located(ruled.faults))
         return ruled
 
     def located(self, faults):
-        """The faults with their places; those that only imports from Maude's own modules bring are told once."""
-        found, foreign = [], False
+        """The faults with their places; those that only imports of Maude's own modules bring are told once."""
+        found, foreign = [], []
         for it in faults:
             place = self.places.of(it.statement, self.flat) if it.statement else None
-            if not place and self.places.foreign:
-                foreign = True
-            else:
+            if place or not self.places.foreign:
                 file, line = place or (self.file, 0)
                 found.append(source.Refused(it.reason, it.statement, file, line))
-        for name, file, line in self.places.foreign if foreign else []:
-            found.append(source.Refused(f"it imports {name}, which fvn leaves out", "", file or self.file, line))
+            else:
+                foreign = self.places.foreign
+        for name, file, line in dict.fromkeys(foreign):
+            found.append(source.Refused(f"it imports {name}, which fvn leaves out", file=file or self.file, line=line))
         return found
 
-    def check(self, program, ruled):
+    def check(self, ruled):
         """Asks the program whether it takes the module."""
-        if not program:
+        if not self.program:
             return
-        status, line = ran([program, "check"], ruled.text())
+        status, line = ran([self.program, "check"], ruled.text())
         if status == 3:
-            self.stop(self.located([rules.Fault(ruled.statement_of(line), f"{rules.meaning(line)} (fvn says `{line}`)")]))
-        elif status != 0:
-            raise ask.Missing(f"{program} ended with status {status}: {line}")
+            reason = f"{told.meaning(line)} (fvn says `{line}`)"
+            stop(self.located([rules.Fault(ruled.statement_of(line), reason)]))
+        if status != 0:
+            raise ask.Missing(f"{self.program} ended with status {status}: {line}")
 
     def notes(self, ruled):
         """What was dropped of the module."""
         said = []
         if ruled.rules or self.flat.header[0] != "fmod" and len(self.name) == 1:
-            said.append(f"{self.module} is a system module: it is taken as the functional module of its signature and equations, without its rules ({ruled.rules})")
+            said.append(f"{self.module} is a system module: it is taken as the functional module of its signature and "
+                        f"equations, without its rules ({ruled.rules})")
         for statement, text in ruled.notes:
             place = self.places.of(statement, self.flat)
             said.append(f"{place[0]}, line {place[1]}: {text}" if place else text)
@@ -312,9 +257,10 @@ class Bridge:
     def mixed(self, lines, answers):
         """The lines of answers in the syntax of the module."""
         rows = iter(answers)
-        return [it if isinstance(it, str) else it.joined([one.partition(": ")[2] for one in next(rows)]) for it in lines]
+        return [it if isinstance(it, str) else it.joined([one.partition(": ")[2] for one in next(rows)])
+                for it in lines]
 
-    def prefixed(self, lines, answers, ruled, program):
+    def prefixed(self, lines, answers, ruled):
         """The texts in prefix form, each of which fvn reads."""
         done, problem = [], ""
         for line, row in zip(lines, answers):
@@ -328,7 +274,7 @@ class Bridge:
                 raise source.Refused(f"{gone} is built into Maude, and fvn leaves it out", line.said)
             if line.kind == "bindings":
                 self.judge_variables(terms[::2], line)
-            problem = self.read(line, row, written, problem, ruled, program)
+            problem = self.read(line, row, written, problem, ruled)
             done.append(written)
         return done
 
@@ -338,22 +284,28 @@ class Bridge:
             if it.arguments or ":" not in it.name[1:] and it.name not in self.flat.variables:
                 raise source.Refused(f"{it.name} is no variable, and stands in front of `-->`", line.said)
 
-    def read(self, line, row, written, problem, ruled, program):
+    def read(self, line, row, written, problem, ruled):
         """Asks the program whether it reads a text, and gives the problem that bindings behind it are for."""
-        sort = self.flat.sorts[0] if self.flat.sorts else ""
         if line.kind == "bindings":
-            words = [problem or f"V:{flat.quoted_sorts(sort)} =? V:{flat.quoted_sorts(sort)}", written]
+            any_ = f"V:{flat.quoted_sorts(self.flat.sorts[0])}" if self.flat.sorts else ""
+            words = [problem or f"{any_} =? {any_}", written]
         elif line.kind == "term":
-            words = [f"{written} =? V:{flat.quoted_sorts(rules.sort_in(row[0].partition(': ')[0]))}", "{}"]
+            sort = rules.sort_in(row[0].partition(": ")[0])
+            words = [f"{written} =? V:{flat.quoted_sorts(sort)}", "{}"]
         else:
             problem, words = written, [written, "{}"]
-        if program:
-            status, said = ran([program, "verify", *words, "--steps", "1"], ruled.text())
+        if self.program:
+            status, said = ran([self.program, "verify", *words, "--steps", "1"], ruled.text())
             if status == 4:
-                raise source.Refused(f"{rules.meaning(said)} (fvn says `{said}`)", line.said)
+                raise source.Refused(f"{told.meaning(said)} (fvn says `{said}`)", line.said)
             if status not in (0, 1, 5):
-                raise ask.Missing(f"{program} ended with status {status}: {said}")
+                raise ask.Missing(f"{self.program} ended with status {status}: {said}")
         return problem
+
+
+def instance_of(name, parameters):
+    has = f"the parameter {parameters.replace(' ,', ',')}" if parameters else "a parameter"
+    return f"{name} has {has}: name an instance, as `{name}{{V}}`, with a view V"
 
 
 def texts_of(said):
@@ -366,6 +318,10 @@ def texts_of(said):
 
 def ran(words, text):
     """The status of the program, and the last line that it writes."""
-    done = subprocess.run(words, input=text.encode("utf-8", "surrogateescape"), stdout=subprocess.PIPE, stderr=subprocess.DEVNULL, check=False)
+    try:
+        done = subprocess.run(words, input=text.encode("utf-8", "surrogateescape"), stdout=subprocess.PIPE,
+                              stderr=subprocess.DEVNULL, check=False)
+    except OSError as it:
+        raise ask.Missing(f"{words[0]} does not start: {it.strerror}") from None
     lines = done.stdout.decode("utf-8", "surrogateescape").splitlines()
     return done.returncode, lines[-1] if lines else ""

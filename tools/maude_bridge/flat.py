@@ -46,7 +46,7 @@ def quoted_sorts(text):
 
 
 def word_end(text, at):
-    """Where the word ends that begins here: at a space, a parenthesis or a comma that no backquote and no brace holds."""
+    """Where the word that begins here ends: at a space, a parenthesis or a comma that no backquote and no brace holds."""
     if text[at:at + 1] == '"':
         return re.compile(r'"(?:[^"\\]|\\.)*"?').match(text, at).end()
     depth = 0
@@ -168,7 +168,8 @@ class Equation(NamedTuple):
     def text(self, attributes, iterated):
         """The equation with these attributes in place of its own."""
         inside = " ".join(f"{name} {more}".strip() for name, more in attributes)
-        return f"eq {written(self.left, iterated)} = {written(self.right, iterated)}{f' [{inside}]' if inside else ''} ."
+        sides = f"{written(self.left, iterated)} = {written(self.right, iterated)}"
+        return f"eq {sides}{f' [{inside}]' if inside else ''} ."
 
 
 def operator_of(statement):
@@ -195,7 +196,7 @@ def equation_of(statement):
 
 
 class Flat:
-    """A flattened module as Maude prints it: its header, its statements, each a text, and the operators and equations among these."""
+    """A flattened module as Maude prints it: its header, its statements, each a text, and what some of these say."""
 
     def __init__(self, text):
         lines = text.split("\n")

@@ -5,9 +5,9 @@ from collections import Counter
 from .rules import FORMS
 
 IMPORTS = {"protecting", "pr", "including", "inc", "extending", "ex", "generated-by", "gb"}
-# Modules of Maude's prelude that go in: they declare sorts and constants alone, and what is dropped where nothing uses it.
+# Modules of Maude's prelude that go in: of sorts and constants alone, and of what is dropped where nothing uses it.
 PLAIN_MODULES = {"TRIV", "TRUTH-VALUE", "TRUTH"}
-BRACKETS = set("()[]{},")
+ATTRIBUTES = {"variant", "label", "owise", "otherwise", "nonexec", "metadata", "print"}
 
 
 class Places:
@@ -44,6 +44,9 @@ class Places:
         if re.fullmatch(r"[A-Z][A-Z0-9_-]+\??", word) and not sources.named(word) and word not in PLAIN_MODULES:
             self.foreign.append((word, file, line))
 
+    def operator_names(self):
+        return {name for _, names, _ in self.operators for name in names}
+
     def of_operator(self, operator):
         name = plain(operator.name)
         behind = plain("".join(operator.arguments) + "->" + operator.result)
@@ -77,7 +80,7 @@ def declared(texts):
     names = [*texts[1:colon]]
     words = {plain("".join(names))} if texts[0] == "op" else {*names, *re.findall(r"\(([^()]*)\)", "".join(names))}
     words |= {it[1:-1] for it in words if it.startswith("(") and it.endswith(")")}
-    behind, depth = [], 0
+    behind = []
     for n in range(colon + 1, len(texts)):
         if texts[n] == "[" and behind and behind[-1] not in ("->", "~>") and {"->", "~>"} & set(behind):
             break
@@ -100,7 +103,7 @@ def source_key(texts):
     if words[:1] == ["["] and words[2:4] == ["]", ":"]:
         words = words[4:]
     opens = [n for n, it in enumerate(words) if it == "["]
-    if words[-1:] == ["]"] and opens and {"variant", "label", "owise", "otherwise", "nonexec", "metadata", "print"} & set(words[opens[-1]:]):
+    if words[-1:] == ["]"] and opens and ATTRIBUTES & set(words[opens[-1]:]):
         words = words[:opens[-1]]
     equal = words.index("=") if "=" in words else len(words)
     return bare(words[:equal] + words[equal + 1:])

@@ -1,4 +1,4 @@
-"""What fvn leaves out of Maude's modules, what is dropped since no equation means anything else without it, and the words for it."""
+"""What fvn leaves out of Maude's modules, and what is dropped since no equation means anything else without it."""
 import re
 
 from .flat import quoted_sorts
@@ -13,7 +13,8 @@ FORMS = {"mb": "memberships are left out by fvn", "cmb": "memberships are left o
          "sd": "strategies are left out by fvn", "csd": "strategies are left out by fvn",
          "strat": "strategies are left out by fvn"}
 # The words of the statements of BOOL, of the module below it and of what these put into every module.
-BOOLEAN = {"==", "=/=", "if", "then", "else", "fi", "true", "false", "and", "or", "xor", "not", "implies", "and-then", "or-else", "Bool"}
+BOOLEAN = {"==", "=/=", "if", "then", "else", "fi", "true", "false", "and", "or", "xor", "not", "implies", "and-then",
+           "or-else", "Bool"}
 
 
 class Fault:
@@ -24,7 +25,7 @@ class Fault:
 
 
 class Ruled:
-    """The text of a flattened module for fvn: its lines, the statements that these come from, what was dropped, and the faults."""
+    """The text of a flattened module for fvn: its lines, the statements of each, what was dropped, and the faults."""
 
     def __init__(self, flat, name):
         self.flat = flat
@@ -82,7 +83,7 @@ class Ruled:
                 self.drop(statement, f"{name} of {operator.name} is dropped")
             elif name == "iter":
                 self.drop(statement, f"iter of {operator.name} is dropped: each use of it is written out")
-            else:
+            elif name not in ("left id:", "right id:"):
                 self.faults.append(Fault(statement, f"fvn leaves out the attribute {name}"))
         self.judge_axioms(statement, operator)
         self.write(statement, operator.text(kept))
@@ -93,7 +94,8 @@ class Ruled:
         if order == [*map(str, range(1, len(operator.arguments) + 1)), "0"]:
             return
         if self.flat.equations and (order[-1:] != ["0"] or len(set(order)) <= len(operator.arguments)):
-            self.faults.append(Fault(statement, f"its strategy {more} does not rewrite every argument and then the whole, and fvn rewrites everywhere"))
+            self.faults.append(Fault(statement, f"its strategy {more} does not rewrite every argument and then the whole, "
+                                                "and fvn rewrites everywhere"))
         else:
             self.drop(statement, f"strat of {operator.name} is dropped")
 
@@ -101,7 +103,8 @@ class Ruled:
         """Tells of axioms that fvn leaves out."""
         if operator.has("assoc") and not operator.has("comm"):
             self.faults.append(Fault(statement, "fvn takes `assoc` only beside `comm`"))
-        elif any(it in ("id:", "left id:", "right id:") for it, _ in operator.attributes) and not (operator.has("assoc") and operator.has("comm") and operator.has("id:")):
+        one_sided = operator.has("left id:") or operator.has("right id:")
+        if one_sided or operator.has("id:") and not (operator.has("assoc") and operator.has("comm")):
             self.faults.append(Fault(statement, "fvn takes an identity only as `assoc comm id:`"))
 
     def equation(self, statement, equation):
@@ -121,14 +124,16 @@ class Ruled:
         for line, statement in zip(self.lines, self.origins):
             odd = next((it for it in line.split() if not it.isascii()), None)
             if odd:
-                self.faults.append(Fault(statement, f"the name {odd} has a byte outside ASCII, which fvn reads in comments alone"))
+                reason = f"the name {odd} has a byte outside ASCII, which fvn reads in comments alone"
+                self.faults.append(Fault(statement, reason))
         kinds, first = kinds_of(self.flat), {}
         for statement, operator in self.flat.operators.items():
             if operator.name in self.gone:
                 continue
             shape = ([kinds.get(sort_in(it)) for it in operator.arguments], kinds.get(sort_in(operator.result)))
             if first.setdefault(operator.name, shape) != shape:
-                self.faults.append(Fault(statement, f"the name {operator.name} is in two kinds, or has two numbers of arguments; fvn takes one of each name"))
+                reason = f"the name {operator.name} is in two kinds, or has two numbers of arguments, and fvn takes one"
+                self.faults.append(Fault(statement, reason))
 
     def text(self):
         return "\n".join(self.lines) + "\n"
@@ -172,47 +177,3 @@ def kinds_of(flat):
             old = {kind[it] for it in joined}
             kind.update({it: kind[joined[0]] for it in kind if kind[it] in old})
     return kind
-
-
-# What the lines mean with which `fvn check` refuses a module.
-LEFT_OUT = {"import": "imports are left out", "membership": "memberships are left out", "condition": "conditions are left out",
-            "rule": "rules are left out", "name": "the name of an operator is one word", "assoc": "`assoc` stands only beside `comm`",
-            "identity": "an identity stands only as `assoc comm id:`", "attribute": "it has an attribute that is left out",
-            "equation": "equations are for unification only: write `[variant]`"}
-FAULTS = [(r"module 14", "the text has over 1,048,576 bytes"),
-          (r"module 1 .*", "a byte outside ASCII may stand in comments alone"),
-          (r"module 3 .*", "it is not read as a statement"),
-          (r"module 4 .*", "a sort or a name means nothing there"),
-          (r"module 5 .*", "a variable has two sorts, or the name of a constant"),
-          (r"module 9\.9", "it has over 64 sorts or 256 operators, or an operator of over 8 arguments"),
-          (r"module 9\.1 (.*)", r"sort \1 is below itself"),
-          (r"module 9\.2 (.*)", r"the declarations of \1 differ in the number or the kinds of arguments"),
-          (r"module 9\.3 (.*)", r"the axioms of \1 ask for two arguments of one kind, and `assoc` for a result of that kind"),
-          (r"module 9\.4 (.*)", r"the declarations of \1 differ in their axioms"),
-          (r"module 9\.5 (.*)", r"the identity of \1 is no constant of its kind"),
-          (r"module 9\.6 (\S+) (.*)", r"over the sorts \2 the operator \1 has no least result"),
-          (r"module 9\.7 (\S+) (.*)", r"the sort of a sum of \2 by \1 depends on its brackets"),
-          (r"module 9\.8 (\S+) (.*)", r"\2 is not at or below the sort of its sum by \1 with the identity"),
-          (r"module 6 .*", "an operator has a wrong number of arguments"),
-          (r"module 7 .*", "an argument or a side is of a wrong kind"),
-          (r"module 11 .*", "its right side has a variable that its left side has not"),
-          (r"module 13 statement .*", "it is the 257th equation"),
-          (r"module 13 equation .*", "a side has over 400 symbols, or its left side too many instances"),
-          (r"module 10 .*", "its left side becomes a variable, where some variables are identities"),
-          (r"module 12 .*", "its left side becomes an identity, where some variables are identities; drop `id:`, and write equations for it"),
-          (r"problem 1", "a byte outside ASCII may stand in comments alone"),
-          (r"problem 2", "it has not the form of a problem or of bindings, or binds a variable twice"),
-          (r"problem 3", "a name means nothing"),
-          (r"problem 4", "an operator has a wrong number of arguments"),
-          (r"problem 5", "an argument or a side is of a wrong kind"),
-          (r"problem 6", "the sides together have over 400 symbols, or a bound term over 1,000"),
-          (r"problem 7", "a variable of the problem begins with #"),
-          (r"problem 8", "a term is not of the sort of its variable")]
-
-
-def meaning(line):
-    """The sentence for a line with which fvn refuses a text."""
-    match = re.fullmatch(r"module 8 statement \d+ (\w+)", line)
-    if match:
-        return LEFT_OUT.get(match[1], "it is left out")
-    return next((re.fullmatch(form, line).expand(words) for form, words in FAULTS if re.fullmatch(form, line)), "it is refused")

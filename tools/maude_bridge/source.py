@@ -10,11 +10,14 @@ MODULES = {"fmod": "endfm", "mod": "endm", "omod": "endom", "fth": "endfth", "th
            "smod": "endsm", "sth": "endsth"}
 ENDS = {**MODULES, "view": "endv"}
 LINES = {"load", "in", "sload", "quit", "q", "eof", "cd", "pushd", "popd", "ls", "pwd"}
+SETTINGS = {"protect", "extend", "include", "oo"}
 STATEMENTS = {"protecting", "pr", "including", "inc", "extending", "ex", "generated-by", "gb", "sort", "sorts",
               "subsort", "subsorts", "op", "ops", "var", "vars", "mb", "cmb", "eq", "ceq", "cq", "rl", "crl", "class",
               "classes", "subclass", "subclasses", "msg", "msgs", "strat", "strats", "sd", "csd"}
 PIECE = re.compile(r'[ \t\r\f\v]+|\n|(?:\*\*\*|---)[ \t]*\(|(?:\*\*\*|---)[^\n]*|[()\[\]{},]'
                    r'|(?:"(?:[^"\\\n]|\\.)*"|`[\S]|[^\s()\[\]{},"`]|"|`)+')
+
+FILE = re.compile(r'\s*(?:"((?:[^"\\]|\\.)*)"|((?:\\.|[^\s\\"])+))')
 
 
 class Refused(Exception):
@@ -72,7 +75,7 @@ class Part(NamedTuple):
     def parameters(self):
         """What stands in the braces behind the name, or nothing."""
         words = [it.text for it in self.tokens]
-        if words[2:3] != ["{"]:
+        if words[2:3] != ["{"] or "}" not in words:
             return ""
         return " ".join(words[3:words.index("}")])
 
@@ -107,6 +110,8 @@ class Sources:
         self.folder = folder
         self.files = []
         self.parts = []
+        # What settings import into all modules.
+        self.everywhere = []
         self.over = False
         self.copy(file, [])
 
@@ -143,12 +148,14 @@ class Sources:
             else:
                 command = reader.command()
                 words = [it.text for it in command]
-                if words[0] == "set" and words[1:2] and words[1] in ("protect", "extend", "include", "oo") and "BOOL" not in words:
+                if words[0] == "set" and words[1:2] and words[1] in SETTINGS and "BOOL" not in words:
                     kept.keep(command[0].start, command[-1].end)
+                    self.everywhere += words[2:]
 
     def load(self, words, file, kept, above):
         """A load of a file that is found beside the one that loads it; one that is not is left to Maude."""
-        name = kept.source[words[0].end:words[-1].end].strip().strip('"')
+        quoted = FILE.match(kept.source[words[0].end:words[-1].end])
+        name = re.sub(r"\\(.)", r"\1", quoted[1] or quoted[2]) if quoted else ""
         kept.keep(words[0].start, words[-1].end)
         for place in (os.path.dirname(file) or ".", "."):
             for suffix in ("", ".maude", ".fm", ".obj"):
@@ -163,7 +170,7 @@ class Sources:
 
     def reach(self, words):
         """The names of the parts that these words name, and the parts that those name, and so on; and all words met."""
-        known, met, open_ = set(), set(), [words]
+        known, met, open_ = set(), set(), [[*words, *self.everywhere]]
         while open_:
             for word in open_.pop():
                 met.add(word)
@@ -173,19 +180,19 @@ class Sources:
                 open_ += [[it.text for it in part.tokens[2:]] for part in self.parts if part.name == word]
         return known, met
 
-    def part_at(self, file, line):
-        """The part in which a line of a file stands."""
-        return next((it for it in self.parts if it.file == file and it.line <= line <= it.tokens[-1].line), None)
+    def parts_at(self, file, line):
+        """The parts in which a line of a file stands."""
+        return [it for it in self.parts if it.file == file and it.line <= line <= it.tokens[-1].line]
 
     def statement_at(self, file, line):
         """The statement that stands on this line, where it is one alone."""
-        part = self.part_at(file, line)
-        found = [it for it in part.statements() if it[0].line <= line <= it[-1].line] if part else []
+        every = [it for part in self.parts_at(file, line) for it in part.statements()]
+        found = [it for it in every if it[0].line <= line <= it[-1].line]
         return " ".join(it.text for it in found[0]) + " ." if len(found) == 1 else ""
 
 
 class Copy:
-    """A text of which some pieces are kept, or replaced, where they stand, and the rest is blank but for its line ends."""
+    """A text of which some pieces are kept, or replaced, where they stand; of the rest only the line ends are."""
 
     def __init__(self, text):
         self.source = text
@@ -219,7 +226,8 @@ class Reader:
         """Whether a module or a view begins at this token."""
         at = self.at if at is None else at
         words = [it.text for it in self.words[at:at + 3]]
-        return len(words) == 3 and words[0] in ENDS and (words[2] in ("is", "{") or words[0] == "view" and words[2] == "from")
+        behind = ("{", "from") if words[:1] == ["view"] else ("{", "is")
+        return len(words) == 3 and words[0] in ENDS and words[2] in behind
 
     def part(self, file):
         """The module or view that begins here."""
@@ -252,6 +260,7 @@ class Reader:
                 break
             depth += {"(": 1, ")": -1}.get(word.text, 0)
             self.at += 1
-            if depth <= 0 and (word.text == "." or self.words[start].text == "(") and (not self.left() or self.words[self.at].line > word.line or self.at_part()):
+            closes = word.text == "." or self.words[start].text == "("
+            if depth <= 0 and closes and (not self.left() or self.words[self.at].line > word.line or self.at_part()):
                 break
         return self.words[start:self.at]

@@ -1,4 +1,4 @@
-"""Cuts problems, terms and bindings, as a user of Maude writes them or as Maude prints them, into the terms that Maude is asked for."""
+"""Cuts problems, terms and bindings, as a user of Maude writes them or as Maude prints them, into terms for Maude."""
 import re
 
 from .source import Refused, tokens
@@ -71,14 +71,15 @@ def depths(words):
 
 
 def problem_of(words, said):
-    """A problem, cut at its equation signs and at the conjunctions between two of them; without an equation sign, a term."""
+    """A problem, cut at its equation signs and the conjunctions between two of them; without an equation sign, a term."""
     level = depths(words)
     equal = [n for n, it in enumerate(words) if it.text == "=?" and level[n] == 0]
     cuts = equal[:1]
     for left, right in zip(equal, equal[1:]):
         between = [n for n in range(left + 1, right) if words[n].text == "/\\" and level[n] == 0]
         if len(between) != 1:
-            raise Refused("between two `=?` stands no `/\\` or more than one: put parentheses around a term with an operator of these names")
+            raise Refused("between two `=?` stands no `/\\` or more than one: put parentheses around a term with an "
+                          "operator of these names")
         cuts += [between[0], right]
     rows = [words[a + 1:b] for a, b in zip([-1, *cuts], [*cuts, len(words)])]
     if not all(rows):
