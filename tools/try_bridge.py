@@ -33,10 +33,23 @@ TOLD = ("call", "status", "says", "writes", "without", "needs")
 # So many unifiers of a problem are verified.
 MOST = 12
 
+# Commands in a folder with `a file.maude`, which has VENDING, and the status that each must have.
+STREAMS = [("a path with spaces", 'exec ./from-maude "a file.maude" VENDING "M =? q"', 0),
+           ("a folder as file", "exec ./from-maude . VENDING", 2),
+           ("no file", "exec ./from-maude none.maude VENDING", 2),
+           ("no words", "exec ./from-maude", 2),
+           ("no Maude", 'FVN_MAUDE=no-such-maude exec ./from-maude "a file.maude" VENDING', 2),
+           ("one Maude for all texts of a call", """export COUNTED="$PWD/counted"
+            export FVN_MAUDE="'$PWD/count' ${FVN_MAUDE:-maude}"
+            ./from-maude "a file.maude" VENDING q "M =? q" "{M --> q}" && test $(wc -l < counted) = 1""", 0),
+           ("an output that is closed", 'exec ./from-maude "a file.maude" VENDING >&-', 7),
+           ("an output that is full", 'exec ./from-maude "a file.maude" VENDING > /dev/full', 7),
+           ("all outputs closed", 'exec ./from-maude "a file.maude" VENDING >&- 2>&-', 7)]
+
 
 def ran(words, text="", **more):
     """The status, the standard output and the standard error of a command."""
-    done = subprocess.run(words, input=text.encode(), stdout=subprocess.PIPE, stderr=subprocess.PIPE, check=False, **more)
+    done = subprocess.run(words, input=text.encode(), capture_output=True, check=False, **more)
     return done.returncode, *(it.decode(errors="surrogateescape") for it in (done.stdout, done.stderr))
 
 
@@ -162,16 +175,12 @@ def streams():
     with tempfile.TemporaryDirectory(prefix="a folder ") as folder:
         shutil.copy(f"{MIXFIX}/vending.maude", f"{folder}/a file.maude")
         os.symlink(f"{TOP}/from-maude", f"{folder}/from-maude")
-        rows = [("a path with spaces", 'exec ./from-maude "a file.maude" VENDING "M =? q"', 0),
-                ("a folder as file", "exec ./from-maude . VENDING", 2),
-                ("no file", "exec ./from-maude none.maude VENDING", 2), ("no words", "exec ./from-maude", 2),
-                ("no Maude", 'FVN_MAUDE=no-such-maude exec ./from-maude "a file.maude" VENDING', 2),
-                ("an output that is closed", 'exec ./from-maude "a file.maude" VENDING >&-', 7),
-                ("an output that is full", 'exec ./from-maude "a file.maude" VENDING > /dev/full', 7),
-                ("all outputs closed", 'exec ./from-maude "a file.maude" VENDING >&- 2>&-', 7)]
-        for what, command, wanted in rows:
+        with open(f"{folder}/count", "w", encoding="utf-8") as it:
+            it.write('#!/bin/sh\necho once >> "$COUNTED"\nexec "$@"\n')
+        os.chmod(f"{folder}/count", 0o755)
+        for what, command, wanted in STREAMS:
             status = ran(["bash", "-c", command], cwd=folder)[0]
-            yield f"{what}: {'holds' if status == wanted else f'status {status}, and not {wanted}'}", status == wanted
+            yield f"{what}: {'holds' if status == wanted else f'status {status}'}", status == wanted
 
 
 def built():

@@ -16,7 +16,7 @@ class Missing(Exception):
 
 
 class Warned(NamedTuple):
-    """A warning of Maude: its file, or the number of a question (none: -1), the line, what it speaks of, and its words."""
+    """A warning of Maude: its file, or the number of a question (else -1), its line, what it speaks of, its words."""
     file: str
     question: int
     line: int

@@ -201,7 +201,8 @@ class Bridge:
         if not warned or any("no module" in it.text or "does not exist" in it.text for it in warned):
             there = ", ".join(dict.fromkeys(it.name for it in self.sources.parts if it.kind in SHOWN))
             return Usage(f"there is no module {self.module} in {self.file}{': it has ' if there else ''}{there}")
-        return source.Refused(f"Maude does not show {self.module}: {'; '.join(it.text for it in warned)}", file=self.file)
+        words = "; ".join(it.text for it in warned)
+        return source.Refused(f"Maude does not show {self.module}: {words}", file=self.file)
 
     def ruled(self, said):
         """The text for fvn, where no statement of the module is left out."""
@@ -224,8 +225,8 @@ class Bridge:
         for it in faults:
             place = self.places.of(it.statement, self.flat) if it.statement else None
             if place or not self.places.foreign:
-                file, line = place or (self.file, 0)
-                found.append(source.Refused(it.reason, it.statement, file, line))
+                file, line, statement = place or (self.file, 0, it.statement)
+                found.append(source.Refused(it.reason, statement, file, line))
             else:
                 foreign = self.places.foreign
         for name, file, line in dict.fromkeys(foreign):

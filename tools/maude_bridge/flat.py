@@ -46,7 +46,7 @@ def quoted_sorts(text):
 
 
 def word_end(text, at):
-    """Where the word that begins here ends: at a space, a parenthesis or a comma that no backquote and no brace holds."""
+    """Where the word that begins here ends: at a space, parenthesis or comma, but for those in braces or backquoted."""
     if text[at:at + 1] == '"':
         return re.compile(r'"(?:[^"\\]|\\.)*"?').match(text, at).end()
     depth = 0

@@ -52,10 +52,13 @@ class Heed:
             if head.startswith(MORE) or head.endswith(":") and rest:
                 statement = rest
             words.append(head.strip(" .:"))
+        # Maude has read the end of the line when it looks for a file.
+        line = group[0].line - words[0].startswith("unable to locate file")
         if own and not statement:
-            statement = self.sources.statement_at(file, group[0].line)
+            statement = self.sources.statement_at(file, line)
         reason = f"Maude does not read it as it stands: {distinct(words)}"
-        return Refused(reason + self.hint(bad(words) + statement.split()), statement, file, group[0].line if file else 0)
+        reason += self.hint(bad(words) + statement.split())
+        return Refused(reason, statement, file, line if file else 0)
 
     def term_fault(self, term, warned):
         """The fault of a term that Maude does not read, or reads in two ways."""

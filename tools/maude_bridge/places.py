@@ -24,7 +24,7 @@ class Places:
 
     def note(self, sources, part, words):
         """Keeps a statement by what it is found again."""
-        place, texts = (part.file, words[0].line), [it.text for it in words]
+        place, texts = (part.file, words[0].line, part.written(words)), [it.text for it in words]
         if texts[0] in ("op", "ops") and ":" in texts:
             names, behind = declared(texts)
             self.operators.append((place, names, behind))
@@ -37,7 +37,7 @@ class Places:
             for it in texts[1:]:
                 depth += {"(": 1, ")": -1}.get(it, 0)
                 if depth == 0 and it != ")":
-                    self.note_foreign(sources, it, *place)
+                    self.note_foreign(sources, it, *place[:2])
 
     def note_foreign(self, sources, word, file, line):
         """Keeps the name of a module that the user's files have not."""
@@ -59,7 +59,7 @@ class Places:
         return next((place for place, it in self.equations if it == key), None)
 
     def of(self, statement, flat):
-        """The file and the line of a statement, or nothing."""
+        """The file and the line of a statement, and its text there; or nothing."""
         if statement in flat.operators:
             return self.of_operator(flat.operators[statement])
         if statement in flat.equations:

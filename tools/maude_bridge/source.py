@@ -61,11 +61,12 @@ def behind_comment(text, at, file, line):
 
 
 class Part(NamedTuple):
-    """A module or a view: its keyword, its name, its tokens from the keyword on, and its file."""
+    """A module or a view: its keyword, its name, its tokens from the keyword on, its file, and the text of this."""
     kind: str
     name: str
     tokens: list
     file: str
+    text: str
 
     @property
     def line(self):
@@ -78,6 +79,10 @@ class Part(NamedTuple):
         if words[2:3] != ["{"] or "}" not in words:
             return ""
         return " ".join(words[3:words.index("}")])
+
+    def written(self, words):
+        """These tokens of a statement as the user wrote them."""
+        return " ".join(self.text[words[0].start:words[-1].end].split()) + " ."
 
     def statements(self):
         """The statements of a module: the tokens of each, the final dot left out."""
@@ -135,7 +140,7 @@ class Sources:
         while reader.left() and not self.over:
             word = reader.words[reader.at]
             if reader.at_part():
-                part = reader.part(file)
+                part = reader.part(file, kept.source)
                 self.parts.append(part)
                 kept.keep(part.tokens[0].start, part.tokens[-1].end)
             elif word.text in ("load", "in", "sload"):
@@ -186,9 +191,9 @@ class Sources:
 
     def statement_at(self, file, line):
         """The statement that stands on this line, where it is one alone."""
-        every = [it for part in self.parts_at(file, line) for it in part.statements()]
-        found = [it for it in every if it[0].line <= line <= it[-1].line]
-        return " ".join(it.text for it in found[0]) + " ." if len(found) == 1 else ""
+        every = [(part, it) for part in self.parts_at(file, line) for it in part.statements()]
+        found = [part.written(it) for part, it in every if it[0].line <= line <= it[-1].line]
+        return found[0] if len(found) == 1 else ""
 
 
 class Copy:
@@ -229,7 +234,7 @@ class Reader:
         behind = ("{", "from") if words[:1] == ["view"] else ("{", "is")
         return len(words) == 3 and words[0] in ENDS and words[2] in behind
 
-    def part(self, file):
+    def part(self, file, text):
         """The module or view that begins here."""
         start = self.at
         first = self.words[start]
@@ -237,7 +242,7 @@ class Reader:
             word = self.words[at]
             if word.text == ENDS[first.text]:
                 self.at = at + 1
-                return Part(first.text, self.words[start + 1].text, self.words[start:at + 1], file)
+                return Part(first.text, self.words[start + 1].text, self.words[start:at + 1], file, text)
             if word.line > self.words[at - 1].line and self.at_part(at):
                 break
         name = self.words[start + 1].text

@@ -71,7 +71,7 @@ def depths(words):
 
 
 def problem_of(words, said):
-    """A problem, cut at its equation signs and the conjunctions between two of them; without an equation sign, a term."""
+    """A problem, cut at its equation signs and the conjunctions between two of them; with no equation sign a term."""
     level = depths(words)
     equal = [n for n, it in enumerate(words) if it.text == "=?" and level[n] == 0]
     cuts = equal[:1]

@@ -4,7 +4,8 @@ import re
 LEFT_OUT = {"import": "imports are left out", "membership": "memberships are left out",
             "condition": "conditions are left out", "rule": "rules are left out",
             "name": "the name of an operator is one word", "assoc": "`assoc` stands only beside `comm`",
-            "identity": "an identity stands only as `assoc comm id:`", "attribute": "it has an attribute that is left out",
+            "identity": "an identity stands only as `assoc comm id:`",
+            "attribute": "it has an attribute that is left out",
             "equation": "equations are for unification only: write `[variant]`"}
 FAULTS = [(r"module 14", "the text has over 1,048,576 bytes"),
           (r"module 1 .*", "a byte outside ASCII may stand in comments alone"),
