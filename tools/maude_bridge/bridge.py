@@ -9,6 +9,8 @@ from . import ask, flat, heed, places, rules, source, texts, told
 
 # The name of the module that stands for an expression.
 WRAPPER = "FVN-ASKED"
+# So many faults are told.
+MOST = 10
 # The kinds of modules that go in.
 SHOWN = ("fmod", "mod", "omod")
 
@@ -35,8 +37,10 @@ def main(words, top, usage):
         tell(str(it))
         return 2
     except Said as it:
-        for fault in it.faults:
+        for fault in it.faults[:MOST]:
             tell(sentence(fault))
+        if len(it.faults) > MOST:
+            tell(f"and {len(it.faults) - MOST} more")
         return 1
     except source.Refused as it:
         tell(sentence(it))
@@ -156,7 +160,7 @@ class Bridge:
 
     def judge_name(self):
         """Refuses a module with parameters, a theory and a view."""
-        part = self.sources.named(self.asked)
+        part = self.sources.module(self.asked)
         if part and part.kind not in SHOWN:
             reason = f"{part.kind} {part.name} is no module of sorts, operators and equations"
             raise source.Refused(reason, file=part.file, line=part.line)

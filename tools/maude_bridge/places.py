@@ -26,33 +26,31 @@ class Places:
         """Keeps a statement by what it is found again."""
         place, texts = (part.file, words[0].line, part.written(words)), [it.text for it in words]
         if texts[0] in ("op", "ops") and ":" in texts:
-            names, behind = declared(texts)
-            self.operators.append((place, names, behind))
+            self.operators.append((place, *declared(texts)))
         elif texts[0] == "eq":
             self.equations.append((place, source_key(texts)))
         elif texts[0] in FORMS:
             self.others.append((place, texts[0], bare(texts[1:])))
         elif texts[0] in IMPORTS:
-            depth = 0
-            for it in texts[1:]:
-                depth += {"(": 1, ")": -1}.get(it, 0)
-                if depth == 0 and it != ")":
-                    self.note_foreign(sources, it, *place[:2])
+            for it in without_renamings(texts[1:]):
+                self.note_foreign(sources, it, *place[:2])
 
     def note_foreign(self, sources, word, file, line):
         """Keeps the name of a module that the user's files have not."""
-        if re.fullmatch(r"[A-Z][A-Z0-9_-]+\??", word) and not sources.named(word) and word not in PLAIN_MODULES:
+        if re.fullmatch(r"[A-Z][A-Z0-9_-]+\??", word) and not sources.module(word) and word not in PLAIN_MODULES:
             self.foreign.append((word, file, line))
 
     def operator_names(self):
-        return {name for _, names, _ in self.operators for name in names}
+        return {name for _, names, *_ in self.operators for name in names}
 
     def of_operator(self, operator):
         name = plain(operator.name)
         behind = plain("".join(operator.arguments) + "->" + operator.result)
-        named = [(place, it) for place, names, it in self.operators if name in names]
-        exact = [place for place, it in named if it == behind]
-        return next(iter([*exact, *(place for place, _ in named)]), None)
+        named = [(place, *it) for place, names, *it in self.operators if name in names]
+        exact = [place for place, it, _ in named if it == behind]
+        # Sorts may be renamed, or come of a parameter.
+        alike = [place for place, _, number in named if number == len(operator.arguments)]
+        return next(iter(exact if operator.has("special") else [*exact, *alike]), None)
 
     def of_equation(self, equation, flat):
         key = flat_key(equation.left, flat) + flat_key(equation.right, flat)
@@ -69,23 +67,50 @@ class Places:
         return found[0] if len(found) == 1 else None
 
 
+def without_renamings(texts):
+    """An expression of modules without what stands in parentheses behind a star."""
+    kept, depth = [], 0
+    for before, it in zip(["", *texts], texts):
+        if it == "(" and (depth or before == "*"):
+            depth += 1
+        elif depth:
+            depth -= it == ")"
+        else:
+            kept.append(it)
+    return kept
+
+
 def plain(text):
     """A text without spaces and backquotes."""
     return re.sub(r"[`\s]", "", text)
 
 
 def declared(texts):
-    """The names that a declaration of operators has, and its sorts, in plain form."""
-    colon = max(n for n, it in enumerate(texts) if it == ":" and (set(texts[n:]) & {"->", "~>"}))
-    names = [*texts[1:colon]]
-    words = {plain("".join(names))} if texts[0] == "op" else {*names, *re.findall(r"\(([^()]*)\)", "".join(names))}
-    words |= {it[1:-1] for it in words if it.startswith("(") and it.endswith(")")}
-    behind = []
-    for n in range(colon + 1, len(texts)):
-        if texts[n] == "[" and behind and behind[-1] not in ("->", "~>") and {"->", "~>"} & set(behind):
+    """The names that a declaration of operators has, its sorts in plain form, and its number of arguments."""
+    first = texts.index(":")
+    arrow = next((n for n in range(first, len(texts)) if texts[n] in ("->", "~>")), len(texts))
+    colon = max(n for n in range(arrow) if texts[n] == ":")
+    names = texts[1:colon]
+    words = {"".join(names)}
+    if texts[0] == "ops":
+        words = {*names, *re.findall(r"\(([^()]*)\)", "".join(names))}
+    result = []
+    for n in range(arrow + 1, len(texts)):
+        if texts[n] == "[" and result:
             break
-        behind.append("->" if texts[n] == "~>" else texts[n])
-    return {plain(it) for it in words}, plain("".join(behind))
+        result.append(texts[n])
+    sorts = [plain("".join(texts[colon + 1:arrow])), "->", plain("".join(result))]
+    return {plain(it) for it in words}, "".join(sorts), number_of(texts[colon + 1:arrow])
+
+
+def number_of(texts):
+    """How many sorts these tokens are, some of which have braces, and kinds brackets."""
+    number, depth = 0, 0
+    for it in texts:
+        depth -= it in "}]"
+        number += depth == 0 and it not in "{}]"
+        depth += it in "{["
+    return number
 
 
 def bare(words):

@@ -94,7 +94,7 @@ class Ruled:
         if order == [*map(str, range(1, len(operator.arguments) + 1)), "0"]:
             return
         if self.flat.equations and (order[-1:] != ["0"] or len(set(order)) <= len(operator.arguments)):
-            reason = f"its strategy {more} does not rewrite each argument and then the whole, and fvn rewrites everywhere"
+            reason = f"its strategy {more} does not rewrite each argument and then the whole, as fvn does"
             self.faults.append(Fault(statement, reason))
         else:
             self.drop(statement, f"strat of {operator.name} is dropped")

@@ -169,17 +169,18 @@ class Sources:
                     kept.write(words[0].start, words[-1].end, f"load {self.copy(path, above)}")
                     return
 
-    def named(self, name):
-        """The part of this name that Maude has at the end: the last."""
-        return next((it for it in reversed(self.parts) if it.name == name), None)
+    def module(self, name):
+        """The module or theory of this name that Maude has at the end: the last."""
+        return next((it for it in reversed(self.parts) if it.name == name and it.kind in MODULES), None)
 
     def reach(self, words):
         """The names of the parts that these words name, and the parts that those name, and so on; and all words met."""
+        names = {it.name for it in self.parts}
         known, met, open_ = set(), set(), [[*words, *self.everywhere]]
         while open_:
             for word in open_.pop():
                 met.add(word)
-                if word in known or not self.named(word):
+                if word in known or word not in names:
                     continue
                 known.add(word)
                 open_ += [[it.text for it in part.tokens[2:]] for part in self.parts if part.name == word]
@@ -236,17 +237,19 @@ class Reader:
 
     def part(self, file, text):
         """The module or view that begins here."""
-        start = self.at
+        start, depth = self.at, 0
         first = self.words[start]
         for at in range(start + 2, len(self.words)):
             word = self.words[at]
-            if word.text == ENDS[first.text]:
+            depth += {"(": 1, ")": -1}.get(word.text, 0)
+            if word.text == ENDS[first.text] and depth <= 0:
                 self.at = at + 1
                 return Part(first.text, self.words[start + 1].text, self.words[start:at + 1], file, text)
-            if word.line > self.words[at - 1].line and self.at_part(at):
+            if word.line > self.words[at - 1].line and depth <= 0 and self.at_part(at):
                 break
         name = self.words[start + 1].text
-        raise Refused(f"{first.text} {name} has no {ENDS[first.text]}", file=file, line=first.line)
+        more = ", or its parentheses do not match" if depth else ""
+        raise Refused(f"{first.text} {name} has no {ENDS[first.text]}{more}", file=file, line=first.line)
 
     def rest_of_line(self):
         """The tokens up to the end of this line."""
