@@ -1,8 +1,8 @@
 -- What the module keeps of its equations.
 use Rattle.fvn_module_loading.proofs.checks.first_left_fault.Goals as goal
 
-pub fault_of-requires : goal.fault_of-requires
-fault_of-requires c = rw (c.signature.ensures, c.equations.ensures) c.recall_readable.ensures.equations
+pub first_left_fault-requires : goal.first_left_fault-requires
+first_left_fault-requires c = rw (c.signature.ensures, c.equations.ensures) c.recall_readable.ensures.equations
 
 pub returns : goal.returns
 returns c = rw (c.signature.ensures, c.equations.ensures) at c.in_ok-fault.ensures
