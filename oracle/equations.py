@@ -1,11 +1,11 @@
 #!/usr/bin/env python3
 """Prints what becomes of the equations of small modules, by trying instances.
 
-    python3 bench/equations.py < MODULES
+    python3 oracle/equations.py < MODULES
 
-Each line of the input has the statements of a module. The program adds for each equation `v` where some, perhaps none,
-of the variables of its left side may be replaced by identities so that it becomes a variable, `i` where it becomes an
-identity and never a variable, and `-` else. Behind a bar comes the number of the first equation that loses a sort, or
+Each line of the input has the statements of a module; an answer behind ` => ` is left away. The program adds for each
+equation `v` where some, perhaps none, of the variables of its left side may be replaced by identities so that it becomes
+a variable, `i` where it becomes an identity and never a variable, and `-` else. Behind a bar comes the number of the first equation that loses a sort, or
 0, and behind another the first left side that becomes a variable or an identity. Instances replace variables by
 variables of lower sorts, by constants, and by operators over these; sorts are read after identities are removed.
 """
@@ -14,81 +14,35 @@ import itertools
 import re
 import sys
 
+from signatures import Signature, read_statement
 
-class Module:
+
+class Module(Signature):
+    """A signature with variables and equations, each side as its text."""
+
     def __init__(self, text):
-        self.sorts, self.pairs, self.ops, self.vars, self.equations = [], set(), {}, {}, []
+        super().__init__()
+        self.vars, self.equations = {}, []
         for statement in re.split(r" \.(?: |$)", text.strip()):
             if statement.strip():
                 self.read(statement.split())
-        self.order()
+        self.close(lambda number, first: "[" + first + "]")
+        self.identities = sorted({o["id"] for o in self.ops.values() if o["id"]})
 
-    def read(self, w):
-        key, rest = w[0], w[1:]
-        if key in ("sort", "sorts"):
-            self.sorts += [s for s in rest if s not in self.sorts]
-        elif key in ("subsort", "subsorts"):
-            groups, group = [], []
-            for s in rest + ["<"]:
-                if s == "<":
-                    groups.append(group)
-                    group = []
-                else:
-                    group.append(s)
-            for low, high in zip(groups, groups[1:]):
-                self.pairs |= {(a, b) for a in low for b in high}
-        elif key in ("op", "ops"):
-            colon = rest.index(":")
-            arrow = rest.index("->")
-            marks = " ".join(rest[arrow + 2 :])
-            for name in rest[:colon]:
-                op = self.ops.setdefault(name, {"ranks": [], "sum": False, "comm": False, "id": None})
-                op["ranks"].append((tuple(rest[colon + 1 : arrow]), rest[arrow + 1]))
-                if "comm" in marks:
-                    op["comm"] = True
-                if "assoc" in marks:
-                    op["sum"] = True
-                found = re.search(r"id: (\S+?)(?: |\])", marks)
-                if found:
-                    op["id"] = found.group(1)
-        elif key in ("var", "vars"):
+    def read(self, words):
+        if read_statement(self, words):
+            return
+        key, rest = words[0], words[1:]
+        if key in ("var", "vars"):
             for name in rest[: rest.index(":")]:
                 self.vars[name] = rest[rest.index(":") + 1]
         elif key == "eq":
-            text = " ".join(w[1:])
-            text = re.sub(r"^\[[^]]*\] : ", "", text)
-            text = re.sub(r" \[variant\]$", "", text)
-            left, right = text.split(" = ")
+            text = re.sub(r"^\[[^]]*\] : ", "", " ".join(rest))
+            left, right = re.sub(r" \[variant\]$", "", text).split(" = ")
             self.equations.append((left, right))
 
-    def order(self):
-        up = {s: {s} for s in self.sorts}
-        changed = True
-        while changed:
-            changed = False
-            for a, b in self.pairs:
-                for s in self.sorts:
-                    if a in up[s] and b not in up[s]:
-                        up[s].add(b)
-                        changed = True
-        kind = {s: s for s in self.sorts}
-        for a, b in list(self.pairs) * len(self.sorts):
-            first = min(kind[a], kind[b], key=self.sorts.index)
-            for s in self.sorts:
-                if kind[s] in (kind[a], kind[b]):
-                    kind[s] = first
-        self.kind = {s: "[" + kind[s] + "]" for s in self.sorts}
-        self.up = {s: up[s] | {self.kind[s]} for s in self.sorts}
-        for k in set(self.kind.values()):
-            self.up[k] = {k}
-            self.kind[k] = k
-        for op in self.ops.values():
-            ranks = list(op["ranks"])
-            if op["comm"]:
-                ranks += [(args[::-1], r) for args, r in ranks]
-            ranks += [(tuple(self.kind[a] for a in args), self.kind[r]) for args, r in ranks]
-            op["all"] = ranks
-        self.identities = sorted({o["id"] for o in self.ops.values() if o["id"]})
+    def is_sum(self, name):
+        return self.ops[name]["axioms"] == "sum"
 
     def parse(self, text):
         pos = 0
@@ -108,7 +62,7 @@ class Module:
             if name in self.vars:
                 return ("var", name, self.sort(self.vars[name]))
             if name in self.ops:
-                if self.ops[name]["sum"]:
+                if self.is_sum(name):
                     while len(args) > 2:
                         args[-2:] = [(name, [args[-2], args[-1]])]
                 return (name, args)
@@ -137,11 +91,7 @@ class Module:
         """The least sort of a term without identities."""
         if t[0] == "var":
             return t[2]
-        low = [self.least(a) for a in t[1]]
-        results = [r for args, r in self.ops[t[0]]["all"] if len(args) == len(low) and all(a in self.up[s] for a, s in zip(args, low))]
-        least = [r for r in results if all(q in self.up[r] for q in results)]
-        assert least, (t, results)
-        return least[0]
+        return self.result(t[0], [self.least(a) for a in t[1]])
 
     def variables(self, t, seen):
         if t[0] == "var":
@@ -159,20 +109,20 @@ class Module:
 
     def values(self, x):
         """Values of a variable: variables of lower sorts, constants, and operators over these."""
-        simple = [("var", x[1] + q, q) for q in self.up if self.kind[q] == self.kind[x[2]]]
+        simple = [("var", x[1] + q, q) for q in self.all if self.kind[q] == self.kind[x[2]]]
         constants = [(c, []) for c, o in self.ops.items() if o["ranks"][0][0] == ()]
         found = simple + constants
         for f, o in self.ops.items():
             places = o["ranks"][0][0]
             if len(places) in (1, 2):
-                of = [[v for v in [("var", x[1] + str(i) + q, q) for q in self.up] + constants if self.kind[self.least(v)] == self.kind[p]] for i, p in enumerate(places)]
+                of = [[v for v in [("var", x[1] + str(i) + q, q) for q in self.all] + constants if self.kind[self.least(v)] == self.kind[p]] for i, p in enumerate(places)]
                 found += [self.plain((f, list(args))) for args in itertools.product(*of)]
-        return [v for v in found if x[2] in self.up[self.least(v)]]
+        return [v for v in found if x[2] in self.above[self.least(v)]]
 
     def told(self, left, right):
         vars = self.variables(left, [])
         becomes = set()
-        ids = [[x] + [(e, []) for e in self.identities if x[2] in self.up[self.least((e, []))]] for x in vars]
+        ids = [[x] + [(e, []) for e in self.identities if x[2] in self.above[self.least((e, []))]] for x in vars]
         for choice in itertools.product(*ids):
             t = self.plain(self.apply(left, dict(zip(vars, choice))))
             becomes.add("v" if t[0] == "var" else "i" if t[1] == [] and t[0] in self.identities else "-")
@@ -180,14 +130,15 @@ class Module:
         for choice in itertools.product(*[self.values(x) for x in vars]):
             by = dict(zip(vars, choice))
             low, high = self.least(self.plain(self.apply(left, by))), self.least(self.plain(self.apply(right, by)))
-            if low not in self.up[high]:
+            if not self.leq(high, low):
                 loses = True
                 break
         return "v" if "v" in becomes else "i" if "i" in becomes else "-", loses
 
 
 def main():
-    for line in sys.stdin:
+    for line in sys.stdin.read().splitlines():
+        line = line.split(" => ")[0]
         module = Module(line)
         out, first, fault = [], 0, "none 0"
         for n, (left, right) in enumerate(module.equations, 1):
@@ -197,7 +148,7 @@ def main():
                 first = n
             if told != "-" and fault == "none 0":
                 fault = f"{'variable' if told == 'v' else 'identity'} {n}"
-        print(f"{line.rstrip()} => {' '.join(out)} | {first} | {fault}")
+        print(f"{line} => {' '.join(out)} | {first} | {fault}")
 
 
 if __name__ == "__main__":

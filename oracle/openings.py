@@ -1,9 +1,9 @@
 #!/usr/bin/env python3
 """Prints what is held of small problems before any question is asked, by the definitions alone.
 
-    python3 bench/openings.py [elements] < PROBLEMS
+    python3 oracle/openings.py [elements] < PROBLEMS
 
-Each line of the input is a problem as `bench/partitions.py` reads it, in which no two nodes are in one class but the
+Each line of the input is a problem as `oracle/partitions.py` reads it, in which no two nodes are in one class but the
 sides of its pairs. The program adds how many minimal solutions each sum operator has; each shared class, as the
 number of its node, with the operators that use it; and for each list of tags of the shared classes how many choices
 of minimal solutions are on the wheels, and how many of these leave no shared class a sum of a constant alone. There is
@@ -12,24 +12,11 @@ one sort, so that a sum with an identity is neutral, and its choices take every 
 solutions are found by trying all vectors with components up to 4, and choices by trying all sets of solutions.
 """
 
-import importlib.util
 import itertools
-import pathlib
 import sys
 
-HERE = pathlib.Path(__file__).resolve().parent
+import partitions as TABLES
 
-
-def partitions_module():
-    spec = importlib.util.spec_from_file_location("partitions", HERE / "partitions.py")
-    module = importlib.util.module_from_spec(spec)
-    stdin, sys.stdin = sys.stdin, open("/dev/null")
-    spec.loader.exec_module(module)
-    sys.stdin = stdin
-    return module
-
-
-TABLES = partitions_module()
 SUMS = {"sum", "unital"}
 NEUTRAL = sys.argv[1:] != ["elements"]
 

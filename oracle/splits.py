@@ -1,33 +1,20 @@
 #!/usr/bin/env python3
 """Prints the parts of small problems and all their splits, by the definitions alone.
 
-    python3 bench/splits.py < PROBLEMS
+    python3 oracle/splits.py < PROBLEMS
 
-Each line of the input is a problem as `bench/partitions.py` reads it. The program adds the nodes of the parts, those
+Each line of the input is a problem as `oracle/partitions.py` reads it. The program adds the nodes of the parts, those
 of the parts that have a head, the pairs of commutative nodes and the operators with axioms; then the splits that some
 partition of the nodes gives. All partitions of the set of nodes are gone through, and of each all that its classes
 leave open. A split is the number of each part's class, the head of each headed part (`F`, or `P`, `S` or `I` with an
 operator), and for each pair `x` or `-`; splits stand in the order of their texts.
 """
 
-import importlib.util
 import itertools
-import pathlib
 import sys
 
-HERE = pathlib.Path(__file__).resolve().parent
+import partitions as P
 
-
-def partitions_module():
-    spec = importlib.util.spec_from_file_location("partitions", HERE / "partitions.py")
-    module = importlib.util.module_from_spec(spec)
-    stdin, sys.stdin = sys.stdin, open("/dev/null")
-    spec.loader.exec_module(module)
-    sys.stdin = stdin
-    return module
-
-
-P = partitions_module()
 HEADS = {"free": lambda f: "F", "comm": lambda f: "P" + f, "sum": lambda f: "S" + f, "unital": lambda f: "S" + f}
 
 

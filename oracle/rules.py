@@ -1,10 +1,10 @@
 #!/usr/bin/env python3
 """Prints the rules of small modules: the identity instances of their equations, and the extensions of these.
 
-    python3 bench/rules.py < MODULES
+    python3 oracle/rules.py < MODULES
 
-Each line of the input has the statements of a module. The program adds its rules, each with the number of its equation;
-behind a bar comes for each operator that heads a left side how many of the rules that it heads are needed: those of
+Each line of the input has the statements of a module; an answer behind ` => ` is left away. The program adds its rules,
+each with the number of its equation; behind a bar comes for each operator that heads a left side how many of the rules that it heads are needed: those of
 whose left sides no other is more general, and of two whose left sides are instances of each other one. Operators, sorts
 and kinds stand as their numbers, and variables as their places in their equation; `z` is the new variable of an
 extension. Instances are made choice by choice, and an instance of a left side is found by trying all parts of the other
@@ -21,11 +21,7 @@ class Rules(Module):
     def __init__(self, text):
         super().__init__(text)
         self.numbers = {f: n for n, f in enumerate(self.ops)}
-        kinds = []
-        for s in self.sorts:
-            if self.kind[s] not in kinds:
-                kinds.append(self.kind[s])
-        self.places = {s: n for n, s in enumerate(self.sorts + kinds)}
+        self.places = {s: n for n, s in enumerate(self.all)}
 
     def flat(self, t):
         """A term in flat form: a variable, or an operator with its arguments, those of a sum in order."""
@@ -33,8 +29,8 @@ class Rules(Module):
             return t
         f, op = t[0], self.ops[t[0]]
         args = [self.flat(a) for a in t[1]]
-        if not op["sum"] or not args:
-            return (f, sorted(args, key=self.key) if op["comm"] and args else args)
+        if not self.is_sum(f) or not args:
+            return (f, sorted(args, key=self.key) if op["axioms"] == "comm" and args else args)
         parts = []
         for a in args:
             if a[0] == f and a[1]:
@@ -48,13 +44,13 @@ class Rules(Module):
     def key(self, t):
         if t[0] == "var":
             return (0, t[1][1], self.places[t[2]], t[1][0] == "z")
-        return (1, self.numbers[t[0]], bool(self.ops[t[0]]["sum"] and t[1]), [self.key(a) for a in t[1]], len(t[1]))
+        return (1, self.numbers[t[0]], bool(self.is_sum(t[0]) and t[1]), [self.key(a) for a in t[1]], len(t[1]))
 
     def sort_of(self, t):
         if t[0] == "var":
             return t[2]
         args = t[1]
-        while len(args) > 2 and self.ops[t[0]]["sum"]:
+        while len(args) > 2 and self.is_sum(t[0]):
             args = [(t[0], args[:2])] + args[2:]
         return self.least((t[0], [("var", None, self.sort_of(a)) for a in args]))
 
@@ -62,7 +58,7 @@ class Rules(Module):
         if t[0] == "var":
             return t[1][0] + str(t[1][1]) + ("." + str(self.places[t[2]]) if t[1][0] == "z" else "")
         args = t[1]
-        if self.ops[t[0]]["sum"] and len(args) > 2:
+        if self.is_sum(t[0]) and len(args) > 2:
             args = [args[0], (t[0], args[1:])]
         return "f" + str(self.numbers[t[0]]) + ("(" + ",".join(self.shown(a) for a in args) + ")" if args else "")
 
@@ -78,14 +74,14 @@ class Rules(Module):
             names = self.variables(left, [])
             left, right = self.numbered(left, names), self.numbered(right, names)
             vars = self.variables(left, [])
-            choices = [[None] + [e for e in self.by_number() if x[2] in self.up[self.least((e, []))]] for x in vars]
+            choices = [[None] + [e for e in self.by_number() if x[2] in self.above[self.least((e, []))]] for x in vars]
             instances = []
             for choice in sorted(itertools.product(*[range(len(c)) for c in choices]), key=lambda c: c[::-1]):
                 by = {x: (c[i], []) if i else x for x, c, i in zip(vars, choices, choice)}
                 instances.append((number, self.flat(self.apply(left, by)), self.flat(self.apply(right, by))))
             found += instances
             for n, l, r in instances:
-                if l[0] != "var" and l[1] and self.ops[l[0]]["sum"]:
+                if l[0] != "var" and l[1] and self.is_sum(l[0]):
                     z = ("var", ("z", 0), self.kind[self.sort_of(l)])
                     found.append((n, self.flat((l[0], [l, z])), self.flat((l[0], [r, z]))))
         return found
@@ -103,7 +99,7 @@ class Rules(Module):
         if t[0] != "var":
             for a in t[1]:
                 self.parts(a, seen)
-            if self.ops[t[0]]["sum"]:
+            if self.is_sum(t[0]):
                 for n in range(2, len(t[1])):
                     seen += [(t[0], list(some)) for some in itertools.combinations(t[1], n)]
         return seen
@@ -114,7 +110,7 @@ class Rules(Module):
             if t not in values:
                 values.append(t)
         vars = self.variables(rule[1], [])
-        fitting = [[v for v in values if x[2] in self.up[self.sort_of(v)]] for x in vars]
+        fitting = [[v for v in values if x[2] in self.above[self.sort_of(v)]] for x in vars]
         for choice in itertools.product(*fitting):
             by = dict(zip(map(repr, vars), choice))
             if self.flat(self.replaced(rule[1], by)) == other[1]:
@@ -139,11 +135,12 @@ class Rules(Module):
 
 
 def main():
-    for line in sys.stdin:
+    for line in sys.stdin.read().splitlines():
+        line = line.split(" => ")[0]
         module = Rules(line)
         rules = module.rules()
         out = [f"{n} {module.shown(l)} = {module.shown(r)}" for n, l, r in rules]
-        print(f"{line.rstrip()} => {', '.join(out)} | {', '.join(module.needed(rules))}")
+        print(f"{line} => {', '.join(out)} | {', '.join(module.needed(rules))}")
 
 
 if __name__ == "__main__":

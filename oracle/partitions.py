@@ -1,7 +1,7 @@
 #!/usr/bin/env python3
 """Prints tables and partitions of small problems, by their definitions alone.
 
-    python3 bench/partitions.py < PROBLEMS
+    python3 oracle/partitions.py < PROBLEMS
 
 Each line of the input is a problem as the tests of `fvn_combine_nodes` write it: pairs with `=` between their sides and `; `
 between the pairs, each operator after its arguments, sums nested to the right, and all arguments in order. The
@@ -117,5 +117,6 @@ def shown(text):
     return text + " => " + " | ".join(parts).rstrip() + " => " + partitions
 
 
-for line in sys.stdin.read().splitlines():
-    print(shown(line.split(" => ")[0]).rstrip())
+if __name__ == "__main__":
+    for line in sys.stdin.read().splitlines():
+        print(shown(line.split(" => ")[0]).rstrip())
