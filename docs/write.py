@@ -3,8 +3,9 @@
 
     python3 docs/write.py           writes all that is listed below
     python3 docs/write.py --check   fails where what is written differs from the sources, where a crate cites a definition of
-                                    another's specs/inner/, or where an engine stands on a reader of texts; and counts on
-                                    standard error the definitions under the report that lean on what mirrors code
+                                    another's specs/inner/, where an engine stands on a reader of texts, or where README says
+                                    nothing of a field of the report; and counts on standard error the definitions under
+                                    the report that mirror code
     python3 docs/write.py --lint    prints what is missing: comments, first lines, uses, pages of crates, and laws that stand elsewhere
 
 | written | from |
@@ -903,6 +904,15 @@ def borrowed():
                 yield str(path.relative_to(TOP)) + ": " + found.group(2) + " mirrors the code of " + found.group(1)
 
 
+def untold_fields():
+    """Fields of the report that README does not name."""
+    room, report = Citing().table[REPORT]
+    page = read(TOP / "README.md")
+    for found in re.finditer(r"^\s+pub (\w+) :", "\n".join(report.body), re.M):
+        if code(found.group(1)) not in page:
+            yield "README.md: nothing is said of " + found.group(1) + ", which the report promises"
+
+
 READERS = re.compile(r"fvn_(lex|outside|syntax|problems|answer|tool|module\w*|cmd\w*)")
 
 
@@ -944,7 +954,7 @@ def main(words):
         if path not in written:
             print(str(path.relative_to(TOP)) + " is the page of no layer")
             status = 1
-    for find in (borrowed, readers_below) if words else ():
+    for find in (borrowed, readers_below, untold_fields) if words else ():
         for line in find():
             print(line)
             status = 1
