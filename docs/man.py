@@ -61,7 +61,7 @@ def cells(row):
 def listed(rows):
     """A table as a list."""
     heads, rows = cells(rows[0]), [cells(row) for row in rows[2:]]
-    out = []
+    out = [".TP"] + ["\\fI" + inline(head) + "\\fR" for head in heads] if len(heads) == 2 else []
     for row in rows:
         out += [".TP", line(row[0])]
         rest = [c for c in row[1:] if c]
