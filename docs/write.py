@@ -803,6 +803,15 @@ def without_page():
             yield "crates/" + name + " has no README.md"
 
 
+def without_promise():
+    """Pages of crates that tell no promise and no law, or not where to begin."""
+    for name, _ in crates():
+        page = CRATES / name / "README.md"
+        for word in ("Where to begin", "Promise|Promises|Law|Laws"):
+            if page.exists() and not re.search(r"^- \*\*[^*]*\b(?:" + word + r")\b", read(page), re.M):
+                yield "crates/" + name + "/README.md has no line on " + word.partition("|")[0]
+
+
 def without_first_line():
     for _, path in source_files():
         line = (read(path).splitlines() or [""])[0]
@@ -930,7 +939,7 @@ def main(words):
     if words == ["--lint"]:
         missing = [
             line
-            for find in (without_page, without_first_line, without_comment, unused, hidden_files, scattered_laws)
+            for find in (without_page, without_promise, without_first_line, without_comment, unused, hidden_files, scattered_laws)
             for line in find()
         ]
         for line in missing:
