@@ -1,5 +1,5 @@
 #!/usr/bin/env python3
-# Prints how many unifiers Maude's `unify` gives for problems that are written as in bench/combine-times.sh, how many of these are irredundant, and in how many milliseconds, with its printing and without its start; with a second word also their values, as the tables of fvn_combine_tests want them.
+# Prints how many unifiers Maude's `unify` gives for problems that are written as in bench/combine-times.sh, how many of these are irredundant, and in how many milliseconds, with its printing and without its start; with a second word also their values, as the tables of fvn_tests_combine want them.
 import resource,subprocess,sys,re,time
 MOD='''fmod M is
  sort A .

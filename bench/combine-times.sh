@@ -14,7 +14,7 @@ done
 # A term is written with each operator after its arguments: constants f and g, free operators h and i, a commutative
 # operator j, sums k and n, and sums l and m with the identity g.
 cp "${PROBLEMS:-$here/bench/combine-problems.txt}" "$there/problems"
-cd "$there/crates/fvn_combine_tests"
+cd "$there/crates/fvn_tests_combine"
 # The rest of the tests is not needed.
 find src/tests -type f ! -name given.rt -delete
 find proofs/tests -mindepth 1 -maxdepth 1 ! -name given -exec rm -r {} +
@@ -26,7 +26,7 @@ mod given;
 
 use self::given::is_given;
 use fvn_combine::{CombineEnd, Combiner};
-use fvn_samples::{problem_of, signature_of};
+use fvn_tests_samples::{problem_of, signature_of};
 use fvn_sorts::Signature;
 use fvn_terms::NoMemory;
 use std::process::Abort;
@@ -91,7 +91,7 @@ text = open('src/tests.rt').read()
 open('src/tests.rt', 'w').write(text.replace('@' + 'PROBLEMS@', open(sys.argv[1]).read().strip()))
 FILL
 rt fmt > /dev/null
-if [ "$1" = try ]; then rt try --test --steps 1000; else (cd "$there" && git init -q . && rt ci fvn_combine_tests) | grep -E ' us$|passed|FAILED'; fi
+if [ "$1" = try ]; then rt try --test --steps 1000; else (cd "$there" && git init -q . && rt ci fvn_tests_combine) | grep -E ' us$|passed|FAILED'; fi
 if command -v maude > /dev/null; then
   python3 "$here/bench/combine-maude.py" "$there/problems"
 fi

@@ -15,7 +15,7 @@ for crate in "$here"/crates/*; do
         if [ -d "$crate/$part" ]; then cp -r "$crate/$part" "$there/crates/$(basename "$crate")/"; fi
     done
 done
-cd "$there/crates/fvn_answer_tests"
+cd "$there/crates/fvn_tests_answer"
 python3 "$here/bench/lines.py" rows > rows.txt
 python3 - <<'PROGRAM'
 rows = open('rows.txt').read()

@@ -6,10 +6,10 @@ there=$(mktemp -d)
 trap 'rm -rf "$there"' EXIT
 mkdir -p "$there/crates"
 cp "$here/HANDLES" "$there/HANDLES"
-for crate in fvn_base fvn_terms fvn_forms fvn_drafts fvn_sorts fvn_lindio fvn_flat fvn_samples fvn_match fvn_matching_tests; do cp -r "$here/crates/$crate" "$there/crates/"; done
+for crate in fvn_base fvn_terms fvn_forms fvn_signature fvn_sorts fvn_lindio fvn_flat fvn_tests_samples fvn_match fvn_tests_matching; do cp -r "$here/crates/$crate" "$there/crates/"; done
 grep -E '^fvn_(base|terms|forms|drafts|sorts|lindio|flat|samples|match):' "$here/crates.txt" > "$there/crates.txt"
-echo 'fvn_matching_tests: fvn_base fvn_flat fvn_forms fvn_match fvn_samples fvn_sorts fvn_terms' >> "$there/crates.txt"
-cd "$there/crates/fvn_matching_tests"
+echo 'fvn_tests_matching: fvn_base fvn_flat fvn_forms fvn_match fvn_tests_samples fvn_sorts fvn_terms' >> "$there/crates.txt"
+cd "$there/crates/fvn_tests_matching"
 # The rest of the tests is not needed.
 find src/tests -type f ! -name counting.rt -delete
 find proofs/tests -mindepth 1 -maxdepth 1  -exec rm -r {} +
@@ -34,7 +34,7 @@ mod counting;
 
 use self::counting::{flat_many, is_matched};
 use fvn_flat::Flat;
-use fvn_samples::{flat_of, signature_of};
+use fvn_tests_samples::{flat_of, signature_of};
 use fvn_sorts::Signature;
 use fvn_terms::NoMemory;
 use std::alloc::Global;

@@ -4,7 +4,7 @@
 The values that are tried for a variable are the parts of the targets: each subterm, each
 choice of summands of a sum, and each constant. A substitution answers a row where each
 pattern under it has the flat form of its target, and no value has a higher sort than its
-variable. The rows stand in patterns.rt of crates/fvn_matching_tests; those with another answer are printed.
+variable. The rows stand in patterns.rt of crates/fvn_tests_matching; those with another answer are printed.
 """
 import itertools, os, sys
 
@@ -172,7 +172,7 @@ def answer(sig, row):
 
 def rows():
     # the table in the file of tests
-    text = open(os.path.join(os.path.dirname(os.path.abspath(__file__)), '..', 'crates', 'fvn_matching_tests', 'src', 'tests', 'patterns.rt')).read()
+    text = open(os.path.join(os.path.dirname(os.path.abspath(__file__)), '..', 'crates', 'fvn_tests_matching', 'src', 'tests', 'patterns.rt')).read()
     return text.split('const ROWS: &str = "', 1)[1].split('";', 1)[0]
 
 if __name__ == '__main__':

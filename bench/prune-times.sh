@@ -6,10 +6,10 @@ there=$(mktemp -d)
 trap 'rm -rf "$there"' EXIT
 mkdir -p "$there/crates"
 cp "$here/HANDLES" "$there/HANDLES"
-for crate in fvn_base fvn_terms fvn_forms fvn_drafts fvn_sorts fvn_lindio fvn_flat fvn_samples fvn_match fvn_counts fvn_cover fvn_matching_tests; do cp -r "$here/crates/$crate" "$there/crates/"; done
+for crate in fvn_base fvn_terms fvn_forms fvn_signature fvn_sorts fvn_lindio fvn_flat fvn_tests_samples fvn_match fvn_cover_counts fvn_cover fvn_tests_matching; do cp -r "$here/crates/$crate" "$there/crates/"; done
 grep -E '^fvn_(base|terms|forms|drafts|sorts|lindio|flat|samples|match|counts|cover):' "$here/crates.txt" > "$there/crates.txt"
-echo 'fvn_matching_tests: fvn_base fvn_cover fvn_flat fvn_forms fvn_samples fvn_sorts fvn_terms' >> "$there/crates.txt"
-cd "$there/crates/fvn_matching_tests"
+echo 'fvn_tests_matching: fvn_base fvn_cover fvn_flat fvn_forms fvn_tests_samples fvn_sorts fvn_terms' >> "$there/crates.txt"
+cd "$there/crates/fvn_tests_matching"
 # The rest of the tests is not needed.
 find src/tests -type f ! -name comparing.rt ! -name meeting.rt ! -name variants.rt -delete
 find proofs/tests -mindepth 1 -maxdepth 1 ! -name comparing ! -name meeting ! -name variants -exec rm -r {} +
@@ -25,7 +25,7 @@ use self::comparing::{shown_both, shown_marked, shown_pruned};
 use self::meeting::Meeting;
 use self::variants::{are_all_alike, variant_of};
 use fvn_cover::{Variant, prune};
-use fvn_samples::signature_of;
+use fvn_tests_samples::signature_of;
 use fvn_sorts::Signature;
 use fvn_terms::NoMemory;
 use std::alloc::Global;

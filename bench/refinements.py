@@ -4,7 +4,7 @@
 A plain program that shares nothing with the solver. A way gives each variable that occurs in a value of the listed
 variables a sort of its kind; it fits where no value has a higher sort than its variable. The maximal ones are
 kept, in lexicographic order of the numbers of the sorts in order of first occurrence in the substitution, kinds
-after sorts. The rows stand in refinements.rt of crates/fvn_matching_tests; those with another answer are printed.
+after sorts. The rows stand in refinements.rt of crates/fvn_tests_matching; those with another answer are printed.
 """
 import itertools, os, sys
 
@@ -151,7 +151,7 @@ def answer(sig, row):
 
 def rows():
     # the table in the file of tests
-    text = open(os.path.join(os.path.dirname(os.path.abspath(__file__)), '..', 'crates', 'fvn_matching_tests', 'src', 'tests', 'refinements.rt')).read()
+    text = open(os.path.join(os.path.dirname(os.path.abspath(__file__)), '..', 'crates', 'fvn_tests_matching', 'src', 'tests', 'refinements.rt')).read()
     return text.split('const ROWS: &str =', 1)[1].split('"', 2)[1]
 
 if __name__ == '__main__':

@@ -12,7 +12,7 @@ for crate in base lindio acunify terms forms drafts sorts flat samples match cou
   grep "^fvn_$crate:" "$here/crates.txt" >> "$there/crates.txt"
 done
 cp "${PROBLEMS:-$here/bench/combine-problems.txt}" "$there/problems"
-cd "$there/crates/fvn_combine_tests"
+cd "$there/crates/fvn_tests_combine"
 # The rest of the tests is not needed.
 find src/tests -type f ! -name given.rt -delete
 find proofs/tests -mindepth 1 -maxdepth 1 ! -name given -exec rm -r {} +
@@ -25,14 +25,14 @@ mod given;
 use self::given::is_given;
 use fvn_base::Seq;
 use fvn_flat::Pairs;
-use fvn_frames::{Reading, first_question, question_on_all, question_on_touched, read};
+use fvn_combine_leaves::{Reading, first_question, question_on_all, question_on_touched, read};
 use fvn_lindio::Solution;
-use fvn_nodes::{State, Table, Tree, table_of};
-use fvn_openings::{bases, option_counts, shared, tags_of, wheels};
-use fvn_samples::{problem_of, signature_of};
+use fvn_combine_nodes::{State, Table, Tree, table_of};
+use fvn_combine_candidates::{bases, option_counts, shared, tags_of, wheels};
+use fvn_tests_samples::{problem_of, signature_of};
 use fvn_sorts::Signature;
 use fvn_terms::NoMemory;
-use fvn_wheels::Tags;
+use fvn_acunify_product::Tags;
 use std::alloc::Global;
 use std::process::Abort;
 

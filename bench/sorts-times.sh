@@ -14,7 +14,7 @@ there=$(mktemp -d)
 trap 'rm -rf "$there"' EXIT
 mkdir -p "$there/crates/sorts_times/src" "$there/crates/sorts_times/proofs/tests/all_names"
 cp "$here/HANDLES" "$there/HANDLES"
-for crate in fvn_base fvn_terms fvn_forms fvn_drafts fvn_sorts; do cp -r "$here/crates/$crate" "$there/crates/"; done
+for crate in fvn_base fvn_terms fvn_forms fvn_signature fvn_sorts; do cp -r "$here/crates/$crate" "$there/crates/"; done
 { grep -E '^fvn_(base|terms|forms|drafts|sorts):' "$here/crates.txt"; echo 'sorts_times: fvn_base fvn_sorts fvn_terms thiserror'; } > "$there/crates.txt"
 cd "$there/crates/sorts_times"
 cat > src/lib.rt <<'LIBRARY'

@@ -6,12 +6,12 @@ there=$(mktemp -d)
 trap 'rm -rf "$there"' EXIT
 mkdir -p "$there/crates"
 cp "$here/HANDLES" "$there/HANDLES"
-for crate in fvn_base fvn_terms fvn_forms fvn_drafts fvn_sorts fvn_lindio fvn_flat fvn_nodes fvn_purify; do
+for crate in fvn_base fvn_terms fvn_forms fvn_signature fvn_sorts fvn_lindio fvn_flat fvn_combine_nodes fvn_purify; do
   mkdir -p "$there/crates/$crate"
   for part in src specs proofs; do cp -r "$here/crates/$crate/$part" "$there/crates/$crate/"; done
 done
 grep -E '^fvn_(base|terms|forms|drafts|sorts|lindio|flat|nodes|purify):' "$here/crates.txt" > "$there/crates.txt"
-echo "times: fvn_base fvn_flat fvn_forms fvn_nodes fvn_purify fvn_sorts fvn_terms" >> "$there/crates.txt"
+echo "times: fvn_base fvn_flat fvn_forms fvn_combine_nodes fvn_purify fvn_sorts fvn_terms" >> "$there/crates.txt"
 mkdir -p "$there/crates/times/src"
 cd "$there/crates/times"
 cat > src/main.rt <<'PROGRAM'
@@ -20,7 +20,7 @@ cat > src/main.rt <<'PROGRAM'
 
 use fvn_base::Seq;
 use fvn_flat::{Pairs, flatten};
-use fvn_nodes::{start, table_of};
+use fvn_combine_nodes::{start, table_of};
 use fvn_purify::{Splits, purify};
 use fvn_sorts::{Signature, SignatureBuilder};
 use fvn_terms::{Args, Axioms, NoMemory, OpId, Plain, Rank, SortId, Var};

@@ -3,8 +3,8 @@
 
 ghost use Rattle.std.specs.Prelude.{◌≡◌, map, string_bytes};
 ghost use Rattle.std.specs.Process.{exit_status};
-ghost use Rattle.fvn_commands.specs.declared.status.Status.{Status as AnyStatus};
-ghost use Rattle.fvn_commands.specs.Statuses.{exit_number};
+ghost use Rattle.fvn_cmd.specs.declared.status.Status.{Status as AnyStatus};
+ghost use Rattle.fvn_cmd.specs.Statuses.{exit_number};
 ghost use Rattle.fvn_tool.specs.Runs.{seen};
 ghost use Rattle.fvn_tool.specs.Claims.{IsReport};
 

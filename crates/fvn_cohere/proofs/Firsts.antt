@@ -11,8 +11,8 @@ use Rattle.fvn_terms.specs.declared.declarations.Declarations.{Declarations}
 use Rattle.fvn_terms.specs.Plain.{term}
 use Rattle.fvn_terms.specs.Theory.{Equations}
 use Rattle.fvn_terms.specs.Rewriting.{IsSortDecreasing}
-use Rattle.fvn_rewriting.specs.Kinds.{IsKindedEquation}
-use Rattle.fvn_rewriting.specs.Losses.{AreSortDecreasing, IsFirstLoss}
+use Rattle.fvn_rewrite_laws.specs.Kinds.{IsKindedEquation}
+use Rattle.fvn_rewrite_laws.specs.Losses.{AreSortDecreasing, IsFirstLoss}
 use Rattle.fvn_module.specs.declared.equation.Equation.{Equation}
 use Rattle.fvn_module.specs.Readable.{IsReadableEquation}
 use Rattle.fvn_module.specs.Contents.{Contents}

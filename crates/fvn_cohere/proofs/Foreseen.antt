@@ -26,12 +26,12 @@ use Rattle.fvn_forms.proofs.SortTests.{at_or_below-true, at_or_below-complete}
 use Rattle.fvn_forms.proofs.Results.{result_monotone, result_swap, result-kind, result-is}
 use Rattle.fvn_forms.proofs.Sums.{same_op_is}
 use Rattle.fvn_forms.proofs.ToCanon.{identity_is}
-use Rattle.fvn_rewriting.specs.declared.shapes.Root.{Root}
-use Rattle.fvn_rewriting.specs.declared.shapes.Root.TheVariants.{Variable, Constant, Compound}
-use Rattle.fvn_rewriting.specs.declared.shapes.Shape.{Shape}
-use Rattle.fvn_rewriting.specs.Shapes.{is_root_of, sorts_of, compound, shape_over, shape_in, shapes_in}
-use Rattle.fvn_rewriting.specs.Identities.{identities, is_listed_op}
-use Rattle.fvn_rewriting.proofs.Identities.{identity_listed, listed_op}
+use Rattle.fvn_rewrite_laws.specs.declared.shapes.Root.{Root}
+use Rattle.fvn_rewrite_laws.specs.declared.shapes.Root.TheVariants.{Variable, Constant, Compound}
+use Rattle.fvn_rewrite_laws.specs.declared.shapes.Shape.{Shape}
+use Rattle.fvn_rewrite_laws.specs.Shapes.{is_root_of, sorts_of, compound, shape_over, shape_in, shapes_in}
+use Rattle.fvn_rewrite_laws.specs.Identities.{identities, is_listed_op}
+use Rattle.fvn_rewrite_laws.proofs.Identities.{identity_listed, listed_op}
 use Rattle.fvn_cohere.specs.declared.outlooks.Outlook.{Outlook}
 use Rattle.fvn_cohere.specs.inner.Searching.{is_variable_root}
 use Rattle.fvn_cohere.specs.inner.Outlooks.{is_constant_root, is_at_least, may_serve, is_below_rank, lows_of, highs_of, HasConstantSort, AreAllowed, IsLow, Suits, AreArguments, IsJoined, Fills, offered}

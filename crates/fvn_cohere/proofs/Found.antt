@@ -21,20 +21,20 @@ use Rattle.fvn_sorts.specs.Queries.{IsCompleted}
 use Rattle.fvn_flat.specs.Problems.{variables}
 use Rattle.fvn_flat.specs.Variables.{with_variable}
 use Rattle.fvn_flat.proofs.Binding.{same_var_is, same_var_itself}
-use Rattle.fvn_rewriting.specs.declared.shapes.Root.{Root}
-use Rattle.fvn_rewriting.specs.declared.shapes.Root.TheVariants.{Variable, Constant, Compound}
-use Rattle.fvn_rewriting.specs.declared.shapes.Shape.{Shape}
-use Rattle.fvn_rewriting.specs.Shapes.{shape_in}
-use Rattle.fvn_rewriting.specs.Identities.{identities}
-use Rattle.fvn_rewriting.specs.Choices.{distinct_variables_of, sort_choices, identity_choices, IsChoice}
-use Rattle.fvn_rewriting.specs.Kinds.{IsKindedEquation}
-use Rattle.fvn_rewriting.specs.Collapses.{CollapsesToVariable, CollapsesToIdentity}
-use Rattle.fvn_rewriting.specs.Losses.{IsLoss}
-use Rattle.fvn_rewriting.proofs.Identities.{op_listed, listed_op}
-use Rattle.fvn_rewriting.proofs.Listing.{distinct_listed, distinct_occurs}
-use Rattle.fvn_rewriting.proofs.Trimming.{shape_agrees}
-use Rattle.fvn_rewriting.proofs.Losing.{choice_loses, choices_decrease}
-use Rattle.fvn_rewriting.proofs.Collapsing.{variable_choice, identity_choice, choice_to_variable, choice_to_identity}
+use Rattle.fvn_rewrite_laws.specs.declared.shapes.Root.{Root}
+use Rattle.fvn_rewrite_laws.specs.declared.shapes.Root.TheVariants.{Variable, Constant, Compound}
+use Rattle.fvn_rewrite_laws.specs.declared.shapes.Shape.{Shape}
+use Rattle.fvn_rewrite_laws.specs.Shapes.{shape_in}
+use Rattle.fvn_rewrite_laws.specs.Identities.{identities}
+use Rattle.fvn_rewrite_laws.specs.Choices.{distinct_variables_of, sort_choices, identity_choices, IsChoice}
+use Rattle.fvn_rewrite_laws.specs.Kinds.{IsKindedEquation}
+use Rattle.fvn_rewrite_laws.specs.Collapses.{CollapsesToVariable, CollapsesToIdentity}
+use Rattle.fvn_rewrite_laws.specs.Losses.{IsLoss}
+use Rattle.fvn_rewrite_laws.proofs.Identities.{op_listed, listed_op}
+use Rattle.fvn_rewrite_laws.proofs.Listing.{distinct_listed, distinct_occurs}
+use Rattle.fvn_rewrite_laws.proofs.Trimming.{shape_agrees}
+use Rattle.fvn_rewrite_laws.proofs.Losing.{choice_loses, choices_decrease}
+use Rattle.fvn_rewrite_laws.proofs.Collapsing.{variable_choice, identity_choice, choice_to_variable, choice_to_identity}
 use Rattle.fvn_cohere.specs.Promises.{LosesAs}
 use Rattle.fvn_cohere.specs.declared.searching.Sought.{Sought}
 use Rattle.fvn_cohere.specs.declared.searching.Sought.TheVariants.{Loss, ToVariable, ToIdentity}

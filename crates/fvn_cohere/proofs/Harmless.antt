@@ -10,7 +10,7 @@ use Rattle.fvn_base.proofs.Membership.{map_contains}
 use Rattle.fvn_terms.specs.declared.declarations.Declarations.{Declarations}
 use Rattle.fvn_terms.specs.Term.{Term}
 use Rattle.fvn_terms.specs.Plain.{term}
-use Rattle.fvn_rewriting.specs.Choices.{InstancesFit}
+use Rattle.fvn_rewrite_laws.specs.Choices.{InstancesFit}
 use Rattle.fvn_module.specs.declared.equation.Equation.{Equation}
 use Rattle.fvn_module.specs.Contents.{Contents}
 use Rattle.fvn_cohere.specs.declared.faults.LeftFault.{LeftFault}

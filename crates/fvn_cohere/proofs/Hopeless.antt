@@ -18,14 +18,14 @@ use Rattle.fvn_forms.proofs.SortOrder.{AtOrBelow-trans}
 use Rattle.fvn_forms.proofs.SortTests.{at_or_below-complete}
 use Rattle.fvn_sorts.specs.Queries.{IsCompleted}
 use Rattle.fvn_flat.proofs.Binding.{same_var_is}
-use Rattle.fvn_rewriting.specs.declared.shapes.Root.{Root}
-use Rattle.fvn_rewriting.specs.declared.shapes.Root.TheVariants.{Variable, Constant, Compound}
-use Rattle.fvn_rewriting.specs.declared.shapes.Shape.{Shape}
-use Rattle.fvn_rewriting.specs.Shapes.{shape_in}
-use Rattle.fvn_rewriting.specs.Identities.{identities}
-use Rattle.fvn_rewriting.specs.Choices.{variable_shape, identity_shape, sorts_below, identities_below}
-use Rattle.fvn_rewriting.proofs.Identities.{op_listed}
-use Rattle.fvn_rewriting.proofs.Choosing.{listed_below, identity_below}
+use Rattle.fvn_rewrite_laws.specs.declared.shapes.Root.{Root}
+use Rattle.fvn_rewrite_laws.specs.declared.shapes.Root.TheVariants.{Variable, Constant, Compound}
+use Rattle.fvn_rewrite_laws.specs.declared.shapes.Shape.{Shape}
+use Rattle.fvn_rewrite_laws.specs.Shapes.{shape_in}
+use Rattle.fvn_rewrite_laws.specs.Identities.{identities}
+use Rattle.fvn_rewrite_laws.specs.Choices.{variable_shape, identity_shape, sorts_below, identities_below}
+use Rattle.fvn_rewrite_laws.proofs.Identities.{op_listed}
+use Rattle.fvn_rewrite_laws.proofs.Choosing.{listed_below, identity_below}
 use Rattle.fvn_cohere.specs.declared.searching.Sought.{Sought}
 use Rattle.fvn_cohere.specs.declared.searching.Sought.TheVariants.{Loss, ToVariable, ToIdentity}
 use Rattle.fvn_cohere.specs.declared.outlooks.Outlook.{Outlook}

@@ -8,8 +8,8 @@ use Rattle.fvn_terms.specs.declared.declarations.Declarations.{Declarations}
 use Rattle.fvn_terms.specs.Signature.{axioms}
 use Rattle.fvn_forms.specs.Canon.{identity}
 use Rattle.fvn_forms.specs.Ranks.{result}
-use Rattle.fvn_rewriting.specs.declared.shapes.Shape.{Shape}
-use Rattle.fvn_rewriting.specs.Shapes.{is_root_of, sorts_of, compound, shape_over}
+use Rattle.fvn_rewrite_laws.specs.declared.shapes.Shape.{Shape}
+use Rattle.fvn_rewrite_laws.specs.Shapes.{is_root_of, sorts_of, compound, shape_over}
 
 -- the identity that axioms give
 pub identity_given : (a : Axioms) (given : Option OpId) → MatchOption given ((e : OpId) → a ≡ AssocCommId e → ⊥) (λ e. a ≡ AssocCommId e) → identity a ≡ given

@@ -3,7 +3,7 @@ use Rattle.std.proofs.Common.{◌≡◌, ◌≤◌, ◌<◌, ◌+◌, ◌*◌, �
 use Rattle.std.proofs.lemmas.Bool.{cases_lt}
 use Rattle.std.proofs.lemmas.List.{map_more}
 use Rattle.std.proofs.Math.Nat.{min-le_left, min-eq_left, min-eq_right, le-mul_of_pos_right, mul_comm, mul_assoc}
-use Rattle.fvn_rewriting.specs.Choices.{product}
+use Rattle.fvn_rewrite_laws.specs.Choices.{product}
 use Rattle.fvn_cohere.specs.inner.Capped.{capped}
 
 product-push : (ns : List ℕ) (n : ℕ) → product (ns ++ n ∷ []) ≡ product ns * n

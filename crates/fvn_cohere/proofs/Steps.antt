@@ -8,10 +8,10 @@ use Rattle.fvn_terms.specs.declared.plain.Var.{Var}
 use Rattle.fvn_terms.specs.declared.declarations.OpDecl.{OpDecl}
 use Rattle.fvn_terms.specs.declared.plain.SortId.{SortId}
 use Rattle.fvn_terms.specs.Plain.{term, terms}
-use Rattle.fvn_rewriting.specs.declared.shapes.Shape.{Shape}
+use Rattle.fvn_rewrite_laws.specs.declared.shapes.Shape.{Shape}
 use Rattle.fvn_flat.specs.Problems.{variables, variables_among}
 use Rattle.fvn_flat.specs.Variables.{with_variable}
-use Rattle.fvn_rewriting.specs.Identities.{with_identity_of}
+use Rattle.fvn_rewrite_laws.specs.Identities.{with_identity_of}
 
 -- the identity of one more operator
 pub identity-step : (ops : List OpDecl) (i : ℕ) (o : OpDecl) → i < length ops → o ≡ get_or ops i o → fold with_identity_of [] (take (i + 1) ops) ≡ with_identity_of (fold with_identity_of [] (take i ops)) o

@@ -3,8 +3,8 @@ use Rattle.std.specs.Prelude.{◌≡◌, ◌+◌, ℕ, ◌∷◌, ◌++◌, leng
 use Rattle.fvn_terms.specs.declared.declarations.Declarations.{Declarations}
 use Rattle.fvn_terms.specs.Term.{Term}
 use Rattle.fvn_terms.specs.Theory.{Equations}
-use Rattle.fvn_rewriting.specs.Choices.{InstancesFit}
-use Rattle.fvn_rewriting.specs.Collapses.{CollapsesToVariable, CollapsesToIdentity}
+use Rattle.fvn_rewrite_laws.specs.Choices.{InstancesFit}
+use Rattle.fvn_rewrite_laws.specs.Collapses.{CollapsesToVariable, CollapsesToIdentity}
 use Rattle.fvn_cohere.specs.declared.faults.LeftFault.{LeftFault}
 use Rattle.fvn_cohere.specs.declared.faults.LeftFault.TheVariants.{TooManyInstances, BecomesVariable, BecomesIdentity}
 

@@ -5,8 +5,8 @@ use Rattle.fvn_terms.specs.Term.{Term}
 use Rattle.fvn_terms.specs.Plain.{term}
 use Rattle.fvn_terms.specs.Theory.{Equations}
 use Rattle.fvn_terms.specs.Rewriting.{IsSortDecreasing}
-use Rattle.fvn_rewriting.specs.Collapses.{CollapsesToVariable, CollapsesToIdentity}
-use Rattle.fvn_rewriting.specs.Losses.{IsLoss}
+use Rattle.fvn_rewrite_laws.specs.Collapses.{CollapsesToVariable, CollapsesToIdentity}
+use Rattle.fvn_rewrite_laws.specs.Losses.{IsLoss}
 use Rattle.fvn_module.specs.declared.equation.Equation.{Equation}
 use Rattle.fvn_module.specs.Contents.{Contents}
 use Rattle.fvn_cohere.specs.declared.collapsing.Collapse.{Collapse}

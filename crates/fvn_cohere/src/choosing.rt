@@ -1,13 +1,13 @@
 //! What the variables of a term may stand for.
 ghost use Rattle.std.specs.Prelude.{◌≡◌, ◌∷◌, ◌++◌, map, IfOk};
-ghost use Rattle.fvn_rewriting.specs.Identities.{identities};
-ghost use Rattle.fvn_rewriting.specs.Choices.{variable_shape, identity_shape, sorts_below};
+ghost use Rattle.fvn_rewrite_laws.specs.Identities.{identities};
+ghost use Rattle.fvn_rewrite_laws.specs.Choices.{variable_shape, identity_shape, sorts_below};
 ghost use Rattle.fvn_cohere.specs.inner.Searching.{choices_for, unchosen_of};
 
 use crate::identities::{identities_below, sorts_below};
 use crate::searching::Sought;
 use fvn_base::Seq;
-use fvn_rewriting::{Root, Shape};
+use fvn_rewrite_laws::{Root, Shape};
 use fvn_sorts::Signature;
 use fvn_terms::{NoMemory, OpId, SortId, Var};
 use std::alloc::Global;

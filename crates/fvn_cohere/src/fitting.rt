@@ -2,8 +2,8 @@
 ghost use Rattle.std.specs.Prelude.{◌≡◌, ◌≤◌, ◌*◌, ◌↔◌, ◌+◌, length, IsTrue, IfOk};
 ghost use Rattle.fvn_base.specs.declared.limits.TheConstants.{IDENTITY_INSTANCES, SORT_INSTANCES};
 ghost use Rattle.fvn_terms.specs.Plain.{term};
-ghost use Rattle.fvn_rewriting.specs.Identities.{identities};
-ghost use Rattle.fvn_rewriting.specs.Choices.{identities_below, sorts_below, InstancesFit};
+ghost use Rattle.fvn_rewrite_laws.specs.Identities.{identities};
+ghost use Rattle.fvn_rewrite_laws.specs.Choices.{identities_below, sorts_below, InstancesFit};
 ghost use Rattle.fvn_cohere.specs.Promises.{IsNumberIn, OfEquation};
 ghost use Rattle.fvn_cohere.specs.inner.Capped.{capped};
 

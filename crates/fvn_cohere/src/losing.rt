@@ -1,8 +1,8 @@
 //! Equations that lose a sort.
 ghost use Rattle.std.specs.Prelude.{MatchOption, IfOk};
 ghost use Rattle.fvn_terms.specs.Plain.{term};
-ghost use Rattle.fvn_rewriting.specs.Kinds.{IsKindedEquation};
-ghost use Rattle.fvn_rewriting.specs.Losses.{AreSortDecreasing, IsFirstLoss};
+ghost use Rattle.fvn_rewrite_laws.specs.Kinds.{IsKindedEquation};
+ghost use Rattle.fvn_rewrite_laws.specs.Losses.{AreSortDecreasing, IsFirstLoss};
 ghost use Rattle.fvn_cohere.specs.Promises.{IsNumberIn, OfEquation, LosesAs, equations_of};
 
 use crate::choosing::unchosen;

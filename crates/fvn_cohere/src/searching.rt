@@ -6,13 +6,13 @@ ghost use Rattle.fvn_terms.specs.Signature.{IsTerm};
 ghost use Rattle.fvn_cohere.specs.inner.Searching.{shapes_by, is_variable_root, is_identity_root, with_shape, some_choice};
 ghost use Rattle.fvn_cohere.specs.inner.Outlooks.{AreAllowed, IsAllowed};
 ghost use Rattle.fvn_cohere.specs.inner.Posed.{IsPosed, is_sought};
-ghost use Rattle.fvn_rewriting.specs.declared.shapes.Shape.{Shape};
+ghost use Rattle.fvn_rewrite_laws.specs.declared.shapes.Shape.{Shape};
 
 use crate::identities::{is_at_or_below, is_listed};
 use crate::outlooks::PartialChoice;
 use crate::shapes::{Chosen, shape};
 use fvn_base::Seq;
-use fvn_rewriting::{Root, Shape};
+use fvn_rewrite_laws::{Root, Shape};
 use fvn_sorts::Signature;
 use fvn_terms::{OpId, Plain, Var};
 

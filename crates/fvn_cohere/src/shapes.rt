@@ -4,12 +4,12 @@ ghost use Rattle.fvn_base.specs.declared.limits.TheConstants.{ARGUMENTS as MOST_
 ghost use Rattle.fvn_terms.specs.Plain.{term};
 ghost use Rattle.fvn_terms.specs.Term.{app};
 ghost use Rattle.fvn_terms.specs.Signature.{IsTerm};
-ghost use Rattle.fvn_rewriting.specs.Shapes.{is_root_of, sorts_of, compound, shape_over, shape_in};
+ghost use Rattle.fvn_rewrite_laws.specs.Shapes.{is_root_of, sorts_of, compound, shape_over, shape_in};
 ghost use Rattle.fvn_forms.specs.Ranks.{result as least_result};
 ghost use Rattle.fvn_cohere.specs.inner.Searching.{shapes_by};
 
 use fvn_base::limits::ARGUMENTS;
-use fvn_rewriting::{Root, Shape};
+use fvn_rewrite_laws::{Root, Shape};
 use fvn_sorts::Signature;
 use fvn_terms::{Args, OpId, Plain, SortId, Var};
 

@@ -3,7 +3,7 @@ ghost use Rattle.std.specs.Prelude.{◌≡◌, fold, IfOk};
 ghost use Rattle.fvn_terms.specs.Plain.{term};
 ghost use Rattle.fvn_flat.specs.Variables.{with_variable};
 ghost use Rattle.fvn_flat.specs.Problems.{variables, variables_among};
-ghost use Rattle.fvn_rewriting.specs.Choices.{distinct_variables_of};
+ghost use Rattle.fvn_rewrite_laws.specs.Choices.{distinct_variables_of};
 
 use fvn_flat::with_variable;
 use fvn_terms::{Args, NoMemory, Plain, Var};

@@ -3,7 +3,7 @@ use Rattle.std.proofs.Common.{◌≡◌, List, [], subst, inl, inr, Option}
 use Rattle.std.specs.Prelude.{◌⊎◌}
 use Rattle.fvn_base.proofs.Membership.{contains_none}
 use Rattle.fvn_terms.specs.Substitution.{Substitution}
-use Rattle.fvn_nodes.specs.declared.state.State.{State}
+use Rattle.fvn_combine_nodes.specs.declared.state.State.{State}
 use Rattle.fvn_combine.specs.Tasks.{Combining}
 use Rattle.fvn_combine.specs.Search.{IsAdmitted, IsCoveredAt}
 use Rattle.fvn_combine.specs.declared.opened.Frame.{Frame}

@@ -10,17 +10,17 @@ use Rattle.fvn_base.specs.declared.limits.TheConstants.{MINIMAL_SOLUTIONS}
 use Rattle.fvn_terms.specs.declared.plain.OpId.{OpId}
 use Rattle.fvn_terms.specs.Substitution.{Substitution}
 use Rattle.fvn_lindio.specs.declared.system.Solution.{Solution}
-use Rattle.fvn_nodes.specs.States.{class_of}
-use Rattle.fvn_nodes.specs.declared.state.State.{State}
-use Rattle.fvn_sums.specs.Laws.{TablesAreSmall}
-use Rattle.fvn_frames.specs.Readings.{IsReading}
-use Rattle.fvn_frames.specs.declared.reading.Reading.{Reading}
-use Rattle.fvn_wheels.specs.Wheels.{Odometer, Wheel, IsChoice, PendingChoices}
-use Rattle.fvn_asking.specs.Listed.{tag_in}
-use Rattle.fvn_frames.specs.Bases.{AreBases}
-use Rattle.fvn_openings.specs.Turning.{AreWheels}
-use Rattle.fvn_openings.specs.declared.sharing.SharedClass.{SharedClass}
-use Rattle.fvn_binding.specs.Ready.{AreListed}
+use Rattle.fvn_combine_nodes.specs.States.{class_of}
+use Rattle.fvn_combine_nodes.specs.declared.state.State.{State}
+use Rattle.fvn_combine_systems.specs.Laws.{TablesAreSmall}
+use Rattle.fvn_combine_leaves.specs.Readings.{IsReading}
+use Rattle.fvn_combine_leaves.specs.declared.reading.Reading.{Reading}
+use Rattle.fvn_acunify_product.specs.Wheels.{Odometer, Wheel, IsChoice, PendingChoices}
+use Rattle.fvn_combine_admissible.specs.Listed.{tag_in}
+use Rattle.fvn_combine_leaves.specs.Bases.{AreBases}
+use Rattle.fvn_combine_candidates.specs.Turning.{AreWheels}
+use Rattle.fvn_combine_candidates.specs.declared.sharing.SharedClass.{SharedClass}
+use Rattle.fvn_combine_triangular.specs.Ready.{AreListed}
 use Rattle.fvn_combine.specs.Tasks.{Combining, IsCombining}
 use Rattle.fvn_combine.specs.Frames.{IsTurning, IsCoveredBy, IsCoveredUnder}
 use Rattle.fvn_combine.specs.declared.opened.Turning.{Turning}

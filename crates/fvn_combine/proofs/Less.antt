@@ -11,19 +11,19 @@ use Rattle.fvn_base.proofs.Pigeonhole.{length-le_below}
 use Rattle.fvn_base.specs.declared.limits.TheConstants.{MINIMAL_SOLUTIONS}
 use Rattle.fvn_terms.specs.declared.plain.OpId.{OpId}
 use Rattle.fvn_lindio.specs.declared.system.Solution.{Solution}
-use Rattle.fvn_nodes.specs.States.{class_of}
-use Rattle.fvn_nodes.specs.Trees.{weight}
-use Rattle.fvn_nodes.specs.declared.state.State.{State}
-use Rattle.fvn_frames.specs.Readings.{IsReading}
-use Rattle.fvn_frames.specs.declared.reading.Reading.{Reading}
-use Rattle.fvn_wheels.specs.Weight.{product}
-use Rattle.fvn_wheels.specs.Wheels.{Wheel, counts_of}
-use Rattle.fvn_frames.specs.Bases.{AreBases}
-use Rattle.fvn_openings.specs.Laws.{SumOperatorsAreFew}
-use Rattle.fvn_openings.specs.Sharing.{AreSharedClasses, classes_of}
-use Rattle.fvn_openings.specs.Tags.{tag_counts}
-use Rattle.fvn_openings.specs.Turning.{AreWheels}
-use Rattle.fvn_openings.specs.declared.sharing.SharedClass.{SharedClass}
+use Rattle.fvn_combine_nodes.specs.States.{class_of}
+use Rattle.fvn_combine_nodes.specs.Trees.{weight}
+use Rattle.fvn_combine_nodes.specs.declared.state.State.{State}
+use Rattle.fvn_combine_leaves.specs.Readings.{IsReading}
+use Rattle.fvn_combine_leaves.specs.declared.reading.Reading.{Reading}
+use Rattle.fvn_acunify_product.specs.Weight.{product}
+use Rattle.fvn_acunify_product.specs.Wheels.{Wheel, counts_of}
+use Rattle.fvn_combine_leaves.specs.Bases.{AreBases}
+use Rattle.fvn_combine_candidates.specs.Laws.{SumOperatorsAreFew}
+use Rattle.fvn_combine_candidates.specs.Sharing.{AreSharedClasses, classes_of}
+use Rattle.fvn_combine_candidates.specs.Tags.{tag_counts}
+use Rattle.fvn_combine_candidates.specs.Turning.{AreWheels}
+use Rattle.fvn_combine_candidates.specs.declared.sharing.SharedClass.{SharedClass}
 use Rattle.fvn_combine.specs.Tasks.{Combining}
 use Rattle.fvn_combine.specs.Work.{most_tags, most_numbers, left_at, left_by}
 use Rattle.fvn_combine.specs.declared.opened.Frame.{Frame}

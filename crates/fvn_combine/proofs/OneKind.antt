@@ -4,12 +4,12 @@ use Rattle.fvn_terms.specs.declared.plain.SortId.{SortId}
 use Rattle.fvn_terms.specs.Signature.{HasKind, IsTerm}
 use Rattle.fvn_forms.proofs.KindsKept.{kind_unique}
 use Rattle.fvn_flat.specs.Solving.{problem_of}
-use Rattle.fvn_nodes.specs.Table.{term_at}
-use Rattle.fvn_nodes.specs.States.{IsClosed, class_of}
-use Rattle.fvn_nodes.specs.declared.state.State.{State}
-use Rattle.fvn_nodes.proofs.Admitting.{named_within}
-use Rattle.fvn_plans.specs.Plans.{AreOfOneKind}
-use Rattle.fvn_nodes.proofs.Subterms.{node_kinded}
+use Rattle.fvn_combine_nodes.specs.Table.{term_at}
+use Rattle.fvn_combine_nodes.specs.States.{IsClosed, class_of}
+use Rattle.fvn_combine_nodes.specs.declared.state.State.{State}
+use Rattle.fvn_combine_nodes.proofs.Admitting.{named_within}
+use Rattle.fvn_combine_choices.specs.Plans.{AreOfOneKind}
+use Rattle.fvn_combine_nodes.proofs.Subterms.{node_kinded}
 use Rattle.fvn_combine.specs.Tasks.{Combining, IsCombining}
 use Rattle.fvn_combine.specs.inner.Alike.{IsOfItsKind}
 

@@ -4,24 +4,24 @@ use Rattle.std.specs.List.{AllZip}
 use Rattle.fvn_terms.specs.Substitution.{Substitution}
 use Rattle.fvn_flat.specs.Solving.{problem_of}
 use Rattle.fvn_lindio.specs.declared.system.Solution.{Solution}
-use Rattle.fvn_nodes.specs.States.{class_of}
-use Rattle.fvn_nodes.specs.declared.state.State.{State}
-use Rattle.fvn_sums.specs.Laws.{TablesAreSmall}
-use Rattle.fvn_frames.specs.Frames.{IsFrame}
-use Rattle.fvn_frames.specs.Readings.{IsReading}
-use Rattle.fvn_frames.specs.declared.reading.Reading.{Reading}
-use Rattle.fvn_wheels.specs.Tags.{Tagging, IsOption, PendingTags}
-use Rattle.fvn_plans.specs.Choosing.{Choice}
-use Rattle.fvn_plans.specs.Plans.{AreOfOneKind}
-use Rattle.fvn_asking.specs.Listed.{systems_of}
-use Rattle.fvn_obeying.specs.CoveringChoices.{IsCovering}
-use Rattle.fvn_obeying.specs.Laws.{FramesCover, ReadingsTell}
-use Rattle.fvn_frames.specs.Bases.{AreBases}
-use Rattle.fvn_openings.specs.Laws.{BasesMakeSystems, CoveringChoicesAreListed}
-use Rattle.fvn_openings.specs.Sharing.{AreSharedClasses}
-use Rattle.fvn_openings.specs.Tags.{tag_counts}
-use Rattle.fvn_openings.specs.declared.sharing.SharedClass.{SharedClass}
-use Rattle.fvn_binding.specs.Ready.{IsReady}
+use Rattle.fvn_combine_nodes.specs.States.{class_of}
+use Rattle.fvn_combine_nodes.specs.declared.state.State.{State}
+use Rattle.fvn_combine_systems.specs.Laws.{TablesAreSmall}
+use Rattle.fvn_combine_leaves.specs.Frames.{IsFrame}
+use Rattle.fvn_combine_leaves.specs.Readings.{IsReading}
+use Rattle.fvn_combine_leaves.specs.declared.reading.Reading.{Reading}
+use Rattle.fvn_acunify_product.specs.Tags.{Tagging, IsOption, PendingTags}
+use Rattle.fvn_combine_choices.specs.Choosing.{Choice}
+use Rattle.fvn_combine_choices.specs.Plans.{AreOfOneKind}
+use Rattle.fvn_combine_admissible.specs.Listed.{systems_of}
+use Rattle.fvn_combine_complete.specs.CoveringChoices.{IsCovering}
+use Rattle.fvn_combine_complete.specs.Laws.{FramesCover, ReadingsTell}
+use Rattle.fvn_combine_leaves.specs.Bases.{AreBases}
+use Rattle.fvn_combine_candidates.specs.Laws.{BasesMakeSystems, CoveringChoicesAreListed}
+use Rattle.fvn_combine_candidates.specs.Sharing.{AreSharedClasses}
+use Rattle.fvn_combine_candidates.specs.Tags.{tag_counts}
+use Rattle.fvn_combine_candidates.specs.declared.sharing.SharedClass.{SharedClass}
+use Rattle.fvn_combine_triangular.specs.Ready.{IsReady}
 use Rattle.fvn_combine.specs.Tasks.{Combining, IsCombining}
 use Rattle.fvn_combine.specs.Frames.{IsOpened, IsCoveredToCome}
 use Rattle.fvn_combine.specs.declared.opened.Opened.{Opened}

@@ -11,18 +11,18 @@ use Rattle.fvn_terms.specs.Term.{Term, app}
 use Rattle.fvn_forms.proofs.Sums.{same_op_is, same_op_itself}
 use Rattle.fvn_flat.specs.Problems.{subterms_of}
 use Rattle.fvn_flat.specs.Solving.{problem_of}
-use Rattle.fvn_nodes.specs.Table.{nothing, NodeTable, IsUnitOf, term_at, terms_of}
-use Rattle.fvn_nodes.specs.States.{class_of}
-use Rattle.fvn_nodes.specs.declared.state.State.{State}
-use Rattle.fvn_nodes.specs.declared.table.Node.{Node}
-use Rattle.fvn_nodes.specs.declared.table.Node.TheVariants.{Var, App}
-use Rattle.fvn_nodes.proofs.Nodes.{length-terms_of, application_at}
-use Rattle.fvn_sums.specs.Laws.{TablesAreSmall}
-use Rattle.fvn_sums.specs.NodeSystems.{is_headed}
-use Rattle.fvn_frames.specs.Readings.{IsReading}
-use Rattle.fvn_frames.specs.declared.reading.Sums.{Sums}
-use Rattle.fvn_frames.specs.declared.reading.Reading.{Reading}
-use Rattle.fvn_nodes.proofs.Terms.{once_contains}
+use Rattle.fvn_combine_nodes.specs.Table.{nothing, NodeTable, IsUnitOf, term_at, terms_of}
+use Rattle.fvn_combine_nodes.specs.States.{class_of}
+use Rattle.fvn_combine_nodes.specs.declared.state.State.{State}
+use Rattle.fvn_combine_nodes.specs.declared.table.Node.{Node}
+use Rattle.fvn_combine_nodes.specs.declared.table.Node.TheVariants.{Var, App}
+use Rattle.fvn_combine_nodes.proofs.Nodes.{length-terms_of, application_at}
+use Rattle.fvn_combine_systems.specs.Laws.{TablesAreSmall}
+use Rattle.fvn_combine_systems.specs.NodeSystems.{is_headed}
+use Rattle.fvn_combine_leaves.specs.Readings.{IsReading}
+use Rattle.fvn_combine_leaves.specs.declared.reading.Sums.{Sums}
+use Rattle.fvn_combine_leaves.specs.declared.reading.Reading.{Reading}
+use Rattle.fvn_combine_nodes.proofs.Terms.{once_contains}
 use Rattle.fvn_combine.specs.Tasks.{Combining, IsCombining}
 
 -- one operator heads a node

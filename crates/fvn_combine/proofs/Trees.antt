@@ -7,11 +7,11 @@ use Rattle.fvn_base.proofs.Membership.{contains_here, contains_cases, contains_n
 use Rattle.fvn_terms.specs.Substitution.{Substitution}
 use Rattle.fvn_flat.specs.Solving.{problem_of}
 use Rattle.fvn_flat.specs.SolvedLists.{IsKindUnifier}
-use Rattle.fvn_nodes.specs.Laws.{UnifiersPartition}
-use Rattle.fvn_nodes.specs.States.{Admits, IsClosed}
-use Rattle.fvn_nodes.specs.Trees.{AreClosed, IsAsked, weight}
-use Rattle.fvn_nodes.specs.Unifiers.{kernel}
-use Rattle.fvn_nodes.specs.declared.state.State.{State}
+use Rattle.fvn_combine_nodes.specs.Laws.{UnifiersPartition}
+use Rattle.fvn_combine_nodes.specs.States.{Admits, IsClosed}
+use Rattle.fvn_combine_nodes.specs.Trees.{AreClosed, IsAsked, weight}
+use Rattle.fvn_combine_nodes.specs.Unifiers.{kernel}
+use Rattle.fvn_combine_nodes.specs.declared.state.State.{State}
 use Rattle.fvn_combine.specs.Tasks.{Combining, IsCombining}
 use Rattle.fvn_combine.specs.Frames.{IsOpened, IsCoveredToCome}
 use Rattle.fvn_combine.specs.Search.{IsAdmitted, IsCoveredAt, IsOpenedAt}

@@ -7,16 +7,16 @@ use Rattle.fvn_base.proofs.Options.{Some-injective}
 use Rattle.fvn_terms.specs.declared.plain.OpId.{OpId}
 use Rattle.fvn_terms.specs.Substitution.{Substitution}
 use Rattle.fvn_flat.specs.Solving.{problem_of}
-use Rattle.fvn_nodes.specs.States.{class_of}
-use Rattle.fvn_nodes.specs.declared.state.State.{State}
-use Rattle.fvn_plans.specs.Choosing.{Choice}
-use Rattle.fvn_wheels.specs.Tags.{Tagging, PendingTags, tags_left}
-use Rattle.fvn_wheels.specs.Wheels.{Odometer, IsChoice, PendingChoices, choices_left}
-use Rattle.fvn_asking.specs.Listed.{tag_in, systems_of, choice_of}
-use Rattle.fvn_obeying.specs.CoveringChoices.{IsCovering}
-use Rattle.fvn_openings.specs.Laws.{ListedChoicesArePossible}
-use Rattle.fvn_openings.specs.Tags.{AreTags}
-use Rattle.fvn_openings.specs.Turning.{AreWheels}
+use Rattle.fvn_combine_nodes.specs.States.{class_of}
+use Rattle.fvn_combine_nodes.specs.declared.state.State.{State}
+use Rattle.fvn_combine_choices.specs.Choosing.{Choice}
+use Rattle.fvn_acunify_product.specs.Tags.{Tagging, PendingTags, tags_left}
+use Rattle.fvn_acunify_product.specs.Wheels.{Odometer, IsChoice, PendingChoices, choices_left}
+use Rattle.fvn_combine_admissible.specs.Listed.{tag_in, systems_of, choice_of}
+use Rattle.fvn_combine_complete.specs.CoveringChoices.{IsCovering}
+use Rattle.fvn_combine_candidates.specs.Laws.{ListedChoicesArePossible}
+use Rattle.fvn_combine_candidates.specs.Tags.{AreTags}
+use Rattle.fvn_combine_candidates.specs.Turning.{AreWheels}
 use Rattle.fvn_combine.specs.Tasks.{Combining, IsCombining}
 use Rattle.fvn_combine.specs.Frames.{IsTurning, IsCoveredLater, IsCoveredToCome, IsOpened}
 use Rattle.fvn_combine.specs.declared.opened.Turning.{Turning}

@@ -2,9 +2,9 @@
 use Rattle.std.proofs.Common.{sym, subst, inl, inr, Option}
 use Rattle.std.specs.Prelude.{◌⊎◌}
 use Rattle.fvn_terms.specs.Substitution.{Substitution}
-use Rattle.fvn_nodes.specs.declared.state.State.{State}
-use Rattle.fvn_drawing.specs.declared.drawing.Drawn.{Drawn}
-use Rattle.fvn_drawing.specs.declared.drawing.Drawn.TheVariants.{Nothing, TooLarge, Unifier}
+use Rattle.fvn_combine_nodes.specs.declared.state.State.{State}
+use Rattle.fvn_combine_drawing.specs.declared.drawing.Drawn.{Drawn}
+use Rattle.fvn_combine_drawing.specs.declared.drawing.Drawn.TheVariants.{Nothing, TooLarge, Unifier}
 use Rattle.fvn_combine.specs.Tasks.{Combining}
 use Rattle.fvn_combine.specs.Frames.{IsCoveredNow, IsCoveredLater, IsCoveredToCome}
 use Rattle.fvn_combine.specs.declared.opened.Turning.{Turning}

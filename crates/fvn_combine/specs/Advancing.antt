@@ -7,8 +7,8 @@ use Rattle.fvn_flat.specs.Problems.{variables_of}
 use Rattle.fvn_flat.specs.Solving.{problem_of, IsBasisCause, IsTooLarge}
 use Rattle.fvn_flat.specs.SolvedLists.{IsKindUnifier}
 use Rattle.fvn_flat.specs.declared.solver.Pairs.{Pairs}
-use Rattle.fvn_plans.specs.Covering.{CoversOnKinds}
-use Rattle.fvn_drawing.specs.OnKinds.{IsGivenOnKinds}
+use Rattle.fvn_combine_choices.specs.Covering.{CoversOnKinds}
+use Rattle.fvn_combine_drawing.specs.OnKinds.{IsGivenOnKinds}
 use Rattle.fvn_combine.specs.Tasks.{Combining}
 use Rattle.fvn_combine.specs.Endings.{told_of}
 use Rattle.fvn_combine.specs.Search.{Search, Pending, IsEnd}

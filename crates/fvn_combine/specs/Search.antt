@@ -2,10 +2,10 @@
 use Rattle.std.specs.Prelude.{◌≡◌, ◌⊎◌, List, Option, Some, None, Any}
 use Rattle.fvn_terms.specs.Substitution.{Substitution}
 use Rattle.fvn_flat.specs.Solving.{IsBasisCause, IsTooLarge}
-use Rattle.fvn_nodes.specs.States.{Admits}
-use Rattle.fvn_nodes.specs.Trees.{AreClosed}
-use Rattle.fvn_nodes.specs.Unifiers.{kernel}
-use Rattle.fvn_nodes.specs.declared.state.State.{State}
+use Rattle.fvn_combine_nodes.specs.States.{Admits}
+use Rattle.fvn_combine_nodes.specs.Trees.{AreClosed}
+use Rattle.fvn_combine_nodes.specs.Unifiers.{kernel}
+use Rattle.fvn_combine_nodes.specs.declared.state.State.{State}
 use Rattle.fvn_combine.specs.Tasks.{Combining, IsCombining}
 use Rattle.fvn_combine.specs.Frames.{IsOpened, IsCoveredToCome}
 use Rattle.fvn_combine.specs.declared.opened.Frame.{Frame}

@@ -6,8 +6,8 @@ use Rattle.fvn_terms.specs.declared.declarations.Declarations.{Declarations}
 use Rattle.fvn_forms.specs.Good.{IsGood}
 use Rattle.fvn_flat.specs.Solving.{IsGiven, problem_of, symbols_of_pairs}
 use Rattle.fvn_flat.specs.declared.solver.Pairs.{Pairs}
-use Rattle.fvn_nodes.specs.Table.{NodeTable, IsWellMade, IsTableOf}
-use Rattle.fvn_binding.specs.Ready.{AreVariablesOf}
+use Rattle.fvn_combine_nodes.specs.Table.{NodeTable, IsWellMade, IsTableOf}
+use Rattle.fvn_combine_triangular.specs.Ready.{AreVariablesOf}
 
 -- the problem in its signature, with its table, the variables of this, the first number of a new variable, and the most symbols of a value
 pub record Combining : Type 0 where

@@ -1,10 +1,10 @@
 -- How much is left to do: a number that falls with each unifier that is given.
 use Rattle.std.specs.Prelude.{ℕ, ◌+◌, ◌*◌, ◌^◌, List, length, Option, Some, None}
 use Rattle.fvn_base.specs.declared.limits.TheConstants.{MINIMAL_SOLUTIONS}
-use Rattle.fvn_nodes.specs.Trees.{weight}
-use Rattle.fvn_nodes.specs.declared.state.State.{State}
-use Rattle.fvn_wheels.specs.Tags.{tags_left}
-use Rattle.fvn_wheels.specs.Wheels.{choices_left}
+use Rattle.fvn_combine_nodes.specs.Trees.{weight}
+use Rattle.fvn_combine_nodes.specs.declared.state.State.{State}
+use Rattle.fvn_acunify_product.specs.Tags.{tags_left}
+use Rattle.fvn_acunify_product.specs.Wheels.{choices_left}
 use Rattle.fvn_combine.specs.Tasks.{Combining}
 use Rattle.fvn_combine.specs.Search.{Search}
 use Rattle.fvn_combine.specs.declared.opened.Turning.{Turning}

@@ -1,12 +1,12 @@
 //! Whether the classes of a state are of one kind each.
 ghost use Rattle.std.specs.Prelude.{◌↔◌, ◌<◌, ℕ, length, IsTrue};
-ghost use Rattle.fvn_nodes.specs.States.{IsClosed, class_of};
-ghost use Rattle.fvn_plans.specs.Plans.{AreOfOneKind};
+ghost use Rattle.fvn_combine_nodes.specs.States.{IsClosed, class_of};
+ghost use Rattle.fvn_combine_choices.specs.Plans.{AreOfOneKind};
 ghost use Rattle.fvn_combine.specs.inner.Alike.{IsOfItsKind};
 
 use crate::task::Task;
-use fvn_binding::node_kind;
-use fvn_nodes::State;
+use fvn_combine_nodes::State;
+use fvn_combine_triangular::node_kind;
 
 // Whether the node that names the class of node i is of its kind.
 fn is_of_its_kind(task: &Task, state: &State, i: usize) -> bool

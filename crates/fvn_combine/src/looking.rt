@@ -1,24 +1,24 @@
 //! What the top of a decision tree asks for.
 ghost use Rattle.std.specs.Prelude.{IfOk};
-ghost use Rattle.fvn_nodes.specs.Trees.{AreClosed};
-ghost use Rattle.fvn_nodes.specs.States.{class_of};
-ghost use Rattle.fvn_frames.specs.Bases.{AreBases};
-ghost use Rattle.fvn_frames.specs.Frames.{IsNearFrame, IsFrame};
-ghost use Rattle.fvn_frames.specs.Readings.{IsReading};
-ghost use Rattle.fvn_plans.specs.Plans.{AreOfOneKind};
+ghost use Rattle.fvn_combine_nodes.specs.Trees.{AreClosed};
+ghost use Rattle.fvn_combine_nodes.specs.States.{class_of};
+ghost use Rattle.fvn_combine_leaves.specs.Bases.{AreBases};
+ghost use Rattle.fvn_combine_leaves.specs.Frames.{IsNearFrame, IsFrame};
+ghost use Rattle.fvn_combine_leaves.specs.Readings.{IsReading};
+ghost use Rattle.fvn_combine_choices.specs.Plans.{AreOfOneKind};
 ghost use Rattle.fvn_combine.specs.inner.Found.{IsLooked, IsLookedAt};
 
 use crate::kinds::are_of_one_kind;
 use crate::opened::{Opened, open};
 use crate::task::Task;
 use fvn_base::Seq;
-use fvn_frames::{Reading, first_question, question_on_all, question_on_touched, read};
+use fvn_combine_candidates::{OpenFault, bases, bases_make_systems, refusals_are_causes};
+use fvn_combine_choices::classes_have_one_kind;
+use fvn_combine_complete::{frames_cover, readings_tell};
+use fvn_combine_leaves::{Reading, first_question, question_on_all, question_on_touched, read};
+use fvn_combine_nodes::{State, Tree};
+use fvn_combine_systems::{tables_are_small, tables_hold_arguments};
 use fvn_lindio::{Solution, System};
-use fvn_nodes::{State, Tree};
-use fvn_obeying::{frames_cover, readings_tell};
-use fvn_openings::{OpenFault, bases, bases_make_systems, refusals_are_causes};
-use fvn_plans::classes_have_one_kind;
-use fvn_sums::{tables_are_small, tables_hold_arguments};
 use fvn_terms::{NoMemory, OpId};
 
 /// What the last state of a tree asks for.

@@ -2,28 +2,28 @@
 ghost use Rattle.std.specs.Prelude.{◌*◌, ◌≤◌, IfOk};
 ghost use Rattle.fvn_terms.specs.Substitution.{Substitution};
 ghost use Rattle.fvn_flat.specs.Solving.{problem_of};
-ghost use Rattle.fvn_nodes.specs.States.{class_of};
-ghost use Rattle.fvn_frames.specs.Frames.{IsFrame};
-ghost use Rattle.fvn_frames.specs.Readings.{IsReading};
-ghost use Rattle.fvn_plans.specs.Choosing.{Choice as InChoice};
-ghost use Rattle.fvn_asking.specs.Listed.{systems_of};
-ghost use Rattle.fvn_obeying.specs.CoveringChoices.{IsCovering};
-ghost use Rattle.fvn_frames.specs.Bases.{AreBases};
-ghost use Rattle.fvn_binding.specs.Ready.{IsReady};
+ghost use Rattle.fvn_combine_nodes.specs.States.{class_of};
+ghost use Rattle.fvn_combine_leaves.specs.Frames.{IsFrame};
+ghost use Rattle.fvn_combine_leaves.specs.Readings.{IsReading};
+ghost use Rattle.fvn_combine_choices.specs.Choosing.{Choice as InChoice};
+ghost use Rattle.fvn_combine_admissible.specs.Listed.{systems_of};
+ghost use Rattle.fvn_combine_complete.specs.CoveringChoices.{IsCovering};
+ghost use Rattle.fvn_combine_leaves.specs.Bases.{AreBases};
+ghost use Rattle.fvn_combine_triangular.specs.Ready.{IsReady};
 ghost use Rattle.fvn_combine.specs.Frames.{IsOpened, IsCoveredToCome};
 ghost use Rattle.fvn_combine.specs.Work.{most_tags, most_numbers, frame_left};
 
 use crate::task::Task;
+use fvn_acunify_product::{Tags, Wheels};
 use fvn_base::Seq;
-use fvn_frames::Reading;
-use fvn_lindio::Solution;
-use fvn_nodes::State;
-use fvn_openings::{
+use fvn_combine_candidates::{
     SharedClass, covering_choices_are_listed, option_counts, shared, sum_operators_are_few,
 };
-use fvn_sums::tables_are_small;
+use fvn_combine_leaves::Reading;
+use fvn_combine_nodes::State;
+use fvn_combine_systems::tables_are_small;
+use fvn_lindio::Solution;
 use fvn_terms::{NoMemory, OpId};
-use fvn_wheels::{Tags, Wheels};
 
 /// Tags that are current, and the lists of numbers under them that are still to come.
 #[derive(Drop)]

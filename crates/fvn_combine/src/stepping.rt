@@ -1,6 +1,6 @@
 //! One step of the search after another.
 ghost use Rattle.std.specs.Prelude.{◌≡◌, IfOk, OnErr};
-ghost use Rattle.fvn_nodes.specs.Trees.{AreClosed};
+ghost use Rattle.fvn_combine_nodes.specs.Trees.{AreClosed};
 ghost use Rattle.fvn_combine.specs.Search.{IsOpenedAt};
 ghost use Rattle.fvn_combine.specs.inner.Found.{IsStep, AreFound, IsLessLeft};
 ghost use Rattle.fvn_combine.specs.Work.{left_by};
@@ -10,9 +10,9 @@ use crate::looking::{Looked, look};
 use crate::opened::Frame;
 use crate::task::Task;
 use crate::walking::next_in;
-use fvn_drawing::Drawn;
+use fvn_combine_drawing::Drawn;
+use fvn_combine_nodes::{Tree, unifiers_partition};
 use fvn_flat::Subst;
-use fvn_nodes::{Tree, unifiers_partition};
 use fvn_terms::NoMemory;
 
 /// What comes of one look at the last state.

@@ -4,9 +4,9 @@ ghost use Rattle.fvn_base.specs.declared.limits.TheConstants.{TERM_SYMBOLS};
 ghost use Rattle.fvn_flat.specs.Solving.{IsGiven, symbols_of_pairs};
 ghost use Rattle.fvn_combine.specs.Tasks.{IsCombining};
 
-use fvn_binding::variables;
+use fvn_combine_nodes::{Table, table_of};
+use fvn_combine_triangular::variables;
 use fvn_flat::Pairs;
-use fvn_nodes::{Table, table_of};
 use fvn_sorts::Signature;
 use fvn_terms::{NoMemory, Var};
 use std::alloc::Global;

@@ -1,28 +1,28 @@
 //! The choices of an open frame, one after another.
 ghost use Rattle.std.specs.Prelude.{◌≡◌, IfOk, OnErr};
 ghost use Rattle.fvn_terms.specs.Substitution.{Substitution};
-ghost use Rattle.fvn_nodes.specs.States.{class_of};
-ghost use Rattle.fvn_frames.specs.Readings.{IsReading};
-ghost use Rattle.fvn_frames.specs.Bases.{AreBases};
-ghost use Rattle.fvn_openings.specs.Sharing.{AreSharedClasses};
-ghost use Rattle.fvn_binding.specs.Ready.{IsReady};
+ghost use Rattle.fvn_combine_nodes.specs.States.{class_of};
+ghost use Rattle.fvn_combine_leaves.specs.Readings.{IsReading};
+ghost use Rattle.fvn_combine_leaves.specs.Bases.{AreBases};
+ghost use Rattle.fvn_combine_candidates.specs.Sharing.{AreSharedClasses};
+ghost use Rattle.fvn_combine_triangular.specs.Ready.{IsReady};
 ghost use Rattle.fvn_combine.specs.Frames.{IsTurning, IsOpened, IsCoveredUnder, IsCoveredNow, IsCoveredToCome};
 ghost use Rattle.fvn_combine.specs.Search.{IsCoveredAt, IsOpenedAt};
 ghost use Rattle.fvn_combine.specs.inner.Found.{AreDrawnFrom, IsSameButCurrent, IsTurned, LeavesLess};
 ghost use Rattle.fvn_combine.specs.Work.{frame_left, left_at};
-ghost use Rattle.fvn_wheels.specs.Wheels.{choices_left};
+ghost use Rattle.fvn_acunify_product.specs.Wheels.{choices_left};
 
 use crate::opened::{Frame, Opened, Turning};
 use crate::task::Task;
 use fvn_base::Seq;
-use fvn_drawing::{Drawn, draw};
-use fvn_frames::Reading;
-use fvn_lindio::Solution;
-use fvn_nodes::State;
-use fvn_openings::{
+use fvn_combine_candidates::{
     SharedClass, listed_choices_are_possible, sum_operators_are_few, tags_of, wheels,
 };
-use fvn_sums::tables_are_small;
+use fvn_combine_drawing::{Drawn, draw};
+use fvn_combine_leaves::Reading;
+use fvn_combine_nodes::State;
+use fvn_combine_systems::tables_are_small;
+use fvn_lindio::Solution;
 use fvn_terms::NoMemory;
 
 // The next unifier under the current tags.

@@ -5,7 +5,7 @@ ghost use Rattle.fvn_cover.specs.inner.Profiled.{IsProfiled};
 
 use crate::keeping::Prepared;
 use crate::variant::Variant;
-use fvn_counts::Profile;
+use fvn_cover_counts::Profile;
 use fvn_flat::Flat;
 use fvn_match::matches_both;
 use fvn_sorts::Signature;

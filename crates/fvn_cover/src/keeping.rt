@@ -6,7 +6,7 @@ ghost use Rattle.fvn_cover.specs.inner.Profiled.{IsProfiled};
 use crate::covering::Shown;
 use crate::values::values;
 use crate::variant::Variant;
-use fvn_counts::Profile;
+use fvn_cover_counts::Profile;
 use fvn_flat::Flat;
 use fvn_sorts::Signature;
 use fvn_terms::NoMemory;

@@ -8,7 +8,7 @@ use Rattle.fvn_syntax.specs.Raw.{RawTerm}
 use Rattle.fvn_syntax.specs.Scope.{Scope}
 use Rattle.fvn_syntax.specs.Resolve.{Resolved, resolve}
 use Rattle.fvn_syntax.proofs.SpelledOnce.{alone-once}
-use Rattle.fvn_statements.specs.declared.form.Form.{Form}
+use Rattle.fvn_module_statements.specs.declared.form.Form.{Form}
 use Rattle.fvn_module.specs.declared.equation.Equation.{Equation}
 use Rattle.fvn_module.specs.declared.sides.Sides.{Sides}
 use Rattle.fvn_module.specs.Contents.{Contents}

@@ -9,10 +9,10 @@ use Rattle.fvn_lex.specs.Cut.{Piece}
 use Rattle.fvn_base.proofs.Drops.{drop-at}
 use Rattle.fvn_syntax.specs.Raw.{spell, IsTermBefore}
 use Rattle.fvn_syntax.proofs.SpelledOnce.{ends-nil}
-use Rattle.fvn_statements.specs.declared.statement.Statement.{Statement}
-use Rattle.fvn_statements.specs.declared.statement.Statement.TheVariants as statement
-use Rattle.fvn_statements.specs.Forms.{IsStatement}
-use Rattle.fvn_statements.specs.Written.{IsSide}
+use Rattle.fvn_module_statements.specs.declared.statement.Statement.{Statement}
+use Rattle.fvn_module_statements.specs.declared.statement.Statement.TheVariants as statement
+use Rattle.fvn_module_statements.specs.Forms.{IsStatement}
+use Rattle.fvn_module_statements.specs.Written.{IsSide}
 use Rattle.fvn_syntax.specs.Scope.{Scope}
 use Rattle.fvn_module.specs.declared.equation.Equation.{Equation}
 use Rattle.fvn_module.specs.declared.sides.Sides.{Sides}

@@ -4,7 +4,7 @@ use Rattle.fvn_base.specs.Order.{IsBefore}
 use Rattle.std.proofs.lemmas.Bool.{cases_order}
 use Rattle.fvn_terms.specs.declared.plain.OpId.{OpId}
 use Rattle.fvn_terms.specs.declared.plain.SortId.{SortId}
-use Rattle.fvn_drafts.specs.declared.collected.Collected.{Collected}
+use Rattle.fvn_signature.specs.declared.collected.Collected.{Collected}
 use Rattle.fvn_sorts.specs.declared.conditions.fault.SigFault.{SigFault}
 use Rattle.fvn_sorts.specs.declared.conditions.fault.SigFault.TheVariants.{SortCycle, KindsDiffer, AxiomShape, AxiomsDiffer, IdentityBad, NotPreregular, NotAssocSorts, NotCollapsing, TooMany, NoMemory}
 use Rattle.fvn_sorts.specs.Faults.{IsEarlier, IsFirstFault as IsFirstSignatureFault, condition, witness, sort_numbers}
@@ -13,12 +13,12 @@ use Rattle.fvn_syntax.specs.Pieces.{Text}
 use Rattle.fvn_syntax.specs.Raw.{RawTerm}
 use Rattle.fvn_syntax.specs.Scope.{Scope}
 use Rattle.fvn_syntax.specs.Resolve.{Resolved, resolve}
-use Rattle.fvn_statements.specs.declared.statement.Statement.{Statement}
-use Rattle.fvn_naming.specs.declared.fault.NameFault.{NameFault}
-use Rattle.fvn_naming.specs.declared.fault.NameFault.TheVariants as name
-use Rattle.fvn_naming.specs.Names.{sorts_of, operators_of}
-use Rattle.fvn_naming.specs.Order.{kinds_in}
-use Rattle.fvn_naming.specs.Faults.{names_unknown, declares_twice, AreNamed, IsFirstAt, NamesUnknown, DeclaresTwice, IsFirstFault as IsFirstNameFault}
+use Rattle.fvn_module_statements.specs.declared.statement.Statement.{Statement}
+use Rattle.fvn_module_names.specs.declared.fault.NameFault.{NameFault}
+use Rattle.fvn_module_names.specs.declared.fault.NameFault.TheVariants as name
+use Rattle.fvn_module_names.specs.Names.{sorts_of, operators_of}
+use Rattle.fvn_module_names.specs.Order.{kinds_in}
+use Rattle.fvn_module_names.specs.Faults.{names_unknown, declares_twice, AreNamed, IsFirstAt, NamesUnknown, DeclaresTwice, IsFirstFault as IsFirstNameFault}
 use Rattle.fvn_module.specs.declared.sides.Sides.{Sides}
 use Rattle.fvn_module.specs.declared.equation.Equation.{Equation}
 use Rattle.fvn_module.specs.declared.fault.ModuleFault.{ModuleFault}

@@ -10,15 +10,15 @@ use Rattle.fvn_sorts.specs.declared.conditions.fault.SigFault.{SigFault}
 use Rattle.fvn_sorts.specs.Faults.{HasNoFault, IsFirstFault as IsFirstSignatureFault}
 use Rattle.fvn_syntax.specs.Pieces.{Text}
 use Rattle.fvn_syntax.specs.declared.names.Names.{Names}
-use Rattle.fvn_statements.specs.declared.form.Form.{Form}
-use Rattle.fvn_statements.specs.declared.form.FormFault.{FormFault}
-use Rattle.fvn_statements.specs.declared.form.FormFault.TheVariants as form
-use Rattle.fvn_statements.specs.Forms.{IsFormOf, IsFirstFault as IsFirstFormFault}
-use Rattle.fvn_statements.specs.Laws.{StatementsAreExact}
-use Rattle.fvn_naming.specs.declared.fault.NameFault.{NameFault}
-use Rattle.fvn_naming.specs.declared.fault.NameFault.TheVariants as name
-use Rattle.fvn_declared.specs.Module.{names_alone, collected_in}
-use Rattle.fvn_naming.specs.Faults.{HasNames, IsFirstFault as IsFirstNameFault}
+use Rattle.fvn_module_statements.specs.declared.form.Form.{Form}
+use Rattle.fvn_module_statements.specs.declared.form.FormFault.{FormFault}
+use Rattle.fvn_module_statements.specs.declared.form.FormFault.TheVariants as form
+use Rattle.fvn_module_statements.specs.Forms.{IsFormOf, IsFirstFault as IsFirstFormFault}
+use Rattle.fvn_module_statements.specs.Laws.{StatementsAreExact}
+use Rattle.fvn_module_names.specs.declared.fault.NameFault.{NameFault}
+use Rattle.fvn_module_names.specs.declared.fault.NameFault.TheVariants as name
+use Rattle.fvn_module_declarations.specs.Module.{names_alone, collected_in}
+use Rattle.fvn_module_names.specs.Faults.{HasNames, IsFirstFault as IsFirstNameFault}
 use Rattle.fvn_module.specs.declared.fault.Place.TheVariants as place
 use Rattle.fvn_module.specs.declared.fault.ModuleFault.{ModuleFault}
 use Rattle.fvn_module.specs.declared.fault.ModuleFault.TheVariants.{Lex, Header, Statement, UnknownName, Twice, Arity, WrongKind, LeftOut, Signature, VariableLeft, ExtraVariable, IdentityLeft, TooMany, TooLong, NoMemory}

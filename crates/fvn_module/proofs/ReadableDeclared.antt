@@ -10,21 +10,21 @@ use Rattle.fvn_base.proofs.Membership.{contains_here, contains_later, contains_n
 use Rattle.fvn_terms.specs.declared.plain.OpId.{OpId}
 use Rattle.fvn_terms.specs.declared.declarations.Rank.{Rank}
 use Rattle.fvn_terms.specs.Signature.{declared, unknown}
-use Rattle.fvn_drafts.specs.declared.collected.Declaration.{Declaration}
-use Rattle.fvn_drafts.specs.declared.collected.Collected.{Collected}
-use Rattle.fvn_drafts.specs.Collected.{op_number, same_op, declarations_of, meant_or_kind, rank_meant, operator_meant, completed}
+use Rattle.fvn_signature.specs.declared.collected.Declaration.{Declaration}
+use Rattle.fvn_signature.specs.declared.collected.Collected.{Collected}
+use Rattle.fvn_signature.specs.Collected.{op_number, same_op, declarations_of, meant_or_kind, rank_meant, operator_meant, completed}
 use Rattle.fvn_syntax.specs.Pieces.{Text}
 use Rattle.fvn_syntax.specs.Texts.{place, or_end, place_or_end}
 use Rattle.fvn_syntax.specs.Names.{first_args, arity_of}
 use Rattle.fvn_syntax.specs.declared.sorts.RawSort.{RawSort}
-use Rattle.fvn_statements.specs.declared.statement.RawRank.{RawRank}
-use Rattle.fvn_statements.specs.declared.statement.Attribute.{Attribute}
-use Rattle.fvn_statements.specs.declared.statement.Statement.{Statement}
-use Rattle.fvn_statements.specs.declared.statement.Statement.TheVariants.{Sorts, Subsorts, Operator, Operators, Variables, Equation}
-use Rattle.fvn_naming.specs.Names.{joined, name_text, operators_in, without_arguments, constants_in, sorts_of, operators_of, constants_of}
-use Rattle.fvn_naming.specs.Order.{with_new, with_all}
-use Rattle.fvn_declared.specs.Operators.{same_declaration, op_number as op_named, rank_number, declaration_of, with_declarations, with_statement, with_statements, declarations_in}
-use Rattle.fvn_declared.specs.Module.{collected_in}
+use Rattle.fvn_module_statements.specs.declared.statement.RawRank.{RawRank}
+use Rattle.fvn_module_statements.specs.declared.statement.Attribute.{Attribute}
+use Rattle.fvn_module_statements.specs.declared.statement.Statement.{Statement}
+use Rattle.fvn_module_statements.specs.declared.statement.Statement.TheVariants.{Sorts, Subsorts, Operator, Operators, Variables, Equation}
+use Rattle.fvn_module_names.specs.Names.{joined, name_text, operators_in, without_arguments, constants_in, sorts_of, operators_of, constants_of}
+use Rattle.fvn_module_names.specs.Order.{with_new, with_all}
+use Rattle.fvn_module_declarations.specs.Operators.{same_declaration, op_number as op_named, rank_number, declaration_of, with_declarations, with_statement, with_statements, declarations_in}
+use Rattle.fvn_module_declarations.specs.Module.{collected_in}
 use Rattle.fvn_module.proofs.ReadableLists.{place-some, place-none, with_names-has}
 
 -- What was collected.

@@ -7,16 +7,16 @@ use Rattle.fvn_lex.specs.Cut.{Piece}
 use Rattle.fvn_lex.specs.Join.{IsPiece}
 use Rattle.fvn_terms.specs.declared.plain.OpId.{OpId}
 use Rattle.fvn_forms.specs.Good.{IsGood}
-use Rattle.fvn_drafts.specs.Collected.{completed}
+use Rattle.fvn_signature.specs.Collected.{completed}
 use Rattle.fvn_sorts.specs.Queries.{IsCompleted}
 use Rattle.fvn_syntax.specs.Pieces.{Text}
 use Rattle.fvn_syntax.specs.Names.{arity_of}
-use Rattle.fvn_statements.specs.declared.form.Form.{Form}
-use Rattle.fvn_statements.specs.Forms.{IsFormOf}
-use Rattle.fvn_naming.specs.Names.{sorts_in, sorts_of, operators_in, operators_of}
-use Rattle.fvn_naming.specs.Order.{kinds_in}
-use Rattle.fvn_declared.specs.Module.{collected_in, names_in}
-use Rattle.fvn_naming.specs.Faults.{HasNames}
+use Rattle.fvn_module_statements.specs.declared.form.Form.{Form}
+use Rattle.fvn_module_statements.specs.Forms.{IsFormOf}
+use Rattle.fvn_module_names.specs.Names.{sorts_in, sorts_of, operators_in, operators_of}
+use Rattle.fvn_module_names.specs.Order.{kinds_in}
+use Rattle.fvn_module_declarations.specs.Module.{collected_in, names_in}
+use Rattle.fvn_module_names.specs.Faults.{HasNames}
 use Rattle.fvn_module.specs.declared.equation.Equation.{Equation}
 use Rattle.fvn_module.specs.Equations.{equations_in, AreEquationsOf}
 use Rattle.fvn_module.specs.ModuleText.{scope_in}

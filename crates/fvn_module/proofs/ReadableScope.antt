@@ -8,7 +8,7 @@ use Rattle.fvn_terms.specs.declared.plain.SortId.{SortId}
 use Rattle.fvn_terms.specs.declared.declarations.Declarations.{Declarations}
 use Rattle.fvn_terms.specs.Signature.{kind, IsSort}
 use Rattle.fvn_forms.specs.Good.{IsGood}
-use Rattle.fvn_drafts.specs.Collected.{op_number, declarations_of, operator_meant, kinds, completed}
+use Rattle.fvn_signature.specs.Collected.{op_number, declarations_of, operator_meant, kinds, completed}
 use Rattle.fvn_sorts.specs.Queries.{IsCompleted}
 use Rattle.fvn_syntax.specs.Pieces.{Text}
 use Rattle.fvn_syntax.specs.Texts.{place}
@@ -22,13 +22,13 @@ use Rattle.fvn_syntax.specs.declared.sorts.RawSort.{RawSort}
 use Rattle.fvn_syntax.specs.declared.sorts.RawSort.TheVariants.{Name, Kind}
 use Rattle.fvn_syntax.proofs.TextLemmas.{place-below}
 use Rattle.fvn_syntax.proofs.WellKinded.{well-kinded}
-use Rattle.fvn_statements.specs.declared.statement.Statement.{Statement}
-use Rattle.fvn_statements.specs.declared.statement.Statement.TheVariants as statement
-use Rattle.fvn_statements.specs.declared.form.Form.{Form}
-use Rattle.fvn_naming.specs.Names.{sorts_of, operators_of}
-use Rattle.fvn_naming.specs.Variables.{no_variables, unless_declared, with_variables, where_sorted, with_declared, with_all_declared}
-use Rattle.fvn_naming.specs.Order.{kinds_in}
-use Rattle.fvn_declared.specs.Module.{collected_in, names_alone, names_in}
+use Rattle.fvn_module_statements.specs.declared.statement.Statement.{Statement}
+use Rattle.fvn_module_statements.specs.declared.statement.Statement.TheVariants as statement
+use Rattle.fvn_module_statements.specs.declared.form.Form.{Form}
+use Rattle.fvn_module_names.specs.Names.{sorts_of, operators_of}
+use Rattle.fvn_module_names.specs.Variables.{no_variables, unless_declared, with_variables, where_sorted, with_declared, with_all_declared}
+use Rattle.fvn_module_names.specs.Order.{kinds_in}
+use Rattle.fvn_module_declarations.specs.Module.{collected_in, names_alone, names_in}
 use Rattle.fvn_module.specs.Contents.{scope_of}
 use Rattle.fvn_module.specs.ModuleText.{scope_in}
 

@@ -5,17 +5,17 @@ use Rattle.fvn_lex.specs.declared.token.LexFault.{LexFault}
 use Rattle.fvn_lex.specs.declared.token.LexFault.TheVariants as lexed
 use Rattle.fvn_lex.specs.Cut.{Piece, lex, pieces_in, pieces_of}
 use Rattle.fvn_base.specs.declared.limits.TheConstants.{SORTS, OPERATORS}
-use Rattle.fvn_drafts.specs.declared.collected.Collected.{Collected}
-use Rattle.fvn_drafts.specs.Tops.{tops}
+use Rattle.fvn_signature.specs.declared.collected.Collected.{Collected}
+use Rattle.fvn_signature.specs.Tops.{tops}
 use Rattle.fvn_sorts.specs.declared.conditions.fault.SigFault.{SigFault}
 use Rattle.fvn_sorts.specs.Faults.{IsTooLarge, IsFirstFault as IsFirstSignatureFault}
 use Rattle.fvn_sorts.specs.declared.conditions.fault.SigFault.TheVariants as sig
 use Rattle.fvn_syntax.specs.Pieces.{Text}
 use Rattle.fvn_syntax.specs.Scope.{IsNumbered}
-use Rattle.fvn_statements.specs.declared.form.Form.{Form}
-use Rattle.fvn_statements.specs.Forms.{IsFormOf}
-use Rattle.fvn_declared.specs.Module.{names_in}
-use Rattle.fvn_naming.specs.Names.{sorts_of, operators_of}
+use Rattle.fvn_module_statements.specs.declared.form.Form.{Form}
+use Rattle.fvn_module_statements.specs.Forms.{IsFormOf}
+use Rattle.fvn_module_declarations.specs.Module.{names_in}
+use Rattle.fvn_module_names.specs.Names.{sorts_of, operators_of}
 use Rattle.fvn_module.specs.declared.signing.Signed.{Signed}
 use Rattle.fvn_module.specs.declared.fault.ModuleFault.{ModuleFault}
 use Rattle.fvn_module.specs.declared.fault.ModuleFault.TheVariants.{Lex, NoMemory}

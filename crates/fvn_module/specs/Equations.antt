@@ -10,8 +10,8 @@ use Rattle.fvn_syntax.specs.declared.fault.TermFault.TheVariants as term_fault
 use Rattle.fvn_syntax.specs.Raw.{RawTerm, spell, IsWritten}
 use Rattle.fvn_syntax.specs.Scope.{Scope}
 use Rattle.fvn_syntax.specs.Resolve.{Resolved, resolve}
-use Rattle.fvn_statements.specs.declared.statement.Statement.{Statement}
-use Rattle.fvn_statements.specs.declared.statement.Statement.TheVariants as statement
+use Rattle.fvn_module_statements.specs.declared.statement.Statement.{Statement}
+use Rattle.fvn_module_statements.specs.declared.statement.Statement.TheVariants as statement
 use Rattle.fvn_module.specs.declared.equation.Equation.{Equation}
 use Rattle.fvn_module.specs.declared.sides.Sides.{Sides}
 use Rattle.fvn_module.specs.declared.fault.Place.TheVariants as place

@@ -2,14 +2,14 @@
 use Rattle.std.specs.Prelude.{◌≡◌, ◌≤◌, ◌⊎◌, List, length, Some}
 use Rattle.fvn_lex.specs.Cut.{Piece, pieces_of}
 use Rattle.fvn_base.specs.declared.limits.TheConstants.{EQUATIONS}
-use Rattle.fvn_drafts.specs.Collected.{completed}
+use Rattle.fvn_signature.specs.Collected.{completed}
 use Rattle.fvn_sorts.specs.Faults.{HasNoFault}
 use Rattle.fvn_syntax.specs.Pieces.{Text}
 use Rattle.fvn_syntax.specs.Scope.{Scope}
-use Rattle.fvn_statements.specs.declared.form.Form.{Form}
-use Rattle.fvn_statements.specs.Forms.{IsFormOf}
-use Rattle.fvn_declared.specs.Module.{names_in, collected_in}
-use Rattle.fvn_naming.specs.Faults.{HasNames}
+use Rattle.fvn_module_statements.specs.declared.form.Form.{Form}
+use Rattle.fvn_module_statements.specs.Forms.{IsFormOf}
+use Rattle.fvn_module_declarations.specs.Module.{names_in, collected_in}
+use Rattle.fvn_module_names.specs.Faults.{HasNames}
 use Rattle.fvn_module.specs.declared.fault.ModuleFault.{ModuleFault}
 use Rattle.fvn_module.specs.declared.fault.ModuleFault.TheVariants.{NoMemory}
 use Rattle.fvn_module.specs.Contents.{Contents, scope_of}

@@ -16,7 +16,7 @@ use Rattle.fvn_syntax.specs.Names.{arity_of, sorted_name}
 use Rattle.fvn_syntax.specs.Texts.{place}
 use Rattle.fvn_syntax.specs.Scope.{IsNumbered}
 use Rattle.fvn_syntax.specs.Laws.{IsFitting}
-use Rattle.fvn_statements.specs.Words.{has_colon}
+use Rattle.fvn_module_statements.specs.Words.{has_colon}
 use Rattle.fvn_module.specs.declared.equation.Equation.{Equation}
 use Rattle.fvn_module.specs.Contents.{Contents, scope_of}
 

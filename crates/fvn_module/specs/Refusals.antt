@@ -3,21 +3,21 @@ use Rattle.std.specs.Prelude.{ℕ, ◌≡◌, ◌≤◌, ◌⊎◌, List, [], le
 use Rattle.fvn_lex.specs.Cut.{Piece, lex, pieces_of}
 use Rattle.fvn_base.specs.declared.limits.TheConstants.{EQUATIONS}
 use Rattle.fvn_terms.specs.declared.plain.SortId.{SortId}
-use Rattle.fvn_drafts.specs.declared.collected.Collected.{Collected}
-use Rattle.fvn_drafts.specs.Tops.{tops}
+use Rattle.fvn_signature.specs.declared.collected.Collected.{Collected}
+use Rattle.fvn_signature.specs.Tops.{tops}
 use Rattle.fvn_sorts.specs.declared.conditions.fault.SigFault.{SigFault}
 use Rattle.fvn_sorts.specs.declared.conditions.fault.SigFault.TheVariants.{TooMany as TooManyThings}
 use Rattle.fvn_sorts.specs.Faults.{HasNoFault, IsFirstFault as IsFirstSignatureFault}
 use Rattle.fvn_syntax.specs.Pieces.{Text}
 use Rattle.fvn_syntax.specs.declared.names.Names.{Names}
-use Rattle.fvn_statements.specs.declared.form.Form.{Form}
-use Rattle.fvn_statements.specs.declared.form.FormFault.{FormFault}
-use Rattle.fvn_statements.specs.declared.form.FormFault.TheVariants as form
-use Rattle.fvn_statements.specs.Forms.{IsFirstFault as IsFirstFormFault}
-use Rattle.fvn_naming.specs.declared.fault.NameFault.{NameFault}
-use Rattle.fvn_naming.specs.declared.fault.NameFault.TheVariants as name
-use Rattle.fvn_declared.specs.Module.{names_alone, collected_in}
-use Rattle.fvn_naming.specs.Faults.{HasNames, IsFirstFault as IsFirstNameFault}
+use Rattle.fvn_module_statements.specs.declared.form.Form.{Form}
+use Rattle.fvn_module_statements.specs.declared.form.FormFault.{FormFault}
+use Rattle.fvn_module_statements.specs.declared.form.FormFault.TheVariants as form
+use Rattle.fvn_module_statements.specs.Forms.{IsFirstFault as IsFirstFormFault}
+use Rattle.fvn_module_names.specs.declared.fault.NameFault.{NameFault}
+use Rattle.fvn_module_names.specs.declared.fault.NameFault.TheVariants as name
+use Rattle.fvn_module_declarations.specs.Module.{names_alone, collected_in}
+use Rattle.fvn_module_names.specs.Faults.{HasNames, IsFirstFault as IsFirstNameFault}
 use Rattle.fvn_module.specs.declared.fault.Place.{Place}
 use Rattle.fvn_module.specs.declared.fault.Place.TheVariants as place
 use Rattle.fvn_module.specs.declared.fault.ModuleFault.{ModuleFault}

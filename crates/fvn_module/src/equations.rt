@@ -3,7 +3,7 @@ ghost use Rattle.std.specs.Prelude.{◌≡◌, ◌⊎◌, [], All, IfOk, IfErr};
 ghost use Rattle.std.specs.List.{AllByRecursion};
 ghost use Rattle.fvn_syntax.specs.Raw.{IsTermBefore};
 ghost use Rattle.fvn_syntax.specs.Scope.{IsNumbered};
-ghost use Rattle.fvn_statements.specs.Forms.{IsStatement};
+ghost use Rattle.fvn_module_statements.specs.Forms.{IsStatement};
 ghost use Rattle.fvn_module.specs.declared.fault.ModuleFault.TheVariants.{NoMemory as OutOfMemory};
 ghost use Rattle.fvn_module.specs.Equations.{IsEquationOf, AreEquationsOf, IsFirstFaultOf};
 ghost use Rattle.fvn_module.specs.inner.Sides.{IsRead, IsReadRefused, IsJudged, IsJudgedFault, AreTerms, HasFault};
@@ -16,7 +16,7 @@ use crate::signing::Signed;
 use crate::variables::brings_none;
 use fvn_base::Seq;
 use fvn_base::limits::{EQUATIONS, TEXT_SYMBOLS};
-use fvn_statements::Statement;
+use fvn_module_statements::Statement;
 use fvn_syntax::{Kinded, Piece, Scope, Seen, TermFault, Texts, read_term};
 use std::alloc::Global;
 

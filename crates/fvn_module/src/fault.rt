@@ -4,8 +4,8 @@ ghost use Rattle.fvn_module.specs.declared.fault.ModuleFault.TheVariants.{NoMemo
 
 use fvn_base::{NoMemory, Seq};
 use fvn_lex::LexFault;
+use fvn_module_statements::Feature;
 use fvn_sorts::SigFault;
-use fvn_statements::Feature;
 use fvn_syntax::Names;
 use fvn_terms::SortId;
 use std::alloc::AllocFailed;

@@ -5,7 +5,7 @@ ghost use Rattle.fvn_module.specs.Laws.{
   RefusedTextsDeclareNothing,
 };
 
-use fvn_statements::statements_are_exact;
+use fvn_module_statements::statements_are_exact;
 
 /// A text is one module at most.
 pub fn modules_are_determined()

@@ -2,7 +2,7 @@
 ghost use Rattle.std.specs.Prelude.{◌≡◌, ◌⊎◌, All, Some, IfOk, IfErr};
 ghost use Rattle.fvn_lex.specs.Cut.{pieces_of};
 ghost use Rattle.fvn_lex.specs.Join.{IsPiece};
-ghost use Rattle.fvn_statements.specs.Forms.{IsFormOf, HasNoForm};
+ghost use Rattle.fvn_module_statements.specs.Forms.{IsFormOf, HasNoForm};
 ghost use Rattle.fvn_module.specs.declared.fault.ModuleFault.TheVariants.{NoMemory as OutOfMemory};
 ghost use Rattle.fvn_module.specs.ModuleText.{Declares, IsModule, IsOnlyModule, HasNoModule};
 ghost use Rattle.fvn_module.specs.Refusals.{Refuses};
@@ -24,7 +24,7 @@ use crate::fault::ModuleFault;
 use crate::module::Module;
 use crate::signing::{Signed, sign};
 use fvn_lex::{LexFault, pieces_stand_alone};
-use fvn_statements::{Form, FormFault, read_form};
+use fvn_module_statements::{Form, FormFault, read_form};
 use fvn_syntax::{Piece, cut};
 use std::alloc::Global;
 

@@ -2,14 +2,14 @@
 ghost use Rattle.std.specs.Prelude.{◌≡◌, IfOk, IfErr};
 ghost use Rattle.fvn_sorts.specs.Faults.{IsTooLarge};
 ghost use Rattle.fvn_module.specs.inner.Steps.{IsFinished, IsFinishRefused, IsSigned, IsSigningRefused};
-ghost use Rattle.fvn_naming.specs.Variables.{no_variables};
+ghost use Rattle.fvn_module_names.specs.Variables.{no_variables};
 ghost use Rattle.fvn_syntax.specs.declared.names.Names.{Names};
 
 use crate::fault::ModuleFault;
 use fvn_base::Seq;
-use fvn_declared::{Declared, NameFault, declare};
+use fvn_module_declarations::{Declared, NameFault, declare};
+use fvn_module_statements::Form;
 use fvn_sorts::{SigFault, Signature, SignatureBuilder};
-use fvn_statements::Form;
 use fvn_syntax::{Names, Texts, Variables};
 use std::alloc::Global;
 

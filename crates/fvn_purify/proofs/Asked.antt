@@ -8,9 +8,9 @@ use Rattle.fvn_terms.specs.declared.declarations.Axioms.TheVariants.{Free as NoA
 use Rattle.fvn_terms.specs.declared.declarations.Declarations.{Declarations}
 use Rattle.fvn_terms.specs.Signature.{axioms}
 use Rattle.fvn_forms.specs.Flat.{FlatTerm, fvar, fapp, fnone, fmore, fconstant}
-use Rattle.fvn_nodes.specs.Table.{NodeTable, IsOver}
-use Rattle.fvn_nodes.specs.declared.table.Node.{Node}
-use Rattle.fvn_nodes.specs.declared.table.Node.TheVariants.{Var, App}
+use Rattle.fvn_combine_nodes.specs.Table.{NodeTable, IsOver}
+use Rattle.fvn_combine_nodes.specs.declared.table.Node.{Node}
+use Rattle.fvn_combine_nodes.specs.declared.table.Node.TheVariants.{Var, App}
 use Rattle.fvn_purify.specs.Parts.{Outline}
 use Rattle.fvn_purify.specs.Heads.{head_by, operator_head}
 use Rattle.fvn_flat.specs.Forms.{head_of}

@@ -22,13 +22,13 @@ use Rattle.fvn_forms.proofs.ToCanon.{b_equal_iff_canon}
 use Rattle.fvn_flat.specs.Problems.{IsProblem}
 use Rattle.fvn_flat.specs.Partitions.{HasNoIdentity}
 use Rattle.fvn_flat.specs.SolvedLists.{IsKindUnifier}
-use Rattle.fvn_nodes.specs.Table.{IsOver, IsTableOf, term_at}
-use Rattle.fvn_nodes.specs.Questions.{IsStart}
-use Rattle.fvn_nodes.specs.Unifiers.{value_at, kernel, Partitions}
-use Rattle.fvn_nodes.specs.declared.state.State.{State}
-use Rattle.fvn_nodes.specs.declared.table.Node.{Node}
-use Rattle.fvn_nodes.specs.declared.table.Node.TheVariants.{Var, App}
-use Rattle.fvn_nodes.proofs.Nodes.{arguments_within}
+use Rattle.fvn_combine_nodes.specs.Table.{IsOver, IsTableOf, term_at}
+use Rattle.fvn_combine_nodes.specs.Questions.{IsStart}
+use Rattle.fvn_combine_nodes.specs.Unifiers.{value_at, kernel, Partitions}
+use Rattle.fvn_combine_nodes.specs.declared.state.State.{State}
+use Rattle.fvn_combine_nodes.specs.declared.table.Node.{Node}
+use Rattle.fvn_combine_nodes.specs.declared.table.Node.TheVariants.{Var, App}
+use Rattle.fvn_combine_nodes.proofs.Nodes.{arguments_within}
 use Rattle.fvn_purify.specs.Parts.{Outline}
 use Rattle.fvn_purify.specs.Heads.{head_by, operator_head}
 use Rattle.fvn_purify.specs.Splits.{number_in, HasTheory, CanHead, IsSplitBy, IsSplit, HasOneFree}
@@ -45,8 +45,8 @@ use Rattle.fvn_purify.specs.declared.choosing.Partial.TheVariants.{Asking, Choos
 use Rattle.fvn_purify.proofs.Elements.{contains_at, any_here, any_none, any_one, any_contains, all_pairs_none, all_pairs_one}
 use Rattle.fvn_purify.proofs.Numbers.{number_same, number_tells, nat_eq-same}
 use Rattle.fvn_purify.proofs.Decided.{one_operator, nodes}
-use Rattle.fvn_nodes.proofs.Subterms.{node_kinded}
-use Rattle.fvn_nodes.proofs.Lists.{all_from}
+use Rattle.fvn_combine_nodes.proofs.Subterms.{node_kinded}
+use Rattle.fvn_combine_nodes.proofs.Lists.{all_from}
 use Rattle.fvn_purify.proofs.Solid.{value_headed, value_constant}
 use Rattle.fvn_purify.proofs.Asked.{choice}
 

@@ -6,8 +6,8 @@ use Rattle.std.proofs.lemmas.List.Sums.{sum_by-append, sum_by-cons}
 use Rattle.std.proofs.lemmas.List.Elements.{All-contains, Contains-append_cases}
 use Rattle.fvn_base.proofs.Membership.{contains_here}
 use Rattle.fvn_terms.specs.declared.declarations.Declarations.{Declarations}
-use Rattle.fvn_nodes.specs.States.{open_pairs}
-use Rattle.fvn_nodes.proofs.Lists.{all_from}
+use Rattle.fvn_combine_nodes.specs.States.{open_pairs}
+use Rattle.fvn_combine_nodes.proofs.Lists.{all_from}
 use Rattle.fvn_purify.specs.Parts.{Outline}
 use Rattle.fvn_purify.specs.Cursor.{IsAheadOf, HasSamePending, IsAtEnd, IsGivenFrom}
 use Rattle.fvn_purify.specs.inner.Choices.{base, places_count, weight, IsSound, ShareNoSplit, IsExpansion, IsKept}

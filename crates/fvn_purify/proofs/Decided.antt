@@ -8,13 +8,13 @@ use Rattle.fvn_terms.specs.declared.declarations.Declarations.{Declarations}
 use Rattle.fvn_terms.specs.Term.{app, pack}
 use Rattle.fvn_terms.specs.Signature.{axioms}
 use Rattle.fvn_flat.specs.Partitions.{HasNoIdentity}
-use Rattle.fvn_nodes.specs.Table.{IsOver, term_at}
-use Rattle.fvn_nodes.specs.Classes.{IsPartitionBut}
-use Rattle.fvn_nodes.specs.States.{Admits, IsClosed, class_of}
-use Rattle.fvn_nodes.specs.declared.state.State.{State}
-use Rattle.fvn_nodes.specs.declared.table.Node.TheVariants.{App}
-use Rattle.fvn_nodes.proofs.Nodes.{arguments_within, term_at-over, term_at-injective}
-use Rattle.fvn_nodes.proofs.Admitting.{admits_same, admits_apart, decided}
+use Rattle.fvn_combine_nodes.specs.Table.{IsOver, term_at}
+use Rattle.fvn_combine_nodes.specs.Classes.{IsPartitionBut}
+use Rattle.fvn_combine_nodes.specs.States.{Admits, IsClosed, class_of}
+use Rattle.fvn_combine_nodes.specs.declared.state.State.{State}
+use Rattle.fvn_combine_nodes.specs.declared.table.Node.TheVariants.{App}
+use Rattle.fvn_combine_nodes.proofs.Nodes.{arguments_within, term_at-over, term_at-injective}
+use Rattle.fvn_combine_nodes.proofs.Admitting.{admits_same, admits_apart, decided}
 use Rattle.fvn_purify.specs.Parts.{Outline}
 use Rattle.fvn_purify.specs.Heads.{IsUnitNode}
 use Rattle.fvn_purify.specs.inner.Choices.{AreStepped, IsSplitQuestion, IsDecided}

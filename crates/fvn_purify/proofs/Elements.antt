@@ -5,7 +5,7 @@ use Rattle.std.proofs.lemmas.List.Kept.{AllPairs-cons}
 use Rattle.std.proofs.lemmas.List.Elements.{Contains-append_cases}
 use Rattle.fvn_base.proofs.Membership.{contains_here, contains_later, contains_cases, contains_none, map_contains}
 use Rattle.fvn_base.proofs.Pigeonhole.{AllPairs-tail, AllPairs-first}
-use Rattle.fvn_nodes.proofs.Lists.{all_from}
+use Rattle.fvn_combine_nodes.proofs.Lists.{all_from}
 
 module _ {A : Type 0} where
   pub contains_left : (xs ys : List A) (y : A) → Contains xs y → Contains (xs ++ ys) y

@@ -4,10 +4,10 @@ use Rattle.std.specs.Prelude.{nat_eq, MatchOption}
 use Rattle.std.proofs.lemmas.List.Elements.{All-head}
 use Rattle.fvn_terms.specs.declared.plain.OpId.{OpId}
 use Rattle.fvn_terms.specs.declared.declarations.Declarations.{Declarations}
-use Rattle.fvn_nodes.specs.Table.{NodeTable, IsOver, IsOrdered}
-use Rattle.fvn_nodes.specs.States.{IsOpen, class_of}
-use Rattle.fvn_nodes.specs.declared.state.State.{State}
-use Rattle.fvn_nodes.proofs.Nodes.{arguments_within}
+use Rattle.fvn_combine_nodes.specs.Table.{NodeTable, IsOver, IsOrdered}
+use Rattle.fvn_combine_nodes.specs.States.{IsOpen, class_of}
+use Rattle.fvn_combine_nodes.specs.declared.state.State.{State}
+use Rattle.fvn_combine_nodes.proofs.Nodes.{arguments_within}
 use Rattle.fvn_purify.specs.Parts.{Outline}
 use Rattle.fvn_purify.specs.Theories.{theory, StandsOutside, StandsInTwo}
 use Rattle.fvn_purify.specs.inner.Options.{AreFirst, IsEarlier, IsUnitIn, IsSolidAt, by_solid, IsForcedHead}

@@ -16,15 +16,15 @@ use Rattle.fvn_terms.specs.Unifiers.{Problem}
 use Rattle.fvn_forms.specs.FitsKinds.{FitsKinds}
 use Rattle.fvn_flat.specs.Problems.{IsProblem}
 use Rattle.fvn_flat.specs.Partitions.{HasNoIdentity}
-use Rattle.fvn_nodes.specs.Table.{NodeTable, IsOver, IsWellMade, IsTableOf, IsUnitOf, term_at}
-use Rattle.fvn_nodes.specs.declared.table.Node.TheVariants.{Var, App}
-use Rattle.fvn_nodes.proofs.Nodes.{application_at}
+use Rattle.fvn_combine_nodes.specs.Table.{NodeTable, IsOver, IsWellMade, IsTableOf, IsUnitOf, term_at}
+use Rattle.fvn_combine_nodes.specs.declared.table.Node.TheVariants.{Var, App}
+use Rattle.fvn_combine_nodes.proofs.Nodes.{application_at}
 use Rattle.fvn_purify.specs.Parts.{outline, ArePlaces, AreClassesOf, may_collapse}
 use Rattle.fvn_purify.specs.inner.Choices.{AreStepped, HasUnits}
 use Rattle.fvn_purify.specs.declared.classes.Classes.{Classes}
 use Rattle.fvn_purify.specs.declared.classes.Places.{Places}
-use Rattle.fvn_nodes.proofs.Subterms.{unit_kinded}
-use Rattle.fvn_nodes.proofs.Lists.{all_from}
+use Rattle.fvn_combine_nodes.proofs.Subterms.{unit_kinded}
+use Rattle.fvn_combine_nodes.proofs.Lists.{all_from}
 
 module _ (d : Declarations) (t : NodeTable) (places : Places) (are : ArePlaces d t places) where
   listed_within : (i : ℕ) → Contains (are.abstracted ++ are.shared) i → i < length t.nodes

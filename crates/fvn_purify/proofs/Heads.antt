@@ -12,12 +12,12 @@ use Rattle.fvn_terms.specs.declared.declarations.Axioms.TheVariants.{Free as NoA
 use Rattle.fvn_terms.specs.declared.declarations.Declarations.{Declarations}
 use Rattle.fvn_terms.specs.Signature.{axioms}
 use Rattle.fvn_flat.specs.Partitions.{HasNoIdentity}
-use Rattle.fvn_nodes.specs.Table.{IsOver}
-use Rattle.fvn_nodes.specs.Classes.{IsNodePartition, IsPartitionBut}
-use Rattle.fvn_nodes.specs.States.{Admits, IsClosed, class_of}
-use Rattle.fvn_nodes.specs.declared.state.State.{State}
-use Rattle.fvn_nodes.specs.declared.table.Node.TheVariants.{App}
-use Rattle.fvn_nodes.proofs.Lists.{all_from}
+use Rattle.fvn_combine_nodes.specs.Table.{IsOver}
+use Rattle.fvn_combine_nodes.specs.Classes.{IsNodePartition, IsPartitionBut}
+use Rattle.fvn_combine_nodes.specs.States.{Admits, IsClosed, class_of}
+use Rattle.fvn_combine_nodes.specs.declared.state.State.{State}
+use Rattle.fvn_combine_nodes.specs.declared.table.Node.TheVariants.{App}
+use Rattle.fvn_combine_nodes.proofs.Lists.{all_from}
 use Rattle.fvn_purify.specs.Parts.{Outline}
 use Rattle.fvn_purify.specs.Heads.{head_by, operator_head, IsTheory}
 use Rattle.fvn_purify.specs.Splits.{IsInUnit, HasTheory, CanHead, AreHeadsOfParts}

@@ -6,11 +6,11 @@ use Rattle.fvn_terms.specs.declared.plain.OpId.{OpId}
 use Rattle.fvn_terms.specs.declared.declarations.Axioms.TheVariants.{Comm}
 use Rattle.fvn_terms.specs.declared.declarations.Declarations.{Declarations}
 use Rattle.fvn_terms.specs.Signature.{axioms}
-use Rattle.fvn_nodes.specs.Table.{IsOver}
-use Rattle.fvn_nodes.specs.Classes.{MeetEitherWay, IsNodePartition}
-use Rattle.fvn_nodes.specs.States.{IsClosed, IsOpen, class_of, is_same, is_apart, is_open}
-use Rattle.fvn_nodes.specs.declared.state.State.{State}
-use Rattle.fvn_nodes.proofs.Admitting.{admits_itself}
+use Rattle.fvn_combine_nodes.specs.Table.{IsOver}
+use Rattle.fvn_combine_nodes.specs.Classes.{MeetEitherWay, IsNodePartition}
+use Rattle.fvn_combine_nodes.specs.States.{IsClosed, IsOpen, class_of, is_same, is_apart, is_open}
+use Rattle.fvn_combine_nodes.specs.declared.state.State.{State}
+use Rattle.fvn_combine_nodes.proofs.Admitting.{admits_itself}
 use Rattle.fvn_purify.specs.Parts.{Outline}
 use Rattle.fvn_purify.specs.Splits.{number_in}
 use Rattle.fvn_purify.specs.Cursor.{IsAheadOf}

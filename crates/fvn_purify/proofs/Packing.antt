@@ -5,8 +5,8 @@ use Rattle.fvn_terms.specs.declared.plain.Plain.{Plain}
 use Rattle.fvn_terms.specs.Term.{Term, more, pack}
 use Rattle.fvn_terms.specs.Plain.{term, terms}
 use Rattle.fvn_terms.proofs.Plains.{push, terms-push}
-use Rattle.fvn_nodes.specs.Table.{term_at}
-use Rattle.fvn_nodes.specs.declared.table.Node.{Node}
+use Rattle.fvn_combine_nodes.specs.Table.{term_at}
+use Rattle.fvn_combine_nodes.specs.declared.table.Node.{Node}
 
 pack_push : (ts : List Term) (t : Term) → pack (ts ++ t ∷ []) ≡ push (pack ts) t
 pack_push [] t = refl

@@ -11,13 +11,13 @@ use Rattle.fvn_forms.specs.Flat.{fconstant}
 use Rattle.fvn_forms.specs.FitsKinds.{FitsKinds}
 use Rattle.fvn_flat.specs.Problems.{IsProblem}
 use Rattle.fvn_flat.specs.Partitions.{HasNoIdentity}
-use Rattle.fvn_nodes.specs.Table.{NodeTable, term_at, IsOver, IsWellMade, IsTableOf}
-use Rattle.fvn_nodes.specs.Unifiers.{value_at}
-use Rattle.fvn_nodes.specs.declared.table.Node.TheVariants.{App}
-use Rattle.fvn_nodes.proofs.Nodes.{term_at-over}
+use Rattle.fvn_combine_nodes.specs.Table.{NodeTable, term_at, IsOver, IsWellMade, IsTableOf}
+use Rattle.fvn_combine_nodes.specs.Unifiers.{value_at}
+use Rattle.fvn_combine_nodes.specs.declared.table.Node.TheVariants.{App}
+use Rattle.fvn_combine_nodes.proofs.Nodes.{term_at-over}
 use Rattle.fvn_flat.specs.Forms.{head_of}
-use Rattle.fvn_nodes.proofs.Subterms.{node_kinded}
-use Rattle.fvn_nodes.proofs.Heading.{build_head, two_arguments, value_over, values_settled}
+use Rattle.fvn_combine_nodes.proofs.Subterms.{node_kinded}
+use Rattle.fvn_combine_nodes.proofs.Heading.{build_head, two_arguments, value_over, values_settled}
 
 -- the value of a node whose operator has no identity is headed by it
 pub value_headed : (d : Declarations) → FitsKinds d → (problem : Problem) → IsProblem d problem → (t : NodeTable) → IsWellMade t → IsTableOf d problem t → (s : Substitution) → (i : ℕ) (f : OpId) (ks : List ℕ) → IsOver t.nodes i f ks → HasNoIdentity (axioms d f) → head_of (value_at d s t.nodes i) ≡ Some f

@@ -2,7 +2,7 @@
 use Rattle.std.proofs.Common.{◌≡◌, ℕ, ◌<◌, Bool, List, [], ◌∷◌, ◌++◌, map, length, get_or, sym, ap, ◌∙◌, subst, Some, slice_get}
 use Rattle.std.proofs.lemmas.Option.{slice_get-get_or}
 use Rattle.fvn_terms.specs.declared.declarations.Declarations.{Declarations}
-use Rattle.fvn_nodes.specs.States.{class_of}
+use Rattle.fvn_combine_nodes.specs.States.{class_of}
 use Rattle.fvn_purify.specs.Parts.{Outline}
 use Rattle.fvn_purify.specs.inner.Options.{IsHeadOptions, IsWayOptions}
 use Rattle.fvn_purify.specs.inner.Choices.{chosen, AreStepped, IsLeaf, IsExpansion}

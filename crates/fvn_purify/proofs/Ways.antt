@@ -5,11 +5,11 @@ use Rattle.std.proofs.lemmas.Option.{slice_get_within}
 use Rattle.fvn_base.proofs.Membership.{contains_here, contains_later, contains_cases, contains_none}
 use Rattle.fvn_terms.specs.declared.plain.OpId.{OpId}
 use Rattle.fvn_terms.specs.declared.declarations.Declarations.{Declarations}
-use Rattle.fvn_nodes.specs.Table.{IsOver}
-use Rattle.fvn_nodes.specs.States.{Admits, IsClosed, class_of}
-use Rattle.fvn_nodes.specs.declared.state.State.{State}
-use Rattle.fvn_nodes.specs.declared.table.Node.TheVariants.{App}
-use Rattle.fvn_nodes.proofs.Lists.{all_from}
+use Rattle.fvn_combine_nodes.specs.Table.{IsOver}
+use Rattle.fvn_combine_nodes.specs.States.{Admits, IsClosed, class_of}
+use Rattle.fvn_combine_nodes.specs.declared.state.State.{State}
+use Rattle.fvn_combine_nodes.specs.declared.table.Node.TheVariants.{App}
+use Rattle.fvn_combine_nodes.proofs.Lists.{all_from}
 use Rattle.fvn_purify.specs.Parts.{Outline}
 use Rattle.fvn_purify.specs.Splits.{IsWayOfPair, AreWaysOfPairs}
 use Rattle.fvn_purify.specs.inner.Options.{AreFirst, IsForcedWay, IsWayOptions}

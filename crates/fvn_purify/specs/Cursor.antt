@@ -1,9 +1,9 @@
 -- A cursor over splits, and which of them are still to come.
 use Rattle.std.specs.Prelude.{◌≡◌, ◌≢◌, ◌↔◌, ℕ, Bool, List, [], ◌++◌, Option, Some, None, Any}
 use Rattle.fvn_terms.specs.declared.declarations.Declarations.{Declarations}
-use Rattle.fvn_nodes.specs.Classes.{IsNodePartition}
-use Rattle.fvn_nodes.specs.States.{Admits}
-use Rattle.fvn_nodes.specs.declared.state.State.{State}
+use Rattle.fvn_combine_nodes.specs.Classes.{IsNodePartition}
+use Rattle.fvn_combine_nodes.specs.States.{Admits}
+use Rattle.fvn_combine_nodes.specs.declared.state.State.{State}
 use Rattle.fvn_purify.specs.Parts.{Outline}
 use Rattle.fvn_purify.specs.Splits.{IsSplitBy}
 use Rattle.fvn_purify.specs.declared.classes.Head.{Head}

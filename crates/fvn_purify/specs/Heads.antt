@@ -5,7 +5,7 @@ use Rattle.fvn_terms.specs.declared.declarations.Axioms.{Axioms}
 use Rattle.fvn_terms.specs.declared.declarations.Axioms.TheVariants.{Free as NoAxioms, Comm, AssocComm, AssocCommId}
 use Rattle.fvn_terms.specs.declared.declarations.Declarations.{Declarations}
 use Rattle.fvn_terms.specs.Signature.{axioms}
-use Rattle.fvn_nodes.specs.Table.{NodeTable, IsOver}
+use Rattle.fvn_combine_nodes.specs.Table.{NodeTable, IsOver}
 use Rattle.fvn_purify.specs.declared.classes.Head.{Head}
 use Rattle.fvn_purify.specs.declared.classes.Head.TheVariants.{Free, Pair, Sum}
 

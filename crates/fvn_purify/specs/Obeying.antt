@@ -6,8 +6,8 @@ use Rattle.fvn_terms.specs.Substitution.{Substitution, apply}
 use Rattle.fvn_terms.specs.Equality.{BEqual}
 use Rattle.fvn_forms.specs.Flat.{FlatTerm, fconstant}
 use Rattle.fvn_flat.specs.Forms.{head_of}
-use Rattle.fvn_nodes.specs.Table.{IsOver, term_at}
-use Rattle.fvn_nodes.specs.Unifiers.{value_at}
+use Rattle.fvn_combine_nodes.specs.Table.{IsOver, term_at}
+use Rattle.fvn_combine_nodes.specs.Unifiers.{value_at}
 use Rattle.fvn_purify.specs.Parts.{Outline, StandBeside}
 use Rattle.fvn_purify.specs.Heads.{operator_head, IsTheory, IsUnitNode}
 use Rattle.fvn_purify.specs.declared.classes.Head.{Head}

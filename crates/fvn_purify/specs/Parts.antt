@@ -7,9 +7,9 @@ use Rattle.fvn_terms.specs.Signature.{axioms}
 use Rattle.fvn_terms.specs.Unifiers.{Problem}
 use Rattle.fvn_forms.specs.Flat.{FlatTerm}
 use Rattle.fvn_forms.specs.Canon.{identity, canon}
-use Rattle.fvn_nodes.specs.Table.{NodeTable, IsTableOf, IsOver, term_at}
-use Rattle.fvn_nodes.specs.declared.table.Node.{Node}
-use Rattle.fvn_nodes.specs.declared.table.Node.TheVariants.{Var, App}
+use Rattle.fvn_combine_nodes.specs.Table.{NodeTable, IsTableOf, IsOver, term_at}
+use Rattle.fvn_combine_nodes.specs.declared.table.Node.{Node}
+use Rattle.fvn_combine_nodes.specs.declared.table.Node.TheVariants.{Var, App}
 use Rattle.fvn_purify.specs.Theories.{IsAbstracted, IsSharedVariable}
 use Rattle.fvn_purify.specs.declared.classes.Places.{Places}
 use Rattle.fvn_purify.specs.declared.classes.Classes.{Classes}

@@ -5,8 +5,8 @@ use Rattle.fvn_terms.specs.declared.declarations.Axioms.TheVariants.{Free as NoA
 use Rattle.fvn_terms.specs.declared.declarations.Declarations.{Declarations}
 use Rattle.fvn_terms.specs.Signature.{axioms}
 use Rattle.fvn_flat.specs.Partitions.{HasNoIdentity}
-use Rattle.fvn_nodes.specs.Table.{NodeTable, IsOver}
-use Rattle.fvn_nodes.specs.Classes.{IsNodePartition}
+use Rattle.fvn_combine_nodes.specs.Table.{NodeTable, IsOver}
+use Rattle.fvn_combine_nodes.specs.Classes.{IsNodePartition}
 use Rattle.fvn_purify.specs.Parts.{Outline, StandBeside}
 use Rattle.fvn_purify.specs.Heads.{operator_head, IsTheory, IsUnitNode}
 use Rattle.fvn_purify.specs.declared.classes.Head.{Head}

@@ -7,8 +7,8 @@ use Rattle.fvn_terms.specs.declared.declarations.Axioms.{Axioms}
 use Rattle.fvn_terms.specs.declared.declarations.Axioms.TheVariants.{Free, Comm, AssocComm, AssocCommId}
 use Rattle.fvn_terms.specs.declared.declarations.Declarations.{Declarations}
 use Rattle.fvn_terms.specs.Signature.{axioms}
-use Rattle.fvn_nodes.specs.Table.{NodeTable, IsOver}
-use Rattle.fvn_nodes.specs.declared.table.Node.TheVariants.{Var}
+use Rattle.fvn_combine_nodes.specs.Table.{NodeTable, IsOver}
+use Rattle.fvn_combine_nodes.specs.declared.table.Node.TheVariants.{Var}
 
 -- the theory of an operator with these axioms: its own, or the one of all free operators
 abbrev pub theory_by : Axioms → OpId → Option OpId

@@ -1,7 +1,7 @@
 //! What is decided of splits that are still to come.
 use crate::classes::Head;
 use fvn_base::Seq;
-use fvn_nodes::State;
+use fvn_combine_nodes::State;
 
 /// A state with the heads and the ways that are chosen so far.
 #[derive(Drop)]

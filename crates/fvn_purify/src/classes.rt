@@ -1,7 +1,7 @@
 //! What splits speak of.
 use fvn_base::Seq;
+use fvn_combine_nodes::Table;
 use fvn_flat::Flat;
-use fvn_nodes::Table;
 use fvn_terms::OpId;
 
 /// What heads the value of a part: the theory of the free operators, that of a commutative

@@ -2,11 +2,11 @@
 ghost use Rattle.std.specs.Prelude.{◌≡◌, ◌<◌, ℕ, length, map, IfOk, All};
 ghost use Rattle.fvn_terms.specs.Plain.{term};
 ghost use Rattle.fvn_terms.specs.Signature.{IsTerm};
-ghost use Rattle.fvn_nodes.specs.Table.{term_at};
+ghost use Rattle.fvn_combine_nodes.specs.Table.{term_at};
 ghost use Rattle.fvn_purify.specs.Parts.{form_at};
 
+use fvn_combine_nodes::{Node, Table};
 use fvn_flat::{Flat, flatten};
-use fvn_nodes::{Node, Table};
 use fvn_sorts::Signature;
 use fvn_terms::{Args, NoMemory, Plain};
 use std::alloc::Global;

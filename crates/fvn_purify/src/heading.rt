@@ -2,15 +2,15 @@
 ghost use Rattle.std.specs.Prelude.{◌≡◌, ◌<◌, ◌≤◌, ℕ, [], ◌∷◌, length, map, slice_get, Some, IfOk, MatchOption, All};
 ghost use Rattle.fvn_terms.specs.declared.plain.OpId.{OpId};
 ghost use Rattle.fvn_flat.specs.Partitions.{HasNoIdentity};
-ghost use Rattle.fvn_nodes.specs.Table.{IsOver};
-ghost use Rattle.fvn_nodes.specs.States.{IsClosed, class_of};
+ghost use Rattle.fvn_combine_nodes.specs.Table.{IsOver};
+ghost use Rattle.fvn_combine_nodes.specs.States.{IsClosed, class_of};
 ghost use Rattle.fvn_purify.specs.Parts.{outline};
 ghost use Rattle.fvn_purify.specs.Heads.{head_by, operator_head};
 ghost use Rattle.fvn_purify.specs.inner.Choices.{ArePlacesWithin};
 ghost use Rattle.fvn_purify.specs.inner.Options.{IsEarlier, IsUnitIn, IsSolidAt, IsForcedHead, IsHeadOptions};
 
 use crate::classes::{Classes, Head};
-use fvn_nodes::{Node, State, Table};
+use fvn_combine_nodes::{Node, State, Table};
 use fvn_sorts::Signature;
 use fvn_terms::{Axioms, NoMemory, OpId};
 use std::alloc::Global;

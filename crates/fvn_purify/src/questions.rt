@@ -1,14 +1,14 @@
 //! Which two nodes a state is asked about next.
 ghost use Rattle.std.specs.Prelude.{◌≡◌, ◌<◌, ℕ, List, ◌∷◌, length, MatchOption, All, Contains};
 ghost use Rattle.fvn_terms.specs.declared.plain.OpId.{OpId};
-ghost use Rattle.fvn_nodes.specs.Table.{IsOver};
-ghost use Rattle.fvn_nodes.specs.States.{IsNaming, IsOpen, class_of};
+ghost use Rattle.fvn_combine_nodes.specs.Table.{IsOver};
+ghost use Rattle.fvn_combine_nodes.specs.States.{IsNaming, IsOpen, class_of};
 ghost use Rattle.fvn_purify.specs.Parts.{outline};
 ghost use Rattle.fvn_purify.specs.inner.Options.{AreFirst};
 ghost use Rattle.fvn_purify.specs.inner.Choices.{ArePlacesWithin, IsNextQuestion};
 
 use crate::classes::Classes;
-use fvn_nodes::{Node, State, Table};
+use fvn_combine_nodes::{Node, State, Table};
 use fvn_terms::OpId;
 
 // The first of the nodes that is open with node x.

@@ -13,7 +13,7 @@ ghost use Rattle.fvn_purify.specs.Theories.{
 };
 ghost use Rattle.fvn_purify.specs.inner.Standing.{StandsUnderAt, StandsOutsideAt};
 
-use fvn_nodes::{Node, Table};
+use fvn_combine_nodes::{Node, Table};
 use fvn_sorts::Signature;
 use fvn_terms::{Axioms, OpId};
 

@@ -7,9 +7,9 @@ use Rattle.fvn_forms.specs.Flat.{FlatTerm}
 use Rattle.fvn_forms.specs.Good.{IsGood}
 use Rattle.fvn_sorts.specs.Queries.{IsCompleted}
 use Rattle.fvn_flat.specs.Fits.{Fits}
-use Rattle.fvn_rewriting.specs.Laws.{SequencesAreLawful, KindedTheoriesAreLawful, RulesAreLawful}
+use Rattle.fvn_rewrite_laws.specs.Laws.{SequencesAreLawful, KindedTheoriesAreLawful, RulesAreLawful}
 use Rattle.fvn_cohere.specs.Promises.{equations_of}
-use Rattle.fvn_rules.specs.Given.{RuleLists}
+use Rattle.fvn_rewrite_rules.specs.Given.{RuleLists}
 use Rattle.fvn_rewrite.specs.Normalised.{IsReached}
 use Rattle.fvn_rewrite.specs.Usable.{AreUsable}
 use Rattle.fvn_rewrite.specs.inner.Making.{AreLawful, IsBegun}

@@ -5,8 +5,8 @@ use Rattle.fvn_terms.specs.Theory.{Equations}
 use Rattle.fvn_forms.specs.Flat.{FlatTerm, plain}
 use Rattle.fvn_forms.proofs.Eval.{canon_plain}
 use Rattle.fvn_flat.specs.Fits.{Fits}
-use Rattle.fvn_coherence.specs.PlacedSteps.{StepsAtPlace}
-use Rattle.fvn_coherence.specs.Laws.{CoherenceLaws}
+use Rattle.fvn_rewrite_coherence.specs.PlacedSteps.{StepsAtPlace}
+use Rattle.fvn_rewrite_coherence.specs.Laws.{CoherenceLaws}
 use Rattle.fvn_rewrite.specs.Normalised.{IsNormalForm}
 use Rattle.fvn_rewrite.specs.inner.Walking.{WalkAs}
 

@@ -7,7 +7,7 @@ use Rattle.fvn_module.specs.declared.equation.Equation.{Equation}
 use Rattle.fvn_module.specs.Readable.{IsReadableEquation}
 use Rattle.fvn_cohere.specs.Promises.{sides_of}
 use Rattle.fvn_cohere.specs.LeftFaults.{IsHarmless}
-use Rattle.fvn_coherence.specs.Admissible.{IsAdmissible}
+use Rattle.fvn_rewrite_coherence.specs.Admissible.{IsAdmissible}
 use Rattle.fvn_rewrite.specs.Laws.{HarmlessEquationsAreAdmissible}
 
 admissible : (d : Declarations) (e : Equation) → IsReadableEquation d e → IsHarmless d (sides_of e).0 → IsAdmissible d (sides_of e)

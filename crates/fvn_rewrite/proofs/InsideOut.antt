@@ -23,9 +23,9 @@ use Rattle.fvn_forms.specs.Good.{IsGood}
 use Rattle.fvn_forms.specs.Ranks.{result}
 use Rattle.fvn_flat.specs.Forms.{variable_of, args_of}
 use Rattle.fvn_flat.specs.Fits.{Fits}
-use Rattle.fvn_rewriting.specs.Laws.{SequenceLaws, KindedLaws}
+use Rattle.fvn_rewrite_laws.specs.Laws.{SequenceLaws, KindedLaws}
 use Rattle.fvn_cohere.specs.Promises.{equations_of}
-use Rattle.fvn_rules.specs.Given.{RuleLists, headed}
+use Rattle.fvn_rewrite_rules.specs.Given.{RuleLists, headed}
 use Rattle.fvn_rewrite.specs.declared.fitting.Found.{Found}
 use Rattle.fvn_rewrite.specs.declared.making.Made.{Made}
 use Rattle.fvn_rewrite.specs.declared.making.MadeAll.{MadeAll}

@@ -7,7 +7,7 @@ use Rattle.fvn_terms.proofs.Equal.{BEqual-refl}
 use Rattle.fvn_forms.specs.Flat.{FlatTerm, FlatTerms, fvar, fapp, funpack, plain}
 use Rattle.fvn_flat.specs.Forms.{head_of, args_of}
 use Rattle.fvn_flat.specs.FlatPlaces.{IsReplaced, IsReplacedAmong, here, inside, first, later}
-use Rattle.fvn_coherence.specs.PlacedSteps.{IsRedex}
+use Rattle.fvn_rewrite_coherence.specs.PlacedSteps.{IsRedex}
 use Rattle.fvn_rewrite.specs.inner.Walking.{IsNoRedex, HasNoRedex, RootAs, WalkAs}
 
 module _ (d : Declarations) (equations : Equations) where

@@ -23,8 +23,8 @@ use Rattle.fvn_forms.proofs.Sums.{fpack-funpack}
 use Rattle.fvn_forms.proofs.KindsOfSums.{nest_parts_of_kind}
 use Rattle.fvn_flat.specs.Forms.{head_of, args_of}
 use Rattle.fvn_flat.specs.Fits.{Fits, AllFit, AllOfKind, TakesAsDeclared, Takes, operator_over, plain_over}
-use Rattle.fvn_rewriting.specs.Kinds.{HaveOneKind}
-use Rattle.fvn_rewriting.specs.Laws.{KindedTheoriesAreLawful}
+use Rattle.fvn_rewrite_laws.specs.Kinds.{HaveOneKind}
+use Rattle.fvn_rewrite_laws.specs.Laws.{KindedTheoriesAreLawful}
 use Rattle.fvn_rewrite.specs.inner.Walking.{ArgumentSteps}
 
 split_suc : (l : List FlatTerm) (i : ℕ) (a : FlatTerm) → slice_get l i ≡ Some a → l ≡ take i l ++ a ∷ drop (suc i) l

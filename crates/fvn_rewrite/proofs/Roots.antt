@@ -20,13 +20,13 @@ use Rattle.fvn_sorts.specs.Queries.{IsCompleted}
 use Rattle.fvn_flat.specs.Forms.{head_of}
 use Rattle.fvn_flat.specs.FlatPlaces.{here}
 use Rattle.fvn_flat.specs.Rules.{IsRuleFrom, IsRuleOf}
-use Rattle.fvn_rewriting.specs.Kinds.{HaveOneKind}
-use Rattle.fvn_rewriting.specs.Laws.{RulesAreLawful}
+use Rattle.fvn_rewrite_laws.specs.Kinds.{HaveOneKind}
+use Rattle.fvn_rewrite_laws.specs.Laws.{RulesAreLawful}
 use Rattle.fvn_cohere.specs.Promises.{sides_of, equations_of}
-use Rattle.fvn_coherence.specs.PlacedSteps.{IsRedex}
-use Rattle.fvn_coherence.specs.Laws.{RulesAreCoherent}
-use Rattle.fvn_rules.specs.declared.rule.Rule.{Rule}
-use Rattle.fvn_rules.specs.Given.{RuleLists, headed, IsNumberedRule}
+use Rattle.fvn_rewrite_coherence.specs.PlacedSteps.{IsRedex}
+use Rattle.fvn_rewrite_coherence.specs.Laws.{RulesAreCoherent}
+use Rattle.fvn_rewrite_rules.specs.declared.rule.Rule.{Rule}
+use Rattle.fvn_rewrite_rules.specs.Given.{RuleLists, headed, IsNumberedRule}
 use Rattle.fvn_rewrite.specs.inner.Trying.{HasNoMatch, SidesFit, AllSidesFit, NoneMatches, IsGivenBy, TriesAs}
 use Rattle.fvn_rewrite.specs.inner.Walking.{IsNoRedex, IsNext, RootAs}
 use Rattle.fvn_rewrite.specs.Usable.{AreUsable}

@@ -3,7 +3,7 @@ use Rattle.fvn_module.specs.Contents.{Contents}
 use Rattle.fvn_module.specs.Readable.{IsReadable}
 use Rattle.fvn_cohere.specs.Promises.{equations_of}
 use Rattle.fvn_cohere.specs.LeftFaults.{AreHarmless}
-use Rattle.fvn_coherence.specs.Admissible.{AreAdmissible}
+use Rattle.fvn_rewrite_coherence.specs.Admissible.{AreAdmissible}
 
 -- the equations of a readable module none of whose left sides is at fault are admissible
 abbrev pub HarmlessEquationsAreAdmissible : Type 0

@@ -13,7 +13,7 @@ ghost use Rattle.fvn_rewrite.specs.inner.Making.{AreLawful, IsMade, AreMade, Tur
 use crate::fitting::{first_found, free_head, look};
 use crate::shared::Shared;
 use fvn_flat::Flat;
-use fvn_rules::Rules;
+use fvn_rewrite_rules::Rules;
 use fvn_sorts::Signature;
 use fvn_terms::{Axioms, NoMemory, OpId, Var};
 use std::alloc::Global;

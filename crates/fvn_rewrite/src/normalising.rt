@@ -2,15 +2,15 @@
 ghost use Rattle.std.specs.Prelude.{IfOk};
 ghost use Rattle.fvn_flat.specs.Fits.{Fits};
 ghost use Rattle.fvn_cohere.specs.Promises.{equations_of};
-ghost use Rattle.fvn_coherence.specs.Admissible.{AreAdmissible};
-ghost use Rattle.fvn_rules.specs.Given.{AreRules};
+ghost use Rattle.fvn_rewrite_coherence.specs.Admissible.{AreAdmissible};
+ghost use Rattle.fvn_rewrite_rules.specs.Given.{AreRules};
 ghost use Rattle.fvn_rewrite.specs.Normalised.{IsNormalised};
 ghost use Rattle.fvn_rewrite.specs.inner.Turns.{TurnAs};
 
 use crate::quick::begin;
 use crate::stepping::step;
 use fvn_flat::{Flat, Normal};
-use fvn_rules::Rules;
+use fvn_rewrite_rules::Rules;
 use fvn_sorts::Signature;
 use fvn_terms::{NoMemory, rewriting_is_lawful};
 use std::alloc::Global;

@@ -2,14 +2,14 @@
 ghost use Rattle.std.specs.Prelude.{IfOk, IfSome};
 ghost use Rattle.fvn_flat.specs.Fits.{Fits};
 ghost use Rattle.fvn_cohere.specs.Promises.{equations_of};
-ghost use Rattle.fvn_coherence.specs.Admissible.{AreAdmissible};
-ghost use Rattle.fvn_rules.specs.Given.{AreRules};
+ghost use Rattle.fvn_rewrite_coherence.specs.Admissible.{AreAdmissible};
+ghost use Rattle.fvn_rewrite_rules.specs.Given.{AreRules};
 ghost use Rattle.fvn_rewrite.specs.inner.Making.{AreLawful, IsMade, IsBegun};
 
 use crate::making::make;
 use fvn_flat::{Flat, flatten};
-use fvn_rewriting::{kinded_theories_are_lawful, rules_are_lawful, sequences_are_lawful};
-use fvn_rules::Rules;
+use fvn_rewrite_laws::{kinded_theories_are_lawful, rules_are_lawful, sequences_are_lawful};
+use fvn_rewrite_rules::Rules;
 use fvn_sorts::Signature;
 use fvn_terms::{NoMemory, rewriting_is_lawful};
 use std::alloc::Global;

@@ -7,11 +7,11 @@ ghost use Rattle.fvn_rewrite.specs.inner.Trying.{AllSidesFit, TriesAs};
 ghost use Rattle.fvn_rewrite.specs.inner.Walking.{RootAs};
 ghost use Rattle.fvn_rewrite.specs.Usable.{AreUsable};
 
-use fvn_coherence::rules_are_coherent;
 use fvn_flat::Flat;
 use fvn_match::matches;
-use fvn_rewriting::rules_are_lawful;
-use fvn_rules::{Rule, Rules};
+use fvn_rewrite_coherence::rules_are_coherent;
+use fvn_rewrite_laws::rules_are_lawful;
+use fvn_rewrite_rules::{Rule, Rules};
 use fvn_sorts::Signature;
 use fvn_terms::{NoMemory, OpId};
 use std::alloc::Global;

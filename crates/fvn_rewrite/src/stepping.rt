@@ -2,14 +2,14 @@
 ghost use Rattle.std.specs.Prelude.{◌≡◌, None, IfOk, IfSome};
 ghost use Rattle.fvn_flat.specs.Fits.{Fits};
 ghost use Rattle.fvn_cohere.specs.Promises.{equations_of};
-ghost use Rattle.fvn_coherence.specs.Admissible.{AreAdmissible};
-ghost use Rattle.fvn_rules.specs.Given.{AreRules};
+ghost use Rattle.fvn_rewrite_coherence.specs.Admissible.{AreAdmissible};
+ghost use Rattle.fvn_rewrite_rules.specs.Given.{AreRules};
 ghost use Rattle.fvn_rewrite.specs.Normalised.{StepsTo, IsNormalForm};
 
 use crate::walking::walk;
-use fvn_coherence::rules_are_coherent;
 use fvn_flat::Flat;
-use fvn_rules::Rules;
+use fvn_rewrite_coherence::rules_are_coherent;
+use fvn_rewrite_rules::Rules;
 use fvn_sorts::Signature;
 use fvn_terms::NoMemory;
 use std::alloc::Global;

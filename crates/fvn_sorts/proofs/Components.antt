@@ -12,13 +12,13 @@ use Rattle.fvn_terms.specs.Signature.{kind, declared, IsSort}
 use Rattle.fvn_forms.specs.SortOrder.{sort_number, reaches}
 use Rattle.fvn_base.proofs.Membership.{map_contains, contains_map, contains_filter}
 use Rattle.fvn_forms.proofs.SortTests.{same_sort-true, reaches-self, reaches-trans, reaches-one, reaches-sound}
-use Rattle.fvn_drafts.specs.declared.collected.Collected.{Collected}
-use Rattle.fvn_drafts.specs.Collected.{IsClosed, turned, both_ways, joins, first_joined, is_first, parts_before, kind_of, same_op, declarations_of, rank_meant, completed}
+use Rattle.fvn_signature.specs.declared.collected.Collected.{Collected}
+use Rattle.fvn_signature.specs.Collected.{IsClosed, turned, both_ways, joins, first_joined, is_first, parts_before, kind_of, same_op, declarations_of, rank_meant, completed}
 use Rattle.fvn_sorts.specs.Joined.{Joined, there, upward, downward}
 use Rattle.fvn_sorts.specs.Queries.{IsKind, IsCompleted}
-use Rattle.fvn_drafts.proofs.Parts.{both_ways-turned, joins-trans, joins-sym, first_joined-at, parts_before-more}
-use Rattle.fvn_drafts.proofs.Operators.{operators-long, same_op-self}
-use Rattle.fvn_drafts.proofs.CompletedKinds.{declared-is, kinds-long, kind-sort, kind-own, kind-listed, kind_of-range, kind_of-joined, parts_before-less, first_joined-is_first}
+use Rattle.fvn_signature.proofs.Parts.{both_ways-turned, joins-trans, joins-sym, first_joined-at, parts_before-more}
+use Rattle.fvn_signature.proofs.Operators.{operators-long, same_op-self}
+use Rattle.fvn_signature.proofs.CompletedKinds.{declared-is, kinds-long, kind-sort, kind-own, kind-listed, kind_of-range, kind_of-joined, parts_before-less, first_joined-is_first}
 
 module _ (ps : List (SortId × SortId)) where
   Joined-trans : {s q r : SortId} → Joined ps s q → Joined ps q r → Joined ps s r

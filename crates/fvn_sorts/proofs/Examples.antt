@@ -4,8 +4,8 @@ use Rattle.fvn_terms.specs.declared.plain.SortId.{SortId}
 use Rattle.fvn_terms.specs.declared.declarations.Declarations.{Declarations}
 use Rattle.fvn_terms.specs.Signature.{kind}
 use Rattle.fvn_forms.specs.SortOrder.{reaches, at_or_below}
-use Rattle.fvn_drafts.specs.declared.collected.Collected.{Collected}
-use Rattle.fvn_drafts.specs.Collected.{kinds, completed}
+use Rattle.fvn_signature.specs.declared.collected.Collected.{Collected}
+use Rattle.fvn_signature.specs.Collected.{kinds, completed}
 use Rattle.fvn_sorts.specs.Joined.{Joined, upward, downward, there}
 use Rattle.fvn_sorts.specs.Queries.{direct_subsorts, IsKind}
 use Rattle.fvn_sorts.proofs.Components.{kinds_are_components}

@@ -18,16 +18,16 @@ use Rattle.fvn_terms.specs.Term.{none}
 use Rattle.fvn_forms.specs.SortOrder.{sort_number}
 use Rattle.fvn_terms.specs.Equality.{IsCommutative, IsAssociative, constant}
 use Rattle.fvn_base.proofs.Membership.{contains_here, contains_none}
-use Rattle.fvn_drafts.specs.declared.collected.Declaration.{Declaration}
-use Rattle.fvn_drafts.specs.declared.collected.Collected.{Collected}
+use Rattle.fvn_signature.specs.declared.collected.Declaration.{Declaration}
+use Rattle.fvn_signature.specs.declared.collected.Collected.{Collected}
 use Rattle.fvn_forms.specs.FitsKinds.{TakesTwoAlike, TakesTwoOfItsKind}
 use Rattle.fvn_forms.proofs.SortTests.{same_sort-true}
-use Rattle.fvn_drafts.specs.Collected.{IsClosed, op_number, declarations_of, first_axioms, rank_meant, completed}
+use Rattle.fvn_signature.specs.Collected.{IsClosed, op_number, declarations_of, first_axioms, rank_meant, completed}
 use Rattle.fvn_sorts.specs.Faults.{Differ, HasBadShape, HasBadIdentity, IsOnCycle, HasFault}
 use Rattle.fvn_sorts.specs.inner.Searches.{fault_at}
 use Rattle.fvn_base.proofs.Decided.{unrefuted}
-use Rattle.fvn_drafts.proofs.Operators.{operators-long, declared_of}
-use Rattle.fvn_drafts.proofs.CompletedKinds.{below-range}
+use Rattle.fvn_signature.proofs.Operators.{operators-long, declared_of}
+use Rattle.fvn_signature.proofs.CompletedKinds.{below-range}
 
 pub associative_commutes : (a : Axioms) → IsAssociative a → IsCommutative a
 associative_commutes Free h = h

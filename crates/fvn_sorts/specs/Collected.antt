@@ -1,2 +1,2 @@
 -- Which numbers name sorts and kinds in what is collected.
-pub use Rattle.fvn_drafts.specs.Collected.{Names}
+pub use Rattle.fvn_signature.specs.Collected.{Names}

@@ -4,8 +4,8 @@ use Rattle.fvn_terms.specs.declared.plain.SortId.{SortId}
 use Rattle.fvn_terms.specs.declared.declarations.Declarations.{Declarations}
 use Rattle.fvn_terms.specs.Signature.{kind, AtOrBelow}
 use Rattle.fvn_forms.specs.Good.{IsGood}
-use Rattle.fvn_drafts.specs.declared.collected.Collected.{Collected}
-use Rattle.fvn_drafts.specs.Collected.{completed}
+use Rattle.fvn_signature.specs.declared.collected.Collected.{Collected}
+use Rattle.fvn_signature.specs.Collected.{completed}
 use Rattle.fvn_sorts.specs.Joined.{Joined}
 use Rattle.fvn_sorts.specs.Queries.{IsKind, IsMaximalOf, IsBelow, IsDirectSubsort, direct_subsorts, IsCompleted}
 

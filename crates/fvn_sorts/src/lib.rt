@@ -8,7 +8,7 @@ mod queries;
 
 pub use builder::SignatureBuilder;
 pub use conditions::fault::SigFault;
-pub use fvn_drafts::{Collected, Declaration};
+pub use fvn_signature::{Collected, Declaration};
 pub use laws::{
     direct_subsorts_are_listed, direct_subsorts_cover, direct_subsorts_of_kinds,
     kinds_are_components,

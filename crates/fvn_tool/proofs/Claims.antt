@@ -6,27 +6,27 @@ use Rattle.fvn_base.specs.declared.limits.TheConstants.{MODULE_BYTES}
 use Rattle.fvn_terms.specs.Substitution.{Substitution}
 use Rattle.fvn_outside.specs.Source.{Takes, TakesCount}
 use Rattle.fvn_module.specs.Contents.{Contents}
-use Rattle.fvn_loading.specs.Loading.{IsLoaded, AreNotLoaded}
-use Rattle.fvn_loading.specs.Losses.{IsLossOf}
-use Rattle.fvn_loading.specs.Laws.{LoadedModulesAreDetermined, FaultyTextsAreNotLoaded, LossesAreDetermined}
+use Rattle.fvn_module_loading.specs.Loading.{IsLoaded, AreNotLoaded}
+use Rattle.fvn_module_loading.specs.Losses.{IsLossOf}
+use Rattle.fvn_module_loading.specs.Laws.{LoadedModulesAreDetermined, FaultyTextsAreNotLoaded, LossesAreDetermined}
 use Rattle.fvn_problems.specs.declared.problem.Problem.{Problem}
 use Rattle.fvn_problems.specs.declared.bindings.Bindings.{Bindings}
 use Rattle.fvn_answer.specs.declared.end.End.{End}
-use Rattle.fvn_commands.specs.declared.status.Status.{Status}
-use Rattle.fvn_commands.specs.declared.status.Status.TheVariants.{Solved, Nothing, Usage, ModuleRefused, ProblemRefused, Ended, ReadFault, WriteFault, NoMemory}
-use Rattle.fvn_commands.specs.Statuses.{IsSilent, IsSpoken, IsAnswering}
-use Rattle.fvn_commands.specs.Laws.{ReadersAreLawful}
-use Rattle.fvn_commands.specs.Texts.{Is}
-use Rattle.fvn_commands.specs.Checks.{IsFirstRefusalOf, told_lines, TellsSorts}
-use Rattle.fvn_commands.specs.Refusing.{AsksNoProblem, AreNoBindings, IsProblemRefusalOf, IsBindingRefusalOf}
-use Rattle.fvn_verdicts.specs.Verdicts.{TellsVerdict}
-use Rattle.fvn_verdicts.specs.Replies.{AreSolvedBy, IsAskedIn, IsAskedOf, IsVerifyReply}
-use Rattle.fvn_unify.specs.Replies.{IsAnswer, IsToBeUnified}
-use Rattle.fvn_promises.specs.Unified.{AnswersSo, IsNothingExact, EndsComplete}
-use Rattle.fvn_promises.specs.Verified.{TellsNo, TellsYesOrNo}
-use Rattle.fvn_promises.proofs.Checks.{check_one_text, check_not_usage, check_refuses, check_not_loaded, check_tells, check_module, check_sorts}
-use Rattle.fvn_promises.proofs.Verified.{verify_one_text, verify_not_usage, verify_not_loaded, verify_answers, verify_yes, verify_refuses, verify_refuses_words, verify_no_problem, verify_no_bindings, verify_verdict, tells_no, tells_refuted, tells_within}
-use Rattle.fvn_promises.proofs.Unified.{unify_one_text, unify_not_usage, unify_not_loaded, unify_answers, unify_refuses, unify_refuses_word, unify_no_problem, unify_answer, nothing_exact, ends_complete}
+use Rattle.fvn_cmd.specs.declared.status.Status.{Status}
+use Rattle.fvn_cmd.specs.declared.status.Status.TheVariants.{Solved, Nothing, Usage, ModuleRefused, ProblemRefused, Ended, ReadFault, WriteFault, NoMemory}
+use Rattle.fvn_cmd.specs.Statuses.{IsSilent, IsSpoken, IsAnswering}
+use Rattle.fvn_cmd.specs.Laws.{ReadersAreLawful}
+use Rattle.fvn_cmd.specs.Texts.{Is}
+use Rattle.fvn_cmd.specs.Checks.{IsFirstRefusalOf, told_lines, TellsSorts}
+use Rattle.fvn_cmd.specs.Refusing.{AsksNoProblem, AreNoBindings, IsProblemRefusalOf, IsBindingRefusalOf}
+use Rattle.fvn_cmd_verify.specs.Verdicts.{TellsVerdict}
+use Rattle.fvn_cmd_verify.specs.Replies.{AreSolvedBy, IsAskedIn, IsAskedOf, IsVerifyReply}
+use Rattle.fvn_cmd_unify.specs.Replies.{IsAnswer, IsToBeUnified}
+use Rattle.fvn_cmd_laws.specs.Unified.{AnswersSo, IsNothingExact, EndsComplete}
+use Rattle.fvn_cmd_laws.specs.Verified.{TellsNo, TellsYesOrNo}
+use Rattle.fvn_cmd_laws.proofs.Checks.{check_one_text, check_not_usage, check_refuses, check_not_loaded, check_tells, check_module, check_sorts}
+use Rattle.fvn_cmd_laws.proofs.Verified.{verify_one_text, verify_not_usage, verify_not_loaded, verify_answers, verify_yes, verify_refuses, verify_refuses_words, verify_no_problem, verify_no_bindings, verify_verdict, tells_no, tells_refuted, tells_within}
+use Rattle.fvn_cmd_laws.proofs.Unified.{unify_one_text, unify_not_usage, unify_not_loaded, unify_answers, unify_refuses, unify_refuses_word, unify_no_problem, unify_answer, nothing_exact, ends_complete}
 use Rattle.fvn_tool.specs.Words.{Command, check, unify, verify, command_of}
 use Rattle.fvn_tool.specs.Replies.{IsReply}
 use Rattle.fvn_tool.specs.Runs.{Outside, Run, Leaves, WritesWhole, HasFailed}

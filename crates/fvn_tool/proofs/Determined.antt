@@ -1,12 +1,12 @@
 -- A run has one outcome, but for the answers to `unify` and the verdicts of `verify`.
 use Rattle.std.proofs.Common.{ℕ, List, Some, sym, ◌∙◌, subst, inr, arith}
 use Rattle.fvn_verify.specs.Laws.{VerdictsAgree}
-use Rattle.fvn_commands.specs.declared.status.Status.{Status}
-use Rattle.fvn_commands.specs.Texts.{Is}
-use Rattle.fvn_commands.specs.Laws.{ReadersAreLawful}
-use Rattle.fvn_promises.proofs.Checks.{check_determined}
-use Rattle.fvn_promises.proofs.Verified.{verify_agrees}
-use Rattle.fvn_promises.proofs.Unified.{unify_agrees}
+use Rattle.fvn_cmd.specs.declared.status.Status.{Status}
+use Rattle.fvn_cmd.specs.Texts.{Is}
+use Rattle.fvn_cmd.specs.Laws.{ReadersAreLawful}
+use Rattle.fvn_cmd_laws.proofs.Checks.{check_determined}
+use Rattle.fvn_cmd_laws.proofs.Verified.{verify_agrees}
+use Rattle.fvn_cmd_laws.proofs.Unified.{unify_agrees}
 use Rattle.fvn_tool.specs.Words.{Command, check, unify, verify}
 use Rattle.fvn_tool.specs.Replies.{IsReply}
 use Rattle.fvn_tool.specs.Outcomes.{no_command, too_long, replied}

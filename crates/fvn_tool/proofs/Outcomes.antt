@@ -3,16 +3,16 @@ use Rattle.std.proofs.Common.{◌≡◌, ◌+◌, ◌⊎◌, ℕ, List, Some, No
 use Rattle.fvn_base.specs.declared.limits.TheConstants.{MODULE_BYTES}
 use Rattle.fvn_outside.specs.Source.{TakesCount}
 use Rattle.fvn_outside.specs.Sink.{Appends}
-use Rattle.fvn_commands.specs.declared.status.Status.{Status}
-use Rattle.fvn_commands.specs.declared.status.Status.TheVariants.{Solved, Nothing, Usage, ModuleRefused, ProblemRefused, Ended, ReadFault, WriteFault, NoMemory}
+use Rattle.fvn_cmd.specs.declared.status.Status.{Status}
+use Rattle.fvn_cmd.specs.declared.status.Status.TheVariants.{Solved, Nothing, Usage, ModuleRefused, ProblemRefused, Ended, ReadFault, WriteFault, NoMemory}
 use Rattle.fvn_tool.specs.Words.{Command, check, unify, verify, command_of}
-use Rattle.fvn_commands.specs.Statuses.{IsSilent, IsSpoken}
+use Rattle.fvn_cmd.specs.Statuses.{IsSilent, IsSpoken}
 use Rattle.fvn_tool.specs.Runs.{Outside, Leaves, WritesWhole}
 use Rattle.fvn_tool.specs.Replies.{IsReply}
 use Rattle.fvn_tool.specs.Outcomes.{usage_line, too_long_line, IsOutcome, no_command, too_long, replied}
-use Rattle.fvn_promises.proofs.Checks.{check_spoken}
-use Rattle.fvn_promises.proofs.Verified.{verify_spoken}
-use Rattle.fvn_promises.proofs.Unified.{unify_spoken}
+use Rattle.fvn_cmd_laws.proofs.Checks.{check_spoken}
+use Rattle.fvn_cmd_laws.proofs.Verified.{verify_spoken}
+use Rattle.fvn_cmd_laws.proofs.Unified.{unify_spoken}
 
 module _ (words : List (List ℕ)) (source : Outside) (status : Status) (text : List ℕ) where
   pub usage_outcome : status ≡ Usage → command_of words ≡ None → text ≡ usage_line → IsOutcome words source status text

@@ -2,21 +2,21 @@
 use Rattle.std.specs.Prelude.{◌≡◌, ◌≤◌, ◌<◌, ◌⊎◌, ℕ, List, length, Option, Some, None}
 use Rattle.fvn_base.specs.declared.limits.TheConstants.{MODULE_BYTES}
 use Rattle.fvn_module.specs.Contents.{Contents}
-use Rattle.fvn_loading.specs.Loading.{IsLoaded, AreNotLoaded}
-use Rattle.fvn_loading.specs.Losses.{IsLossOf}
+use Rattle.fvn_module_loading.specs.Loading.{IsLoaded, AreNotLoaded}
+use Rattle.fvn_module_loading.specs.Losses.{IsLossOf}
 use Rattle.fvn_problems.specs.declared.problem.Problem.{Problem}
 use Rattle.fvn_problems.specs.declared.bindings.Bindings.{Bindings}
-use Rattle.fvn_commands.specs.declared.status.Status.{Status}
-use Rattle.fvn_commands.specs.declared.status.Status.TheVariants.{Solved, Nothing, Usage, ModuleRefused, ProblemRefused, ReadFault, WriteFault, NoMemory}
-use Rattle.fvn_commands.specs.Statuses.{IsSilent, IsAnswering}
-use Rattle.fvn_commands.specs.Texts.{Is}
-use Rattle.fvn_commands.specs.Checks.{IsFirstRefusalOf, IsCheckText, told_lines, TellsSorts}
-use Rattle.fvn_commands.specs.Refusing.{AsksNoProblem, AreNoBindings, IsProblemRefusalOf, IsBindingRefusalOf}
-use Rattle.fvn_verdicts.specs.Verdicts.{TellsVerdict}
-use Rattle.fvn_verdicts.specs.Replies.{IsVerifyText, AreSolvedBy, IsAskedIn, IsAskedOf}
-use Rattle.fvn_unify.specs.Replies.{IsAnswer, IsToBeUnified}
-use Rattle.fvn_promises.specs.Unified.{IsUnifyText, AnswersSo, IsNothingExact, EndsComplete, MeetsNoBound}
-use Rattle.fvn_promises.specs.Verified.{AreConfluentIn, TellsNo, TellsYesOrNo, AllStayWithin}
+use Rattle.fvn_cmd.specs.declared.status.Status.{Status}
+use Rattle.fvn_cmd.specs.declared.status.Status.TheVariants.{Solved, Nothing, Usage, ModuleRefused, ProblemRefused, ReadFault, WriteFault, NoMemory}
+use Rattle.fvn_cmd.specs.Statuses.{IsSilent, IsAnswering}
+use Rattle.fvn_cmd.specs.Texts.{Is}
+use Rattle.fvn_cmd.specs.Checks.{IsFirstRefusalOf, IsCheckText, told_lines, TellsSorts}
+use Rattle.fvn_cmd.specs.Refusing.{AsksNoProblem, AreNoBindings, IsProblemRefusalOf, IsBindingRefusalOf}
+use Rattle.fvn_cmd_verify.specs.Verdicts.{TellsVerdict}
+use Rattle.fvn_cmd_verify.specs.Replies.{IsVerifyText, AreSolvedBy, IsAskedIn, IsAskedOf}
+use Rattle.fvn_cmd_unify.specs.Replies.{IsAnswer, IsToBeUnified}
+use Rattle.fvn_cmd_laws.specs.Unified.{IsUnifyText, AnswersSo, IsNothingExact, EndsComplete, MeetsNoBound}
+use Rattle.fvn_cmd_laws.specs.Verified.{AreConfluentIn, TellsNo, TellsYesOrNo, AllStayWithin}
 use Rattle.fvn_tool.specs.Words.{Command, check, unify, verify, command_of}
 use Rattle.fvn_tool.specs.Runs.{Run, Leaves, WritesWhole, HasFailed}
 use Rattle.fvn_tool.specs.Outcomes.{usage_line, too_long_line, IsOutcome}

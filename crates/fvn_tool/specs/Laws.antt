@@ -1,9 +1,9 @@
 -- Laws of outcomes.
 use Rattle.std.specs.Prelude.{◌≡◌, ℕ, List, Option, Some, None}
-use Rattle.fvn_commands.specs.declared.status.Status.{Status}
-use Rattle.fvn_commands.specs.Texts.{Is}
-use Rattle.fvn_promises.specs.Unified.{AreAnswersOrOne}
-use Rattle.fvn_promises.specs.Verified.{AreVerdictsOrOne}
+use Rattle.fvn_cmd.specs.declared.status.Status.{Status}
+use Rattle.fvn_cmd.specs.Texts.{Is}
+use Rattle.fvn_cmd_laws.specs.Unified.{AreAnswersOrOne}
+use Rattle.fvn_cmd_laws.specs.Verified.{AreVerdictsOrOne}
 use Rattle.fvn_tool.specs.Words.{Command, check, unify, verify, command_of}
 use Rattle.fvn_tool.specs.Runs.{Outside}
 use Rattle.fvn_tool.specs.Outcomes.{IsOutcome}

@@ -3,10 +3,10 @@ use Rattle.std.specs.Prelude.{◌≡◌, ◌≤◌, ◌+◌, ℕ, List, length, 
 use Rattle.std.specs.Io.KnownBytes.{IsAtEnd}
 use Rattle.fvn_base.specs.declared.limits.TheConstants.{MODULE_BYTES}
 use Rattle.fvn_outside.specs.Source.{Takes, TakesCount}
-use Rattle.fvn_commands.specs.declared.status.Status.{Status}
-use Rattle.fvn_commands.specs.declared.status.Status.TheVariants.{Usage, ModuleRefused}
+use Rattle.fvn_cmd.specs.declared.status.Status.{Status}
+use Rattle.fvn_cmd.specs.declared.status.Status.TheVariants.{Usage, ModuleRefused}
 use Rattle.fvn_tool.specs.Words.{Command, command_of}
-use Rattle.fvn_commands.specs.Texts.{line}
+use Rattle.fvn_cmd.specs.Texts.{line}
 use Rattle.fvn_tool.specs.Replies.{IsReply}
 use Rattle.fvn_tool.specs.Runs.{Outside}
 

@@ -1,9 +1,9 @@
 -- What the program replies to a command over a module's text.
 use Rattle.std.specs.Prelude.{ℕ, List}
-use Rattle.fvn_commands.specs.declared.status.Status.{Status}
-use Rattle.fvn_commands.specs.Checks.{IsCheckReply}
-use Rattle.fvn_verdicts.specs.Replies.{IsVerifyReply}
-use Rattle.fvn_unify.specs.Replies.{IsUnifyReply}
+use Rattle.fvn_cmd.specs.declared.status.Status.{Status}
+use Rattle.fvn_cmd.specs.Checks.{IsCheckReply}
+use Rattle.fvn_cmd_verify.specs.Replies.{IsVerifyReply}
+use Rattle.fvn_cmd_unify.specs.Replies.{IsUnifyReply}
 use Rattle.fvn_tool.specs.Words.{Command, check, unify, verify}
 
 -- this status with this text replies to a command over the bytes of a module

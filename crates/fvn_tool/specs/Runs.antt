@@ -2,8 +2,8 @@
 use Rattle.std.specs.Prelude.{ℕ, List, Option}
 use Rattle.fvn_outside.specs.Faults.{Rose}
 use Rattle.fvn_outside.specs.Sink.{Appends, AppendsPart}
-use Rattle.fvn_commands.specs.declared.status.Status.{Status}
-use Rattle.fvn_commands.specs.declared.status.Status.TheVariants.{Solved, Nothing, Usage, ModuleRefused, ProblemRefused, Ended, ReadFault, WriteFault, NoMemory}
+use Rattle.fvn_cmd.specs.declared.status.Status.{Status}
+use Rattle.fvn_cmd.specs.declared.status.Status.TheVariants.{Solved, Nothing, Usage, ModuleRefused, ProblemRefused, Ended, ReadFault, WriteFault, NoMemory}
 
 -- What a source or a sink shows before a run and after it: its bytes, where it tells them, and its count of faults.
 -- The bytes of a source are those that it has left, the bytes of a sink those that were written.

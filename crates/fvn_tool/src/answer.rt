@@ -3,13 +3,13 @@ ghost use Rattle.std.specs.Prelude.{◌≡◌, IfOk};
 ghost use Rattle.fvn_tool.specs.Words.{meant};
 ghost use Rattle.fvn_tool.specs.Replies.{IsReply};
 ghost use Rattle.fvn_tool.specs.Outcomes.{usage_line, too_long_line};
-ghost use Rattle.fvn_commands.specs.Texts.{bytes_of};
+ghost use Rattle.fvn_cmd.specs.Texts.{bytes_of};
 
 use crate::words::Command;
-use fvn_commands::{Answer, Status, check_reply};
+use fvn_cmd::{Answer, Status, check_reply};
+use fvn_cmd_unify::unify_reply;
+use fvn_cmd_verify::verify_reply;
 use fvn_terms::NoMemory;
-use fvn_unify::unify_reply;
-use fvn_verdicts::verify_reply;
 use std::alloc::Global;
 
 /// The usage line, for words that are no command.

@@ -1,7 +1,7 @@
 //! A law of outcomes, the contract of a function that does nothing.
 ghost use Rattle.fvn_tool.specs.Laws.{OutcomesAreDetermined};
 
-use fvn_commands::readers_are_lawful;
+use fvn_cmd::readers_are_lawful;
 use fvn_verify::verdicts_agree;
 
 /// Words and the bytes of a source have at most one outcome, but for the answers to `unify` and the
@@ -14,7 +14,7 @@ use fvn_verify::verdicts_agree;
 /// answer is complete. Where `verify` tells a verdict, both runs do, and where the equations are
 /// confluent, they tell the same unless one ended at a bound. With which text a module, a problem or
 /// bindings are refused is determined there too. Complete answers have equally many lines
-/// (`complete_answers_have_one_count` of `fvn_promises`).
+/// (`complete_answers_have_one_count` of `fvn_cmd_laws`).
 pub fn outcomes_are_determined()
     ensures { OutcomesAreDetermined }
 {

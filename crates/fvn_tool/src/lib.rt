@@ -7,6 +7,6 @@ mod limits;
 mod top;
 mod words;
 
-pub use fvn_commands::Status;
+pub use fvn_cmd::Status;
 pub use laws::outcomes_are_determined;
 pub use top::run;

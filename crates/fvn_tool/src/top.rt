@@ -2,15 +2,15 @@
 ghost use Rattle.std.specs.Prelude.{◌≡◌, ◌⊎◌, map, string_bytes, None, ◌≢◌, IfOk, IfErr, IsOk};
 ghost use Rattle.fvn_outside.specs.Faults.{Rose, NeverFails};
 ghost use Rattle.fvn_tool.specs.Words.{command_of};
-ghost use Rattle.fvn_commands.specs.Texts.{bytes_of};
-ghost use Rattle.fvn_commands.specs.Statuses.{IsSilent};
+ghost use Rattle.fvn_cmd.specs.Texts.{bytes_of};
+ghost use Rattle.fvn_cmd.specs.Statuses.{IsSilent};
 ghost use Rattle.fvn_tool.specs.Runs.{seen, Leaves};
 ghost use Rattle.fvn_tool.specs.Outcomes.{IsOutcome};
 ghost use Rattle.fvn_tool.specs.Claims.{IsReport};
 
 use crate::{answer, words};
 use fvn_base::limits::MODULE_BYTES;
-use fvn_commands::{Answer, Status, readers_are_lawful};
+use fvn_cmd::{Answer, Status, readers_are_lawful};
 use fvn_outside::{ReadAll, Sink, Source, WriteFailed, read_all, write_all};
 use fvn_terms::NoMemory;
 use std::alloc::Global;

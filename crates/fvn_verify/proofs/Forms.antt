@@ -19,9 +19,9 @@ use Rattle.fvn_forms.proofs.Eval.{canon_plain}
 use Rattle.fvn_flat.specs.Fits.{Fits}
 use Rattle.fvn_flat.specs.declared.solver.Normal.{Normal}
 use Rattle.fvn_flat.specs.declared.solver.Normal.TheVariants.{Form, Steps, Size}
-use Rattle.fvn_rewriting.specs.Kinds.{HaveOneKind}
-use Rattle.fvn_rewriting.specs.Laws.{SequencesAreLawful, KindedTheoriesAreLawful}
-use Rattle.fvn_coherence.specs.Admissible.{AreAdmissible}
+use Rattle.fvn_rewrite_laws.specs.Kinds.{HaveOneKind}
+use Rattle.fvn_rewrite_laws.specs.Laws.{SequencesAreLawful, KindedTheoriesAreLawful}
+use Rattle.fvn_rewrite_coherence.specs.Admissible.{AreAdmissible}
 use Rattle.fvn_rewrite.specs.Normalised.{counted, IsNormalised}
 use Rattle.fvn_verify.specs.Verdicts.{instance, AreEqual, IsFormOf, MeetInForm}
 use Rattle.fvn_verify.specs.inner.Comparing.{AreKinded, IsSideAs, AreDifferent}

@@ -10,11 +10,11 @@ use Rattle.fvn_terms.specs.Signature.{AtOrBelow}
 use Rattle.fvn_forms.specs.SortOrder.{at_or_below}
 use Rattle.fvn_forms.specs.Good.{TakesKinds}
 use Rattle.fvn_forms.specs.Ranks.{result}
-use Rattle.fvn_rewriting.specs.declared.shapes.Root.{Root}
-use Rattle.fvn_rewriting.specs.declared.shapes.Root.TheVariants.{Variable, Constant, Compound}
-use Rattle.fvn_rewriting.specs.declared.shapes.Shape.{Shape}
-use Rattle.fvn_rewriting.specs.Identities.{identities}
-use Rattle.fvn_rewriting.specs.Shapes.{sorts_of, compound}
+use Rattle.fvn_rewrite_laws.specs.declared.shapes.Root.{Root}
+use Rattle.fvn_rewrite_laws.specs.declared.shapes.Root.TheVariants.{Variable, Constant, Compound}
+use Rattle.fvn_rewrite_laws.specs.declared.shapes.Shape.{Shape}
+use Rattle.fvn_rewrite_laws.specs.Identities.{identities}
+use Rattle.fvn_rewrite_laws.specs.Shapes.{sorts_of, compound}
 use Rattle.fvn_cohere.specs.declared.searching.Sought.{Sought}
 use Rattle.fvn_cohere.specs.declared.outlooks.Outlook.{Outlook}
 use Rattle.fvn_cohere.specs.inner.Searching.{choices_for}

@@ -3,8 +3,8 @@ use Rattle.std.specs.Prelude.{◌≡◌, Bool}
 use Rattle.fvn_terms.specs.declared.plain.Var.{Var}
 use Rattle.fvn_terms.specs.Plain.{term}
 use Rattle.fvn_terms.specs.Signature.{IsTerm}
-use Rattle.fvn_rewriting.specs.declared.shapes.Shape.{Shape}
-use Rattle.fvn_rewriting.specs.Identities.{identities}
+use Rattle.fvn_rewrite_laws.specs.declared.shapes.Shape.{Shape}
+use Rattle.fvn_rewrite_laws.specs.Identities.{identities}
 use Rattle.fvn_cohere.specs.declared.searching.Search.{Search}
 use Rattle.fvn_cohere.specs.declared.outlooks.PartialChoice.{PartialChoice}
 use Rattle.fvn_cohere.specs.inner.Searching.{shapes_by, is_met}

@@ -8,12 +8,12 @@ use Rattle.fvn_terms.specs.declared.declarations.Declarations.{Declarations}
 use Rattle.fvn_terms.specs.Term.{Term}
 use Rattle.fvn_terms.specs.Substitution.{same_var}
 use Rattle.fvn_forms.specs.SortOrder.{at_or_below}
-use Rattle.fvn_rewriting.specs.declared.shapes.Root.{Root}
-use Rattle.fvn_rewriting.specs.declared.shapes.Root.TheVariants.{Variable, Constant, Compound}
-use Rattle.fvn_rewriting.specs.declared.shapes.Shape.{Shape}
-use Rattle.fvn_rewriting.specs.Shapes.{shape_in}
-use Rattle.fvn_rewriting.specs.Identities.{is_listed_op}
-use Rattle.fvn_rewriting.specs.Choices.{variable_shape, sort_choices, identity_choices}
+use Rattle.fvn_rewrite_laws.specs.declared.shapes.Root.{Root}
+use Rattle.fvn_rewrite_laws.specs.declared.shapes.Root.TheVariants.{Variable, Constant, Compound}
+use Rattle.fvn_rewrite_laws.specs.declared.shapes.Shape.{Shape}
+use Rattle.fvn_rewrite_laws.specs.Shapes.{shape_in}
+use Rattle.fvn_rewrite_laws.specs.Identities.{is_listed_op}
+use Rattle.fvn_rewrite_laws.specs.Choices.{variable_shape, sort_choices, identity_choices}
 use Rattle.fvn_cohere.specs.declared.shapes.Chosen.{Chosen, Nothing, Choose'}
 use Rattle.fvn_cohere.specs.declared.searching.Sought.{Sought}
 use Rattle.fvn_cohere.specs.declared.searching.Sought.TheVariants.{Loss, ToVariable, ToIdentity}

@@ -3,7 +3,7 @@ use Rattle.std.specs.Prelude.{ℕ}
 use Rattle.fvn_terms.specs.declared.plain.SortId.{SortId}
 use Rattle.fvn_terms.specs.declared.declarations.Declarations.{Declarations}
 use Rattle.fvn_terms.specs.Signature.{HasKind}
-use Rattle.fvn_nodes.specs.Table.{NodeTable, term_at}
+use Rattle.fvn_combine_nodes.specs.Table.{NodeTable, term_at}
 
 -- the node that names the class of node i is of its kind
 abbrev pub IsOfItsKind : Declarations → NodeTable → (ℕ → ℕ) → ℕ → Type 0

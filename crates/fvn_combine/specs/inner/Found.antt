@@ -4,14 +4,14 @@ use Rattle.fvn_base.specs.declared.memory.NoMemory.{NoMemory}
 use Rattle.fvn_terms.specs.Substitution.{Substitution}
 use Rattle.fvn_flat.specs.Solving.{problem_of, IsBasisCause, IsTooLarge}
 use Rattle.fvn_flat.specs.SolvedLists.{IsKindUnifier}
-use Rattle.fvn_nodes.specs.States.{Admits, IsOpen}
-use Rattle.fvn_nodes.specs.Trees.{weight}
-use Rattle.fvn_nodes.specs.Unifiers.{kernel}
-use Rattle.fvn_nodes.specs.declared.state.State.{State}
-use Rattle.fvn_wheels.specs.Tags.{tags_left}
-use Rattle.fvn_drawing.specs.OnKinds.{IsGivenOnKinds}
-use Rattle.fvn_drawing.specs.declared.drawing.Drawn.{Drawn}
-use Rattle.fvn_drawing.specs.declared.drawing.Drawn.TheVariants.{Nothing as NoneDrawn, TooLarge, Unifier}
+use Rattle.fvn_combine_nodes.specs.States.{Admits, IsOpen}
+use Rattle.fvn_combine_nodes.specs.Trees.{weight}
+use Rattle.fvn_combine_nodes.specs.Unifiers.{kernel}
+use Rattle.fvn_combine_nodes.specs.declared.state.State.{State}
+use Rattle.fvn_acunify_product.specs.Tags.{tags_left}
+use Rattle.fvn_combine_drawing.specs.OnKinds.{IsGivenOnKinds}
+use Rattle.fvn_combine_drawing.specs.declared.drawing.Drawn.{Drawn}
+use Rattle.fvn_combine_drawing.specs.declared.drawing.Drawn.TheVariants.{Nothing as NoneDrawn, TooLarge, Unifier}
 use Rattle.fvn_combine.specs.Tasks.{Combining}
 use Rattle.fvn_combine.specs.Advancing.{IsCovered}
 use Rattle.fvn_combine.specs.Frames.{IsOpened, IsCoveredLater, IsCoveredToCome}

@@ -1,6 +1,6 @@
 -- A search, part by part.
 use Rattle.std.specs.Prelude.{List, Option}
-use Rattle.fvn_nodes.specs.declared.state.State.{State}
+use Rattle.fvn_combine_nodes.specs.declared.state.State.{State}
 use Rattle.fvn_combine.specs.Tasks.{Combining}
 use Rattle.fvn_combine.specs.Search.{Search}
 use Rattle.fvn_combine.specs.declared.opened.Frame.{Frame}

@@ -1,7 +1,7 @@
 -- Profiles of variants.
 use Rattle.std.specs.Prelude.{◌++◌}
-use Rattle.fvn_counts.specs.declared.profile.Profile.{Profile}
-use Rattle.fvn_counts.specs.Profiles.{IsProfile}
+use Rattle.fvn_cover_counts.specs.declared.profile.Profile.{Profile}
+use Rattle.fvn_cover_counts.specs.Profiles.{IsProfile}
 use Rattle.fvn_cover.specs.declared.variant.Variant.{Variant}
 use Rattle.fvn_cover.specs.Covering.{values_of}
 

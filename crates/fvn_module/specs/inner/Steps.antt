@@ -6,18 +6,18 @@ use Rattle.fvn_lex.specs.Cut.{Piece, pieces_of}
 use Rattle.fvn_lex.specs.Join.{IsPiece}
 use Rattle.fvn_base.specs.declared.limits.TheConstants.{EQUATIONS}
 use Rattle.fvn_forms.specs.Good.{IsGood}
-use Rattle.fvn_drafts.specs.Collected.{completed}
+use Rattle.fvn_signature.specs.Collected.{completed}
 use Rattle.fvn_sorts.specs.Faults.{HasNoFault, IsFirstFault as IsFirstSignatureFault}
-use Rattle.fvn_statements.specs.declared.statement.Statement.{Statement}
-use Rattle.fvn_statements.specs.declared.form.Form.{Form}
-use Rattle.fvn_statements.specs.declared.form.FormFault.TheVariants as form
-use Rattle.fvn_statements.specs.Forms.{IsFormOf, IsFirstFault as IsFirstFormFault}
-use Rattle.fvn_naming.specs.declared.fault.NameFault.TheVariants as name
-use Rattle.fvn_drafts.specs.declared.collected.Collected.{Collected}
+use Rattle.fvn_module_statements.specs.declared.statement.Statement.{Statement}
+use Rattle.fvn_module_statements.specs.declared.form.Form.{Form}
+use Rattle.fvn_module_statements.specs.declared.form.FormFault.TheVariants as form
+use Rattle.fvn_module_statements.specs.Forms.{IsFormOf, IsFirstFault as IsFirstFormFault}
+use Rattle.fvn_module_names.specs.declared.fault.NameFault.TheVariants as name
+use Rattle.fvn_signature.specs.declared.collected.Collected.{Collected}
 use Rattle.fvn_syntax.specs.declared.names.Names.{Names}
-use Rattle.fvn_naming.specs.Variables.{no_variables}
-use Rattle.fvn_declared.specs.Module.{names_in, names_alone, collected_in}
-use Rattle.fvn_naming.specs.Faults.{HasNames, IsFirstFault as IsFirstNameFault}
+use Rattle.fvn_module_names.specs.Variables.{no_variables}
+use Rattle.fvn_module_declarations.specs.Module.{names_in, names_alone, collected_in}
+use Rattle.fvn_module_names.specs.Faults.{HasNames, IsFirstFault as IsFirstNameFault}
 use Rattle.fvn_module.specs.declared.signing.Signed.{Signed}
 use Rattle.fvn_module.specs.declared.equation.Equation.{Equation}
 use Rattle.fvn_module.specs.declared.sides.Sides.{Sides}

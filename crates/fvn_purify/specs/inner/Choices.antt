@@ -4,10 +4,10 @@ use Rattle.fvn_terms.specs.declared.plain.OpId.{OpId}
 use Rattle.fvn_terms.specs.declared.declarations.Declarations.{Declarations}
 use Rattle.fvn_terms.specs.Signature.{axioms}
 use Rattle.fvn_flat.specs.Partitions.{HasNoIdentity}
-use Rattle.fvn_nodes.specs.Table.{NodeTable, IsOver, IsWellMade}
-use Rattle.fvn_nodes.specs.Classes.{IsNodePartition}
-use Rattle.fvn_nodes.specs.States.{Admits, IsClosed, IsOpen, class_of, open_pairs}
-use Rattle.fvn_nodes.specs.declared.state.State.{State}
+use Rattle.fvn_combine_nodes.specs.Table.{NodeTable, IsOver, IsWellMade}
+use Rattle.fvn_combine_nodes.specs.Classes.{IsNodePartition}
+use Rattle.fvn_combine_nodes.specs.States.{Admits, IsClosed, IsOpen, class_of, open_pairs}
+use Rattle.fvn_combine_nodes.specs.declared.state.State.{State}
 use Rattle.fvn_purify.specs.Parts.{Outline, IsOutline}
 use Rattle.fvn_purify.specs.Splits.{number_in, AreHeadsOfParts, AreWaysOfPairs}
 use Rattle.fvn_purify.specs.inner.Options.{AreFirst}

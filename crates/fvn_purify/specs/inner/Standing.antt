@@ -4,7 +4,7 @@ use Rattle.fvn_terms.specs.declared.plain.OpId.{OpId}
 use Rattle.fvn_terms.specs.declared.declarations.Axioms.TheVariants.{Free}
 use Rattle.fvn_terms.specs.declared.declarations.Declarations.{Declarations}
 use Rattle.fvn_terms.specs.Signature.{axioms}
-use Rattle.fvn_nodes.specs.Table.{NodeTable, IsOver}
+use Rattle.fvn_combine_nodes.specs.Table.{NodeTable, IsOver}
 use Rattle.fvn_purify.specs.Theories.{theory, AreOpposite}
 use Rattle.fvn_purify.specs.Parts.{ArePair}
 

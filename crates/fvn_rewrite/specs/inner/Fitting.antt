@@ -9,7 +9,7 @@ use Rattle.fvn_terms.specs.Signature.{axioms, AtOrBelow}
 use Rattle.fvn_terms.specs.Substitution.{Substitution, same_var}
 use Rattle.fvn_forms.specs.Flat.{FlatTerm, FlatTerms, fvar, fapp, fnone, fmore, fpack}
 use Rattle.fvn_flat.specs.Forms.{head_of}
-use Rattle.fvn_rules.specs.declared.rule.Rule.{Rule}
+use Rattle.fvn_rewrite_rules.specs.declared.rule.Rule.{Rule}
 use Rattle.fvn_rewrite.specs.declared.fitting.Found.{Found}
 use Rattle.fvn_rewrite.specs.inner.SortedTerms.{SortedTerm, svar, sort_of, operator_of, parts_of, term_of, IsValue}
 

@@ -12,10 +12,10 @@ use Rattle.fvn_terms.specs.Rewriting.{Rewrites, TermSequence}
 use Rattle.fvn_terms.specs.Laws.{RewritingLaws}
 use Rattle.fvn_forms.specs.Flat.{FlatTerm, plain}
 use Rattle.fvn_forms.specs.Good.{IsGood}
-use Rattle.fvn_rewriting.specs.Laws.{SequenceLaws, KindedLaws}
+use Rattle.fvn_rewrite_laws.specs.Laws.{SequenceLaws, KindedLaws}
 use Rattle.fvn_cohere.specs.Promises.{equations_of}
-use Rattle.fvn_rules.specs.declared.rule.Rule.{Rule}
-use Rattle.fvn_rules.specs.Given.{RuleLists, headed}
+use Rattle.fvn_rewrite_rules.specs.declared.rule.Rule.{Rule}
+use Rattle.fvn_rewrite_rules.specs.Given.{RuleLists, headed}
 use Rattle.fvn_rewrite.specs.Normalised.{IsReached}
 use Rattle.fvn_rewrite.specs.declared.making.Made.{Made}
 use Rattle.fvn_rewrite.specs.declared.making.MadeAll.{MadeAll}

@@ -7,7 +7,7 @@ use Rattle.fvn_terms.specs.Sorts.{IsWellSorted}
 use Rattle.fvn_forms.specs.Flat.{FlatTerm, plain}
 use Rattle.fvn_flat.specs.Fits.{Fits}
 use Rattle.fvn_match.specs.Matching.{HasNoMatcher}
-use Rattle.fvn_rules.specs.declared.rule.Rule.{Rule}
+use Rattle.fvn_rewrite_rules.specs.declared.rule.Rule.{Rule}
 
 module _ (d : Declarations) where
   -- both sides of the rule fit

@@ -13,7 +13,7 @@ ghost use Rattle.fvn_sorts.specs.inner.Searches.{
 };
 
 use crate::conditions::twins::{are_listed, has_twin};
-use fvn_drafts::Draft;
+use fvn_signature::Draft;
 use fvn_terms::{OpId, SortId};
 
 /// Three sorts.

@@ -1,7 +1,7 @@
 //! A signature from what was collected.
 ghost use Rattle.std.specs.Prelude.{◌≡◌, ◌⊎◌, IfOk, IfErr, OnOk};
 ghost use Rattle.fvn_forms.specs.Good.{IsGood};
-ghost use Rattle.fvn_drafts.specs.Collected.{IsClosed, completed};
+ghost use Rattle.fvn_signature.specs.Collected.{IsClosed, completed};
 ghost use Rattle.fvn_sorts.specs.Faults.{HasNoFault, IsFirstFault};
 
 use crate::builder::SignatureBuilder;
@@ -10,7 +10,7 @@ use crate::conditions::sizes::is_too_large;
 use crate::conditions::stages::first_fault;
 use crate::queries::signature::Signature;
 use crate::queries::subsorts::all_direct_subsorts;
-use fvn_drafts::{Collected, draft_of};
+use fvn_signature::{Collected, draft_of};
 use fvn_terms::NoMemory;
 use std::alloc::Global;
 

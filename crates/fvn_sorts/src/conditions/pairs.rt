@@ -17,7 +17,7 @@ ghost use Rattle.fvn_sorts.specs.inner.Pairs.{
 };
 
 use fvn_base::Seq;
-use fvn_drafts::Draft;
+use fvn_signature::Draft;
 use fvn_terms::{NoMemory, Rank, SortId};
 use std::alloc::Global;
 

@@ -3,7 +3,7 @@ ghost use Rattle.std.specs.Prelude.{IsTrue};
 ghost use Rattle.fvn_terms.specs.Signature.{kind};
 ghost use Rattle.fvn_sorts.specs.inner.Searches.{GivesListed, AreListed, AreTwins, HasTwin};
 
-use fvn_drafts::Draft;
+use fvn_signature::Draft;
 use fvn_terms::{OpId, SortId};
 
 /// Whether all results with this sort first are sorts or kinds of the signature.

@@ -9,7 +9,7 @@ ghost use Rattle.fvn_sorts.specs.Queries.{arity, direct_subsorts, IsKind, IsTop,
 
 use crate::queries::subsorts::first_maximal;
 use fvn_base::Seq;
-use fvn_drafts::{Draft, identity_of};
+use fvn_signature::{Draft, identity_of};
 use fvn_terms::{Axioms, Declarations, OpId, Rank, SortId};
 use std::marker::Model;
 

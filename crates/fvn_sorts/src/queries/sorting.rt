@@ -11,7 +11,7 @@ ghost use Rattle.fvn_forms.specs.LeastSort.{least_sort};
 
 use crate::queries::signature::Signature;
 use fvn_base::limits::ARGUMENTS;
-use fvn_drafts::is_associative;
+use fvn_signature::is_associative;
 use fvn_terms::{Args, Axioms, OpId, Plain, SortId};
 
 /// The least sort of a term, and the operator of its flat form where this is a constant.

@@ -2,11 +2,11 @@
 ghost use Rattle.std.specs.Prelude.{◌≡◌, ◌&&◌, not, map, IfOk, ◌↔◌, ◌<◌, Any, IsTrue, MatchOption};
 ghost use Rattle.fvn_terms.specs.declared.plain.SortId.{SortId};
 ghost use Rattle.std.specs.List.{list_all};
-ghost use Rattle.fvn_drafts.specs.Collected.{first_sorts};
+ghost use Rattle.fvn_signature.specs.Collected.{first_sorts};
 ghost use Rattle.fvn_sorts.specs.Queries.{is_below, is_direct, direct_subsorts, IsMaximalOf, IsTop};
 
 use fvn_base::Seq;
-use fvn_drafts::Draft;
+use fvn_signature::Draft;
 use fvn_terms::{NoMemory, SortId};
 use std::alloc::Global;
 

@@ -4,7 +4,7 @@ use Rattle.std.specs.Prelude.{filter}
 use Rattle.fvn_terms.specs.declared.plain.OpId.{OpId}
 use Rattle.fvn_forms.specs.SortOrder.{at_or_below}
 use Rattle.fvn_forms.specs.Ranks.{result}
-use Rattle.fvn_rewriting.specs.Choices.{variable_shape, identity_shape, sorts_below}
+use Rattle.fvn_rewrite_laws.specs.Choices.{variable_shape, identity_shape, sorts_below}
 use Rattle.fvn_cohere.specs.inner.Searching.{choices_for}
 use Rattle.fvn_cohere.proofs.choosing.choices.Goals as goal
 

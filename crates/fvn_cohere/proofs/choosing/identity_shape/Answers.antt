@@ -1,7 +1,7 @@
 -- The least sort of the constant.
 use Rattle.std.proofs.Common.{ap}
 use Rattle.fvn_terms.specs.declared.plain.SortId.{SortId}
-use Rattle.fvn_rewriting.specs.declared.shapes.Root.TheVariants.{Constant}
+use Rattle.fvn_rewrite_laws.specs.declared.shapes.Root.TheVariants.{Constant}
 use Rattle.fvn_cohere.proofs.choosing.identity_shape.Goals as goal
 
 pub returns : goal.returns

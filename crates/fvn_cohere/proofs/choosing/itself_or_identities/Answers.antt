@@ -1,6 +1,6 @@
 -- The variable first.
 use Rattle.std.proofs.Common.{◌++◌, map, ap, ◌∙◌}
-use Rattle.fvn_rewriting.specs.Choices.{identity_shape}
+use Rattle.fvn_rewrite_laws.specs.Choices.{identity_shape}
 use Rattle.fvn_cohere.proofs.choosing.itself_or_identities.Goals as goal
 
 pub returns : goal.returns

@@ -1,6 +1,6 @@
 -- Variables first.
 use Rattle.std.proofs.Common.{◌++◌, map, ap, ◌∙◌}
-use Rattle.fvn_rewriting.specs.Choices.{variable_shape, identity_shape}
+use Rattle.fvn_rewrite_laws.specs.Choices.{variable_shape, identity_shape}
 use Rattle.fvn_cohere.proofs.choosing.lower_or_identities.Goals as goal
 
 pub returns : goal.returns

@@ -1,6 +1,6 @@
 -- The shapes so far.
 use Rattle.std.proofs.Common.{◌≡◌, map, take}
-use Rattle.fvn_rewriting.specs.Choices.{variable_shape}
+use Rattle.fvn_rewrite_laws.specs.Choices.{variable_shape}
 use Rattle.fvn_cohere.proofs.choosing.variable_shapes.Given as goal
 
 abbrev pub invariant-loop-s : goal.invariant-loop-s

@@ -1,7 +1,7 @@
 -- One identity more.
 use Rattle.std.proofs.Common.{◌++◌, [], ◌∷◌, map, ap, ◌∙◌}
 use Rattle.std.proofs.lemmas.List.{take_all}
-use Rattle.fvn_rewriting.specs.Choices.{identity_shape}
+use Rattle.fvn_rewrite_laws.specs.Choices.{identity_shape}
 use Rattle.fvn_cohere.proofs.Steps.{map-append-step}
 use Rattle.fvn_cohere.proofs.choosing.with_identity_shapes.Goals as goal
 

@@ -1,6 +1,6 @@
 -- The shapes so far.
 use Rattle.std.proofs.Common.{◌≡◌, ◌++◌, map, take}
-use Rattle.fvn_rewriting.specs.Choices.{identity_shape}
+use Rattle.fvn_rewrite_laws.specs.Choices.{identity_shape}
 use Rattle.fvn_cohere.proofs.choosing.with_identity_shapes.Given as goal
 
 abbrev pub invariant-loop-e : goal.invariant-loop-e

@@ -3,7 +3,7 @@ use Rattle.std.proofs.Common.{◌≡◌, ◌≤◌, ◌+◌, ℕ, List, map, len
 use Rattle.std.proofs.lemmas.List.{take_all}
 use Rattle.fvn_base.specs.declared.limits.TheConstants.{IDENTITY_INSTANCES, SORT_INSTANCES}
 use Rattle.fvn_terms.specs.declared.plain.Var.{Var}
-use Rattle.fvn_rewriting.specs.Choices.{product, identities_below, sorts_below}
+use Rattle.fvn_rewrite_laws.specs.Choices.{product, identities_below, sorts_below}
 use Rattle.fvn_cohere.specs.inner.Capped.{capped}
 use Rattle.fvn_cohere.proofs.Products.{sum-step, within_capped}
 use Rattle.fvn_cohere.proofs.fitting.fits.Goals as goal

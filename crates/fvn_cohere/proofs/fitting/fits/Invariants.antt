@@ -1,7 +1,7 @@
 -- The products of the choices of the variables so far.
 use Rattle.std.proofs.Common.{◌≡◌, ◌+◌, map, length, take}
 use Rattle.fvn_terms.specs.declared.plain.Var.{Var}
-use Rattle.fvn_rewriting.specs.Choices.{product, identities_below, sorts_below}
+use Rattle.fvn_rewrite_laws.specs.Choices.{product, identities_below, sorts_below}
 use Rattle.fvn_cohere.specs.inner.Capped.{capped}
 use Rattle.fvn_cohere.proofs.fitting.fits.Given as goal
 

@@ -2,7 +2,7 @@
 use Rattle.std.proofs.Common.{◌↔◌, subst, IsTrue}
 use Rattle.fvn_terms.specs.Plain.{term}
 use Rattle.fvn_module.specs.declared.equation.Equation.{Equation}
-use Rattle.fvn_rewriting.specs.Choices.{InstancesFit}
+use Rattle.fvn_rewrite_laws.specs.Choices.{InstancesFit}
 use Rattle.fvn_cohere.proofs.Firsts.{of_found}
 use Rattle.fvn_cohere.proofs.fitting.instances_fit.Goals as goal
 

@@ -3,7 +3,7 @@ use Rattle.std.proofs.Common.{[], take, sym, ap, ◌∙◌}
 use Rattle.std.specs.Prelude.{fold}
 use Rattle.std.proofs.lemmas.List.{take_all}
 use Rattle.fvn_terms.specs.declared.declarations.Declarations.{Declarations}
-use Rattle.fvn_rewriting.specs.Identities.{with_operator, with_identity_of}
+use Rattle.fvn_rewrite_laws.specs.Identities.{with_operator, with_identity_of}
 use Rattle.fvn_cohere.proofs.Steps.{identity-step}
 use Rattle.fvn_cohere.proofs.identities.identities.Goals as goal
 

@@ -1,6 +1,6 @@
 -- The operators that are left decide.
 use Rattle.std.proofs.Common.{◌≡◌, drop}
-use Rattle.fvn_rewriting.specs.Identities.{is_listed_op}
+use Rattle.fvn_rewrite_laws.specs.Identities.{is_listed_op}
 use Rattle.fvn_cohere.proofs.identities.is_listed.Given as goal
 
 abbrev pub invariant-loop-g : goal.invariant-loop-g

@@ -2,7 +2,7 @@
 use Rattle.std.proofs.Common.{sym, subst}
 use Rattle.fvn_terms.specs.Plain.{term}
 use Rattle.fvn_module.specs.declared.equation.Equation.{Equation}
-use Rattle.fvn_rewriting.specs.Kinds.{IsKindedEquation}
+use Rattle.fvn_rewrite_laws.specs.Kinds.{IsKindedEquation}
 use Rattle.fvn_cohere.specs.Promises.{sides_of, LosesAs}
 use Rattle.fvn_cohere.proofs.Firsts.{kinded, of_found}
 use Rattle.fvn_cohere.proofs.losing.loses_at.Goals as goal

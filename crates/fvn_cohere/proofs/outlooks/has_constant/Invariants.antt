@@ -1,7 +1,7 @@
 -- The shapes that are left decide.
 use Rattle.std.proofs.Common.{◌≡◌, drop}
 use Rattle.std.specs.List.{list_any}
-use Rattle.fvn_rewriting.specs.declared.shapes.Shape.{Shape}
+use Rattle.fvn_rewrite_laws.specs.declared.shapes.Shape.{Shape}
 use Rattle.fvn_cohere.specs.inner.Outlooks.{is_constant_root}
 use Rattle.fvn_cohere.proofs.outlooks.has_constant.Given as goal
 

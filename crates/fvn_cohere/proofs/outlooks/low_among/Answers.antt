@@ -3,7 +3,7 @@ use Rattle.std.proofs.Common.{sym, ◌∙◌}
 use Rattle.fvn_base.proofs.Membership.{list_all_gives}
 use Rattle.fvn_forms.specs.SortOrder.{at_or_below}
 use Rattle.fvn_forms.proofs.SortTests.{at_or_below-true}
-use Rattle.fvn_rewriting.specs.declared.shapes.Shape.{Shape}
+use Rattle.fvn_rewrite_laws.specs.declared.shapes.Shape.{Shape}
 use Rattle.fvn_cohere.proofs.outlooks.low_among.Goals as goal
 
 pub returns-then-is_below_all : goal.returns-then-is_below_all

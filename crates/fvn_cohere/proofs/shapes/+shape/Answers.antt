@@ -5,8 +5,8 @@ use Rattle.fvn_terms.specs.declared.plain.Plain.{Plain}
 use Rattle.fvn_terms.specs.declared.plain.Var.{Var}
 use Rattle.fvn_terms.specs.declared.declarations.Declarations.{Declarations}
 use Rattle.fvn_terms.specs.Plain.{term, terms}
-use Rattle.fvn_rewriting.specs.declared.shapes.Shape.{Shape}
-use Rattle.fvn_rewriting.specs.Shapes.{shape_over, shape_in, shapes_in}
+use Rattle.fvn_rewrite_laws.specs.declared.shapes.Shape.{Shape}
+use Rattle.fvn_rewrite_laws.specs.Shapes.{shape_over, shape_in, shapes_in}
 use Rattle.fvn_cohere.specs.inner.Searching.{shapes_by}
 use Rattle.fvn_cohere.proofs.Arguments.{take_short, argument, few}
 use Rattle.fvn_cohere.proofs.shapes.+shape.Goals as goal

@@ -3,7 +3,7 @@ use Rattle.std.proofs.Common.{◌≡◌, ◌+◌, ◌*◌, length, map, take}
 use Rattle.fvn_terms.specs.declared.plain.Plain.{Plain}
 use Rattle.fvn_terms.specs.Term.{nodes, nodes_all}
 use Rattle.fvn_terms.specs.Plain.{term}
-use Rattle.fvn_rewriting.specs.Shapes.{shape_in}
+use Rattle.fvn_rewrite_laws.specs.Shapes.{shape_in}
 use Rattle.fvn_cohere.specs.inner.Searching.{shapes_by}
 use Rattle.fvn_cohere.proofs.shapes.+shape.Given as goal
 

@@ -2,8 +2,8 @@
 use Rattle.std.proofs.Common.{◌≡◌, ◌<◌, List, map, length, take, refl, ap, ◌∙◌, arith}
 use Rattle.std.proofs.lemmas.List.{take_more_set, take_all, length-set}
 use Rattle.fvn_forms.specs.Ranks.{result}
-use Rattle.fvn_rewriting.specs.declared.shapes.Shape.{Shape}
-use Rattle.fvn_rewriting.specs.Shapes.{compound}
+use Rattle.fvn_rewrite_laws.specs.declared.shapes.Shape.{Shape}
+use Rattle.fvn_rewrite_laws.specs.Shapes.{compound}
 use Rattle.fvn_cohere.proofs.Steps.{sorts-step}
 use Rattle.fvn_cohere.proofs.shapes.compound.Goals as goal
 

@@ -1,6 +1,6 @@
 -- The sorts so far.
 use Rattle.std.proofs.Common.{◌≡◌, length, map, take}
-use Rattle.fvn_rewriting.specs.declared.shapes.Shape.{Shape}
+use Rattle.fvn_rewrite_laws.specs.declared.shapes.Shape.{Shape}
 use Rattle.fvn_cohere.proofs.shapes.compound.Given as goal
 
 abbrev pub invariant-loop-shape : goal.invariant-loop-shape

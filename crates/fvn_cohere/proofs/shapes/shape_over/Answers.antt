@@ -1,8 +1,8 @@
 -- The cases of a shape over others.
 use Rattle.std.proofs.Common.{sym, ap, ◌∙◌}
 use Rattle.fvn_terms.specs.Signature.{axioms}
-use Rattle.fvn_rewriting.specs.declared.shapes.Root.TheVariants.{Constant}
-use Rattle.fvn_rewriting.specs.Shapes.{is_root_of}
+use Rattle.fvn_rewrite_laws.specs.declared.shapes.Root.TheVariants.{Constant}
+use Rattle.fvn_rewrite_laws.specs.Shapes.{is_root_of}
 use Rattle.fvn_cohere.proofs.Overs.{identity_given, over_none, over_left, over_right, over_two, over_others}
 use Rattle.fvn_cohere.proofs.shapes.shape_over.Goals as goal
 

@@ -1,6 +1,6 @@
 -- The nodes so far are of the kind of the node that names their class.
 use Rattle.std.proofs.Common.{ℕ, ◌<◌}
-use Rattle.fvn_nodes.specs.States.{class_of}
+use Rattle.fvn_combine_nodes.specs.States.{class_of}
 use Rattle.fvn_combine.specs.inner.Alike.{IsOfItsKind}
 use Rattle.fvn_combine.proofs.kinds.are_of_their_kinds.Given as goal
 

@@ -3,7 +3,7 @@ use Rattle.std.proofs.Common.{◌≡◌, ap, subst}
 use Rattle.std.proofs.lemmas.Bool.{eqb-true, eq-eqb}
 use Rattle.fvn_terms.specs.declared.plain.SortId.{SortId}
 use Rattle.fvn_terms.specs.Signature.{HasKind}
-use Rattle.fvn_nodes.specs.Table.{term_at}
+use Rattle.fvn_combine_nodes.specs.Table.{term_at}
 use Rattle.fvn_combine.specs.Tasks.{Combining}
 use Rattle.fvn_combine.proofs.OneKind.{same_told, told_same}
 use Rattle.fvn_combine.proofs.kinds.is_of_its_kind.Goals as goal

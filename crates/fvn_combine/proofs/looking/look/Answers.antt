@@ -1,6 +1,6 @@
 -- The table holds arguments and is small, and the last state is closed.
 use Rattle.std.proofs.Common.{subst, sym, arith}
-use Rattle.fvn_nodes.specs.States.{IsClosed}
+use Rattle.fvn_combine_nodes.specs.States.{IsClosed}
 use Rattle.fvn_combine.specs.Tasks.{Combining}
 use Rattle.fvn_combine.proofs.Trees.{closed_last}
 use Rattle.fvn_flat.specs.Solving.{problem_of}

@@ -1,12 +1,12 @@
 -- The options are few, and each choice that covers a unifier is listed by options and numbers.
 use Rattle.std.proofs.Common.{◌*◌, ◌<◌, ◌≤◌, length, sym, ap, ◌∙◌, subst, All}
 use Rattle.std.proofs.Math.Nat.{le_trans, mul-le-mul_right}
-use Rattle.fvn_nodes.specs.States.{class_of}
-use Rattle.fvn_wheels.specs.Weight.{product}
-use Rattle.fvn_wheels.specs.Tags.{tags_left}
-use Rattle.fvn_openings.specs.Sharing.{AreSharedClasses}
-use Rattle.fvn_openings.specs.Tags.{tag_counts}
-use Rattle.fvn_openings.specs.declared.sharing.SharedClass.{SharedClass}
+use Rattle.fvn_combine_nodes.specs.States.{class_of}
+use Rattle.fvn_acunify_product.specs.Weight.{product}
+use Rattle.fvn_acunify_product.specs.Tags.{tags_left}
+use Rattle.fvn_combine_candidates.specs.Sharing.{AreSharedClasses}
+use Rattle.fvn_combine_candidates.specs.Tags.{tag_counts}
+use Rattle.fvn_combine_candidates.specs.declared.sharing.SharedClass.{SharedClass}
 use Rattle.fvn_combine.specs.Tasks.{Combining}
 use Rattle.fvn_combine.specs.Work.{most_tags, most_numbers}
 use Rattle.fvn_combine.proofs.Less.{few_tags, alone-le}

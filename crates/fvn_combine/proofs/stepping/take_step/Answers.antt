@@ -2,7 +2,7 @@
 use Rattle.std.proofs.Common.{subst, zero-le, Some, None}
 use Rattle.fvn_combine.proofs.Less.{left_falls}
 use Rattle.fvn_combine.proofs.Trees.{after_asking, closed_before, taken_out, taken_falls, after_passing, frame_opened, after_opening}
-use Rattle.fvn_nodes.specs.Trees.{IsAsked}
+use Rattle.fvn_combine_nodes.specs.Trees.{IsAsked}
 use Rattle.fvn_combine.specs.Tasks.{Combining}
 use Rattle.fvn_combine.specs.inner.Found.{IsLooked}
 use Rattle.fvn_combine.specs.declared.looking.Looked.TheVariants.{Passed}

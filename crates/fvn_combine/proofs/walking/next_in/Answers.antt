@@ -1,7 +1,7 @@
 -- That the frame's state admits a unifier's partition is kept beside.
 use Rattle.std.proofs.Common.{sym, subst, Some}
-use Rattle.fvn_nodes.specs.States.{Admits}
-use Rattle.fvn_nodes.specs.Unifiers.{kernel}
+use Rattle.fvn_combine_nodes.specs.States.{Admits}
+use Rattle.fvn_combine_nodes.specs.Unifiers.{kernel}
 use Rattle.fvn_combine.specs.Frames.{IsCoveredToCome}
 use Rattle.fvn_combine.specs.Search.{IsCoveredAt}
 use Rattle.fvn_combine.specs.inner.Found.{IsDrawnFrom, LeavesLess}

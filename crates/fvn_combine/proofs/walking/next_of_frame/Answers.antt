@@ -2,7 +2,7 @@
 use Rattle.std.proofs.Common.{◌<◌, ◌≤◌, ap, sym, subst, inr, arith}
 use Rattle.std.proofs.Math.Nat.{le_trans, lt_of_lt_of_le}
 use Rattle.std.proofs.lemmas.Result.{err_from_is_err_and}
-use Rattle.fvn_wheels.specs.Tags.{Tagging, tags_left}
+use Rattle.fvn_acunify_product.specs.Tags.{Tagging, tags_left}
 use Rattle.fvn_combine.specs.Frames.{IsCoveredNow, IsCoveredToCome}
 use Rattle.fvn_combine.specs.Advancing.{IsCovered}
 use Rattle.fvn_combine.specs.inner.Found.{IsDrawnFrom, AreDrawnFrom, IsTurned, LeavesLess}

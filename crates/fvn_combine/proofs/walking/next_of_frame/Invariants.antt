@@ -1,7 +1,7 @@
 -- The frame is open, and what was to come is to come, and no more.
 use Rattle.std.proofs.Common.{◌≤◌}
 use Rattle.fvn_terms.specs.Substitution.{Substitution}
-use Rattle.fvn_wheels.specs.Tags.{tags_left}
+use Rattle.fvn_acunify_product.specs.Tags.{tags_left}
 use Rattle.fvn_combine.specs.Frames.{IsOpened, IsCoveredToCome}
 use Rattle.fvn_combine.specs.Work.{frame_left}
 use Rattle.fvn_combine.proofs.walking.next_of_frame.Given as goal

@@ -1,7 +1,7 @@
 -- The tags are the same, and what was to come is to come, and no more.
 use Rattle.std.proofs.Common.{◌≤◌}
 use Rattle.fvn_terms.specs.Substitution.{Substitution}
-use Rattle.fvn_wheels.specs.Wheels.{choices_left}
+use Rattle.fvn_acunify_product.specs.Wheels.{choices_left}
 use Rattle.fvn_combine.specs.Frames.{IsTurning, IsCoveredUnder}
 use Rattle.fvn_combine.proofs.walking.next_of_turning.Given as goal
 

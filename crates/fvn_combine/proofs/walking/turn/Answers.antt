@@ -1,10 +1,10 @@
 -- The next tags are made the current ones.
 use Rattle.std.proofs.Common.{sym, ◌∙◌, subst}
 use Rattle.std.proofs.Math.Nat.{le_trans}
-use Rattle.fvn_nodes.specs.States.{class_of}
-use Rattle.fvn_asking.specs.Listed.{tag_in}
-use Rattle.fvn_openings.specs.Tags.{AreTags}
-use Rattle.fvn_openings.specs.Turning.{AreWheels}
+use Rattle.fvn_combine_nodes.specs.States.{class_of}
+use Rattle.fvn_combine_admissible.specs.Listed.{tag_in}
+use Rattle.fvn_combine_candidates.specs.Tags.{AreTags}
+use Rattle.fvn_combine_candidates.specs.Turning.{AreWheels}
 use Rattle.fvn_combine.specs.Tasks.{Combining}
 use Rattle.fvn_combine.proofs.Less.{few_numbers}
 use Rattle.fvn_combine.proofs.Turned.{turned}

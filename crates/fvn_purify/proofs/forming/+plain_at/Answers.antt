@@ -3,8 +3,8 @@ use Rattle.std.proofs.Common.{◌<◌, ◌≤◌, length, map, ◌∙◌, sym, a
 use Rattle.std.proofs.lemmas.List.{take_all}
 use Rattle.fvn_terms.specs.Term.{app, pack}
 use Rattle.fvn_terms.specs.Plain.{terms}
-use Rattle.fvn_nodes.specs.Table.{term_at}
-use Rattle.fvn_nodes.proofs.Nodes.{term_at-variable, term_at-over}
+use Rattle.fvn_combine_nodes.specs.Table.{term_at}
+use Rattle.fvn_combine_nodes.proofs.Nodes.{term_at-variable, term_at-over}
 use Rattle.fvn_purify.proofs.Packing.{next_terms}
 use Rattle.fvn_purify.proofs.forming.+plain_at.Goals as goal
 

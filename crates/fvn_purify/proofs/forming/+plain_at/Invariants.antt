@@ -2,7 +2,7 @@
 use Rattle.std.proofs.Common.{◌≡◌, map, take}
 use Rattle.fvn_terms.specs.Term.{pack}
 use Rattle.fvn_terms.specs.Plain.{terms}
-use Rattle.fvn_nodes.specs.Table.{term_at}
+use Rattle.fvn_combine_nodes.specs.Table.{term_at}
 use Rattle.fvn_purify.proofs.forming.+plain_at.Given as goal
 
 abbrev pub decreases-plain_at : goal.decreases-plain_at

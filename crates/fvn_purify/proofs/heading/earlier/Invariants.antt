@@ -1,6 +1,6 @@
 -- No node so far is in the class.
 use Rattle.std.proofs.Common.{◌≡◌, ℕ, ◌<◌, slice_get, Some}
-use Rattle.fvn_nodes.specs.States.{class_of}
+use Rattle.fvn_combine_nodes.specs.States.{class_of}
 use Rattle.fvn_purify.specs.declared.classes.Head.{Head}
 use Rattle.fvn_purify.proofs.heading.earlier.Given as goal
 

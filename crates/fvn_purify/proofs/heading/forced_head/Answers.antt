@@ -1,6 +1,6 @@
 -- An earlier head, an identity, a member, or nothing.
 use Rattle.std.proofs.Common.{refl, subst}
-use Rattle.fvn_nodes.specs.States.{class_of}
+use Rattle.fvn_combine_nodes.specs.States.{class_of}
 use Rattle.fvn_purify.specs.Parts.{outline}
 use Rattle.fvn_purify.specs.declared.classes.Head.{Head}
 use Rattle.fvn_purify.specs.inner.Options.{IsEarlier, by_earlier, by_unit}

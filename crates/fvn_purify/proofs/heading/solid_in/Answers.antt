@@ -1,8 +1,8 @@
 -- One more node.
 use Rattle.std.proofs.Common.{length, ap, arith, below_more}
 use Rattle.std.proofs.lemmas.Option.{slice_get_within}
-use Rattle.fvn_nodes.specs.States.{class_of}
-use Rattle.fvn_nodes.specs.declared.table.Node.TheVariants.{App}
+use Rattle.fvn_combine_nodes.specs.States.{class_of}
+use Rattle.fvn_combine_nodes.specs.declared.table.Node.TheVariants.{App}
 use Rattle.fvn_purify.specs.declared.classes.Head.{Head}
 use Rattle.fvn_purify.specs.inner.Options.{IsSolidAt}
 use Rattle.fvn_purify.proofs.heading.solid_in.Goals as goal

@@ -1,6 +1,6 @@
 -- No node so far is such a member.
 use Rattle.std.proofs.Common.{ℕ, ◌<◌}
-use Rattle.fvn_nodes.specs.States.{class_of}
+use Rattle.fvn_combine_nodes.specs.States.{class_of}
 use Rattle.fvn_purify.specs.inner.Options.{IsSolidAt}
 use Rattle.fvn_purify.specs.declared.classes.Head.{Head}
 use Rattle.fvn_purify.proofs.heading.solid_in.Given as goal

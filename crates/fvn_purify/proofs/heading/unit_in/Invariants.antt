@@ -1,8 +1,8 @@
 -- No identity so far is in the class.
 use Rattle.std.proofs.Common.{◌≡◌, ℕ, ◌<◌, slice_index_or, []}
 use Rattle.fvn_terms.specs.declared.plain.OpId.{OpId}
-use Rattle.fvn_nodes.specs.Table.{IsOver}
-use Rattle.fvn_nodes.specs.States.{class_of}
+use Rattle.fvn_combine_nodes.specs.Table.{IsOver}
+use Rattle.fvn_combine_nodes.specs.States.{class_of}
 use Rattle.fvn_purify.proofs.heading.unit_in.Given as goal
 
 abbrev pub invariant-loop-j : goal.invariant-loop-j

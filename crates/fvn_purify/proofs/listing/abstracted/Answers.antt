@@ -1,7 +1,7 @@
 -- One more node.
 use Rattle.std.proofs.Common.{◌≡◌, ℕ, ◌+◌, ◌<◌, ◌∙◌, true, false, length, sym, ap, subst, arith}
 use Rattle.std.proofs.lemmas.Option.{slice_get_within}
-use Rattle.fvn_nodes.specs.declared.table.Node.TheVariants.{App}
+use Rattle.fvn_combine_nodes.specs.declared.table.Node.TheVariants.{App}
 use Rattle.fvn_purify.specs.Theories.{IsAbstracted}
 use Rattle.fvn_purify.specs.Parts.{IsEach}
 use Rattle.fvn_purify.proofs.Listed.{each_next, each_skip, each_end}

@@ -2,8 +2,8 @@
 use Rattle.std.proofs.Common.{◌<◌, ◌++◌, ◌∙◌, length, sym, ap, subst, slice_get, All}
 use Rattle.std.specs.List.{filter}
 use Rattle.std.proofs.lemmas.Option.{slice_get_within}
-use Rattle.fvn_nodes.specs.declared.table.Node.TheVariants.{App}
-use Rattle.fvn_nodes.proofs.Lists.{all_from}
+use Rattle.fvn_combine_nodes.specs.declared.table.Node.TheVariants.{App}
+use Rattle.fvn_combine_nodes.proofs.Lists.{all_from}
 use Rattle.fvn_purify.specs.Parts.{IsEach, ArePair, may_collapse}
 use Rattle.fvn_purify.proofs.purifying.places.Goals as goal
 

@@ -3,7 +3,7 @@ use Rattle.std.proofs.Common.{◌<◌, ◌∙◌, map, length, sym, ap, subst, A
 use Rattle.fvn_flat.specs.Solving.{problem_of}
 use Rattle.fvn_purify.specs.Parts.{IsEach, HasAxioms, form_at}
 use Rattle.fvn_purify.proofs.Fitted.{parts_within, pairs_within}
-use Rattle.fvn_nodes.proofs.Subterms.{node_kinded}
+use Rattle.fvn_combine_nodes.proofs.Subterms.{node_kinded}
 use Rattle.fvn_purify.proofs.purifying.purify.Goals as goal
 
 pub forms-requires-clause-within : goal.forms-requires-clause-within

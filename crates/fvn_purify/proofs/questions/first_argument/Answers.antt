@@ -1,6 +1,6 @@
 -- The list is not empty.
 use Rattle.std.proofs.Common.{sym, ap, ◌∙◌, Some}
-use Rattle.fvn_nodes.specs.declared.table.Node.TheVariants.{App}
+use Rattle.fvn_combine_nodes.specs.declared.table.Node.TheVariants.{App}
 use Rattle.fvn_purify.proofs.Firsts.{head_rest}
 use Rattle.fvn_purify.proofs.questions.first_argument.Goals as goal
 

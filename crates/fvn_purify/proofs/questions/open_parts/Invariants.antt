@@ -1,6 +1,6 @@
 -- No part so far is open with another.
 use Rattle.std.proofs.Common.{◌≡◌, ℕ, ◌<◌, slice_index_or, Contains}
-use Rattle.fvn_nodes.specs.States.{IsOpen}
+use Rattle.fvn_combine_nodes.specs.States.{IsOpen}
 use Rattle.fvn_purify.proofs.questions.open_parts.Given as goal
 
 abbrev pub invariant-loop-x : goal.invariant-loop-x

@@ -1,6 +1,6 @@
 -- No pair of one class so far has open first arguments.
 use Rattle.std.proofs.Common.{◌≡◌, ℕ, ◌<◌, slice_index_or}
-use Rattle.fvn_nodes.specs.States.{IsOpen, class_of}
+use Rattle.fvn_combine_nodes.specs.States.{IsOpen, class_of}
 use Rattle.fvn_purify.specs.inner.Options.{AreFirst}
 use Rattle.fvn_purify.proofs.questions.open_ways.Given as goal
 

@@ -1,7 +1,7 @@
 -- Parts, then identities, then pairs.
 use Rattle.std.proofs.Common.{◌≡◌, ℕ, subst, inl, inr, Contains}
 use Rattle.fvn_terms.specs.declared.plain.OpId.{OpId}
-use Rattle.fvn_nodes.specs.States.{IsOpen, class_of}
+use Rattle.fvn_combine_nodes.specs.States.{IsOpen, class_of}
 use Rattle.std.specs.Prelude.{MatchOption}
 use Rattle.fvn_purify.specs.Parts.{outline}
 use Rattle.fvn_purify.specs.inner.Options.{AreFirst}

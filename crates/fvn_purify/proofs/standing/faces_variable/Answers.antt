@@ -1,7 +1,7 @@
 -- One more node.
 use Rattle.std.proofs.Common.{◌≡◌, ◌∙◌, true, false, length, sym, ap, arith, below_more}
 use Rattle.std.proofs.lemmas.Option.{slice_get_within}
-use Rattle.fvn_nodes.specs.declared.table.Node.TheVariants.{Var}
+use Rattle.fvn_combine_nodes.specs.declared.table.Node.TheVariants.{Var}
 use Rattle.fvn_purify.specs.Theories.{IsVariable, AreOpposite}
 use Rattle.fvn_purify.proofs.standing.faces_variable.Goals.{then-is_variable+else-are_opposite, else-is_variable}
 use Rattle.fvn_purify.proofs.standing.faces_variable.Goals as goal

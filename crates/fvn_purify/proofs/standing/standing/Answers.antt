@@ -2,7 +2,7 @@
 use Rattle.std.proofs.Common.{length, ap, arith, below_more}
 use Rattle.std.proofs.lemmas.Option.{slice_get_within}
 use Rattle.fvn_terms.specs.declared.plain.OpId.{OpId}
-use Rattle.fvn_nodes.specs.declared.table.Node.TheVariants.{App}
+use Rattle.fvn_combine_nodes.specs.declared.table.Node.TheVariants.{App}
 use Rattle.fvn_purify.specs.inner.Standing.{StandsUnderAt}
 use Rattle.fvn_purify.proofs.standing.standing.Goals as goal
 

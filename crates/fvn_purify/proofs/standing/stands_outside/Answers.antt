@@ -1,7 +1,7 @@
 -- One more node.
 use Rattle.std.proofs.Common.{◌≡◌, ◌∙◌, true, false, length, sym, ap, arith, below_more}
 use Rattle.std.proofs.lemmas.Option.{slice_get_within}
-use Rattle.fvn_nodes.specs.declared.table.Node.TheVariants.{App}
+use Rattle.fvn_combine_nodes.specs.declared.table.Node.TheVariants.{App}
 use Rattle.fvn_purify.specs.inner.Standing.{StandsOutsideAt}
 use Rattle.fvn_purify.proofs.standing.stands_outside.Goals as goal
 

@@ -1,6 +1,6 @@
 -- None of the parts so far is in the class.
 use Rattle.std.proofs.Common.{◌≡◌, ◌+◌, drop}
-use Rattle.fvn_nodes.specs.States.{class_of}
+use Rattle.fvn_combine_nodes.specs.States.{class_of}
 use Rattle.fvn_purify.specs.Splits.{number_in}
 use Rattle.fvn_purify.proofs.stepping.number_in.Given as goal
 

@@ -1,6 +1,6 @@
 -- The numbers so far.
 use Rattle.std.proofs.Common.{◌≡◌, map, take}
-use Rattle.fvn_nodes.specs.States.{class_of}
+use Rattle.fvn_combine_nodes.specs.States.{class_of}
 use Rattle.fvn_purify.specs.Splits.{number_in}
 use Rattle.fvn_purify.proofs.stepping.numbers.Given as goal
 

@@ -1,6 +1,6 @@
 -- A question that is asked, or none is open.
 use Rattle.std.proofs.Common.{sym, subst}
-use Rattle.fvn_nodes.specs.States.{IsOpen}
+use Rattle.fvn_combine_nodes.specs.States.{IsOpen}
 use Rattle.fvn_purify.specs.Parts.{outline}
 use Rattle.fvn_purify.specs.inner.Choices.{IsSplitQuestion, IsExpansion}
 use Rattle.fvn_purify.specs.declared.choosing.Partial.TheVariants.{Asking}

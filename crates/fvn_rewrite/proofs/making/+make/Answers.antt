@@ -5,7 +5,7 @@ use Rattle.fvn_terms.specs.Term.{app}
 use Rattle.fvn_terms.specs.Substitution.{apply}
 use Rattle.fvn_forms.specs.Flat.{plain}
 use Rattle.fvn_cohere.specs.Promises.{equations_of}
-use Rattle.fvn_rules.specs.Given.{headed}
+use Rattle.fvn_rewrite_rules.specs.Given.{headed}
 use Rattle.fvn_rewrite.specs.inner.Trying.{AllSidesFit}
 use Rattle.fvn_rewrite.specs.inner.SortedTerms.{terms_of}
 use Rattle.fvn_rewrite.specs.inner.Fitting.{SortedBindings, standing_for, AreBindings, IsFound}

@@ -1,7 +1,7 @@
 -- What `conclude` promises and requires, where the search does not find it.
 use Rattle.std.proofs.Common.{subst}
-use Rattle.fvn_commands.specs.Texts.{bytes_of}
-use Rattle.fvn_commands.specs.Statuses.{IsSpoken}
+use Rattle.fvn_cmd.specs.Texts.{bytes_of}
+use Rattle.fvn_cmd.specs.Statuses.{IsSpoken}
 use Rattle.fvn_tool.proofs.Outcomes.{outcome_spoken, leaves_whole, spoken_not_silent}
 use Rattle.fvn_tool.proofs.top.conclude.Goals as goal
 

@@ -5,7 +5,7 @@ use Rattle.std.proofs.lemmas.List.{take_more_set, map_more, take_all, length-set
 use Rattle.std.proofs.Math.Nat.{min-eq_left}
 use Rattle.fvn_terms.specs.declared.plain.Plain.{Plain}
 use Rattle.fvn_terms.specs.Plain.{term, terms}
-use Rattle.fvn_rewriting.specs.Shapes.{shape_in, shapes_in}
+use Rattle.fvn_rewrite_laws.specs.Shapes.{shape_in, shapes_in}
 use Rattle.fvn_cohere.specs.inner.Outlooks.{Suits}
 use Rattle.fvn_cohere.proofs.Arguments.{take_short, argument, few}
 use Rattle.fvn_cohere.proofs.Foreseen.{suits_push, arguments_fit, shapes_of_terms}

@@ -5,8 +5,8 @@ use Rattle.fvn_terms.specs.declared.plain.Plain.{Plain}
 use Rattle.fvn_terms.specs.declared.plain.Var.{Var}
 use Rattle.fvn_terms.specs.Term.{nodes, nodes_all}
 use Rattle.fvn_terms.specs.Plain.{term}
-use Rattle.fvn_rewriting.specs.declared.shapes.Shape.{Shape}
-use Rattle.fvn_rewriting.specs.Shapes.{shape_in}
+use Rattle.fvn_rewrite_laws.specs.declared.shapes.Shape.{Shape}
+use Rattle.fvn_rewrite_laws.specs.Shapes.{shape_in}
 use Rattle.fvn_cohere.specs.inner.Searching.{shapes_by}
 use Rattle.fvn_cohere.specs.inner.Outlooks.{Suits, Fills}
 use Rattle.fvn_cohere.proofs.outlooks.PartialChoice.+outlook.Given as goal

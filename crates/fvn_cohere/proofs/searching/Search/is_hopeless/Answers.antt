@@ -3,7 +3,7 @@ use Rattle.std.proofs.Common.{◌≡◌, List, false, drop, subst}
 use Rattle.std.proofs.lemmas.List.{take_rest}
 use Rattle.fvn_terms.specs.declared.plain.Var.{Var}
 use Rattle.fvn_terms.specs.Plain.{term}
-use Rattle.fvn_rewriting.specs.declared.shapes.Shape.{Shape}
+use Rattle.fvn_rewrite_laws.specs.declared.shapes.Shape.{Shape}
 use Rattle.fvn_cohere.specs.inner.Searching.{shapes_by, is_met}
 use Rattle.fvn_cohere.specs.inner.Outlooks.{Fills}
 use Rattle.fvn_cohere.proofs.Hopeless.{none_found, offers_drop}

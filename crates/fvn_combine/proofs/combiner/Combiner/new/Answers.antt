@@ -3,9 +3,9 @@ use Rattle.std.proofs.Common.{sym, subst, inl}
 use Rattle.fvn_flat.specs.Solving.{problem_of}
 use Rattle.fvn_flat.specs.SolvedLists.{IsKindUnifier}
 use Rattle.fvn_flat.specs.declared.solver.Pairs.{Pairs}
-use Rattle.fvn_nodes.specs.Classes.{IsNodePartition}
-use Rattle.fvn_nodes.specs.Trees.{IsToCome}
-use Rattle.fvn_nodes.specs.Unifiers.{kernel}
+use Rattle.fvn_combine_nodes.specs.Classes.{IsNodePartition}
+use Rattle.fvn_combine_nodes.specs.Trees.{IsToCome}
+use Rattle.fvn_combine_nodes.specs.Unifiers.{kernel}
 use Rattle.fvn_combine.specs.Tasks.{Combining}
 use Rattle.fvn_combine.proofs.combiner.Combiner.new.Goals as goal
 

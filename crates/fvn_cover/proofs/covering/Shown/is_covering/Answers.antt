@@ -1,6 +1,6 @@
 -- what was found says whether there is a covering
 use Rattle.std.proofs.Common.{◌≡◌, ◌++◌}
-use Rattle.fvn_counts.specs.Profiles.{IsProfile}
+use Rattle.fvn_cover_counts.specs.Profiles.{IsProfile}
 use Rattle.fvn_cover.specs.Covering.{values_of}
 use Rattle.fvn_cover.proofs.CoverFacts.{length_values, values_fit, both_fit, found_covers, refused}
 use Rattle.fvn_cover.proofs.covering.Shown.is_covering.Goals as goal

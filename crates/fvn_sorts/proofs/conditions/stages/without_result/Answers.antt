@@ -4,7 +4,7 @@ use Rattle.std.specs.List.{Contains}
 use Rattle.fvn_terms.specs.declared.declarations.Rank.{Rank}
 use Rattle.fvn_terms.specs.Signature.{kind, declared}
 use Rattle.fvn_forms.specs.Ranks.{ranks_of}
-use Rattle.fvn_drafts.specs.FoundAlike.{FindAlike}
+use Rattle.fvn_signature.specs.FoundAlike.{FindAlike}
 use Rattle.fvn_sorts.specs.Faults.{HasNoResult}
 use Rattle.fvn_sorts.specs.inner.Searches.{the_list, HasNoLowest}
 use Rattle.fvn_sorts.proofs.FaultOrder.{IsFirstList-same}

@@ -1,0 +1,12 @@
+-- No more lists are left at the start than there are.
+use Rattle.std.proofs.Common.{◌<◌, ◌∙◌, subst}
+use Rattle.std.specs.List.{AllZip}
+use Rattle.std.proofs.lemmas.List.{with_items_is}
+use Rattle.fvn_acunify_product.proofs.Left.{bounded_at_start}
+use Rattle.fvn_acunify_product.proofs.tags.Tags.new.Goals as goal
+
+pub returns-clause-bounded : goal.returns-clause-bounded
+returns-clause-bounded c =
+    bounded_at_start c.args.counts.items c.first-is_over.new.numbers _ c.first-is_over.result
+    (with_items_is c.in_ok-numbers.numbers c.first-is_over.new.numbers (c.first-is_over.auto.numbers ∙ c.as_mut_slice.ensures.len))
+    (λ found. subst (λ l. AllZip (λ k n. n < k) l c.first-is_over.new.numbers) c.as_slice.ensures.value (c.first-is_over.ensures.greatest found).0)

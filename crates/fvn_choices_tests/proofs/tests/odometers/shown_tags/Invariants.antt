@@ -1,6 +1,0 @@
--- Each list that is shown leaves fewer.
-use Rattle.fvn_wheels.specs.Tags.{tags_left}
-use Rattle.fvn_choices_tests.proofs.tests.odometers.shown_tags.Given as goal
-
-abbrev pub decreases-loop-numbers : goal.decreases-loop-numbers
-decreases-loop-numbers l = tags_left l.tags

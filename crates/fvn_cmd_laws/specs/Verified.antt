@@ -1,0 +1,73 @@
+-- What a reply to `verify` promises, in words over its status and its text.
+use Rattle.std.specs.Prelude.{ℕ, ◌≡◌, ◌⊎◌, List, All, Some, None}
+use Rattle.fvn_base.specs.declared.limits.TheConstants.{TERM_SYMBOLS}
+use Rattle.fvn_terms.specs.declared.plain.Plain.{Plain}
+use Rattle.fvn_terms.specs.Substitution.{value}
+use Rattle.fvn_terms.specs.Rewriting.{IsConfluent}
+use Rattle.fvn_forms.specs.Flat.{FlatTerm}
+use Rattle.fvn_module.specs.Contents.{Contents}
+use Rattle.fvn_cohere.specs.Promises.{equations_of}
+use Rattle.fvn_module_loading.specs.Loading.{IsLoaded}
+use Rattle.fvn_problems.specs.declared.problem.Problem.{Problem}
+use Rattle.fvn_problems.specs.declared.bindings.Bindings.{Bindings}
+use Rattle.fvn_verify.specs.Verdicts.{sides_in_turn, IsUnfinished, IsTooLarge, IsFirstDifference}
+use Rattle.fvn_cmd_texts.specs.Verdicts.{verdict_text}
+use Rattle.fvn_cmd.specs.declared.status.Status.{Status}
+use Rattle.fvn_cmd.specs.declared.status.Status.TheVariants.{Solved, Nothing, Ended}
+use Rattle.fvn_cmd.specs.Statuses.{IsAnswering}
+use Rattle.fvn_cmd.specs.Texts.{line, Is}
+use Rattle.fvn_cmd_verify.specs.Replies.{AreSolvedBy}
+
+-- Two replies.
+
+-- the equations of the module are confluent
+abbrev pub AreConfluentIn : Contents → Type 0
+AreConfluentIn m = IsConfluent m.signature (equations_of m.equations)
+
+-- the bytes are loaded as a module whose equations are confluent
+abbrev pub HasConfluentEquations : List ℕ → Type 0
+HasConfluentEquations bytes = (m : Contents) × (IsLoaded bytes m × AreConfluentIn m)
+
+-- both are verdicts, and where the equations are confluent and neither ended at a bound, they are one status and one text
+pub record AreVerdicts (bytes : List ℕ) (s : Status) (t : List ℕ) (u : Status) (v : List ℕ) : Type 0 where
+  pub first : IsAnswering s
+  pub second : IsAnswering u
+  pub one : HasConfluentEquations bytes → (s ≡ Ended → ⊥) → (u ≡ Ended → ⊥) → Is s t u v
+
+-- both are verdicts, which agree, or they are one status and one text
+abbrev pub AreVerdictsOrOne : List ℕ → Status → List ℕ → Status → List ℕ → Type 0
+AreVerdictsOrOne bytes s t u v = AreVerdicts bytes s t u v ⊎ Is s t u v
+
+-- One reply.
+
+module _ (m : Contents) (p : Problem) (b : Bindings) (steps : ℕ) where
+  -- the line `yes`: the sides of each pair are equal in the theory
+  pub record TellsYes (status : Status) (text : List ℕ) : Type 0 where
+    pub told : Is Solved (line (verdict_text None)) status text
+    pub solved : AreSolvedBy m p b
+
+  -- The line `no i`: normal forms of all sides were found, and pair i is the first whose forms differ; where the
+  -- equations are confluent, its sides are not equal in the theory.
+  pub record TellsNo (status : Status) (text : List ℕ) : Type 0 where
+    pub number : ℕ
+    pub left : FlatTerm
+    pub right : FlatTerm
+    pub told : Is Nothing (line (verdict_text (Some number))) status text
+    pub first : IsFirstDifference m.signature (equations_of m.equations) (value b.subst.pairs)
+        steps TERM_SYMBOLS p.pairs number left right
+
+  -- one of these two lines
+  abbrev pub TellsYesOrNo : Status → List ℕ → Type 0
+  TellsYesOrNo status text = TellsYes status text ⊎ TellsNo status text
+
+  -- No bound is met at a side under the bindings: nothing that `steps` steps lead to can be rewritten further, and
+  -- nothing that at most so many lead to has too many symbols.
+  pub record StaysWithin (t : Plain) : Type 0 where
+    pub few : (start end : FlatTerm) →
+        IsUnfinished m.signature (equations_of m.equations) (value b.subst.pairs) steps TERM_SYMBOLS t start end → ⊥
+    pub small : (f : FlatTerm) →
+        IsTooLarge m.signature (equations_of m.equations) (value b.subst.pairs) steps TERM_SYMBOLS t f → ⊥
+
+  -- no bound is met at any side of the problem
+  abbrev pub AllStayWithin : Type 0
+  AllStayWithin = All StaysWithin (sides_in_turn p.pairs)

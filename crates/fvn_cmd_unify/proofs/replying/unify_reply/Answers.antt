@@ -1,0 +1,10 @@
+-- A module is refused with its first fault, or the word is looked at.
+use Rattle.fvn_cmd_unify.proofs.Replied.{module-refused, unified-in}
+use Rattle.fvn_cmd_unify.proofs.replying.unify_reply.Goals as goal
+
+pub returns-in-Ok : goal.returns-in-Ok
+returns-in-Ok c = unified-in c.args.bytes.now c.args.word.now c.in-Ok.declared c.in-Ok.ensures.ok c.reply_in.result c.reply_in.ensures
+
+pub returns-in-Err : goal.returns-in-Err
+returns-in-Err c =
+    module-refused c.args.bytes.now c.args.word.now c.in-Err.fault c.in-Err.ensures.err c.refuse_module.result c.refuse_module.ensures.status c.refuse_module.ensures.text

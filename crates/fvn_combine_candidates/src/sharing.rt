@@ -1,0 +1,78 @@
+//! The shared classes of a state.
+ghost use Rattle.std.specs.Prelude.{◌<◌, ◌≤◌, length, All, IfOk};
+ghost use Rattle.fvn_combine_nodes.specs.States.{IsClosed, class_of};
+ghost use Rattle.fvn_combine_leaves.specs.Readings.{IsReading};
+ghost use Rattle.fvn_combine_candidates.specs.Sharing.{AreSharedClasses};
+ghost use Rattle.fvn_combine_candidates.specs.inner.Walking.{AreUsersBelow};
+
+use fvn_base::Seq;
+use fvn_combine_admissible::{is_shared_class, uses};
+use fvn_combine_leaves::Reading;
+use fvn_combine_nodes::{State, Table};
+use fvn_sorts::Signature;
+use fvn_terms::{NoMemory, OpId};
+use std::alloc::Global;
+
+/// A class that several sum operators use, and that no operator without an identity heads.
+#[derive(Drop)]
+pub struct SharedClass {
+    /// The node that names it.
+    pub class: usize,
+    /// The sum operators that use it, each once.
+    pub users: Seq<OpId>,
+}
+
+// The sum operators that use class k, each once.
+fn users_of(
+    alloc: Global,
+    sig: &Signature,
+    table: &Table,
+    state: &State,
+    reading: &Reading,
+    k: usize,
+) -> Result<Vec<OpId>, NoMemory>
+    requires closed { IsClosed sig.now table.now state.now }
+    requires reading { IsReading sig.now table.now (class_of state.now) reading.now }
+    ensures { IfOk result (λ v. AreUsersBelow sig.now table.now (class_of state.now)
+        reading.now.sums k (length reading.now.sums) v.items) }
+{
+    let mut users = Vec::new(alloc);
+    let sums = reading.sums.as_slice();
+    for i in 0..sums.len() {
+        let entry = &sums[i];
+        if !uses(sig, table, state, reading, entry, k) {
+            continue;
+        }
+        users.push(entry.operator)?;
+    }
+    Ok(users)
+}
+
+/// Exactly the shared classes, each once, with the operators that use them.
+pub fn shared(
+    alloc: Global,
+    sig: &Signature,
+    table: &Table,
+    state: &State,
+    reading: &Reading,
+) -> Result<Vec<SharedClass>, NoMemory>
+    requires closed { IsClosed sig.now table.now state.now }
+    requires reading { IsReading sig.now table.now (class_of state.now) reading.now }
+    ensures exact { IfOk result (λ v. AreSharedClasses sig.now table.now (class_of state.now) v.items) }
+    ensures few { IfOk result (λ v. All (λ c. length c.users ≤ length reading.now.sums) v.items) }
+{
+    table.recall_well_made();
+    let n = table.nodes().len();
+    let mut list = Vec::new(alloc);
+    for k in 0..n {
+        if !is_shared_class(sig, table, state, reading, k) {
+            continue;
+        }
+        let users = users_of(alloc, sig, table, state, reading, k)?;
+        list.push(SharedClass {
+            class: k,
+            users: Seq::from_vec(users),
+        })?;
+    }
+    Ok(list)
+}

@@ -1,0 +1,250 @@
+-- Minimal solutions that values choose are acceptable, and the values are made of their pieces.
+use Rattle.std.proofs.Common.{◌≡◌, ℕ, zero, suc, ◌<◌, ◌≤◌, ◌^◌, true, List, [], ◌∷◌, length, get_or, sym, ap, ◌∙◌, subst, inl, inr, arith, All, Contains, pos, slice_get, sum_by}
+use Rattle.std.specs.Prelude.{Bool, ◌↔◌}
+use Rattle.std.proofs.lemmas.Bool.{cases_eq, or_cases}
+use Rattle.std.proofs.lemmas.List.{get_or-map, get_or_default}
+use Rattle.std.proofs.lemmas.List.Sums.{sum_by-cons}
+use Rattle.std.proofs.lemmas.List.Elements.{All-map, All-contains, Contains-get_or}
+use Rattle.fvn_terms.specs.declared.plain.OpId.{OpId}
+use Rattle.fvn_terms.specs.declared.declarations.Declarations.{Declarations}
+use Rattle.fvn_forms.specs.Flat.{FlatTerm}
+use Rattle.fvn_forms.specs.InOrder.{count, SameCounts}
+use Rattle.fvn_forms.specs.Canon.{parts}
+use Rattle.fvn_lindio.specs.Systems.{IsMinimal, IsUnused, rows_of}
+use Rattle.fvn_acunify.specs.ValidChoice.{chosen, column_sum, touched}
+use Rattle.fvn_flat.specs.SolvedLists.{component}
+use Rattle.fvn_combine_nodes.specs.Table.{NodeTable, IsWellMade}
+use Rattle.fvn_combine_nodes.specs.States.{class_of}
+use Rattle.fvn_combine_nodes.specs.declared.state.State.{State}
+use Rattle.fvn_combine_systems.specs.NodeSystems.{addends, sums, coefficient, row_at, IsNodeSystem}
+use Rattle.fvn_combine_systems.proofs.Zeroes.{zero_told}
+use Rattle.fvn_combine_supports.specs.Laws.{MadeUpByTaken}
+use Rattle.fvn_combine_supports.specs.Pieces.{has_some, number_of, taken as with_pieces}
+use Rattle.fvn_combine_leaves.specs.Frames.{IsFrame, IsSumOperator, Uses, IsShared}
+use Rattle.fvn_combine_choices.specs.Binding.{IsBound, IsConstant, IsRequired, AreAsked}
+use Rattle.fvn_combine_choices.specs.Choosing.{Systems, Choice, AreSystems, AreTakenTogether, IsAcceptable, taken, member_count}
+use Rattle.fvn_combine_complete.specs.Laws.{IsChosen, NoAliases}
+use Rattle.fvn_combine_complete.specs.LaidOut.{laid_for}
+use Rattle.fvn_combine_choices.specs.Tables.{HasSums}
+use Rattle.fvn_combine_complete.specs.Obeying.{IsTold, GoWith, ObeyTags}
+use Rattle.fvn_combine_complete.specs.Obeyed.{IsSummand, AreMadeOf}
+use Rattle.fvn_combine_complete.proofs.Aliases.{laid_out_are}
+use Rattle.fvn_combine_complete.proofs.Asked.{uses_told}
+use Rattle.fvn_combine_complete.proofs.Meeting.{component_at, not_unused}
+use Rattle.fvn_combine_complete.specs.Neutral.{IsNeutral}
+use Rattle.fvn_combine_complete.proofs.Marked.{number_by, marked, number_small, chosen_marked, AreMarks, marks_long, as_many_marked, laid_for_is, MarkedAt, marked_at, sums_grow, sums_stay, empty_passes}
+use Rattle.fvn_combine_complete.proofs.Taken.{contains_counted, laid_counts, sum_by_alike}
+use Rattle.fvn_combine_complete.proofs.Touching.{touched_none}
+use Rattle.fvn_combine_complete.proofs.TwoSummands.{shared_two}
+use Rattle.fvn_combine_complete.proofs.Values.{bound_used, may_be, constants_differ}
+
+-- some component of a vector that is not zero
+some_component : (v : List ℕ) → 0 < sum_by (λ a. a) v → (j : ℕ) × (j < length v) × (0 < get_or v j 0)
+some_component [] h = absurd (omega (arith, h))
+some_component (zero ∷ v) h = let r = some_component v (let e = sum_by-cons (λ a. a) 0 v in omega (arith, h, e)) in (suc r.0, (let l = r.1 in omega (arith, l)), r.2)
+some_component (suc n ∷ v) h = (0, omega arith, omega arith)
+
+module _ (d : Declarations) (t : NodeTable) (made : IsWellMade t) (has : HasSums d t) (s : State) (frame : IsFrame d t s) (told : IsTold d t (class_of s)) (values : ℕ → FlatTerm) (go_with : GoWith d t s values) (y : Systems) (systems : AreSystems d t (class_of s) y) (c : Choice) (obey : ObeyTags d t (class_of s) c.tag values)
+    (f : OpId) (sum : IsSumOperator d t f) (constants : List ℕ) (may_be_zero : List Bool) (are_asked : AreAsked d t (class_of s) c.tag f (y.columns f) constants may_be_zero) (ch : IsChosen d f values (y.columns f) (y.system f) (y.basis f) constants may_be_zero) (also : List ℕ → Bool) (marks : List Bool) (are : AreMarks also marks ch.pieces (y.basis f)) (number : c.number f ≡ number_by marks)
+    (neutral : (v : List ℕ) → also v ≡ true → IsNeutral d f) (bare : (v : List ℕ) → also v ≡ true → touched constants v ≡ 0) (law : MadeUpByTaken) where
+  abbrev class : ℕ → ℕ
+  class = class_of s
+
+  is_node_system : IsNodeSystem t class f (y.columns f) (y.system f)
+  is_node_system = systems.is_system f sum
+
+  exact : (v : List ℕ) → Contains (y.basis f) v ↔ IsMinimal (y.system f).columns (rows_of (y.system f)) v
+  exact = systems.exact f sum
+
+  sized : All (λ v. length v ≡ (y.system f).columns) (y.basis f)
+  sized i v l = ((exact (get_or (y.basis f) i v)).0 (Contains-get_or (y.basis f) i v l)).solves.sized
+
+  taken_is : taken y c f ≡ marked marks (y.basis f)
+  taken_is = ap (λ n. chosen n (y.basis f)) number ∙ chosen_marked marks (y.basis f) (marks_long also marks ch.pieces (y.basis f) are)
+
+  as_many : length (marked marks ch.pieces) ≡ length (taken y c f)
+  as_many = as_many_marked also marks ch.pieces (y.basis f) are ∙ ap length (sym taken_is)
+
+  -- the column of a class
+  record IsAt (k : ℕ) : Type 0 where
+    column : ℕ
+    within : column < length (y.columns f)
+    of : get_or (y.columns f) column 0 ≡ k
+    component_is : (v : List ℕ) → component (y.columns f) v k ≡ get_or v column 0
+
+  at : (k : ℕ) → Uses d t class f k → IsAt k
+  at k u =
+      let m = (is_node_system.exact k).1 u.column in
+      let of : get_or (y.columns f) m.0 0 ≡ k = get_or_default (y.columns f) m.0 0 k m.1 ∙ m.2 in
+      record { column = m.0; within = m.1; of = of; component_is = λ v. ap (component (y.columns f) v) (sym of) ∙ component_at (y.columns f) v is_node_system.distinct m.0 m.1 }
+
+  used_column : (k : ℕ) (u : Uses d t class f k) → IsUnused (rows_of (y.system f)) (at k u).column → ⊥
+  used_column k u =
+      let a = at k u in
+      not_unused d t class f (y.columns f) (y.system f) is_node_system a.column a.within (subst (Uses d t class f) (sym a.of) u)
+
+  -- the summands of a used class's value
+  made_for : (k : ℕ) → Uses d t class f k → SameCounts (parts d f (values k)) (laid_for (y.columns f) k (taken y c f) (marked marks ch.pieces))
+  made_for k u q =
+      let a = at k u in
+      ap (λ n. count q (parts d f (values n))) (sym a.of)
+      ∙ laid_out_are d f values (y.columns f) (y.system f) (y.basis f) exact constants may_be_zero ch a.column a.within (used_column k u) q
+      ∙ ap (count q) (laid_for_is also (y.columns f) a.column k a.component_is marks ch.pieces (y.basis f) are)
+      ∙ ap (λ vs. count q (laid_for (y.columns f) k vs (marked marks ch.pieces))) (sym taken_is)
+
+  from : (i : ℕ) → i < length (taken y c f) → MarkedAt also ch.pieces (y.basis f) (marked marks (y.basis f)) (marked marks ch.pieces) i
+  from i l = marked_at also marks ch.pieces (y.basis f) are i (let e = ap length taken_is in omega (arith, l, e))
+
+  solution_from : (i : ℕ) (l : i < length (taken y c f)) → get_or (taken y c f) i [] ≡ get_or (y.basis f) (from i l).place []
+  solution_from i l = ap (λ vs. get_or vs i []) taken_is ∙ (from i l).solution
+
+  -- a solution with a constant has pieces
+  has_pieces : (i k : ℕ) (l : i < length (taken y c f)) → IsConstant d t class c.tag f k → 0 < component (y.columns f) (get_or (taken y c f) i []) k → has_some (get_or ch.pieces (from i l).place []) ≡ true
+  has_pieces i k l h p =
+      let r = from i l in
+      let v = get_or (y.basis f) r.place [] in
+      let a = at k h.used in
+      let e = ap (λ v. component (y.columns f) v k) (solution_from i l) ∙ a.component_is v in
+      elim (or_cases (has_some (get_or ch.pieces r.place [])) (also v) r.why) [
+        | inl some ↦ some
+        | inr passes ↦ absurd (
+            let z = touched_none constants v (bare v passes) a.column ((are_asked.are_constant a.column).1 (a.within, subst (IsConstant d t class c.tag f) (sym a.of) h)) in
+            omega (arith, e, p, z))
+      ]
+
+  -- a solution with a constant has its value as its one piece
+  alone_piece : (i k : ℕ) → i < length (taken y c f) → IsConstant d t class c.tag f k → 0 < component (y.columns f) (get_or (taken y c f) i []) k → get_or (marked marks ch.pieces) i [] ≡ values k ∷ []
+  alone_piece i k l h p =
+      let r = from i l in
+      let a = at k h.used in
+      let e = ap (λ v. component (y.columns f) v k) (solution_from i l) ∙ a.component_is (get_or (y.basis f) r.place []) in
+      r.piece
+      ∙ ch.stand.piece r.place a.column r.within ((are_asked.are_constant a.column).1 (a.within, subst (IsConstant d t class c.tag f) (sym a.of) h)) (has_pieces i k l h p) (omega (arith, e, p))
+      ∙ ap (λ n. values n ∷ []) a.of
+
+  -- the pieces are summands of values
+  module _ (i : ℕ) (l : i < length (taken y c f)) (q : FlatTerm) (among : Contains (get_or (marked marks ch.pieces) i []) q) where
+    abbrev v : List ℕ
+    v = get_or (y.basis f) (from i l).place []
+
+    minimal : IsMinimal (y.system f).columns (rows_of (y.system f)) v
+    minimal = (exact v).0 (Contains-get_or (y.basis f) (from i l).place [] (from i l).within)
+
+    summand_at : (j : ℕ) → j < length v → 0 < get_or v j 0 → IsSummand d t class values f q
+    summand_at j m p =
+        let within : j < length (y.columns f) = let e = minimal.solves.sized in let w = is_node_system.wide in omega (arith, m, e, w) in
+        let k = get_or (y.columns f) j 0 in
+        elim (uses_told d t class f sum.associative k ((is_node_system.exact k).0 (Contains-get_or (y.columns f) j 0 within))) [
+          | inl u ↦
+              let of = component_at (y.columns f) v is_node_system.distinct j within in
+              let e = ap (λ w. component (y.columns f) w k) (solution_from i l) in
+              let counted = laid_counts (y.columns f) k q (taken y c f) (marked marks ch.pieces) i l (omega (arith, e, of, p)) among in
+              let same = made_for k u q in
+              record { k = k; used = u; among = contains_counted q (parts d f (values k)) (omega (arith, counted, same)) }
+          | inr n ↦ absurd (let e = minimal.solves.unused j (unused j within n) in omega (arith, e, p))
+        ]
+      where
+        unused : (j : ℕ) → j < length (y.columns f) → (Uses d t class f (get_or (y.columns f) j 0) → ⊥) → IsUnused (rows_of (y.system f)) j
+        unused j within n =
+            subst (λ rows. All (λ row. get_or row j (pos 0) ≡ pos 0) rows) (sym is_node_system.rows)
+            (All-map (λ row. get_or row j (pos 0) ≡ pos 0) (row_at t class f (y.columns f)) (sums t f) (λ x r m. zero_in (get_or (sums t f) x r) (Contains-get_or (sums t f) x r m)))
+          where
+            zero_in : (r : ℕ) → Contains (sums t f) r → get_or (row_at t class f (y.columns f) r) j (pos 0) ≡ pos 0
+            zero_in r listed =
+                let k = get_or (y.columns f) j 0 in
+                let e = get_or-map (coefficient class r (addends f (slice_get t.nodes r))) (y.columns f) j 0 (pos 0) within in
+                elim (zero_told (coefficient class r (addends f (slice_get t.nodes r)) k)) [
+                  | inl z ↦ e ∙ z
+                  | inr z ↦ absurd (n (record { associative = sum.associative; column = (is_node_system.exact k).0 (Contains-get_or (y.columns f) j 0 within); row = r; listed = listed; other = z }))
+                ]
+
+    summand : IsSummand d t class values f q
+    summand = let r = some_component v minimal.nonzero in summand_at r.0 r.1 r.2
+
+  pub made_of : AreMadeOf d t class y c values f (marked marks ch.pieces)
+  made_of = record {
+    as_many = as_many;
+    some = λ z m e. let r = empty_passes also marks ch.pieces (y.basis f) are m.0 m.1 (get_or_default (marked marks ch.pieces) m.0 [] z m.1 ∙ m.2 ∙ e) in neutral r.0 r.1;
+    summands = λ z q m n. (let l : m.0 < length (taken y c f) = (let e = as_many in let w = m.1 in omega (arith, e, w)) in
+        summand m.0 l q (subst (λ z. Contains z q) (sym (get_or_default (marked marks ch.pieces) m.0 [] z m.1 ∙ m.2)) n));
+    made = made_for;
+    alone = alone_piece;
+  }
+
+  counted : (k : ℕ) (u : Uses d t class f k) → member_count y c f k ≡ column_sum (at k u).column (marked marks (y.basis f))
+  counted k u =
+      sum_by_alike (λ v. component (y.columns f) v k) (λ v. get_or v (at k u).column 0) (at k u).component_is (taken y c f)
+      ∙ ap (column_sum (at k u).column) taken_is
+
+  -- a column has no more with those that have pieces alone
+  pieces_sum : (j : ℕ) → column_sum j (chosen (number_of ch.pieces) (y.basis f)) ≡ column_sum j (with_pieces ch.pieces (y.basis f))
+  pieces_sum j = ap (column_sum j) (law (y.system f).columns (y.basis f) sized ch.counted ch.pieces ch.made_up).0
+
+  -- a shared class is no sum of a constant alone
+  not_alone : NoAliases → (k l : ℕ) → IsShared d t class k → IsBound d t class c.tag f k → IsConstant d t class c.tag f l → AreTakenTogether d t class y c f k l → 2 ≤ member_count y c f k
+  not_alone law k l shared b h together =
+      let m = together.among in
+      let r = from m.0 m.1 in
+      let v_is : get_or (y.basis f) r.place [] ≡ together.solution = sym (solution_from m.0 m.1) ∙ get_or_default (taken y c f) m.0 [] together.solution m.1 ∙ m.2 in
+      let u = bound_used d t made has s frame told values go_with c.tag obey f k b in
+      let a = at k u in
+      let e = at l h.used in
+      let place_right = ap (λ v. component (y.columns f) v l) (get_or_default (taken y c f) m.0 [] together.solution m.1 ∙ m.2) in
+      let left = ap (λ v. get_or v a.column 0) v_is ∙ sym (a.component_is together.solution) in
+      let right = ap (λ v. get_or v e.column 0) v_is ∙ sym (e.component_is together.solution) in
+      let p = together.left in
+      let q = together.right in
+      let two = shared_two d t made has s frame told values go_with c.tag obey f k shared b in
+      let same_length = ap (λ n. length (parts d f (values n))) a.of in
+      let count = law d f values (y.columns f) (y.system f) (y.basis f) exact constants may_be_zero ch r.place a.column e.column r.within (has_pieces m.0 l m.1 h (omega (arith, place_right, q))) a.within (used_column k u)
+      ((are_asked.are_constant e.column).1 (e.within, subst (IsConstant d t class c.tag f) (sym e.of) h)) (omega (arith, two, same_length)) (omega (arith, left, p)) (omega (arith, right, q)) in
+      let sums = counted k u in
+      let few = pieces_sum a.column in
+      let grow = sums_grow also a.column marks ch.pieces (y.basis f) are in
+      omega (arith, count, sums, few, grow)
+
+  -- constants of one solution that is taken have one value, so that they are one
+  constants_apart : (k l : ℕ) → IsConstant d t class c.tag f k → IsConstant d t class c.tag f l → AreTakenTogether d t class y c f k l → k ≡ l
+  constants_apart k l hk hl together = elim (cases_eq k l) [
+    | inl e ↦ e
+    | inr n ↦
+        let m = together.among in
+        let is : get_or (taken y c f) m.0 [] ≡ together.solution = get_or_default (taken y c f) m.0 [] together.solution m.1 ∙ m.2 in
+        let left = ap (λ v. component (y.columns f) v k) is in
+        let right = ap (λ v. component (y.columns f) v l) is in
+        let p = together.left in
+        let q = together.right in
+        let one = alone_piece m.0 k m.1 hk (omega (arith, left, p)) in
+        let other = alone_piece m.0 l m.1 hl (omega (arith, right, q)) in
+        let lists : values k ∷ [] ≡ values l ∷ [] = sym one ∙ other in
+        let same : values k ≡ values l = cc in
+        let r = from m.0 m.1 in
+        let v_is : get_or (y.basis f) r.place [] ≡ together.solution = sym (solution_from m.0 m.1) ∙ is in
+        let minimal = (exact together.solution).0 (subst (Contains (y.basis f)) v_is (Contains-get_or (y.basis f) r.place [] r.within)) in
+        absurd (constants_differ d t made has s frame told values go_with c.tag obey f k l hk hl n
+        (frame.constants f k l (may_be d t made has s frame told values go_with c.tag obey f k hk) (may_be d t made has s frame told values go_with c.tag obey f l hl)
+        (record { columns = y.columns f; system = y.system f; is = is_node_system; solution = together.solution; minimal = minimal; left = p; right = q }))
+        same)
+  ]
+
+  pub acceptable : NoAliases → IsAcceptable d t class y c f
+  acceptable aliases = record {
+    within = let w = number_small marks in let n = ap (λ n. 2 ^ n) (marks_long also marks ch.pieces (y.basis f) are) in omega (arith, w, n, number);
+    once = λ k h.
+        let a = at k h.used in
+        let listed = (are_asked.are_constant a.column).1 (a.within, subst (IsConstant d t class c.tag f) (sym a.of) h) in
+        counted k h.used
+        ∙ sums_stay also a.column (λ v passes. touched_none constants v (bare v passes) a.column listed) marks ch.pieces (y.basis f) are
+        ∙ sym (pieces_sum a.column)
+        ∙ All-contains (λ j. column_sum j (chosen (number_of ch.pieces) (y.basis f)) ≡ 1) constants a.column ch.valid.once listed;
+    apart = constants_apart;
+    filled = λ k h.
+        let u = bound_used d t made has s frame told values go_with c.tag obey f k h.bound in
+        let a = at k u in
+        let p = ch.valid.filled a.column ((are_asked.required a.column).1 (a.within, subst (IsRequired d t class c.tag f) (sym a.of) h)) in
+        let e = counted k u in
+        let few = pieces_sum a.column in
+        let grow = sums_grow also a.column marks ch.pieces (y.basis f) are in
+        omega (arith, p, e, few, grow);
+    no_alias = not_alone aliases;
+  }

@@ -1,0 +1,202 @@
+-- Where values obey a choice, a class needs only classes of a lower rank.
+use Rattle.std.proofs.Common.{◌≡◌, ◌≢◌, ◌⊎◌, ℕ, ◌+◌, ◌*◌, ◌<◌, ◌≤◌, false, List, [], ◌∷◌, length, map, get_or, refl, sym, ap, ◌∙◌, subst, inl, inr, arith, Contains}
+use Rattle.std.specs.List.{AllByRecursion}
+use Rattle.std.proofs.lemmas.Bool.{cases_lt}
+use Rattle.std.proofs.lemmas.List.{get_or_default}
+use Rattle.fvn_base.proofs.Membership.{contains_here, contains_cases, contains_none, contains_map}
+use Rattle.fvn_terms.specs.declared.plain.OpId.{OpId}
+use Rattle.fvn_terms.specs.declared.declarations.Axioms.{Axioms}
+use Rattle.fvn_terms.specs.declared.declarations.Axioms.TheVariants.{Free, Comm, AssocComm, AssocCommId}
+use Rattle.fvn_terms.specs.declared.declarations.Declarations.{Declarations}
+use Rattle.fvn_terms.specs.Signature.{axioms}
+use Rattle.fvn_forms.specs.Flat.{FlatTerm, fapp, fpack, symbols}
+use Rattle.fvn_forms.specs.InOrder.{sort}
+use Rattle.fvn_forms.specs.Canon.{parts, sum, build}
+use Rattle.fvn_forms.proofs.Sizes.{all_symbols, all_symbols-sort, symbols_unjoined, piece_smaller}
+use Rattle.fvn_forms.proofs.Sums.{funpack-fpack, sum_parts}
+use Rattle.fvn_flat.specs.SolvedLists.{component, IsSimple}
+use Rattle.fvn_combine_nodes.specs.Table.{NodeTable, IsWellMade}
+use Rattle.fvn_combine_nodes.specs.States.{class_of}
+use Rattle.fvn_combine_nodes.specs.declared.state.State.{State}
+use Rattle.fvn_combine_leaves.specs.Frames.{IsFrame, IsSumOperator, IsSolid, Uses}
+use Rattle.fvn_combine_choices.specs.Binding.{IsBound, solid, alone, tagged, IsConstant}
+use Rattle.fvn_combine_choices.specs.Choosing.{Systems, Choice, AreTakenTogether, argument, summand, Falls, taken}
+use Rattle.fvn_combine_choices.specs.Tables.{HasSums}
+use Rattle.fvn_combine_complete.specs.Obeying.{IsTold, GoWith}
+use Rattle.fvn_combine_complete.specs.Obeyed.{AreObeying}
+use Rattle.fvn_combine_nodes.proofs.Heading.{build_free, build_commutative}
+use Rattle.fvn_combine_complete.proofs.Taken.{laid_counts, contains_counted}
+use Rattle.fvn_combine_complete.proofs.TwoSummands.{shared_two, solid_two}
+use Rattle.fvn_combine_complete.proofs.Values.{bound_used, constant_why}
+
+pub each_at : {A : Type 0} (P : A → Type 0) (l : List A) (x : A) → AllByRecursion P l → Contains l x → P x
+each_at P [] x h c = absurd (contains_none x c)
+each_at P (z ∷ l) x h c = elim (contains_cases z l x c) [
+  | inl e ↦ subst P e h.0
+  | inr r ↦ each_at P l x h.1 r
+]
+
+symbols_among : (q : FlatTerm) (l : List FlatTerm) → Contains l q → symbols q ≤ all_symbols l
+symbols_among q [] c = absurd (contains_none q c)
+symbols_among q (t ∷ l) c = elim (contains_cases t l q c) [
+  | inl e ↦ (let n = ap symbols e in omega (arith, n))
+  | inr r ↦ (let n = symbols_among q l r in omega (arith, n))
+]
+
+-- arguments of a free or commutative operator have fewer symbols
+argument_smaller : (d : Declarations) (f : OpId) → IsSimple (axioms d f) → (l : List FlatTerm) (q : FlatTerm) → Contains l q → symbols q < symbols (build d f l)
+argument_smaller d f simple l q c = go (axioms d f) refl
+  where
+    listed : (m : List FlatTerm) → all_symbols m ≡ all_symbols l → build d f l ≡ fapp f false (fpack m) → symbols q < symbols (build d f l)
+    listed m same is =
+        let a = symbols_among q l c in
+        let b = symbols_unjoined f (fpack m) in
+        let e = ap all_symbols (funpack-fpack m) in
+        let n = ap symbols is in
+        omega (arith, a, b, e, n, same)
+
+    go : (a : Axioms) → axioms d f ≡ a → symbols q < symbols (build d f l)
+    go Free e = listed l refl (build_free d f e l)
+    go Comm e = listed (sort l) (all_symbols-sort l) (build_commutative d f e l)
+    go AssocComm e = absurd (subst IsSimple e simple)
+    go (AssocCommId o) e = absurd (subst IsSimple e simple)
+
+module _ (d : Declarations) (t : NodeTable) (made : IsWellMade t) (has : HasSums d t) (s : State) (frame : IsFrame d t s) (told : IsTold d t (class_of s)) (y : Systems) (values : ℕ → FlatTerm) (go_with : GoWith d t s values) (c : Choice) (obeying : AreObeying d t (class_of s) y c values) where
+  abbrev class : ℕ → ℕ
+  class = class_of s
+
+  abbrev Heads : ℕ → Type 0
+  Heads k = ((g : OpId) × IsSolid d t class g k) ⊎ ((g : OpId) → IsSolid d t class g k → ⊥)
+
+  abbrev Users : OpId → ℕ → Type 0
+  Users f k = ((g : OpId) × (g ≢ f) × Uses d t class g k) ⊎ ((g : OpId) → Uses d t class g k → g ≡ f)
+
+  abbrev first : OpId
+  first = record { 0 = 0 }
+
+  -- 1 where no operator without an identity heads a member, and no two operators use the class, else 0
+  abbrev by_other : (g : OpId) (k : ℕ) → Users g k → ℕ
+  by_other g k (inl h) = 0
+  by_other g k (inr only) = 1
+
+  abbrev by_user : (k : ℕ) → Users first k → ℕ
+  by_user k (inl g) = by_other g.0 k (told.users g.0 k)
+  by_user k (inr only) = 1
+
+  abbrev by_head : (k : ℕ) → Heads k → ℕ
+  by_head k (inl p) = 0
+  by_head k (inr soft) = by_user k (told.users first k)
+
+  abbrev alias : ℕ → ℕ
+  alias k = by_head k (told.heads k)
+
+  alias_small : (k : ℕ) → alias k ≤ 1
+  alias_small k = of_head (told.heads k)
+    where
+      of_other : (g : OpId) (o : Users g k) → by_other g k o ≤ 1
+      of_other g (inl h) = omega arith
+      of_other g (inr h) = omega arith
+
+      of_user : (o : Users first k) → by_user k o ≤ 1
+      of_user (inl g) = of_other g.0 (told.users g.0 k)
+      of_user (inr h) = omega arith
+
+      of_head : (o : Heads k) → by_head k o ≤ 1
+      of_head (inl h) = omega arith
+      of_head (inr h) = of_user (told.users first k)
+
+  -- a class that one operator alone uses is an alias
+  alone_alias : (f : OpId) (k : ℕ) → ((g : OpId) → IsSolid d t class g k → ⊥) → ((g : OpId) → Uses d t class g k → g ≡ f) → alias k ≡ 1
+  alone_alias f k soft only = of_head (told.heads k)
+    where
+      of_other : (g : OpId) → g ≡ f → (o : Users g k) → by_other g k o ≡ 1
+      of_other g e (inl h) = absurd (h.1 (only h.0 h.2 ∙ sym e))
+      of_other g e (inr h) = refl
+
+      of_user : (o : Users first k) → by_user k o ≡ 1
+      of_user (inl g) = of_other g.0 (only g.0 g.2) (told.users g.0 k)
+      of_user (inr h) = refl
+
+      of_head : (o : Heads k) → by_head k o ≡ 1
+      of_head (inl h) = absurd (soft h.0 h.1)
+      of_head (inr h) = of_user (told.users first k)
+
+  -- a constant is none
+  constant_no_alias : (f : OpId) (k : ℕ) → IsConstant d t class c.tag f k → alias k ≡ 0
+  constant_no_alias f k h = of_head (told.heads k)
+    where
+      not_only : (g : OpId) → ((o : OpId) → IsSolid d t class o k → ⊥) → ((o : OpId) → Uses d t class o k → o ≡ g) → ⊥
+      not_only g soft only = elim (constant_why d t made has s frame told values go_with c.tag obeying.tags f k h) [
+        | inl p ↦ soft p.0 p.2
+        | inr shared ↦ shared.different (only shared.first shared.uses_first ∙ sym (only shared.second shared.uses_second))
+      ]
+
+      of_other : ((o : OpId) → IsSolid d t class o k → ⊥) → (g : OpId) (o : Users g k) → by_other g k o ≡ 0
+      of_other soft g (inl h) = refl
+      of_other soft g (inr only) = absurd (not_only g soft only)
+
+      of_user : ((o : OpId) → IsSolid d t class o k → ⊥) → (o : Users first k) → by_user k o ≡ 0
+      of_user soft (inl g) = of_other soft g.0 (told.users g.0 k)
+      of_user soft (inr only) = absurd (not_only first soft only)
+
+      of_head : (o : Heads k) → by_head k o ≡ 0
+      of_head (inl h) = refl
+      of_head (inr soft) = of_user soft (told.users first k)
+
+  abbrev rank : ℕ → ℕ
+  rank k = 2 * symbols (values k) + alias k
+
+  -- the value of a constant is a summand of what a sum with it is bound to
+  constant_among : (f : OpId) → IsSumOperator d t f → (k l : ℕ) → IsBound d t class c.tag f k → IsConstant d t class c.tag f l → AreTakenTogether d t class y c f k l → Contains (parts d f (values k)) (values l)
+  constant_among f sum k l b h together =
+      let m = obeying.made_of f sum in
+      let i = together.among.0 in
+      let within = together.among.1 in
+      let v_is : get_or (taken y c f) i [] ≡ together.solution = get_or_default (taken y c f) i [] together.solution within ∙ together.among.2 in
+      let left = ap (λ v. component (y.columns f) v k) v_is in
+      let right = ap (λ v. component (y.columns f) v l) v_is in
+      let p = together.left in
+      let q = together.right in
+      let piece = m.alone i l within h (omega (arith, right, q)) in
+      let counted = laid_counts (y.columns f) k (values l) (taken y c f) (obeying.pieces f) i within (omega (arith, left, p)) (subst (λ z. Contains z (values l)) (sym piece) (contains_here (values l) [])) in
+      let same = m.made k (bound_used d t made has s frame told values go_with c.tag obeying.tags f k b) (values l) in
+      contains_counted (values l) (parts d f (values k)) (omega (arith, counted, same))
+
+  falls_to_summand : (f : OpId) (k l : ℕ) → IsBound d t class c.tag f k → IsConstant d t class c.tag f l → Contains (parts d f (values k)) (values l) → rank l < rank k
+  falls_to_summand f k l b h among = elim (cases_lt (length (parts d f (values k))) 2) [
+    | inr two ↦ (
+        let a = alias_small l in
+        let n = each_at (λ q. symbols q < symbols (values k)) (parts d f (values k)) (values l) (piece_smaller d f (values k) two) among in
+        omega (arith, a, n))
+    | inl few ↦ (
+        let same = ap symbols (sym (only_value (parts d f (values k)) refl among few)) in
+        let a = constant_no_alias f l h in
+        let e = is_alias b few in
+        omega (arith, same, a, e))
+  ]
+    where
+      only_value : (ps : List FlatTerm) → parts d f (values k) ≡ ps → Contains ps (values l) → length ps < 2 → values l ≡ values k
+      only_value [] e m n = absurd (contains_none (values l) m)
+      only_value (p ∷ []) e m n = elim (contains_cases p [] (values l) m) [
+        | inl q ↦ sym q ∙ (ap (sum d f) (sym e) ∙ sum_parts d f (values k) (go_with.are.settled k))
+        | inr r ↦ absurd (contains_none (values l) r)
+      ]
+      only_value (p ∷ q ∷ ps) e m n = absurd (omega (arith, n))
+
+      is_alias : IsBound d t class c.tag f k → length (parts d f (values k)) < 2 → alias k ≡ 1
+      is_alias (solid assoc m) few = absurd (let two = solid_two d t made has s frame told values go_with c.tag obeying.tags f k assoc m in omega (arith, two, few))
+      is_alias (alone u soft only) few = alone_alias f k soft only
+      is_alias (tagged u shared e) few = absurd (let two = shared_two d t made has s frame told values go_with c.tag obeying.tags f k shared (tagged u shared e) in omega (arith, two, few))
+
+  falls : Falls d t class y c rank
+  falls k l (argument i f ks j over simple of among other) =
+      let value = ap values (sym of) ∙ go_with.are.built i f ks over in
+      let smaller = argument_smaller d f simple (map (λ n. values (class n)) ks) (values (class j)) (contains_map (λ n. values (class n)) ks j among) in
+      let a = ap symbols value in
+      let e = ap (λ n. symbols (values n)) other in
+      let small = alias_small l in
+      omega (arith, smaller, a, e, small)
+  falls k l (summand f sum b h together) = falls_to_summand f k l b h (constant_among f sum k l b h together)
+
+  pub ranked : (rank : ℕ → ℕ) × Falls d t class y c rank
+  ranked = (rank, falls)

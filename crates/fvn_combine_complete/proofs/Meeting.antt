@@ -1,0 +1,97 @@
+-- What is counted of values that go with a frame meets what is asked of a choice.
+use Rattle.std.proofs.Common.{◌≡◌, ◌≢◌, ℕ, zero, ◌<◌, List, [], ◌∷◌, length, get_or, sym, ap, ◌∙◌, subst, inl, inr, arith, Contains, Option, slice_get}
+use Rattle.std.specs.Prelude.{Bool, pos, ◌↔◌}
+use Rattle.std.proofs.lemmas.Bool.{cases_order}
+use Rattle.std.proofs.lemmas.List.{get_or-map}
+use Rattle.std.proofs.lemmas.List.Elements.{All-contains}
+use Rattle.fvn_base.proofs.Membership.{contains_map}
+use Rattle.fvn_terms.specs.declared.plain.OpId.{OpId}
+use Rattle.fvn_terms.specs.declared.declarations.Declarations.{Declarations}
+use Rattle.fvn_terms.specs.Signature.{axioms}
+use Rattle.fvn_forms.specs.Flat.{FlatTerm}
+use Rattle.fvn_forms.specs.InOrder.{count}
+use Rattle.fvn_forms.specs.Canon.{identity, parts}
+use Rattle.fvn_forms.proofs.Build.{parts_identity}
+use Rattle.fvn_lindio.specs.declared.system.System.{System}
+use Rattle.fvn_lindio.specs.Systems.{IsMinimal, IsUnused, rows_of}
+use Rattle.fvn_flat.specs.SolvedLists.{component}
+use Rattle.fvn_combine_nodes.specs.Table.{NodeTable, IsWellMade}
+use Rattle.fvn_combine_nodes.specs.States.{class_of}
+use Rattle.fvn_combine_nodes.specs.declared.state.State.{State}
+use Rattle.fvn_combine_nodes.proofs.Lists.{all_from}
+use Rattle.fvn_combine_systems.specs.NodeSystems.{addends, sums, coefficient, row_at, IsNodeSystem}
+use Rattle.fvn_combine_systems.specs.Values.{AddUp, AddsNothing}
+use Rattle.fvn_combine_systems.specs.Laws.{CountsSolve}
+use Rattle.fvn_combine_leaves.specs.Frames.{IsFrame, IsSumOperator, Uses}
+use Rattle.fvn_combine_choices.specs.Binding.{AreAsked}
+use Rattle.fvn_combine_choices.specs.Tables.{HasSums}
+use Rattle.fvn_combine_complete.specs.Obeying.{IsTold, GoWith, ObeyTags}
+use Rattle.fvn_combine_complete.specs.Laws.{CountsMeet}
+use Rattle.fvn_combine_complete.proofs.Values.{constant_alone, constants_differ, may_be, bound_used, required_some}
+pub use Rattle.fvn_combine_systems.proofs.Weighing.{component_at}
+
+-- a column that f uses is used by some row
+pub not_unused : (d : Declarations) (t : NodeTable) (class : ℕ → ℕ) (f : OpId) (columns : List ℕ) (system : System) → IsNodeSystem t class f columns system → (j : ℕ) → j < length columns → Uses d t class f (get_or columns j 0) → IsUnused (rows_of system) j → ⊥
+not_unused d t class f columns system is j l u z =
+    let row = row_at t class f columns u.row in
+    let listed : Contains (rows_of system) row = subst (λ rs. Contains rs row) (sym is.rows) (contains_map (row_at t class f columns) (sums t f) u.row u.listed) in
+    let zero = All-contains (λ r. get_or r j (pos 0) ≡ pos 0) (rows_of system) row z listed in
+    u.other (sym (get_or-map (coefficient class u.row (addends f (slice_get t.nodes u.row))) columns j 0 (pos 0) l) ∙ zero)
+
+module _ (law : CountsSolve) (d : Declarations) (t : NodeTable) (made : IsWellMade t) (has : HasSums d t) (s : State) (frame : IsFrame d t s) (told : IsTold d t (class_of s)) (values : ℕ → FlatTerm) (go_with : GoWith d t s values) (tag : ℕ → Option OpId) (obey : ObeyTags d t (class_of s) tag values) (f : OpId) (sum : IsSumOperator d t f) (columns : List ℕ) (system : System) (is : IsNodeSystem t (class_of s) f columns system) where
+  add_up : AddUp d t (class_of s) f values
+  add_up i a b listed over = go_with.are.built i f (a ∷ b ∷ []) over
+
+  adds_nothing : AddsNothing d t (class_of s) f values
+  adds_nothing = all_from (λ p. p.0 ≡ f → parts d f (values (class_of s p.1)) ≡ []) t.units (λ p c same.
+      let u = has.units p c in
+      ap (parts d f) (go_with.are.built p.1 u.0 [] u.2) ∙ parts_identity d f u.0 (ap (λ o. identity (axioms d o)) (sym same) ∙ u.1))
+
+  columns_apart : (c e : ℕ) → c ≢ e → c < length columns → e < length columns → get_or columns c 0 ≢ get_or columns e 0
+  columns_apart c e n l m same = elim (cases_order c e) [
+    | inl z ↦ n z
+    | inr o ↦ elim o [
+      | inl lt ↦ is.distinct c e 0 lt m same
+      | inr gt ↦ is.distinct e c 0 gt l (sym same)
+    ]
+  ]
+
+  module _ (basis : List (List ℕ)) (exact : (v : List ℕ) → Contains basis v ↔ IsMinimal system.columns (rows_of system) v) (constants : List ℕ) (may_be_zero : List Bool) (asked : AreAsked d t (class_of s) tag f columns constants may_be_zero) where
+    pub counts_meet : CountsMeet d f values columns system basis constants may_be_zero
+    counts_meet =
+        let solve = (law d t (class_of s) f sum.associative columns system is values go_with.are.settled adds_nothing).0 add_up in
+        record {
+          counted = λ q. (solve q).0;
+          counts = λ q. (solve q).1;
+          solve = λ q. (solve q).2;
+          meets = record {
+            distinct = asked.distinct;
+            once = λ c m q.
+                let r = (asked.are_constant c).0 m in
+                let k = get_or columns c 0 in
+                let n = (solve q).1.used c r.0 (not_unused d t (class_of s) f columns system is c r.0 r.1.used) in
+                let a = ap (count q) (constant_alone d t made has s frame told values go_with tag obey f k r.1) in
+                omega (arith, n, a);
+            different = λ c e m n ne v b p q.
+                let rc = (asked.are_constant c).0 m in
+                let re = (asked.are_constant e).0 n in
+                let k = get_or columns c 0 in
+                let l = get_or columns e 0 in
+                let left : 0 < component columns v k = let a = component_at columns v is.distinct c rc.0 in omega (arith, a, p) in
+                let right : 0 < component columns v l = let a = component_at columns v is.distinct e re.0 in omega (arith, a, q) in
+                constants_differ d t made has s frame told values go_with tag obey f k l rc.1 re.1 (columns_apart c e ne rc.0 re.0)
+                (frame.constants f k l (may_be d t made has s frame told values go_with tag obey f k rc.1) (may_be d t made has s frame told values go_with tag obey f l re.1)
+                (record { columns = columns; system = system; is = is; solution = v; minimal = (exact v).0 b; left = left; right = right }));
+            filled = λ j z.
+                let r = (asked.required j).0 z in
+                let k = get_or columns j 0 in
+                let some = required_some d t made has s frame told values go_with tag obey f k r.1 in
+                let n = (solve some.0).1.used j r.0 (not_unused d t (class_of s) f columns system is j r.0 (bound_used d t made has s frame told values go_with tag obey f k r.1.bound)) in
+                (some.0, let p = some.1 in omega (arith, n, p));
+          };
+        }
+
+pub values_meet : (law : CountsSolve) (d : Declarations) (t : NodeTable) → IsWellMade t → HasSums d t → (s : State) → IsFrame d t s → IsTold d t (class_of s) → (values : ℕ → FlatTerm) → GoWith d t s values → (tag : ℕ → Option OpId) → ObeyTags d t (class_of s) tag values →
+    (f : OpId) → IsSumOperator d t f → (columns : List ℕ) (system : System) → IsNodeSystem t (class_of s) f columns system → (basis : List (List ℕ)) → ((v : List ℕ) → Contains basis v ↔ IsMinimal system.columns (rows_of system) v) →
+    (constants : List ℕ) (may_be_zero : List Bool) → AreAsked d t (class_of s) tag f columns constants may_be_zero → CountsMeet d f values columns system basis constants may_be_zero
+values_meet law d t made has s frame told values go_with tag obey f sum columns system is basis exact constants may_be_zero asked = counts_meet law d t made has s frame told values go_with tag obey f sum columns system is basis exact constants may_be_zero asked

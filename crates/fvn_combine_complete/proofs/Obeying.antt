@@ -1,0 +1,162 @@
+-- Values that go with a frame obey a possible choice that is full.
+use Rattle.std.proofs.Common.{◌≡◌, ℕ, ◌/◌, ◌%◌, ◌^◌, ◌<◌, true, false, List, [], length, get_or, refl, sym, ap, ◌∙◌, subst, inl, inr, arith, Option, Some, None}
+use Rattle.std.specs.Prelude.{◌↔◌, Bool, nat_eq}
+use Rattle.std.proofs.lemmas.Bool.{eqb-true, eq-eqb, true≢false}
+use Rattle.fvn_base.specs.Decided.{Decided}
+use Rattle.fvn_base.proofs.Options.{Some-injective}
+use Rattle.fvn_terms.specs.declared.plain.OpId.{OpId}
+use Rattle.fvn_terms.specs.declared.declarations.Declarations.{Declarations}
+use Rattle.fvn_forms.specs.Flat.{FlatTerm}
+use Rattle.fvn_forms.specs.Good.{IsGood}
+use Rattle.fvn_acunify.specs.ValidChoice.{touched}
+use Rattle.fvn_combine_nodes.specs.Table.{NodeTable, IsWellMade}
+use Rattle.fvn_combine_nodes.specs.States.{class_of}
+use Rattle.fvn_combine_nodes.specs.declared.state.State.{State}
+use Rattle.fvn_combine_supports.specs.Laws.{MadeUpByTaken}
+use Rattle.fvn_combine_leaves.specs.Frames.{IsFrame, IsSumOperator, Uses, IsShared}
+use Rattle.fvn_combine_choices.specs.Choosing.{Systems, Choice, AreSystems, IsAcceptable, IsPossible}
+use Rattle.fvn_combine_complete.specs.Laws.{ValuesChoose, NoAliases, IsChosen}
+use Rattle.fvn_combine_choices.specs.Tables.{HasSums}
+use Rattle.fvn_combine_complete.specs.Obeying.{IsTold, GoWith, IsSumOf, ObeyTags}
+use Rattle.fvn_combine_complete.specs.Full.{HasNoConstant, IsFull}
+use Rattle.fvn_combine_complete.specs.Neutral.{IsNeutral}
+use Rattle.fvn_combine_complete.specs.Obeyed.{AreMadeOf, AreObeying}
+use Rattle.fvn_combine_complete.proofs.Asked.{sum_told, user_told, shared_told, Asked, asked}
+use Rattle.fvn_combine_complete.proofs.Chosen.{made_of, acceptable}
+use Rattle.fvn_combine_complete.proofs.Marked.{number_by, marked, AreMarks, marks_of, are_marks, marks_long, also_marked, bit_marked}
+use Rattle.fvn_combine_complete.proofs.NeutralTold.{neutral_told}
+use Rattle.fvn_combine_complete.proofs.Touching.{bare_is}
+use Rattle.fvn_combine_complete.proofs.Tagging.{sum_head, sum_told as headed_told}
+
+module _ (choose : ValuesChoose) (aliases : NoAliases) (law : MadeUpByTaken) (d : Declarations) (good : IsGood d) (t : NodeTable) (made : IsWellMade t) (has : HasSums d t) (s : State) (frame : IsFrame d t s) (told : IsTold d t (class_of s)) (y : Systems) (systems : AreSystems d t (class_of s) y) (values : ℕ → FlatTerm) (go_with : GoWith d t s values) where
+  abbrev class : ℕ → ℕ
+  class = class_of s
+
+  -- the tag of a class: the operator of which its value is a sum, where the class is shared and this uses it
+  record Tag (k : ℕ) (o : Option OpId) : Type 0 where
+    right : (f : OpId) → o ≡ Some f → IsShared d t class k × Uses d t class f k
+    obeyed : (f : OpId) → IsShared d t class k → Uses d t class f k → (o ≡ Some f) ↔ IsSumOf f (values k)
+
+  no_tag : (k : ℕ) → ((f : OpId) → IsShared d t class k → Uses d t class f k → IsSumOf f (values k) → ⊥) → Tag k None
+  no_tag k n = record { right = λ f e. cc; obeyed = λ f shared u. (λ e. cc, λ h. absurd (n f shared u h)) }
+
+  tag_at : (k : ℕ) → (o : Option OpId) × Tag k o
+  tag_at k = go (sum_head (values k)) refl
+    where
+      go : (o : Option OpId) → sum_head (values k) ≡ o → (o : Option OpId) × Tag k o
+      go None e = (None, no_tag k (λ f shared u h. let m : None ≡ Some f = sym e ∙ (headed_told f (values k)).1 h in cc))
+      go (Some g) e = elim (user_told d t class y systems g k) [
+        | inl u ↦ elim (shared_told d t class told g k u) [
+          | inl shared ↦ (
+            Some g,
+            record {
+              right = λ f m. (shared, subst (λ o. Uses d t class o k) (Some-injective m) u);
+              obeyed = λ f also w. (
+                λ m. (headed_told f (values k)).0 (e ∙ m),
+                λ h. sym e ∙ (headed_told f (values k)).1 h,
+              );
+            },
+          )
+          | inr n ↦ (None, no_tag k (λ f shared w h. n shared))
+        ]
+        | inr n ↦ (None, no_tag k (λ f shared w h. n (subst (λ o. Uses d t class o k) (Some-injective (sym ((headed_told f (values k)).1 h) ∙ e)) w)))
+      ]
+
+  tag : ℕ → Option OpId
+  tag k = (tag_at k).0
+
+  obey : ObeyTags d t class tag values
+  unfolding tag
+  obey k f shared u = (tag_at k).1.obeyed f shared u
+
+  -- what is asked for an operator, and what is chosen for it
+  asked_for : (f : OpId) → IsSumOperator d t f → Asked d t made has s frame told values go_with tag obey f (y.columns f)
+  asked_for f sum = asked d t made has s frame told values go_with tag obey f sum (y.columns f) (systems.is_system f sum).exact
+
+  chosen_for : (f : OpId) (sum : IsSumOperator d t f) → IsChosen d f values (y.columns f) (y.system f) (y.basis f) (asked_for f sum).constants (asked_for f sum).may_be_zero
+  chosen_for f sum =
+      choose d t made has s frame told values go_with tag obey f sum (y.columns f) (y.system f) (systems.is_system f sum) (y.basis f) (systems.exact f sum)
+      (asked_for f sum).constants (asked_for f sum).may_be_zero (asked_for f sum).are_asked
+
+  -- where the operator is neutral, solutions without a constant are taken with or without pieces
+  abbrev also_in : (f : OpId) → IsSumOperator d t f → Decided (IsNeutral d f) → List ℕ → Bool
+  also_in f sum (inl n) v = nat_eq (touched (asked_for f sum).constants v) 0
+  also_in f sum (inr n) v = false
+
+  abbrev also : (f : OpId) → IsSumOperator d t f → List ℕ → Bool
+  also f sum = also_in f sum (neutral_told d good f)
+
+  also_neutral : (f : OpId) (sum : IsSumOperator d t f) (v : List ℕ) → also f sum v ≡ true → IsNeutral d f
+  also_neutral f sum v e = go (neutral_told d good f) e
+    where
+      go : (o : Decided (IsNeutral d f)) → also_in f sum o v ≡ true → IsNeutral d f
+      go (inl n) e = n
+      go (inr n) e = absurd (true≢false (sym e))
+
+  also_bare : (f : OpId) (sum : IsSumOperator d t f) (v : List ℕ) → also f sum v ≡ true → touched (asked_for f sum).constants v ≡ 0
+  also_bare f sum v e = go (neutral_told d good f) e
+    where
+      go : (o : Decided (IsNeutral d f)) → also_in f sum o v ≡ true → touched (asked_for f sum).constants v ≡ 0
+      go (inl n) e = eqb-true (touched (asked_for f sum).constants v) 0 e
+      go (inr n) e = absurd (true≢false (sym e))
+
+  also_passes : (f : OpId) (sum : IsSumOperator d t f) → IsNeutral d f → (v : List ℕ) → touched (asked_for f sum).constants v ≡ 0 → also f sum v ≡ true
+  also_passes f sum n v e = go (neutral_told d good f)
+    where
+      go : (o : Decided (IsNeutral d f)) → also_in f sum o v ≡ true
+      go (inl m) = eq-eqb (touched (asked_for f sum).constants v) 0 e
+      go (inr m) = absurd (m n)
+
+  marks_for : (f : OpId) → IsSumOperator d t f → List Bool
+  marks_for f sum = marks_of (also f sum) (chosen_for f sum).pieces (y.basis f)
+
+  marks_are : (f : OpId) (sum : IsSumOperator d t f) → AreMarks (also f sum) (marks_for f sum) (chosen_for f sum).pieces (y.basis f)
+  unfolding marks_for
+  marks_are f sum = are_marks (also f sum) (chosen_for f sum).pieces (y.basis f) (chosen_for f sum).made_up.as_many
+
+  abbrev number_in : (f : OpId) → Decided (IsSumOperator d t f) → ℕ
+  number_in f (inl sum) = number_by (marks_for f sum)
+  number_in f (inr n) = 0
+
+  abbrev pieces_in : (f : OpId) → Decided (IsSumOperator d t f) → List (List FlatTerm)
+  pieces_in f (inl sum) = marked (marks_for f sum) (chosen_for f sum).pieces
+  pieces_in f (inr n) = []
+
+  abbrev choice : Choice
+  choice = record { tag = tag; number = λ f. number_in f (sum_told d t f) }
+
+  accepted : (f : OpId) → IsSumOperator d t f → (o : Decided (IsSumOperator d t f)) → sum_told d t f ≡ o → IsAcceptable d t class y choice f
+  accepted f sum (inl h) e =
+      acceptable d t made has s frame told values go_with y systems choice obey f h (asked_for f h).constants (asked_for f h).may_be_zero (asked_for f h).are_asked (chosen_for f h) (also f h) (marks_for f h) (marks_are f h) (ap (number_in f) e) (also_neutral f h) (also_bare f h) law aliases
+  accepted f sum (inr n) e = absurd (n sum)
+
+  made_up : (f : OpId) → IsSumOperator d t f → (o : Decided (IsSumOperator d t f)) → sum_told d t f ≡ o → AreMadeOf d t class y choice values f (pieces_in f (sum_told d t f))
+  made_up f sum (inl h) e =
+      subst (AreMadeOf d t class y choice values f) (sym (ap (pieces_in f) e))
+      (made_of d t made has s frame told values go_with y systems choice obey f h (asked_for f h).constants (asked_for f h).may_be_zero (asked_for f h).are_asked (chosen_for f h) (also f h) (marks_for f h) (marks_are f h) (ap (number_in f) e) (also_neutral f h) (also_bare f h) law)
+  made_up f sum (inr n) e = absurd (n sum)
+
+  -- every solution without a constant is taken
+  filled : (f : OpId) → IsSumOperator d t f → IsNeutral d f → (o : Decided (IsSumOperator d t f)) → sum_told d t f ≡ o → (i : ℕ) → i < length (y.basis f) → HasNoConstant d t class y choice f (get_or (y.basis f) i []) → choice.number f / 2 ^ i % 2 ≡ 1
+  filled f sum n (inl h) e i l bare =
+      let asked = (asked_for f h).are_asked in
+      let v = get_or (y.basis f) i [] in
+      let system = systems.is_system f h in
+      let none = (bare_is d t class tag f (y.columns f) system.distinct (λ k c. (system.exact k).1 c.used.column) (asked_for f h).constants (asked_for f h).may_be_zero asked v).1 bare in
+      let are = marks_are f h in
+      let long = marks_long (also f h) (marks_for f h) (chosen_for f h).pieces (y.basis f) are in
+      ap (λ m. m / 2 ^ i % 2) (ap (number_in f) e)
+      ∙ bit_marked (marks_for f h) i (omega (arith, l, long)) (also_marked (also f h) (marks_for f h) (chosen_for f h).pieces (y.basis f) are i l (also_passes f h n v none))
+  filled f sum n (inr m) e i l bare = absurd (m sum)
+
+  right_tag : (k : ℕ) (f : OpId) → tag k ≡ Some f → IsShared d t class k × Uses d t class f k
+  unfolding tag
+  right_tag k f e = (tag_at k).1.right f e
+
+  pub obeyed_choice : (c : Choice) × IsPossible d t class y c × IsFull d t class y c × AreObeying d t class y c values
+  obeyed_choice = (
+    choice,
+    record { tags = λ k f e. right_tag k f e; acceptable = λ f sum. accepted f sum (sum_told d t f) refl },
+    λ f sum n. filled f sum n (sum_told d t f) refl,
+    record { tags = obey; pieces = λ f. pieces_in f (sum_told d t f); made_of = λ f sum. made_up f sum (sum_told d t f) refl },
+  )

@@ -1,0 +1,328 @@
+-- The bindings of a plan are right for the values.
+use Rattle.std.proofs.Common.{◌≡◌, ℕ, ◌<◌, List, [], ◌∷◌, length, map, refl, sym, ap, ◌∙◌, subst, inl, inr, arith, All, Contains, Option, Some, None}
+use Rattle.std.specs.List.{AllByRecursion}
+use Rattle.std.proofs.lemmas.List.Elements.{All-head, All-tail}
+use Rattle.std.proofs.lemmas.Option.{slice_get_within}
+use Rattle.fvn_base.proofs.Options.{Some-injective}
+use Rattle.fvn_terms.specs.declared.plain.Var.{Var}
+use Rattle.fvn_terms.specs.declared.plain.OpId.{OpId}
+use Rattle.fvn_terms.specs.declared.plain.SortId.{SortId}
+use Rattle.fvn_terms.specs.declared.declarations.Axioms.{Axioms}
+use Rattle.fvn_terms.specs.declared.declarations.Axioms.TheVariants.{Free, Comm, AssocComm, AssocCommId}
+use Rattle.fvn_terms.specs.declared.declarations.Rank.{Rank}
+use Rattle.fvn_terms.specs.declared.declarations.Declarations.{Declarations}
+use Rattle.fvn_terms.specs.Term.{Terms, var, app, none, more, pack}
+use Rattle.fvn_terms.specs.Substitution.{Substitution, apply}
+use Rattle.fvn_terms.specs.Signature.{kind, declared, axioms, HasKind, HaveKinds, IsTerm, AtOrBelow}
+use Rattle.fvn_terms.specs.Unifiers.{Problem}
+use Rattle.fvn_forms.specs.Flat.{FlatTerm, fvar, plain, plain_all, fpack}
+use Rattle.fvn_forms.specs.InOrder.{count, SameCounts}
+use Rattle.fvn_forms.specs.Canon.{parts, sum, build, canon, eval_all, inst, identity, empty_sum}
+use Rattle.fvn_forms.specs.Settled.{Settled, IsPiece}
+use Rattle.fvn_forms.specs.Ranks.{result}
+use Rattle.fvn_forms.specs.LeastSort.{sort_in, least_sort, KeepsKindsOfVariables}
+use Rattle.fvn_forms.proofs.Build.{HasIdentity, parts_none, sum_settled}
+use Rattle.fvn_forms.proofs.Eval.{canon_settled}
+use Rattle.fvn_forms.proofs.InOrder.{count_itself}
+use Rattle.fvn_forms.proofs.Instances.{eval_canon}
+use Rattle.fvn_forms.proofs.KindsOfSums.{sum_of_forms_of_kind}
+use Rattle.fvn_forms.proofs.KindsKept.{kind_unique}
+use Rattle.fvn_forms.proofs.LeastSort.{sort_lowers, sort_of_build}
+use Rattle.fvn_forms.proofs.SortOrder.{AtOrBelow-from_same}
+use Rattle.fvn_forms.proofs.Sums.{sum_parts, sum_same_counts}
+use Rattle.fvn_forms.proofs.ToCanon.{canon_of_kind, identity_is}
+use Rattle.fvn_flat.specs.Problems.{variables_of}
+use Rattle.fvn_flat.specs.SolvedLists.{Plan, Form, unbound, as_member, as_sum, members, IsSimple, IsBinding, bound_as, bound_to, names_of, over_classes}
+use Rattle.fvn_combine_nodes.specs.Table.{NodeTable, IsOver, term_at}
+use Rattle.fvn_combine_nodes.specs.States.{class_of}
+use Rattle.fvn_combine_nodes.specs.Laws.{class_at}
+use Rattle.fvn_combine_nodes.specs.Unifiers.{value_at}
+use Rattle.fvn_combine_nodes.specs.declared.state.State.{State}
+use Rattle.fvn_combine_nodes.specs.declared.table.Node.TheVariants.{App}
+use Rattle.fvn_combine_nodes.proofs.Nodes.{term_at-over, arguments_within}
+use Rattle.fvn_combine_leaves.specs.Frames.{IsSumOperator, Uses}
+use Rattle.fvn_combine_choices.specs.Choosing.{Systems, Choice}
+use Rattle.fvn_combine_choices.specs.Plans.{IsFormBy}
+use Rattle.fvn_combine_complete.specs.LaidOut.{laid_for}
+use Rattle.fvn_combine_complete.proofs.Entries.{entries, members_are, spread_are, each_entry}
+use Rattle.fvn_combine_nodes.proofs.Subterms.{node_kinded}
+use Rattle.fvn_combine_complete.proofs.Later.{later, later_flat, value_of_name, value_of_part, value_of_variable}
+use Rattle.fvn_combine_nodes.proofs.NodesOf.{node_of, variable_node, own_class}
+use Rattle.fvn_combine_complete.proofs.Setting.{Setting, value_kinded, class_within, same_value, column_rank, column_within, name_kinded, name_of_kind, column_name}
+use Rattle.fvn_combine_complete.proofs.Spread.{variables_in, spread, Stands, value_of_sum, sort_of_sum}
+use Rattle.fvn_combine_complete.proofs.Standing.{as_many, entry_some, entry_pieces, entry_settled, entry_kinded, variable_kinded}
+use Rattle.fvn_combine_complete.proofs.Unfolding.{env, env_keeps, IsRight}
+use Rattle.fvn_combine_complete.proofs.Values.{bound_used}
+
+module _ {d : Declarations} {problem : Problem} {t : NodeTable} {s : State} {y : Systems} {u : Substitution} {c : Choice} {first next : ℕ} {plan : Plan} (g : Setting d problem t s y u c first next plan) where
+  abbrev class : ℕ → ℕ
+  class = class_of s
+
+  abbrev values : ℕ → FlatTerm
+  values = value_at d u t.nodes
+
+  abbrev Right : Var × FlatTerm → Type 0
+  Right = IsRight d g.good (later g) (later_flat g)
+
+  abbrev sorts : Var → SortId
+  sorts = env d g.good (later g) (later_flat g)
+
+  -- class k bound to a sum of f
+  module _ (f : OpId) (k : ℕ) (uses : Uses d t class f k) where
+    sum_operator : IsSumOperator d t f
+    sum_operator = record { associative = uses.associative; sum = uses.row; listed = uses.listed }
+
+    abbrev rank : Rank
+    rank = (column_rank g f k uses).0
+
+    listed : Contains (declared d f).ranks rank
+    listed = (column_rank g f k uses).1
+
+    abbrev Standing : Var × List FlatTerm → Type 0
+    Standing = Stands d g.good (later g) (later_flat g) f uses.associative (kind d rank.result) rank listed refl
+
+    abbrev es : List (Var × List FlatTerm)
+    es = entries (y.columns f) k (plan.parts f) (g.obeying.pieces f)
+
+    standing : AllByRecursion Standing es
+    standing = each_entry Standing (y.columns f) k (plan.parts f) (g.obeying.pieces f) (λ e among p. record {
+      value = value_of_part g f sum_operator e among;
+      some = entry_some g f sum_operator e among;
+      pieces = entry_pieces g f sum_operator e among;
+      settled = entry_settled g f sum_operator e among;
+      kinded = entry_kinded g f sum_operator e among rank listed;
+      variable = variable_kinded g f sum_operator e among rank listed;
+    })
+
+    -- the pieces of all members are the summands of the class's value
+    spread_is : SameCounts (spread es) (parts d f (values k))
+    spread_is q =
+        spread_are q (y.columns f) k (plan.parts f) (g.obeying.pieces f) (as_many g f sum_operator)
+        ∙ ap (λ vs. count q (laid_for (y.columns f) k vs (g.obeying.pieces f))) (g.plan_by.solutions f sum_operator)
+        ∙ sym ((g.obeying.made_of f sum_operator).made k uses q)
+
+    sum_is : sum d f (spread es) ≡ values k
+    sum_is = sum_same_counts d f (spread es) (parts d f (values k)) spread_is ∙ sum_parts d f (values k) (g.go_with.are.settled k)
+
+    -- a sum without members is f's identity
+    named : variables_in es ≡ [] → HasIdentity d f
+    named e = let n = parts_none d f (values k) (g.go_with.are.settled k) (no_parts (parts d f (values k)) (no_entries es e) spread_is) in (n.0, n.1)
+      where
+        no_entries : (l : List (Var × List FlatTerm)) → variables_in l ≡ [] → l ≡ []
+        no_entries [] e = refl
+        no_entries (o ∷ l) e = cc
+
+        no_parts : (ps : List FlatTerm) → es ≡ [] → SameCounts (spread es) ps → ps ≡ []
+        no_parts [] e h = refl
+        no_parts (p ∷ ps) e h = absurd (let n = h p in let z = ap (λ l. count p (spread l)) e in let m = count_itself p ps in omega (arith, n, z, m))
+
+    variables_pieces : (l : List (Var × List FlatTerm)) → AllByRecursion (IsPiece d f) (variables_in l)
+    variables_pieces [] = tt
+    variables_pieces (e ∷ l) = (refl, variables_pieces l)
+
+    variables_settled : (l : List (Var × List FlatTerm)) → AllByRecursion (Settled d) (variables_in l)
+    variables_settled [] = tt
+    variables_settled (e ∷ l) = (tt, variables_settled l)
+
+    kinded : (l : List (Var × List FlatTerm)) → AllByRecursion Standing l → (variables_in l ≡ [] → HasIdentity d f) → HasKind d (plain (sum d f (variables_in l))) (kind d rank.result)
+    kinded [] h n = let i = n refl in subst (λ o. HasKind d (plain (empty_sum d f o)) (kind d rank.result)) (sym i.1) (g.good.fits.identity f i.0 rank (identity_is (axioms d f) i.0 i.1) listed)
+    kinded (e ∷ l) h n = sum_of_forms_of_kind d g.good.fits f uses.associative (kind d rank.result) rank listed refl (fvar e.0) (variables_in l) (each (e ∷ l) h)
+      where
+        each : (l : List (Var × List FlatTerm)) → AllByRecursion Standing l → AllByRecursion (λ q. HasKind d (plain q) (kind d rank.result)) (variables_in l)
+        each [] h = tt
+        each (e ∷ l) h = (h.0.variable, each l h.1)
+
+    lowered : (l : List (Var × List FlatTerm)) → AllByRecursion Standing l → AtOrBelow d (sort_in d sorts (sum d f (variables_in l))) (least_sort d (sum d f (spread l)))
+    lowered [] h = AtOrBelow-from_same d (empty_sort (identity (axioms d f)))
+      where
+        empty_sort : (o : Option OpId) → sort_in d sorts (empty_sum d f o) ≡ least_sort d (empty_sum d f o)
+        empty_sort None = refl
+        empty_sort (Some e) = refl
+    lowered (e ∷ l) h = sort_of_sum d g.good (later g) (later_flat g) f uses.associative (kind d rank.result) rank listed refl e l h
+
+    within : k < length t.nodes
+    within = column_within g f k uses
+
+    right_sum : Right (plan.name k, sum d f (variables_in es))
+    right_sum = record {
+      settled = sum_settled d f uses.associative (variables_in es) (variables_pieces es) (variables_settled es) named;
+      kinded = λ i. subst (HasKind d (plain (sum d f (variables_in es)))) (sym ((name_kinded g k within).1 ∙ column_name g f k uses rank listed)) (kinded es standing named);
+      value = value_of_sum d g.good (later g) (later_flat g) f uses.associative (kind d rank.result) rank listed refl es standing named ∙ sum_is ∙ sym (value_of_name g k within);
+      lowers = λ i. subst (AtOrBelow d (sort_in d sorts (sum d f (variables_in es)))) (ap (least_sort d) (sum_is ∙ sym (value_of_name g k within))) (lowered es standing);
+    }
+
+    pub sum_right : (b : Var × FlatTerm) → b.0 ≡ plan.name k → sum d f (members (plan.columns f) (plan.parts f) k) ≡ b.1 → Right b
+    sum_right b e is =
+        let same = ap (λ columns. sum d f (members columns (plan.parts f) k)) (g.plan_by.columns f sum_operator) ∙ ap (sum d f) (members_are (y.columns f) k (plan.parts f) (g.obeying.pieces f) (as_many g f sum_operator)) in
+        subst Right (λ i. ((sym e) i, (sym same ∙ is) i)) right_sum
+
+  -- class k bound to a member
+  module _ (i : ℕ) (f : OpId) (ks : List ℕ) (over : IsOver t.nodes i f ks) (simple : IsSimple (axioms d f)) where
+    abbrev named_args : List ℕ → Terms
+    named_args [] = none
+    named_args (j ∷ js) = more (var (plan.name (class j))) (named_args js)
+
+    names_are : (js : List ℕ) → All (λ j. j < length t.nodes) js → names_of d problem (class_at t class) plan (pack (map (term_at t.nodes) js)) ≡ named_args js
+    names_are [] h = refl
+    names_are (j ∷ js) h =
+        let P = λ (j : ℕ). j < length t.nodes in
+        ap (λ n. more (var (plan.name n)) (names_of d problem (class_at t class) plan (pack (map (term_at t.nodes) js)))) (own_class g.made g.table class j (All-head P j js h))
+        ∙ ap (more (var (plan.name (class j)))) (names_are js (All-tail P j js h))
+
+    all_within : All (λ j. j < length t.nodes) ks
+    all_within = arguments_within t.nodes g.made.ordered i f ks over
+
+    within_node : i < length t.nodes
+    within_node = slice_get_within t.nodes i (App f ks) over
+
+    -- the names have the kinds of the arguments
+    names_kinded : (js : List ℕ) → All (λ j. j < length t.nodes) js → (qs : List SortId) → HaveKinds d (pack (map (term_at t.nodes) js)) qs → HaveKinds d (named_args js) qs
+    names_kinded [] h [] k = tt
+    names_kinded [] h (q ∷ qs) k = absurd k
+    names_kinded (j ∷ js) h [] k = absurd k
+    names_kinded (j ∷ js) h (q ∷ qs) k =
+        let P = λ (j : ℕ). j < length t.nodes in
+        let l = All-head P j js h in
+        let m = class_within g j l in
+        let n = name_kinded g (class j) m in
+        let same : (plan.name (class j)).sort ≡ q =
+        kind_unique d g.good.fits (plain (values (class j))) (plan.name (class j)).sort q (name_of_kind g (class j) m) (subst (λ v. HasKind d (plain v) q) (sym (same_value g j l)) (value_kinded g j q k.0))
+        in
+        ((n.0, n.1 ∙ same), names_kinded js (All-tail P j js h) qs k.1)
+
+    node_kind : IsTerm d (term_at t.nodes i)
+    node_kind = node_kinded d g.good.fits problem g.kinded t g.table i within_node
+
+    args_kinded : HasKind d (app f (pack (map (term_at t.nodes) ks))) node_kind.0
+    args_kinded = subst (λ v. HasKind d v node_kind.0) (term_at-over t.nodes g.made.ordered i f ks over) node_kind.1
+
+    term_kinded : HasKind d (app f (named_args ks)) node_kind.0
+    term_kinded = record { rank = args_kinded.rank; listed = args_kinded.listed; args = names_kinded ks all_within _ args_kinded.args; result = args_kinded.result }
+
+    -- the values of the names are those of the classes
+    evaluated : (js : List ℕ) → All (λ j. j < length t.nodes) js → eval_all d (later g) (named_args js) ≡ map (λ j. values (class j)) js
+    evaluated [] h = refl
+    evaluated (j ∷ js) h =
+        let P = λ (j : ℕ). j < length t.nodes in
+        ap (λ v. v ∷ eval_all d (later g) (named_args js)) (value_of_name g (class j) (class_within g j (All-head P j js h)))
+        ∙ ap (λ l. values (class j) ∷ l) (evaluated js (All-tail P j js h))
+
+    value_is : inst d (later g) (canon d (app f (named_args ks))) ≡ values (class i)
+    value_is = sym (eval_canon d (later g) (later_flat g).settled (app f (named_args ks))) ∙ ap (build d f) (evaluated ks all_within) ∙ sym (g.go_with.are.built i f ks over)
+
+    abbrev forms : List FlatTerm
+    forms = map (λ j. values (class j)) ks
+
+    forms_settled : (js : List ℕ) → AllByRecursion (Settled d) (map (λ j. values (class j)) js)
+    forms_settled [] = tt
+    forms_settled (j ∷ js) = (g.go_with.are.settled (class j), forms_settled js)
+
+    forms_kinded : (js : List ℕ) → All (λ j. j < length t.nodes) js → (qs : List SortId) → HaveKinds d (pack (map (term_at t.nodes) js)) qs → HaveKinds d (plain_all (fpack (map (λ j. values (class j)) js))) qs
+    forms_kinded [] h [] k = tt
+    forms_kinded [] h (q ∷ qs) k = absurd k
+    forms_kinded (j ∷ js) h [] k = absurd k
+    forms_kinded (j ∷ js) h (q ∷ qs) k =
+        let P = λ (j : ℕ). j < length t.nodes in
+        (subst (λ v. HasKind d (plain v) q) (sym (same_value g j (All-head P j js h))) (value_kinded g j q k.0), forms_kinded js (All-tail P j js h) qs k.1)
+
+    -- no argument is without summands, since f has no identity
+    forms_some : (js : List ℕ) → AllByRecursion (λ v. parts d f v ≡ [] → ⊥) (map (λ j. values (class j)) js)
+    forms_some [] = tt
+    forms_some (j ∷ js) = ((λ e. let n = parts_none d f (values (class j)) (g.go_with.are.settled (class j)) e in bare (axioms d f) simple n.0 n.1), forms_some js)
+      where
+        bare : (a : Axioms) → IsSimple a → (e : OpId) → identity a ≡ Some e → ⊥
+        bare Free h e i = cc
+        bare Comm h e i = cc
+        bare AssocComm h e i = h
+        bare (AssocCommId o) h e i = h
+
+    variable_forms : (js : List ℕ) → eval_all d fvar (named_args js) ≡ map (λ j. fvar (plan.name (class j))) js
+    variable_forms [] = refl
+    variable_forms (j ∷ js) = ap (λ l. fvar (plan.name (class j)) ∷ l) (variable_forms js)
+
+    names_settled : (js : List ℕ) → AllByRecursion (Settled d) (map (λ j. fvar (plan.name (class j))) js)
+    names_settled [] = tt
+    names_settled (j ∷ js) = (tt, names_settled js)
+
+    names_plain : (js : List ℕ) → plain_all (fpack (map (λ j. fvar (plan.name (class j))) js)) ≡ named_args js
+    names_plain [] = refl
+    names_plain (j ∷ js) = ap (more (var (plan.name (class j)))) (names_plain js)
+
+    name_sorts : (js : List ℕ) → All (λ j. j < length t.nodes) js → map (sort_in d sorts) (map (λ j. fvar (plan.name (class j))) js) ≡ map (least_sort d) (map (λ j. values (class j)) js)
+    name_sorts [] h = refl
+    name_sorts (j ∷ js) h =
+        let P = λ (j : ℕ). j < length t.nodes in
+        ap (λ q. q ∷ map (sort_in d sorts) (map (λ j. fvar (plan.name (class j))) js)) (ap (least_sort d) (value_of_name g (class j) (class_within g j (All-head P j js h))))
+        ∙ ap (λ l. least_sort d (values (class j)) ∷ l) (name_sorts js (All-tail P j js h))
+
+    own_keeps : KeepsKindsOfVariables d (λ x. x.sort)
+    own_keeps x i = refl
+
+    lowers_to : AtOrBelow d (sort_in d sorts (canon d (app f (named_args ks)))) (least_sort d (values (class i)))
+    lowers_to =
+        let names = map (λ j. fvar (plan.name (class j))) ks in
+        let lower = sort_lowers d g.good sorts (env_keeps d g.good (later g) (later_flat g)) f names (names_settled ks) node_kind.0 (subst (λ ts. HasKind d (app f ts) node_kind.0) (sym (names_plain ks)) term_kinded) in
+        let forms_are : HasKind d (app f (plain_all (fpack forms))) node_kind.0 = record { rank = args_kinded.rank; listed = args_kinded.listed; args = forms_kinded ks all_within _ args_kinded.args; result = args_kinded.result } in
+        let exact = sort_of_build d g.good (λ x. x.sort) own_keeps f forms (forms_settled ks) (forms_some ks) node_kind.0 forms_are in
+        let left = ap (λ l. sort_in d sorts (build d f l)) (variable_forms ks) in
+        let right = ap (result d f) (name_sorts ks all_within) ∙ sym exact ∙ ap (least_sort d) (sym (g.go_with.are.built i f ks over)) in
+        subst (λ q. AtOrBelow d q (least_sort d (values (class i)))) (sym left) (subst (AtOrBelow d (sort_in d sorts (build d f names))) right lower)
+
+    right_member : Right (plan.name (class i), canon d (app f (named_args ks)))
+    right_member =
+        let l = class_within g i within_node in
+        let n = name_kinded g (class i) l in
+        let same : (plan.name (class i)).sort ≡ node_kind.0 =
+        kind_unique d g.good.fits (plain (values (class i))) (plan.name (class i)).sort node_kind.0 (name_of_kind g (class i) l) (subst (λ v. HasKind d (plain v) node_kind.0) (sym (same_value g i within_node)) (value_kinded g i node_kind.0 node_kind.1))
+        in
+        record {
+          settled = canon_settled d (app f (named_args ks));
+          kinded = λ o. subst (HasKind d (plain (canon d (app f (named_args ks))))) (sym (n.1 ∙ same)) (canon_of_kind d g.good.fits (app f (named_args ks)) node_kind.0 term_kinded);
+          value = value_is ∙ sym (value_of_name g (class i) l);
+          lowers = λ o. subst (AtOrBelow d (sort_in d sorts (canon d (app f (named_args ks))))) (ap (least_sort d) (sym (value_of_name g (class i) l))) lowers_to;
+        }
+
+    over_is : over_classes d problem (class_at t class) plan (term_at t.nodes i) ≡ canon d (app f (named_args ks))
+    over_is = ap (over_classes d problem (class_at t class) plan) (term_at-over t.nodes g.made.ordered i f ks over) ∙ ap (λ ts. canon d (app f ts)) (names_are ks all_within)
+
+    pub member_right : (k : ℕ) (b : Var × FlatTerm) → class i ≡ k → b.0 ≡ plan.name k → over_classes d problem (class_at t class) plan (term_at t.nodes i) ≡ b.1 → Right b
+    member_right k b of e is = subst Right (λ o. ((ap plan.name of ∙ sym e) o, (sym over_is ∙ is) o)) right_member
+
+  -- each binding is right
+  class_right : (k : ℕ) (b : Var × FlatTerm) → k < length t.nodes → b.0 ≡ plan.name k → bound_to d problem (class_at t class) plan k ≡ Some b.1 → Right b
+  class_right k b l e is = go (plan.form k) (g.plan_by.forms k l) is
+    where
+      go : (form : Form) → IsFormBy d t class y c k form → bound_as d problem (class_at t class) plan form k ≡ Some b.1 → Right b
+      go unbound h is = cc
+      go (as_member v) h is =
+          let at = h.1 in
+          member_right h.0 at.operator at.arguments at.over at.simple k b at.of e (ap (over_classes d problem (class_at t class) plan) h.2 ∙ Some-injective is)
+      go (as_sum f) h is = sum_right f k (bound_used d t g.made g.has s g.frame g.told values g.go_with c.tag g.obeying.tags f k h) b e (Some-injective is)
+
+  variable_right : (b : Var × FlatTerm) → Contains (variables_of problem) b.0 → b.1 ≡ fvar (plan.name (class_at t class (var b.0))) → Right b
+  variable_right b among is =
+      let n = variable_node g.made g.table b.0 among in
+      let i = n.number in
+      let l = class_within g i n.within in
+      let of : class_at t class (var b.0) ≡ class i = ap (class_at t class) (sym n.is) ∙ own_class g.made g.table class i n.within in
+      let bound : b.1 ≡ fvar (plan.name (class i)) = is ∙ ap (λ k. fvar (plan.name k)) of in
+      let value : values (class i) ≡ canon d (u b.0) = same_value g i n.within ∙ ap (λ v. canon d (apply u v)) n.is in
+      let whole : later g (plan.name (class i)) ≡ later g b.0 = value_of_name g (class i) l ∙ value ∙ sym (value_of_variable g b.0 among) in
+      let names = name_kinded g (class i) l in
+      record {
+        settled = subst (Settled d) (sym bound) tt;
+        kinded = λ o.
+            let same : (plan.name (class i)).sort ≡ kind d b.0.sort =
+            kind_unique d g.good.fits (plain (values (class i))) (plan.name (class i)).sort (kind d b.0.sort) (name_of_kind g (class i) l) (subst (λ v. HasKind d (plain v) (kind d b.0.sort)) (sym value) (canon_of_kind d g.good.fits (u b.0) (kind d b.0.sort) (g.unifier.0 b.0 o)))
+            in
+            subst (λ v. HasKind d (plain v) (kind d b.0.sort)) (sym bound) (names.0, names.1 ∙ same);
+        value = ap (inst d (later g)) bound ∙ whole;
+        lowers = λ o. AtOrBelow-from_same d (ap (sort_in d sorts) bound ∙ ap (least_sort d) whole);
+      }
+
+  pub binding_right : (b : Var × FlatTerm) → IsBinding d problem (class_at t class) plan b → Right b
+  binding_right b (inl h) =
+      let n = node_of g.made g.table h.1.0 h.1.1 in
+      let of : class n.number ≡ h.0 = sym (own_class g.made g.table class n.number n.within) ∙ ap (class_at t class) n.is ∙ h.1.2 in
+      class_right h.0 b (subst (λ k. k < length t.nodes) of (class_within g n.number n.within)) h.2 h.3
+  binding_right b (inr h) = variable_right b h.0 h.2

@@ -1,0 +1,248 @@
+-- The values of classes: constants are single summands, and bound classes have summands.
+use Rattle.std.proofs.Common.{◌≡◌, ◌≢◌, ◌⊎◌, ℕ, ◌+◌, ◌-◌, ◌<◌, ◌≤◌, true, List, [], ◌∷◌, length, map, get_or, refl, sym, ap, ◌∙◌, subst, inl, inr, arith, Contains, Option, Some, slice_get}
+use Rattle.std.specs.Prelude.{cond, pos, ◌-ℤ◌}
+use Rattle.std.specs.List.{AllByRecursion}
+use Rattle.std.proofs.lemmas.Bool.{cases_eq, eq-eqb, ne_eqb}
+use Rattle.std.proofs.lemmas.List.{length-map}
+use Rattle.std.proofs.lemmas.Option.{slice_get_within}
+use Rattle.fvn_base.proofs.Membership.{contains_filter}
+use Rattle.fvn_terms.specs.declared.plain.OpId.{OpId}
+use Rattle.fvn_terms.specs.declared.declarations.Declarations.{Declarations}
+use Rattle.fvn_terms.specs.Signature.{axioms}
+use Rattle.fvn_terms.specs.Equality.{IsAssociative}
+use Rattle.fvn_forms.specs.Flat.{FlatTerm, FlatTerms, fapp, funpack, fconstant}
+use Rattle.fvn_forms.specs.InOrder.{one_if, count}
+use Rattle.fvn_forms.specs.Canon.{identity, parts, build}
+use Rattle.fvn_forms.specs.Settled.{Settled}
+use Rattle.fvn_forms.proofs.InOrder.{count_itself}
+use Rattle.fvn_forms.proofs.Sums.{same_op_itself}
+use Rattle.fvn_forms.proofs.Build.{count_parts_build}
+use Rattle.fvn_lindio.specs.Systems.{above, below}
+use Rattle.fvn_flat.specs.Forms.{head_of}
+use Rattle.fvn_flat.specs.Partitions.{HasNoIdentity}
+use Rattle.fvn_combine_nodes.specs.Table.{NodeTable, IsWellMade, IsOver}
+use Rattle.fvn_combine_nodes.specs.States.{IsOpen, class_of}
+use Rattle.fvn_combine_nodes.specs.declared.state.State.{State}
+use Rattle.fvn_combine_nodes.specs.declared.table.Node.TheVariants.{App}
+use Rattle.fvn_combine_nodes.proofs.Admitting.{decided, named_within}
+use Rattle.fvn_combine_nodes.proofs.Heading.{identity_of, some_part, build_head}
+use Rattle.fvn_combine_systems.specs.NodeSystems.{is_headed, addends, stands_in, coefficient, IsNodeColumn}
+use Rattle.fvn_combine_systems.proofs.Members.{column_of_node, over_addends}
+use Rattle.fvn_combine_systems.proofs.Weighing.{balance}
+use Rattle.fvn_combine_leaves.specs.Frames.{IsSolid, Uses, IsShared, MayBeConstant, HaveTwoHeads, IsFrame}
+use Rattle.fvn_combine_choices.specs.Binding.{IsBound, solid, alone, tagged, IsConstant, IsRequired}
+use Rattle.fvn_combine_choices.specs.Tables.{HasSums}
+use Rattle.fvn_combine_complete.specs.Obeying.{IsTold, GoWith, IsSumOf, ObeyTags}
+use Rattle.fvn_combine_complete.proofs.Heads.{build_constant, single_part}
+
+equal_parts : (m n : ℕ) → pos m -ℤ pos n ≡ pos 0 → m ≡ n
+equal_parts m n e = let b = balance m n in let a : above (pos m -ℤ pos n) ≡ 0 = ap above e in let c : below (pos m -ℤ pos n) ≡ 0 = ap below e in omega (arith, a, b, c)
+
+module _ (d : Declarations) (t : NodeTable) (made : IsWellMade t) (has : HasSums d t) (s : State) (frame : IsFrame d t s) (told : IsTold d t (class_of s)) (values : ℕ → FlatTerm) (go_with : GoWith d t s values) (tag : ℕ → Option OpId) (obey : ObeyTags d t (class_of s) tag values) where
+  abbrev class : ℕ → ℕ
+  class = class_of s
+
+  settled_values : (ks : List ℕ) → AllByRecursion (Settled d) (map (λ k. values (class k)) ks)
+  settled_values [] = tt
+  settled_values (k ∷ ks) = (go_with.are.settled (class k), settled_values ks)
+
+  -- an operator without an identity that heads a member heads the value
+  pub head_of_solid : (f : OpId) (k : ℕ) → IsSolid d t class f k → head_of (values k) ≡ Some f
+  head_of_solid f k h =
+      ap (λ n. head_of (values n)) (sym h.of)
+      ∙ ap head_of (go_with.are.built h.member f h.arguments h.over)
+      ∙ build_head d f h.no_identity (map (λ k. values (class k)) h.arguments) (settled_values h.arguments)
+      (λ assoc. length-map h.arguments (λ k. values (class k)) ∙ (has.pairs h.member f h.arguments h.over assoc).0)
+
+  -- the name of a class is a node in it
+  pub record IsName (k : ℕ) : Type 0 where
+    pub own : class k ≡ k
+    pub within : k < length t.nodes
+
+  pub own_name : (f : OpId) (k : ℕ) → IsNodeColumn t class f k → IsName k
+  own_name f k h = let n = column_of_node made.ordered f k h in at n.0 n.1.0 n.1.1
+    where
+      at : (i : ℕ) → i < length t.nodes → class i ≡ k → IsName k
+      at i l e =
+          let w = frame.closed.whole in
+          let m : i < length s.names = omega (arith, l, w) in
+          let n = named_within s frame.closed.naming i m in
+          record { own = ap class (sym e) ∙ (frame.closed.naming.named i m).1 ∙ e; within = omega (arith, n, w, e) }
+
+  -- why a constant is none that is bound
+  pub constant_why : (f : OpId) (k : ℕ) → IsConstant d t class tag f k → ((g : OpId) × (g ≢ f) × IsSolid d t class g k) ⊎ IsShared d t class k
+  constant_why f k h = elim (told.heads k) [
+    | inl p ↦ inl (p.0, λ e. h.not_bound (solid h.used.associative (subst (λ o. IsSolid d t class o k) e p.1)), p.1)
+    | inr soft ↦ elim (told.users f k) [
+      | inl u ↦ inr (record { soft = soft; first = u.0; second = f; different = u.1; uses_first = u.2; uses_second = h.used })
+      | inr only ↦ absurd (h.not_bound (alone h.used soft only))
+    ]
+  ]
+
+  pub may_be : (f : OpId) (k : ℕ) → IsConstant d t class tag f k → MayBeConstant d t class f k
+  may_be f k h = record { used = h.used; why = constant_why f k h }
+
+  constant_no_sum : (f : OpId) (k : ℕ) → IsConstant d t class tag f k → IsSumOf f (values k) → ⊥
+  constant_no_sum f k h sum = elim (constant_why f k h) [
+    | inl p ↦ p.1 (let e : Some p.0 ≡ Some f = sym (head_of_solid p.0 k p.2) ∙ ap head_of sum.1 in cc)
+    | inr shared ↦ h.not_bound (tagged h.used shared ((obey k f shared h.used).1 sum))
+  ]
+
+  -- the class of a node is that of the value
+  same_class : (k n : ℕ) → IsName k → n < length t.nodes → IsOpen s k n ⊎ ((k ≡ class n) ⊎ (values k ≢ values (class n)))
+  same_class k n name within = elim (decided s k n) [
+    | inl o ↦ inl o
+    | inr r ↦ elim r [
+      | inl e ↦ inr (inl (sym name.own ∙ e))
+      | inr a ↦ inr (inr (λ e. go_with.differ k n name.within within a (ap values name.own ∙ e)))
+    ]
+  ]
+
+  constant_no_identity : (f : OpId) (k : ℕ) → IsConstant d t class tag f k → (e : OpId) → identity (axioms d f) ≡ Some e → values k ≡ fconstant e → ⊥
+  constant_no_identity f k h e i is = go (has.all_units h.used.column.sum f e (h.used.column.left ∷ h.used.column.right ∷ []) h.used.column.listed h.used.column.over i)
+    where
+      go : (u : (j : ℕ) × (p : OpId × ℕ) × (j < length t.units) × (get_or t.units j p ≡ p) × (p.0 ≡ f)) → ⊥
+      go (j, p, l, at, same) =
+          let unit = has.units p (j, l, at) in
+          let one : Some unit.0 ≡ Some e = sym unit.1 ∙ ap (λ o. identity (axioms d o)) same ∙ i in
+          let is_e : unit.0 ≡ e = cc in
+          let over : IsOver t.nodes p.1 e [] = subst (λ o. IsOver t.nodes p.1 o []) is_e unit.2 in
+          let not_identity : k ≡ class p.1 → ⊥ = λ q. h.used.column.no_identity (j, p, l, at, (same, sym q)) in
+          let value : values (class p.1) ≡ fconstant e = go_with.are.built p.1 e [] over in
+          elim (constant_why f k h) [
+            | inl q ↦
+                let heads : Some q.0 ≡ Some e = sym (head_of_solid q.0 k q.2) ∙ ap head_of is in
+                let g_is : q.0 ≡ e = cc in
+                let m : IsSolid d t class e k = subst (λ o. IsSolid d t class o k) g_is q.2 in
+                let plain : IsAssociative (axioms d e) → ⊥ = λ assoc. (let n = (has.pairs p.1 e [] over assoc).0 in omega (arith, n)) in
+                let nothing = build_constant d e plain (map (λ k. values (class k)) m.arguments) (sym (go_with.are.built m.member e m.arguments m.over) ∙ ap values m.of ∙ is) in
+                let none : m.arguments ≡ [] = map_nothing m.arguments nothing in
+                let same_node : class m.member ≡ class p.1 =
+                (frame.partition.nodes m.member p.1 e e [] [] (subst (IsOver t.nodes m.member e) none m.over) over).congruent refl refl
+                in
+                not_identity (sym m.of ∙ same_node)
+            | inr shared ↦ elim (same_class k p.1 (own_name f k h.used.column) (slice_get_within t.nodes p.1 (App e []) over)) [
+              | inl o ↦ frame.identities f k shared h.used p (j, l, at) same o
+              | inr r ↦ elim r [
+                | inl q ↦ not_identity q
+                | inr n ↦ n (is ∙ sym value)
+              ]
+            ]
+          ]
+        where
+          map_nothing : (ks : List ℕ) → map (λ k. values (class k)) ks ≡ [] → ks ≡ []
+          map_nothing [] z = refl
+          map_nothing (x ∷ xs) z = cc
+
+  -- a constant is a single summand
+  pub constant_alone : (f : OpId) (k : ℕ) → IsConstant d t class tag f k → parts d f (values k) ≡ values k ∷ []
+  constant_alone f k h = single_part d f (values k) (constant_no_sum f k h) (constant_no_identity f k h)
+
+  -- two constants that are touched together differ
+  pub constants_differ : (f : OpId) (k l : ℕ) → IsConstant d t class tag f k → IsConstant d t class tag f l → k ≢ l → HaveTwoHeads d t class k l ⊎ (IsOpen s k l → ⊥) → values k ≢ values l
+  constants_differ f k l hk hl n (inl two) e = two.different (let p : Some two.first ≡ Some two.second = sym (head_of_solid two.first k two.heads_first) ∙ ap head_of e ∙ head_of_solid two.second l two.heads_second in cc)
+  constants_differ f k l hk hl n (inr closed_pair) e = elim (same_class k l (own_name f k hk.used.column) (own_name f l hl.used.column).within) [
+    | inl o ↦ closed_pair o
+    | inr r ↦ elim r [
+      | inl q ↦ n (q ∙ (own_name f l hl.used.column).own)
+      | inr m ↦ m (e ∙ sym (ap values (own_name f l hl.used.column).own))
+    ]
+  ]
+
+  -- what an associative operator without an identity heads is used
+  module _ (f : OpId) (k : ℕ) (assoc : IsAssociative (axioms d f)) (h : IsSolid d t class f k) where
+    solid_over : (ks : List ℕ) → IsOver t.nodes h.member f ks → length ks ≡ 2 → Contains t.subterms h.member → Uses d t class f k
+    solid_over [] over n c = absurd (omega (arith, n))
+    solid_over (a ∷ []) over n c = absurd (omega (arith, n))
+    solid_over (a ∷ b ∷ x ∷ ks) over n c = absurd (omega (arith, n))
+    solid_over (a ∷ b ∷ []) over n c =
+        record {
+          associative = assoc;
+          column = record {
+            sum = h.member;
+            left = a;
+            right = b;
+            listed = c;
+            over = over;
+            among = (0, omega arith, h.of);
+            no_identity = λ z. no_unit z;
+          };
+          row = h.member;
+          listed = contains_filter (λ i. is_headed f (slice_get t.nodes i)) t.subterms h.member c (ap (is_headed f) over ∙ same_op_itself f);
+          other = λ z. not_zero (sym (ap (λ o. coefficient class h.member o k) addends_are) ∙ z);
+        }
+      where
+        addends_are : addends f (slice_get t.nodes h.member) ≡ Some (a, b)
+        addends_are = ap (addends f) over ∙ over_addends f a b
+
+        no_unit : (u : (j : ℕ) × (p : OpId × ℕ) × (j < length t.units) × (get_or t.units j p ≡ p) × ((p.0 ≡ f) × (class p.1 ≡ k))) → ⊥
+        no_unit (j, p, l, at, same) = let u = has.units p (j, l, at) in identity_of (axioms d f) u.0 h.no_identity (ap (λ o. identity (axioms d o)) (sym same.0) ∙ u.1)
+
+        one : (x : ℕ) → class x ≡ k → stands_in class k x ≡ 1
+        one x e = ap one_if (eq-eqb (class x) k e)
+
+        none : (x : ℕ) → (class x ≡ k → ⊥) → stands_in class k x ≡ 0
+        none x n = ap one_if (ne_eqb (class x) k n)
+
+        value : values k ≡ build d f (values (class a) ∷ values (class b) ∷ [])
+        value = ap values (sym h.of) ∙ go_with.are.built h.member f (a ∷ b ∷ []) over
+
+        counted : (q : FlatTerm) → count q (parts d f (values k)) ≡ count q (parts d f (values (class a))) + count q (parts d f (values (class b)))
+        counted q = ap (λ v. count q (parts d f v)) value ∙ count_parts_build d f assoc q (values (class a)) (values (class b)) (go_with.are.settled (class a)) (go_with.are.settled (class b))
+
+        -- one of the two has no summands where the other is of the class
+        empty : (x : ℕ) → ((q : FlatTerm) → count q (parts d f (values (class x))) ≡ 0) → ⊥
+        empty x z = go (parts d f (values (class x))) refl (some_part d f h.no_identity (values (class x)) (go_with.are.settled (class x)))
+          where
+            go : (l : List FlatTerm) → parts d f (values (class x)) ≡ l → 1 ≤ length (parts d f (values (class x))) → ⊥
+            go [] e n = let m = ap length e in omega (arith, m, n)
+            go (q ∷ qs) e n = let m = count_itself q qs in let o = ap (count q) e in let w = z q in omega (arith, m, o, w)
+
+        not_zero : pos (stands_in class k a + stands_in class k b) -ℤ pos (stands_in class k h.member) ≡ pos 0 → ⊥
+        not_zero z =
+            let e = equal_parts (stands_in class k a + stands_in class k b) (stands_in class k h.member) z in
+            let w = one h.member h.of in
+            elim (cases_eq (class a) k) [
+              | inl ca ↦ elim (cases_eq (class b) k) [
+                | inl cb ↦ let p = one a ca in let q = one b cb in omega (arith, e, w, p, q)
+                | inr nb ↦ empty b (λ q. let m = counted q in let o = ap (λ c. count q (parts d f (values c))) ca in omega (arith, m, o))
+              ]
+              | inr na ↦ elim (cases_eq (class b) k) [
+                | inl cb ↦ empty a (λ q. let m = counted q in let o = ap (λ c. count q (parts d f (values c))) cb in omega (arith, m, o))
+                | inr nb ↦ let p = none a na in let q = none b nb in omega (arith, e, w, p, q)
+              ]
+            ]
+
+    pub solid_used : Uses d t class f k
+    solid_used = let p = has.pairs h.member f h.arguments h.over assoc in solid_over h.arguments h.over p.0 p.1
+
+  pub bound_used : (f : OpId) (k : ℕ) → IsBound d t class tag f k → Uses d t class f k
+  bound_used f k (solid assoc h) = solid_used f k assoc h
+  bound_used f k (alone u soft only) = u
+  bound_used f k (tagged u shared e) = u
+
+  -- a required class has a summand
+  pub required_some : (f : OpId) (k : ℕ) → IsRequired d t class tag f k → (q : FlatTerm) × (0 < count q (parts d f (values k)))
+  required_some f k h = some (parts d f (values k)) refl (long h.why h.bound)
+    where
+      shared_long : IsShared d t class k → IsBound d t class tag f k → 1 ≤ length (parts d f (values k))
+      shared_long shared (solid assoc p) = absurd (shared.soft f p)
+      shared_long shared (alone u soft only) = absurd (shared.different (only shared.first shared.uses_first ∙ sym (only shared.second shared.uses_second)))
+      shared_long shared (tagged u again e) =
+          let sum = (obey k f shared u).0 e in
+          sum_long sum.0 sum.1 (subst (Settled d) sum.1 (go_with.are.settled k))
+        where
+          sum_long : (ts : FlatTerms) → values k ≡ fapp f true ts → Settled d (fapp f true ts) → 1 ≤ length (parts d f (values k))
+          sum_long ts is settled =
+              let two = settled.0.two_or_more in
+              let p : parts d f (fapp f true ts) ≡ funpack ts = ap (λ b. cond b (funpack ts) (fapp f true ts ∷ [])) (same_op_itself f) in
+              let n = ap length (ap (parts d f) is ∙ p) in
+              omega (arith, two, n)
+
+      long : IsShared d t class k ⊎ HasNoIdentity (axioms d f) → IsBound d t class tag f k → 1 ≤ length (parts d f (values k))
+      long (inl shared) b = shared_long shared b
+      long (inr bare) b = some_part d f bare (values k) (go_with.are.settled k)
+
+      some : (l : List FlatTerm) → parts d f (values k) ≡ l → 1 ≤ length (parts d f (values k)) → (q : FlatTerm) × (0 < count q (parts d f (values k)))
+      some [] e n = absurd (let m = ap length e in omega (arith, m, n))
+      some (q ∷ qs) e n = (q, let m = count_itself q qs in let o = ap (count q) e in omega (arith, m, o))

@@ -1,0 +1,104 @@
+//! Laws of values at a frame, each the contract of a function that does nothing.
+ghost use Rattle.fvn_combine_complete.specs.Laws.{
+  ValuesMeetWhatIsAsked,
+  ValuesChoose,
+  ValuesAreLaidOut,
+  NoAliases,
+  ReadingsTell,
+  TablesHaveSums,
+  TagsExist,
+  UnifiersGoWith,
+  ValuesObeyChoices,
+  ObeyedChoicesFall,
+  ObeyedChoicesCover,
+  FramesCover,
+};
+
+use fvn_combine_nodes::unifiers_partition;
+use fvn_combine_supports::{counts_are_made_up, made_up_by_taken, pieces_choose};
+use fvn_combine_systems::{counts_solve, unifiers_have_values};
+
+/// The counts of values that go with a frame meet what is asked of the choice for an operator.
+pub fn values_meet_what_is_asked()
+    ensures { ValuesMeetWhatIsAsked }
+{
+    counts_solve();
+}
+
+/// Values that go with a frame choose minimal solutions, with pieces.
+pub fn values_choose()
+    ensures { ValuesChoose }
+{
+    values_meet_what_is_asked();
+    counts_are_made_up();
+    pieces_choose();
+}
+
+/// The summands of values are the pieces, laid out.
+pub fn values_are_laid_out()
+    ensures { ValuesAreLaidOut }
+{}
+
+/// A value with two summands or more is no sum of a single constant.
+pub fn no_aliases()
+    ensures { NoAliases }
+{
+    made_up_by_taken();
+}
+
+/// A reading tells what heads and uses all classes.
+pub fn readings_tell()
+    ensures { ReadingsTell }
+{}
+
+/// The table of a well-kinded problem has sums over two subterms, and identities.
+pub fn tables_have_sums()
+    ensures { TablesHaveSums }
+{}
+
+/// All values obey some tags.
+pub fn tags_exist()
+    ensures { TagsExist }
+{}
+
+/// A unifier's values go with each state that admits its partition.
+pub fn unifiers_go_with()
+    ensures { UnifiersGoWith }
+{
+    unifiers_have_values();
+    unifiers_partition();
+}
+
+/// Values that go with a frame obey a possible choice that is full.
+pub fn values_obey_choices()
+    ensures { ValuesObeyChoices }
+{
+    values_choose();
+    no_aliases();
+    made_up_by_taken();
+}
+
+/// Where values obey a choice, a class needs only classes of a lower rank.
+pub fn obeyed_choices_fall()
+    ensures { ObeyedChoicesFall }
+{}
+
+/// Where a unifier's values obey a choice, what the bindings of its plan unfold to covers it.
+pub fn obeyed_choices_cover()
+    ensures { ObeyedChoicesCover }
+{
+    unifiers_partition();
+    unifiers_go_with();
+    tables_have_sums();
+}
+
+/// At a frame that admits its partition, each unifier on kinds is covered by some choice.
+pub fn frames_cover()
+    ensures { FramesCover }
+{
+    unifiers_go_with();
+    tables_have_sums();
+    values_obey_choices();
+    obeyed_choices_fall();
+    obeyed_choices_cover();
+}

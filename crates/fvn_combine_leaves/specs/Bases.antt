@@ -1,0 +1,21 @@
+-- The minimal solutions of the sum operators that are read.
+use Rattle.std.specs.Prelude.{◌≡◌, ◌↔◌, ℕ, ◌≤◌, List, [], length, slice_get, slice_index_or, Some, AllPairs, Contains}
+use Rattle.fvn_base.specs.declared.limits.TheConstants.{MINIMAL_SOLUTIONS}
+use Rattle.fvn_base.specs.Order.{IsBefore}
+use Rattle.fvn_lindio.specs.declared.system.System.{System}
+use Rattle.fvn_lindio.specs.declared.system.Solution.{Solution}
+use Rattle.fvn_lindio.specs.Systems.{IsMinimal, rows_of, vectors_of}
+use Rattle.fvn_flat.specs.Solving.{IsRefused}
+use Rattle.fvn_combine_leaves.specs.declared.reading.Sums.{Sums}
+
+-- exactly the minimal solutions of a system that is not refused, in lexicographic order
+pub record IsBasis (s : System) (basis : List Solution) : Type 0 where
+  pub exact : (v : List ℕ) → Contains (vectors_of basis) v ↔ IsMinimal s.columns (rows_of s) v
+  pub ordered : AllPairs IsBefore (vectors_of basis)
+  pub few : length basis ≤ MINIMAL_SOLUTIONS
+  pub kept : IsRefused s → ⊥
+
+-- those of each of the sum operators
+pub record AreBases (sums : List Sums) (bases : List (List Solution)) : Type 0 where
+  pub as_many : length bases ≡ length sums
+  pub each : (i : ℕ) (e : Sums) → slice_get sums i ≡ Some e → IsBasis e.system (slice_index_or bases i [])

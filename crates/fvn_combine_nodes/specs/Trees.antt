@@ -1,0 +1,39 @@
+-- Decision trees: states that are still to be looked at.
+use Rattle.std.specs.Prelude.{◌≡◌, ℕ, ◌^◌, List, [], ◌∷◌, ◌++◌, sum_by, All, AllPairs, Any}
+use Rattle.fvn_terms.specs.declared.declarations.Declarations.{Declarations}
+use Rattle.fvn_combine_nodes.specs.Table.{NodeTable}
+use Rattle.fvn_combine_nodes.specs.Classes.{IsNodePartition}
+use Rattle.fvn_combine_nodes.specs.States.{Admits, IsClosed, IsOpen, open_pairs}
+use Rattle.fvn_combine_nodes.specs.declared.state.State.{State}
+
+-- by this falls a tree that is asked a question, or loses a state
+abbrev pub weight : List State → ℕ
+weight states = sum_by (λ s. 3 ^ open_pairs s) states
+
+-- some state of the tree has no more than the classes have
+abbrev pub IsToCome : List State → (ℕ → ℕ) → Type 0
+IsToCome states class = Any (λ s. Admits s class) states
+
+-- each state of the tree is closed
+abbrev pub AreClosed : Declarations → NodeTable → List State → Type 0
+AreClosed d t states = All (IsClosed d t) states
+
+-- nodes i and j are open in the last state
+pub record IsOpenAtTop (states : List State) (i j : ℕ) : Type 0 where
+  pub below : List State
+  pub top : State
+  pub is : states ≡ below ++ top ∷ []
+  pub open_there : IsOpen top i j
+
+-- the last state made way for what is left of it; the others stay
+pub record IsAsked (d : Declarations) (t : NodeTable) (before after : List State) : Type 0 where
+  pub below : List State
+  pub top : State
+  pub answers : List State
+  pub was : before ≡ below ++ top ∷ []
+  pub is : after ≡ below ++ answers
+  -- each answer has what the last state had
+  pub kept : (class : ℕ → ℕ) → IsToCome answers class → Admits top class
+  -- each partition that the last state admits is admitted by one answer, and by one alone
+  pub all : (class : ℕ → ℕ) → IsNodePartition d t class → Admits top class → IsToCome answers class
+  pub one : (class : ℕ → ℕ) → AllPairs (λ s r. Admits s class → Admits r class → ⊥) answers

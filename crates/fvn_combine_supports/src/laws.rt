@@ -1,0 +1,31 @@
+//! Laws of supports, each the contract of a function that does nothing.
+ghost use Rattle.fvn_combine_supports.specs.Laws.{
+  CountsAreMadeUp,
+  PiecesChoose,
+  MadeUpByTaken,
+  CombinationsSolve,
+};
+
+use fvn_lindio::sum_of_minimal;
+
+/// Counts that solve a system are made up of pieces, some for each minimal solution.
+pub fn counts_are_made_up()
+    ensures { CountsAreMadeUp }
+{
+    sum_of_minimal();
+}
+
+/// The solutions that have pieces are a valid choice.
+pub fn pieces_choose()
+    ensures { PiecesChoose }
+{}
+
+/// Solutions without pieces may be left out.
+pub fn made_up_by_taken()
+    ensures { MadeUpByTaken }
+{}
+
+/// Solutions, each so many times, are together a solution.
+pub fn combinations_solve()
+    ensures { CombinationsSolve }
+{}

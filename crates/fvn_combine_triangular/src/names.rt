@@ -1,0 +1,79 @@
+//! The variables of a table, and the new variables that name its classes.
+ghost use Rattle.std.specs.Prelude.{◌≡◌, ◌+◌, ◌<◌, ◌^◌, length, IfOk, Contains};
+ghost use Rattle.fvn_terms.specs.declared.plain.SortId.{SortId as Sort};
+ghost use Rattle.fvn_terms.specs.declared.declarations.Rank.{Rank as Declared};
+ghost use Rattle.fvn_terms.specs.Signature.{kind, declared, HasKind};
+ghost use Rattle.fvn_combine_nodes.specs.Table.{term_at};
+ghost use Rattle.fvn_combine_triangular.specs.Ready.{AreVariablesOf};
+ghost use Rattle.fvn_combine_triangular.specs.inner.Planning.{AreNames};
+
+use fvn_combine_nodes::{Node, Table};
+use fvn_sorts::Signature;
+use fvn_terms::{NoMemory, OpId, SortId, Var};
+use std::alloc::Global;
+
+/// The variables of a table, each once.
+pub fn variables(alloc: Global, table: &Table) -> Result<Vec<Var>, NoMemory>
+    ensures { IfOk result (λ v. AreVariablesOf table.now v.items) }
+{
+    table.recall_well_made();
+    let mut vars = Vec::new(alloc);
+    for node in table.nodes() {
+        match node {
+            Node::Var(x) => vars.push(*x)?,
+            Node::App(_, _) => {}
+        }
+    }
+    Ok(vars)
+}
+
+// The kind of what the operator gives.
+pub(crate) fn operator_kind(sig: &Signature, f: OpId) -> SortId
+    ensures { (r : Declared) → Contains (declared sig.now f).ranks r
+        → result ≡ kind sig.now r.result }
+{
+    sig.recall_good();
+    match sig.declarations().declared(f) {
+        None => SortId(0),
+        Some(known) => match known.ranks.as_slice().first() {
+            None => SortId(0),
+            Some(rank) => sig.kind(rank.result),
+        },
+    }
+}
+
+/// The kind of a node.
+pub fn node_kind(sig: &Signature, table: &Table, i: usize) -> SortId
+    requires { i < length table.now.nodes }
+    ensures { (k : Sort) → HasKind sig.now (term_at table.now.nodes i) k → result ≡ k }
+{
+    table.recall_well_made();
+    match table.node(i) {
+        Node::Var(x) => sig.kind(x.sort),
+        Node::App(f, _) => operator_kind(sig, *f),
+    }
+}
+
+// For each node the variable that names its class, where the node names it.
+pub(crate) fn names_of(
+    alloc: Global,
+    sig: &Signature,
+    table: &Table,
+    first: u32,
+) -> Result<Vec<Var>, NoMemory>
+    requires { first + length table.now.nodes < 2 ^ 32 }
+    ensures { IfOk result (λ v. AreNames sig.now table.now first v.items) }
+{
+    table.recall_well_made();
+    let mut names = Vec::new(alloc);
+    let mut number = first;
+    for i in 0..table.nodes().len() {
+        names.push(Var {
+            name: number,
+            sort: node_kind(sig, table, i),
+            fresh: true,
+        })?;
+        number += 1;
+    }
+    Ok(names)
+}

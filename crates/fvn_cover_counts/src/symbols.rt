@@ -1,0 +1,74 @@
+//! The symbols of terms: variables and operators.
+ghost use Rattle.std.specs.Prelude.{◌≡◌};
+ghost use Rattle.fvn_terms.specs.Signature.{axioms};
+ghost use Rattle.fvn_forms.specs.Settled.{Settled};
+ghost use Rattle.fvn_cover_counts.specs.Weights.{same_symbol};
+ghost use Rattle.fvn_cover_counts.specs.inner.Heads.{is_sum, symbol_of, further};
+
+use fvn_flat::Flat;
+use fvn_sorts::Signature;
+use fvn_terms::{Axioms, OpId, Var};
+
+/// A variable or an operator.
+#[derive(Clone, Copy)]
+pub(crate) enum Symbol {
+    Variable(Var),
+    Operator(OpId),
+}
+
+// Whether the two are one symbol.
+pub(crate) fn is_same(a: Symbol, b: Symbol) -> bool
+    ensures { result ≡ same_symbol a b }
+{
+    match a {
+        Symbol::Variable(x) => match b {
+            Symbol::Variable(y) => x == y,
+            Symbol::Operator(_) => false,
+        },
+        Symbol::Operator(f) => match b {
+            Symbol::Variable(_) => false,
+            Symbol::Operator(g) => f == g,
+        },
+    }
+}
+
+// The symbol at the top of a term.
+pub(crate) fn top_symbol(t: &Flat) -> Symbol
+    ensures { result ≡ symbol_of t.now }
+{
+    match t.as_var() {
+        Some(x) => Symbol::Variable(x),
+        None => match t.head() {
+            Some(f) => Symbol::Operator(f),
+            None => Symbol::Operator(OpId(0)),
+        },
+    }
+}
+
+// Whether the operator is used between the arguments of its flat form.
+fn is_sum(sig: &Signature, f: OpId) -> bool
+    ensures { result ≡ is_sum (axioms sig.now f) }
+{
+    match sig.axioms(f) {
+        Axioms::Free => false,
+        Axioms::Comm => false,
+        Axioms::AssocComm => true,
+        Axioms::AssocCommId(_) => true,
+    }
+}
+
+// How often the symbol at the top stands there beyond once: a sum of n terms has n - 1 operators.
+pub(crate) fn further(sig: &Signature, t: &Flat) -> usize
+    requires { Settled sig.now t.now }
+    ensures { result ≡ further t.now }
+{
+    match t.head() {
+        None => 0,
+        Some(f) => {
+            if is_sum(sig, f) {
+                return t.args().len().saturating_sub(2);
+            }
+            0
+        }
+    }
+}

@@ -1,7 +1,0 @@
--- A rank with another number of arguments does not serve.
-use Rattle.std.proofs.Common.{sym}
-use Rattle.fvn_drafts.proofs.Serving.{pass_together-length}
-use Rattle.fvn_drafts.proofs.draft.Draft.serves.Goals as goal
-
-pub returns-then-args-rank : goal.returns-then-args-rank
-returns-then-args-rank c = sym (pass_together-length _ _ _ c.if-args-rank.true)

@@ -1,7 +1,0 @@
--- The variants so far are flat.
-use Rattle.std.specs.Prelude.{All}
-use Rattle.fvn_cover.specs.Covering.{IsFlatVariant}
-use Rattle.fvn_matching_tests.proofs.tests.variants.variants_of.Given as goal
-
-abbrev pub invariant-loop-part : goal.invariant-loop-part
-invariant-loop-part l = All (IsFlatVariant l.sig) l.all.items

@@ -1,8 +1,0 @@
--- The first of the numbers have the label.
-use Rattle.std.proofs.Common.{take}
-use Rattle.fvn_naming.specs.inner.Classes.{IsRelabelled}
-use Rattle.fvn_naming.proofs.classes.relabel.Given as goal
-
--- the first of the numbers have the label
-abbrev pub invariant-loop-i : goal.invariant-loop-i
-invariant-loop-i l = IsRelabelled l.fn.labels l.labels (take l.i-index l.listed) l.label

@@ -1,8 +1,0 @@
--- The names that are left are still to be put in.
-use Rattle.std.proofs.Common.{◌≡◌, drop}
-use Rattle.fvn_naming.specs.Names.{with_texts}
-use Rattle.fvn_naming.proofs.names.insert_all.Given as goal
-
--- the names that are left are still to be put in
-abbrev pub invariant-loop-name : goal.invariant-loop-name
-invariant-loop-name l = with_texts l.texts (drop l.name-index l.names) ≡ with_texts l.initial.texts l.names

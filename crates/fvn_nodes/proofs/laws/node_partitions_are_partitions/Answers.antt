@@ -1,6 +1,0 @@
--- The law, by its lemma.
-use Rattle.fvn_nodes.proofs.Places.{partitions_of_nodes}
-use Rattle.fvn_nodes.proofs.laws.node_partitions_are_partitions.Goals as goal
-
-pub returns : goal.returns
-returns c = partitions_of_nodes

@@ -1,6 +1,0 @@
--- The law, by its lemma.
-use Rattle.fvn_obeying.proofs.Falling.{ranked}
-use Rattle.fvn_obeying.proofs.laws.obeyed_choices_fall.Goals as goal
-
-pub returns : goal.returns
-returns c = ranked

@@ -1,6 +1,0 @@
--- The law, by its lemma.
-use Rattle.fvn_plans.proofs.Kinded.{tables_have_sums}
-use Rattle.fvn_obeying.proofs.laws.tables_have_sums.Goals as goal
-
-pub returns : goal.returns
-returns c = tables_have_sums

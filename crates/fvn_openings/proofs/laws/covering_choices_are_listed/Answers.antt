@@ -1,6 +1,0 @@
--- The lemma on choices that cover.
-use Rattle.fvn_openings.proofs.Covered.{covering_listed}
-use Rattle.fvn_openings.proofs.laws.covering_choices_are_listed.Goals as goal
-
-pub returns : goal.returns
-returns c d problem t made s closed r reading shared are y u choice covering = covering_listed d problem t s r reading shared are y u choice covering

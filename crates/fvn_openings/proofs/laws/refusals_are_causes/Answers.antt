@@ -1,6 +1,0 @@
--- The lemma on systems that are refused.
-use Rattle.fvn_openings.proofs.Refused.{are_causes}
-use Rattle.fvn_openings.proofs.laws.refusals_are_causes.Goals as goal
-
-pub returns : goal.returns
-returns c = are_causes c.node_partitions_are_partitions.ensures c.node_systems_are_sum_systems.ensures

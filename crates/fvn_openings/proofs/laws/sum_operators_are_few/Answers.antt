@@ -1,6 +1,0 @@
--- The lemma on sum operators.
-use Rattle.fvn_openings.proofs.Few.{few_sums}
-use Rattle.fvn_openings.proofs.laws.sum_operators_are_few.Goals as goal
-
-pub returns : goal.returns
-returns c = few_sums

@@ -1,6 +1,0 @@
--- The minimal solutions of the operators so far.
-use Rattle.fvn_openings.specs.inner.Walking.{AreBasesBelow}
-use Rattle.fvn_openings.proofs.opening.all_bases.Given as goal
-
-abbrev pub invariant-loop-i : goal.invariant-loop-i
-invariant-loop-i l = AreBasesBelow l.sums l.i l.bases.items

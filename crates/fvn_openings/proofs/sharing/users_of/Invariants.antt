@@ -1,7 +1,0 @@
--- The users among the operators so far.
-use Rattle.fvn_nodes.specs.States.{class_of}
-use Rattle.fvn_openings.specs.inner.Walking.{AreUsersBelow}
-use Rattle.fvn_openings.proofs.sharing.users_of.Given as goal
-
-abbrev pub invariant-loop-i : goal.invariant-loop-i
-invariant-loop-i l = AreUsersBelow l.sig l.table (class_of l.state) l.reading.sums l.k l.i l.users.items

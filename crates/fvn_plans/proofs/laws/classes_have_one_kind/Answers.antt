@@ -1,6 +1,0 @@
--- The law, by its lemma.
-use Rattle.fvn_plans.proofs.OneKind.{classes_have_one_kind}
-use Rattle.fvn_plans.proofs.laws.classes_have_one_kind.Goals as goal
-
-pub returns : goal.returns
-returns c = classes_have_one_kind c.unifiers_partition.ensures

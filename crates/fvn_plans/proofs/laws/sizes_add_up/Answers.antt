@@ -1,6 +1,0 @@
--- The law, by its lemma.
-use Rattle.fvn_plans.proofs.Sizes.{sizes_add_up}
-use Rattle.fvn_plans.proofs.laws.sizes_add_up.Goals as goal
-
-pub returns : goal.returns
-returns c = sizes_add_up c.counts_solve.ensures c.combinations_solve.ensures

@@ -1,6 +1,0 @@
--- Each is no longer than the other.
-use Rattle.fvn_promises.proofs.Counts.{one_count}
-use Rattle.fvn_promises.proofs.laws.complete_answers_have_one_count.Goals as goal
-
-pub returns : goal.returns
-returns c = one_count

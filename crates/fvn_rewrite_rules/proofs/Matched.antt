@@ -1,0 +1,36 @@
+-- Matchers of both sides of a rule.
+use Rattle.std.proofs.Common.{◌≡◌, Bool, true, false, List, [], ◌∷◌, ◌++◌, map, Option, Some, None, refl, sym, ◌∙◌, subst}
+use Rattle.std.specs.Prelude.{◌↔◌, is_some, IfSome, IsTrue}
+use Rattle.fvn_terms.specs.declared.declarations.Declarations.{Declarations}
+use Rattle.fvn_terms.specs.Substitution.{Substitution}
+use Rattle.fvn_forms.specs.Flat.{FlatTerm, plain}
+use Rattle.fvn_flat.specs.Fits.{AllFit}
+use Rattle.fvn_flat.specs.Bindings.{Bindings}
+use Rattle.fvn_flat.specs.Solving.{substitution}
+use Rattle.fvn_match.specs.Matching.{IsMatcher, HasNoMatcher, Matches}
+use Rattle.fvn_rewrite_rules.specs.declared.rule.Rule.{Rule}
+use Rattle.fvn_rewrite_rules.specs.Given.{HasInstance}
+use Rattle.fvn_rewrite_rules.specs.inner.Making.{IsKindedRule}
+
+module _ (d : Declarations) where
+  -- both sides of a rule
+  abbrev pub both : Rule → List FlatTerm
+  both rule = rule.left ∷ rule.right ∷ []
+
+  pub both_fit : (rule : Rule) → IsKindedRule d rule → (ts us : List FlatTerm) → ts ≡ rule.left ∷ [] → us ≡ rule.right ∷ [] → AllFit d (ts ++ us)
+  both_fit rule h ts us e f = rw (e, f) (record { flat = h.left; kinded = (h.kinds.kind, h.kinds.left) }, (record { flat = h.right; kinded = (h.kinds.kind, h.kinds.right) }, tt))
+
+  module _ (rule other : Rule) where
+    -- a matcher makes an instance
+    from_matcher : (s : Substitution) → IsMatcher d (map plain (both rule)) (map plain (both other)) s → HasInstance d rule other.left other.right
+    from_matcher s m = record { by = s; well_sorted = m.0; left = m.1.0; right = m.1.1.0 }
+
+    -- without one there is no instance
+    no_instance : HasNoMatcher d (both rule) (both other) → HasInstance d rule other.left other.right → ⊥
+    no_instance nothing h = nothing h.by (h.well_sorted, (h.left, (h.right, tt)))
+
+    -- what is found tells whether there is one
+    pub told : (ps ts : List FlatTerm) → ps ≡ both rule → ts ≡ both other → (o : Option Bindings) (b : Bool) → b ≡ is_some o →
+        IfSome o (Matches d ps ts) → (o ≡ None → HasNoMatcher d ps ts) → IsTrue b ↔ HasInstance d rule other.left other.right
+    told ps ts e f None b is some nothing = (λ t. (let q : true ≡ false = sym t ∙ is in cc), λ h. absurd (no_instance (subst (λ l. HasNoMatcher d l (both other)) e (subst (HasNoMatcher d ps) f (nothing refl))) h))
+    told ps ts e f (Some s) b is some nothing = (λ t. from_matcher (substitution s) (subst (λ l. Matches d l (both other) s) e (subst (λ l. Matches d ps l s) f some)), λ h. is)

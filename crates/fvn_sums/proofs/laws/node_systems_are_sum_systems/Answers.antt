@@ -1,6 +1,0 @@
--- The law, by its lemma.
-use Rattle.fvn_sums.proofs.OfProblems.{system_of_problem}
-use Rattle.fvn_sums.proofs.laws.node_systems_are_sum_systems.Goals as goal
-
-pub returns : goal.returns
-returns c = system_of_problem

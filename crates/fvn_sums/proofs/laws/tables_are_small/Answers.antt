@@ -1,6 +1,0 @@
--- The law, by its lemma.
-use Rattle.fvn_sums.proofs.Sizes.{tables_small}
-use Rattle.fvn_sums.proofs.laws.tables_are_small.Goals as goal
-
-pub returns : goal.returns
-returns c = tables_small

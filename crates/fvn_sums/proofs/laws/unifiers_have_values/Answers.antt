@@ -1,6 +1,0 @@
--- The law, by its lemma and the law of partitions.
-use Rattle.fvn_sums.proofs.Substituted.{unifiers_have_values}
-use Rattle.fvn_sums.proofs.laws.unifiers_have_values.Goals as goal
-
-pub returns : goal.returns
-returns c = unifiers_have_values c.unifiers_partition.ensures

@@ -1,6 +1,0 @@
--- The law, by its lemma.
-use Rattle.fvn_sums.proofs.Substituted.{values_given}
-use Rattle.fvn_sums.proofs.laws.values_are_given.Goals as goal
-
-pub returns : goal.returns
-returns c = values_given

@@ -1,6 +1,0 @@
--- The law, by its lemma.
-use Rattle.fvn_supports.proofs.Combining.{combination_solves}
-use Rattle.fvn_supports.proofs.laws.combinations_solve.Goals as goal
-
-pub returns : goal.returns
-returns c = combination_solves

@@ -1,6 +1,0 @@
--- The law, by its lemma.
-use Rattle.fvn_supports.proofs.Choosing.{chooses}
-use Rattle.fvn_supports.proofs.laws.pieces_choose.Goals as goal
-
-pub returns : goal.returns
-returns c = chooses

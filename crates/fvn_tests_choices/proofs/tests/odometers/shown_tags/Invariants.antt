@@ -1,0 +1,6 @@
+-- Each list that is shown leaves fewer.
+use Rattle.fvn_acunify_product.specs.Tags.{tags_left}
+use Rattle.fvn_tests_choices.proofs.tests.odometers.shown_tags.Given as goal
+
+abbrev pub decreases-loop-numbers : goal.decreases-loop-numbers
+decreases-loop-numbers l = tags_left l.tags

@@ -1,0 +1,59 @@
+//! Modules and problems with what is replied.
+use fvn_cmd::Status;
+use fvn_cmd_unify::unify_reply;
+use fvn_terms::NoMemory;
+use std::alloc::Global;
+use std::process::Abort;
+use std::string::String;
+
+// Sums with and without an identity over elements, a free and a commutative operator, and a long tower's operator.
+const MODULE: &str =
+    "fmod M is sorts E S . subsort E < S . ops a b : -> E . op z : -> S . op s : S -> S . op p : S S -> S . op c : S S -> S [comm] . op _+_ : S S -> S [assoc comm] . op _;_ : S S -> S [assoc comm id: z] . vars X Y Z : S . vars A B : E . endfm";
+
+// A problem, the number of the status, and the lines of the text.
+const REPLIES: &str = "X =? s(Y) => 0 {X:S --> s(#1:S), Y:S --> #1:S} | complete 1
+p(X,a) =? p(b,Y) => 0 {X:S --> b, Y:S --> a} | complete 1
+A =? X => 0 {A:E --> #1:E, X:S --> #1:E} | complete 1
+c(X,a) =? c(b,Y) => 0 {X:S --> b, Y:S --> a} | complete 1
+_+_(X,a) =? _+_(Y,b) => 0 {X:S --> _+_(#1:S,b), Y:S --> _+_(#1:S,a)} | {X:S --> b, Y:S --> a} | complete 2
+_;_(X,a) =? _;_(Y,b) => 0 {X:S --> _;_(#1:S,b), Y:S --> _;_(#1:S,a)} | complete 1
+X =? a /\\ Y =? s(X) => 0 {X:S --> a, Y:S --> s(a)} | complete 1
+X =? X => 0 {X:S --> #1:S} | complete 1
+a =? b => 1 complete 0
+A =? _+_(X,Y) => 1 complete 0
+X =? s(X) => 1 complete 0
+X =? => 4 problem 2
+_+_(X,X,Y,Y,Z) =? _+_(A,B,C:S,D:S,E:S,F:S) => 5 bound basis _+_";
+
+// The number of a status.
+fn number_of(status: Status) -> &'static str {
+    match status {
+        Status::Solved => "0",
+        Status::Nothing => "1",
+        Status::ProblemRefused => "4",
+        Status::Ended => "5",
+        _ => "another",
+    }
+}
+
+// The reply to a problem has this number and these lines.
+fn assert_reply(rt: &impl Abort, alloc: Global, problem: &str, said: &str) -> Result<(), NoMemory> {
+    let (number, lines) = said.split_once(" ").unwrap_or((said, ""));
+    let reply = unify_reply(alloc, MODULE.as_bytes(), problem.as_bytes())?;
+    let mut text = String::from_str(alloc, "")?;
+    for line in lines.split(" | ") {
+        text = format!(in alloc; "{text}{line}\n")?;
+    }
+    assert_eq!(rt; number_of(reply.status), number, "{problem}");
+    assert!(rt; reply.text.as_slice() == text.as_bytes(), "{problem}");
+    Ok(())
+}
+
+#[test]
+fn problems_are_replied_to(rt: HostRuntime) -> Result<(), NoMemory> {
+    for row in REPLIES.lines() {
+        let (problem, said) = row.split_once(" => ").unwrap_or((row, "no arrow"));
+        assert_reply(&rt, rt.alloc(), problem, said)?;
+    }
+    Ok(())
+}

@@ -1,0 +1,2 @@
+-- The words of equations and of what is asked of them.
+pub mod Equations

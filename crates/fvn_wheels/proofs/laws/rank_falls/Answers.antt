@@ -1,6 +1,0 @@
--- The law is a lemma.
-use Rattle.fvn_wheels.proofs.Ranks.{rank_less}
-use Rattle.fvn_wheels.proofs.laws.rank_falls.Goals as goal
-
-pub returns : goal.returns
-returns c = rank_less
