@@ -6,11 +6,12 @@ import sys
 import tempfile
 
 from . import ask, flat, heed, places, rules, source, texts, told
+from .source import bytes_of, text_of
 
 # The name of the module that stands for an expression.
 WRAPPER = "FVN-ASKED"
-# So many faults are told.
-MOST = 10
+# So many faults are told, each with so many bytes of its statement.
+MOST, WIDEST = 10, 300
 # The kinds of modules that go in.
 SHOWN = ("fmod", "mod", "omod")
 
@@ -32,7 +33,7 @@ def main(words, top, usage):
     sys.setrecursionlimit(6000)
     closed = [it for it in (0, 1, 2) if held_open(it)]
     try:
-        text, notes = Bridge(words, top, usage).written()
+        text, notes = Bridge([text_of(os.fsencode(it)) for it in words], top, usage).written()
     except (Usage, ask.Missing) as it:
         tell(str(it))
         return 2
@@ -73,7 +74,7 @@ def held_open(stream):
 
 def write(stream, text):
     """Writes the whole text to a stream of the process."""
-    left = text.encode("utf-8", "surrogateescape")
+    left = bytes_of(text)
     while left:
         left = left[os.write(stream, left):]
 
@@ -90,6 +91,7 @@ def sentence(fault):
     """The place, the statement and the reason, as far as they are known."""
     place = f"{fault.file}, line {fault.line}: " if fault.line else f"{fault.file}: " if fault.file else ""
     statement = " ".join(fault.statement.split())
+    statement = statement if len(statement) <= WIDEST else statement[:WIDEST] + " .."
     return f"{place}{statement}{': ' if statement else ''}{fault.reason}"
 
 
@@ -169,7 +171,7 @@ class Bridge:
 
     def mixed_lines(self):
         """The lines to be written back: those in braces as bindings, the others as they are."""
-        lines = self.said or sys.stdin.buffer.read().decode("utf-8", "surrogateescape").split("\n")
+        lines = self.said or text_of(sys.stdin.buffer.read()).split("\n")
         lines = lines[:-1] if lines[-1:] == [""] else lines
         return [texts_of(it)[0] if it.startswith("{") else it for it in lines]
 
@@ -324,9 +326,9 @@ def texts_of(said):
 def ran(words, text):
     """The status of the program, and the last line that it writes."""
     try:
-        done = subprocess.run(words, input=text.encode("utf-8", "surrogateescape"), stdout=subprocess.PIPE,
+        done = subprocess.run(words, input=bytes_of(text), stdout=subprocess.PIPE,
                               stderr=subprocess.DEVNULL, check=False)
     except OSError as it:
         raise ask.Missing(f"{words[0]} does not start: {it.strerror}") from None
-    lines = done.stdout.decode("utf-8", "surrogateescape").splitlines()
+    lines = text_of(done.stdout).splitlines()
     return done.returncode, lines[-1] if lines else ""

@@ -28,7 +28,7 @@ def texts_of(said):
     words = without_dot(tokens(said))
     if not words:
         raise Refused("the text is empty")
-    if any(it.text == "-->" for it in words) or [it.text for it in words] == ["{", "}"]:
+    if arrows_of(within(words)) or [it.text for it in words] == ["{", "}"]:
         return [bindings_of(said, said)]
     return [problem_of(words, said)]
 
@@ -87,6 +87,17 @@ def problem_of(words, said):
     return Text(said, rows, [f" {words[n].text} " for n in cuts], "problem" if equal else "term")
 
 
+def within(words):
+    """The tokens between the braces that stand around them, where there are some."""
+    return words[1:-1] if len(words) > 1 and (words[0].text, words[-1].text) == ("{", "}") else words
+
+
+def arrows_of(words):
+    """Where the arrows of bindings stand."""
+    level = depths(words)
+    return [n for n, it in enumerate(words) if it.text == "-->" and level[n] == 0]
+
+
 def variable_start(words, end):
     """Where the variable begins that ends in front of this place; its sort may have braces or brackets."""
     at, depth = end - 1, 0
@@ -103,11 +114,9 @@ def bindings_of(text, said):
     words = without_dot(tokens(text))
     if [it.text for it in words] in ([], ["{", "}"], ["empty", "substitution"]):
         return Text(said, [], [], "bindings")
-    braces = words[0].text == "{" and words[-1].text == "}"
-    if braces:
-        words = words[1:-1]
-    depths(words)
-    arrows = [n for n, it in enumerate(words) if it.text == "-->"]
+    inner = within(words)
+    braces, words = inner != words, inner
+    arrows = arrows_of(words)
     starts = [variable_start(words, n) for n in arrows]
     rows, signs = [], []
     if not starts or starts[0] != 0:
