@@ -54,7 +54,8 @@ def environment_of(command, folder):
 def asked(command, folder, head, questions):
     """What Maude, in this folder, writes on standard output for each of these questions, and what it warns of.
 
-    Between two questions it is asked where it is, which cuts its answers; each question is one line."""
+    Between two questions it is asked where it is, which cuts its answers; each question is one line. Where it did not
+    come to the end of the questions, it gave no answer to any."""
     mark = os.path.realpath(folder)
     text = "".join(f"{it}\n" for it in head) + "pwd\n" + "".join(f"{it}\npwd\n" for it in questions)
     ran = subprocess.run([*command, *FLAGS], input=bytes_of(text), cwd=mark,
@@ -63,8 +64,7 @@ def asked(command, folder, head, questions):
     parts = re.split(rf"^{re.escape(mark)}\n", said, flags=re.M)
     warnings = warnings_of(text_of(ran.stderr), len(head) + 2)
     if len(parts) != len(questions) + 2:
-        last = warnings[-1].text if warnings else f"it ended with status {ran.returncode}"
-        raise Missing(f"Maude did not answer to the end: {last}")
+        return [], warnings
     return [it.strip("\n") for it in parts[1:-1]], warnings
 
 

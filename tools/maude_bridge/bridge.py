@@ -185,7 +185,9 @@ class Bridge:
         questions = ["show all .", f"set print mixfix {'on' if self.mixfix else 'off'} ."]
         questions += [f"parse ( {' '.join(it.text for it in term)} ) ." for term in terms]
         said, warned = ask.asked(self.command, folder, head, questions)
-        stop(self.heed.module_faults([it for it in warned if it.question < 2], self.program))
+        stop(self.heed.module_faults([it for it in warned if it.question < 2 or not said], self.program))
+        if not said:
+            raise ask.Missing("Maude did not answer to the end")
         if said[0].split()[1:2] != [self.asked]:
             raise self.missing(said[0], warned)
         faults = []
