@@ -49,6 +49,9 @@ def main(words, top, usage):
     except RecursionError:
         tell("a term is too deep")
         return 1
+    except OSError as it:
+        tell(f"{it.filename or 'a process'}: {it.strerror}")
+        return 2
     for it in notes:
         tell(it)
     try:
