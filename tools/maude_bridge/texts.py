@@ -9,7 +9,8 @@ OPEN, CLOSED = {"(": 1, "[": 1, "{": 1}, {")": -1, "]": -1, "}": -1}
 
 
 class Text:
-    """A text as pieces: terms, each a row of tokens, with the signs between them. Bindings have braces around them."""
+    """A text as pieces: terms, each a row of tokens, with the signs between them. Bindings have braces around them;
+    those of a variant stand behind its term."""
 
     def __init__(self, said, terms, signs, kind):
         self.said, self.terms, self.signs, self.kind = said, terms, signs, kind
@@ -17,6 +18,8 @@ class Text:
     def joined(self, terms):
         """The text with these terms in place of its own."""
         inside = "".join(term + sign for term, sign in zip(terms, [*self.signs, ""]))
+        if self.kind == "variant":
+            inside = f"{terms[0]} {{{inside[len(terms[0]):]}}}"
         text = "{" + inside + "}" if self.kind == "bindings" else inside
         return " " + text if text.startswith("-") else text
 
@@ -31,6 +34,17 @@ def texts_of(said):
     if arrows_of(within(words)) or [it.text for it in words] == ["{", "}"]:
         return [bindings_of(said, said)]
     return [problem_of(words, said)]
+
+
+def line_of(said):
+    """A line of an answer of fvn as a text, where it has braces: bindings, or a term and bindings."""
+    if said.startswith("{") and said.endswith("}"):
+        return bindings_of(said, said)
+    term, _, rest = said.partition(" ")
+    if rest.startswith("{") and rest.endswith("}"):
+        bindings = bindings_of(rest, said)
+        return Text(said, [tokens(term), *bindings.terms], [*[""][:len(bindings.terms)], *bindings.signs], "variant")
+    return said
 
 
 def without_dot(words):
