@@ -25,13 +25,13 @@ import tempfile
 TOP = os.path.dirname(os.path.dirname(os.path.realpath(__file__)))
 sys.path.insert(0, os.path.join(TOP, "tools"))
 sys.dont_write_bytecode = True
-from maude_bridge import ask  # noqa: E402
+from maude_bridge import ask, bridge as the_bridge  # noqa: E402
 
 MIXFIX, FLATTENED = f"{TOP}/examples/mixfix", f"{TOP}/examples/flattened"
 # What the first lines of a case tell.
 TOLD = ("call", "status", "says", "writes", "without", "needs")
 # So many unifiers of a problem are verified.
-MOST = 12
+MOST = 8
 
 # Commands in a folder with `a file.maude`, which has VENDING, and the status that each must have.
 STREAMS = [("a path with spaces", 'exec ./from-maude "a file.maude" VENDING "M =? q"', 0),
@@ -183,21 +183,13 @@ def streams():
             yield f"{what}: {'holds' if status == wanted else f'status {status}'}", status == wanted
 
 
-def built():
-    """The program fvn, where there is one."""
-    for it in (os.environ.get("FVN_PROGRAM"), f"{TOP}/crates/fvn/out/fvn", shutil.which("fvn")):
-        if it and os.access(it, os.X_OK) and not os.path.isdir(f"{os.path.dirname(os.path.realpath(it))}/crates"):
-            return it
-    return None
-
-
 def main(words):
     try:
-        maude = ask.command_of(os.environ.get("FVN_MAUDE") or "maude")
-    except ask.Missing as it:
+        maude, program = ask.command_of(os.environ.get("FVN_MAUDE") or "maude"), the_bridge.found_program(TOP)
+    except (ask.Missing, the_bridge.Usage) as it:
         print(f"{it}: nothing is tried")
         return 2
-    program, held, failed = built(), 0, 0
+    held, failed = 0, 0
     for line, holds in tries(words, maude, program):
         print(line, flush=True)
         held, failed = held + holds, failed + (not holds)

@@ -6,11 +6,12 @@ import sys
 import tempfile
 
 from . import ask, flat, heed, places, rules, source, texts, told
+from .source import bytes_of, text_of
 
 # The name of the module that stands for an expression.
 WRAPPER = "FVN-ASKED"
-# So many faults are told.
-MOST = 10
+# So many faults are told, each with so many bytes of its statement.
+MOST, WIDEST = 10, 300
 # The kinds of modules that go in.
 SHOWN = ("fmod", "mod", "omod")
 
@@ -32,7 +33,7 @@ def main(words, top, usage):
     sys.setrecursionlimit(6000)
     closed = [it for it in (0, 1, 2) if held_open(it)]
     try:
-        text, notes = Bridge(words, top, usage).written()
+        text, notes = Bridge([text_of(os.fsencode(it)) for it in words], top, usage).written()
     except (Usage, ask.Missing) as it:
         tell(str(it))
         return 2
@@ -48,6 +49,9 @@ def main(words, top, usage):
     except RecursionError:
         tell("a term is too deep")
         return 1
+    except OSError as it:
+        tell(f"{it.filename or 'a process'}: {it.strerror}")
+        return 2
     for it in notes:
         tell(it)
     try:
@@ -73,7 +77,7 @@ def held_open(stream):
 
 def write(stream, text):
     """Writes the whole text to a stream of the process."""
-    left = text.encode("utf-8", "surrogateescape")
+    left = bytes_of(text)
     while left:
         left = left[os.write(stream, left):]
 
@@ -90,6 +94,7 @@ def sentence(fault):
     """The place, the statement and the reason, as far as they are known."""
     place = f"{fault.file}, line {fault.line}: " if fault.line else f"{fault.file}: " if fault.file else ""
     statement = " ".join(fault.statement.split())
+    statement = statement if len(statement) <= WIDEST else statement[:WIDEST] + " .."
     return f"{place}{statement}{': ' if statement else ''}{fault.reason}"
 
 
@@ -98,11 +103,28 @@ def stop(faults):
         raise Said(faults)
 
 
+def found_program(top):
+    """The built program fvn, where there is one: as it is named, beside this script, or on the path. A script of that
+    name in another such folder stands for the program that it built."""
+    named = os.environ.get("FVN_PROGRAM")
+    if named:
+        if not shutil.which(named):
+            raise Usage(f"FVN_PROGRAM is {named}, and there is no such program")
+        return os.path.abspath(shutil.which(named))
+    built = os.path.join("crates", "fvn", "out", "fvn")
+    if os.access(os.path.join(top, built), os.X_OK):
+        return os.path.join(top, built)
+    found = shutil.which("fvn")
+    beside = os.path.dirname(os.path.realpath(found)) if found else ""
+    if found and os.path.isdir(os.path.join(beside, "crates")):
+        found = shutil.which(os.path.join(beside, built))
+    return os.path.abspath(found) if found else None
+
+
 class Bridge:
     """One call: its words, the user's sources, and what Maude said."""
 
     def __init__(self, words, top, usage):
-        self.top = top
         self.mixfix = words[:1] == ["--mixfix"]
         words = words[1:] if self.mixfix else words
         if len(words) < 2 or words[0].startswith("--"):
@@ -113,28 +135,12 @@ class Bridge:
         if not os.path.exists(self.file):
             raise Usage(f"there is no file {self.file}")
         self.command = ask.command_of(os.environ.get("FVN_MAUDE") or "maude")
-        self.program = self.found_program()
+        self.program = found_program(top)
         self.name = source.tokens(self.module)
         if not self.name or {".", *source.ENDS.values()} & {it.text for it in self.name}:
             raise Usage(f"`{self.module}` is no name of a module and no expression")
         # The name by which Maude is asked.
         self.asked = self.name[0].text if len(self.name) == 1 else WRAPPER
-
-    def found_program(self):
-        """The built program fvn, where there is one; the script of that name is none."""
-        named = os.environ.get("FVN_PROGRAM")
-        if named:
-            if not shutil.which(named):
-                raise Usage(f"FVN_PROGRAM is {named}, and there is no such program")
-            return os.path.abspath(shutil.which(named))
-        built = os.path.join("crates", "fvn", "out", "fvn")
-        if os.access(os.path.join(self.top, built), os.X_OK):
-            return os.path.join(self.top, built)
-        found = shutil.which("fvn")
-        beside = os.path.dirname(os.path.realpath(found)) if found else ""
-        if found and os.path.isdir(os.path.join(beside, "crates")):
-            found = shutil.which(os.path.join(beside, built))
-        return os.path.abspath(found) if found else None
 
     def written(self):
         """The text for standard output, and what is to be said beside it."""
@@ -147,7 +153,7 @@ class Bridge:
             self.places = places.Places(self.sources, known, self.name)
             self.heed = heed.Heed(self.sources, known, met, self.places.operator_names())
             self.judge_name()
-            lines = self.mixed_lines() if self.mixfix else [it for one in self.said for it in texts_of(one)]
+            lines = self.lines()
             answers = self.answers(folder, [it for it in lines if isinstance(it, texts.Text)])
         ruled = self.ruled(answers[0])
         if self.mixfix:
@@ -167,11 +173,13 @@ class Bridge:
         if part and part.parameters:
             raise source.Refused(instance_of(part.name, part.parameters), file=part.file, line=part.line)
 
-    def mixed_lines(self):
-        """The lines to be written back: those in braces as bindings, the others as they are."""
-        lines = self.said or sys.stdin.buffer.read().decode("utf-8", "surrogateescape").split("\n")
+    def lines(self):
+        """The texts that are asked for; lines to be written back that have no bindings stay as they are."""
+        if not self.mixfix:
+            return [it for one in self.said for it in refusing(texts.texts_of, one)]
+        lines = self.said or text_of(sys.stdin.buffer.read()).split("\n")
         lines = lines[:-1] if lines[-1:] == [""] else lines
-        return [texts_of(it)[0] if it.startswith("{") else it for it in lines]
+        return [refusing(texts.line_of, it) for it in lines]
 
     def answers(self, folder, lines):
         """What Maude answers: the flattened module, and for each line its terms."""
@@ -183,7 +191,9 @@ class Bridge:
         questions = ["show all .", f"set print mixfix {'on' if self.mixfix else 'off'} ."]
         questions += [f"parse ( {' '.join(it.text for it in term)} ) ." for term in terms]
         said, warned = ask.asked(self.command, folder, head, questions)
-        stop(self.heed.module_faults([it for it in warned if it.question < 2], self.program))
+        stop(self.heed.module_faults([it for it in warned if it.question < 2 or not said], self.program))
+        if not said:
+            raise ask.Missing("Maude did not answer to the end")
         if said[0].split()[1:2] != [self.asked]:
             raise self.missing(said[0], warned)
         faults = []
@@ -313,10 +323,10 @@ def instance_of(name, parameters):
     return f"{name} has {has}: name an instance, as `{name}{{V}}`, with a view V"
 
 
-def texts_of(said):
-    """The texts of a word of the command line; a refusal has the word with it."""
+def refusing(cut, said):
+    """The texts that a word or a line is cut into; a refusal has it with it."""
     try:
-        return texts.texts_of(said)
+        return cut(said)
     except source.Refused as it:
         raise source.Refused(it.reason, said) from None
 
@@ -324,9 +334,9 @@ def texts_of(said):
 def ran(words, text):
     """The status of the program, and the last line that it writes."""
     try:
-        done = subprocess.run(words, input=text.encode("utf-8", "surrogateescape"), stdout=subprocess.PIPE,
+        done = subprocess.run(words, input=bytes_of(text), stdout=subprocess.PIPE,
                               stderr=subprocess.DEVNULL, check=False)
     except OSError as it:
         raise ask.Missing(f"{words[0]} does not start: {it.strerror}") from None
-    lines = done.stdout.decode("utf-8", "surrogateescape").splitlines()
+    lines = text_of(done.stdout).splitlines()
     return done.returncode, lines[-1] if lines else ""

@@ -2,10 +2,12 @@
 import re
 from typing import NamedTuple
 
+from .source import Refused
+
 SORT = r"(?:\[[^\]]*\]|[^\s\[\]]+)"
-OPERATOR = re.compile(rf"op (.*) : ((?:{SORT} )*)[-~]> ({SORT})(?: \[(.*)\])? \.", re.S)
+OPERATOR = re.compile(rf"op (.*) : ((?:{SORT} )*)[-~]> ({SORT})(?: \[(.*)\])? \.", re.S | re.A)
 ITERATED = re.compile(r"(.*)\^([1-9][0-9]*)")
-LABELLED = re.compile(r"\[([^\s\]]+)\] : (.*)", re.S)
+LABELLED = re.compile(r"\[([^\s\]]+)\] : (.*)", re.S | re.A)
 WITH_WORD = ("prec", "label", "metadata")
 WITH_GROUP = ("gather", "format", "strat", "poly", "special", "latex")
 # So often at most an operator that Maude iterates is written out; fvn takes no term of more symbols.
@@ -28,7 +30,7 @@ class Unlike(Exception):
 
 def quoted(name):
     """The name as one word: a backquote in each space, and in front of each bracket, brace and comma."""
-    name = re.sub(r"\s+", "`", name.strip())
+    name = re.sub(r"\s+", "`", name.strip(), flags=re.A)
     return re.sub(r"`?([()\[\]{},])", r"`\1", name)
 
 
@@ -100,7 +102,7 @@ def written(term, iterated=frozenset()):
     if match and match[1] in iterated:
         name, times = match[1], int(match[2])
     if times > LONGEST:
-        raise Unlike(term.name)
+        raise Refused(f"{name} is iterated over {LONGEST} times, and fvn takes no term of so many symbols")
     inside = ", ".join(written(it, iterated) for it in term.arguments)
     return (name + "(") * times + inside + ")" * times if term.arguments else quoted_sorts(name)
 

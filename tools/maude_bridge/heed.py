@@ -56,6 +56,10 @@ class Heed:
         line = group[0].line - words[0].startswith("unable to locate file")
         if own and not statement:
             statement = self.sources.statement_at(file, line)
+        part = self.sources.module(group[0].name)
+        if not file and part:
+            # Maude read on behind the file, since it did not see the end of this module.
+            file, line = part.file, part.line
         reason = f"Maude does not read it as it stands: {distinct(words)}"
         reason += self.hint(bad(words) + statement.split())
         return Refused(reason, statement, file, line if file else 0)

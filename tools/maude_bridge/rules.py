@@ -122,9 +122,9 @@ class Ruled:
     def judge_names(self):
         """Tells of bytes outside ASCII, and of one name with several numbers or kinds of arguments."""
         for line, statement in zip(self.lines, self.origins):
-            odd = next((it for it in line.split() if not it.isascii()), None)
+            odd = re.search(r"[^ ]*[^ -~][^ ]*", line)
             if odd:
-                reason = f"the name {odd} has a byte outside ASCII, which fvn reads in comments alone"
+                reason = f"the name {odd[0]} has a byte outside ASCII, which fvn reads in comments alone"
                 self.faults.append(Fault(statement, reason))
         kinds, first = kinds_of(self.flat), {}
         for statement, operator in self.flat.operators.items():

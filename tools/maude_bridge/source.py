@@ -15,9 +15,18 @@ STATEMENTS = {"protecting", "pr", "including", "inc", "extending", "ex", "genera
               "subsort", "subsorts", "op", "ops", "var", "vars", "mb", "cmb", "eq", "ceq", "cq", "rl", "crl", "class",
               "classes", "subclass", "subclasses", "msg", "msgs", "strat", "strats", "sd", "csd"}
 PIECE = re.compile(r'[ \t\r\f\v]+|\n|(?:\*\*\*|---)[ \t]*\(|(?:\*\*\*|---)[^\n]*|[()\[\]{},]'
-                   r'|(?:"(?:[^"\\\n]|\\.)*"|`[\S]|[^\s()\[\]{},"`]|"|`)+')
+                   r'|(?:"(?:[^"\\\n]|\\.)*"|`[\S]|[^\s()\[\]{},"`]|"|`)+', re.A)
+FILE = re.compile(r'\s*(?:"((?:[^"\\]|\\.)*)"|((?:\\.|[^\s\\"])+))', re.A)
 
-FILE = re.compile(r'\s*(?:"((?:[^"\\]|\\.)*)"|((?:\\.|[^\s\\"])+))')
+
+
+def text_of(held):
+    """Bytes as a text in which each byte outside ASCII is a sign of its own, and none of them a space."""
+    return held.decode("ascii", "surrogateescape")
+
+
+def bytes_of(text):
+    return text.encode("ascii", "surrogateescape")
 
 
 class Refused(Exception):
@@ -43,7 +52,7 @@ def tokens(text, file=""):
         word, end = piece[0], piece.end()
         if word[:3] in ("***", "---") and word.endswith("(") and not word[3:-1].strip():
             end = behind_comment(text, end, file, line)
-        elif not word.isspace() and word[:3] not in ("***", "---"):
+        elif word[0] not in " \t\r\f\v\n" and word[:3] not in ("***", "---"):
             found.append(Token(word, line, at, end))
         line += text.count("\n", at, end)
         at = end
@@ -125,14 +134,14 @@ class Sources:
         real = os.path.realpath(file)
         if real in above:
             raise Refused("the file loads itself", file=file, line=1)
-        with open(file, encoding="utf-8-sig", errors="surrogateescape", newline="") as it:
-            text = it.read().replace("\r\n", "\n").replace("\r", "\n")
+        with open(file, "rb") as it:
+            text = text_of(it.read().removeprefix(b"\xef\xbb\xbf")).replace("\r\n", "\n").replace("\r", "\n")
         name = f"{len(self.files)}.maude"
         self.files.append(file)
         kept = Copy(text)
         self.read(Reader(tokens(text, file)), file, kept, [*above, real])
-        with open(f"{self.folder}/{name}", "w", encoding="utf-8", errors="surrogateescape") as it:
-            it.write(kept.text())
+        with open(f"{self.folder}/{name}", "wb") as it:
+            it.write(bytes_of(kept.text()))
         return name
 
     def read(self, reader, file, kept, above):

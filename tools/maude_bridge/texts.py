@@ -9,7 +9,8 @@ OPEN, CLOSED = {"(": 1, "[": 1, "{": 1}, {")": -1, "]": -1, "}": -1}
 
 
 class Text:
-    """A text as pieces: terms, each a row of tokens, with the signs between them. Bindings have braces around them."""
+    """A text as pieces: terms, each a row of tokens, with the signs between them. Bindings have braces around them;
+    those of a variant stand behind its term."""
 
     def __init__(self, said, terms, signs, kind):
         self.said, self.terms, self.signs, self.kind = said, terms, signs, kind
@@ -17,6 +18,8 @@ class Text:
     def joined(self, terms):
         """The text with these terms in place of its own."""
         inside = "".join(term + sign for term, sign in zip(terms, [*self.signs, ""]))
+        if self.kind == "variant":
+            inside = f"{terms[0]} {{{inside[len(terms[0]):]}}}"
         text = "{" + inside + "}" if self.kind == "bindings" else inside
         return " " + text if text.startswith("-") else text
 
@@ -28,9 +31,20 @@ def texts_of(said):
     words = without_dot(tokens(said))
     if not words:
         raise Refused("the text is empty")
-    if any(it.text == "-->" for it in words) or [it.text for it in words] == ["{", "}"]:
+    if arrows_of(within(words)) or [it.text for it in words] == ["{", "}"]:
         return [bindings_of(said, said)]
     return [problem_of(words, said)]
+
+
+def line_of(said):
+    """A line of an answer of fvn as a text, where it has braces: bindings, or a term and bindings."""
+    if said.startswith("{") and said.endswith("}"):
+        return bindings_of(said, said)
+    term, _, rest = said.partition(" ")
+    if rest.startswith("{") and rest.endswith("}"):
+        bindings = bindings_of(rest, said)
+        return Text(said, [tokens(term), *bindings.terms], [*[""][:len(bindings.terms)], *bindings.signs], "variant")
+    return said
 
 
 def without_dot(words):
@@ -87,6 +101,17 @@ def problem_of(words, said):
     return Text(said, rows, [f" {words[n].text} " for n in cuts], "problem" if equal else "term")
 
 
+def within(words):
+    """The tokens between the braces that stand around them, where there are some."""
+    return words[1:-1] if len(words) > 1 and (words[0].text, words[-1].text) == ("{", "}") else words
+
+
+def arrows_of(words):
+    """Where the arrows of bindings stand."""
+    level = depths(words)
+    return [n for n, it in enumerate(words) if it.text == "-->" and level[n] == 0]
+
+
 def variable_start(words, end):
     """Where the variable begins that ends in front of this place; its sort may have braces or brackets."""
     at, depth = end - 1, 0
@@ -103,11 +128,9 @@ def bindings_of(text, said):
     words = without_dot(tokens(text))
     if [it.text for it in words] in ([], ["{", "}"], ["empty", "substitution"]):
         return Text(said, [], [], "bindings")
-    braces = words[0].text == "{" and words[-1].text == "}"
-    if braces:
-        words = words[1:-1]
-    depths(words)
-    arrows = [n for n, it in enumerate(words) if it.text == "-->"]
+    inner = within(words)
+    braces, words = inner != words, inner
+    arrows = arrows_of(words)
     starts = [variable_start(words, n) for n in arrows]
     rows, signs = [], []
     if not starts or starts[0] != 0:
