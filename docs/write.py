@@ -66,9 +66,10 @@ This page is written by `docs/write.py` from `crates/*/README.md`.
 PROMISE_HEAD = """# The definitions under the report
 
 What `IsReport` leads to, the definition that the contract of `run` states of each run: {total} definitions of {crates}
-crates, from the theorem down. Whoever reads these, and believes that they say what they should, has to trust the
-checker alone for the rest. A crate stands after those that cite it, and its files in the order in which they are
-first cited; a crate's types are those of its code that the definitions name.
+crates, from the theorem down. Whoever has read these, with the words of Rattle's own library that they use (numbers,
+lists, bytes), knows what is proved of a run; that it holds is the checker's word. A crate stands after those that
+cite it, and its files in the order in which they are first cited; a crate's types are those of its code that the
+definitions name. Each file opens with a sentence and has its definitions in full.
 
 {inner} of them mirror code, in `specs/inner/`; {leaning} others cite one of these.
 
