@@ -151,7 +151,7 @@ class Bridge:
                 raise Usage(f"{it.filename or self.file} cannot be read: {it.strerror}") from None
             known, met = self.sources.reach([it.text for it in self.name])
             self.places = places.Places(self.sources, known, self.name)
-            self.heed = heed.Heed(self.sources, known, met, self.places.operator_names())
+            self.heed = heed.Heed(self.sources, known, met, self.places)
             self.judge_name()
             lines = self.lines()
             answers = self.answers(folder, [it for it in lines if isinstance(it, texts.Text)])
