@@ -281,7 +281,7 @@ class Bridge:
         for line, row in zip(lines, answers):
             try:
                 terms = [flat.term_of(it.partition(": ")[2]) for it in row]
-                written = line.joined([flat.written(it, self.flat.iterated) for it in terms])
+                parts = [flat.written(it, self.flat.iterated) for it in terms]
             except flat.Unlike as it:
                 raise source.Refused(f"Maude's answer is not understood: {it}", line.said) from None
             gone = next((name for it in terms for name in sorted(it.names() & ruled.gone)), None)
@@ -289,8 +289,8 @@ class Bridge:
                 raise source.Refused(f"{gone} is built into Maude, and fvn leaves it out", line.said)
             if line.kind == "bindings":
                 self.judge_variables(terms[::2], line)
-            problem = self.read(line, row, written, problem, ruled)
-            done.append(written)
+            done.append(line.joined(parts))
+            problem = self.read(line, row, parts, problem, ruled)
         return done
 
     def judge_variables(self, terms, line):
@@ -299,11 +299,13 @@ class Bridge:
             if it.arguments or ":" not in it.name[1:] and it.name not in self.flat.variables:
                 raise source.Refused(f"{it.name} is no variable, and stands in front of `-->`", line.said)
 
-    def read(self, line, row, written, problem, ruled):
-        """Asks the program whether it reads a text, and gives the problem that bindings behind it are for."""
+    def read(self, line, row, parts, problem, ruled):
+        """Asks the program whether it reads a text, and gives the problem that bindings behind it are for. Those with
+        no problem before them are read for one that has their variables."""
+        written = line.joined(parts)
         if line.kind == "bindings":
-            any_ = f"V:{flat.quoted_sorts(self.flat.sorts[0])}" if self.flat.sorts else ""
-            words = [problem or f"{any_} =? {any_}", written]
+            variables = parts[::2] or [f"V:{flat.quoted_sorts(it)}" for it in self.flat.sorts[:1]]
+            words = [problem or " /\\ ".join(f"{it} =? {it}" for it in variables), written]
         elif line.kind == "term":
             sort = rules.sort_in(row[0].partition(": ")[0])
             words = [f"{written} =? V:{flat.quoted_sorts(sort)}", "{}"]
