@@ -153,6 +153,7 @@ class Bridge:
             self.places = places.Places(self.sources, known, self.name)
             self.heed = heed.Heed(self.sources, known, met, self.places)
             self.judge_name()
+            stop(self.places.doubts)
             lines = self.lines()
             answers = self.answers(folder, [it for it in lines if isinstance(it, texts.Text)])
         ruled = self.ruled(answers[0])
@@ -212,6 +213,10 @@ class Bridge:
         """Why Maude shows another module, or none."""
         if said.split()[1:2] and said.split()[1].startswith(self.module + "{"):
             return source.Refused(instance_of(self.module, ""), file=self.file)
+        part = self.sources.module(self.asked)
+        if part:
+            words = "; ".join(dict.fromkeys(it.text.partition("\n")[0] for it in warned))
+            return source.Refused(f"Maude has no {part.kind} {part.name}: {words}", file=part.file, line=part.line)
         if not warned or any("no module" in it.text or "does not exist" in it.text for it in warned):
             there = ", ".join(dict.fromkeys(it.name for it in self.sources.parts if it.kind in SHOWN))
             return Usage(f"there is no module {self.module} in {self.file}{': it has ' if there else ''}{there}")
@@ -222,6 +227,10 @@ class Bridge:
         """The text for fvn, where no statement of the module is left out."""
         try:
             self.flat = flat.Flat(said)
+            written = self.places.least_number(places.without_renamings([it.text for it in self.name]))
+            if len(self.flat.equations_in_order) < written:
+                reason = f"Maude has {len(self.flat.equations_in_order)} equations, where the files have {written}"
+                raise source.Refused(reason, file=self.file)
             if self.flat.header[0] not in SHOWN:
                 reason = f"{self.flat.header[0]} {self.module} is no module of sorts, operators and equations"
                 raise source.Refused(reason, file=self.file)
