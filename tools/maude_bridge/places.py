@@ -46,11 +46,14 @@ class Places:
 
     def doubt(self, part, words):
         """Tells of a statement without a dot, or without a colon, that Maude reads on into the next one."""
-        for before, it in zip(words, words[1:]):
-            if it.line > before.line and it.text in STATEMENTS:
+        texts = [it.text for it in words]
+        names = texts[:texts.index(":")] if texts[0] in ("op", "ops") and ":" in texts else []
+        for n, (before, it) in enumerate(zip(words, words[1:]), 1):
+            starts = it.line > before.line and it.text in STATEMENTS
+            if starts or 1 < n < len(names) and it.text in ("op", "ops"):
                 reason = f"no dot ends the statement in front of this `{it.text}`, and Maude reads on"
                 self.doubts.append(Refused(reason, part.written(words), part.file, it.line))
-        if words[0].text in ("op", "ops", "var", "vars") and ":" not in (it.text for it in words):
+        if texts[0] in ("op", "ops", "var", "vars") and ":" not in texts:
             reason = f"this `{words[0].text}` has no colon and no sort, and Maude reads on"
             self.doubts.append(Refused(reason, part.written(words), part.file, words[0].line))
 
