@@ -151,8 +151,9 @@ class Bridge:
                 raise Usage(f"{it.filename or self.file} cannot be read: {it.strerror}") from None
             known, met = self.sources.reach([it.text for it in self.name])
             self.places = places.Places(self.sources, known, self.name)
-            self.heed = heed.Heed(self.sources, known, met, self.places.operator_names())
+            self.heed = heed.Heed(self.sources, known, met, self.places)
             self.judge_name()
+            stop(self.places.doubts)
             lines = self.lines()
             answers = self.answers(folder, [it for it in lines if isinstance(it, texts.Text)])
         ruled = self.ruled(answers[0])
@@ -212,6 +213,10 @@ class Bridge:
         """Why Maude shows another module, or none."""
         if said.split()[1:2] and said.split()[1].startswith(self.module + "{"):
             return source.Refused(instance_of(self.module, ""), file=self.file)
+        part = self.sources.module(self.asked)
+        if part:
+            words = "; ".join(dict.fromkeys(it.text.partition("\n")[0] for it in warned))
+            return source.Refused(f"Maude has no {part.kind} {part.name}: {words}", file=part.file, line=part.line)
         if not warned or any("no module" in it.text or "does not exist" in it.text for it in warned):
             there = ", ".join(dict.fromkeys(it.name for it in self.sources.parts if it.kind in SHOWN))
             return Usage(f"there is no module {self.module} in {self.file}{': it has ' if there else ''}{there}")
@@ -222,6 +227,10 @@ class Bridge:
         """The text for fvn, where no statement of the module is left out."""
         try:
             self.flat = flat.Flat(said)
+            written = self.places.least_number(places.without_renamings([it.text for it in self.name]))
+            if len(self.flat.equations_in_order) < written:
+                reason = f"Maude has {len(self.flat.equations_in_order)} equations, where the files have {written}"
+                raise source.Refused(reason, file=self.file)
             if self.flat.header[0] not in SHOWN:
                 reason = f"{self.flat.header[0]} {self.module} is no module of sorts, operators and equations"
                 raise source.Refused(reason, file=self.file)
@@ -281,7 +290,7 @@ class Bridge:
         for line, row in zip(lines, answers):
             try:
                 terms = [flat.term_of(it.partition(": ")[2]) for it in row]
-                written = line.joined([flat.written(it, self.flat.iterated) for it in terms])
+                parts = [flat.written(it, self.flat.iterated) for it in terms]
             except flat.Unlike as it:
                 raise source.Refused(f"Maude's answer is not understood: {it}", line.said) from None
             gone = next((name for it in terms for name in sorted(it.names() & ruled.gone)), None)
@@ -289,8 +298,8 @@ class Bridge:
                 raise source.Refused(f"{gone} is built into Maude, and fvn leaves it out", line.said)
             if line.kind == "bindings":
                 self.judge_variables(terms[::2], line)
-            problem = self.read(line, row, written, problem, ruled)
-            done.append(written)
+            done.append(line.joined(parts))
+            problem = self.read(line, row, parts, problem, ruled)
         return done
 
     def judge_variables(self, terms, line):
@@ -299,11 +308,13 @@ class Bridge:
             if it.arguments or ":" not in it.name[1:] and it.name not in self.flat.variables:
                 raise source.Refused(f"{it.name} is no variable, and stands in front of `-->`", line.said)
 
-    def read(self, line, row, written, problem, ruled):
-        """Asks the program whether it reads a text, and gives the problem that bindings behind it are for."""
+    def read(self, line, row, parts, problem, ruled):
+        """Asks the program whether it reads a text, and gives the problem that bindings behind it are for. Those with
+        no problem before them are read for one that has their variables."""
+        written = line.joined(parts)
         if line.kind == "bindings":
-            any_ = f"V:{flat.quoted_sorts(self.flat.sorts[0])}" if self.flat.sorts else ""
-            words = [problem or f"{any_} =? {any_}", written]
+            variables = parts[::2] or [f"V:{flat.quoted_sorts(it)}" for it in self.flat.sorts[:1]]
+            words = [problem or " /\\ ".join(f"{it} =? {it}" for it in variables), written]
         elif line.kind == "term":
             sort = rules.sort_in(row[0].partition(": ")[0])
             words = [f"{written} =? V:{flat.quoted_sorts(sort)}", "{}"]

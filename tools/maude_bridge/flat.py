@@ -214,6 +214,7 @@ class Flat:
             raise Unlike(text)
         self.operators = {it: operator_of(it) for it in self.statements if it.startswith("op ")}
         self.equations = {it: equation_of(it) for it in self.statements if it.startswith("eq ")}
+        self.equations_in_order = [it for it in self.statements if it.startswith("eq ")]
         self.iterated = frozenset(it.name for it in self.operators.values() if it.has("iter"))
         self.variables = {it.split()[1]: it.split()[3] for it in self.statements if it.startswith("var ")}
         self.sorts = [it for one in self.statements if one.startswith(("sort ", "sorts ")) for it in one.split()[1:-1]]

@@ -1,4 +1,5 @@
 """What Maude warns of: which warnings speak of what was asked for, and the words for them."""
+import os
 import re
 
 from .rules import BOOLEAN
@@ -13,10 +14,10 @@ OWN = re.compile(r"([0-9]+)\.maude")
 
 
 class Heed:
-    """The sources, the names of the parts that are asked for, all words that these have, and the names of operators."""
+    """The sources, the names of the parts that are asked for, all words that these have, and their statements."""
 
-    def __init__(self, sources, known, met, operators):
-        self.sources, self.known, self.met, self.operators = sources, known, met, operators
+    def __init__(self, sources, known, met, places):
+        self.sources, self.known, self.met, self.places = sources, known, met, places
 
     def module_faults(self, warned, program):
         """The faults that Maude found in what was asked for, one for each statement."""
@@ -38,8 +39,8 @@ class Heed:
             there = self.sources.parts_at(self.sources.files[int(own[1])], warned.line)
             told = [it for it in there if it.name == warned.name]
             return not there or any(it.name in self.known for it in told or there)
-        if warned.file:
-            return re.split(r"[\s{(]", warned.name)[0] in self.met
+        if os.path.basename(warned.file) == "prelude.maude":
+            return bool(self.places.foreign) or re.split(r"[\s{(]", warned.name)[0] in self.met
         return not warned.text.startswith("no module")
 
     def fault(self, group):
@@ -76,7 +77,7 @@ class Heed:
         signs = [it for it in words if re.search(r"=\?|/\\", it) and it not in {"=?", "/\\", *self.met}]
         if signs:
             return f"; write spaces around `=?` and `/\\`, where {signs[0]} is no name"
-        mine = {piece for it in self.met if "_" in it for piece in it.split("_")} | self.operators
+        mine = {piece for it in self.met if "_" in it for piece in it.split("_")} | self.places.operator_names()
         word = next((it for it in words if it in BOOLEAN and it not in mine), "")
         return f"; `{word}` needs BOOL, which fvn leaves out" if word and "BOOL" not in self.met else ""
 

@@ -3,6 +3,7 @@ import re
 from collections import Counter
 
 from .rules import FORMS
+from .source import STATEMENTS, Refused
 
 IMPORTS = {"protecting", "pr", "including", "inc", "extending", "ex", "generated-by", "gb"}
 # Modules of Maude's prelude that go in: of sorts and constants alone, and of what is dropped where nothing uses it.
@@ -15,9 +16,15 @@ class Places:
 
     def __init__(self, sources, known, module):
         self.operators, self.equations, self.others, self.foreign = [], [], [], []
+        # Statements that run into one another, which Maude reads in its own way without a word.
+        self.doubts = []
+        # The modules that each module imports, and its number of equations.
+        self.imports, self.numbers = {}, {}
         for part in sources.parts:
             if part.name in known:
+                self.imports[part.name], self.numbers[part.name] = [], 0
                 for words in part.statements():
+                    self.doubt(part, words)
                     self.note(sources, part, words)
         for word in module:
             self.note_foreign(sources, word.text, "", 0)
@@ -28,12 +35,37 @@ class Places:
         if texts[0] in ("op", "ops") and ":" in texts:
             self.operators.append((place, *declared(texts)))
         elif texts[0] == "eq":
+            self.numbers[part.name] += 1
             self.equations.append((place, source_key(texts)))
         elif texts[0] in FORMS:
             self.others.append((place, texts[0], bare(texts[1:])))
         elif texts[0] in IMPORTS:
+            self.imports[part.name] += without_renamings(texts[1:])
             for it in without_renamings(texts[1:]):
                 self.note_foreign(sources, it, *place[:2])
+
+    def doubt(self, part, words):
+        """Tells of a statement without a dot, or without a colon, that Maude reads on into the next one."""
+        texts = [it.text for it in words]
+        names = texts[:texts.index(":")] if texts[0] in ("op", "ops") and ":" in texts else []
+        for n, (before, it) in enumerate(zip(words, words[1:]), 1):
+            starts = it.line > before.line and it.text in STATEMENTS
+            if starts or 1 < n < len(names) and it.text in ("op", "ops"):
+                reason = f"no dot ends the statement in front of this `{it.text}`, and Maude reads on"
+                self.doubts.append(Refused(reason, part.written(words), part.file, it.line))
+        if texts[0] in ("op", "ops", "var", "vars") and ":" not in texts:
+            reason = f"this `{words[0].text}` has no colon and no sort, and Maude reads on"
+            self.doubts.append(Refused(reason, part.written(words), part.file, words[0].line))
+
+    def least_number(self, names):
+        """So many equations at least these modules have with those that they import."""
+        met, open_ = set(), [*names]
+        while open_:
+            name = open_.pop()
+            if name in self.imports and name not in met:
+                met.add(name)
+                open_ += self.imports[name]
+        return sum(self.numbers[it] for it in met)
 
     def note_foreign(self, sources, word, file, line):
         """Keeps the name of a module that the user's files have not."""
