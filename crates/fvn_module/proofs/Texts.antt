@@ -12,7 +12,7 @@ use Rattle.fvn_sorts.specs.Faults.{IsTooLarge, IsFirstFault as IsFirstSignatureF
 use Rattle.fvn_sorts.specs.declared.conditions.fault.SigFault.TheVariants as sig
 use Rattle.fvn_syntax.specs.Pieces.{Text}
 use Rattle.fvn_syntax.specs.Scope.{IsNumbered}
-use Rattle.fvn_module_statements.specs.declared.form.Form.{Form}
+use Rattle.fvn_module_syntax.specs.declared.form.Form.{Form}
 use Rattle.fvn_module_statements.specs.Forms.{IsFormOf}
 use Rattle.fvn_module_declarations.specs.Module.{names_in}
 use Rattle.fvn_module_names.specs.Names.{sorts_of, operators_of}

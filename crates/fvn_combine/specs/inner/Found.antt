@@ -24,7 +24,7 @@ use Rattle.fvn_combine.specs.declared.stepping.Step.TheVariants.{Over as NoneLef
 use Rattle.fvn_combine.specs.declared.stepping.Found.{Found}
 use Rattle.fvn_combine.specs.declared.stepping.Found.TheVariants.{Nothing, Ends, Given}
 use Rattle.fvn_combine.specs.declared.looking.Looked.{Looked}
-use Rattle.fvn_combine.specs.declared.looking.Looked.TheVariants.{Over, Open, Passed, Refused, Leaf}
+use Rattle.fvn_combine.specs.declared.looking.Looked.TheVariants.{Over, Open, Passed, Refused, Leaf as OnLeaf}
 
 module _ (k : Combining) (Before After : Substitution → Type 0) where
   -- nothing, where nothing was to come; bindings that are too large, with all still to come; or a unifier that covers what is no longer to come
@@ -78,7 +78,7 @@ module _ (k : Combining) where
   IsLookedAt s (Open i j) = (i < length k.table.nodes) × (j < length k.table.nodes) × IsOpen s i j
   IsLookedAt s Passed = (u : Substitution) → IsAdmittedBy s u → ⊥
   IsLookedAt s (Refused f system) = IsBasisCause k.declarations k.given f system
-  IsLookedAt s (Leaf o) =
+  IsLookedAt s (OnLeaf o) =
       IsOpened k s o × ((u : Substitution) → IsAdmittedBy s u → IsCoveredToCome k s o u)
       × (leaf_left k o ≤ most_tags k * most_numbers k)
 
@@ -95,7 +95,7 @@ module _ (k : Combining) where
   IsLooked states (Open i j) = IsLookedAtLast states (Open i j)
   IsLooked states Passed = IsLookedAtLast states Passed
   IsLooked states (Refused f system) = IsLookedAtLast states (Refused f system)
-  IsLooked states (Leaf o) = IsLookedAtLast states (Leaf o)
+  IsLooked states (OnLeaf o) = IsLookedAtLast states (OnLeaf o)
 
 module _ (k : Combining) where
   -- u, a unifier on kinds, is to come in these states, or at the leaf that is open
