@@ -53,3 +53,9 @@ pub const NAMES: usize = 65_536;
 
 /// From here on a number in a rank names a kind, and not a sort.
 pub const FIRST_KIND: u16 = 32_768;
+
+/// Bytes that are asked for at most in one read: a buffer of so many stands on the stack.
+pub const PIECE: usize = 4_096;
+
+/// How deep the first pass of normal forms goes into a term, so that the stack holds it.
+pub const DEPTH: u64 = 1_000;

@@ -1,6 +1,8 @@
 //! A list of values.
-ghost use Rattle.std.specs.Prelude.{◌≡◌, [], length, nat_eq};
+ghost use Rattle.std.specs.Prelude.{◌≡◌, [], length, nat_eq, IfOk};
+ghost use Rattle.fvn_base.specs.Listed.{listed_by, with_new};
 
+use crate::memory::NoMemory;
 use std::alloc::Global;
 use std::marker::Model;
 
@@ -37,6 +39,18 @@ impl<T> Seq<T> {
         Seq { items }
     }
 
+    /// The list of these values, in memory of its own.
+    pub fn from_slice(alloc: Global, items: &[T]) -> Result<Seq<T>, NoMemory>
+    where
+        T: Copy,
+        ensures { IfOk result (λ list. list ≡ items.now) }
+    {
+        match Vec::from_slice(alloc, items) {
+            Ok(items) => Ok(Seq { items }),
+            Err(_) => Err(NoMemory),
+        }
+    }
+
     /// The values as a vector.
     pub fn into_vec(self) -> Vec<T>
         ensures { result.items ≡ self }
@@ -64,4 +78,23 @@ impl<T> Seq<T> {
     {
         self.items.is_empty()
     }
+}
+
+/// Whether the value stands in the list.
+pub fn is_listed<T: PartialEq>(items: &[T], value: &T) -> bool
+    ensures { result ≡ listed_by T.eq items.now value.now }
+{
+    items.contains(value)
+}
+
+/// The list with the value at its end, if it is not there yet.
+pub fn with_new<T: Copy + PartialEq>(items: Vec<T>, value: T) -> Result<Vec<T>, NoMemory>
+    ensures { IfOk result (λ all. all.items ≡ with_new T.eq items.items value) }
+{
+    let mut all = items;
+    if is_listed(all.as_slice(), &value) {
+        return Ok(all);
+    }
+    all.push(value)?;
+    Ok(all)
 }

@@ -16,8 +16,7 @@ use Rattle.fvn_terms.specs.declared.declarations.Declarations.{Declarations}
 use Rattle.fvn_terms.specs.Term.{Term, Terms, var, app, none, more}
 use Rattle.fvn_terms.specs.Plain.{term, terms}
 use Rattle.fvn_terms.specs.Signature.{kind, declared, axioms, AtOrBelow, same, HasKind, HaveKinds}
-use Rattle.fvn_terms.specs.Equality.{IsAssociative, IsCommutative}
-use Rattle.fvn_forms.specs.Canon.{identity}
+use Rattle.fvn_terms.specs.Equality.{IsAssociative, IsCommutative, identity}
 use Rattle.fvn_forms.specs.SortOrder.{at_or_below}
 use Rattle.fvn_forms.specs.Ranks.{result, ranks_of}
 use Rattle.fvn_forms.specs.Good.{IsGood, TakesKinds, IsOfKind}
@@ -25,7 +24,7 @@ use Rattle.fvn_forms.proofs.SortOrder.{AtOrBelow-trans, AtOrBelow-one_kind}
 use Rattle.fvn_forms.proofs.SortTests.{at_or_below-true, at_or_below-complete}
 use Rattle.fvn_forms.proofs.Results.{result_monotone, result_swap, result-kind, result-is}
 use Rattle.fvn_forms.proofs.Sums.{same_op_is}
-use Rattle.fvn_forms.proofs.ToCanon.{identity_is}
+use Rattle.fvn_terms.proofs.AxiomWords.{identity_is}
 use Rattle.fvn_rewrite_laws.specs.declared.shapes.Root.{Root}
 use Rattle.fvn_rewrite_laws.specs.declared.shapes.Root.TheVariants.{Variable, Constant, Compound}
 use Rattle.fvn_rewrite_laws.specs.declared.shapes.Shape.{Shape}

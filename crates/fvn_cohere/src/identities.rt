@@ -1,14 +1,14 @@
 //! The identities of a signature, and the sorts and identities at or below a sort.
 ghost use Rattle.std.specs.Prelude.{◌≡◌, [], filter, nat_lt, Some, IfOk};
 ghost use Rattle.fvn_terms.specs.declared.plain.OpId.{OpId};
-ghost use Rattle.fvn_forms.specs.Canon.{identity};
+ghost use Rattle.fvn_terms.specs.Equality.{identity};
 ghost use Rattle.fvn_forms.specs.SortOrder.{at_or_below};
 ghost use Rattle.fvn_forms.specs.Ranks.{result as least_result};
 ghost use Rattle.fvn_rewrite_laws.specs.Identities.{is_listed_op, with_operator, identities};
 ghost use Rattle.fvn_signature.specs.Collected.{first_sorts};
 ghost use Rattle.fvn_rewrite_laws.specs.Choices.{sorts_below};
 
-use fvn_sorts::Signature;
+use fvn_signature::Signature;
 use fvn_terms::{Axioms, NoMemory, OpId, SortId};
 use std::alloc::Global;
 

@@ -10,10 +10,10 @@ use Rattle.fvn_terms.specs.declared.plain.Var.{Var}
 use Rattle.fvn_terms.specs.declared.plain.OpId.{OpId}
 use Rattle.fvn_terms.specs.declared.declarations.Declarations.{Declarations}
 use Rattle.fvn_terms.specs.Signature.{axioms}
-use Rattle.fvn_terms.specs.Equality.{IsAssociative}
+use Rattle.fvn_terms.specs.Equality.{IsAssociative, identity}
 use Rattle.fvn_terms.specs.Substitution.{Occurs}
 use Rattle.fvn_forms.specs.Flat.{FlatTerm, fvar, plain}
-use Rattle.fvn_forms.specs.Canon.{identity, parts, all_parts, sum, build, inst}
+use Rattle.fvn_forms.specs.Canon.{parts, all_parts, sum, build, inst}
 use Rattle.fvn_forms.specs.Settled.{IsPiece}
 use Rattle.fvn_forms.proofs.InOrder.{length_sort}
 use Rattle.fvn_flat.proofs.Occurrences.{OccursIn}

@@ -13,7 +13,8 @@ use Rattle.fvn_terms.proofs.Occurrences.{BEqual-occurs}
 use Rattle.fvn_forms.specs.Flat.{FlatTerm, fpack, plain}
 use Rattle.fvn_forms.specs.Order.{flat_cmp}
 use Rattle.fvn_forms.specs.InOrder.{insert, sort}
-use Rattle.fvn_forms.specs.Canon.{identity, empty_sum, joined, sum, canon}
+use Rattle.fvn_forms.specs.Canon.{empty_sum, joined, sum, canon}
+use Rattle.fvn_terms.specs.Equality.{identity}
 use Rattle.fvn_forms.specs.FitsKinds.{FitsKinds}
 use Rattle.fvn_forms.proofs.ToCanon.{to_canon}
 use Rattle.fvn_flat.proofs.Occurrences.{OccursIn, occurs_in_app}

@@ -7,10 +7,10 @@ use Rattle.fvn_terms.specs.declared.declarations.Axioms.{Axioms}
 use Rattle.fvn_terms.specs.declared.declarations.Axioms.TheVariants.{Free, Comm, AssocComm, AssocCommId}
 use Rattle.fvn_terms.specs.declared.declarations.Declarations.{Declarations}
 use Rattle.fvn_terms.specs.Signature.{axioms}
-use Rattle.fvn_terms.specs.Equality.{IsAssociative}
+use Rattle.fvn_terms.specs.Equality.{IsAssociative, identity}
 use Rattle.fvn_forms.specs.Flat.{FlatTerm, FlatTerms, fvar, fapp, fnone, fmore, fpack, funpack, fconstant}
 use Rattle.fvn_forms.specs.InOrder.{sort}
-use Rattle.fvn_forms.specs.Canon.{same_op, identity, is_identity, parts, all_parts, built, build}
+use Rattle.fvn_forms.specs.Canon.{same_op, is_identity, parts, all_parts, built, build}
 use Rattle.fvn_forms.specs.Settled.{Settled, IsPiece}
 use Rattle.fvn_forms.proofs.InOrder.{length_sort}
 use Rattle.fvn_forms.proofs.Sums.{same_op_is}

@@ -11,10 +11,10 @@ use Rattle.fvn_terms.specs.declared.declarations.Axioms.TheVariants.{Free, Comm,
 use Rattle.fvn_terms.specs.declared.declarations.Declarations.{Declarations}
 use Rattle.fvn_terms.specs.Term.{Term, app, pack}
 use Rattle.fvn_terms.specs.Signature.{axioms, HasKind, HaveKinds}
-use Rattle.fvn_terms.specs.Equality.{IsAssociative, IsCommutative}
+use Rattle.fvn_terms.specs.Equality.{IsAssociative, IsCommutative, identity}
 use Rattle.fvn_forms.specs.Flat.{FlatTerm}
 use Rattle.fvn_forms.specs.InOrder.{count}
-use Rattle.fvn_forms.specs.Canon.{identity, parts, all_parts, sum, build, eval_all, inst}
+use Rattle.fvn_forms.specs.Canon.{parts, all_parts, sum, build, eval_all, inst}
 use Rattle.fvn_forms.proofs.InOrder.{count_sort}
 use Rattle.fvn_forms.proofs.Build.{HasIdentity, build_swap, parts_identity}
 use Rattle.fvn_forms.proofs.Instances.{parts_inst_sum, eval_canon}

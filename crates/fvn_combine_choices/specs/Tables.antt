@@ -3,8 +3,7 @@ use Rattle.std.specs.Prelude.{◌≡◌, ℕ, List, [], length, Some, Any, Conta
 use Rattle.fvn_terms.specs.declared.plain.OpId.{OpId}
 use Rattle.fvn_terms.specs.declared.declarations.Declarations.{Declarations}
 use Rattle.fvn_terms.specs.Signature.{axioms}
-use Rattle.fvn_terms.specs.Equality.{IsAssociative}
-use Rattle.fvn_forms.specs.Canon.{identity}
+use Rattle.fvn_terms.specs.Equality.{IsAssociative, identity}
 use Rattle.fvn_combine_nodes.specs.Table.{NodeTable, IsOver}
 
 -- what well-kinded problems give: a sum has two arguments and is a subterm, and identities are nodes

@@ -6,10 +6,10 @@ use Rattle.fvn_terms.specs.declared.declarations.Axioms.{Axioms}
 use Rattle.fvn_terms.specs.declared.declarations.Axioms.TheVariants.{Free, Comm, AssocComm, AssocCommId}
 use Rattle.fvn_terms.specs.declared.declarations.Declarations.{Declarations}
 use Rattle.fvn_terms.specs.Signature.{axioms}
-use Rattle.fvn_terms.specs.Equality.{IsAssociative}
+use Rattle.fvn_terms.specs.Equality.{IsAssociative, identity}
 use Rattle.fvn_forms.specs.Flat.{FlatTerm, FlatTerms, fvar, fapp, fnone, fmore, fpack, funpack, fconstant}
 use Rattle.fvn_forms.specs.InOrder.{sort}
-use Rattle.fvn_forms.specs.Canon.{same_op, identity, is_identity, parts, joined, build}
+use Rattle.fvn_forms.specs.Canon.{same_op, is_identity, parts, joined, build}
 use Rattle.fvn_forms.proofs.Sums.{funpack-fpack, same_op_is}
 use Rattle.fvn_forms.proofs.Build.{sort_is_nil}
 use Rattle.fvn_combine_nodes.proofs.Heading.{build_free, build_commutative}

@@ -12,7 +12,8 @@ use Rattle.fvn_terms.specs.Substitution.{Substitution, same_var}
 use Rattle.fvn_terms.specs.Signature.{kind, IsSort, HasKind}
 use Rattle.fvn_terms.specs.Unifiers.{Problem}
 use Rattle.fvn_forms.specs.Flat.{FlatTerm, plain}
-use Rattle.fvn_forms.specs.Canon.{same_op, sum, canon, identity, empty_sum}
+use Rattle.fvn_forms.specs.Canon.{same_op, sum, canon, empty_sum}
+use Rattle.fvn_terms.specs.Equality.{identity}
 use Rattle.fvn_forms.specs.Settled.{Settled}
 use Rattle.fvn_forms.specs.LeastSort.{IsFlatSubstitution}
 use Rattle.fvn_forms.proofs.Build.{HasIdentity, sum_settled}

@@ -10,7 +10,8 @@ use Rattle.fvn_terms.specs.declared.declarations.Declarations.{Declarations}
 use Rattle.fvn_terms.specs.Signature.{axioms}
 use Rattle.fvn_forms.specs.Flat.{FlatTerm}
 use Rattle.fvn_forms.specs.InOrder.{count}
-use Rattle.fvn_forms.specs.Canon.{identity, parts}
+use Rattle.fvn_forms.specs.Canon.{parts}
+use Rattle.fvn_terms.specs.Equality.{identity}
 use Rattle.fvn_forms.proofs.Build.{parts_identity}
 use Rattle.fvn_lindio.specs.declared.system.System.{System}
 use Rattle.fvn_lindio.specs.Systems.{IsMinimal, IsUnused, rows_of}

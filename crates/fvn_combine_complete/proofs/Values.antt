@@ -9,10 +9,10 @@ use Rattle.fvn_base.proofs.Membership.{contains_filter}
 use Rattle.fvn_terms.specs.declared.plain.OpId.{OpId}
 use Rattle.fvn_terms.specs.declared.declarations.Declarations.{Declarations}
 use Rattle.fvn_terms.specs.Signature.{axioms}
-use Rattle.fvn_terms.specs.Equality.{IsAssociative}
+use Rattle.fvn_terms.specs.Equality.{IsAssociative, identity}
 use Rattle.fvn_forms.specs.Flat.{FlatTerm, FlatTerms, fapp, funpack, fconstant}
 use Rattle.fvn_forms.specs.InOrder.{one_if, count}
-use Rattle.fvn_forms.specs.Canon.{identity, parts, build}
+use Rattle.fvn_forms.specs.Canon.{parts, build}
 use Rattle.fvn_forms.specs.Settled.{Settled}
 use Rattle.fvn_forms.proofs.InOrder.{count_itself}
 use Rattle.fvn_forms.proofs.Sums.{same_op_itself}

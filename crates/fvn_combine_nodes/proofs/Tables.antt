@@ -10,7 +10,7 @@ use Rattle.fvn_terms.specs.declared.declarations.Declarations.{Declarations}
 use Rattle.fvn_terms.specs.Term.{Term, app, pack}
 use Rattle.fvn_terms.specs.Signature.{axioms}
 use Rattle.fvn_terms.specs.Unifiers.{Problem}
-use Rattle.fvn_forms.specs.Canon.{identity}
+use Rattle.fvn_terms.specs.Equality.{identity}
 use Rattle.fvn_flat.specs.Problems.{subterms_of, once}
 use Rattle.fvn_flat.specs.Partitions.{Heads}
 use Rattle.fvn_combine_nodes.specs.Table.{NodeTable, IsWellMade, IsTableOf, IsUnitOf, term_at}

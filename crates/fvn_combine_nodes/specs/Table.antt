@@ -4,9 +4,8 @@ use Rattle.fvn_terms.specs.declared.plain.OpId.{OpId}
 use Rattle.fvn_terms.specs.declared.declarations.Declarations.{Declarations}
 use Rattle.fvn_terms.specs.Term.{Term, var, app, pack}
 use Rattle.fvn_terms.specs.Signature.{axioms}
-use Rattle.fvn_terms.specs.Equality.{constant}
+use Rattle.fvn_terms.specs.Equality.{constant, identity}
 use Rattle.fvn_terms.specs.Unifiers.{Problem}
-use Rattle.fvn_forms.specs.Canon.{identity}
 use Rattle.fvn_flat.specs.Problems.{subterms_of, once}
 use Rattle.fvn_flat.specs.Partitions.{Heads}
 use Rattle.fvn_combine_nodes.specs.declared.table.Node.{Node}

@@ -3,7 +3,7 @@ ghost use Rattle.std.specs.Prelude.{◌≡◌, ◌≢◌, ◌↔◌, ℕ, ◌<�
 ghost use Rattle.fvn_terms.specs.Term.{pack};
 ghost use Rattle.fvn_terms.specs.Plain.{term};
 ghost use Rattle.fvn_forms.specs.Flat.{plain};
-ghost use Rattle.fvn_forms.specs.Canon.{identity};
+ghost use Rattle.fvn_terms.specs.Equality.{identity};
 ghost use Rattle.fvn_flat.specs.Problems.{subterms, subterms_among, subterms_of, plain_pairs};
 ghost use Rattle.fvn_flat.specs.Solving.{problem_of};
 ghost use Rattle.fvn_combine_nodes.specs.Table.{term_at, IsTableOf};
@@ -20,7 +20,7 @@ ghost use Rattle.fvn_combine_nodes.specs.inner.Drafts.{
 use crate::table::{Node, Table};
 use fvn_base::Seq;
 use fvn_flat::{Flat, Pairs};
-use fvn_sorts::Signature;
+use fvn_signature::Signature;
 use fvn_terms::{Args, Axioms, NoMemory, OpId, Plain};
 use std::alloc::Global;
 

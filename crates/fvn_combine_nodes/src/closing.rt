@@ -2,7 +2,7 @@
 ghost use Rattle.std.specs.Prelude.{◌≡◌, ◌≢◌, ◌⊎◌, ◌↔◌, ◌<◌, [], ◌∷◌, length, map, is_some, All, IsTrue};
 ghost use Rattle.std.specs.List.{list_any};
 ghost use Rattle.fvn_terms.specs.Signature.{axioms};
-ghost use Rattle.fvn_forms.specs.Canon.{identity};
+ghost use Rattle.fvn_terms.specs.Equality.{identity};
 ghost use Rattle.fvn_combine_nodes.specs.Classes.{AreTogether, MeetEitherWay, AreAlike, IsNodePartition, MeetInPairs};
 ghost use Rattle.fvn_combine_nodes.specs.States.{class_of, is_same, is_apart, IsOpen, IsNaming};
 ghost use Rattle.fvn_combine_nodes.specs.inner.Closing.{state_of, renamed, is_straight, then_move, HasMoved, IsClosureOf};
@@ -13,7 +13,7 @@ use crate::chains::{By, Chains};
 use crate::state::{State, is_kept_apart};
 use crate::table::{Node, Table};
 use fvn_base::Seq;
-use fvn_sorts::Signature;
+use fvn_signature::Signature;
 use fvn_terms::{Axioms, OpId};
 
 /// What a look at some nodes came to: all is settled, nodes were joined, or there is no partition.

@@ -11,12 +11,11 @@ use Rattle.fvn_terms.specs.declared.declarations.Axioms.TheVariants.{Free, Comm,
 use Rattle.fvn_terms.specs.declared.declarations.Declarations.{Declarations}
 use Rattle.fvn_terms.specs.Term.{Term, Terms, var, app, none, more, pack}
 use Rattle.fvn_terms.specs.Signature.{axioms}
-use Rattle.fvn_terms.specs.Equality.{two, constant, IsAssociative}
+use Rattle.fvn_terms.specs.Equality.{two, constant, IsAssociative, identity}
 use Rattle.fvn_terms.specs.Unifiers.{Problem}
-use Rattle.fvn_forms.specs.Canon.{identity}
 use Rattle.fvn_forms.specs.InOrder.{one_if}
 use Rattle.fvn_forms.proofs.Sums.{same_op_is, same_op_itself}
-use Rattle.fvn_forms.proofs.ToCanon.{identity_is}
+use Rattle.fvn_terms.proofs.AxiomWords.{identity_is}
 use Rattle.fvn_lindio.specs.declared.system.System.{System}
 use Rattle.fvn_flat.specs.Problems.{subterms, subterms_among, subterms_of, once}
 use Rattle.fvn_flat.specs.Partitions.{Heads}

@@ -11,7 +11,8 @@ use Rattle.fvn_terms.specs.Substitution.{Occurs}
 use Rattle.fvn_terms.specs.Signature.{axioms}
 use Rattle.fvn_forms.specs.Flat.{FlatTerm, fvar, fpack, plain}
 use Rattle.fvn_forms.specs.InOrder.{sort}
-use Rattle.fvn_forms.specs.Canon.{identity, empty_sum, joined, sum, built, build}
+use Rattle.fvn_forms.specs.Canon.{empty_sum, joined, sum, built, build}
+use Rattle.fvn_terms.specs.Equality.{identity}
 use Rattle.fvn_forms.proofs.InOrder.{each_append, each_sort}
 use Rattle.fvn_flat.proofs.Occurrences.{OccursIn, occurs_in_app}
 use Rattle.fvn_flat.specs.SolvedLists.{Part, component, members, IsSimple}

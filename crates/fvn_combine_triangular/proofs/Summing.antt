@@ -13,10 +13,10 @@ use Rattle.fvn_terms.specs.declared.declarations.Axioms.TheVariants.{Free, Comm,
 use Rattle.fvn_terms.specs.declared.declarations.Declarations.{Declarations}
 use Rattle.fvn_terms.specs.Term.{none}
 use Rattle.fvn_terms.specs.Signature.{kind, axioms, IsSort, HasKind}
-use Rattle.fvn_terms.specs.Equality.{constant, IsAssociative}
+use Rattle.fvn_terms.specs.Equality.{constant, IsAssociative, identity}
 use Rattle.fvn_forms.specs.Flat.{FlatTerm, fvar, plain}
 use Rattle.fvn_forms.specs.FitsKinds.{FitsKinds}
-use Rattle.fvn_forms.specs.Canon.{identity, all_parts, empty_sum, sum, build}
+use Rattle.fvn_forms.specs.Canon.{all_parts, empty_sum, sum, build}
 use Rattle.fvn_forms.specs.Settled.{IsPiece, Settled}
 use Rattle.fvn_forms.proofs.Build.{build_sum, sum_settled}
 use Rattle.fvn_forms.proofs.KindsOfSums.{sum_of_forms_of_kind}

@@ -6,7 +6,8 @@ use Rattle.fvn_terms.specs.declared.plain.OpId.{OpId}
 use Rattle.fvn_terms.specs.declared.declarations.Declarations.{Declarations}
 use Rattle.fvn_terms.specs.Signature.{axioms}
 use Rattle.fvn_forms.specs.Flat.{FlatTerm, fvar, fapp, fnone, fmore, fconstant}
-use Rattle.fvn_forms.specs.Canon.{same_op, identity, is_identity, as_constant, parts, all_parts}
+use Rattle.fvn_forms.specs.Canon.{same_op, is_identity, as_constant, parts, all_parts}
+use Rattle.fvn_terms.specs.Equality.{identity}
 use Rattle.fvn_forms.proofs.Sums.{same_op_itself, same_op_is}
 use Rattle.fvn_flat.specs.Forms.{args_of}
 use Rattle.fvn_flat.specs.inner.Summands.{is_sum_of}

@@ -1,16 +1,16 @@
 //! Operators over flat terms, flat again.
 ghost use Rattle.std.specs.Prelude.{◌≡◌, ◌++◌, false, IfOk, OnOk};
-ghost use Rattle.fvn_terms.specs.Equality.{BEqual};
+ghost use Rattle.fvn_terms.specs.Equality.{BEqual, identity};
 ghost use Rattle.fvn_terms.specs.Signature.{axioms};
 ghost use Rattle.fvn_forms.specs.Flat.{fapp, fpack, plain};
 ghost use Rattle.fvn_forms.specs.InOrder.{sort};
-ghost use Rattle.fvn_forms.specs.Canon.{as_constant, identity, parts, all_parts, joined, sum, build};
+ghost use Rattle.fvn_forms.specs.Canon.{as_constant, parts, all_parts, joined, sum, build};
 ghost use Rattle.fvn_flat.specs.Forms.{args_of};
 ghost use Rattle.fvn_flat.specs.Fits.{Fits, AllFit, Takes, plain_over};
 ghost use Rattle.fvn_flat.specs.inner.Summands.{is_sum_of};
 
 use crate::flat::{Flat, Node};
-use fvn_sorts::Signature;
+use fvn_signature::Signature;
 use fvn_terms::{Axioms, NoMemory, OpId};
 use std::alloc::Global;
 

@@ -8,10 +8,11 @@ use Rattle.fvn_terms.specs.declared.declarations.Axioms.{Axioms}
 use Rattle.fvn_terms.specs.declared.declarations.Axioms.TheVariants.{Free, Comm, AssocComm, AssocCommId}
 use Rattle.fvn_terms.specs.declared.declarations.Declarations.{Declarations}
 use Rattle.fvn_terms.specs.Signature.{axioms}
-use Rattle.fvn_terms.specs.Equality.{IsCommutative, IsAssociative}
+use Rattle.fvn_terms.specs.Equality.{IsCommutative, IsAssociative, identity}
+use Rattle.fvn_terms.proofs.AxiomWords.{identity_associates}
 use Rattle.fvn_forms.specs.Flat.{FlatTerm, FlatTerms, fvar, fapp, fnone, fmore, fpack, funpack, fconstant}
 use Rattle.fvn_forms.specs.InOrder.{InOrder, sort, count}
-use Rattle.fvn_forms.specs.Canon.{as_constant, same_op, identity, is_identity, parts, all_parts, empty_sum, joined, sum, built, build}
+use Rattle.fvn_forms.specs.Canon.{as_constant, same_op, is_identity, parts, all_parts, empty_sum, joined, sum, built, build}
 use Rattle.fvn_forms.specs.Settled.{IsPiece, IsJoined, Settled}
 use Rattle.fvn_forms.proofs.InOrder.{InOrder-sort, sort_same_counts, count_sort, count_append, each_sort, length_sort}
 use Rattle.fvn_forms.proofs.Sums.{funpack-fpack, same_op_itself, same_op_is, SettledAll-fpack, constant_settled, parts_sum, sum_parts, sum_same_counts, all_parts_are_pieces, all_parts_are_settled}
@@ -142,11 +143,11 @@ module _ (d : Declarations) where
     ap (λ l. sum d f (l ++ (parts d f a ++ []))) (parts_identity f e i) ∙ ap (sum d f) (append-nil (parts d f a)) ∙ sum_parts d f a h,
   )
 
-  pub build_right_identity : (f e : OpId) → axioms d f ≡ AssocCommId e → (a : FlatTerm) → Settled d a → build d f (a ∷ fconstant e ∷ []) ≡ a
-  build_right_identity f e i a h = build_sum f (rw i tt) a (fconstant e ∷ []) ∙ (sum_with_identity f e (ap identity i) a h).0
+  pub build_right_identity : (f e : OpId) → identity (axioms d f) ≡ Some e → (a : FlatTerm) → Settled d a → build d f (a ∷ fconstant e ∷ []) ≡ a
+  build_right_identity f e i a h = build_sum f (identity_associates (axioms d f) e i) a (fconstant e ∷ []) ∙ (sum_with_identity f e i a h).0
 
-  pub build_left_identity : (f e : OpId) → axioms d f ≡ AssocCommId e → (a : FlatTerm) → Settled d a → build d f (fconstant e ∷ a ∷ []) ≡ a
-  build_left_identity f e i a h = build_sum f (rw i tt) (fconstant e) (a ∷ []) ∙ (sum_with_identity f e (ap identity i) a h).1
+  pub build_left_identity : (f e : OpId) → identity (axioms d f) ≡ Some e → (a : FlatTerm) → Settled d a → build d f (fconstant e ∷ a ∷ []) ≡ a
+  build_left_identity f e i a h = build_sum f (identity_associates (axioms d f) e i) (fconstant e) (a ∷ []) ∙ (sum_with_identity f e i a h).1
 
   -- a form has no summands under f exactly where it is the constant that is f's identity
   pub parts_none_iff : (f : OpId) (t : FlatTerm) → Settled d t → (parts d f t ≡ []) ↔ ((e : OpId) × (identity (axioms d f) ≡ Some e) × (as_constant t ≡ Some e))

@@ -7,6 +7,7 @@ use Rattle.fvn_terms.specs.Term.{Term, Terms, var, app, none, more}
 use Rattle.fvn_terms.specs.Signature.{axioms, HasKind, HaveKinds}
 use Rattle.fvn_terms.specs.Places.{AtOnePlace, AmongOnePlace, here, inside, first, later, stop, step}
 use Rattle.fvn_terms.specs.Equality.{two, constant, IsCommutative, IsAssociative, IsAxiom, IsAxiomEitherWay, BEqual, swap, shift, right_identity, left_identity}
+use Rattle.fvn_terms.proofs.AxiomWords.{identity_associates}
 use Rattle.fvn_forms.specs.FitsKinds.{FitsKinds}
 
 module _ (d : Declarations) (fits : FitsKinds d) where
@@ -41,8 +42,8 @@ module _ (d : Declarations) (fits : FitsKinds d) where
       let outer = both_of_kind f a (two f t u) v k h in
       let inner = both_of_kind f a t u k outer.0 in
       sum_of_kind f a (two f t u) v t (two f u v) k h inner.0 (sum_of_kind f a (two f t u) v u v k h inner.1 outer.1)
-  axiom_keeps_kind _ _ (right_identity {f} {e = o} {t} e p q) k h = (both_of_kind f (rw e tt) t (constant o) k h).0
-  axiom_keeps_kind _ _ (left_identity {f} {e = o} {t} e p q) k h = (both_of_kind f (rw e tt) (constant o) t k h).1
+  axiom_keeps_kind _ _ (right_identity {f} {e = o} {t} e p q) k h = (both_of_kind f (identity_associates (axioms d f) o e) t (constant o) k h).0
+  axiom_keeps_kind _ _ (left_identity {f} {e = o} {t} e p q) k h = (both_of_kind f (identity_associates (axioms d f) o e) (constant o) t k h).1
 
   axiom_keeps_kind_back : (t u : Term) → IsAxiom d t u → (k : SortId) → HasKind d u k → HasKind d t k
   axiom_keeps_kind_back _ _ (swap {f} {t} {u} c) k h = swapped_of_kind f c u t k h

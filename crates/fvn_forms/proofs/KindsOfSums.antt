@@ -8,10 +8,10 @@ use Rattle.fvn_terms.specs.declared.declarations.Rank.{Rank}
 use Rattle.fvn_terms.specs.declared.declarations.Declarations.{Declarations}
 use Rattle.fvn_terms.specs.Term.{Term, app, none, more}
 use Rattle.fvn_terms.specs.Signature.{kind, declared, axioms, HasKind, HaveKinds}
-use Rattle.fvn_terms.specs.Equality.{two, IsAssociative}
+use Rattle.fvn_terms.specs.Equality.{two, IsAssociative, identity}
 use Rattle.fvn_forms.specs.Flat.{FlatTerm, FlatTerms, fvar, fapp, fnone, fmore, funpack, fconstant, nest, plain, plain_all}
 use Rattle.fvn_forms.specs.InOrder.{sort}
-use Rattle.fvn_forms.specs.Canon.{same_op, identity, is_identity, parts, joined, sum, build}
+use Rattle.fvn_forms.specs.Canon.{same_op, is_identity, parts, joined, sum, build}
 use Rattle.fvn_forms.specs.Settled.{Settled}
 use Rattle.fvn_forms.specs.FitsKinds.{FitsKinds}
 use Rattle.fvn_forms.proofs.InOrder.{each_sort}

@@ -32,7 +32,7 @@ use Rattle.fvn_forms.proofs.Build.{parts_none}
 use Rattle.fvn_forms.proofs.Eval.{eval_all_settled, canon_settled, canon_respects, canon_plain, eval_apply, eval_settled}
 use Rattle.fvn_forms.proofs.KindsKept.{b_equal_keeps_kind, both_of_kind}
 use Rattle.fvn_forms.proofs.Nests.{plain_list}
-use Rattle.fvn_forms.proofs.ToCanon.{identity_is, two_only, to_canon, canon_of_kind}
+use Rattle.fvn_forms.proofs.ToCanon.{two_only, to_canon, canon_of_kind}
 use Rattle.fvn_forms.proofs.RawSorts.{own_sort, own_sort_keeps, raw_sort, raw_sorts, raw_sort-kind, raw_takes, gets_raw, gets_least}
 use Rattle.fvn_forms.proofs.KindsOfSums.{nest_parts_of_kind, parts_of_kind}
 use Rattle.fvn_forms.proofs.SortsOfSums.{each_weaker, each_both, sorts_in-fpack, sort_of_sum, sort_of_two, of_kind, raw_nest}
@@ -105,7 +105,7 @@ module _ (d : Declarations) where
             let same_sum : sum d f (all_parts d f (a ∷ b ∷ [])) ≡ a = ap (λ l. sum d f (parts d f a ++ (l ++ []))) e ∙ ap (sum d f) (append-nil (parts d f a)) ∙ sum_parts d f a ha in
             let at : sort_in d env b ≡ result d n.0 [] = ap (sort_in d env) n.2 in
             let fits : IsOfKind d f (sort_in d env a) = of_kind d good f assoc env keeps k j.rank j.listed j.result (sort_in d env a) (sort_in-kind a ha k ka) in
-            let c : AtOrBelow d (sort_in d env a) (result d f (sort_in d env a ∷ result d n.0 [] ∷ [])) = good.collapse f n.0 (sort_in d env a) (identity_is (axioms d f) n.0 n.1) fits in
+            let c : AtOrBelow d (sort_in d env a) (result d f (sort_in d env a ∷ result d n.0 [] ∷ [])) = good.collapse f n.0 (sort_in d env a) n.1 fits in
             subst (λ t. AtOrBelow d (sort_in d env t) (result d f (sort_in d env a ∷ sort_in d env b ∷ []))) (sym same_sum)
             (subst (λ s. AtOrBelow d (sort_in d env a) (result d f (sort_in d env a ∷ s ∷ []))) (sym at) c)
 
@@ -115,7 +115,7 @@ module _ (d : Declarations) where
             let same_sum : sum d f (all_parts d f (a ∷ b ∷ [])) ≡ b = ap (λ l. sum d f (l ++ (parts d f b ++ []))) e ∙ ap (sum d f) (append-nil (parts d f b)) ∙ sum_parts d f b hb in
             let at : sort_in d env a ≡ result d n.0 [] = ap (sort_in d env) n.2 in
             let fits : IsOfKind d f (sort_in d env b) = of_kind d good f assoc env keeps k j.rank j.listed j.result (sort_in d env b) (sort_in-kind b hb k kb) in
-            let c : AtOrBelow d (sort_in d env b) (result d f (sort_in d env b ∷ result d n.0 [] ∷ [])) = good.collapse f n.0 (sort_in d env b) (identity_is (axioms d f) n.0 n.1) fits in
+            let c : AtOrBelow d (sort_in d env b) (result d f (sort_in d env b ∷ result d n.0 [] ∷ [])) = good.collapse f n.0 (sort_in d env b) n.1 fits in
             let c2 : AtOrBelow d (sort_in d env b) (result d f (sort_in d env b ∷ sort_in d env a ∷ [])) = subst (λ s. AtOrBelow d (sort_in d env b) (result d f (sort_in d env b ∷ s ∷ []))) (sym at) c in
             subst (λ t. AtOrBelow d (sort_in d env t) (result d f (sort_in d env a ∷ sort_in d env b ∷ []))) (sym same_sum)
             (subst (AtOrBelow d (sort_in d env b)) (sym turned_sorts) c2)

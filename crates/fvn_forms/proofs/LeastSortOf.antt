@@ -6,16 +6,15 @@ use Rattle.fvn_terms.specs.declared.plain.SortId.{SortId}
 use Rattle.fvn_terms.specs.declared.declarations.Declarations.{Declarations}
 use Rattle.fvn_terms.specs.Term.{Term, Terms, app}
 use Rattle.fvn_terms.specs.Signature.{axioms, HasKind}
-use Rattle.fvn_terms.specs.Equality.{two, IsAssociative}
+use Rattle.fvn_terms.specs.Equality.{two, IsAssociative, identity}
 use Rattle.fvn_forms.specs.Flat.{FlatTerm, fvar}
-use Rattle.fvn_forms.specs.Canon.{identity, as_constant, parts, build, eval_all, canon}
+use Rattle.fvn_forms.specs.Canon.{as_constant, parts, build, eval_all, canon}
 use Rattle.fvn_forms.specs.Settled.{Settled}
 use Rattle.fvn_forms.specs.Ranks.{result}
 use Rattle.fvn_forms.specs.Good.{IsGood}
 use Rattle.fvn_forms.specs.LeastSort.{least_sort}
 use Rattle.fvn_forms.proofs.Build.{is_constant, parts_none_iff, build_right_identity, build_left_identity, build_joined}
 use Rattle.fvn_forms.proofs.Eval.{fvar_settled, eval_all_settled, canon_settled}
-use Rattle.fvn_forms.proofs.ToCanon.{identity_is}
 use Rattle.fvn_forms.proofs.RawSorts.{own_sort, own_sort_keeps}
 use Rattle.fvn_forms.proofs.LeastSort.{fvar_flat, evals_of_kinds, sort_of_build}
 
@@ -27,11 +26,11 @@ module _ (d : Declarations) where
   -- beside its identity an operator has the flat form of its other argument
   pub canon_left_identity : (f : OpId) (t u : Term) → IsIdentityOf f (canon d t) → canon d (two f t u) ≡ canon d u
   canon_left_identity f t u h =
-      ap (λ a. build d f (a ∷ canon d u ∷ [])) (is_constant (canon d t) h.0 h.2) ∙ build_left_identity d f h.0 (identity_is (axioms d f) h.0 h.1) (canon d u) (canon_settled d u)
+      ap (λ a. build d f (a ∷ canon d u ∷ [])) (is_constant (canon d t) h.0 h.2) ∙ build_left_identity d f h.0 h.1 (canon d u) (canon_settled d u)
 
   pub canon_right_identity : (f : OpId) (t u : Term) → IsIdentityOf f (canon d u) → canon d (two f t u) ≡ canon d t
   canon_right_identity f t u h =
-      ap (λ a. build d f (canon d t ∷ a ∷ [])) (is_constant (canon d u) h.0 h.2) ∙ build_right_identity d f h.0 (identity_is (axioms d f) h.0 h.1) (canon d t) (canon_settled d t)
+      ap (λ a. build d f (canon d t ∷ a ∷ [])) (is_constant (canon d u) h.0 h.2) ∙ build_right_identity d f h.0 h.1 (canon d t) (canon_settled d t)
 
   some_parts : (f : OpId) (l : List FlatTerm) → AllByRecursion (λ t. Settled d t) l → AllByRecursion (λ t. IsIdentityOf f t → ⊥) l → AllByRecursion (λ t. parts d f t ≡ [] → ⊥) l
   some_parts f [] h n = tt

@@ -10,7 +10,8 @@ use Rattle.fvn_terms.specs.Signature.{axioms}
 use Rattle.fvn_forms.specs.Flat.{FlatTerm, FlatTerms, fvar, fapp, fnone, fmore, fpack, funpack, fconstant, nest, plain, plain_all, symbols}
 use Rattle.fvn_forms.specs.Order.{flat_cmp}
 use Rattle.fvn_forms.specs.InOrder.{insert, sort}
-use Rattle.fvn_forms.specs.Canon.{same_op, identity, is_identity, parts, joined, sum}
+use Rattle.fvn_forms.specs.Canon.{same_op, is_identity, parts, joined, sum}
+use Rattle.fvn_terms.specs.Equality.{identity}
 use Rattle.fvn_forms.proofs.InOrder.{length_sort}
 use Rattle.fvn_forms.proofs.Sums.{funpack-fpack}
 use Rattle.fvn_forms.proofs.Nests.{insert_some}

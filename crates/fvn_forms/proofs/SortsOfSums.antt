@@ -11,12 +11,12 @@ use Rattle.fvn_terms.specs.declared.plain.SortId.{SortId}
 use Rattle.fvn_terms.specs.declared.declarations.Rank.{Rank}
 use Rattle.fvn_terms.specs.declared.declarations.Declarations.{Declarations}
 use Rattle.fvn_terms.specs.Signature.{kind, declared, axioms, HasKind}
-use Rattle.fvn_terms.specs.Equality.{IsAssociative}
+use Rattle.fvn_terms.specs.Equality.{IsAssociative, identity}
 use Rattle.std.specs.Prelude.{Contains}
 use Rattle.fvn_forms.specs.Flat.{FlatTerm, FlatTerms, fvar, fapp, fnone, fmore, fpack, funpack, fconstant, nest, plain, plain_all}
 use Rattle.fvn_forms.specs.Order.{flat_cmp}
 use Rattle.fvn_forms.specs.InOrder.{insert, sort}
-use Rattle.fvn_forms.specs.Canon.{same_op, identity, is_identity, parts, joined, sum}
+use Rattle.fvn_forms.specs.Canon.{same_op, is_identity, parts, joined, sum}
 use Rattle.fvn_forms.specs.SortOrder.{same_sort}
 use Rattle.fvn_forms.specs.Good.{IsOfKind, IsGood}
 use Rattle.fvn_forms.specs.LeastSort.{result_of_two, sum_sort, sort_in, sorts_in, KeepsKindsOfVariables}

@@ -11,7 +11,8 @@ use Rattle.fvn_terms.specs.declared.declarations.Declarations.{Declarations}
 use Rattle.fvn_terms.specs.Signature.{axioms}
 use Rattle.fvn_forms.specs.Flat.{FlatTerm, FlatTerms, fvar, fapp, fnone, fmore, fpack, funpack, fconstant}
 use Rattle.fvn_forms.specs.InOrder.{InOrder, sort, SameCounts}
-use Rattle.fvn_forms.specs.Canon.{same_op, identity, is_identity, parts, all_parts, empty_sum, joined, sum}
+use Rattle.fvn_forms.specs.Canon.{same_op, is_identity, parts, all_parts, empty_sum, joined, sum}
+use Rattle.fvn_terms.specs.Equality.{identity}
 use Rattle.fvn_forms.specs.Settled.{IsPiece, FitsUnjoined, Settled, SettledAll}
 use Rattle.fvn_forms.proofs.InOrder.{sort-sort, sort_in_order, sort_same_counts, each_append, each_sort}
 

@@ -1,5 +1,5 @@
 -- Well-kinded terms are equal modulo the axioms exactly where their flat forms are equal.
-use Rattle.std.proofs.Common.{◌≡◌, Bool, true, false, List, [], ◌∷◌, ◌++◌, Some, refl, sym, ap, ◌∙◌, subst, inl, inr}
+use Rattle.std.proofs.Common.{◌≡◌, Bool, true, false, List, [], ◌∷◌, ◌++◌, refl, sym, ap, ◌∙◌, subst, inl, inr}
 use Rattle.std.specs.Prelude.{◌↔◌}
 use Rattle.std.specs.Ordering.{is_gt}
 use Rattle.std.specs.List.{AllByRecursion}
@@ -13,13 +13,13 @@ use Rattle.fvn_terms.specs.declared.declarations.Declarations.{Declarations}
 use Rattle.fvn_terms.specs.Term.{Term, Terms, var, app, none, more}
 use Rattle.fvn_terms.specs.Signature.{axioms, HasKind, HaveKinds, IsTerm}
 use Rattle.fvn_terms.specs.Places.{here, stop, step}
-use Rattle.fvn_terms.specs.Equality.{two, constant, IsCommutative, IsAssociative, IsAxiomEitherWay, BEqual, swap, left_identity, right_identity}
+use Rattle.fvn_terms.specs.Equality.{two, constant, IsCommutative, IsAssociative, IsAxiomEitherWay, BEqual, swap, left_identity, right_identity, identity}
 use Rattle.fvn_terms.proofs.Steps.{Leads-append, EachLeads, each_none, each_more, Leads_inside}
 use Rattle.fvn_terms.proofs.Equal.{BEqual-sym}
 use Rattle.fvn_forms.specs.Flat.{FlatTerm, fvar, fapp, fnone, fmore, fpack, funpack, fconstant, nest_all, plain, plain_all}
 use Rattle.fvn_forms.specs.Order.{flat_cmp}
 use Rattle.fvn_forms.specs.InOrder.{sort}
-use Rattle.fvn_forms.specs.Canon.{same_op, identity, is_identity, parts, all_parts, joined, sum, built, build, eval_all, canon}
+use Rattle.fvn_forms.specs.Canon.{same_op, is_identity, parts, all_parts, joined, sum, built, build, eval_all, canon}
 use Rattle.fvn_forms.specs.Settled.{Settled}
 use Rattle.fvn_forms.specs.FitsKinds.{FitsKinds}
 use Rattle.fvn_forms.proofs.Sums.{fpack-funpack, same_op_is, sum_parts}
@@ -28,12 +28,6 @@ use Rattle.fvn_forms.proofs.Eval.{fvar_settled, eval_all_settled, canon_respects
 use Rattle.fvn_forms.proofs.Order.{flat_equal_decided}
 use Rattle.fvn_forms.proofs.KindsKept.{b_equal_keeps_kind, both_of_kind}
 use Rattle.fvn_forms.proofs.Nests.{plain_list, nested, insert_some, nested_append, nested_sort}
-
-pub identity_is : (a : Axioms) (e : OpId) → identity a ≡ Some e → a ≡ AssocCommId e
-identity_is Free e p = cc
-identity_is Comm e p = cc
-identity_is AssocComm e p = cc
-identity_is (AssocCommId o) e p = cc
 
 module _ (d : Declarations) where
   -- a form with summands stands for their nested sum
@@ -70,7 +64,7 @@ module _ (d : Declarations) where
         let at : plain a ≡ constant n.0 = ap plain n.2 in
         let j : HasKind d (two f (constant n.0) (plain b)) k = subst (λ t. HasKind d (two f t (plain b)) k) at h in
         subst (BEqual d (two f (plain a) (plain b))) (sym goal)
-        (subst (λ t. BEqual d (two f t (plain b)) (plain b)) (sym at) (step (here (inl (left_identity {t = plain b} {k = k} (identity_is (axioms d f) n.0 n.1) kb j))) stop))
+        (subst (λ t. BEqual d (two f t (plain b)) (plain b)) (sym at) (step (here (inl (left_identity {t = plain b} {k = k} n.1 kb j))) stop))
 
     sum_plain_empty_right : parts d f b ≡ [] → BEqual d (two f (plain a) (plain b)) (plain (sum d f (all_parts d f (a ∷ b ∷ []))))
     sum_plain_empty_right e =
@@ -80,7 +74,7 @@ module _ (d : Declarations) where
         let at : plain b ≡ constant n.0 = ap plain n.2 in
         let j : HasKind d (two f (plain a) (constant n.0)) k = subst (λ t. HasKind d (two f (plain a) t) k) at h in
         subst (BEqual d (two f (plain a) (plain b))) (sym goal)
-        (subst (λ t. BEqual d (two f (plain a) t) (plain a)) (sym at) (step (here (inl (right_identity {t = plain a} {k = k} (identity_is (axioms d f) n.0 n.1) ka j))) stop))
+        (subst (λ t. BEqual d (two f (plain a) t) (plain a)) (sym at) (step (here (inl (right_identity {t = plain a} {k = k} n.1 ka j))) stop))
 
     sum_plain_some : (x : FlatTerm) (xs : List FlatTerm) (y : FlatTerm) (ys : List FlatTerm) → parts d f a ≡ x ∷ xs → parts d f b ≡ y ∷ ys → BEqual d (two f (plain a) (plain b)) (plain (sum d f (all_parts d f (a ∷ b ∷ []))))
     sum_plain_some x xs y ys p q =

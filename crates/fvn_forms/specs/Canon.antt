@@ -8,19 +8,13 @@ use Rattle.fvn_terms.specs.declared.declarations.Axioms.TheVariants.{Free, Comm,
 use Rattle.fvn_terms.specs.declared.declarations.Declarations.{Declarations}
 use Rattle.fvn_terms.specs.Term.{Term, Terms, var, app, none, more}
 use Rattle.fvn_terms.specs.Signature.{axioms}
+use Rattle.fvn_terms.specs.Equality.{identity}
 use Rattle.fvn_forms.specs.Flat.{FlatTerm, fvar, fapp, fnone, fmore, fpack, funpack, fconstant, plain}
 use Rattle.fvn_forms.specs.InOrder.{sort}
 
 -- whether two operators are one
 abbrev pub same_op : OpId → OpId → Bool
 same_op f g = nat_eq f.0 g.0
-
--- the identity of an operator with these axioms
-abbrev pub identity : Axioms → Option OpId
-identity Free = None
-identity Comm = None
-identity AssocComm = None
-identity (AssocCommId e) = Some e
 
 -- whether the constant g is the identity
 abbrev pub is_identity : Option OpId → OpId → Bool

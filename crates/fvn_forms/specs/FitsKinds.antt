@@ -1,12 +1,11 @@
 -- What equality modulo the axioms asks of the kinds in a signature.
-use Rattle.std.specs.Prelude.{◌≡◌, [], ◌∷◌, map, Contains}
+use Rattle.std.specs.Prelude.{◌≡◌, [], ◌∷◌, map, Contains, Some}
 use Rattle.fvn_terms.specs.declared.plain.OpId.{OpId}
 use Rattle.fvn_terms.specs.declared.plain.SortId.{SortId}
-use Rattle.fvn_terms.specs.declared.declarations.Axioms.TheVariants.{AssocCommId}
 use Rattle.fvn_terms.specs.declared.declarations.Rank.{Rank}
 use Rattle.fvn_terms.specs.declared.declarations.Declarations.{Declarations}
 use Rattle.fvn_terms.specs.Signature.{kind, declared, axioms, HasKind}
-use Rattle.fvn_terms.specs.Equality.{IsCommutative, IsAssociative, constant}
+use Rattle.fvn_terms.specs.Equality.{IsCommutative, IsAssociative, constant, identity as identity_of}
 
 module _ (d : Declarations) where
   -- the two ranks have arguments and a result of the same kinds
@@ -30,4 +29,4 @@ module _ (d : Declarations) where
     -- an associative one takes two arguments of the kind that it gives
     pub associative : (f : OpId) (r : Rank) → IsAssociative (axioms d f) → Contains (declared d f).ranks r → TakesTwoOfItsKind r
     -- an identity is a constant of the operator's kind
-    pub identity : (f e : OpId) (r : Rank) → axioms d f ≡ AssocCommId e → Contains (declared d f).ranks r → HasKind d (constant e) (kind d r.result)
+    pub identity : (f e : OpId) (r : Rank) → identity_of (axioms d f) ≡ Some e → Contains (declared d f).ranks r → HasKind d (constant e) (kind d r.result)

@@ -1,15 +1,14 @@
 -- Good signatures.
 -- Maude Manual, chapter 3.
 -- The last two conditions on sorts, on brackets and on identities, are this project's own.
-use Rattle.std.specs.Prelude.{◌≡◌, ◌≤◌, List, [], ◌∷◌, map, length, All, Contains}
+use Rattle.std.specs.Prelude.{◌≡◌, ◌≤◌, List, [], ◌∷◌, map, length, All, Contains, Some}
 use Rattle.fvn_base.specs.declared.limits.TheConstants.{SORTS, OPERATORS, ARGUMENTS}
 use Rattle.fvn_terms.specs.declared.plain.OpId.{OpId}
 use Rattle.fvn_terms.specs.declared.plain.SortId.{SortId}
-use Rattle.fvn_terms.specs.declared.declarations.Axioms.TheVariants.{AssocCommId}
 use Rattle.fvn_terms.specs.declared.declarations.Rank.{Rank}
 use Rattle.fvn_terms.specs.declared.declarations.Declarations.{Declarations}
 use Rattle.fvn_terms.specs.Signature.{kind, declared, axioms, IsSort, AtOrBelow}
-use Rattle.fvn_terms.specs.Equality.{IsAssociative}
+use Rattle.fvn_terms.specs.Equality.{IsAssociative, identity}
 use Rattle.fvn_forms.specs.FitsKinds.{FitsKinds}
 use Rattle.fvn_forms.specs.Ranks.{IsResult, result}
 
@@ -65,5 +64,5 @@ module _ (d : Declarations) where
     -- the sort of a sum does not depend on its brackets
     pub associative_sorts : (f : OpId) (a b c : SortId) → IsAssociative (axioms d f) → IsOfKind f a → IsOfKind f b → IsOfKind f c → Associates f a b c
     -- a sort is at or below that of its sum with the identity
-    pub collapse : (f e : OpId) (a : SortId) → axioms d f ≡ AssocCommId e → IsOfKind f a → Collapses f e a
+    pub collapse : (f e : OpId) (a : SortId) → identity (axioms d f) ≡ Some e → IsOfKind f a → Collapses f e a
     pub limits : IsWithinLimits

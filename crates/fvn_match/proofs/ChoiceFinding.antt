@@ -10,7 +10,8 @@ use Rattle.fvn_terms.specs.declared.declarations.Declarations.{Declarations}
 use Rattle.fvn_terms.specs.Signature.{kind, axioms, HasKind}
 use Rattle.fvn_forms.specs.Flat.{FlatTerm, fapp, fnone, plain}
 use Rattle.fvn_forms.specs.InOrder.{count}
-use Rattle.fvn_forms.specs.Canon.{identity, sum, inst, empty_sum}
+use Rattle.fvn_forms.specs.Canon.{sum, inst, empty_sum}
+use Rattle.fvn_terms.specs.Equality.{identity}
 use Rattle.fvn_forms.specs.Settled.{IsPiece, Settled}
 use Rattle.fvn_forms.specs.FitsKinds.{FitsKinds}
 use Rattle.fvn_forms.proofs.Build.{HasIdentity}

@@ -7,10 +7,10 @@ use Rattle.fvn_terms.specs.declared.plain.SortId.{SortId}
 use Rattle.fvn_terms.specs.declared.declarations.Axioms.TheVariants.{Free, Comm, AssocComm}
 use Rattle.fvn_terms.specs.declared.declarations.Declarations.{Declarations}
 use Rattle.fvn_terms.specs.Signature.{axioms, HasKind}
-use Rattle.fvn_terms.specs.Equality.{IsAssociative}
+use Rattle.fvn_terms.specs.Equality.{IsAssociative, identity}
 use Rattle.fvn_forms.specs.Flat.{FlatTerm, FlatTerms, fvar, fapp, fnone, fmore, fpack, funpack, fconstant, plain}
 use Rattle.fvn_forms.specs.InOrder.{sort}
-use Rattle.fvn_forms.specs.Canon.{same_op, identity, is_identity, parts, all_parts, inst}
+use Rattle.fvn_forms.specs.Canon.{same_op, is_identity, parts, all_parts, inst}
 use Rattle.fvn_forms.specs.Settled.{FitsUnjoined, Settled, SettledValues}
 use Rattle.fvn_forms.specs.FitsKinds.{FitsKinds}
 use Rattle.fvn_forms.proofs.Sums.{same_op_is}

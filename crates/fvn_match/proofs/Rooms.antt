@@ -9,7 +9,8 @@ use Rattle.fvn_terms.specs.declared.declarations.Axioms.TheVariants.{Free, Comm,
 use Rattle.fvn_terms.specs.declared.declarations.Declarations.{Declarations}
 use Rattle.fvn_terms.specs.Signature.{axioms}
 use Rattle.fvn_forms.specs.Flat.{FlatTerm}
-use Rattle.fvn_forms.specs.Canon.{identity, parts, inst}
+use Rattle.fvn_forms.specs.Canon.{parts, inst}
+use Rattle.fvn_terms.specs.Equality.{identity}
 use Rattle.fvn_match.specs.inner.Candidates.{Values, IsCandidate}
 use Rattle.fvn_match.specs.inner.Goals.{patterns_of, pieces_of, SumHolds, SumFits}
 use Rattle.fvn_match.specs.inner.Searching.{IsGroup, IsRoom}

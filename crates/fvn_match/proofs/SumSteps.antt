@@ -7,10 +7,10 @@ use Rattle.std.proofs.Math.Nat.{mul-div_cancel_left}
 use Rattle.fvn_terms.specs.declared.plain.OpId.{OpId}
 use Rattle.fvn_terms.specs.declared.declarations.Declarations.{Declarations}
 use Rattle.fvn_terms.specs.Signature.{axioms}
-use Rattle.fvn_terms.specs.Equality.{IsAssociative}
+use Rattle.fvn_terms.specs.Equality.{IsAssociative, identity}
 use Rattle.fvn_forms.specs.Flat.{FlatTerm}
 use Rattle.fvn_forms.specs.InOrder.{count}
-use Rattle.fvn_forms.specs.Canon.{identity, parts, all_parts, sum, inst}
+use Rattle.fvn_forms.specs.Canon.{parts, all_parts, sum, inst}
 use Rattle.fvn_forms.specs.Settled.{IsPiece, SettledValues}
 use Rattle.fvn_forms.proofs.InOrder.{count_append, count_sort}
 use Rattle.fvn_forms.proofs.Sums.{parts_sum, sum_parts, sum_same_counts}

@@ -6,10 +6,10 @@ use Rattle.fvn_terms.specs.declared.declarations.Axioms.{Axioms}
 use Rattle.fvn_terms.specs.declared.declarations.Axioms.TheVariants.{Free, Comm, AssocComm, AssocCommId}
 use Rattle.fvn_terms.specs.declared.declarations.Declarations.{Declarations}
 use Rattle.fvn_terms.specs.Signature.{axioms}
-use Rattle.fvn_terms.specs.Equality.{IsAssociative}
+use Rattle.fvn_terms.specs.Equality.{IsAssociative, identity}
 use Rattle.fvn_forms.specs.Flat.{FlatTerm, fvar, fapp, fnone, fmore, funpack}
 use Rattle.fvn_forms.specs.InOrder.{InOrder}
-use Rattle.fvn_forms.specs.Canon.{same_op, identity, is_identity, parts}
+use Rattle.fvn_forms.specs.Canon.{same_op, is_identity, parts}
 use Rattle.fvn_forms.specs.Settled.{FitsUnjoined, Settled}
 use Rattle.fvn_forms.proofs.Sums.{same_op_itself, same_op_is}
 use Rattle.fvn_flat.specs.Forms.{head_of, args_of}

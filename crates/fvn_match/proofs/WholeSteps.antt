@@ -8,7 +8,8 @@ use Rattle.fvn_terms.specs.declared.declarations.Axioms.TheVariants.{AssocCommId
 use Rattle.fvn_terms.specs.declared.declarations.Declarations.{Declarations}
 use Rattle.fvn_terms.specs.Signature.{kind, axioms}
 use Rattle.fvn_forms.specs.Flat.{FlatTerm, fconstant}
-use Rattle.fvn_forms.specs.Canon.{identity, empty_sum, sum, build}
+use Rattle.fvn_forms.specs.Canon.{empty_sum, sum, build}
+use Rattle.fvn_terms.specs.Equality.{identity}
 use Rattle.fvn_forms.specs.Settled.{IsPiece}
 use Rattle.fvn_forms.specs.FitsKinds.{FitsKinds}
 use Rattle.fvn_flat.specs.Fits.{AllFit, Takes}

@@ -1,15 +1,15 @@
 //! Summands of flat terms, as different pieces with their numbers.
 ghost use Rattle.std.specs.Prelude.{◌≡◌, ◌≤◌, ◌<◌, ◌↔◌, [], ◌∷◌, length, reverse, take, drop, Some, IsTrue, IfOk};
 ghost use Rattle.fvn_terms.specs.Signature.{axioms};
-ghost use Rattle.fvn_terms.specs.Equality.{IsAssociative};
+ghost use Rattle.fvn_terms.specs.Equality.{IsAssociative, identity};
 ghost use Rattle.fvn_forms.specs.InOrder.{InOrder};
-ghost use Rattle.fvn_forms.specs.Canon.{identity, is_identity, parts};
+ghost use Rattle.fvn_forms.specs.Canon.{is_identity, parts};
 ghost use Rattle.fvn_forms.specs.Settled.{Settled};
 ghost use Rattle.fvn_flat.specs.Forms.{head_of};
 ghost use Rattle.fvn_match.specs.inner.Summands.{references, IsTakenAway, IsCounted, IsRun};
 
 use fvn_flat::Flat;
-use fvn_sorts::Signature;
+use fvn_signature::Signature;
 use fvn_terms::{Axioms, NoMemory, OpId};
 use std::alloc::Global;
 use std::slice;

@@ -12,9 +12,9 @@ use Rattle.fvn_terms.specs.declared.declarations.Declarations.{Declarations}
 use Rattle.fvn_terms.specs.Term.{Term, app, none, more}
 use Rattle.fvn_terms.specs.Plain.{term, terms}
 use Rattle.fvn_terms.specs.Signature.{axioms, IsTerm}
-use Rattle.fvn_terms.specs.Equality.{two, IsAssociative}
+use Rattle.fvn_terms.specs.Equality.{two, IsAssociative, identity}
 use Rattle.fvn_forms.specs.Flat.{fvar}
-use Rattle.fvn_forms.specs.Canon.{identity, as_constant, eval_all, canon}
+use Rattle.fvn_forms.specs.Canon.{as_constant, eval_all, canon}
 use Rattle.fvn_forms.specs.Ranks.{result}
 use Rattle.fvn_forms.specs.Good.{IsGood}
 use Rattle.fvn_forms.specs.LeastSort.{least_sort}

@@ -1,7 +1,7 @@
 //! The least sort of a written term, piece by piece, with what is not closed on a stack: the term need not be built.
 ghost use Rattle.std.specs.Prelude.{◌≡◌, [], ◌∷◌, map, reverse, IfOk};
 ghost use Rattle.fvn_terms.specs.Signature.{axioms};
-ghost use Rattle.fvn_forms.specs.Canon.{identity};
+ghost use Rattle.fvn_terms.specs.Equality.{identity};
 ghost use Rattle.fvn_syntax.specs.Pieces.{is_colon_name};
 ghost use Rattle.fvn_syntax.specs.Names.{declared_sort, variable_named, op_named, is_sum};
 ghost use Rattle.fvn_syntax.specs.Texts.{place};
@@ -30,7 +30,7 @@ ghost use Rattle.fvn_problems.specs.inner.Sorting.{
 };
 
 use fvn_base::Seq;
-use fvn_sorts::Signature;
+use fvn_signature::Signature;
 use fvn_syntax::{
     Names, Piece, Scope, Text, find_constant, find_operator, find_sort, split_sorted,
     terms_are_well_kinded,

@@ -6,7 +6,8 @@ use Rattle.fvn_terms.specs.declared.declarations.Declarations.{Declarations}
 use Rattle.fvn_terms.specs.Signature.{axioms}
 use Rattle.fvn_terms.specs.Unifiers.{Problem}
 use Rattle.fvn_forms.specs.Flat.{FlatTerm}
-use Rattle.fvn_forms.specs.Canon.{identity, canon}
+use Rattle.fvn_forms.specs.Canon.{canon}
+use Rattle.fvn_terms.specs.Equality.{identity}
 use Rattle.fvn_combine_nodes.specs.Table.{NodeTable, IsTableOf, IsOver, term_at}
 use Rattle.fvn_combine_nodes.specs.declared.table.Node.{Node}
 use Rattle.fvn_combine_nodes.specs.declared.table.Node.TheVariants.{Var, App}

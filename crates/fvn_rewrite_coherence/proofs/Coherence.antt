@@ -7,19 +7,19 @@ use Rattle.fvn_terms.specs.Term.{Term, var}
 use Rattle.fvn_terms.specs.Substitution.{apply}
 use Rattle.fvn_terms.specs.Signature.{kind, IsTerm}
 use Rattle.fvn_terms.specs.Places.{AtOnePlace, AmongOnePlace, here as at_term, inside as inside_term, first as first_term, later as later_term, stop}
-use Rattle.fvn_terms.specs.Equality.{constant}
+use Rattle.fvn_terms.specs.Equality.{constant, identity}
 use Rattle.fvn_terms.specs.Theory.{Equations}
 use Rattle.fvn_terms.specs.Rewriting.{Rewrites, IsIrreducible}
 use Rattle.fvn_terms.specs.Laws.{RewritingLaws}
 use Rattle.fvn_terms.proofs.Equal.{BEqual-sym}
 use Rattle.fvn_forms.specs.Flat.{FlatTerm, FlatTerms, fvar, fnone, fmore, nest, nest_all, plain, plain_all}
-use Rattle.fvn_forms.specs.Canon.{identity, canon}
+use Rattle.fvn_forms.specs.Canon.{canon}
 use Rattle.fvn_forms.specs.Good.{IsGood}
 use Rattle.fvn_forms.specs.Ranks.{result}
 use Rattle.fvn_forms.proofs.Eval.{canon_respects}
 use Rattle.fvn_forms.proofs.KindsKept.{b_equal_keeps_kind}
 use Rattle.fvn_forms.proofs.ToCanon.{canon_of_kind, b_equal_iff_canon}
-use Rattle.fvn_sorts.specs.Queries.{IsCompleted}
+use Rattle.fvn_signature.specs.Queries.{IsCompleted}
 use Rattle.fvn_flat.specs.Forms.{head_of}
 use Rattle.fvn_flat.specs.FlatPlaces.{IsReplaced, IsReplacedAmong, here, inside, first, later}
 use Rattle.fvn_flat.specs.Rules.{IsIdentity}

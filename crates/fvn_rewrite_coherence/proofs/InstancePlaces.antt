@@ -9,10 +9,10 @@ use Rattle.fvn_terms.specs.declared.declarations.Axioms.TheVariants.{Free, Comm,
 use Rattle.fvn_terms.specs.declared.declarations.Declarations.{Declarations}
 use Rattle.fvn_terms.specs.Substitution.{Occurs, OccursAmong}
 use Rattle.fvn_terms.specs.Signature.{axioms}
-use Rattle.fvn_terms.specs.Equality.{IsAssociative}
+use Rattle.fvn_terms.specs.Equality.{IsAssociative, identity}
 use Rattle.fvn_forms.specs.Flat.{FlatTerm, FlatTerms, fvar, fapp, fnone, fmore, fpack, funpack, fconstant, plain, plain_all}
 use Rattle.fvn_forms.specs.InOrder.{sort, count}
-use Rattle.fvn_forms.specs.Canon.{identity, parts, all_parts, joined as joined_sum, sum, canon, inst}
+use Rattle.fvn_forms.specs.Canon.{parts, all_parts, joined as joined_sum, sum, canon, inst}
 use Rattle.fvn_forms.specs.Settled.{IsPiece, Settled, SettledValues}
 use Rattle.fvn_forms.proofs.InOrder.{count_append, count_itself, count_sort, sort_same_counts, each_sort}
 use Rattle.fvn_forms.proofs.Sums.{funpack-fpack, fpack-funpack, SettledAll-funpack, sum_parts, sum_same_counts, all_parts_are_pieces, all_parts_are_settled}

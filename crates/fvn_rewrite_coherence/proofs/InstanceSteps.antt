@@ -20,7 +20,8 @@ use Rattle.fvn_forms.specs.Good.{IsGood}
 use Rattle.fvn_forms.proofs.Build.{is_constant}
 use Rattle.fvn_forms.proofs.Eval.{canon_respects, eval_apply}
 use Rattle.fvn_forms.proofs.KindsKept.{b_equal_keeps_kind}
-use Rattle.fvn_forms.proofs.ToCanon.{to_canon, canon_of_kind, b_equal_iff_canon, identity_is}
+use Rattle.fvn_forms.proofs.ToCanon.{to_canon, canon_of_kind, b_equal_iff_canon}
+use Rattle.fvn_terms.proofs.AxiomWords.{identity_is}
 use Rattle.fvn_flat.specs.Fits.{Fits, AllFit}
 use Rattle.fvn_flat.specs.Forms.{head_of}
 use Rattle.fvn_flat.specs.FlatPlaces.{IsReplaced, IsReplacedAmong, here as here_form, inside as inside_form, first as first_form, later as later_form}

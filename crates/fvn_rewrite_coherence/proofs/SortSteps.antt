@@ -9,14 +9,14 @@ use Rattle.fvn_terms.specs.declared.declarations.Declarations.{Declarations}
 use Rattle.fvn_terms.specs.Term.{Term}
 use Rattle.fvn_terms.specs.Signature.{kind, axioms, AtOrBelow, same, IsTerm, HasKind, HaveKinds}
 use Rattle.fvn_terms.specs.Places.{AtOnePlace, here}
-use Rattle.fvn_terms.specs.Equality.{two, IsAssociative, BEqual}
+use Rattle.fvn_terms.specs.Equality.{two, IsAssociative, BEqual, identity}
 use Rattle.fvn_terms.specs.Sorts.{HasSort}
 use Rattle.fvn_terms.specs.Theory.{Equations, IsRule}
 use Rattle.fvn_terms.specs.Rewriting.{Rewrites, TermSequence}
 use Rattle.fvn_terms.specs.Laws.{RewritingLaws}
 use Rattle.fvn_terms.proofs.Equal.{BEqual-trans, BEqual-sym}
 use Rattle.fvn_forms.specs.Flat.{FlatTerm, fpack, plain, plain_all}
-use Rattle.fvn_forms.specs.Canon.{identity, parts, build, canon}
+use Rattle.fvn_forms.specs.Canon.{parts, build, canon}
 use Rattle.fvn_forms.specs.Settled.{Settled}
 use Rattle.fvn_forms.specs.Ranks.{result}
 use Rattle.fvn_forms.specs.Good.{TakesKinds, IsOfKind, IsGood}
@@ -25,9 +25,9 @@ use Rattle.fvn_forms.proofs.SortOrder.{AtOrBelow-trans, AtOrBelow-from_same}
 use Rattle.fvn_forms.proofs.Results.{AllBelow-self, result_monotone, result_swap}
 use Rattle.fvn_forms.proofs.Build.{parts_none, parts_none_iff, build_left_identity}
 use Rattle.fvn_forms.proofs.KindsKept.{both_of_kind, swapped_of_kind, b_equal_keeps_kind}
-use Rattle.fvn_forms.proofs.ToCanon.{identity_is}
+use Rattle.fvn_terms.proofs.AxiomWords.{identity_is}
 use Rattle.fvn_forms.proofs.LeastSort.{sort_in-kind, sort_of_build, least_sort_below, least_sort_exact, has_least_sort}
-use Rattle.fvn_sorts.specs.Queries.{IsCompleted}
+use Rattle.fvn_signature.specs.Queries.{IsCompleted}
 use Rattle.fvn_rewrite_laws.specs.Losses.{AreSortDecreasing}
 use Rattle.fvn_rewrite_laws.specs.Laws.{KindedLaws}
 use Rattle.fvn_rewrite_coherence.specs.Admissible.{AreAdmissible}

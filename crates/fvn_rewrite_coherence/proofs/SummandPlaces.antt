@@ -7,7 +7,8 @@ use Rattle.fvn_terms.specs.declared.declarations.Declarations.{Declarations}
 use Rattle.fvn_terms.specs.Signature.{axioms}
 use Rattle.fvn_forms.specs.Flat.{FlatTerm, FlatTerms, fvar, fapp, fnone, fmore, fpack, funpack, fconstant, plain}
 use Rattle.fvn_forms.specs.InOrder.{count, SameCounts}
-use Rattle.fvn_forms.specs.Canon.{same_op, identity, is_identity, parts, all_parts, canon}
+use Rattle.fvn_forms.specs.Canon.{same_op, is_identity, parts, all_parts, canon}
+use Rattle.fvn_terms.specs.Equality.{identity}
 use Rattle.fvn_forms.specs.Settled.{IsPiece, Settled}
 use Rattle.fvn_forms.proofs.InOrder.{count_append, count_sort, each_append}
 use Rattle.fvn_forms.proofs.Sums.{fpack-funpack, same_op_is, SettledAll-funpack, parts_sum, all_parts_are_pieces}

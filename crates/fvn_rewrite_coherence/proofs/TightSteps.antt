@@ -22,7 +22,7 @@ use Rattle.fvn_forms.proofs.Eval.{canon_settled, canon_plain}
 use Rattle.fvn_forms.proofs.KindsKept.{kind_unique, both_of_kind, sum_of_kind}
 use Rattle.fvn_forms.proofs.KindsOfSums.{build_of_kind}
 use Rattle.fvn_forms.proofs.Instances.{inst_settled}
-use Rattle.fvn_forms.proofs.ToCanon.{identity_is}
+use Rattle.fvn_terms.proofs.AxiomWords.{identity_is}
 use Rattle.fvn_flat.specs.FlatPlaces.{IsReplaced, here}
 use Rattle.fvn_flat.specs.Rules.{IsIdentityInstance}
 use Rattle.fvn_rewrite_coherence.specs.Admissible.{AreAdmissible}

@@ -11,15 +11,15 @@ use Rattle.fvn_terms.specs.declared.declarations.Axioms.TheVariants.{Free, Assoc
 use Rattle.fvn_terms.specs.declared.declarations.OpDecl.{OpDecl}
 use Rattle.fvn_terms.specs.declared.declarations.Declarations.{Declarations}
 use Rattle.fvn_terms.specs.Signature.{kind, unknown, declared, axioms, HasKind}
-use Rattle.fvn_terms.specs.Equality.{constant}
+use Rattle.fvn_terms.specs.Equality.{constant, identity}
 use Rattle.fvn_forms.specs.Flat.{fconstant}
-use Rattle.fvn_forms.specs.Canon.{same_op, identity}
+use Rattle.fvn_forms.specs.Canon.{same_op}
 use Rattle.fvn_forms.specs.Ranks.{result}
 use Rattle.fvn_forms.specs.Good.{IsGood}
 use Rattle.fvn_forms.proofs.Sums.{same_op_is, same_op_itself, constant_settled}
-use Rattle.fvn_forms.proofs.ToCanon.{identity_is}
+use Rattle.fvn_terms.proofs.AxiomWords.{identity_is}
 use Rattle.fvn_forms.proofs.LeastSort.{sort_in-kind}
-use Rattle.fvn_sorts.specs.Queries.{IsCompleted}
+use Rattle.fvn_signature.specs.Queries.{IsCompleted}
 use Rattle.fvn_flat.specs.Rules.{IsIdentity}
 use Rattle.fvn_rewrite_laws.specs.Identities.{is_listed_op, with_operator, with_identity_of, identities}
 

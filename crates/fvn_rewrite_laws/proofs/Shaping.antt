@@ -12,11 +12,11 @@ use Rattle.fvn_terms.specs.declared.declarations.Declarations.{Declarations}
 use Rattle.fvn_terms.specs.Term.{Term, Terms, var, app, none, more}
 use Rattle.fvn_terms.specs.Substitution.{Substitution, apply, apply_all}
 use Rattle.fvn_terms.specs.Signature.{axioms, HasKind, HaveKinds, KeepsKinds}
-use Rattle.fvn_terms.specs.Equality.{two, IsAssociative}
+use Rattle.fvn_terms.specs.Equality.{two, IsAssociative, identity}
 use Rattle.fvn_terms.proofs.Equal.{HasKind-apply}
 use Rattle.fvn_forms.specs.Flat.{FlatTerm, fvar, fapp, fnone, fmore, fpack}
 use Rattle.fvn_forms.specs.InOrder.{sort}
-use Rattle.fvn_forms.specs.Canon.{identity, as_constant, parts, all_parts, joined, built, build, eval_all, canon}
+use Rattle.fvn_forms.specs.Canon.{as_constant, parts, all_parts, joined, built, build, eval_all, canon}
 use Rattle.fvn_forms.specs.Ranks.{result}
 use Rattle.fvn_forms.specs.Good.{IsGood}
 use Rattle.fvn_forms.specs.LeastSort.{least_sort}

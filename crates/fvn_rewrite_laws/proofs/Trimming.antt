@@ -7,10 +7,10 @@ use Rattle.fvn_terms.specs.declared.declarations.Declarations.{Declarations}
 use Rattle.fvn_terms.specs.Term.{Term, Terms, var, app, none, more}
 use Rattle.fvn_terms.specs.Substitution.{Occurs, OccursAmong}
 use Rattle.fvn_terms.specs.Signature.{axioms}
-use Rattle.fvn_forms.specs.Canon.{identity}
+use Rattle.fvn_terms.specs.Equality.{identity}
 use Rattle.fvn_forms.specs.Ranks.{result}
 use Rattle.fvn_forms.proofs.Sums.{same_op_is}
-use Rattle.fvn_forms.proofs.ToCanon.{identity_is}
+use Rattle.fvn_terms.proofs.AxiomWords.{identity_is}
 use Rattle.fvn_rewrite_laws.specs.declared.shapes.Root.{Root}
 use Rattle.fvn_rewrite_laws.specs.declared.shapes.Root.TheVariants.{Variable, Constant, Compound}
 use Rattle.fvn_rewrite_laws.specs.declared.shapes.Shape.{Shape}

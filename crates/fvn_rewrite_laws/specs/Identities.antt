@@ -4,7 +4,8 @@ use Rattle.std.specs.List.{list_any}
 use Rattle.fvn_terms.specs.declared.plain.OpId.{OpId}
 use Rattle.fvn_terms.specs.declared.declarations.OpDecl.{OpDecl}
 use Rattle.fvn_terms.specs.declared.declarations.Declarations.{Declarations}
-use Rattle.fvn_forms.specs.Canon.{same_op, identity}
+use Rattle.fvn_forms.specs.Canon.{same_op}
+use Rattle.fvn_terms.specs.Equality.{identity}
 
 -- whether the operator is listed
 abbrev pub is_listed_op : List OpId → OpId → Bool

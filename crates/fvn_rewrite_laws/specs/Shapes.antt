@@ -8,7 +8,8 @@ use Rattle.fvn_terms.specs.declared.declarations.Declarations.{Declarations}
 use Rattle.fvn_terms.specs.Term.{Term, Terms, var, app, none, more}
 use Rattle.fvn_terms.specs.Signature.{axioms}
 use Rattle.fvn_forms.specs.Flat.{FlatTerm, fvar, fapp, fnone, fmore}
-use Rattle.fvn_forms.specs.Canon.{same_op, identity}
+use Rattle.fvn_forms.specs.Canon.{same_op}
+use Rattle.fvn_terms.specs.Equality.{identity}
 use Rattle.fvn_forms.specs.Ranks.{result}
 use Rattle.fvn_forms.specs.LeastSort.{least_sort}
 use Rattle.fvn_rewrite_laws.specs.declared.shapes.Root.{Root}

@@ -1,6 +1,6 @@
 -- Equality modulo the axioms.
 -- G. E. Peterson and M. E. Stickel, Complete sets of reductions for some equational theories, 1981.
-use Rattle.std.specs.Prelude.{◌≡◌, ◌⊎◌}
+use Rattle.std.specs.Prelude.{◌≡◌, ◌⊎◌, Bool, true, false, Option, Some, None}
 use Rattle.fvn_terms.specs.declared.plain.OpId.{OpId}
 use Rattle.fvn_terms.specs.declared.plain.SortId.{SortId}
 use Rattle.fvn_terms.specs.declared.declarations.Axioms.{Axioms}
@@ -32,14 +32,42 @@ IsAssociative Comm = ⊥
 IsAssociative AssocComm = Unit {0}
 IsAssociative (AssocCommId e) = Unit {0}
 
+-- the identity of an operator with these axioms
+abbrev pub identity : Axioms → Option OpId
+identity Free = None
+identity Comm = None
+identity AssocComm = None
+identity (AssocCommId e) = Some e
+
+-- whether these axioms let an operator exchange its arguments
+abbrev pub is_commutative : Axioms → Bool
+is_commutative Free = false
+is_commutative Comm = true
+is_commutative AssocComm = true
+is_commutative (AssocCommId e) = true
+
+-- whether these axioms let an operator move its brackets: terms under it are sums
+abbrev pub is_sum : Axioms → Bool
+is_sum Free = false
+is_sum Comm = false
+is_sum AssocComm = true
+is_sum (AssocCommId e) = true
+
+-- whether these are no axioms
+abbrev pub is_free : Axioms → Bool
+is_free Free = true
+is_free Comm = false
+is_free AssocComm = false
+is_free (AssocCommId e) = false
+
 module _ (d : Declarations) where
   -- The second term is an instance of the right side of an axiom whose left side has the first as its instance.
   -- An identity is put beside a term only where the operator takes terms of its kind.
   pub data IsAxiom : Term → Term → Type 0 where
     swap : {f : OpId} {t u : Term} → IsCommutative (axioms d f) → IsAxiom (two f t u) (two f u t)
     shift : {f : OpId} {t u v : Term} → IsAssociative (axioms d f) → IsAxiom (two f (two f t u) v) (two f t (two f u v))
-    right_identity : {f e : OpId} {t : Term} {k : SortId} → axioms d f ≡ AssocCommId e → HasKind d t k → HasKind d (two f t (constant e)) k → IsAxiom (two f t (constant e)) t
-    left_identity : {f e : OpId} {t : Term} {k : SortId} → axioms d f ≡ AssocCommId e → HasKind d t k → HasKind d (two f (constant e) t) k → IsAxiom (two f (constant e) t) t
+    right_identity : {f e : OpId} {t : Term} {k : SortId} → identity (axioms d f) ≡ Some e → HasKind d t k → HasKind d (two f t (constant e)) k → IsAxiom (two f t (constant e)) t
+    left_identity : {f e : OpId} {t : Term} {k : SortId} → identity (axioms d f) ≡ Some e → HasKind d t k → HasKind d (two f (constant e) t) k → IsAxiom (two f (constant e) t) t
 
   -- an axiom in either direction
   abbrev pub IsAxiomEitherWay : Term → Term → Type 0

@@ -1,6 +1,7 @@
 //! What a module declares: sorts, their order, and operators.
-ghost use Rattle.std.specs.Prelude.{◌≡◌, MatchOption};
+ghost use Rattle.std.specs.Prelude.{◌≡◌, ◌↔◌, IsTrue, MatchOption};
 ghost use Rattle.fvn_terms.specs.Signature.{kind, declared, unknown};
+ghost use Rattle.fvn_terms.specs.Equality.{identity, is_sum, is_commutative, is_free, IsAssociative, IsCommutative};
 
 use crate::plain::{OpId, SortId};
 use fvn_base::Seq;
@@ -12,6 +13,50 @@ pub enum Axioms {
     Comm,
     AssocComm,
     AssocCommId(OpId),
+}
+
+impl Axioms {
+    /// The constant that is the operator's identity.
+    pub fn identity(self) -> Option<OpId>
+        ensures { result ≡ identity self }
+    {
+        match self {
+            Axioms::Free | Axioms::Comm | Axioms::AssocComm => None,
+            Axioms::AssocCommId(e) => Some(e),
+        }
+    }
+
+    /// Whether terms under the operator are sums: it may move its brackets, and exchange its arguments.
+    pub fn is_sum(self) -> bool
+        ensures exact { result ≡ is_sum self }
+        ensures holds { IsTrue result ↔ IsAssociative self }
+    {
+        match self {
+            Axioms::Free | Axioms::Comm => false,
+            Axioms::AssocComm | Axioms::AssocCommId(_) => true,
+        }
+    }
+
+    /// Whether the operator may exchange its arguments.
+    pub fn is_commutative(self) -> bool
+        ensures exact { result ≡ is_commutative self }
+        ensures holds { IsTrue result ↔ IsCommutative self }
+    {
+        match self {
+            Axioms::Free => false,
+            Axioms::Comm | Axioms::AssocComm | Axioms::AssocCommId(_) => true,
+        }
+    }
+
+    /// Whether the operator has no axioms.
+    pub fn is_free(self) -> bool
+        ensures { result ≡ is_free self }
+    {
+        match self {
+            Axioms::Free => true,
+            Axioms::Comm | Axioms::AssocComm | Axioms::AssocCommId(_) => false,
+        }
+    }
 }
 
 /// One declaration of an operator: the sorts of its arguments and of its result.

@@ -5,7 +5,8 @@ use Rattle.fvn_terms.specs.declared.plain.OpId.{OpId}
 use Rattle.fvn_terms.specs.declared.declarations.Declarations.{Declarations}
 use Rattle.fvn_terms.specs.Signature.{axioms}
 use Rattle.fvn_forms.specs.Flat.{FlatTerm}
-use Rattle.fvn_forms.specs.Canon.{identity, parts, sum, inst}
+use Rattle.fvn_forms.specs.Canon.{parts, sum, inst}
+use Rattle.fvn_terms.specs.Equality.{identity}
 use Rattle.fvn_flat.specs.Bindings.{Bindings, value}
 use Rattle.fvn_match.specs.inner.Choices.{IsWithin}
 use Rattle.fvn_match.specs.inner.Tallies.{repeated}

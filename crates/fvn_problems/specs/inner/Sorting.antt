@@ -6,7 +6,8 @@ use Rattle.fvn_terms.specs.declared.plain.SortId.{SortId}
 use Rattle.fvn_terms.specs.declared.declarations.Declarations.{Declarations}
 use Rattle.fvn_terms.specs.Signature.{kind, axioms}
 use Rattle.fvn_terms.specs.Term.{Term}
-use Rattle.fvn_forms.specs.Canon.{identity, as_constant, canon}
+use Rattle.fvn_forms.specs.Canon.{as_constant, canon}
+use Rattle.fvn_terms.specs.Equality.{identity}
 use Rattle.fvn_forms.specs.LeastSort.{least_sort}
 use Rattle.fvn_forms.specs.Ranks.{result}
 use Rattle.fvn_terms.specs.Plain.{term}

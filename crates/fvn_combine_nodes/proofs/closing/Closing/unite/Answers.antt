@@ -4,7 +4,8 @@ use Rattle.std.specs.Prelude.{is_some}
 use Rattle.std.proofs.lemmas.Bool.{eq-eqb, not-false}
 use Rattle.fvn_terms.specs.declared.declarations.Axioms.TheVariants.{Free, Comm}
 use Rattle.fvn_terms.specs.Signature.{axioms}
-use Rattle.fvn_forms.specs.Canon.{identity, same_op}
+use Rattle.fvn_forms.specs.Canon.{same_op}
+use Rattle.fvn_terms.specs.Equality.{identity}
 use Rattle.fvn_forms.proofs.Sums.{same_op_is}
 use Rattle.fvn_combine_nodes.specs.Classes.{AreTogether, MeetInPairs, AreAlike}
 use Rattle.fvn_combine_nodes.specs.States.{class_of, IsOpen}
