@@ -1,8 +1,8 @@
 //! Normal forms by the rules of modules.
 ghost use Rattle.std.specs.Prelude.{◌<◌, length, IfOk};
 ghost use Rattle.fvn_flat.specs.Fits.{Fits};
-ghost use Rattle.fvn_cohere.specs.Promises.{equations_of};
-ghost use Rattle.fvn_rewrite_coherence.specs.Admissible.{AreAdmissible};
+ghost use Rattle.fvn_theory.specs.Equations.{equations_of};
+ghost use Rattle.fvn_rewrite_laws.specs.Admissible.{AreAdmissible};
 ghost use Rattle.fvn_rewrite_rules.specs.Given.{AreRules};
 
 use crate::tests::texts::module_of;

@@ -1,7 +1,7 @@
 -- A module none of whose left sides is at fault.
 use Rattle.std.proofs.Common.{sym, subst}
-use Rattle.fvn_cohere.specs.Promises.{equations_of}
-use Rattle.fvn_rewrite_coherence.specs.Admissible.{AreAdmissible}
+use Rattle.fvn_theory.specs.Equations.{equations_of}
+use Rattle.fvn_rewrite_laws.specs.Admissible.{AreAdmissible}
 use Rattle.fvn_tests_rules.proofs.tests.normal_forms.outcomes_in.Goals as goal
 
 pub outcomes_by-requires : goal.outcomes_by-requires

@@ -3,7 +3,7 @@ use Rattle.std.proofs.Common.{get_or, sym, subst}
 use Rattle.std.proofs.lemmas.List.Elements.{All-get_or}
 use Rattle.fvn_terms.specs.Plain.{term}
 use Rattle.fvn_terms.specs.Signature.{IsTerm}
-use Rattle.fvn_module.specs.Readable.{IsReadableEquation}
+use Rattle.fvn_theory.specs.Equations.{IsReadableEquation}
 use Rattle.fvn_tests_rules.proofs.tests.normal_forms.right_side.Goals as goal
 
 pub flatten-requires : goal.flatten-requires

@@ -4,6 +4,7 @@ use Rattle.std.specs.Prelude.{◌≡◌, ◌≤◌, ◌<◌, ◌-◌, ◌^◌, �
 use Rattle.fvn_terms.specs.declared.declarations.Declarations.{Declarations}
 use Rattle.fvn_terms.specs.Theory.{Equations}
 use Rattle.fvn_terms.specs.Rewriting.{Rewrites, TermSequence, IsReducible, IsIrreducible}
+use Rattle.fvn_theory.specs.declared.bounds.Bounds.{Bounds}
 use Rattle.fvn_forms.specs.Flat.{FlatTerm, plain, symbols}
 use Rattle.fvn_flat.specs.Fits.{Fits}
 use Rattle.fvn_flat.specs.declared.solver.Normal.{Normal}
@@ -28,30 +29,30 @@ module _ (d : Declarations) (equations : Equations) where
     pub fits : Fits d u
 
   -- what is said of a start, with limits on steps and on symbols
-  module _ (t : FlatTerm) (steps size : ℕ) where
+  module _ (t : FlatTerm) (bounds : Bounds) where
     -- at most so many steps lead to u
     pub record IsReachedWithin (u : FlatTerm) : Type 0 where
       pub count : ℕ
-      pub within : count ≤ steps
+      pub within : count ≤ bounds.steps
       pub reached : IsReached count t u
 
     -- the steps lead to an irreducible form, which is not too large
     pub record IsForm (u : FlatTerm) : Type 0 where
       pub reached : IsReachedWithin u
       pub irreducible : IsNormalForm u
-      pub small : counted u ≤ size
+      pub small : counted u ≤ bounds.size
 
     -- all steps that are allowed lead from the start to a form that is reducible and not too large
     pub record IsUnfinished (start u : FlatTerm) : Type 0 where
       pub is : start ≡ t
-      pub reached : IsReached steps t u
+      pub reached : IsReached bounds.steps t u
       pub reducible : IsReducible d equations (plain u)
-      pub small : counted u ≤ size
+      pub small : counted u ≤ bounds.size
 
     -- the steps lead to a form that is too large
     pub record IsTooLarge (u : FlatTerm) : Type 0 where
       pub reached : IsReachedWithin u
-      pub large : size < counted u
+      pub large : bounds.size < counted u
 
     -- what a search for a normal form may end with
     abbrev pub IsNormalised : Normal → Type 0
