@@ -56,18 +56,18 @@ b = constant (op 3)
 abbrev pub form_a : FlatTerm
 form_a = fconstant (op 2)
 
-abbrev form_b : FlatTerm
+abbrev pub form_b : FlatTerm
 form_b = fconstant (op 3)
 
 -- X ; a = b
-abbrev equation : Term × Term
+abbrev pub equation : Term × Term
 equation = (two (op 0) (var x) a, b)
 
-abbrev x_and_a : FlatTerm
+abbrev pub x_and_a : FlatTerm
 x_and_a = fapp (op 0) true (fmore (fvar x) (fmore form_a fnone))
 
 -- with no variable replaced: X ; a = b
-as_it_is : IsIdentityInstance sets equation x_and_a form_b
+pub as_it_is : IsIdentityInstance sets equation x_and_a form_b
 as_it_is = record { by = var; choice = λ y. inl refl; left = refl; right = refl }
 
 mt_is_an_identity : IsIdentity sets (op 1)

@@ -28,3 +28,4 @@ mod ExampleSums
 mod ExampleRules
 mod ExamplePlaces
 mod ExampleSuccessors
+mod ExampleParts
