@@ -13,9 +13,9 @@ use Rattle.fvn_flat.specs.Drawn.{Renaming}
 use Rattle.fvn_flat.specs.OneAnswer.{IsApartFor}
 use Rattle.fvn_flat.specs.Problems.{plain_pairs, flat_pairs, variables_of}
 use Rattle.fvn_flat.specs.Rules.{IsRuleOf}
-use Rattle.fvn_flat.specs.FlatPlaces.{IsAtPlace}
+use Rattle.fvn_flat.specs.FlatPlaces.{IsAtPlace, Beside, IsPartOf}
 use Rattle.fvn_flat.specs.Solving.{substitution, symbols_of_pairs, problem_of, IsBasisCause, IsTooLarge as UnfoldsTooLarge}
-use Rattle.fvn_flat.specs.Successors.{Narrowed, IsRenaming, renamed_form, renamed_problem, IsPartOf, IsDrawnSuccessor}
+use Rattle.fvn_flat.specs.Successors.{Narrowed, IsRenaming, renamed_form, renamed_problem, IsDrawnSuccessor}
 use Rattle.fvn_flat.specs.declared.solver.Pairs.{Pairs}
 use Rattle.fvn_flat.specs.declared.solver.SizeCause.{SizeCause}
 use Rattle.fvn_flat.specs.declared.solver.SizeCause.TheVariants.{Problem as OfProblem, Binding, Term as OfTerm}
@@ -28,7 +28,7 @@ module _ (g : Setting) (drawn : Problem → Substitution → Type 0) (Posed : Pa
   -- as many steps as are allowed lead from one of the terms to a reducible one
   pub record IsStepsCause (start end : FlatTerm) : Type 0 where
     pub told : Told start
-    pub sequence : TermSequence g.declarations g.equations g.steps (plain start) (plain end)
+    pub sequence : TermSequence g.declarations g.equations g.bounds.steps (plain start) (plain end)
     pub reducible : IsReducible g.declarations g.equations (plain end)
 
   -- a sequence from one of the terms leads to one with too many symbols
@@ -37,17 +37,17 @@ module _ (g : Setting) (drawn : Problem → Substitution → Type 0) (Posed : Pa
     pub told : Told start
     pub steps : ℕ
     pub sequence : TermSequence g.declarations g.equations steps (plain start) (plain end)
-    pub large : g.size < symbols end
+    pub large : g.bounds.size < symbols end
 
   -- a solved list of one of the problems unfolds to a value with too many symbols
   pub record IsLargeBinding (bindings : Bindings) : Type 0 where
     pub given : Pairs
     pub posed : Posed given
-    pub large : UnfoldsTooLarge g.declarations given g.size bindings
+    pub large : UnfoldsTooLarge g.declarations given g.bounds.size bindings
 
   -- one of the problems, what a solved list unfolds to, or a term has too many symbols
   abbrev pub IsSizeCause : SizeCause → Type 0
-  IsSizeCause (OfProblem given) = Posed given × (g.size < symbols_of_pairs given.pairs)
+  IsSizeCause (OfProblem given) = Posed given × (g.bounds.size < symbols_of_pairs given.pairs)
   IsSizeCause (Binding list) = IsLargeBinding list.bindings
   IsSizeCause (OfTerm end) = IsLargeTerm end
 
@@ -77,8 +77,8 @@ pub record IsPartOfVariant (g : Setting) (v : Variant) (at : FlatTerm) : Type 0 
   pub listed : Contains v.terms term
   pub whole : FlatTerm
   pub at_place : IsAtPlace whole term
-  pub beside : List FlatTerm
-  pub part : IsPartOf g.declarations whole at beside
+  pub beside : Beside
+  pub part : IsPartOf whole at beside
 
 -- The problem asks for unifiers of a part of one of the variant's terms and the left side of a rule, whose variables do
 -- not occur in the part, up to a renaming of the variables of both.

@@ -6,17 +6,17 @@ use Rattle.fvn_terms.specs.Term.{Term}
 use Rattle.fvn_terms.specs.Theory.{Equations}
 use Rattle.fvn_forms.specs.Flat.{FlatTerm}
 use Rattle.fvn_flat.specs.declared.solver.Normal.{Normal}
+use Rattle.fvn_theory.specs.declared.bounds.Bounds.{Bounds}
 use Rattle.fvn_rewrite_laws.specs.Lawful.{AreLawful}
 use Rattle.fvn_rewrite_laws.specs.Normalised.{IsNormalised}
 
 -- A signature and equations; terms over the start's variables that are to stay irreducible; how many steps a normal
--- form may take, how many symbols a term may have, and at how many unifiers of a problem the solver stops.
+-- form may take and how many symbols a term may have; and at how many unifiers of a problem the solver stops.
 pub record Setting : Type 0 where
   pub declarations : Declarations
   pub equations : Equations
   pub fixed : List Term
-  pub steps : ℕ
-  pub size : ℕ
+  pub bounds : Bounds
   pub unifiers : ℕ
 
 -- the equations keep what an exploration stands on
@@ -25,4 +25,4 @@ AreLawfulIn g = AreLawful g.declarations g.equations
 
 -- a normal form of t, or why there is none within the limits
 abbrev pub IsRested : Setting → FlatTerm → Normal → Type 0
-IsRested g t = IsNormalised g.declarations g.equations t g.steps g.size
+IsRested g t = IsNormalised g.declarations g.equations t g.bounds

@@ -22,12 +22,7 @@ pub trait Expander: Sync {
     ghost drawn: { Self → Problem → Substitution → Type 0 };
 
     /// The children of a variant.
-    fn expand(
-        &self,
-        alloc: Global,
-        v: &Variant,
-        first_fresh: u32,
-    ) -> Result<Expansion, NoMemory>
+    fn expand(&self, alloc: Global, v: &Variant, first_fresh: u32) -> Result<Expansion, NoMemory>
         requires variant { IsExpandable (setting self.now) first_fresh v.now }
         requires first { first_fresh ≤ EXPANDED_FRESH }
 

@@ -5,6 +5,6 @@ mod ends;
 mod expander;
 mod limits;
 
-pub use ends::{Deep, ExpandEnd, Expansion, Explored, ExploreEnd, all_shared};
+pub use ends::{Deep, ExpandEnd, Expansion, ExploreEnd, Explored, all_shared};
 pub use expander::Expander;
 pub use limits::Limits;
