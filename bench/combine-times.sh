@@ -4,13 +4,7 @@ set -e
 here=$(cd "$(dirname "$0")/.." && pwd)
 there=$(mktemp -d)
 trap 'rm -rf "$there"' EXIT
-mkdir -p "$there/crates"
-cp "$here/HANDLES" "$there/HANDLES"
-for crate in base lindio acunify terms forms drafts sorts flat samples match counts cover nodes purify sums frames supports plans asking unfolding binding obeying wheels openings drawing combine refine axunify combine_tests; do
-  cp -r "$here/crates/fvn_$crate" "$there/crates/"
-  rm -rf "$there/crates/fvn_$crate/must-fail"
-  grep "^fvn_$crate:" "$here/crates.txt" >> "$there/crates.txt"
-done
+python3 "$here/bench/crates.py" "$there" fvn_tests_combine
 # A term is written with each operator after its arguments: constants f and g, free operators h and i, a commutative
 # operator j, sums k and n, and sums l and m with the identity g.
 cp "${PROBLEMS:-$here/bench/combine-problems.txt}" "$there/problems"

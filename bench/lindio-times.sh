@@ -4,14 +4,12 @@ set -e
 here=$(cd "$(dirname "$0")/.." && pwd)
 there=$(mktemp -d)
 trap 'rm -rf "$there"' EXIT
-mkdir -p "$there/crates"
-cp "$here/HANDLES" "$there/HANDLES"
-cp -r "$here/crates/fvn_base" "$here/crates/fvn_lindio" "$there/crates/"
-rm -rf "$there"/crates/*/out
+python3 "$here/bench/crates.py" "$there" fvn_lindio 'lindio_times: fvn_base fvn_lindio'
+mv "$there/crates.txt" "$there/lines"
 touch "$there/crates.txt"
 cd "$there/crates" && rt new lindio_times start_io > /dev/null && cd lindio_times
+mv "$there/lines" "$there/crates.txt"
 rm -rf proofs/* specs/* stdin stdout src/*
-printf 'fvn_base:\nfvn_lindio: fvn_base smallvec\nlindio_times: fvn_lindio fvn_base\n' > "$there/crates.txt"
 cat > src/main.rt <<'PROGRAM'
 //! Times of `basis`.
 #![tactic(auto)]

@@ -6,15 +6,7 @@ set -e
 here=$(cd "$(dirname "$0")/.." && pwd)
 there=$(mktemp -d)
 trap 'rm -rf "$there"' EXIT
-mkdir -p "$there/crates"
-cp "$here/HANDLES" "$there/HANDLES"
-cp "$here/crates.txt" "$there/crates.txt"
-for crate in "$here"/crates/*; do
-    mkdir -p "$there/crates/$(basename "$crate")"
-    for part in src specs proofs; do
-        if [ -d "$crate/$part" ]; then cp -r "$crate/$part" "$there/crates/$(basename "$crate")/"; fi
-    done
-done
+python3 "$here/bench/crates.py" "$there" fvn_tests_answer fvn_module
 cd "$there/crates/fvn_tests_answer"
 python3 "$here/bench/lines.py" rows > rows.txt
 python3 - <<'PROGRAM'

@@ -4,22 +4,19 @@ set -e
 here=$(cd "$(dirname "$0")/.." && pwd)
 there=$(mktemp -d)
 trap 'rm -rf "$there"' EXIT
-mkdir -p "$there/crates"
-cp "$here/HANDLES" "$there/HANDLES"
-for crate in base lex terms forms drafts sorts lindio flat syntax statements naming declared module rewriting cohere; do
-  cp -r "$here/crates/fvn_$crate" "$there/crates/"
-  rm -rf "$there/crates/fvn_$crate/must-fail" "$there/crates/fvn_$crate/out"
-  grep "^fvn_$crate:" "$here/crates.txt" >> "$there/crates.txt"
-done
+python3 "$here/bench/crates.py" "$there" 'loss_times: fvn_cohere fvn_module fvn_module_loading fvn_terms'
+mv "$there/crates.txt" "$there/lines"
+touch "$there/crates.txt"
 cd "$there/crates" && rt new loss_times start_io > /dev/null && cd loss_times
+mv "$there/lines" "$there/crates.txt"
 rm -rf proofs/* specs/* stdin stdout src/* BUILD.bazel ../BUILD.bazel
-printf 'loss_times: fvn_cohere fvn_module fvn_terms\n' >> "$there/crates.txt"
 cat > src/main.rt <<'PROGRAM'
 //! Times of the search for losses and collapses.
 #![tactic(auto)]
 
-use fvn_cohere::{LeftFault, first_left_fault, sort_loss};
+use fvn_cohere::LeftFault;
 use fvn_module::{Module, read_module};
+use fvn_module_loading::{first_left_fault, sort_loss};
 use fvn_terms::NoMemory;
 use std::alloc::Global;
 use std::io;

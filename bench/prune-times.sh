@@ -4,11 +4,7 @@ set -e
 here=$(cd "$(dirname "$0")/.." && pwd)
 there=$(mktemp -d)
 trap 'rm -rf "$there"' EXIT
-mkdir -p "$there/crates"
-cp "$here/HANDLES" "$there/HANDLES"
-for crate in fvn_base fvn_terms fvn_forms fvn_signature fvn_sorts fvn_lindio fvn_flat fvn_tests_samples fvn_match fvn_cover_counts fvn_cover fvn_tests_matching; do cp -r "$here/crates/$crate" "$there/crates/"; done
-grep -E '^fvn_(base|terms|forms|drafts|sorts|lindio|flat|samples|match|counts|cover):' "$here/crates.txt" > "$there/crates.txt"
-echo 'fvn_tests_matching: fvn_base fvn_cover fvn_flat fvn_forms fvn_tests_samples fvn_sorts fvn_terms' >> "$there/crates.txt"
+python3 "$here/bench/crates.py" "$there" 'fvn_tests_matching: fvn_base fvn_cover fvn_flat fvn_forms fvn_sorts fvn_terms fvn_tests_samples'
 cd "$there/crates/fvn_tests_matching"
 # The rest of the tests is not needed.
 find src/tests -type f ! -name comparing.rt ! -name meeting.rt ! -name variants.rt -delete

@@ -1,16 +1,10 @@
 #!/usr/bin/env bash
-# How many states, frames, plans and choices the search for unifiers modulo C, AC and ACU goes through. A state is a set of decisions which nodes of the problem are in one class; a frame is one in which nothing more is asked; a plan is a frame with an operator, or none, for each class that several operators use; a choice is a set of minimal solutions for each sum operator of a plan. It proves nothing: run at the top of the repository, it works in a copy. PROBLEMS=FILE takes other problems than those of bench/combine-problems.txt, written as in bench/combine-times.sh.
+# How many states, leaves, plans and choices the search for unifiers modulo C, AC and ACU goes through. A state is a set of decisions which nodes of the problem are in one class; a leaf is one in which nothing more is asked; a plan is a leaf with an operator, or none, for each class that several operators use; a choice is a set of minimal solutions for each sum operator of a plan. It proves nothing: run at the top of the repository, it works in a copy. PROBLEMS=FILE takes other problems than those of bench/combine-problems.txt, written as in bench/combine-times.sh.
 set -e
 here=$(cd "$(dirname "$0")/.." && pwd)
 there=$(mktemp -d)
 trap 'rm -rf "$there"' EXIT
-mkdir -p "$there/crates"
-cp "$here/HANDLES" "$there/HANDLES"
-for crate in base lindio acunify terms forms drafts sorts flat samples match counts cover nodes purify sums frames supports plans asking unfolding binding obeying wheels openings drawing combine refine axunify combine_tests; do
-  cp -r "$here/crates/fvn_$crate" "$there/crates/"
-  rm -rf "$there/crates/fvn_$crate/must-fail"
-  grep "^fvn_$crate:" "$here/crates.txt" >> "$there/crates.txt"
-done
+python3 "$here/bench/crates.py" "$there" fvn_tests_combine
 cp "${PROBLEMS:-$here/bench/combine-problems.txt}" "$there/problems"
 cd "$there/crates/fvn_tests_combine"
 # The rest of the tests is not needed.

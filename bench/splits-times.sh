@@ -4,14 +4,7 @@ set -e
 here=$(cd "$(dirname "$0")/.." && pwd)
 there=$(mktemp -d)
 trap 'rm -rf "$there"' EXIT
-mkdir -p "$there/crates"
-cp "$here/HANDLES" "$there/HANDLES"
-for crate in fvn_base fvn_terms fvn_forms fvn_signature fvn_sorts fvn_lindio fvn_flat fvn_combine_nodes fvn_purify; do
-  mkdir -p "$there/crates/$crate"
-  for part in src specs proofs; do cp -r "$here/crates/$crate/$part" "$there/crates/$crate/"; done
-done
-grep -E '^fvn_(base|terms|forms|drafts|sorts|lindio|flat|nodes|purify):' "$here/crates.txt" > "$there/crates.txt"
-echo "times: fvn_base fvn_flat fvn_forms fvn_combine_nodes fvn_purify fvn_sorts fvn_terms" >> "$there/crates.txt"
+python3 "$here/bench/crates.py" "$there" 'times: fvn_base fvn_combine_nodes fvn_flat fvn_forms fvn_purify fvn_sorts fvn_terms'
 mkdir -p "$there/crates/times/src"
 cd "$there/crates/times"
 cat > src/main.rt <<'PROGRAM'

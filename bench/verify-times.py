@@ -17,7 +17,7 @@ import time
 from pathlib import Path
 
 HERE = Path(__file__).resolve().parent
-MODULE = (HERE.parent / "examples" / "plus.maude").read_text()
+MODULE = (HERE.parent / "examples" / "accepted" / "plus.maude").read_text()
 
 
 def number(n):

@@ -1,10 +1,20 @@
 #!/usr/bin/env python3
-"""Writes docs/CONTRACTS.md and docs/DEFINITIONS.md from the sources.
+"""Writes from the sources what documents say of them.
 
-    python3 docs/write.py           writes both
-    python3 docs/write.py --check   fails where the written documents differ from the sources, or where a crate cites a
-                                    definition of another's specs/inner/
+    python3 docs/write.py           writes all that is listed below
+    python3 docs/write.py --check   fails where what is written differs from the sources, where a crate cites a definition of
+                                    another's specs/inner/, where an engine stands on a reader of texts, or where README says
+                                    nothing of a field of the report; and counts on standard error the definitions under
+                                    the report that mirror code
     python3 docs/write.py --lint    prints what is missing: comments, first lines, uses, pages of crates, and laws that stand elsewhere
+
+| written | from |
+|---|---|
+| docs/reference/ | the contracts of public calls, and the definitions of specs/ |
+| docs/PROMISE.md | the definitions to which the report of a run leads |
+| docs/PROVED.md | the lines on promises and laws of the crates' pages |
+| the tables of docs/ARCHITECTURE.md | crates.txt, and the first line of each crate |
+| man/fvn.1 | docs/COMMANDS.md and docs/LANGUAGE.md, by docs/man.py |
 
 The words come from the sources: the `//!` line of a crate, the `///` line of a call, the `//` comment over
 clauses, the `--` lines over a definition and at the head of a file. To change a document, change them.
@@ -14,15 +24,19 @@ import re
 import sys
 from pathlib import Path
 
+from man import manual
+
 TOP = Path(__file__).resolve().parent.parent
 CRATES = TOP / "crates"
 SHORT = 110  # the longest clause whose text is printed
 TOKEN = re.compile(r"[^\s(){};,.\[\]⟦⟧]+")
 
-CONTRACTS_HEAD = """# Contracts
+REFERENCE_HEAD = """# Reference
 
-Crate by crate, what a caller may use: each public call with its clauses. Where a clause is long, the definitions of
-[DEFINITIONS.md](DEFINITIONS.md) that it cites stand in place of its text.
+By layers, the lowest first, and crate by crate: what a caller may use, each public call with its clauses; and the
+definitions that contracts speak of, file by file. Where a clause is long, the definitions that it cites stand in place
+of its text. The definitions know nothing of how the program computes: they speak of plain terms, of finite lists of
+steps, and of substitutions that exist. What mirrors the code stands in a crate's `specs/inner/` and is not listed.
 
 Three things hold everywhere. `result` is what a call returns, and `x.now`, `x.old`, `x.new` are what a reference
 points at. A call that allocates takes the allocator and may answer that memory was refused; no clause says when, and
@@ -33,16 +47,36 @@ says which status the number is of.
 
 A law is a call that does nothing and whose contract is a statement about the definitions.
 
-This page is written by `docs/write.py` from the sources.
+These pages are written by `docs/write.py` from the sources.
 """
 
-DEFINITIONS_HEAD = """# Definitions
+PROVED_HEAD = """# What is proved, crate by crate
 
-What the contracts speak of, crate by crate and file by file. The definitions know nothing of how the program
-computes: they speak of plain terms, of finite lists of steps, and of substitutions that exist. What mirrors the code
-stands in a crate's `specs/inner/` and is not listed.
+The lines on promises and laws of the crates' own pages, the lowest crate first. [The reference](reference/README.md)
+has every clause. A clause holds of a call whose `requires` are met, and each call meets those of the calls it makes.
 
-This page is written by `docs/write.py` from the comments of the sources.
+"Exactly where" has the exceptions that the clauses have. A call that allocates may be refused memory at any time, in
+place of its answer or its refusal; no clause says when. In `fvn_outside` and `fvn_tool` reading or writing may fail, but
+only where the source's or the sink's count of faults rose, or stands at its last number, 2^64 - 1. What is returned then
+says so, and a run has then written nothing, or at a failed write a front of its text.
+
+This page is written by `docs/write.py` from `crates/*/README.md`.
+"""
+
+PROMISE_HEAD = """# The definitions under the report
+
+What `IsReport` leads to, the definition that the contract of `run` states of each run: {total} definitions of {crates}
+crates, from the theorem down. Whoever has read these, with the words of Rattle's own library that they use (numbers,
+lists, bytes), knows what is proved of a run; that it holds is the checker's word. A crate stands after those that
+cite it, and its files in the order in which they are first cited; a crate's types are those of its code that the
+definitions name. Each file opens with a sentence and has its definitions in full.
+
+{inner} of them mirror code, in `specs/inner/`; {leaning} others cite one of these.
+
+| crate | files | definitions | of these in `specs/inner/` |
+|---|---|---|---|
+{rows}
+This page is written by `docs/write.py` from the sources.
 """
 
 
@@ -535,56 +569,63 @@ def once(rows):
     return rows
 
 
-def layers(write_crate, head):
-    parts = [head]
-    for name, layer in crates():
-        if layer:
-            title, _, rest = layer.partition(": ")
-            parts.append("## " + title.rstrip(".") + "\n" + ("\n" + rest[:1].upper() + rest[1:] + "\n" if rest else ""))
-        written = write_crate(name)
-        if written:
-            parts.append(written)
-    return "\n".join(parts)
+def layers():
+    """The layers of crates.txt: the title and the sentence of each, and its crates."""
+    found = []
+    for name, comment in crates():
+        if comment:
+            title, _, rest = comment.partition(": ")
+            found.append((title.rstrip("."), rest[:1].upper() + rest[1:], []))
+        found[-1][2].append(name)
+    return found
 
 
-def contracts():
-    records = {
+def page_of(title):
+    """The name of the page of a layer: the first word of its title."""
+    return title.split()[0].lower() + ".md"
+
+
+def link(name, up):
+    return "[`" + name + "`](" + up + "crates/" + name + "/README.md)"
+
+
+def records():
+    """The fields of each definition that is a record."""
+    return {
         (name, "specs." + room.module, d.name): [field for field, _ in d.fields]
         for name, _ in crates()
         for room in rooms(name)
         for d in room.definitions
     }
 
-    def write_crate(name):
-        crate = Crate(name)
-        for source in crate.modules:
-            for call in source.calls + [call for _, call in source.methods]:
-                call.fields = {d[2]: records.get(d, []) for d in source.imports.values()}
-        page = "../crates/" + name + "/README.md"
-        parts = ["### [" + name + "](" + page + ")\n\n" + crate.head + "\n"]
-        if crate.is_program:
-            return parts[0]
-        kinds = [[code(path), doc] for path, doc in crate.types()]
-        if kinds:
-            parts.append(table(["type", "is"], kinds))
-        numbers = [[code(path), value, doc] for path, value, doc in crate.constants()]
-        if numbers:
-            parts.append(table(["constant", "value", "is"], numbers))
-        if crate.elsewhere:
-            parts.append(
-                "Handed on: " + ", ".join(code(n) + " of " + code(c) for n, c in crate.elsewhere) + ".\n"
-            )
-        listed = list(crate.calls())
-        small = [row_of(p, c) for p, c in listed if not c.is_law() and is_small(c)]
-        if small:
-            parts.append(table(["call", "does", "promises"], small))
-        laws = [[code(p), c.doc, ", ".join(text_of(x, c) for x in c.clauses)] for p, c in listed if c.is_law()]
-        parts += [block_of(p, c) for p, c in listed if not c.is_law() and not is_small(c)]
-        if laws:
-            parts.append("#### Laws of " + name + "\n\n" + table(["law", "says", "statement"], laws))
-        return "\n".join(parts)
 
-    return layers(write_crate, CONTRACTS_HEAD)
+def contracts_of(name, fields):
+    """What a crate gives its callers."""
+    crate = Crate(name)
+    for source in crate.modules:
+        for call in source.calls + [call for _, call in source.methods]:
+            call.fields = {d[2]: fields.get(d, []) for d in source.imports.values()}
+    page = "../../crates/" + name + "/README.md"
+    parts = ["## [" + name + "](" + page + ")\n\n" + crate.head + "\n"]
+    if crate.is_program:
+        return parts
+    kinds = [[code(path), doc] for path, doc in crate.types()]
+    if kinds:
+        parts.append(table(["type", "is"], kinds))
+    numbers = [[code(path), value, doc] for path, value, doc in crate.constants()]
+    if numbers:
+        parts.append(table(["constant", "value", "is"], numbers))
+    if crate.elsewhere:
+        parts.append("Handed on: " + ", ".join(code(n) + " of " + code(c) for n, c in crate.elsewhere) + ".\n")
+    listed = list(crate.calls())
+    small = [row_of(p, c) for p, c in listed if not c.is_law() and is_small(c)]
+    if small:
+        parts.append(table(["call", "does", "promises"], small))
+    laws = [[code(p), c.doc, ", ".join(text_of(x, c) for x in c.clauses)] for p, c in listed if c.is_law()]
+    parts += [block_of(p, c) for p, c in listed if not c.is_law() and not is_small(c)]
+    if laws:
+        parts.append("#### Laws of " + name + "\n\n" + table(["law", "says", "statement"], laws))
+    return parts
 
 
 def says(definition):
@@ -593,23 +634,156 @@ def says(definition):
     return "<br>".join([definition.comment] + told)
 
 
-def definitions():
-    def write_crate(name):
-        shown = [room for room in rooms(name) if not is_inner(room) and room.public()]
-        if not shown:
-            return ""
-        parts = ["### " + name + "\n"]
-        for room in shown:
-            rows = [[code(d.name), says(d)] for d in room.public()]
-            path = "../crates/" + name + "/specs/" + room.module.replace(".", "/") + ".antt"
-            head = " ".join(room.head) + "\n\n" if room.head else ""
-            parts.append("#### [" + room.module + "](" + path + ")\n\n" + head + table(["definition", "says"], rows))
-        return "\n".join(parts)
-
-    return layers(write_crate, DEFINITIONS_HEAD)
+def room_of(name, room, listed, up):
+    """A file with its head and these of its definitions."""
+    path = up + "crates/" + name + "/specs/" + room.module.replace(".", "/") + ".antt"
+    head = " ".join(room.head) + "\n\n" if room.head else ""
+    rows = [[code(d.name), says(d)] for d in listed]
+    return "#### [" + name + ", " + room.module + "](" + path + ")\n\n" + head + table(["definition", "says"], rows)
 
 
-DOCUMENTS = {"CONTRACTS.md": contracts, "DEFINITIONS.md": definitions}
+def reference():
+    """The pages of docs/reference/."""
+    fields = records()
+    rows = []
+    for title, rest, names in layers():
+        rows.append(["[" + title + "](" + page_of(title) + ")", rest, ", ".join(code(n) for n in names)])
+        parts = ["# " + title + "\n\n" + (rest + "\n\n" if rest else "") + "What holds everywhere: [README](README.md).\n"]
+        for name in names:
+            parts += contracts_of(name, fields)
+            shown = [room for room in rooms(name) if not is_inner(room) and room.public()]
+            parts += [room_of(name, room, room.public(), "../../") for room in shown]
+        yield "docs/reference/" + page_of(title), "\n".join(parts)
+    yield "docs/reference/README.md", REFERENCE_HEAD + "\n" + table(["layer", "has", "crates"], rows)
+
+
+def proved():
+    """Crate by crate the lines on promises and laws of its page."""
+    parts = [PROVED_HEAD]
+    for title, rest, names in layers():
+        parts.append("## " + title + "\n" + ("\n" + rest + "\n" if rest else ""))
+        for name in names:
+            page = read(CRATES / name / "README.md")
+            lines = re.findall(r"^- \*\*[^*]*\b(?:Promise|promise|Law)s?\b.*$", page, re.M)
+            lines = [line for line in lines if not line.startswith("- **Promises**: none")]
+            if lines:
+                parts.append("### " + link(name, "../") + "\n\n" + Crate(name).head + "\n\n" + "\n".join(lines) + "\n")
+    yield "docs/PROVED.md", "\n".join(parts)
+
+
+MARKERS = ("<!-- Written by docs/write.py from crates.txt and the first line of each crate. -->\n", "<!-- Written by hand again. -->\n")
+
+
+def architecture():
+    """The page with its tables of crates."""
+    page = read(TOP / "docs" / "ARCHITECTURE.md")
+    before, _, rest = page.partition(MARKERS[0])
+    parts = []
+    for title, says_layer, names in layers():
+        rows = [[link(name, "../"), Crate(name).head] for name in names]
+        parts.append("### " + title + "\n\n" + (says_layer + "\n\n" if says_layer else "") + table(["crate", "has"], rows))
+    after = rest.partition(MARKERS[1])[2]
+    yield "docs/ARCHITECTURE.md", before + MARKERS[0] + "\n" + "\n".join(parts) + "\n" + MARKERS[1] + after
+
+
+# What the report leads to --------------------------------------------------------------------------
+
+REPORT = ("fvn_tool", "specs.Claims", "IsReport")
+
+
+class Citing:
+    """Which definition cites which."""
+
+    def __init__(self):
+        self.rooms, self.table, self.owner = {}, {}, {}
+        for name, _ in crates():
+            for room in rooms(name):
+                module = "specs." + room.module
+                self.rooms[(name, module)] = room
+                within = None
+                for d in room.definitions:
+                    key = (name, module, d.name)
+                    self.table[key] = (room, d)
+                    if within and d.indent > within.indent and not d.public:
+                        self.owner[key] = (name, module, within.name)
+                    else:
+                        within = d
+
+    def home(self, key):
+        """The definition of a name, also where a file hands it on; of a case of a type, the type."""
+        while key not in self.table:
+            room = self.rooms.get(key[:2])
+            if room is None or key[2] not in room.imports:
+                return None
+            key = room.imports[key[2]]
+        return self.owner.get(key, key)
+
+    def cited(self, key):
+        """The definitions that a definition cites, in order, and the types of code that it names."""
+        room, d = self.table[key]
+        inside = [k for k in self.owner if self.owner[k] == key]
+        text = uncommented("\n".join(line for k in [key] + inside for line in self.table[k][1].body))
+        found, types = [], []
+        for token in TOKEN.findall(text):
+            place = room.imports.get(token, (key[0], key[1], token))
+            home = self.home(place)
+            if home is not None and home != key and home not in found:
+                found.append(home)
+            elif home is None and place[1].startswith("specs.declared") and place not in types:
+                types.append(place)
+        return found, types
+
+
+def under_report():
+    """The definitions under the report in the order in which they are cited, with the types of code that they name; and of
+    those that do not mirror code, which cite one that does."""
+    citing = Citing()
+    found, types, leaning = [REPORT], [], []
+    for key in found:
+        cited, named = citing.cited(key)
+        found += [k for k in cited if k not in found]
+        types += [k for k in named if k not in types]
+        if not key[1].startswith("specs.inner") and any(k[1].startswith("specs.inner") for k in cited):
+            leaning.append(key)
+    return citing, found, types, leaning
+
+
+def promise():
+    """The definitions under the report, from the theorem down."""
+    citing, found, types, leaning = under_report()
+    parts, rows = [], []
+    for name in [n for n, _ in reversed(crates())]:
+        here = [k for k in found if k[0] == name]
+        if not here:
+            continue
+        modules = list(dict.fromkeys(k[1] for k in here))
+        mirrors = sum(k[1].startswith("specs.inner") for k in here)
+        rows.append([link(name, "../"), str(len(modules)), str(len(here)), str(mirrors or "")])
+        parts.append("## " + link(name, "../") + "\n")
+        named = list(dict.fromkeys(k[1].split(".")[-1] for k in types if k[0] == name))
+        named = [n for n in named if n not in ("TheVariants", "TheConstants", "TheTypes")]
+        if named:
+            parts.append("Types: " + ", ".join(code(n) for n in named) + ".\n")
+        for module in modules:
+            room = citing.rooms[(name, module)]
+            listed = [d for d in room.definitions if (name, module, d.name) in here]
+            parts.append(room_of(name, room, listed, "../"))
+    mirrors = sum(k[1].startswith("specs.inner") for k in found)
+    head = PROMISE_HEAD.format(
+        total=len(found),
+        crates=len(rows),
+        inner=mirrors,
+        leaning=len(leaning),
+        rows="".join("| " + " | ".join(row) + " |\n" for row in rows),
+    )
+    yield "docs/PROMISE.md", head + "\n" + "\n".join(parts)
+
+
+def documents():
+    """All that is written, each with its path."""
+    for make in (reference, promise, proved, architecture):
+        yield from make()
+    yield "man/fvn.1", manual(read(TOP / "docs" / "COMMANDS.md"), read(TOP / "docs" / "LANGUAGE.md"))
 
 
 # What is missing ---------------------------------------------------------------------------------
@@ -628,6 +802,15 @@ def without_page():
     for name, _ in crates():
         if not (CRATES / name / "README.md").exists():
             yield "crates/" + name + " has no README.md"
+
+
+def without_promise():
+    """Pages of crates that tell no promise and no law, or not where to begin."""
+    for name, _ in crates():
+        page = CRATES / name / "README.md"
+        for word in ("Where to begin", "Promise|Promises|Law|Laws"):
+            if page.exists() and not re.search(r"^- \*\*[^*]*\b(?:" + word + r")\b", read(page), re.M):
+                yield "crates/" + name + "/README.md has no line on " + word.partition("|")[0]
 
 
 def without_first_line():
@@ -731,11 +914,33 @@ def borrowed():
                 yield str(path.relative_to(TOP)) + ": " + found.group(2) + " mirrors the code of " + found.group(1)
 
 
+def untold_fields():
+    """Fields of the report that README does not name."""
+    room, report = Citing().table[REPORT]
+    page = read(TOP / "README.md")
+    for found in re.finditer(r"^\s+pub (\w+) :", "\n".join(report.body), re.M):
+        if code(found.group(1)) not in page:
+            yield "README.md: nothing is said of " + found.group(1) + ", which the report promises"
+
+
+READERS = re.compile(r"fvn_(lex|outside|syntax|problems|answer|tool|module\w*|cmd\w*)")
+
+
+def readers_below():
+    """Engines that stand on what reads or writes texts. An engine is a crate between the layers of the text and of the edge."""
+    uses = dict(re.findall(r"^(fvn\w*):(.*)$", read(TOP / "crates.txt"), re.M))
+    for _, _, names in layers()[2:-1]:
+        for name in names:
+            for below in uses.get(name, "").split():
+                if READERS.fullmatch(below) and not name.startswith("fvn_tests_"):
+                    yield "crates.txt: " + name + " stands on " + below + ", which knows of texts"
+
+
 def main(words):
     if words == ["--lint"]:
         missing = [
             line
-            for find in (without_page, without_first_line, without_comment, unused, hidden_files, scattered_laws)
+            for find in (without_page, without_promise, without_first_line, without_comment, unused, hidden_files, scattered_laws)
             for line in find()
         ]
         for line in missing:
@@ -745,18 +950,28 @@ def main(words):
     if words not in ([], ["--check"]):
         print(__doc__)
         return 2
-    status = 0
-    for name, make in DOCUMENTS.items():
-        path = TOP / "docs" / name
-        text = make()
+    status, written = 0, set()
+    for name, text in documents():
+        path = TOP / name
+        written.add(path)
         if not words:
+            path.parent.mkdir(exist_ok=True)
             path.write_text(text, encoding="utf-8")
         elif not path.exists() or read(path) != text:
-            print("docs/" + name + " differs from the sources: run python3 docs/write.py")
+            print(name + " differs from the sources: run python3 docs/write.py")
             status = 1
-    for line in borrowed() if words else ():
-        print(line)
-        status = 1
+    for path in sorted((TOP / "docs" / "reference").iterdir()):
+        if path not in written:
+            print(str(path.relative_to(TOP)) + " is the page of no layer")
+            status = 1
+    for find in (borrowed, readers_below, untold_fields) if words else ():
+        for line in find():
+            print(line)
+            status = 1
+    if words:
+        _, found, _, leaning = under_report()
+        mirrors = sum(k[1].startswith("specs.inner") for k in found)
+        print("under the report", mirrors, "definitions mirror code, which", len(leaning), "others cite", file=sys.stderr)
     return status
 
 

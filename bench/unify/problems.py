@@ -38,8 +38,8 @@ FAMILIES = [
     ("aliens under sums", "sums", {n: f"{over('_+_', [f'g(X{i}:S)' for i in range(1, n + 1)])} =? {over('_+_', [f'g(Y{i}:S)' for i in range(1, n + 1)])}" for n in (2, 3, 4, 5)}),
     ("sums of identity", "zero", {n: sums(2, n) for n in (2, 3, 4)}),
     ("collapses", "zero", {n: f"_+_(X1:S, {over('_+_', [f'g(Y{i}:S)' for i in range(1, n + 1)])}) =? _+_(X2:S, g(Z:S))" for n in (1, 2, 3)}),
-    ("bags of elements", "bag", {n: f"{over('_;_', variables('X', n, 'Elt') + ['R:Bag'])} =? {over('_;_', variables('Y', n, 'Elt') + ['T:Bag'])}" for n in (1, 2, 3)}),
-    ("sorts that split", "parity", {n: f"{over('_+_', ['X1:Even', 'X2:Odd'])} =? {over('_+_', variables('Y', n, 'Nat'))}" for n in (2, 3)}),
-    ("free pairs", "free", {n: f"{over('p', variables('X', n) + ['a'])} =? {over('p', variables('Y', n) + ['a'])}" for n in (25, 50, 99)}),
-    ("free terms that double", "free", {n: doubled(n) for n in (3, 5, 7)}),
+    ("bags of elements", "elements", {n: f"{over('_;_', variables('X', n, 'Elt') + ['R:Bag'])} =? {over('_;_', variables('Y', n, 'Elt') + ['T:Bag'])}" for n in (1, 2, 3)}),
+    ("sorts that split", "evens", {n: f"{over('_+_', ['X1:Even', 'X2:Odd'])} =? {over('_+_', variables('Y', n, 'Nat'))}" for n in (2, 3)}),
+    ("free pairs", "plain", {n: f"{over('p', variables('X', n) + ['a'])} =? {over('p', variables('Y', n) + ['a'])}" for n in (25, 50, 99)}),
+    ("free terms that double", "plain", {n: doubled(n) for n in (3, 5, 7)}),
 ]

@@ -1,5 +1,5 @@
 -- The rules that come from the equation X ; a = b, where mt is the identity of the sum ; of sets.
-use Rattle.std.proofs.Common.{◌≡◌, ℕ, zero, suc, Bool, true, false, List, [], ◌∷◌, refl, sym, ap, ◌∙◌, subst, inl, inr, arith, lit<}
+use Rattle.std.proofs.Common.{◌≡◌, ℕ, zero, suc, Bool, true, false, List, [], ◌∷◌, Some, refl, sym, ap, ◌∙◌, subst, inl, inr, arith, lit<}
 use Rattle.std.specs.Prelude.{◌⊎◌}
 use Rattle.fvn_terms.specs.declared.plain.Var.{Var}
 use Rattle.fvn_terms.specs.declared.plain.OpId.{OpId}
@@ -10,7 +10,7 @@ use Rattle.fvn_terms.specs.Term.{Term, var}
 use Rattle.fvn_terms.specs.Substitution.{Occurs, same_var}
 use Rattle.fvn_terms.specs.Signature.{axioms, same, HasKind}
 use Rattle.fvn_terms.specs.Places.{stop}
-use Rattle.fvn_terms.specs.Equality.{two, constant}
+use Rattle.fvn_terms.specs.Equality.{two, constant, identity}
 use Rattle.fvn_terms.specs.Sorts.{HasSort, is_declared}
 use Rattle.fvn_forms.specs.Flat.{FlatTerm, fvar, fapp, fnone, fmore, fconstant, plain}
 use Rattle.fvn_forms.specs.Canon.{canon}
@@ -123,7 +123,7 @@ extended = record {
 identity_is_mt : (e : OpId) → IsIdentity sets e → op 1 ≡ e
 identity_is_mt e (f, is) = go f.0 is
   where
-    go : (n : ℕ) → axioms sets (op n) ≡ AssocCommId e → op 1 ≡ e
+    go : (n : ℕ) → identity (axioms sets (op n)) ≡ Some e → op 1 ≡ e
     go zero p = cc
     go (suc zero) p = cc
     go (suc (suc zero)) p = cc

@@ -7,7 +7,7 @@ use Rattle.fvn_terms.specs.Term.{Term, var}
 use Rattle.fvn_terms.specs.Substitution.{apply}
 use Rattle.fvn_terms.specs.Signature.{kind, IsTerm}
 use Rattle.fvn_terms.specs.Places.{AtOnePlace, AmongOnePlace, here as at_term, inside as inside_term, first as first_term, later as later_term, stop}
-use Rattle.fvn_terms.specs.Equality.{constant, identity}
+use Rattle.fvn_terms.specs.Equality.{constant}
 use Rattle.fvn_terms.specs.Theory.{Equations}
 use Rattle.fvn_terms.specs.Rewriting.{Rewrites, IsIrreducible}
 use Rattle.fvn_terms.specs.Laws.{RewritingLaws}
@@ -94,7 +94,7 @@ module _ (d : Declarations) (good : IsGood d) (completed : IsCompleted d) (equat
   variables x h u r = let s = placed (var x) u h r in let e : None ≡ Some s.redex.operator = sym (variable_place s.replaces) ∙ s.redex.heads_form in cc
 
   identities : (e : OpId) → IsIdentity d e → IsIrreducible d equations (constant e)
-  identities e w u r = (inner_step (constant e) u (kind d (result d e []), identity_kind d good completed e w) r).no_identity (w.0, (e, ap identity w.1, refl))
+  identities e w u r = (inner_step (constant e) u (kind d (result d e []), identity_kind d good completed e w) r).no_identity (w.0, (e, w.1, refl))
 
   pub coherence_laws : CoherenceLaws d equations
   coherence_laws = record { placed = placed; steps = steps; variables = variables; identities = identities }

@@ -100,7 +100,7 @@ module _ (g : Setting) where
   -- pair is the first whose normal forms differ; or that so many steps led from a side to no normal form, or at
   -- most so many to a form that is too large.
   abbrev pub IsVerdict : List (Plain × Plain) → Verdict → Type 0
-  IsVerdict pairs Yes = All AreEqual g.declarations g.equations g.by pairs × All MeetInForm pairs
+  IsVerdict pairs Yes = All (AreEqual g.declarations g.equations g.by) pairs × All MeetInForm pairs
   IsVerdict pairs (No number left right) = IsFirstDifference pairs number left right
   IsVerdict pairs (Steps start end) = (t : Plain) × (EndsAt pairs t × IsUnfinished t start end)
   IsVerdict pairs (Size f) = (t : Plain) × (EndsAt pairs t × IsTooLarge t f)
