@@ -11,7 +11,7 @@ use Rattle.fvn_terms.specs.Rewriting.{IsIrreducible, IsIrreducibleList, ListSequ
 use Rattle.fvn_forms.specs.Flat.{plain}
 use Rattle.fvn_flat.specs.Drawn.{OccursInValues}
 use Rattle.fvn_flat.specs.Solving.{substitution}
-use Rattle.fvn_flat.specs.Successors.{Narrowed, OccursIn, IsDrawnSuccessor}
+use Rattle.fvn_flat.specs.Successors.{Narrowed, IsDrawnSuccessor}
 use Rattle.fvn_cover.specs.declared.variant.Variant.{Variant}
 use Rattle.fvn_cover.specs.Covering.{AreAlike, IsFlatVariant}
 use Rattle.fvn_exploring.specs.Setting.{Setting}
@@ -26,7 +26,7 @@ HoldsVariables v = (y : Var) → Any (λ t. Occurs y (plain t)) v.terms → Occu
 
 -- the new variables of terms and values have numbers below this
 abbrev pub IsNumberedBelow : ℕ → Variant → Type 0
-IsNumberedBelow most v = (y : Var) → OccursIn v.vars (narrowed v) y → y.fresh ≡ true → y.name < most
+IsNumberedBelow most v = (y : Var) → Any (λ t. Occurs y (plain t)) v.terms ⊎ OccursInValues v.vars (substitution v.subst) y → y.fresh ≡ true → y.name < most
 
 -- What every member of an exploration keeps: it is flat, holds its variables, and has irreducible terms and values;
 -- the fixed terms stay irreducible.

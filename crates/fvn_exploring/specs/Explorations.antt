@@ -1,6 +1,6 @@
 -- Explorations: what a search for variants kept, what it gives, and why it ended.
 -- S. Escobar, R. Sasse and J. Meseguer, Folding variant narrowing and optimal variant termination, 2012.
-use Rattle.std.specs.Prelude.{◌≡◌, ◌≤◌, ◌<◌, ◌⊎◌, ◌×◌, ℕ, List, [], ◌∷◌, ◌++◌, length, map, All, Any, Contains}
+use Rattle.std.specs.Prelude.{◌≡◌, ◌≤◌, ◌<◌, ◌⊎◌, ℕ, List, [], ◌∷◌, ◌++◌, length, map, All, Any, Contains}
 use Rattle.fvn_terms.specs.Term.{Term}
 use Rattle.fvn_terms.specs.Substitution.{Substitution}
 use Rattle.fvn_terms.specs.Unifiers.{Problem}

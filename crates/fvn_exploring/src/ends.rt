@@ -63,8 +63,7 @@ pub struct Explored {
 
 fn shared<T: Send + Sync>(_value: &T) {}
 
-/// Expansions and explorations may be sent to and shared between threads.
-pub fn all_shared(expansion: &Expansion, explored: &Explored) {
+/// Expansions may be sent to and shared between threads.
+pub fn all_shared(expansion: &Expansion) {
     shared(expansion);
-    shared(explored);
 }
