@@ -3,4 +3,4 @@ use Rattle.fvn_purify.specs.Weight.{cursor_weight}
 use Rattle.fvn_tests_combine.proofs.tests.splitting.push_splits.Given as goal
 
 abbrev pub decreases-given : goal.decreases-given
-decreases-given l = cursor_weight l.splits
+decreases-given l = cursor_weight l.cursor
