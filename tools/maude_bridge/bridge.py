@@ -111,7 +111,7 @@ def found_program(top):
         if not shutil.which(named):
             raise Usage(f"FVN_PROGRAM is {named}, and there is no such program")
         return os.path.abspath(shutil.which(named))
-    built = os.path.join("crates", "fvn", "out", "fvn")
+    built = os.path.join("out", "fvn")
     if os.access(os.path.join(top, built), os.X_OK):
         return os.path.join(top, built)
     found = shutil.which("fvn")
