@@ -1,6 +1,9 @@
 -- The numbers at which the product ends, each written out.
 use Rattle.std.specs.Prelude.{◌≡◌}
-use Rattle.fvn_base.specs.declared.limits.TheConstants.{MODULE_BYTES, SORTS, OPERATORS, ARGUMENTS, EQUATIONS, IDENTITY_INSTANCES, SORT_INSTANCES, TEXT_SYMBOLS, TERM_SYMBOLS, MINIMAL_SOLUTIONS, COMPONENT, COLUMNS, UNIFIERS, FIRST_FRESH, NEXT_FRESH, EXPANDED_FRESH, NAMES, FIRST_KIND, PIECE, DEPTH}
+use Rattle.fvn_base.specs.declared.limits.TheConstants.{MODULE_BYTES, SORTS, OPERATORS, ARGUMENTS, EQUATIONS}
+use Rattle.fvn_base.specs.declared.limits.TheConstants.{IDENTITY_INSTANCES, SORT_INSTANCES, TEXT_SYMBOLS, TERM_SYMBOLS}
+use Rattle.fvn_base.specs.declared.limits.TheConstants.{MINIMAL_SOLUTIONS, COMPONENT, COLUMNS, UNIFIERS, FIRST_FRESH}
+use Rattle.fvn_base.specs.declared.limits.TheConstants.{NEXT_FRESH, EXPANDED_FRESH, NAMES, FIRST_KIND, PIECE, DEPTH}
 
 -- each limit is this number
 pub record AreLimits : Type 0 where

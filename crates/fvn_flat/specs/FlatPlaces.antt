@@ -1,4 +1,5 @@
--- The places of a flat form: itself, and those of its arguments; and the parts of a sum, which are two or more of its summands.
+-- The places of a flat form: itself, and those of its arguments; and the parts of a sum, which are two or more of its
+-- summands.
 -- A sum is one form over all its summands, so no part of it but a single summand is at a place.
 use Rattle.std.specs.Prelude.{◌≡◌, ℕ, ◌≤◌, Bool, true, List, [], ◌∷◌, length, Option, Some, None}
 use Rattle.fvn_terms.specs.declared.plain.OpId.{OpId}
@@ -10,7 +11,8 @@ mutual
   -- the second form is the first in which u, at one place, is replaced by v
   pub data IsReplaced (u v : FlatTerm) : FlatTerm → FlatTerm → Type 0 where
     here : IsReplaced u v u v
-    inside : {f : OpId} {joined : Bool} {ts us : FlatTerms} → IsReplacedAmong u v ts us → IsReplaced u v (fapp f joined ts) (fapp f joined us)
+    inside : {f : OpId} {joined : Bool} {ts us : FlatTerms}
+      → IsReplacedAmong u v ts us → IsReplaced u v (fapp f joined ts) (fapp f joined us)
 
   -- the same at one place of a list
   pub data IsReplacedAmong (u v : FlatTerm) : FlatTerms → FlatTerms → Type 0 where
@@ -24,8 +26,10 @@ IsAtPlace u t = IsReplaced u u t t
 -- all are the taken ones and the others, both in their order
 pub data IsDivided : (all taken others : List FlatTerm) → Type 0 where
   divided : IsDivided [] [] []
-  taking : {t : FlatTerm} {all taken others : List FlatTerm} → IsDivided all taken others → IsDivided (t ∷ all) (t ∷ taken) others
-  leaving : {t : FlatTerm} {all taken others : List FlatTerm} → IsDivided all taken others → IsDivided (t ∷ all) taken (t ∷ others)
+  taking : {t : FlatTerm} {all taken others : List FlatTerm}
+    → IsDivided all taken others → IsDivided (t ∷ all) (t ∷ taken) others
+  leaving : {t : FlatTerm} {all taken others : List FlatTerm}
+    → IsDivided all taken others → IsDivided (t ∷ all) taken (t ∷ others)
 
 -- what stands beside a part of a form: nothing, or the other summands of a sum
 abbrev pub Beside : Type 0

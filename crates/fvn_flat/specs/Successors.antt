@@ -1,5 +1,7 @@
--- Drawn successors: what one narrowing step makes of terms and a substitution, with a unifier that is drawn for the step's problem.
--- A step is modulo the axioms, so that two or more summands of a sum may be rewritten and the others stand beside what comes of them.
+-- Drawn successors: what one narrowing step makes of terms and a substitution, with a unifier that is drawn for the
+-- step's problem.
+-- A step is modulo the axioms, so that two or more summands of a sum may be rewritten and the others stand beside what
+-- comes of them.
 use Rattle.std.specs.Prelude.{◌≡◌, ◌≢◌, ◌⊎◌, List, [], ◌∷◌, ◌++◌, map, Any, Contains}
 use Rattle.fvn_terms.specs.declared.plain.Var.{Var}
 use Rattle.fvn_terms.specs.declared.declarations.Declarations.{Declarations}
@@ -84,7 +86,8 @@ module _ (d : Declarations) where
         pub drawn_for : IsDrawnUpToRenaming drawn problem unifier
         pub others_stay : (x : Var) → (Contains (variables_of problem) x → ⊥) → unifier x ≡ var x
         pub new : (x : Var) → OccursInValues (variables_of problem) unifier x → OccursIn v x → ⊥
-        -- the term with the rule's right side, beside what stands there, at the place, and all terms and values under the unifier
+        -- the term with the rule's right side, beside what stands there, at the place, and all terms and values under the
+        -- unifier
         pub replaced : FlatTerm
         pub replaces : IsReplaced whole (with_beside d beside (renamed_form by r)) term replaced
         pub terms : w.terms ≡ map (λ t. canon d (apply unifier (plain t))) (before ++ replaced ∷ after)

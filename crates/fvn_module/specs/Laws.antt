@@ -26,4 +26,5 @@ RefusedTextsDeclareNothing =
 
 -- A module is readable, and its signature is good, with all that its queries need.
 abbrev pub ModulesAreGood : Type 0
-ModulesAreGood = (bytes : Text) (m : Contents) → IsModule bytes m → IsReadable m × IsGood m.signature × IsCompleted m.signature
+ModulesAreGood =
+    (bytes : Text) (m : Contents) → IsModule bytes m → IsReadable m × IsGood m.signature × IsCompleted m.signature

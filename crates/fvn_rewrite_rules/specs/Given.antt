@@ -30,7 +30,8 @@ headed lists f = slice_index_or lists.table f.0 []
 abbrev pub AreOrdered : List Rule → Type 0
 AreOrdered = AllPairs (λ (a b : Rule). a.equation ≤ b.equation)
 
--- Each variable of the rule is not fresh, or has number 0, so that none is among the fresh ones that are numbered from 1.
+-- Each variable of the rule is not fresh, or has number 0, so that none is among the fresh ones that are numbered
+-- from 1.
 abbrev pub HasOldVariables : Rule → Type 0
 HasOldVariables rule =
     (x : Var) → Occurs x (plain rule.left) ⊎ Occurs x (plain rule.right) → (x.fresh ≡ false) ⊎ (x.name ≡ 0)

@@ -7,4 +7,5 @@ use Rattle.fvn_sorts.specs.Faults.{HasNoFault}
 
 -- what was collected without a fault is a good signature, in which sorts, kinds, the order and operators go together
 abbrev pub FaultlessSignaturesAreGood : Type 0
-FaultlessSignaturesAreGood = (c : Collected) → IsClosed c → HasNoFault c → IsGood (completed c) × IsCompleted (completed c)
+FaultlessSignaturesAreGood =
+    (c : Collected) → IsClosed c → HasNoFault c → IsGood (completed c) × IsCompleted (completed c)

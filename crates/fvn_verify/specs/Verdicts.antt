@@ -28,7 +28,8 @@ instance s t = apply s (term t)
 abbrev pub AreEqual : Declarations → Equations → Substitution → Plain × Plain → Type 0
 AreEqual d equations s p = TEqual d equations (instance s p.0) (instance s p.1)
 
--- what sides are rewritten in: declarations and equations, a substitution that is put in, and limits on steps and symbols
+-- what sides are rewritten in: declarations and equations, a substitution that is put in, and limits on steps and
+-- symbols
 pub record Setting : Type 0 where
   pub declarations : Declarations
   pub equations : Equations
