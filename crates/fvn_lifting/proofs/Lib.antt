@@ -1,0 +1,9 @@
+-- Lemmas of lifting; the public ones are for callers.
+mod Chosen
+mod Renamed
+mod Joining
+mod Meeting
+pub mod Stepping
+mod Renaming
+mod Turning
+mod Lifting
