@@ -3,6 +3,7 @@ mod Chosen
 mod Renamed
 mod Joining
 mod Meeting
+mod Parts
 pub mod Stepping
 mod Renaming
 mod Turning

@@ -4,6 +4,7 @@ use Rattle.std.specs.List.{AllZip, All, Contains}
 use Rattle.std.proofs.lemmas.List.Elements.{All-head}
 use Rattle.fvn_base.specs.Decided.{Decided}
 use Rattle.fvn_terms.specs.declared.plain.Var.{Var}
+use Rattle.fvn_terms.specs.declared.plain.OpId.{OpId}
 use Rattle.fvn_terms.specs.declared.plain.SortId.{SortId}
 use Rattle.fvn_terms.specs.declared.declarations.Declarations.{Declarations}
 use Rattle.fvn_terms.specs.Term.{Term}
@@ -22,17 +23,20 @@ use Rattle.fvn_terms.proofs.WellSorted.{IsWellSorted-followed_by}
 use Rattle.fvn_forms.specs.Flat.{FlatTerm, plain}
 use Rattle.fvn_forms.specs.Canon.{canon}
 use Rattle.fvn_forms.specs.Good.{IsGood}
+use Rattle.fvn_forms.proofs.Eval.{canon_settled}
+use Rattle.fvn_forms.proofs.KindsKept.{kind_unique, b_equal_keeps_kind}
 use Rattle.fvn_forms.proofs.ToCanon.{to_canon}
 use Rattle.fvn_flat.specs.Drawn.{Renaming, renamed}
 use Rattle.fvn_flat.specs.Fits.{Fits, AllFit}
-use Rattle.fvn_flat.specs.FlatPlaces.{Beside, IsPartOf, with_beside}
+use Rattle.fvn_flat.specs.FlatPlaces.{Beside, IsPartOf, IsPartOfSum, with_beside}
 use Rattle.fvn_flat.specs.Rules.{IsRuleOf}
 use Rattle.fvn_flat.specs.Successors.{Narrowed, IsRenaming, renamed_form, IsStepFrom}
 use Rattle.fvn_rewrite_laws.specs.Laws.{KindedLaws, RuleLaws}
 use Rattle.fvn_rewrite_coherence.specs.Laws.{InstanceLaws}
 use Rattle.fvn_lifting.specs.Lifted.{instances, may_be_any, IsStepUnder}
 use Rattle.fvn_lifting.proofs.Chosen.{occurs_or_not, either_or}
-use Rattle.fvn_lifting.proofs.Renamed.{renaming_among, renaming_among_sorted, renaming_among_is, renamed_form_equal}
+use Rattle.fvn_lifting.proofs.Parts.{place_fits, part_kind, whole_steps as whole_part_steps}
+use Rattle.fvn_lifting.proofs.Renamed.{renaming_among, renaming_among_sorted, renaming_among_is, renamed_form_equal, renamed_form_fits}
 
 -- a step with what some solver draws, as one for which any substitution may be drawn
 pub any_step : (d : Declarations) (vars : List Var) (equations : Equations) (drawn : Problem → Substitution → Type 0) (v w : Narrowed) → IsStepFrom d vars equations drawn v w → IsStepFrom d vars equations may_be_any v w
@@ -95,6 +99,9 @@ module _ (d : Declarations) (good : IsGood d) (equations : Equations) (rewriting
         ap (apply u) (sym (renaming_among_is d (AmongRule l r) among_or_not by renames (plain t) within)) ∙ apply-apply names u (plain t) in
         subst (λ a. BEqual d a (apply u (plain (renamed_form d by t)))) is
         (BEqual-apply d u sorted.0 (renamed_form_equal d (AmongRule l r) among_or_not by renames good t k h within))
+
+    renamed_side_kind : (t : FlatTerm) (k : SortId) → HasKind d (plain t) k → ((x : Var) → Occurs x (plain t) → AmongRule l r x) → HasKind d (plain (renamed_form d by t)) k
+    renamed_side_kind t k h within = (renamed_form_fits d (AmongRule l r) among_or_not by renames good t k h within).kinded.1
 
     -- what the instance of the renamed left side is equal to steps to that of the renamed right side
     pub renamed_rule_steps : (a : Term) → BEqual d (apply u (plain (renamed_form d by l))) a → Rewrites d equations a (apply u (plain (renamed_form d by r)))
@@ -161,11 +168,27 @@ module _ (d : Declarations) (good : IsGood d) (equations : Equations) (rewriting
       middle [] after t h = h.0
       middle (x ∷ before) after t h = middle before after t h.1
 
+    -- the kind of the right side is that of the part
+    given_kind : (k : SortId) → HasKind d (plain step.at) k → HasKind d (plain given) k
+    given_kind k h =
+        let sides = rules.kinds step.l step.r step.rule in
+        let left = renamed_side_kind step.l step.r step.rule step.by step.renames u sorted step.l sides.kind sides.left (λ x o. inl o) in
+        let right = renamed_side_kind step.l step.r step.rule step.by step.renames u sorted step.r sides.kind sides.right (λ x o. inr o) in
+        let there = b_equal_keeps_kind d good.fits sides_meet k (HasKind-apply d u sorted.0 (plain step.at) k h) in
+        let same : sides.kind ≡ k = kind_unique d good.fits (apply u (plain (renamed_form d step.by step.l))) sides.kind k (HasKind-apply d u sorted.0 (plain (renamed_form d step.by step.l)) sides.kind left) there in
+        subst (HasKind d (plain given)) same right
+
+    sum_steps : (f : OpId) (others : List FlatTerm) → IsPartOfSum f others step.whole step.at → Rewrites d equations (apply u (plain step.whole)) (apply u (plain (with_beside d (Some (f, others)) given)))
+    sum_steps f others p =
+        let fits_there = place_fits d good step.whole (with_beside d step.beside given) step.replaces term_fits in
+        let k = given_kind fits_there.kinded.0 (part_kind d good f others step.whole step.at p fits_there) in
+        whole_part_steps d good f others step.whole step.at p fits_there equations rewriting u sorted given record { flat = canon_settled d (renamed step.by (plain step.r)); kinded = (fits_there.kinded.0, k) } k part_steps
+
     whole_steps : Rewrites d equations (apply u (plain step.whole)) (apply u (plain (with_beside d step.beside given)))
     whole_steps = go step.beside step.part where
       go : (b : Beside) → IsPartOf step.whole step.at b → Rewrites d equations (apply u (plain step.whole)) (apply u (plain (with_beside d b given)))
       go None e = subst (λ t. Rewrites d equations (apply u (plain t)) (apply u (plain given))) (sym e) part_steps
-      go (Some sum) p = { ? }
+      go (Some sum) p = sum_steps sum.0 sum.1 p
 
     term_steps : Rewrites d equations (apply u (plain step.term)) (apply u (plain step.replaced))
     term_steps = (laws step.term term_fits).steps step.whole (with_beside d step.beside given) step.replaced step.replaces whole_steps
