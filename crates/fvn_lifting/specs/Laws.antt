@@ -66,11 +66,15 @@ RenamedFormsHaveTheSameInstances =
     (d : Declarations) → IsGood d → (vars : List Var) (v w : Narrowed) → AllFit d v.terms → IsRenamed d vars v w →
     (s : Substitution) → IsWellSorted d s → (c : Substitution) × HaveOneInstance d vars v w s c
 
--- Where each member of a complete list of unifiers over new variables was turned into a child, or gave a reducible
--- value, each instance that meets the left side lifts into a child.
+-- the fixed terms have no variables but these
+abbrev pub AreFixedOver : Setting → List Var → Type 0
+AreFixedOver g vars = All (λ t. (y : Var) → Occurs y t → Contains vars y) g.fixed
+
+-- Where each member of a complete list of unifiers over new variables was turned into a child, or gave something
+-- reducible, each instance that meets the left side lifts into a child.
 abbrev pub TurnsLift : Type 0
 TurnsLift =
-    (g : Setting) (vars : List Var) (from : Narrowed) (at left : FlatTerm) (first : ℕ) →
+    (g : Setting) (vars : List Var) → AreFixedOver g vars → (from : Narrowed) (at left : FlatTerm) (first : ℕ) →
     AreBeside first (plain at) (plain left) →
     ((x : Var) → OccursIn g.declarations vars from x → (Occurs x (plain left) → ⊥) × (IsNew first x → ⊥)) →
     (unifiers : List Substitution) → IsCompleteFor g.declarations ((plain at, plain left) ∷ []) unifiers →

@@ -69,12 +69,13 @@ module _ (g : Setting) (vars : List Var) where
     pub reached : ListSequence g.declarations g.equations steps (map plain to.terms) (map plain c.terms)
     pub same : (x : Var) → Contains vars x → BEqual g.declarations (substitution c.subst x) (to.values x)
 
-  -- the value of some variable is reducible
-  abbrev pub HasReducibleValue : Narrowed → Type 0
-  HasReducibleValue to = (x : Var) × (Contains vars x × IsReducible g.declarations g.equations (to.values x))
+  -- the value of some variable is reducible, or some fixed term under the values
+  abbrev pub HasReducible : Narrowed → Type 0
+  HasReducible to = Any (λ x. IsReducible g.declarations g.equations (to.values x)) vars
+      ⊎ Any (λ t. IsReducible g.declarations g.equations (apply to.values t)) g.fixed
 
-  -- a step under the unifier leads to a successor that became a child, or has a reducible value
+  -- a step under the unifier leads to a successor that became a child, or that has something reducible
   pub record IsTurned (from : Narrowed) (children : List Variant) (unifier : Substitution) : Type 0 where
     pub to : Narrowed
     pub step : IsStepUnder g.declarations vars g.equations from to unifier
-    pub taken : Any (IsBroughtTo to) children ⊎ HasReducibleValue to
+    pub taken : Any (IsBroughtTo to) children ⊎ HasReducible to
