@@ -8,7 +8,7 @@ use Rattle.fvn_terms.specs.Substitution.{Substitution, apply, followed_by, Occur
 use Rattle.fvn_terms.specs.Places.{stop}
 use Rattle.fvn_terms.specs.Equality.{BEqual}
 use Rattle.fvn_terms.specs.Sorts.{IsWellSorted}
-use Rattle.fvn_terms.specs.Rewriting.{ListRewrites, ListSequence}
+use Rattle.fvn_terms.specs.Rewriting.{IsReducible, IsIrreducible, ListSequence}
 use Rattle.fvn_terms.specs.Laws.{RewritingLaws}
 use Rattle.fvn_terms.proofs.Substitutions.{apply-apply}
 use Rattle.fvn_terms.proofs.Equal.{BEqual-apply, BEqual-sym, BEqual-trans}
@@ -21,9 +21,10 @@ use Rattle.fvn_rewrite_laws.proofs.Lists.{each_equal_itself, list_before, list_i
 use Rattle.fvn_exploring.specs.Setting.{Setting}
 use Rattle.fvn_exploring.specs.Liftings.{instance_of, value_under}
 use Rattle.fvn_lifting.specs.Meetings.{IsNew, ComeFrom}
-use Rattle.fvn_lifting.specs.Lifted.{instances, IsStepUnder, KeepsIrreducibleFrom, IsLiftedFrom, IsBroughtTo, HasReducibleValue, IsTurned}
+use Rattle.fvn_lifting.specs.Laws.{AreFixedOver}
+use Rattle.fvn_lifting.specs.Lifted.{instances, IsStepUnder, KeepsIrreducibleFrom, IsLiftedFrom, IsBroughtTo, HasReducible, IsTurned}
 
-module _ (g : Setting) (vars : List Var) (from : Narrowed) (rewriting : RewritingLaws g.declarations g.equations) where
+module _ (g : Setting) (vars : List Var) (fixed : AreFixedOver g vars) (from : Narrowed) (rewriting : RewritingLaws g.declarations g.equations) where
   -- what a unifier makes of the instance, where s agrees with what follows it
   module _ (s : Substitution) (keeps : KeepsIrreducibleFrom g vars from s) (unifier by : Substitution) (sorted : IsWellSorted g.declarations by)
       (agree : (x : Var) → OccursIn g.declarations vars from x → BEqual g.declarations (s x) (apply by (unifier x))) where
@@ -65,11 +66,27 @@ module _ (g : Setting) (vars : List Var) (from : Narrowed) (rewriting : Rewritin
         same = λ x h. BEqual-trans g.declarations (followed_value x h) (BEqual-apply g.declarations by sorted.0 (BEqual-sym g.declarations (brought.same x h)));
       }
 
-      -- and none of its values is reducible
-      not_reducible : HasReducibleValue g vars to → ⊥
-      not_reducible (x, (h, (z, r))) =
-          keeps.values x h (apply by z)
-          (rewriting.modulo (apply by (to.values x)) (apply s (from.values x)) (apply by z) (apply by z) (BEqual-sym g.declarations (followed_value x h)) (rewriting.instances by sorted (to.values x) z r) stop)
+      -- what the instance of a term of the successor is equal to steps as the term does
+      steps_too : (t u : Term) → BEqual g.declarations u (apply by t) → IsReducible g.declarations g.equations t → IsReducible g.declarations g.equations u
+      steps_too t u e (z, r) = (apply by z, rewriting.modulo (apply by t) u (apply by z) (apply by z) (BEqual-sym g.declarations e) (rewriting.instances by sorted t z r) stop)
+
+      fixed_value : (t : Term) → ((y : Var) → Occurs y t → Contains vars y) → BEqual g.declarations (apply s (apply from.values t)) (apply by (apply to.values t))
+      fixed_value t within =
+          subst (λ a. BEqual g.declarations a (apply by (apply to.values t))) (sym (apply-apply from.values s t))
+          (subst (BEqual g.declarations (apply (followed_by from.values s) t)) (sym (apply-apply to.values by t))
+          (equal_by_agreement g.declarations (followed_by from.values s) (followed_by to.values by) t (λ y o. followed_value y (within y o))))
+
+      -- and nothing of it is reducible
+      not_reducible : HasReducible g vars to → ⊥
+      not_reducible (inl (k, x, l, e, r)) =
+          let h : Contains vars x = (k, l, e) in
+          let z = steps_too (to.values x) (apply s (from.values x)) (followed_value x h) r in
+          keeps.values x h z.0 z.1
+      not_reducible (inr (k, t, l, e, r)) =
+          let within = subst (λ (u : Term). (y : Var) → Occurs y u → Contains vars y) e (fixed k t l) in
+          let stays = subst (λ (u : Term). IsIrreducible g.declarations g.equations (apply s (apply from.values u))) e (keeps.stay k t l) in
+          let z = steps_too (apply to.values t) (apply s (apply from.values t)) (fixed_value t within) r in
+          stays z.0 z.1
 
   module _ (left : FlatTerm) (first : ℕ) (old : (x : Var) → OccursIn g.declarations vars from x → (Occurs x (plain left) → ⊥) × (IsNew first x → ⊥)) (children : List Variant) where
     turned_lifts : (s c : Substitution) → KeepsIrreducibleFrom g vars from s → (unifier : Substitution) → ComeFrom g.declarations first (plain left) s c unifier → IsTurned g vars from children unifier → Any (IsLiftedFrom g vars from s) children
@@ -77,7 +94,7 @@ module _ (g : Setting) (vars : List Var) (from : Narrowed) (rewriting : Rewritin
       agree : (x : Var) → OccursIn g.declarations vars from x → BEqual g.declarations (s x) (apply come.by (unifier x))
       agree x o = let n = old x o in come.outside x n.0 n.1
 
-      go : Any (IsBroughtTo g vars turned.to) children ⊎ HasReducibleValue g vars turned.to → Any (IsLiftedFrom g vars from s) children
+      go : Any (IsBroughtTo g vars turned.to) children ⊎ HasReducible g vars turned.to → Any (IsLiftedFrom g vars from s) children
       go (inl (k, v, l, e, b)) = (k, v, l, e, lifted_into s keeps unifier come.by come.well_sorted agree turned.to turned.step v b)
       go (inr h) = absurd (not_reducible s keeps unifier come.by come.well_sorted agree turned.to turned.step h)
 
