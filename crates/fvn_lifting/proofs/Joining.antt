@@ -16,10 +16,10 @@ use Rattle.fvn_terms.proofs.Substitutions.{apply-agree}
 use Rattle.fvn_flat.specs.Problems.{variables, variables_of}
 use Rattle.fvn_flat.specs.OneAnswer.{IsCompleteFor}
 use Rattle.fvn_flat.proofs.VariableLists.{variables_list, variables_occur}
-use Rattle.fvn_lifting.specs.Meetings.{IsNew, AreBeside, IsOverNew, Meet, ComeFrom}
+use Rattle.fvn_lifting.specs.Meetings.{IsNew, ShareNone, IsOverNew, Meet, ComeFrom}
 use Rattle.fvn_lifting.proofs.Chosen.{chosen, chosen_if, chosen_unless, occurs_or_not, new_or_not, any_with, stands_at, sorted_each, chosen_stands}
 
-module _ (d : Declarations) (first : ℕ) (t u : Term) (beside : AreBeside first t u) (s c : Substitution) (meet : Meet d t u s c) where
+module _ (d : Declarations) (first : ℕ) (t u : Term) (apart : ShareNone t u) (s c : Substitution) (meet : Meet d t u s c) where
   abbrev problem : Problem
   problem = (t, u) ∷ []
 
@@ -53,7 +53,7 @@ module _ (d : Declarations) (first : ℕ) (t u : Term) (beside : AreBeside first
   both_within x o = chosen_if (occurs_or_not x u) (c x) (s x) o
 
   left_is : apply both t ≡ apply s t
-  left_is = apply-agree both s t (λ x o. both_outside x (beside.none_common x o))
+  left_is = apply-agree both s t (λ x o. both_outside x (apart x o))
 
   right_is : apply both u ≡ apply c u
   right_is = apply-agree both c u both_within

@@ -24,7 +24,7 @@ use Rattle.fvn_exploring.specs.Setting.{Setting}
 use Rattle.fvn_exploring.specs.Children.{narrowed}
 use Rattle.fvn_exploring.specs.Liftings.{LiftsInto}
 use Rattle.fvn_exploring.specs.Expansions.{IsExpandable}
-use Rattle.fvn_lifting.specs.Meetings.{IsNew, AreBeside, IsOverNew, Meet, ComeFrom}
+use Rattle.fvn_lifting.specs.Meetings.{IsNew, ShareNone, IsOverNew, Meet, ComeFrom}
 use Rattle.fvn_lifting.specs.Turns.{IsTurn, MeetsRule}
 use Rattle.fvn_lifting.specs.Lifted.{instances, may_be_any, HaveOneInstance, IsStepUnder, LiftsAt, IsTurned}
 
@@ -32,7 +32,7 @@ use Rattle.fvn_lifting.specs.Lifted.{instances, may_be_any, HaveOneInstance, IsS
 -- unifiers over new variables.
 abbrev pub MeetingsComeFromUnifiers : Type 0
 MeetingsComeFromUnifiers =
-    (d : Declarations) (first : ℕ) (t u : Term) → AreBeside first t u →
+    (d : Declarations) (first : ℕ) (t u : Term) → ShareNone t u →
     (unifiers : List Substitution) → IsCompleteFor d ((t, u) ∷ []) unifiers →
     All (IsOverNew first ((t, u) ∷ [])) unifiers →
     (s c : Substitution) → Meet d t u s c → Any (ComeFrom d first u s c) unifiers
@@ -75,7 +75,7 @@ AreFixedOver g vars = All (λ t. (y : Var) → Occurs y t → Contains vars y) g
 abbrev pub TurnsLift : Type 0
 TurnsLift =
     (g : Setting) (vars : List Var) → AreFixedOver g vars → (from : Narrowed) (at left : FlatTerm) (first : ℕ) →
-    AreBeside first (plain at) (plain left) →
+    ShareNone (plain at) (plain left) →
     ((x : Var) → OccursIn g.declarations vars from x → (Occurs x (plain left) → ⊥) × (IsNew first x → ⊥)) →
     (unifiers : List Substitution) → IsCompleteFor g.declarations ((plain at, plain left) ∷ []) unifiers →
     All (IsOverNew first ((plain at, plain left) ∷ [])) unifiers →

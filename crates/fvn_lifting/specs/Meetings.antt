@@ -15,11 +15,9 @@ use Rattle.fvn_flat.specs.Drawn.{OccursInValues}
 abbrev pub IsNew : ℕ → Var → Type 0
 IsNew first x = (x.fresh ≡ true) × (first ≤ x.name)
 
--- the terms have no variable in common, and none is new
-pub record AreBeside (first : ℕ) (t u : Term) : Type 0 where
-  pub none_common : (x : Var) → Occurs x t → Occurs x u → ⊥
-  pub left_old : (x : Var) → Occurs x t → IsNew first x → ⊥
-  pub right_old : (x : Var) → Occurs x u → IsNew first x → ⊥
+-- no variable occurs in both terms
+abbrev pub ShareNone : Term → Term → Type 0
+ShareNone t u = (x : Var) → Occurs x t → Occurs x u → ⊥
 
 -- s moves the variables of the problem alone, to terms over new ones
 pub record IsOverNew (first : ℕ) (problem : Problem) (s : Substitution) : Type 0 where
