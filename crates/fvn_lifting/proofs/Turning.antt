@@ -59,9 +59,11 @@ module _ (g : Setting) (vars : List Var) (fixed : AreFixedOver g vars) (from : N
         steps = brought.steps;
         sequence = (
           followed_step.0,
-          (followed_step.1.0,
-          list_before g.declarations g.equations rewriting brought.steps (map (apply by) (map plain to.terms)) followed_step.0 (instance_of by c) followed_step.1.1
-          (list_instance g.declarations g.equations rewriting by sorted brought.steps (map plain to.terms) (map plain c.terms) brought.reached)),
+          (
+            followed_step.1.0,
+            list_before g.declarations g.equations rewriting brought.steps (map (apply by) (map plain to.terms)) followed_step.0 (instance_of by c) followed_step.1.1
+                (list_instance g.declarations g.equations rewriting by sorted brought.steps (map plain to.terms) (map plain c.terms) brought.reached),
+          ),
         );
         same = λ x h. BEqual-trans g.declarations (followed_value x h) (BEqual-apply g.declarations by sorted.0 (BEqual-sym g.declarations (brought.same x h)));
       }
