@@ -1,8 +1,7 @@
 -- At a turn whose unifiers all became children or gave reducible values, each instance that meets the rule lifts.
-use Rattle.std.proofs.Common.{◌≡◌, ◌⊎◌, ◌∙◌, ℕ, suc, List, [], ◌∷◌, map, sym, subst, inl, inr, arith}
+use Rattle.std.proofs.Common.{◌⊎◌, ℕ, suc, List, [], ◌∷◌, map, sym, subst, inl, inr, arith}
 use Rattle.std.specs.List.{AllZip, All, Any, Contains}
 use Rattle.fvn_terms.specs.declared.plain.Var.{Var}
-use Rattle.fvn_terms.specs.declared.declarations.Declarations.{Declarations}
 use Rattle.fvn_terms.specs.Term.{Term}
 use Rattle.fvn_terms.specs.Substitution.{Substitution, apply, followed_by, Occurs}
 use Rattle.fvn_terms.specs.Places.{stop}
@@ -13,13 +12,12 @@ use Rattle.fvn_terms.specs.Laws.{RewritingLaws}
 use Rattle.fvn_terms.proofs.Substitutions.{apply-apply}
 use Rattle.fvn_terms.proofs.Equal.{BEqual-apply, BEqual-sym, BEqual-trans}
 use Rattle.fvn_forms.specs.Flat.{FlatTerm, plain}
-use Rattle.fvn_flat.specs.Solving.{substitution}
 use Rattle.fvn_flat.specs.Successors.{Narrowed, OccursIn}
 use Rattle.fvn_cover.specs.declared.variant.Variant.{Variant}
 use Rattle.fvn_rewrite_laws.proofs.Agreement.{equal_by_agreement}
 use Rattle.fvn_rewrite_laws.proofs.Lists.{each_equal_itself, list_before, list_instance}
 use Rattle.fvn_exploring.specs.Setting.{Setting}
-use Rattle.fvn_exploring.specs.Liftings.{instance_of, value_under}
+use Rattle.fvn_exploring.specs.Liftings.{instance_of}
 use Rattle.fvn_lifting.specs.Meetings.{IsNew, ComeFrom}
 use Rattle.fvn_lifting.specs.Laws.{AreFixedOver}
 use Rattle.fvn_lifting.specs.Lifted.{instances, IsStepUnder, KeepsIrreducibleFrom, IsLiftedFrom, IsBroughtTo, HasReducible, IsTurned}
