@@ -1,5 +1,5 @@
--- Why a search stops before it is done: each cause is shown by a problem that was given to the solver, or by a term
--- that was rewritten.
+-- Why a search stops before it is done: each cause is shown by a problem that was given to the solver, or by a term that
+-- was rewritten.
 use Rattle.std.specs.Prelude.{◌≡◌, ◌≢◌, ◌<◌, ◌⊎◌, ℕ, List, [], ◌∷◌, length, map, All, Contains}
 use Rattle.fvn_terms.specs.declared.plain.Var.{Var}
 use Rattle.fvn_terms.specs.declared.plain.OpId.{OpId}
