@@ -1,5 +1,6 @@
 -- Lemmas on terms, substitutions and steps; the public ones are for callers.
 pub mod AxiomWords
+pub mod Variables
 pub mod Plains
 pub mod Substitutions
 pub mod Steps

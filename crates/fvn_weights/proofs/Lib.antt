@@ -1,0 +1,3 @@
+mod Linearity
+mod Kept
+mod Falling

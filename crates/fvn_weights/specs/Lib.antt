@@ -1,0 +1,3 @@
+-- What contracts of weights speak of.
+pub mod Values
+pub mod Laws
