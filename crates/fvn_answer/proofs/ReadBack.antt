@@ -27,7 +27,7 @@ use Rattle.fvn_forms.specs.Settled.{FitsUnjoined, Settled, SettledAll}
 use Rattle.fvn_forms.proofs.Sums.{fpack-funpack}
 use Rattle.fvn_forms.proofs.KindsOfSums.{nest_parts_of_kind}
 use Rattle.fvn_flat.specs.Drawn.{Renaming, renamed}
-use Rattle.fvn_sorts.specs.Queries.{IsKind, IsMaximalOf}
+use Rattle.fvn_signature.specs.Queries.{IsKind, IsMaximalOf}
 use Rattle.fvn_syntax.specs.declared.names.Names.{Names}
 use Rattle.fvn_syntax.specs.Pieces.{Text}
 use Rattle.fvn_syntax.specs.Raw.{RawTerm, RawTerms, name}

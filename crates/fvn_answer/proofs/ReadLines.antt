@@ -22,7 +22,7 @@ use Rattle.fvn_flat.specs.Bindings.{Bindings, BindingsFit, value}
 use Rattle.fvn_flat.specs.Drawn.{Renaming, renamed, OccursInValues}
 use Rattle.fvn_flat.specs.Fits.{Fits}
 use Rattle.fvn_flat.specs.Solving.{substitution}
-use Rattle.fvn_sorts.specs.Queries.{IsKind, IsMaximalOf}
+use Rattle.fvn_signature.specs.Queries.{IsKind, IsMaximalOf}
 use Rattle.fvn_syntax.specs.declared.names.Names.{Names}
 use Rattle.fvn_syntax.specs.Pieces.{Text, is_reserved}
 use Rattle.fvn_syntax.specs.Raw.{spell}

@@ -5,8 +5,8 @@ use Rattle.fvn_terms.specs.declared.plain.SortId.{SortId}
 use Rattle.fvn_terms.specs.declared.declarations.Declarations.{Declarations}
 use Rattle.fvn_terms.specs.Signature.{kind, AtOrBelow, to_kind, same}
 use Rattle.fvn_forms.specs.Good.{IsGood}
-use Rattle.fvn_sorts.specs.Queries.{IsKind, IsCompleted, IsMaximalOf, IsBelow, direct_subsorts}
-use Rattle.fvn_sorts.specs.Laws.{DirectSubsortsCover, DirectSubsortsOfKinds}
+use Rattle.fvn_signature.specs.Queries.{IsKind, IsCompleted, IsMaximalOf, IsBelow, direct_subsorts}
+use Rattle.fvn_signature.specs.Laws.{DirectSubsortsCover, DirectSubsortsOfKinds}
 use Rattle.fvn_answer.specs.Writing.{top}
 use Rattle.fvn_answer.proofs.Lists.{got-some}
 use Rattle.fvn_answer.proofs.Printing.{got}

@@ -6,7 +6,7 @@ use Rattle.std.proofs.Math.Seq.{take-append_seam}
 use Rattle.fvn_terms.specs.declared.plain.SortId.{SortId}
 use Rattle.fvn_terms.specs.declared.declarations.Declarations.{Declarations}
 use Rattle.fvn_terms.specs.Signature.{kind, IsSort}
-use Rattle.fvn_sorts.specs.Queries.{IsKind, IsMaximalOf}
+use Rattle.fvn_signature.specs.Queries.{IsKind, IsMaximalOf}
 use Rattle.fvn_syntax.specs.declared.names.Names.{Names}
 use Rattle.std.specs.Str.{bytes_eq}
 use Rattle.fvn_syntax.proofs.PieceLemmas.{bytes_eq-is}

@@ -10,7 +10,7 @@ use crate::printed::Printed;
 use crate::search::numbered_text;
 use fvn_flat::Flat;
 use fvn_module::Module;
-use fvn_sorts::Signature;
+use fvn_signature::Signature;
 use fvn_syntax::{Names, Texts, VarNames};
 use fvn_terms::{NoMemory, OpId};
 use itoa::Buffer;

@@ -11,7 +11,7 @@ ghost use Rattle.fvn_answer.specs.inner.Fronts.{AtLeast, Agrees, HasTips, IsFron
 
 use crate::texts::{arrange, may_exchange, number, operator, over, push_new, push_special};
 use fvn_flat::Flat;
-use fvn_sorts::Signature;
+use fvn_signature::Signature;
 use fvn_syntax::Names;
 use fvn_terms::{NoMemory, Var};
 use itoa::Buffer;

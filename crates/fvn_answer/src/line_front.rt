@@ -15,7 +15,7 @@ use crate::front::{Fixed, Front, closed, new_front, term_front};
 use crate::printed::{Printed, push_between};
 use crate::texts::{push_sorted, push_special};
 use fvn_flat::Subst;
-use fvn_sorts::Signature;
+use fvn_signature::Signature;
 use fvn_syntax::{Names, VarNames};
 use fvn_terms::{NoMemory, Var};
 use std::alloc::Global;

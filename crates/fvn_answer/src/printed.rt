@@ -10,7 +10,7 @@ ghost use Rattle.fvn_answer.specs.inner.Shown.{shown, value_texts, HavePrintable
 
 use crate::texts::{push_new, push_sorted, push_special, term_text};
 use fvn_flat::{Flat, Subst};
-use fvn_sorts::Signature;
+use fvn_signature::Signature;
 use fvn_syntax::{Names, VarNames};
 use fvn_terms::{NoMemory, Var};
 use std::alloc::Global;

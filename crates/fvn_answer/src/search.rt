@@ -13,7 +13,7 @@ use crate::line_front::front;
 use crate::numbering::{FEW_VARIABLES, variables};
 use crate::printed::{Printed, text};
 use crate::twins::is_tried;
-use fvn_sorts::Signature;
+use fvn_signature::Signature;
 use fvn_syntax::{Names, VarNames};
 use fvn_terms::{NoMemory, Var};
 use std::alloc::Global;

@@ -2,7 +2,7 @@
 ghost use Rattle.std.specs.Prelude.{◌≡◌, ◌<◌, ◌++◌, Some, None, false, IfOk, OnOk};
 ghost use Rattle.fvn_lex.specs.Parts.{is_quoted_after};
 ghost use Rattle.fvn_terms.specs.Signature.{IsSort};
-ghost use Rattle.fvn_sorts.specs.Queries.{IsKind};
+ghost use Rattle.fvn_signature.specs.Queries.{IsKind};
 ghost use Rattle.fvn_flat.specs.Forms.{variable_of, head_of};
 ghost use Rattle.fvn_answer.specs.Numberings.{number, new_name};
 ghost use Rattle.fvn_answer.specs.inner.Readable.{AreReadable};
@@ -10,7 +10,7 @@ ghost use Rattle.fvn_answer.specs.Writing.{text_of, may_exchange, top, sorted, w
 ghost use Rattle.fvn_answer.specs.inner.Bytes.{beside, over_texts, arranged_texts, IsPrintable};
 
 use fvn_flat::Flat;
-use fvn_sorts::{Signature, direct_subsorts_cover, direct_subsorts_of_kinds};
+use fvn_signature::{Signature, direct_subsorts_cover, direct_subsorts_of_kinds};
 use fvn_syntax::Names;
 use fvn_terms::{Axioms, NoMemory, OpId, SortId, Var};
 use itoa::Buffer;

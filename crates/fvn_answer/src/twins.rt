@@ -8,7 +8,7 @@ ghost use Rattle.fvn_answer.specs.inner.Twins.{is_here, times, KeepsText, KeepsT
 use crate::printed::Printed;
 use crate::texts::{may_exchange, operator};
 use fvn_flat::{Flat, Subst, is_listed};
-use fvn_sorts::Signature;
+use fvn_signature::Signature;
 use fvn_terms::Var;
 
 // Whether the term is the variable.

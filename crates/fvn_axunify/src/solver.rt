@@ -17,7 +17,7 @@ use crate::task::Task;
 use fvn_base::Seq;
 use fvn_cover::covering_of_unifiers_is_instance;
 use fvn_flat::{AxiomSolver, Pairs, SizeCause, SolveEnd, Solved};
-use fvn_sorts::Signature;
+use fvn_signature::Signature;
 use fvn_terms::NoMemory;
 use std::alloc::Global;
 use std::marker::Model;

@@ -1,7 +1,7 @@
 //! What a search for unifiers is given.
 use crate::solver::SolveLimits;
 use fvn_flat::Pairs;
-use fvn_sorts::Signature;
+use fvn_signature::Signature;
 use fvn_terms::Var;
 use std::alloc::Global;
 

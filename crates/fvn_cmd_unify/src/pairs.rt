@@ -6,7 +6,7 @@ ghost use Rattle.fvn_cmd_unify.specs.Asked.{pairs_of};
 
 use fvn_base::Seq;
 use fvn_flat::{Pairs, flatten};
-use fvn_sorts::Signature;
+use fvn_signature::Signature;
 use fvn_terms::{NoMemory, Plain};
 use std::alloc::Global;
 

@@ -17,7 +17,7 @@ use Rattle.fvn_terms.specs.Rewriting.{IsSortDecreasing}
 use Rattle.fvn_forms.specs.SortOrder.{at_or_below}
 use Rattle.fvn_forms.specs.Good.{IsGood}
 use Rattle.fvn_forms.proofs.SortTests.{at_or_below-true, at_or_below-complete}
-use Rattle.fvn_sorts.specs.Queries.{IsCompleted}
+use Rattle.fvn_signature.specs.Queries.{IsCompleted}
 use Rattle.fvn_flat.specs.Problems.{variables}
 use Rattle.fvn_flat.specs.Variables.{with_variable}
 use Rattle.fvn_flat.proofs.Binding.{same_var_is, same_var_itself}

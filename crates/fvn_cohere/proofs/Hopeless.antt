@@ -16,7 +16,7 @@ use Rattle.fvn_terms.specs.Signature.{AtOrBelow, same}
 use Rattle.fvn_forms.specs.Good.{IsGood}
 use Rattle.fvn_forms.proofs.SortOrder.{AtOrBelow-trans}
 use Rattle.fvn_forms.proofs.SortTests.{at_or_below-complete}
-use Rattle.fvn_sorts.specs.Queries.{IsCompleted}
+use Rattle.fvn_signature.specs.Queries.{IsCompleted}
 use Rattle.fvn_flat.proofs.Binding.{same_var_is}
 use Rattle.fvn_rewrite_laws.specs.declared.shapes.Root.{Root}
 use Rattle.fvn_rewrite_laws.specs.declared.shapes.Root.TheVariants.{Variable, Constant, Compound}

@@ -8,7 +8,7 @@ use crate::identities::{identities_below, sorts_below};
 use crate::searching::Sought;
 use fvn_base::Seq;
 use fvn_rewrite_laws::{Root, Shape};
-use fvn_sorts::Signature;
+use fvn_signature::Signature;
 use fvn_terms::{NoMemory, OpId, SortId, Var};
 use std::alloc::Global;
 

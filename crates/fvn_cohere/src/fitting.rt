@@ -12,7 +12,7 @@ use crate::identities::{identities, identities_below, sorts_below};
 use crate::variables::distinct_variables;
 use fvn_base::limits::{IDENTITY_INSTANCES, SORT_INSTANCES};
 use fvn_module::Module;
-use fvn_sorts::Signature;
+use fvn_signature::Signature;
 use fvn_terms::{NoMemory, OpId, Plain, SortId};
 use std::alloc::Global;
 

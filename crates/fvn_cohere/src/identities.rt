@@ -8,7 +8,7 @@ ghost use Rattle.fvn_rewrite_laws.specs.Identities.{is_listed_op, with_operator,
 ghost use Rattle.fvn_signature.specs.Collected.{first_sorts};
 ghost use Rattle.fvn_rewrite_laws.specs.Choices.{sorts_below};
 
-use fvn_sorts::Signature;
+use fvn_signature::Signature;
 use fvn_terms::{Axioms, NoMemory, OpId, SortId};
 use std::alloc::Global;
 

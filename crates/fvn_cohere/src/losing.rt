@@ -12,7 +12,7 @@ use crate::searching::{Search, Sought};
 use crate::shapes::Chosen;
 use crate::variables::variables_of_both;
 use fvn_module::Module;
-use fvn_sorts::Signature;
+use fvn_signature::Signature;
 use fvn_terms::{NoMemory, Plain};
 use std::alloc::Global;
 

@@ -23,7 +23,7 @@ use crate::shapes::Chosen;
 use fvn_base::Seq;
 use fvn_base::limits::ARGUMENTS;
 use fvn_rewrite_laws::{Root, Shape};
-use fvn_sorts::Signature;
+use fvn_signature::Signature;
 use fvn_terms::{Args, OpId, Plain, Rank, SortId, Var};
 
 // An operator with more ranks is not asked which of them may serve.

@@ -13,7 +13,7 @@ use crate::outlooks::PartialChoice;
 use crate::shapes::{Chosen, shape};
 use fvn_base::Seq;
 use fvn_rewrite_laws::{Root, Shape};
-use fvn_sorts::Signature;
+use fvn_signature::Signature;
 use fvn_terms::{OpId, Plain, Var};
 
 // So many instances make it worth asking, before they are tried, what can come of them.

@@ -10,7 +10,7 @@ ghost use Rattle.fvn_cohere.specs.inner.Searching.{shapes_by};
 
 use fvn_base::limits::ARGUMENTS;
 use fvn_rewrite_laws::{Root, Shape};
-use fvn_sorts::Signature;
+use fvn_signature::Signature;
 use fvn_terms::{Args, OpId, Plain, SortId, Var};
 
 // The shapes that variables stand for, the newest first.

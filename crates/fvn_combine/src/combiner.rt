@@ -16,7 +16,7 @@ use crate::stepping::{Found, next_unifier};
 use crate::task::Task;
 use fvn_combine_nodes::{Tree, unifiers_partition};
 use fvn_flat::{Pairs, Subst};
-use fvn_sorts::Signature;
+use fvn_signature::Signature;
 use fvn_terms::NoMemory;
 use std::alloc::Global;
 use std::marker::Model;

@@ -7,7 +7,7 @@ ghost use Rattle.fvn_combine.specs.Tasks.{IsCombining};
 use fvn_combine_nodes::{Table, table_of};
 use fvn_combine_triangular::variables;
 use fvn_flat::Pairs;
-use fvn_sorts::Signature;
+use fvn_signature::Signature;
 use fvn_terms::{NoMemory, Var};
 use std::alloc::Global;
 use std::marker::Model;

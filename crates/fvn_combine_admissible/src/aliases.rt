@@ -15,7 +15,7 @@ use crate::taking::taken;
 use fvn_combine_leaves::{Reading, Sums, is_shared};
 use fvn_combine_nodes::{State, Table};
 use fvn_lindio::Solution;
-use fvn_sorts::Signature;
+use fvn_signature::Signature;
 use fvn_terms::{NoMemory, OpId};
 use std::alloc::Global;
 

@@ -18,7 +18,7 @@ use crate::bound::is_bound_in;
 use fvn_base::Seq;
 use fvn_combine_leaves::{Reading, Sums, is_shared};
 use fvn_combine_nodes::{State, Table};
-use fvn_sorts::Signature;
+use fvn_signature::Signature;
 use fvn_terms::{Axioms, NoMemory, OpId};
 use std::alloc::Global;
 

@@ -9,7 +9,7 @@ ghost use Rattle.fvn_combine_admissible.specs.inner.Reads.{IsBoundIn};
 
 use fvn_combine_leaves::{Reading, Sums, has_two_users, is_user};
 use fvn_combine_nodes::{State, Table};
-use fvn_sorts::Signature;
+use fvn_signature::Signature;
 use fvn_terms::OpId;
 
 // Whether the tag of class k is the operator.

@@ -6,7 +6,7 @@ ghost use Rattle.fvn_combine_leaves.specs.Readings.{IsReading};
 
 use fvn_combine_leaves::{Reading, Sums, is_shared, is_user};
 use fvn_combine_nodes::{State, Table};
-use fvn_sorts::Signature;
+use fvn_signature::Signature;
 
 /// Whether the operator uses class k.
 pub fn uses(

@@ -11,7 +11,7 @@ use fvn_combine_admissible::has_no_alias;
 use fvn_combine_leaves::Reading;
 use fvn_combine_nodes::{State, Table};
 use fvn_lindio::Solution;
-use fvn_sorts::Signature;
+use fvn_signature::Signature;
 use fvn_terms::{NoMemory, OpId};
 use std::alloc::Global;
 

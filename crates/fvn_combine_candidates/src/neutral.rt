@@ -5,7 +5,7 @@ ghost use Rattle.fvn_terms.specs.Signature.{kind};
 ghost use Rattle.fvn_forms.specs.Good.{IsOfKind};
 ghost use Rattle.fvn_combine_complete.specs.Neutral.{Absorbs, IsNeutral};
 
-use fvn_sorts::Signature;
+use fvn_signature::Signature;
 use fvn_terms::{OpId, SortId};
 
 // The kind of what the operator gives, where it is declared.

@@ -18,7 +18,7 @@ use fvn_combine_admissible::copied_system;
 use fvn_combine_leaves::{Reading, Sums};
 use fvn_combine_nodes::{State, Table};
 use fvn_lindio::{LinFault, Solution, System, basis};
-use fvn_sorts::Signature;
+use fvn_signature::Signature;
 use fvn_terms::OpId;
 use std::alloc::{AllocFailed, Global};
 

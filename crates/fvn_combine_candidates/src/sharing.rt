@@ -9,7 +9,7 @@ use fvn_base::Seq;
 use fvn_combine_admissible::{is_shared_class, uses};
 use fvn_combine_leaves::Reading;
 use fvn_combine_nodes::{State, Table};
-use fvn_sorts::Signature;
+use fvn_signature::Signature;
 use fvn_terms::{NoMemory, OpId};
 use std::alloc::Global;
 

@@ -18,7 +18,7 @@ use fvn_combine_admissible::theory;
 use fvn_combine_leaves::{Reading, Sums};
 use fvn_combine_nodes::{State, Table};
 use fvn_lindio::Solution;
-use fvn_sorts::Signature;
+use fvn_signature::Signature;
 use fvn_terms::{NoMemory, OpId};
 use std::alloc::Global;
 

@@ -1,10 +1,10 @@
 -- Operators whose identity leaves sorts alone.
-use Rattle.std.specs.Prelude.{◌≡◌, [], ◌∷◌}
+use Rattle.std.specs.Prelude.{◌≡◌, [], ◌∷◌, Some}
 use Rattle.fvn_terms.specs.declared.plain.OpId.{OpId}
 use Rattle.fvn_terms.specs.declared.plain.SortId.{SortId}
-use Rattle.fvn_terms.specs.declared.declarations.Axioms.TheVariants.{AssocCommId}
 use Rattle.fvn_terms.specs.declared.declarations.Declarations.{Declarations}
 use Rattle.fvn_terms.specs.Signature.{axioms, AtOrBelow}
+use Rattle.fvn_terms.specs.Equality.{identity}
 use Rattle.fvn_forms.specs.Good.{IsOfKind}
 use Rattle.fvn_forms.specs.Ranks.{result}
 
@@ -16,5 +16,5 @@ module _ (d : Declarations) where
   -- f has an identity, and a sum with it has no greater sort than without it
   pub record IsNeutral (f : OpId) : Type 0 where
     pub unit : OpId
-    pub is_identity : axioms d f ≡ AssocCommId unit
+    pub is_identity : identity (axioms d f) ≡ Some unit
     pub absorbs : (a : SortId) → IsOfKind d f a → Absorbs f unit a

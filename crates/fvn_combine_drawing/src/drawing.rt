@@ -19,7 +19,7 @@ use fvn_combine_nodes::{State, Table, node_partitions_are_partitions};
 use fvn_combine_triangular::bindings;
 use fvn_flat::{Pairs, SolvedList, Subst};
 use fvn_lindio::Solution;
-use fvn_sorts::Signature;
+use fvn_signature::Signature;
 use fvn_terms::{NoMemory, OpId, Var};
 use std::alloc::Global;
 

@@ -8,7 +8,7 @@ ghost use Rattle.fvn_combine_drawing.specs.inner.Unfolded.{IsUnfoldedFrom};
 use crate::drawing::Drawn;
 use fvn_combine_unfolding::{is_too_large, unfold};
 use fvn_flat::SolvedList;
-use fvn_sorts::Signature;
+use fvn_signature::Signature;
 use fvn_terms::{NoMemory, Var};
 use std::alloc::Global;
 

@@ -11,7 +11,7 @@ use crate::touched::open_touched;
 use fvn_base::Seq;
 use fvn_combine_nodes::{State, Table, undecided};
 use fvn_lindio::Solution;
-use fvn_sorts::Signature;
+use fvn_signature::Signature;
 
 /// Two nodes of which it is open whether they are in one class, and on which it rests what classes are
 /// bound to, whatever sums have in common; none where all that is left to ask is whether classes are one

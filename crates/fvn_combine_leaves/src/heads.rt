@@ -9,7 +9,7 @@ ghost use Rattle.fvn_combine_leaves.specs.Readings.{AreHeads};
 ghost use Rattle.fvn_combine_leaves.specs.inner.Reading.{noted};
 
 use fvn_combine_nodes::{Node, State, Table};
-use fvn_sorts::Signature;
+use fvn_signature::Signature;
 use fvn_terms::{Axioms, NoMemory, OpId};
 use std::alloc::Global;
 

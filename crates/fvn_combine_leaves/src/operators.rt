@@ -8,7 +8,7 @@ ghost use Rattle.fvn_combine_leaves.specs.Readings.{AreSumOperators};
 ghost use Rattle.fvn_combine_leaves.specs.inner.Reading.{IsAdded};
 
 use fvn_combine_nodes::{Node, Table};
-use fvn_sorts::Signature;
+use fvn_signature::Signature;
 use fvn_terms::{Axioms, NoMemory, OpId};
 use std::alloc::Global;
 

@@ -14,7 +14,7 @@ use fvn_base::Seq;
 use fvn_combine_nodes::{State, Table};
 use fvn_combine_systems::{SumSystem, sum_system};
 use fvn_lindio::System;
-use fvn_sorts::Signature;
+use fvn_signature::Signature;
 use fvn_terms::{NoMemory, OpId};
 use std::alloc::Global;
 

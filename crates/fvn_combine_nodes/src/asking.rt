@@ -9,7 +9,7 @@ use crate::chains::Chains;
 use crate::closing::{Closing, close};
 use crate::state::State;
 use crate::table::Table;
-use fvn_sorts::Signature;
+use fvn_signature::Signature;
 use fvn_terms::NoMemory;
 use std::alloc::Global;
 

@@ -20,7 +20,7 @@ ghost use Rattle.fvn_combine_nodes.specs.inner.Drafts.{
 use crate::table::{Node, Table};
 use fvn_base::Seq;
 use fvn_flat::{Flat, Pairs};
-use fvn_sorts::Signature;
+use fvn_signature::Signature;
 use fvn_terms::{Args, Axioms, NoMemory, OpId, Plain};
 use std::alloc::Global;
 

@@ -13,7 +13,7 @@ use crate::chains::{By, Chains};
 use crate::state::{State, is_kept_apart};
 use crate::table::{Node, Table};
 use fvn_base::Seq;
-use fvn_sorts::Signature;
+use fvn_signature::Signature;
 use fvn_terms::{Axioms, OpId};
 
 /// What a look at some nodes came to: all is settled, nodes were joined, or there is no partition.

@@ -6,7 +6,7 @@ ghost use Rattle.fvn_combine_nodes.specs.inner.Swaps.{IsOpenFirst, IsUndecidedAt
 
 use crate::state::State;
 use crate::table::{Node, Table};
-use fvn_sorts::Signature;
+use fvn_signature::Signature;
 use fvn_terms::Axioms;
 
 // Whether these axioms are commutativity alone.

@@ -7,7 +7,7 @@ ghost use Rattle.fvn_combine_nodes.specs.inner.Starts.{listed};
 use crate::asking::{Answers, ask, start};
 use crate::state::State;
 use crate::table::Table;
-use fvn_sorts::Signature;
+use fvn_signature::Signature;
 use fvn_terms::NoMemory;
 use std::alloc::Global;
 use std::marker::Model;

@@ -13,7 +13,7 @@ ghost use Rattle.fvn_combine_triangular.specs.inner.Planning.{
 use fvn_combine_admissible::is_bound;
 use fvn_combine_leaves::Reading;
 use fvn_combine_nodes::{Node, State, Table};
-use fvn_sorts::Signature;
+use fvn_signature::Signature;
 use fvn_terms::{Axioms, NoMemory, OpId};
 use std::alloc::Global;
 

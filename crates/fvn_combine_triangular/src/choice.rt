@@ -28,7 +28,7 @@ use fvn_combine_leaves::Reading;
 use fvn_combine_nodes::{Node, State, Table, node_partitions_are_partitions};
 use fvn_flat::{Flat, Pairs, SolvedList};
 use fvn_lindio::Solution;
-use fvn_sorts::Signature;
+use fvn_signature::Signature;
 use fvn_terms::{NoMemory, OpId, Var};
 use std::alloc::Global;
 

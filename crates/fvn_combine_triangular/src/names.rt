@@ -8,7 +8,7 @@ ghost use Rattle.fvn_combine_triangular.specs.Ready.{AreVariablesOf};
 ghost use Rattle.fvn_combine_triangular.specs.inner.Planning.{AreNames};
 
 use fvn_combine_nodes::{Node, Table};
-use fvn_sorts::Signature;
+use fvn_signature::Signature;
 use fvn_terms::{NoMemory, OpId, SortId, Var};
 use std::alloc::Global;
 

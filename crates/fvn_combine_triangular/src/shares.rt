@@ -20,7 +20,7 @@ use fvn_combine_admissible::{asked, taken};
 use fvn_combine_leaves::{Reading, Sums};
 use fvn_combine_nodes::{State, Table};
 use fvn_lindio::Solution;
-use fvn_sorts::Signature;
+use fvn_signature::Signature;
 use fvn_terms::{NoMemory, OpId, Var};
 use std::alloc::Global;
 

@@ -13,7 +13,7 @@ ghost use Rattle.fvn_combine_triangular.specs.inner.Planning.{
 use crate::shares::Share;
 use fvn_combine_nodes::State;
 use fvn_flat::Flat;
-use fvn_sorts::Signature;
+use fvn_signature::Signature;
 use fvn_terms::{NoMemory, OpId, Var};
 use std::alloc::Global;
 

@@ -10,7 +10,7 @@ ghost use Rattle.fvn_combine_unfolding.specs.Sizes.{IsFitting};
 ghost use Rattle.fvn_combine_unfolding.specs.inner.Replaced.{step, IsWithValue};
 
 use fvn_flat::{Flat, SolvedList, Subst};
-use fvn_sorts::Signature;
+use fvn_signature::Signature;
 use fvn_terms::{NoMemory, Var};
 use std::alloc::Global;
 

@@ -10,7 +10,7 @@ ghost use Rattle.fvn_combine_unfolding.specs.Sizes.{AddUp};
 ghost use Rattle.fvn_combine_unfolding.specs.inner.Noted.{noted_size, noted_sizes, capped, own_size, joins};
 
 use fvn_flat::{Flat, SolvedList};
-use fvn_sorts::Signature;
+use fvn_signature::Signature;
 use fvn_terms::{Axioms, NoMemory, OpId, Var};
 use std::alloc::Global;
 

@@ -8,7 +8,7 @@ use crate::values::values;
 use crate::variant::Variant;
 use fvn_cover_counts::Profile;
 use fvn_flat::Flat;
-use fvn_sorts::Signature;
+use fvn_signature::Signature;
 use fvn_terms::NoMemory;
 use std::alloc::Global;
 use std::marker::Model;

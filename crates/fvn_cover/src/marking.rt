@@ -11,7 +11,7 @@ use crate::covering::Shown;
 use crate::gate::Gate;
 use crate::keeping::Prepared;
 use crate::variant::Variant;
-use fvn_sorts::Signature;
+use fvn_signature::Signature;
 use fvn_terms::NoMemory;
 use std::alloc::Global;
 use std::thread::{Threads, join};

@@ -7,7 +7,7 @@ ghost use Rattle.fvn_cover.specs.Adding.{IsLeft, IsAdded};
 use crate::keeping::Kept;
 use crate::laws::covering_of_variants_is_a_preorder;
 use crate::variant::Variant;
-use fvn_sorts::Signature;
+use fvn_signature::Signature;
 use fvn_terms::NoMemory;
 use std::alloc::Global;
 

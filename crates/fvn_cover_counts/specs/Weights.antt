@@ -1,11 +1,11 @@
 -- How often a variable or an operator stands in a term.
-use Rattle.std.specs.Prelude.{◌≡◌, ℕ, ◌+◌, Bool, true, false}
+use Rattle.std.specs.Prelude.{◌≡◌, ℕ, ◌+◌, Bool, true, false, Some}
 use Rattle.fvn_terms.specs.declared.plain.Var.{Var}
 use Rattle.fvn_terms.specs.declared.plain.OpId.{OpId}
-use Rattle.fvn_terms.specs.declared.declarations.Axioms.TheVariants.{AssocCommId}
 use Rattle.fvn_terms.specs.declared.declarations.Declarations.{Declarations}
 use Rattle.fvn_terms.specs.Term.{Term, Terms, var, app, none, more}
 use Rattle.fvn_terms.specs.Signature.{axioms}
+use Rattle.fvn_terms.specs.Equality.{identity}
 use Rattle.fvn_terms.specs.Substitution.{same_var}
 use Rattle.fvn_forms.specs.Canon.{same_op}
 use Rattle.fvn_cover_counts.specs.declared.symbols.Symbol.{Symbol}
@@ -56,9 +56,9 @@ times s = weight (of_symbol s)
 module _ (d : Declarations) where
   -- f has no identity and is none: no axiom brings or takes away an f
   pub record IsKept (f : OpId) : Type 0 where
-    pub without_identity : (e : OpId) → axioms d f ≡ AssocCommId e → ⊥
-    pub no_identity : (g : OpId) → axioms d g ≡ AssocCommId f → ⊥
+    pub without_identity : (e : OpId) → identity (axioms d f) ≡ Some e → ⊥
+    pub no_identity : (g : OpId) → identity (axioms d g) ≡ Some f → ⊥
 
   -- what has an identity weighs nothing, and no identity does: equality modulo the axioms keeps such weights
   abbrev pub AreKept : Weights → Type 0
-  AreKept w = (f e : OpId) → axioms d f ≡ AssocCommId e → (w.operator f ≡ 0) × (w.constant e ≡ 0)
+  AreKept w = (f e : OpId) → identity (axioms d f) ≡ Some e → (w.operator f ≡ 0) × (w.constant e ≡ 0)

@@ -5,7 +5,7 @@ ghost use Rattle.fvn_cover_counts.specs.inner.Comparing.{after_one, is_part, IsO
 use crate::kept::is_kept;
 use crate::rows::Row;
 use crate::symbols::{Symbol, is_same};
-use fvn_sorts::Signature;
+use fvn_signature::Signature;
 
 // What is left of the places after one of the others.
 fn after_one<'a>(places: &'a [u64], other: u64) -> &'a [u64]

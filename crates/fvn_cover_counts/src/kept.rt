@@ -3,7 +3,7 @@ ghost use Rattle.std.specs.Prelude.{◌≡◌, ◌↔◌, true, IsTrue, Any};
 ghost use Rattle.fvn_cover_counts.specs.Weights.{IsKept};
 ghost use Rattle.fvn_cover_counts.specs.inner.Heads.{names_identity, HasIdentity};
 
-use fvn_sorts::Signature;
+use fvn_signature::Signature;
 use fvn_terms::{Axioms, OpDecl, OpId};
 
 // Whether the axioms have this identity.

@@ -7,7 +7,7 @@ use crate::comparing::{operators_allow, variables_allow};
 use crate::rows::Row;
 use crate::walking::with_all_symbols;
 use fvn_flat::Flat;
-use fvn_sorts::Signature;
+use fvn_signature::Signature;
 use fvn_terms::NoMemory;
 use std::alloc::Global;
 

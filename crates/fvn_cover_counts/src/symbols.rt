@@ -6,7 +6,7 @@ ghost use Rattle.fvn_cover_counts.specs.Weights.{same_symbol};
 ghost use Rattle.fvn_cover_counts.specs.inner.Heads.{is_sum, symbol_of, further};
 
 use fvn_flat::Flat;
-use fvn_sorts::Signature;
+use fvn_signature::Signature;
 use fvn_terms::{Axioms, OpId, Var};
 
 /// A variable or an operator.

@@ -10,7 +10,7 @@ ghost use Rattle.fvn_cover_counts.specs.inner.Rows.{Notes};
 use crate::rows::{Row, with_symbol};
 use crate::symbols::{further, top_symbol};
 use fvn_flat::Flat;
-use fvn_sorts::Signature;
+use fvn_signature::Signature;
 use fvn_terms::NoMemory;
 use std::alloc::Global;
 

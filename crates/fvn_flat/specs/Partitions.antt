@@ -1,12 +1,12 @@
 -- The nodes of a problem, and how they are put into classes.
-use Rattle.std.specs.Prelude.{◌≡◌, ◌⊎◌, ℕ, All, Contains}
+use Rattle.std.specs.Prelude.{◌≡◌, ◌⊎◌, ℕ, All, Contains, Some}
 use Rattle.fvn_terms.specs.declared.plain.OpId.{OpId}
 use Rattle.fvn_terms.specs.declared.declarations.Axioms.{Axioms}
 use Rattle.fvn_terms.specs.declared.declarations.Axioms.TheVariants.{Free, Comm, AssocComm, AssocCommId}
 use Rattle.fvn_terms.specs.declared.declarations.Declarations.{Declarations}
 use Rattle.fvn_terms.specs.Term.{Term, Terms, app, none, more}
 use Rattle.fvn_terms.specs.Signature.{axioms}
-use Rattle.fvn_terms.specs.Equality.{two, constant, BEqual}
+use Rattle.fvn_terms.specs.Equality.{two, constant, BEqual, identity as identity_of}
 use Rattle.fvn_terms.specs.Unifiers.{Problem}
 use Rattle.fvn_flat.specs.Problems.{subterms_of}
 
@@ -35,7 +35,7 @@ module _ (d : Declarations) (problem : Problem) where
     pub operator : OpId
     pub heads : Heads operator
     pub constant_of : OpId
-    pub identity : axioms d operator ≡ AssocCommId constant_of
+    pub identity : identity_of (axioms d operator) ≡ Some constant_of
     pub is : t ≡ constant constant_of
 
   -- a node is a subterm, or the identity of an operator that heads one

@@ -1,13 +1,12 @@
 -- The rules of a module: identity instances of its equations, and their extensions.
-use Rattle.std.specs.Prelude.{◌≡◌, ◌⊎◌, Contains}
+use Rattle.std.specs.Prelude.{◌≡◌, ◌⊎◌, Contains, Some}
 use Rattle.fvn_terms.specs.declared.plain.Var.{Var}
 use Rattle.fvn_terms.specs.declared.plain.OpId.{OpId}
-use Rattle.fvn_terms.specs.declared.declarations.Axioms.TheVariants.{AssocCommId}
 use Rattle.fvn_terms.specs.declared.declarations.Declarations.{Declarations}
 use Rattle.fvn_terms.specs.Term.{Term, Terms, var, app}
 use Rattle.fvn_terms.specs.Substitution.{Substitution, apply, Occurs}
 use Rattle.fvn_terms.specs.Signature.{axioms, kind, HasKind}
-use Rattle.fvn_terms.specs.Equality.{two, constant, IsAssociative}
+use Rattle.fvn_terms.specs.Equality.{two, constant, IsAssociative, identity as identity_of}
 use Rattle.fvn_terms.specs.Sorts.{HasSort}
 use Rattle.fvn_terms.specs.Theory.{Equations}
 use Rattle.fvn_forms.specs.Flat.{FlatTerm, plain}
@@ -16,7 +15,7 @@ use Rattle.fvn_forms.specs.Canon.{canon}
 module _ (d : Declarations) where
   -- e is the identity of some operator
   abbrev pub IsIdentity : OpId → Type 0
-  IsIdentity e = (f : OpId) × (axioms d f ≡ AssocCommId e)
+  IsIdentity e = (f : OpId) × (identity_of (axioms d f) ≡ Some e)
 
   -- x goes to an identity whose sort is at or below its own
   pub record GoesToIdentity (s : Substitution) (x : Var) : Type 0 where

@@ -8,7 +8,7 @@ use Rattle.fvn_terms.specs.declared.declarations.Declarations.{Declarations}
 use Rattle.fvn_terms.specs.Term.{Term, Terms, var, app, none, more}
 use Rattle.fvn_terms.specs.Substitution.{Substitution, followed_by, Occurs, same_var}
 use Rattle.fvn_terms.specs.Signature.{axioms, KeepsKinds}
-use Rattle.fvn_terms.specs.Equality.{IsAssociative, BEqual}
+use Rattle.fvn_terms.specs.Equality.{IsAssociative, BEqual, identity}
 use Rattle.fvn_terms.specs.Unifiers.{Problem, Solves}
 use Rattle.fvn_forms.specs.Flat.{FlatTerm, fvar, fconstant, plain}
 use Rattle.fvn_forms.specs.Canon.{canon, sum}
@@ -131,7 +131,7 @@ module _ (d : Declarations) (problem : Problem) (class : Term → ℕ) where
 
     -- k is bound to the identity of f
     abbrev pub IsBoundToIdentity : OpId → ℕ → Type 0
-    IsBoundToIdentity f k = (e : OpId) × (axioms d f ≡ AssocCommId e) × (bound_to k ≡ Some (fconstant e))
+    IsBoundToIdentity f k = (e : OpId) × (identity (axioms d f) ≡ Some e) × (bound_to k ≡ Some (fconstant e))
 
     module _ (f : OpId) where
       -- the component of the part's solution in the column of class k

@@ -10,7 +10,7 @@ ghost use Rattle.fvn_flat.specs.Fits.{Fits, AllFit, Takes, plain_over};
 ghost use Rattle.fvn_flat.specs.inner.Summands.{is_sum_of};
 
 use crate::flat::{Flat, Node};
-use fvn_sorts::Signature;
+use fvn_signature::Signature;
 use fvn_terms::{Axioms, NoMemory, OpId};
 use std::alloc::Global;
 

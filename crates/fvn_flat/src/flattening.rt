@@ -11,7 +11,7 @@ ghost use Rattle.fvn_flat.specs.Joining.{joins};
 
 use crate::building::built;
 use crate::flat::{Flat, Node};
-use fvn_sorts::Signature;
+use fvn_signature::Signature;
 use fvn_terms::{Args, Axioms, NoMemory, OpId, Plain};
 use std::alloc::Global;
 

@@ -8,7 +8,7 @@ ghost use Rattle.fvn_flat.specs.Variables.{listed, with_variable, with_variables
 
 use crate::flat::{Flat, Node};
 use crate::substitution::Subst;
-use fvn_sorts::Signature;
+use fvn_signature::Signature;
 use fvn_terms::{NoMemory, Var};
 use std::alloc::Global;
 

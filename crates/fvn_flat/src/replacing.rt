@@ -8,7 +8,7 @@ ghost use Rattle.fvn_flat.specs.inner.SoFar.{so_far, HasOneMore};
 use crate::building::built;
 use crate::flat::{Flat, Node};
 use crate::substitution::Subst;
-use fvn_sorts::Signature;
+use fvn_signature::Signature;
 use fvn_terms::NoMemory;
 use std::alloc::Global;
 

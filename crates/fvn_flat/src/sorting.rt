@@ -8,7 +8,7 @@ ghost use Rattle.fvn_flat.specs.inner.SumSorts.{with_summand, whole_sort};
 
 use crate::flat::{Flat, Node};
 use fvn_base::limits::ARGUMENTS;
-use fvn_sorts::Signature;
+use fvn_signature::Signature;
 use fvn_terms::{OpId, SortId};
 
 // The sort of a sum with one more summand of this sort.

@@ -7,7 +7,7 @@ ghost use Rattle.fvn_flat.specs.Bindings.{bound, value, BindsOnce, BindingsFit, 
 
 use crate::flat::Flat;
 use crate::renaming::is_listed;
-use fvn_sorts::Signature;
+use fvn_signature::Signature;
 use fvn_terms::{NoMemory, Var};
 use std::alloc::Global;
 use std::marker::Model;

@@ -8,7 +8,7 @@ ghost use Rattle.fvn_match.specs.inner.Known.{known_value, LeavesOpen};
 use crate::goals::{Bound, SumGoal};
 use crate::summands::take;
 use fvn_flat::Flat;
-use fvn_sorts::Signature;
+use fvn_signature::Signature;
 use fvn_terms::NoMemory;
 use std::alloc::Global;
 

@@ -9,7 +9,7 @@ use crate::pairing::all_have_one_kind;
 use crate::search::Search;
 use crate::variables::variables;
 use fvn_flat::{Flat, Subst};
-use fvn_sorts::Signature;
+use fvn_signature::Signature;
 use fvn_terms::NoMemory;
 use std::alloc::Global;
 

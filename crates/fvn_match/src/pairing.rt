@@ -5,7 +5,7 @@ ghost use Rattle.fvn_flat.specs.Fits.{Fits, AllFit};
 ghost use Rattle.fvn_match.specs.inner.Pairing.{HaveOneKind};
 
 use fvn_flat::Flat;
-use fvn_sorts::Signature;
+use fvn_signature::Signature;
 
 // Whether two terms are of one kind.
 fn have_one_kind(sig: &Signature, p: &Flat, t: &Flat) -> bool

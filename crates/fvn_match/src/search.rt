@@ -28,7 +28,7 @@ use crate::known::{has_known, without_known};
 use crate::summands::{after, alike, count_pieces, is_headed, reversed, summands};
 use crate::wholes::{are_zero, is_short, room, whole};
 use fvn_flat::{Flat, Subst};
-use fvn_sorts::Signature;
+use fvn_signature::Signature;
 use fvn_terms::{Axioms, NoMemory, OpId, Var};
 use std::alloc::Global;
 

@@ -9,7 +9,7 @@ ghost use Rattle.fvn_flat.specs.Forms.{head_of};
 ghost use Rattle.fvn_match.specs.inner.Summands.{references, IsTakenAway, IsCounted, IsRun};
 
 use fvn_flat::Flat;
-use fvn_sorts::Signature;
+use fvn_signature::Signature;
 use fvn_terms::{Axioms, NoMemory, OpId};
 use std::alloc::Global;
 use std::slice;

@@ -10,7 +10,7 @@ use crate::choices::total;
 use crate::goals::SumGoal;
 use crate::summands::is_headed;
 use fvn_flat::Flat;
-use fvn_sorts::Signature;
+use fvn_signature::Signature;
 use fvn_terms::{Axioms, NoMemory, OpId};
 use std::alloc::Global;
 

@@ -4,7 +4,7 @@ ghost use Rattle.fvn_module.specs.Readable.{IsReadable};
 
 use crate::equation::Equation;
 use fvn_base::Seq;
-use fvn_sorts::Signature;
+use fvn_signature::Signature;
 use fvn_syntax::Names;
 use std::marker::Model;
 

@@ -9,7 +9,8 @@ use crate::fault::ModuleFault;
 use fvn_base::Seq;
 use fvn_module_declarations::{Declared, NameFault, declare};
 use fvn_module_statements::Form;
-use fvn_sorts::{SigFault, Signature, SignatureBuilder};
+use fvn_signature::Signature;
+use fvn_sorts::{SigFault, SignatureBuilder};
 use fvn_syntax::{Names, Texts, Variables};
 use std::alloc::Global;
 

@@ -6,7 +6,7 @@ use Rattle.std.proofs.Common.{subst}
 use Rattle.fvn_terms.specs.declared.declarations.Declarations.{Declarations}
 use Rattle.fvn_terms.specs.Signature.{IsSort}
 use Rattle.fvn_forms.specs.Good.{IsGood}
-use Rattle.fvn_sorts.specs.Queries.{IsCompleted}
+use Rattle.fvn_signature.specs.Queries.{IsCompleted}
 use Rattle.fvn_syntax.specs.declared.names.Names.{Names}
 use Rattle.fvn_problems.specs.Scopes.{AreNamesOf}
 

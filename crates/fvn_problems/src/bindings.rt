@@ -23,7 +23,7 @@ use crate::text::cut_text;
 use crate::written::{are_once, find_written};
 use fvn_base::Seq;
 use fvn_base::limits::TERM_SYMBOLS;
-use fvn_sorts::Signature;
+use fvn_signature::Signature;
 use fvn_syntax::{Names, Scope, Seen, Texts, read_term, terms_are_well_kinded};
 use fvn_terms::{NoMemory, Plain, PlainSubst, Var};
 use std::alloc::Global;

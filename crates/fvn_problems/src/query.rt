@@ -14,7 +14,7 @@ use crate::text::cut_text;
 use crate::vars::add_variables;
 use fvn_base::Seq;
 use fvn_base::limits::TEXT_SYMBOLS;
-use fvn_sorts::Signature;
+use fvn_signature::Signature;
 use fvn_syntax::{Names, Piece, Scope, Seen, Texts, VarNames, read_term, terms_are_well_kinded};
 use fvn_terms::{NoMemory, Plain, Var};
 use std::alloc::Global;

@@ -30,7 +30,7 @@ ghost use Rattle.fvn_problems.specs.inner.Sorting.{
 };
 
 use fvn_base::Seq;
-use fvn_sorts::Signature;
+use fvn_signature::Signature;
 use fvn_syntax::{
     Names, Piece, Scope, Text, find_constant, find_operator, find_sort, split_sorted,
     terms_are_well_kinded,

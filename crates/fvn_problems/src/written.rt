@@ -9,7 +9,7 @@ ghost use Rattle.fvn_problems.specs.inner.Bound.{text_and_sort, Writes, is_named
 use crate::problem::Problem;
 use crate::split::Halves;
 use fvn_base::Seq;
-use fvn_sorts::Signature;
+use fvn_signature::Signature;
 use fvn_syntax::{Names, Piece, Scope, Seen, TermFault, Texts, read_term};
 use fvn_terms::{NoMemory, Plain, SortId, Var};
 use std::alloc::Global;

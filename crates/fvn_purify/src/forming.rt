@@ -7,7 +7,7 @@ ghost use Rattle.fvn_purify.specs.Parts.{form_at};
 
 use fvn_combine_nodes::{Node, Table};
 use fvn_flat::{Flat, flatten};
-use fvn_sorts::Signature;
+use fvn_signature::Signature;
 use fvn_terms::{Args, NoMemory, Plain};
 use std::alloc::Global;
 

@@ -11,7 +11,7 @@ ghost use Rattle.fvn_purify.specs.inner.Options.{IsEarlier, IsUnitIn, IsSolidAt,
 
 use crate::classes::{Classes, Head};
 use fvn_combine_nodes::{Node, State, Table};
-use fvn_sorts::Signature;
+use fvn_signature::Signature;
 use fvn_terms::{Axioms, NoMemory, OpId};
 use std::alloc::Global;
 

@@ -6,7 +6,7 @@ ghost use Rattle.fvn_purify.specs.inner.Standing.{IsPairBelow, HeadsWithAxioms};
 
 use crate::standing::{is_abstracted, is_shared};
 use fvn_combine_nodes::{Node, Table};
-use fvn_sorts::Signature;
+use fvn_signature::Signature;
 use fvn_terms::{Axioms, NoMemory, OpId};
 use std::alloc::Global;
 

@@ -10,7 +10,7 @@ use crate::listing::{abstracted, collapsing, operators, pairs, shared};
 use fvn_base::Seq;
 use fvn_combine_nodes::{Table, table_of};
 use fvn_flat::Pairs;
-use fvn_sorts::Signature;
+use fvn_signature::Signature;
 use fvn_terms::NoMemory;
 use std::alloc::Global;
 

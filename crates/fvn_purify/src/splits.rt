@@ -21,7 +21,7 @@ use crate::split::Split;
 use crate::stepping::{Step, take_step};
 use fvn_base::Seq;
 use fvn_combine_nodes::{start, unifiers_partition};
-use fvn_sorts::Signature;
+use fvn_signature::Signature;
 use fvn_terms::NoMemory;
 use std::alloc::Global;
 use std::marker::Model;

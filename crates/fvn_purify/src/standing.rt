@@ -14,7 +14,7 @@ ghost use Rattle.fvn_purify.specs.Theories.{
 ghost use Rattle.fvn_purify.specs.inner.Standing.{StandsUnderAt, StandsOutsideAt};
 
 use fvn_combine_nodes::{Node, Table};
-use fvn_sorts::Signature;
+use fvn_signature::Signature;
 use fvn_terms::{Axioms, OpId};
 
 // The theory of an operator; none is that of the free operators.

@@ -15,7 +15,7 @@ use crate::questions::{first_arguments, question};
 use crate::split::Split;
 use fvn_base::Seq;
 use fvn_combine_nodes::{Answers, State, ask};
-use fvn_sorts::Signature;
+use fvn_signature::Signature;
 use fvn_terms::NoMemory;
 use std::alloc::Global;
 

@@ -14,7 +14,7 @@ use Rattle.fvn_forms.specs.Good.{IsGood}
 use Rattle.fvn_forms.proofs.SortOrder.{AtOrBelow-one_kind}
 use Rattle.fvn_forms.proofs.SortTests.{at_or_below-true, at_or_below-complete}
 use Rattle.fvn_forms.proofs.Results.{AllBelow-self}
-use Rattle.fvn_sorts.specs.Queries.{IsCompleted}
+use Rattle.fvn_signature.specs.Queries.{IsCompleted}
 use Rattle.fvn_flat.specs.Variables.{listed}
 use Rattle.fvn_refine.specs.inner.Rows.{Row, placed, way_of, IsRow, IsRowBelow, HasAbove, IsAntichain, with_row}
 use Rattle.fvn_refine.specs.inner.Found.{Finds, IsUnder}

@@ -13,7 +13,7 @@ use Rattle.fvn_forms.specs.Good.{IsKinded}
 use Rattle.fvn_forms.specs.LeastSort.{KeepsKindsOfVariables}
 use Rattle.fvn_forms.proofs.SortOrder.{AtOrBelow-kind, AtOrBelow-antisym, kind_is_greatest}
 use Rattle.fvn_forms.proofs.Results.{AllBelow-self}
-use Rattle.fvn_sorts.specs.Queries.{IsCompleted}
+use Rattle.fvn_signature.specs.Queries.{IsCompleted}
 use Rattle.fvn_flat.specs.Variables.{listed}
 use Rattle.fvn_flat.proofs.Binding.{same_var_is}
 use Rattle.fvn_refine.specs.inner.Rows.{Row, beside, placed, way_of, IsRow, IsRowBelow}

@@ -7,7 +7,7 @@ ghost use Rattle.fvn_refine.specs.inner.Found.{AreArguments};
 
 use crate::rows::{copied, is_at_or_below, with_row};
 use fvn_base::Seq;
-use fvn_sorts::Signature;
+use fvn_signature::Signature;
 use fvn_terms::{NoMemory, OpId, Rank, SortId};
 use std::alloc::Global;
 

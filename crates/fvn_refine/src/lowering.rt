@@ -22,7 +22,7 @@ use crate::places::{beside, placed};
 use crate::rows::{alone, is_at_or_below, with_row, with_rows};
 use fvn_base::Seq;
 use fvn_flat::{Flat, is_listed};
-use fvn_sorts::Signature;
+use fvn_signature::Signature;
 use fvn_terms::{Axioms, NoMemory, OpId, SortId, Var};
 use std::alloc::Global;
 

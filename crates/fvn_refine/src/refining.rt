@@ -13,7 +13,7 @@ use crate::rows::alone;
 use crate::variables::variables_of_terms;
 use fvn_base::Seq;
 use fvn_flat::Subst;
-use fvn_sorts::Signature;
+use fvn_signature::Signature;
 use fvn_terms::{NoMemory, SortId, Var};
 use std::alloc::Global;
 

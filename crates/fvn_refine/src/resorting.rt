@@ -9,7 +9,7 @@ ghost use Rattle.fvn_refine.specs.inner.Resorting.{with_resorted, resorting};
 
 use fvn_base::Seq;
 use fvn_flat::{Flat, Subst};
-use fvn_sorts::Signature;
+use fvn_signature::Signature;
 use fvn_terms::{NoMemory, SortId, Var};
 use std::alloc::Global;
 

@@ -5,7 +5,7 @@ ghost use Rattle.fvn_forms.specs.SortOrder.{at_or_below};
 ghost use Rattle.fvn_refine.specs.inner.Rows.{is_row_below, with_row, with_rows};
 
 use fvn_base::Seq;
-use fvn_sorts::Signature;
+use fvn_signature::Signature;
 use fvn_terms::{NoMemory, SortId};
 use std::alloc::Global;
 

@@ -5,7 +5,7 @@ use Rattle.fvn_terms.specs.Theory.{Equations}
 use Rattle.fvn_terms.specs.Laws.{RewritingIsLawful}
 use Rattle.fvn_forms.specs.Flat.{FlatTerm}
 use Rattle.fvn_forms.specs.Good.{IsGood}
-use Rattle.fvn_sorts.specs.Queries.{IsCompleted}
+use Rattle.fvn_signature.specs.Queries.{IsCompleted}
 use Rattle.fvn_flat.specs.Fits.{Fits}
 use Rattle.fvn_rewrite_laws.specs.Laws.{SequencesAreLawful, KindedTheoriesAreLawful, RulesAreLawful}
 use Rattle.fvn_cohere.specs.Promises.{equations_of}

@@ -9,7 +9,7 @@ ghost use Rattle.fvn_rewrite.specs.inner.Fitting.{sorted_bound, IsFreeHead, AreB
 use crate::shared::Shared;
 use fvn_flat::Flat;
 use fvn_rewrite_rules::Rule;
-use fvn_sorts::Signature;
+use fvn_signature::Signature;
 use fvn_terms::{Axioms, NoMemory, OpId, Var};
 use std::alloc::Global;
 

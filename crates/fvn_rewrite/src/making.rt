@@ -14,7 +14,7 @@ use crate::fitting::{first_found, free_head, look};
 use crate::shared::Shared;
 use fvn_flat::Flat;
 use fvn_rewrite_rules::Rules;
-use fvn_sorts::Signature;
+use fvn_signature::Signature;
 use fvn_terms::{Axioms, NoMemory, OpId, Var};
 use std::alloc::Global;
 

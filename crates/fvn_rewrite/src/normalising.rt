@@ -11,7 +11,7 @@ use crate::quick::begin;
 use crate::stepping::step;
 use fvn_flat::{Flat, Normal};
 use fvn_rewrite_rules::Rules;
-use fvn_sorts::Signature;
+use fvn_signature::Signature;
 use fvn_terms::{NoMemory, rewriting_is_lawful};
 use std::alloc::Global;
 

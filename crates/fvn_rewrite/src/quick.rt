@@ -10,7 +10,7 @@ use crate::making::make;
 use fvn_flat::{Flat, flatten};
 use fvn_rewrite_laws::{kinded_theories_are_lawful, rules_are_lawful, sequences_are_lawful};
 use fvn_rewrite_rules::Rules;
-use fvn_sorts::Signature;
+use fvn_signature::Signature;
 use fvn_terms::{NoMemory, rewriting_is_lawful};
 use std::alloc::Global;
 

@@ -12,7 +12,7 @@ use fvn_match::matches;
 use fvn_rewrite_coherence::rules_are_coherent;
 use fvn_rewrite_laws::rules_are_lawful;
 use fvn_rewrite_rules::{Rule, Rules};
-use fvn_sorts::Signature;
+use fvn_signature::Signature;
 use fvn_terms::{NoMemory, OpId};
 use std::alloc::Global;
 use std::slice::from_ref;

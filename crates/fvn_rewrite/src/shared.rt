@@ -4,7 +4,7 @@ ghost use Rattle.fvn_terms.specs.Plain.{term};
 ghost use Rattle.fvn_forms.specs.Ranks.{result as least_result};
 ghost use Rattle.fvn_rewrite.specs.inner.SortedTerms.{svar, sapp, spack, sort_of, operator_of, parts_of, term_of};
 
-use fvn_sorts::Signature;
+use fvn_signature::Signature;
 use fvn_terms::{Args, NoMemory, OpId, Plain, SortId, Var};
 use std::alloc::Global;
 use std::marker::Model;

@@ -10,7 +10,7 @@ use crate::walking::walk;
 use fvn_flat::Flat;
 use fvn_rewrite_coherence::rules_are_coherent;
 use fvn_rewrite_rules::Rules;
-use fvn_sorts::Signature;
+use fvn_signature::Signature;
 use fvn_terms::NoMemory;
 use std::alloc::Global;
 

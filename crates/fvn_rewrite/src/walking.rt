@@ -10,7 +10,7 @@ use crate::root::root_step;
 use fvn_flat::Flat;
 use fvn_rewrite_laws::kinded_theories_are_lawful;
 use fvn_rewrite_rules::Rules;
-use fvn_sorts::Signature;
+use fvn_signature::Signature;
 use fvn_terms::{NoMemory, OpId, rewriting_is_lawful};
 use std::alloc::Global;
 

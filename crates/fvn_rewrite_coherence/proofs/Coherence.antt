@@ -19,7 +19,7 @@ use Rattle.fvn_forms.specs.Ranks.{result}
 use Rattle.fvn_forms.proofs.Eval.{canon_respects}
 use Rattle.fvn_forms.proofs.KindsKept.{b_equal_keeps_kind}
 use Rattle.fvn_forms.proofs.ToCanon.{canon_of_kind, b_equal_iff_canon}
-use Rattle.fvn_sorts.specs.Queries.{IsCompleted}
+use Rattle.fvn_signature.specs.Queries.{IsCompleted}
 use Rattle.fvn_flat.specs.Forms.{head_of}
 use Rattle.fvn_flat.specs.FlatPlaces.{IsReplaced, IsReplacedAmong, here, inside, first, later}
 use Rattle.fvn_flat.specs.Rules.{IsIdentity}

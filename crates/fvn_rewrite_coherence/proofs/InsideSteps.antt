@@ -12,7 +12,7 @@ use Rattle.fvn_forms.specs.Flat.{FlatTerm}
 use Rattle.fvn_forms.specs.Canon.{parts, build, canon}
 use Rattle.fvn_forms.specs.Good.{IsGood}
 use Rattle.fvn_forms.proofs.Build.{parts_none_iff, build_joined}
-use Rattle.fvn_sorts.specs.Queries.{IsCompleted}
+use Rattle.fvn_signature.specs.Queries.{IsCompleted}
 use Rattle.fvn_rewrite_laws.specs.Laws.{KindedLaws}
 use Rattle.fvn_rewrite_coherence.specs.Admissible.{AreAdmissible}
 use Rattle.fvn_rewrite_coherence.proofs.Tight.{IsIdentityForm}

@@ -21,7 +21,7 @@ use Rattle.fvn_forms.proofs.Eval.{canon_plain, eval_apply}
 use Rattle.fvn_forms.proofs.Instances.{eval_canon}
 use Rattle.fvn_forms.proofs.KindsKept.{kind_unique, both_of_kind}
 use Rattle.fvn_forms.proofs.ToCanon.{to_canon, canon_of_kind}
-use Rattle.fvn_sorts.specs.Queries.{IsCompleted}
+use Rattle.fvn_signature.specs.Queries.{IsCompleted}
 use Rattle.fvn_flat.specs.Forms.{head_of}
 use Rattle.fvn_flat.specs.Rules.{GoesToIdentity, IsExtension, IsRuleOf}
 use Rattle.fvn_rewrite_laws.specs.Kinds.{HasOneKind}

@@ -27,7 +27,7 @@ use Rattle.fvn_forms.proofs.Build.{parts_none, parts_none_iff, build_left_identi
 use Rattle.fvn_forms.proofs.KindsKept.{both_of_kind, swapped_of_kind, b_equal_keeps_kind}
 use Rattle.fvn_terms.proofs.AxiomWords.{identity_is}
 use Rattle.fvn_forms.proofs.LeastSort.{sort_in-kind, sort_of_build, least_sort_below, least_sort_exact, has_least_sort}
-use Rattle.fvn_sorts.specs.Queries.{IsCompleted}
+use Rattle.fvn_signature.specs.Queries.{IsCompleted}
 use Rattle.fvn_rewrite_laws.specs.Losses.{AreSortDecreasing}
 use Rattle.fvn_rewrite_laws.specs.Laws.{KindedLaws}
 use Rattle.fvn_rewrite_coherence.specs.Admissible.{AreAdmissible}

@@ -20,7 +20,7 @@ use Rattle.fvn_forms.proofs.Eval.{eval_apply}
 use Rattle.fvn_forms.proofs.Instances.{eval_canon}
 use Rattle.fvn_forms.proofs.ToCanon.{to_canon}
 use Rattle.fvn_terms.proofs.AxiomWords.{identity_is}
-use Rattle.fvn_sorts.specs.Queries.{IsCompleted}
+use Rattle.fvn_signature.specs.Queries.{IsCompleted}
 use Rattle.fvn_flat.specs.Rules.{IsIdentity, GoesToIdentity, IsIdentityChoice}
 use Rattle.fvn_rewrite_laws.specs.Kinds.{HasOneKind}
 use Rattle.fvn_rewrite_laws.specs.Identities.{is_listed_op, identities}

@@ -27,7 +27,7 @@ use Rattle.fvn_forms.proofs.SortTests.{at_or_below-true, at_or_below-complete}
 use Rattle.fvn_forms.proofs.LeastSort.{least_sort_exact}
 use Rattle.fvn_signature.specs.Collected.{first_sorts}
 use Rattle.fvn_signature.proofs.Parts.{contains_first_sorts}
-use Rattle.fvn_sorts.specs.Queries.{IsCompleted}
+use Rattle.fvn_signature.specs.Queries.{IsCompleted}
 use Rattle.fvn_flat.specs.Rules.{IsIdentity}
 use Rattle.fvn_rewrite_laws.specs.declared.shapes.Root.{Root}
 use Rattle.fvn_rewrite_laws.specs.declared.shapes.Root.TheVariants.{Variable, Constant, Compound}

@@ -19,7 +19,7 @@ use Rattle.fvn_forms.specs.Good.{IsGood}
 use Rattle.fvn_forms.proofs.Sums.{same_op_is, same_op_itself, constant_settled}
 use Rattle.fvn_terms.proofs.AxiomWords.{identity_is}
 use Rattle.fvn_forms.proofs.LeastSort.{sort_in-kind}
-use Rattle.fvn_sorts.specs.Queries.{IsCompleted}
+use Rattle.fvn_signature.specs.Queries.{IsCompleted}
 use Rattle.fvn_flat.specs.Rules.{IsIdentity}
 use Rattle.fvn_rewrite_laws.specs.Identities.{is_listed_op, with_operator, with_identity_of, identities}
 

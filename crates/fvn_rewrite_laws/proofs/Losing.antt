@@ -13,7 +13,7 @@ use Rattle.fvn_forms.specs.Good.{IsGood}
 use Rattle.fvn_forms.specs.LeastSort.{least_sort}
 use Rattle.fvn_forms.proofs.SortOrder.{AtOrBelow-trans}
 use Rattle.fvn_forms.proofs.LeastSort.{least_sort_exact, least_sort_below, has_least_sort}
-use Rattle.fvn_sorts.specs.Queries.{IsCompleted}
+use Rattle.fvn_signature.specs.Queries.{IsCompleted}
 use Rattle.fvn_rewrite_laws.specs.declared.shapes.Shape.{Shape}
 use Rattle.fvn_rewrite_laws.specs.Shapes.{shape_of, shape_in}
 use Rattle.fvn_rewrite_laws.specs.Kinds.{HasOneKind}

@@ -22,7 +22,7 @@ use Rattle.fvn_forms.specs.Flat.{FlatTerm, plain}
 use Rattle.fvn_forms.specs.Good.{IsGood}
 use Rattle.fvn_forms.proofs.KindsKept.{sum_of_kind, kind_unique}
 use Rattle.fvn_forms.proofs.ToCanon.{to_canon, canon_of_kind}
-use Rattle.fvn_sorts.specs.Queries.{IsCompleted}
+use Rattle.fvn_signature.specs.Queries.{IsCompleted}
 use Rattle.fvn_flat.specs.Rules.{GoesToIdentity, IsIdentityChoice, IsIdentityInstance, IsExtension, IsRuleFrom, IsRuleOf}
 use Rattle.fvn_rewrite_laws.specs.Kinds.{HasOneKind, HaveOneKind}
 use Rattle.fvn_rewrite_laws.specs.Laws.{RuleLaws}

@@ -19,7 +19,7 @@ use Rattle.fvn_forms.specs.FitsKinds.{FitsKinds}
 use Rattle.fvn_forms.specs.Canon.{canon}
 use Rattle.fvn_forms.specs.Good.{IsGood}
 use Rattle.fvn_rewrite_laws.specs.Shapes.{shape_of, shape_in}
-use Rattle.fvn_sorts.specs.Queries.{IsCompleted}
+use Rattle.fvn_signature.specs.Queries.{IsCompleted}
 use Rattle.fvn_rewrite_laws.specs.declared.shapes.Root.TheVariants.{Variable, Constant}
 use Rattle.fvn_rewrite_laws.specs.declared.shapes.Shape.{Shape}
 use Rattle.fvn_rewrite_laws.specs.Identities.{identities}

@@ -30,7 +30,7 @@ use Rattle.fvn_forms.proofs.KindsOfSums.{two_of_kind}
 use Rattle.fvn_forms.proofs.Eval.{canon_respects, canon_settled, canon_plain, eval_apply}
 use Rattle.fvn_forms.proofs.Instances.{eval_canon}
 use Rattle.fvn_forms.proofs.ToCanon.{to_canon, canon_of_kind}
-use Rattle.fvn_sorts.specs.Queries.{IsCompleted}
+use Rattle.fvn_signature.specs.Queries.{IsCompleted}
 use Rattle.fvn_flat.specs.Fits.{Fits}
 use Rattle.fvn_flat.specs.Problems.{variables}
 use Rattle.fvn_flat.specs.Rules.{GoesToIdentity, IsIdentityChoice, IsIdentityInstance, IsExtension, IsRuleOf}

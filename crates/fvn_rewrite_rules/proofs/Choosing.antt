@@ -26,7 +26,7 @@ use Rattle.fvn_forms.proofs.Eval.{canon_settled, canon_plain, eval_apply}
 use Rattle.fvn_forms.proofs.Instances.{eval_canon}
 use Rattle.fvn_forms.proofs.ToCanon.{canon_of_kind}
 use Rattle.fvn_forms.proofs.LeastSort.{least_sort_below}
-use Rattle.fvn_sorts.specs.Queries.{IsCompleted}
+use Rattle.fvn_signature.specs.Queries.{IsCompleted}
 use Rattle.fvn_flat.specs.Bindings.{Bindings, form_or, value, BindingsFit}
 use Rattle.fvn_flat.specs.Solving.{substitution}
 use Rattle.fvn_flat.specs.Rules.{GoesToIdentity, IsIdentityChoice, IsIdentityInstance}

@@ -23,7 +23,7 @@ use Rattle.fvn_forms.specs.Good.{IsGood}
 use Rattle.fvn_forms.proofs.KindsKept.{kind_unique}
 use Rattle.fvn_forms.proofs.Eval.{canon_plain}
 use Rattle.fvn_forms.proofs.ToCanon.{to_canon}
-use Rattle.fvn_sorts.specs.Queries.{IsCompleted}
+use Rattle.fvn_signature.specs.Queries.{IsCompleted}
 use Rattle.fvn_flat.specs.Forms.{head_of}
 use Rattle.fvn_flat.specs.Successors.{renamed_form}
 use Rattle.fvn_flat.specs.Rules.{GoesToIdentity, IsIdentityInstance, IsExtension, IsRuleFrom}

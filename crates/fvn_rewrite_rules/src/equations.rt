@@ -11,7 +11,7 @@ use crate::instances::instances;
 use crate::rule::Rule;
 use fvn_cohere::all_identities;
 use fvn_module::Equation;
-use fvn_sorts::Signature;
+use fvn_signature::Signature;
 use fvn_terms::{NoMemory, OpId};
 use std::alloc::Global;
 

@@ -10,7 +10,7 @@ ghost use Rattle.fvn_rewrite_rules.specs.inner.Making.{IsKindedRule, new_variabl
 
 use crate::rule::Rule;
 use fvn_flat::Flat;
-use fvn_sorts::Signature;
+use fvn_signature::Signature;
 use fvn_terms::{Axioms, NoMemory, OpId, Var};
 use std::alloc::Global;
 

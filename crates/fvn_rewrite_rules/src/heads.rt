@@ -7,7 +7,7 @@ ghost use Rattle.fvn_rewrite_rules.specs.inner.Heads.{HasAsInstance, SomeHasInst
 use crate::rule::Rule;
 use fvn_base::Seq;
 use fvn_match::matches_both;
-use fvn_sorts::Signature;
+use fvn_signature::Signature;
 use fvn_terms::{NoMemory, OpId};
 use std::alloc::Global;
 use std::slice::from_ref;

@@ -13,7 +13,7 @@ use crate::rule::Rule;
 use fvn_cohere::{distinct_variables, identities_below};
 use fvn_flat::{Subst, flatten};
 use fvn_module::Equation;
-use fvn_sorts::Signature;
+use fvn_signature::Signature;
 use fvn_terms::{Args, NoMemory, OpId, Plain, Var};
 use std::alloc::Global;
 

@@ -10,3 +10,7 @@ mod Serving
 pub mod MapSteps
 mod Lowered
 pub mod FoundAlike
+mod SortLemmas
+pub mod Components
+mod DirectSubsorts
+mod Examples

@@ -1,8 +1,8 @@
 -- The sorts that an order joins, and the first of them.
 use Rattle.std.proofs.Common.{◌≡◌, ℕ, zero, suc, ◌+◌, ◌-◌, ◌<◌, ◌≤◌, Bool, true, false, ◌&&◌, List, [], ◌∷◌, ◌++◌, map, length, get_or, refl, sym, ap, subst, ◌∙◌, inl, inr, arith, Option, Some, None}
 use Rattle.std.specs.List.{All, list_all, Contains, range_with_len}
-use Rattle.std.specs.Prelude.{cond, find, unwrap_or}
-use Rattle.std.proofs.lemmas.Bool.{true≢false, false≢true, false_from_ne_true}
+use Rattle.std.specs.Prelude.{cond, find, nat_eq, unwrap_or}
+use Rattle.std.proofs.lemmas.Bool.{eqb-false, true≢false, false≢true, false_from_ne_true}
 use Rattle.std.proofs.lemmas.List.{length-map, get_or-map, map-append}
 use Rattle.std.proofs.lemmas.List.Sums.{count_by-le-length}
 use Rattle.std.proofs.lemmas.List.FromFn.{map-range_with_len_more, length-map-range_with_len, get_or-map-range_with_len, sum_by-map-range_with_len_more}
@@ -13,6 +13,12 @@ use Rattle.fvn_base.proofs.Membership.{contains_map, map_contains}
 use Rattle.fvn_forms.proofs.SortTests.{same_sort-true, same_sort-self, reaches-self, reaches-trans, reaches-one, reaches-sound}
 use Rattle.fvn_signature.specs.declared.collected.Collected.{Collected}
 use Rattle.fvn_signature.specs.Collected.{turned, both_ways, first_sorts, joins, first_joined, is_first, parts_before, kind_of}
+
+-- a number that is not tested as 0 is above it
+pub positive : (n : ℕ) → false ≡ nat_eq n 0 → 0 < n
+positive n e = go (eqb-false n 0 (sym e)) where
+  go : (n ≡ 0 → ⊥) → 0 < n
+  go ne = omega arith
 
 -- two tests with one answer on true are one
 pub same_tests : (a b : Bool) → (a ≡ true → b ≡ true) → (b ≡ true → a ≡ true) → a ≡ b

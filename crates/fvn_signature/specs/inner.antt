@@ -1,3 +1,4 @@
 -- What the code keeps and goes through.
+pub mod Kept
 pub mod Words
 pub mod Lowering

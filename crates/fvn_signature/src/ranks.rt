@@ -4,7 +4,6 @@ ghost use Rattle.fvn_terms.specs.declared.plain.OpId.{OpId};
 ghost use Rattle.fvn_terms.specs.Signature.{declared};
 ghost use Rattle.fvn_forms.specs.Ranks.{kind_rank, swapped_ranks, ranks_of};
 
-use crate::axioms::is_commutative;
 use fvn_base::Seq;
 use fvn_terms::{Declarations, NoMemory, OpId, Rank};
 use std::alloc::Global;
@@ -100,7 +99,7 @@ fn ranks_of(alloc: Global, declarations: &Declarations, op: OpId) -> Result<Vec<
     };
     let copies = copies(alloc, declared.ranks.as_slice())?;
     let written = add_kind_ranks(alloc, declarations, declared.ranks.as_slice(), copies)?;
-    if !is_commutative(declared.axioms) {
+    if !declared.axioms.is_commutative() {
         return Ok(written);
     }
     let turned = swapped(alloc, written.as_slice())?;

@@ -1,17 +1,16 @@
 -- What was collected without a fault is a good signature.
-use Rattle.std.proofs.Common.{◌≡◌, ◌≤◌, List, [], ◌∷◌, map, length, sym, ap, subst, ◌∙◌, ◌⊎◌, inl, inr, arith}
+use Rattle.std.proofs.Common.{◌≡◌, ◌≤◌, List, [], ◌∷◌, map, length, sym, ap, subst, ◌∙◌, Some, ◌⊎◌, inl, inr, arith}
 use Rattle.std.specs.List.{Contains}
 use Rattle.std.proofs.lemmas.Bool.{cases_lt}
 use Rattle.std.proofs.lemmas.List.{length-map}
 use Rattle.fvn_terms.specs.declared.plain.OpId.{OpId}
 use Rattle.fvn_terms.specs.declared.plain.SortId.{SortId}
-use Rattle.fvn_terms.specs.declared.declarations.Axioms.TheVariants.{AssocCommId}
 use Rattle.fvn_terms.specs.declared.declarations.Rank.{Rank}
 use Rattle.fvn_terms.specs.declared.declarations.OpDecl.{OpDecl}
 use Rattle.fvn_terms.specs.declared.declarations.Declarations.{Declarations}
 use Rattle.fvn_terms.specs.Term.{none}
 use Rattle.fvn_terms.specs.Signature.{kind, declared, axioms, AtOrBelow, HasKind, HaveKinds}
-use Rattle.fvn_terms.specs.Equality.{IsCommutative, IsAssociative, constant}
+use Rattle.fvn_terms.specs.Equality.{IsCommutative, IsAssociative, constant, identity as identity_of}
 use Rattle.fvn_forms.specs.SortOrder.{at_or_below}
 use Rattle.fvn_forms.specs.Ranks.{IsResult, ranks_of, result}
 use Rattle.fvn_forms.specs.Good.{TakesKinds, IsOfKind, IsWithinLimits, IsGood}
@@ -70,7 +69,7 @@ module _ (c : Collected) (closed : IsClosed c) (clean : HasNoFault c) where
       let k = kind (completed c) (rank_meant c w.0).result in
       subst (TakesTwoOfItsKind (completed c)) w.1.1.0 (unrefuted (same_sorts args (k ∷ k ∷ [])) (λ n. w.1.0 (inr (subst IsAssociative w.1.1.1 assoc, n))))
 
-  identity : (f e : OpId) (r : Rank) → axioms (completed c) f ≡ AssocCommId e → Contains (declared (completed c) f).ranks r → HasKind (completed c) (constant e) (kind (completed c) r.result)
+  identity : (f e : OpId) (r : Rank) → identity_of (axioms (completed c) f) ≡ Some e → Contains (declared (completed c) f).ranks r → HasKind (completed c) (constant e) (kind (completed c) r.result)
   identity f e r named h = unrefuted (has_kind_or (completed c) e (kind (completed c) r.result)) (λ n. clean (IdentityBad f) record { identity = e; named = named; rank = r; listed = h; bad = n })
 
   preregular : (f : OpId) (args : List SortId) → TakesKinds (completed c) f args → (r : SortId) × IsResult (completed c) f args r
@@ -79,7 +78,7 @@ module _ (c : Collected) (closed : IsClosed c) (clean : HasNoFault c) where
   associative_sorts : (f : OpId) (s q r : SortId) → IsAssociative (axioms (completed c) f) → IsOfKind (completed c) f s → IsOfKind (completed c) f q → IsOfKind (completed c) f r → result (completed c) f (result (completed c) f (s ∷ q ∷ []) ∷ r ∷ []) ≡ result (completed c) f (s ∷ result (completed c) f (q ∷ r ∷ []) ∷ [])
   associative_sorts f s q r assoc a b e = unrefuted (same_sort_or _ _) (λ n. clean (NotAssocSorts f s q r) record { associative = assoc; first = a; second = b; third = e; bad = n })
 
-  collapse : (f e : OpId) (s : SortId) → axioms (completed c) f ≡ AssocCommId e → IsOfKind (completed c) f s → AtOrBelow (completed c) s (result (completed c) f (s ∷ result (completed c) e [] ∷ []))
+  collapse : (f e : OpId) (s : SortId) → identity_of (axioms (completed c) f) ≡ Some e → IsOfKind (completed c) f s → AtOrBelow (completed c) s (result (completed c) f (s ∷ result (completed c) e [] ∷ []))
   collapse f e s named of_kind =
       let sum : SortId = result (completed c) f (s ∷ result (completed c) e [] ∷ []) in
       unrefuted (decided_by (at_or_below (completed c) s sum) (at_or_below-true (completed c) s sum) (at_or_below-complete (completed c))) (λ n. clean (NotCollapsing f s) record { identity = e; named = named; of_kind = of_kind; bad = n })

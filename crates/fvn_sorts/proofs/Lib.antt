@@ -8,8 +8,4 @@ mod ThirdLemmas
 mod FaultOrder
 mod ResultLemmas
 mod GoodFrom
-mod SortLemmas
-mod Components
-mod DirectSubsorts
-mod Examples
 mod TwinLemmas

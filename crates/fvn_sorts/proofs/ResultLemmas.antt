@@ -2,16 +2,15 @@
 use Rattle.std.proofs.Common.{◌≡◌, ◌↔◌, ℕ, ◌<◌, Bool, true, false, List, [], ◌∷◌, map, refl, sym, ap, subst, ◌∙◌, ◌⊎◌, inl, inr, arith, cond, nat_eq, length, get_or}
 use Rattle.std.specs.List.{Contains, All}
 use Rattle.std.specs.Prelude.{find, is_some, Some}
-use Rattle.std.proofs.lemmas.Bool.{cases_eq, eqb-false, false≢true, true≢false, false_from_ne_true}
+use Rattle.std.proofs.lemmas.Bool.{cases_eq, false≢true, true≢false, false_from_ne_true}
 use Rattle.std.proofs.lemmas.List.{get_or_default}
 use Rattle.std.proofs.lemmas.List.Elements.{All-map, All-weaker}
 use Rattle.fvn_terms.specs.declared.plain.OpId.{OpId}
 use Rattle.fvn_terms.specs.declared.plain.SortId.{SortId}
-use Rattle.fvn_terms.specs.declared.declarations.Axioms.TheVariants.{AssocCommId}
 use Rattle.fvn_terms.specs.declared.declarations.Rank.{Rank}
 use Rattle.fvn_terms.specs.declared.declarations.Declarations.{Declarations}
 use Rattle.fvn_terms.specs.Signature.{kind, declared, axioms, IsSort, AtOrBelow}
-use Rattle.fvn_terms.specs.Equality.{IsAssociative}
+use Rattle.fvn_terms.specs.Equality.{IsAssociative, identity}
 use Rattle.fvn_forms.specs.SortOrder.{sort_number, at_or_below}
 use Rattle.fvn_forms.specs.Ranks.{IsResult, ranks_of, results, is_lowest, result}
 use Rattle.fvn_forms.specs.Good.{IsOfKind}
@@ -23,6 +22,7 @@ use Rattle.fvn_signature.specs.declared.draft.Draft.{Draft}
 use Rattle.fvn_sorts.specs.declared.conditions.brackets.Triple.{Triple}
 use Rattle.fvn_signature.specs.Collected.{completed}
 use Rattle.fvn_signature.specs.FoundAlike.{FindAlike}
+use Rattle.fvn_signature.proofs.Parts.{positive}
 use Rattle.fvn_signature.proofs.FoundAlike.{same_lowest}
 use Rattle.fvn_forms.specs.FitsKinds.{HaveOneKind}
 use Rattle.fvn_sorts.specs.Faults.{Differ, HasNoResult, HasBadBrackets, HasBadCollapse}
@@ -108,21 +108,16 @@ module _ (c : Collected) (agree : AgreeInKinds c) (f : OpId) (r : Rank) where
   pub bad_brackets : (d : Declarations) → d ≡ completed c → Contains (declared d f).ranks r → IsAssociative (axioms d f) → (t : Triple) → AreBad d f (kind d r.result) t ↔ HasBadBrackets c f t.first t.second t.third
   bad_brackets d is = rw is bad_brackets_of
 
-  bad_collapse_of : Contains (declared (completed c) f).ranks r → (e : OpId) → axioms (completed c) f ≡ AssocCommId e → (s : SortId) → DoesNotCollapse (completed c) f e (kind (completed c) r.result) s ↔ HasBadCollapse c f s
+  bad_collapse_of : Contains (declared (completed c) f).ranks r → (e : OpId) → identity (axioms (completed c) f) ≡ Some e → (s : SortId) → DoesNotCollapse (completed c) f e (kind (completed c) r.result) s ↔ HasBadCollapse c f s
   bad_collapse_of h e named s = (
     λ w. record { identity = e; named = named; of_kind = (of_kind h s).0 w.0; bad = w.1 },
     λ w.
-        let same : w.identity ≡ e = let q : AssocCommId w.identity ≡ AssocCommId e = sym w.named ∙ named in cc in
+        let same : w.identity ≡ e = let q : Some w.identity ≡ Some e = sym w.named ∙ named in cc in
         ((of_kind h s).1 w.of_kind, subst (λ i. AtOrBelow (completed c) s (result (completed c) f (s ∷ result (completed c) i [] ∷ [])) → ⊥) same w.bad),
   )
 
-  pub bad_collapse : (d : Declarations) → d ≡ completed c → Contains (declared d f).ranks r → (e : OpId) → axioms d f ≡ AssocCommId e → (s : SortId) → DoesNotCollapse d f e (kind d r.result) s ↔ HasBadCollapse c f s
+  pub bad_collapse : (d : Declarations) → d ≡ completed c → Contains (declared d f).ranks r → (e : OpId) → identity (axioms d f) ≡ Some e → (s : SortId) → DoesNotCollapse d f e (kind d r.result) s ↔ HasBadCollapse c f s
   bad_collapse d is = rw is bad_collapse_of
-
-pub positive : (n : ℕ) → false ≡ nat_eq n 0 → 0 < n
-positive n e = go (eqb-false n 0 (sym e)) where
-  go : (n ≡ 0 → ⊥) → 0 < n
-  go ne = omega arith
 
 -- the first of some ranks is among them
 pub first_listed : (ranks all : List Rank) (r : Rank) → false ≡ nat_eq (length ranks) 0 → ranks ≡ all → Contains all (get_or ranks 0 r)

@@ -1,5 +1,5 @@
 -- The conditions on the declarations of an operator.
-use Rattle.std.proofs.Common.{◌≡◌, ℕ, ◌+◌, ◌<◌, ◌≤◌, List, [], ◌∷◌, map, length, get_or, refl, sym, ap, subst, ◌∙◌, ◌⊎◌, ◌↔◌, inl, inr, Bool, true, false, not, nat_eq, IsTrue, arith}
+use Rattle.std.proofs.Common.{◌≡◌, ℕ, ◌+◌, ◌<◌, ◌≤◌, List, [], ◌∷◌, map, length, get_or, refl, sym, ap, subst, ◌∙◌, Some, ◌⊎◌, ◌↔◌, inl, inr, Bool, true, false, not, nat_eq, IsTrue, arith}
 use Rattle.std.specs.List.{Contains, Any}
 use Rattle.std.proofs.lemmas.Bool.{cases_eq, cases_lt, eq-eqb, false≢true}
 use Rattle.std.proofs.lemmas.List.{get_or_read, get_or_past, length-map}
@@ -16,7 +16,7 @@ use Rattle.fvn_terms.specs.declared.declarations.Declarations.{Declarations}
 use Rattle.fvn_terms.specs.Signature.{kind, declared, axioms, unknown, HasKind, HaveKinds}
 use Rattle.fvn_terms.specs.Term.{none}
 use Rattle.fvn_forms.specs.SortOrder.{sort_number}
-use Rattle.fvn_terms.specs.Equality.{IsCommutative, IsAssociative, constant}
+use Rattle.fvn_terms.specs.Equality.{IsCommutative, IsAssociative, constant, identity}
 use Rattle.fvn_base.proofs.Membership.{contains_here, contains_none}
 use Rattle.fvn_signature.specs.declared.collected.Declaration.{Declaration}
 use Rattle.fvn_signature.specs.declared.collected.Collected.{Collected}
@@ -26,14 +26,9 @@ use Rattle.fvn_signature.specs.Collected.{IsClosed, op_number, declarations_of, 
 use Rattle.fvn_sorts.specs.Faults.{Differ, HasBadShape, HasBadIdentity, IsOnCycle, HasFault}
 use Rattle.fvn_sorts.specs.inner.Searches.{fault_at}
 use Rattle.fvn_base.proofs.Decided.{unrefuted}
+use Rattle.fvn_terms.proofs.AxiomWords.{associative_commutes}
 use Rattle.fvn_signature.proofs.Operators.{operators-long, declared_of}
 use Rattle.fvn_signature.proofs.CompletedKinds.{below-range}
-
-pub associative_commutes : (a : Axioms) → IsAssociative a → IsCommutative a
-associative_commutes Free h = h
-associative_commutes Comm h = absurd h
-associative_commutes AssocComm h = tt
-associative_commutes (AssocCommId e) h = tt
 
 -- the kinds of two arguments, each by what stands at its place
 pub kinds_of_two : (h f : SortId → SortId) (some all : List SortId) (x y : SortId) → some ≡ all → length some ≡ 2 → x ≡ h (f (get_or some 0 (sort_number 0))) → y ≡ h (f (get_or some 1 (sort_number 0))) → map h (map f all) ≡ x ∷ y ∷ []
@@ -127,17 +122,17 @@ module _ (d : Declarations) where
     no_args (s ∷ ss) p = absurd p
 
 -- an identity that is not a constant of the kind that some rank gives
-bad_identity_of : (c : Collected) (f e : OpId) → axioms (completed c) f ≡ AssocCommId e → Any (λ r. HasKind (completed c) (constant e) (kind (completed c) r.result) → ⊥) (declared (completed c) f).ranks ↔ HasBadIdentity c f
+bad_identity_of : (c : Collected) (f e : OpId) → identity (axioms (completed c) f) ≡ Some e → Any (λ r. HasKind (completed c) (constant e) (kind (completed c) r.result) → ⊥) (declared (completed c) f).ranks ↔ HasBadIdentity c f
 bad_identity_of c f e named = (forth, back) where
   forth : Any (λ r. HasKind (completed c) (constant e) (kind (completed c) r.result) → ⊥) (declared (completed c) f).ranks → HasBadIdentity c f
   forth a = record { identity = e; named = named; rank = a.1; listed = (a.0, a.2, a.3); bad = a.4 }
 
   back : HasBadIdentity c f → Any (λ r. HasKind (completed c) (constant e) (kind (completed c) r.result) → ⊥) (declared (completed c) f).ranks
   back w =
-      let same : w.identity ≡ e = let q : AssocCommId w.identity ≡ AssocCommId e = sym w.named ∙ named in cc in
+      let same : w.identity ≡ e = let q : Some w.identity ≡ Some e = sym w.named ∙ named in cc in
       (w.listed.0, w.rank, w.listed.1, w.listed.2, λ h. w.bad (subst (λ i. HasKind (completed c) (constant i) (kind (completed c) w.rank.result)) (sym same) h))
 
-pub bad_identity : (c : Collected) (d : Declarations) → d ≡ completed c → (f e : OpId) → axioms d f ≡ AssocCommId e → Any (λ r. HasKind d (constant e) (kind d r.result) → ⊥) (declared d f).ranks ↔ HasBadIdentity c f
+pub bad_identity : (c : Collected) (d : Declarations) → d ≡ completed c → (f e : OpId) → identity (axioms d f) ≡ Some e → Any (λ r. HasKind d (constant e) (kind d r.result) → ⊥) (declared d f).ranks ↔ HasBadIdentity c f
 bad_identity c d is f e = rw is (bad_identity_of c f e)
 
 -- nothing fails of an operator that was not declared

@@ -1,12 +1,11 @@
 -- The faults of what was collected, and which of them comes first.
-use Rattle.std.specs.Prelude.{◌≡◌, ◌<◌, ◌⊎◌, ℕ, List, [], ◌∷◌, map, length, Any, Contains}
+use Rattle.std.specs.Prelude.{◌≡◌, ◌<◌, ◌⊎◌, ℕ, List, [], ◌∷◌, map, length, Any, Contains, Some}
 use Rattle.fvn_base.specs.declared.limits.TheConstants.{SORTS, OPERATORS, ARGUMENTS}
 use Rattle.fvn_terms.specs.declared.plain.OpId.{OpId}
 use Rattle.fvn_terms.specs.declared.plain.SortId.{SortId}
-use Rattle.fvn_terms.specs.declared.declarations.Axioms.TheVariants.{AssocCommId}
 use Rattle.fvn_terms.specs.declared.declarations.Rank.{Rank}
 use Rattle.fvn_terms.specs.Signature.{kind, declared, axioms, AtOrBelow, HasKind}
-use Rattle.fvn_terms.specs.Equality.{IsCommutative, IsAssociative, constant}
+use Rattle.fvn_terms.specs.Equality.{IsCommutative, IsAssociative, constant, identity as identity_of}
 use Rattle.fvn_forms.specs.Ranks.{IsResult}
 use Rattle.fvn_forms.specs.FitsKinds.{HaveOneKind, TakesTwoAlike, TakesTwoOfItsKind}
 use Rattle.fvn_forms.specs.Good.{TakesKinds, IsOfKind, Associates, Collapses}
@@ -39,7 +38,7 @@ module _ (c : Collected) where
   -- the operator has an identity that is not a constant of the kind that a rank of it gives
   pub record HasBadIdentity (f : OpId) : Type 0 where
     pub identity : OpId
-    pub named : axioms (completed c) f ≡ AssocCommId identity
+    pub named : identity_of (axioms (completed c) f) ≡ Some identity
     pub rank : Rank
     pub listed : Contains (declared (completed c) f).ranks rank
     pub bad : HasKind (completed c) (constant identity) (kind (completed c) rank.result) → ⊥
@@ -59,7 +58,7 @@ module _ (c : Collected) where
   -- this sort is not at or below that of its sum with the identity
   pub record HasBadCollapse (f : OpId) (s : SortId) : Type 0 where
     pub identity : OpId
-    pub named : axioms (completed c) f ≡ AssocCommId identity
+    pub named : identity_of (axioms (completed c) f) ≡ Some identity
     pub of_kind : IsOfKind (completed c) f s
     pub bad : Collapses (completed c) f identity s → ⊥
 

@@ -1,7 +1,3 @@
--- Signatures as they are collected, their faults, queries and laws.
-pub mod Collected
+-- The faults of signatures.
 pub mod Faults
-pub mod Queries
-pub mod Joined
-pub mod Laws
 pub mod inner

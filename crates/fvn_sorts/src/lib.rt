@@ -3,14 +3,7 @@
 
 mod builder;
 mod conditions;
-mod laws;
-mod queries;
 
 pub use builder::SignatureBuilder;
 pub use conditions::fault::SigFault;
-pub use fvn_signature::{Collected, Declaration};
-pub use laws::{
-    direct_subsorts_are_listed, direct_subsorts_cover, direct_subsorts_of_kinds,
-    kinds_are_components,
-};
-pub use queries::signature::{Signature, all_shared};
+pub use fvn_signature::{Collected, Declaration, Signature};

@@ -11,7 +11,7 @@ ghost use Rattle.fvn_flat.specs.Solving.{problem_of as pairs_of};
 use super::terms::{has_kind, is_term, term_of};
 use fvn_base::Seq;
 use fvn_flat::{Flat, Pairs, flatten};
-use fvn_sorts::Signature;
+use fvn_signature::Signature;
 use fvn_terms::{NoMemory, SortId};
 use std::alloc::Global;
 

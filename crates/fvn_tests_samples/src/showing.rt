@@ -1,6 +1,6 @@
 //! Writes flat terms.
 use fvn_flat::Flat;
-use fvn_sorts::Signature;
+use fvn_signature::Signature;
 use fvn_terms::{Axioms, NoMemory, OpId, SortId, Var};
 
 fn push_letter(out: &mut String, first: u8, number: u16) -> Result<(), NoMemory> {

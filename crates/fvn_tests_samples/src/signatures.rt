@@ -4,11 +4,12 @@
 //! declarations, as `f : A B -> C [comm]`. Sorts are A, B, C and on, and operators f, g, h and on. A sort in
 //! brackets is its kind, and `~>` makes a declaration partial.
 ghost use Rattle.std.specs.Prelude.{◌≤◌, ◌<◌, All, IsTrue};
-ghost use Rattle.fvn_sorts.specs.Collected.{Names};
+ghost use Rattle.fvn_signature.specs.Collected.{Names};
 
 use fvn_base::Seq;
 use fvn_base::limits::FIRST_KIND;
-use fvn_sorts::{Signature, SignatureBuilder};
+use fvn_signature::Signature;
+use fvn_sorts::SignatureBuilder;
 use fvn_terms::{Axioms, NoMemory, OpId, Rank, SortId};
 use std::alloc::Global;
 

@@ -4,7 +4,7 @@ ghost use Rattle.fvn_flat.specs.Bindings.{BindingsFit};
 
 use super::terms::{has_kind, term_of, var_of};
 use fvn_flat::{Subst, flatten};
-use fvn_sorts::Signature;
+use fvn_signature::Signature;
 use fvn_terms::{NoMemory, Plain, Var};
 use std::alloc::Global;
 

@@ -6,7 +6,7 @@ ghost use Rattle.fvn_terms.specs.Plain.{term};
 ghost use Rattle.fvn_terms.specs.Signature.{kind, declared, IsSort, HasKind, HaveKinds, IsTerm};
 
 use super::signatures::{operator_of, sort_of};
-use fvn_sorts::Signature;
+use fvn_signature::Signature;
 use fvn_terms::{Args, NoMemory, OpId, Plain, Rank, SortId, Var};
 use std::alloc::Global;
 

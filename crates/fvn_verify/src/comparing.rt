@@ -14,7 +14,7 @@ use fvn_forms::equality_is_that_of_flat_forms;
 use fvn_rewrite::normal;
 use fvn_rewrite_laws::{kinded_theories_are_lawful, sequences_are_lawful};
 use fvn_rewrite_rules::Rules;
-use fvn_sorts::Signature;
+use fvn_signature::Signature;
 use fvn_terms::{NoMemory, Plain, PlainSubst, rewriting_is_lawful, theory_equality_is_lawful};
 use std::alloc::Global;
 

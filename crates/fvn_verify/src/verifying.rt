@@ -15,7 +15,7 @@ use crate::verdict::Verdict;
 use fvn_flat::Flat;
 use fvn_problems::{Bindings, Problem};
 use fvn_rewrite_rules::Rules;
-use fvn_sorts::Signature;
+use fvn_signature::Signature;
 use fvn_terms::{NoMemory, Plain, PlainSubst};
 use std::alloc::Global;
 

@@ -8,9 +8,7 @@ use crate::builder::SignatureBuilder;
 use crate::conditions::fault::SigFault;
 use crate::conditions::sizes::is_too_large;
 use crate::conditions::stages::first_fault;
-use crate::queries::signature::Signature;
-use crate::queries::subsorts::all_direct_subsorts;
-use fvn_signature::{Collected, draft_of};
+use fvn_signature::{Collected, Signature, draft_of};
 use fvn_terms::NoMemory;
 use std::alloc::Global;
 
@@ -29,8 +27,8 @@ fn signature_of(alloc: Global, collected: &Collected) -> Result<Signature, SigFa
         Some(fault) => return Err(fault),
         None => {}
     }
-    let direct = all_direct_subsorts(alloc, &draft)?;
-    Ok(Signature { draft, direct })
+    let signature = Signature::from_draft(alloc, draft)?;
+    Ok(signature)
 }
 
 impl SignatureBuilder {

@@ -8,10 +8,7 @@ ghost use Rattle.fvn_forms.specs.FitsKinds.{HaveOneKind, TakesTwoAlike};
 ghost use Rattle.fvn_sorts.specs.Faults.{Differ, HasBadShape, HasBadIdentity, HasFault};
 ghost use Rattle.fvn_sorts.specs.inner.Searches.{fault_at, IsFirstOperator};
 
-use fvn_signature::{
-    Collected, Declaration, Draft, first_axioms, identity_of, is_associative, is_commutative,
-    meant_or_kind,
-};
+use fvn_signature::{Collected, Declaration, Draft, first_axioms, meant_or_kind};
 use fvn_terms::{Axioms, Declarations, OpId, Rank, SortId};
 
 /// A condition that speaks of the declarations of one operator alone.
@@ -93,9 +90,9 @@ fn has_bad_shape(draft: &Draft, collected: &Collected, declaration: &Declaration
 {
     let both = match kind_of_both(draft, collected, declaration) {
         Some(kind) => kind,
-        None => return is_commutative(declaration.axioms),
+        None => return declaration.axioms.is_commutative(),
     };
-    if !is_associative(declaration.axioms) {
+    if !declaration.axioms.is_sum() {
         return false;
     }
     kind_meant(
@@ -179,7 +176,7 @@ fn has_bad_identity(draft: &Draft, collected: &Collected, op: OpId) -> bool
         Some(declared) => declared,
         None => return false,
     };
-    let identity = match identity_of(declared.axioms) {
+    let identity = match declared.axioms.identity() {
         Some(identity) => identity,
         None => return false,
     };

@@ -12,9 +12,7 @@ use crate::conditions::fault::SigFault;
 use crate::conditions::preregular::first_without;
 use crate::conditions::shapes::{Condition, first_failing};
 use fvn_base::Seq;
-use fvn_signature::{
-    Collected, Draft, has_earlier_alike, identity_of, is_associative, without_repeats,
-};
+use fvn_signature::{Collected, Draft, has_earlier_alike, without_repeats};
 use fvn_terms::{Declarations, NoMemory, OpId, SortId};
 use std::alloc::Global;
 
@@ -119,7 +117,7 @@ fn bad_brackets(draft: &Draft, collected: &Collected, op: OpId) -> Option<Triple
     if ranks.is_empty() {
         return None;
     }
-    if !is_associative(draft.axioms(op)) {
+    if !draft.axioms(op).is_sum() {
         return None;
     }
     bad_triple(draft, op, draft.declarations.kind(ranks[0].result))
@@ -155,7 +153,7 @@ fn bad_collapse(draft: &Draft, collected: &Collected, op: OpId) -> Option<SortId
     if ranks.is_empty() {
         return None;
     }
-    match identity_of(draft.axioms(op)) {
+    match draft.axioms(op).identity() {
         Some(identity) => first_not_collapsing(
             draft,
             op,

@@ -7,7 +7,7 @@ ghost use Rattle.fvn_answer.specs.Asked.{AreAsked, HaveSorts};
 
 use fvn_flat::{Subst, flatten};
 use fvn_problems::{Bindings, Problem};
-use fvn_sorts::Signature;
+use fvn_signature::Signature;
 use fvn_terms::{NoMemory, Plain};
 use std::alloc::Global;
 

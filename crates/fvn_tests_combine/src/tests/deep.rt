@@ -4,7 +4,7 @@ use super::rows::{Asked, OPERATORS, assert_table};
 use super::splitting::push_problem;
 use fvn_base::Seq;
 use fvn_flat::{Flat, Pairs};
-use fvn_sorts::Signature;
+use fvn_signature::Signature;
 use fvn_terms::{NoMemory, OpId, Plain};
 use std::alloc::Global;
 

@@ -5,7 +5,7 @@ ghost use Rattle.fvn_combine_nodes.specs.Trees.{AreClosed, weight};
 
 use super::tables::push_state;
 use fvn_combine_nodes::{State, Table, Tree, undecided};
-use fvn_sorts::Signature;
+use fvn_signature::Signature;
 use fvn_terms::NoMemory;
 use std::alloc::Global;
 

@@ -9,7 +9,7 @@ ghost use Rattle.fvn_flat.specs.Solving.{IsGiven, problem_of, symbols_of_pairs};
 use fvn_combine_nodes::table_of;
 use fvn_combine_triangular::variables;
 use fvn_flat::Pairs;
-use fvn_sorts::Signature;
+use fvn_signature::Signature;
 use fvn_terms::{NoMemory, Var};
 use fvn_tests_samples::are_sides;
 use std::alloc::Global;

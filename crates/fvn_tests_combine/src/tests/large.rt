@@ -5,7 +5,7 @@ use super::rows::{Asked, OPERATORS, assert_table};
 use fvn_base::Seq;
 use fvn_combine_nodes::{Tree, table_of};
 use fvn_flat::{Flat, Pairs, flatten};
-use fvn_sorts::Signature;
+use fvn_signature::Signature;
 use fvn_terms::{Args, NoMemory, OpId, Plain, SortId, Var};
 use fvn_tests_samples::is_term;
 use std::alloc::Global;

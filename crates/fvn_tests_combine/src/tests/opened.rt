@@ -19,7 +19,7 @@ use fvn_combine_nodes::{State, Table};
 use fvn_combine_systems::tables_hold_arguments;
 use fvn_flat::Pairs;
 use fvn_lindio::Solution;
-use fvn_sorts::Signature;
+use fvn_signature::Signature;
 use fvn_terms::{NoMemory, OpId};
 use std::alloc::Global;
 

@@ -3,7 +3,7 @@ use super::opened::push_opened;
 use super::rows::{Asked, OPERATORS, WITH_ELEMENTS, assert_table};
 use fvn_combine_nodes::{start, table_of};
 use fvn_flat::Pairs;
-use fvn_sorts::Signature;
+use fvn_signature::Signature;
 use fvn_terms::NoMemory;
 use fvn_tests_samples::problem_of;
 use std::alloc::Global;

@@ -4,7 +4,7 @@ use super::rows::{Asked, OPERATORS, assert_table};
 use super::tables::push_table;
 use fvn_combine_nodes::table_of;
 use fvn_flat::Pairs;
-use fvn_sorts::Signature;
+use fvn_signature::Signature;
 use fvn_terms::NoMemory;
 use fvn_tests_samples::problem_of;
 use std::alloc::Global;

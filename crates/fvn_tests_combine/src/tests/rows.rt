@@ -6,7 +6,7 @@ use super::partitions::{shown_partitions, shown_ways};
 use super::solving::shown_solved;
 use super::splits::shown_splits;
 use super::unifiers::shown_unified;
-use fvn_sorts::Signature;
+use fvn_signature::Signature;
 use fvn_terms::NoMemory;
 use fvn_tests_samples::signature_of;
 use std::alloc::Global;

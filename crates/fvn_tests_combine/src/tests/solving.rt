@@ -6,7 +6,7 @@ use super::given::is_given;
 use super::unifying::push_number;
 use fvn_axunify::{AxiomUnify, SolveLimits};
 use fvn_flat::{Pairs, SizeCause, SolveEnd};
-use fvn_sorts::Signature;
+use fvn_signature::Signature;
 use fvn_terms::NoMemory;
 use fvn_tests_samples::problem_of;
 use std::alloc::Global;

@@ -1,7 +1,7 @@
 //! Parts of problems, and all their splits.
 use super::rows::{Asked, OPERATORS, assert_table};
 use super::splitting::push_problem;
-use fvn_sorts::Signature;
+use fvn_signature::Signature;
 use fvn_terms::NoMemory;
 use fvn_tests_samples::problem_of;
 use std::alloc::Global;

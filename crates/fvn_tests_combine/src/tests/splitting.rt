@@ -7,7 +7,7 @@ ghost use Rattle.fvn_purify.specs.Parts.{AreClassesOf};
 use super::parts::{push_classes, push_split};
 use fvn_flat::Pairs;
 use fvn_purify::{Classes, Splits, purify};
-use fvn_sorts::Signature;
+use fvn_signature::Signature;
 use fvn_terms::NoMemory;
 use fvn_tests_samples::are_sides;
 use std::alloc::Global;

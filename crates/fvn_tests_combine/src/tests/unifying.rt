@@ -9,7 +9,7 @@ use super::tables::push_after;
 use fvn_combine::{CombineEnd, Combiner};
 use fvn_flat::{Flat, Pairs, Subst};
 use fvn_match::matches;
-use fvn_sorts::Signature;
+use fvn_signature::Signature;
 use fvn_terms::NoMemory;
 use fvn_tests_samples::flat_of;
 use std::alloc::Global;

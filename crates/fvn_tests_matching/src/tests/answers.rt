@@ -1,5 +1,6 @@
 //! Writes signatures and faults.
-use fvn_sorts::{SigFault, Signature};
+use fvn_signature::Signature;
+use fvn_sorts::SigFault;
 use fvn_terms::{Axioms, NoMemory, OpId, Rank, SortId};
 use fvn_tests_samples::{is_sort, push_sort};
 use std::alloc::Global;

@@ -8,7 +8,7 @@ ghost use Rattle.fvn_forms.specs.Canon.{eval_all};
 ghost use Rattle.fvn_flat.specs.Fits.{Fits};
 
 use fvn_flat::{Flat, flatten};
-use fvn_sorts::Signature;
+use fvn_signature::Signature;
 use fvn_terms::{Args, NoMemory, OpId, Plain};
 use std::alloc::Global;
 

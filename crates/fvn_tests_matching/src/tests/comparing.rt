@@ -1,7 +1,7 @@
 //! Compares, prunes and marks the variants of tests.
 use super::variants::{are_all_alike, is_alike, variant_of, variants_of};
 use fvn_cover::{OpenGate, Variant, covers, marks, prune};
-use fvn_sorts::Signature;
+use fvn_signature::Signature;
 use fvn_terms::NoMemory;
 use fvn_tests_samples::push_flat;
 use std::alloc::Global;

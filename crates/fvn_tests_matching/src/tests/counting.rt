@@ -4,7 +4,7 @@ ghost use Rattle.fvn_flat.specs.Fits.{Fits};
 
 use fvn_flat::{Flat, flatten};
 use fvn_match::{matches, matches_both};
-use fvn_sorts::Signature;
+use fvn_signature::Signature;
 use fvn_terms::{Args, NoMemory, OpId, Plain, SortId, Var};
 use fvn_tests_samples::{flat_of, is_term};
 use std::alloc::Global;

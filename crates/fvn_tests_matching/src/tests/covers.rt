@@ -4,7 +4,7 @@ use super::meeting::Meeting;
 use super::rows::{Asked, assert_table};
 use super::variants::{are_all_alike, variants_of};
 use fvn_cover::{all_shared, covering_of_variants_is_a_preorder, marks};
-use fvn_sorts::Signature;
+use fvn_signature::Signature;
 use fvn_terms::NoMemory;
 use fvn_tests_samples::signature_of;
 use std::alloc::Global;

@@ -1,6 +1,7 @@
 //! Signatures that are good with what their queries answer, and the first fault of those that are not.
 use super::answers::{push_fault, push_signature};
-use fvn_sorts::{SignatureBuilder, all_shared};
+use fvn_signature::all_shared;
+use fvn_sorts::SignatureBuilder;
 use fvn_terms::{NoMemory, OpId};
 use fvn_tests_samples::{collected, with_operator, with_sorts};
 use std::alloc::Global;

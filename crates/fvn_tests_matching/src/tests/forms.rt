@@ -2,7 +2,7 @@
 use super::building::{flattened_again, nested, over_arguments, tree};
 use super::rows::{Asked, assert_table};
 use fvn_flat::{Flat, flatten, rename_apart};
-use fvn_sorts::Signature;
+use fvn_signature::Signature;
 use fvn_terms::{NoMemory, Plain};
 use fvn_tests_samples::{is_term, push_flat, push_sort, term_of};
 use std::alloc::Global;

@@ -4,7 +4,7 @@ ghost use Rattle.fvn_flat.specs.Bindings.{BindingsFit};
 
 use super::rows::{Asked, assert_table};
 use fvn_flat::Subst;
-use fvn_sorts::Signature;
+use fvn_signature::Signature;
 use fvn_terms::{NoMemory, Var};
 use fvn_tests_samples::{flat_of, push_flat, subst_of, var_of};
 use std::alloc::Global;

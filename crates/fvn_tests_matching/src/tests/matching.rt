@@ -5,7 +5,7 @@ ghost use Rattle.fvn_flat.specs.Fits.{Fits};
 use super::counting::are_matched;
 use fvn_flat::{Flat, Subst};
 use fvn_match::matches;
-use fvn_sorts::Signature;
+use fvn_signature::Signature;
 use fvn_terms::NoMemory;
 use fvn_tests_samples::{flat_of, flats_of, push_flat, var_of};
 use std::alloc::Global;

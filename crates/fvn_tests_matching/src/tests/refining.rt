@@ -6,7 +6,7 @@ ghost use Rattle.fvn_refine.specs.Refinements.{AreBound};
 
 use fvn_flat::Subst;
 use fvn_refine::refine;
-use fvn_sorts::Signature;
+use fvn_signature::Signature;
 use fvn_terms::{NoMemory, Var};
 use fvn_tests_samples::{is_sort, push_flat, subst_of, var_of};
 use std::alloc::Global;

@@ -6,7 +6,7 @@ use super::instances::shown_instance;
 use super::matching::{shown_halves, shown_match};
 use super::refining::shown_refined;
 use super::sorts::shown_sort;
-use fvn_sorts::Signature;
+use fvn_signature::Signature;
 use fvn_terms::NoMemory;
 use fvn_tests_samples::signature_of;
 use std::alloc::Global;

@@ -1,6 +1,6 @@
 //! Terms with their least sorts.
 use super::rows::{Asked, assert_table};
-use fvn_sorts::Signature;
+use fvn_signature::Signature;
 use fvn_terms::{NoMemory, Plain, SortId};
 use fvn_tests_samples::{has_kind, kind_of, push_sort, term_of};
 use std::alloc::Global;

@@ -5,7 +5,7 @@ ghost use Rattle.fvn_cover.specs.Covering.{AreAlike, IsFlatVariant};
 
 use fvn_base::Seq;
 use fvn_cover::Variant;
-use fvn_sorts::Signature;
+use fvn_signature::Signature;
 use fvn_terms::{NoMemory, Var};
 use fvn_tests_samples::{flats_of, is_sort, subst_of, var_of};
 use std::alloc::Global;

@@ -1,6 +1,6 @@
 //! Modules with all that their signatures answer: sorts, results of operators, axioms and equations.
 use fvn_module::{Equation, Module, read_module};
-use fvn_sorts::Signature;
+use fvn_signature::Signature;
 use fvn_syntax::Names;
 use fvn_terms::{Args, Axioms, NoMemory, OpId, Plain, SortId, Var};
 use std::alloc::Global;

@@ -11,7 +11,7 @@ use fvn_flat::{Flat, Normal, flatten};
 use fvn_module::{Module, read_module};
 use fvn_rewrite::{harmless_equations_are_admissible, normal};
 use fvn_rewrite_rules::{Rules, extend};
-use fvn_sorts::Signature;
+use fvn_signature::Signature;
 use fvn_terms::NoMemory;
 use std::alloc::Global;
 use std::process::Abort;

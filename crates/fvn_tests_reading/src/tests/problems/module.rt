@@ -1,12 +1,13 @@
 //! Reads the signatures of tests, with their names.
 ghost use Rattle.std.specs.Prelude.{◌<◌, All, IsTrue};
 ghost use Rattle.fvn_terms.specs.Signature.{IsSort};
-ghost use Rattle.fvn_sorts.specs.Collected.{Names as Named};
+ghost use Rattle.fvn_signature.specs.Collected.{Names as Named};
 ghost use Rattle.fvn_problems.specs.Scopes.{AreNamesOf};
 
 use fvn_base::Seq;
 use fvn_base::limits::FIRST_KIND;
-use fvn_sorts::{Signature, SignatureBuilder};
+use fvn_signature::Signature;
+use fvn_sorts::SignatureBuilder;
 use fvn_syntax::{Names, Texts, Variables};
 use fvn_terms::{Axioms, NoMemory, OpId, Rank, SortId};
 use std::alloc::Global;

@@ -11,8 +11,8 @@ use Rattle.fvn_sorts.proofs.conditions.shapes.has_bad_identity.Goals as goal
 pub returns : goal.returns
 returns c =
     let d = c.args.draft.now.declarations in
-    let e = c.in-Some-identity_of.identity in
-    let named = ap (λ (o : OpDecl). o.axioms) (sym c.in-Some.ensures) ∙ c.in-Some-identity_of.ensures in
+    let e = c.in-Some-identity.identity in
+    let named = ap (λ (o : OpDecl). o.axioms) (sym c.in-Some.ensures) ∙ c.in-Some-identity.ensures in
     let all : c.as_slice.result.now ≡ (declared d c.args.op).ranks = c.as_slice.ensures ∙ ap (λ (o : OpDecl). o.ranks) c.in-Some.ensures in
     let P = λ (r : Rank). HasKind d (constant e) (kind d r.result) → ⊥ in
     let bad = bad_identity c.args.collected.now d c.requires.is c.args.op e named in (

@@ -5,13 +5,13 @@ use Rattle.fvn_sorts.proofs.ShapeLemmas.{bad_alone, never_bad, bad_result}
 use Rattle.fvn_sorts.proofs.conditions.shapes.has_bad_shape.Goals as goal
 
 pub returns-in-None : goal.returns-in-None
-returns-in-None c = bad_alone c.args.collected.now c.args.declaration.now c.in-None.ensures c.is_commutative.ensures
+returns-in-None c = bad_alone c.args.collected.now c.args.declaration.now c.in-None.ensures c.is_commutative.ensures.holds
 
-pub returns-then-not-is_associative : goal.returns-then-not-is_associative
-returns-then-not-is_associative c = (
+pub returns-then-not-is_sum : goal.returns-then-not-is_sum
+returns-then-not-is_sum c = (
   λ h. absurd (false≢true h),
-  λ w. absurd (never_bad c.args.collected.now c.args.declaration.now c.in-Some.kind c.in-Some.ensures (λ a. false≢true (c.if-not-is_associative.ensures.1 a)) w),
+  λ w. absurd (never_bad c.args.collected.now c.args.declaration.now c.in-Some.kind c.in-Some.ensures (λ a. false≢true (c.if-not-is_sum.ensures.holds.1 a)) w),
 )
 
 pub returns : goal.returns
-returns c = bad_result c.args.collected.now c.args.declaration.now c.in-Some.kind c.in-Some.ensures (c.if-not-is_associative.ensures.0 refl) c.kind_meant.ensures c.ne.ensures
+returns c = bad_result c.args.collected.now c.args.declaration.now c.in-Some.kind c.in-Some.ensures (c.if-not-is_sum.ensures.holds.0 refl) c.kind_meant.ensures c.ne.ensures

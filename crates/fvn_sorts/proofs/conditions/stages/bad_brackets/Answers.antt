@@ -21,7 +21,7 @@ returns c =
     let first : Rank = get_or ranks 0 c.index-ranks-0.result in
     let listed = first_listed ranks (declared d f).ranks c.index-ranks-0.result c.if-is_empty.ensures c.declared_ranks-ranks.ensures in
     let k = kind d first.result in
-    let assoc : IsAssociative (axioms d f) = subst IsAssociative c.axioms.ensures (c.if-not-is_associative.ensures.0 refl) in
+    let assoc : IsAssociative (axioms d f) = subst IsAssociative c.axioms.ensures (c.if-not-is_sum.ensures.holds.0 refl) in
     IsFirstList-same three_sorts (AreBad d f k) (λ (t : Triple). HasBadBrackets c.args.collected.now f t.first t.second t.third)
     (bad_brackets c.args.collected.now c.requires.agree f first d c.requires.draft.is listed assoc)
     c.bad_triple.result (rw c.kind.ensures at c.bad_triple.ensures)
