@@ -19,7 +19,6 @@ use Rattle.fvn_forms.specs.Canon.{empty_sum, sum, canon}
 use Rattle.fvn_forms.proofs.KindsKept.{kind_unique, both_of_kind}
 use Rattle.fvn_forms.proofs.KindsOfSums.{sum_of_forms_of_kind}
 use Rattle.fvn_forms.proofs.ToCanon.{canon_of_kind}
-use Rattle.fvn_terms.proofs.AxiomWords.{identity_is}
 use Rattle.fvn_flat.specs.Bindings.{Bindings}
 use Rattle.fvn_flat.specs.Partitions.{HasNoIdentity}
 use Rattle.fvn_flat.specs.Solving.{problem_of}
@@ -112,7 +111,7 @@ module _ {d : Declarations} {given : Pairs} {first : ℕ} {t : NodeTable} {s : S
     where
       empty : (i : Option OpId) → identity (axioms d f) ≡ i → (HasNoIdentity (axioms d f) → ⊥) → HasKind d (plain (empty_sum d f i)) q
       empty None e n = absurd (n (bare (axioms d f) e))
-      empty (Some o) e n = subst (HasKind d (constant o)) of.gives (h.good.fits.identity f o of.rank (identity_is (axioms d f) o e) of.listed)
+      empty (Some o) e n = subst (HasKind d (constant o)) of.gives (h.good.fits.identity f o of.rank e of.listed)
 
       go : (l : List FlatTerm) → members_of d (problem_of given) (class_at t (class_of s)) plan f k ≡ l → AllByRecursion (λ u. HasKind d (plain u) q) l → HasKind d (plain (sum d f l)) q
       go [] e all = empty (identity (axioms d f)) refl (λ n. some_members h f k bound n e)

@@ -32,7 +32,6 @@ use Rattle.fvn_forms.proofs.LeastSort.{sort_lowers, sort_of_build}
 use Rattle.fvn_forms.proofs.SortOrder.{AtOrBelow-from_same}
 use Rattle.fvn_forms.proofs.Sums.{sum_parts, sum_same_counts}
 use Rattle.fvn_forms.proofs.ToCanon.{canon_of_kind}
-use Rattle.fvn_terms.proofs.AxiomWords.{identity_is}
 use Rattle.fvn_flat.specs.Problems.{variables_of}
 use Rattle.fvn_flat.specs.SolvedLists.{Plan, Form, unbound, as_member, as_sum, members, IsSimple, IsBinding, bound_as, bound_to, names_of, over_classes}
 use Rattle.fvn_combine_nodes.specs.Table.{NodeTable, IsOver, term_at}
@@ -127,7 +126,7 @@ module _ {d : Declarations} {problem : Problem} {t : NodeTable} {s : State} {y :
     variables_settled (e ∷ l) = (tt, variables_settled l)
 
     kinded : (l : List (Var × List FlatTerm)) → AllByRecursion Standing l → (variables_in l ≡ [] → HasIdentity d f) → HasKind d (plain (sum d f (variables_in l))) (kind d rank.result)
-    kinded [] h n = let i = n refl in subst (λ o. HasKind d (plain (empty_sum d f o)) (kind d rank.result)) (sym i.1) (g.good.fits.identity f i.0 rank (identity_is (axioms d f) i.0 i.1) listed)
+    kinded [] h n = let i = n refl in subst (λ o. HasKind d (plain (empty_sum d f o)) (kind d rank.result)) (sym i.1) (g.good.fits.identity f i.0 rank i.1 listed)
     kinded (e ∷ l) h n = sum_of_forms_of_kind d g.good.fits f uses.associative (kind d rank.result) rank listed refl (fvar e.0) (variables_in l) (each (e ∷ l) h)
       where
         each : (l : List (Var × List FlatTerm)) → AllByRecursion Standing l → AllByRecursion (λ q. HasKind d (plain q) (kind d rank.result)) (variables_in l)

@@ -23,7 +23,6 @@ use Rattle.fvn_forms.proofs.KindsOfSums.{two_of_kind, sum_of_forms_of_kind}
 use Rattle.fvn_forms.proofs.LeastSort.{sort_in-kind, sort_of_build, sort_lowers}
 use Rattle.fvn_forms.proofs.Results.{result_monotone, result_swap, TakesKinds-pair}
 use Rattle.fvn_forms.proofs.SortOrder.{AtOrBelow-trans, AtOrBelow-from_same}
-use Rattle.fvn_terms.proofs.AxiomWords.{identity_is}
 use Rattle.fvn_forms.specs.Ranks.{result}
 use Rattle.fvn_combine_complete.specs.Neutral.{IsNeutral}
 use Rattle.fvn_combine_complete.proofs.Unfolding.{env, env_keeps}
@@ -108,7 +107,7 @@ module _ (d : Declarations) (good : IsGood d) (w : Var → FlatTerm) (flat : IsF
   sum_kinded [] n h =
       let i = n refl in
       subst (HasKind d (plain (empty_sum d f (identity (axioms d f))))) gives
-      (subst (λ o. HasKind d (plain (empty_sum d f o)) (kind d r.result)) (sym i.1) (good.fits.identity f i.0 r (identity_is (axioms d f) i.0 i.1) listed))
+      (subst (λ o. HasKind d (plain (empty_sum d f o)) (kind d r.result)) (sym i.1) (good.fits.identity f i.0 r i.1 listed))
   sum_kinded (x ∷ xs) n h = sum_of_forms_of_kind d good.fits f assoc k r listed gives x xs h
 
   of_kind : (env : Var → SortId) → KeepsKindsOfVariables d env → (t : FlatTerm) → Settled d t → HasKind d (plain t) k → IsOfKind d f (sort_in d env t)

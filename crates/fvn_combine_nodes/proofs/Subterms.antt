@@ -9,7 +9,6 @@ use Rattle.fvn_terms.specs.Term.{Term, Terms, var, app, none, more}
 use Rattle.fvn_terms.specs.Signature.{kind, axioms, HasKind, HaveKinds, IsTerm}
 use Rattle.fvn_terms.specs.Unifiers.{Problem}
 use Rattle.fvn_forms.specs.FitsKinds.{FitsKinds}
-use Rattle.fvn_terms.proofs.AxiomWords.{identity_is}
 use Rattle.fvn_flat.specs.Problems.{subterms, subterms_among, subterms_of, IsProblem}
 use Rattle.fvn_combine_nodes.specs.Table.{NodeTable, IsTableOf, IsUnitOf, term_at}
 use Rattle.fvn_combine_nodes.proofs.Terms.{contains_once}
@@ -50,7 +49,7 @@ module _ (d : Declarations) where
   unit_kinded fits problem h f t unit =
       let whole = subterms_kinded problem h (app f unit.heads.arguments) unit.heads.listed in
       let rank = whole.1.rank in
-      subst (IsTerm d) (sym unit.is) (kind d rank.result, fits.identity f unit.constant_of rank (identity_is (axioms d f) unit.constant_of unit.identity) whole.1.listed)
+      subst (IsTerm d) (sym unit.is) (kind d rank.result, fits.identity f unit.constant_of rank unit.identity whole.1.listed)
 
   -- a node that is listed has a subterm as its term
   pub listed_subterm : (problem : Problem) (t : NodeTable) → IsTableOf d problem t → (i : ℕ) → Contains t.subterms i → Contains (subterms_of problem) (term_at t.nodes i)

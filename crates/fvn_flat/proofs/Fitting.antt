@@ -21,7 +21,6 @@ use Rattle.fvn_forms.proofs.Sums.{funpack-fpack, SettledAll-fpack, SettledAll-fu
 use Rattle.fvn_forms.proofs.Build.{HasIdentity, build_settled, build_sum, all_parts_nonempty}
 use Rattle.fvn_forms.proofs.Eval.{fvar_settled, canon_settled, eval_nest, canon_plain, canon_plain_all}
 use Rattle.fvn_forms.proofs.ToCanon.{build_plain, to_canon, canon_of_kind, b_equal_iff_canon}
-use Rattle.fvn_terms.proofs.AxiomWords.{identity_is}
 use Rattle.fvn_forms.proofs.KindsOfSums.{build_of_kind, nest_parts_of_kind, parts_of_kind, two_of_kind, sum_of_forms_of_kind}
 use Rattle.fvn_flat.specs.Forms.{args_of}
 use Rattle.fvn_flat.specs.Fits.{Fits, AllFit, AllOfKind, TakesAsDeclared, Takes, operator_over, plain_over, FitWhere, IsEqualWhereBothFit}
@@ -74,7 +73,7 @@ module _ (d : Declarations) where
         go : (l : List FlatTerm) → AllOfKind d (kind d r.result) l → (l ≡ [] → HasIdentity d f) → HasKind d (plain (sum d f l)) (kind d r.result)
         go [] k n =
             let i = n refl in
-            subst (λ o. HasKind d (plain (empty_sum d f o)) (kind d r.result)) (sym i.1) (fits.identity f i.0 r (identity_is (axioms d f) i.0 i.1) listed)
+            subst (λ o. HasKind d (plain (empty_sum d f o)) (kind d r.result)) (sym i.1) (fits.identity f i.0 r i.1 listed)
         go (u ∷ us) k n = sum_of_forms_of_kind d fits f assoc (kind d r.result) r listed refl u us k
 
     build_has_kind : (l : List FlatTerm) → AllByRecursion (Settled d) l → (h : Takes d f l) → HasKind d (plain (build d f l)) (kind d h.rank.result)

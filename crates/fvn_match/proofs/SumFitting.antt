@@ -21,7 +21,6 @@ use Rattle.fvn_forms.specs.FitsKinds.{FitsKinds}
 use Rattle.fvn_forms.proofs.InOrder.{each_append, count_append}
 use Rattle.fvn_forms.proofs.Sums.{parts_are_pieces, parts_are_settled, all_parts-pieces}
 use Rattle.fvn_forms.proofs.Build.{HasIdentity, sum_settled, build_sum}
-use Rattle.fvn_terms.proofs.AxiomWords.{identity_is}
 use Rattle.fvn_forms.proofs.KindsOfSums.{parts_of_kind, sum_of_forms_of_kind}
 use Rattle.fvn_flat.specs.Forms.{head_of, args_of}
 use Rattle.fvn_flat.specs.Fits.{AllFit, TakesAsDeclared, Takes}
@@ -124,7 +123,7 @@ module _ (d : Declarations) where
           go : (m : List FlatTerm) → AllByRecursion (IsFlatOf d (kind d r.result)) m → (m ≡ [] → HasIdentity d f) → HasKind d (plain (sum d f m)) (kind d r.result)
           go [] h n =
               let e = n refl in
-              subst (λ o. HasKind d (plain (empty_sum d f o)) (kind d r.result)) (sym e.1) (fits.identity f e.0 r (identity_is (axioms d f) e.0 e.1) listed)
+              subst (λ o. HasKind d (plain (empty_sum d f o)) (kind d r.result)) (sym e.1) (fits.identity f e.0 r e.1 listed)
           go (t ∷ m) h n = sum_of_forms_of_kind d fits f assoc (kind d r.result) r listed refl t m (flat_of_kind (kind d r.result) (t ∷ m) h)
 
       -- f takes two or more

@@ -17,7 +17,6 @@ use Rattle.fvn_forms.proofs.InOrder.{count_append, count_sort, each_append, each
 use Rattle.fvn_forms.proofs.Sums.{fpack-funpack, same_op_is, SettledAll-funpack, parts_sum, sum_same_counts, all_parts_are_pieces, all_parts_are_settled}
 use Rattle.fvn_forms.proofs.Build.{parts_none, build_sum, build_right_identity}
 use Rattle.fvn_forms.proofs.Eval.{canon_settled, canon_plain}
-use Rattle.fvn_terms.proofs.AxiomWords.{identity_is}
 use Rattle.fvn_flat.specs.FlatPlaces.{IsReplaced, here, inside}
 use Rattle.fvn_rewrite_coherence.specs.Admissible.{AreAdmissible}
 use Rattle.fvn_rewrite_coherence.proofs.Tight.{some_length, sum_of_two_form, parts_joined}
@@ -84,7 +83,7 @@ module _ (d : Declarations) where
   pub sum_with_nothing : (f : OpId) (o : FlatTerm) → Settled d o → parts d f o ≡ [] → (a : FlatTerm) → Settled d a → build d f (a ∷ o ∷ []) ≡ a
   sum_with_nothing f o ho e a ha =
       let w = parts_none d f o ho e in
-      ap (λ z. build d f (a ∷ z ∷ [])) w.2 ∙ build_right_identity d f w.0 (identity_is (axioms d f) w.0 w.1) a ha
+      ap (λ z. build d f (a ∷ z ∷ [])) w.2 ∙ build_right_identity d f w.0 w.1 a ha
 
   module _ (equations : Equations) (f : OpId) (assoc : IsAssociative (axioms d f)) (a b o : FlatTerm) (ha : Settled d a) (ho : Settled d o) where
     abbrev all : List FlatTerm

@@ -1,5 +1,5 @@
 -- The conditions on least results, by the kinds of an operator's first declaration.
-use Rattle.std.proofs.Common.{◌≡◌, ◌↔◌, ℕ, ◌<◌, Bool, true, false, List, [], ◌∷◌, map, refl, sym, ap, subst, ◌∙◌, ◌⊎◌, inl, inr, arith, cond, nat_eq, length, get_or}
+use Rattle.std.proofs.Common.{◌≡◌, ◌↔◌, ◌<◌, Bool, true, false, List, [], ◌∷◌, map, refl, sym, ap, subst, ◌∙◌, ◌⊎◌, inl, inr, arith, cond, nat_eq, length, get_or}
 use Rattle.std.specs.List.{Contains, All}
 use Rattle.std.specs.Prelude.{find, is_some, Some}
 use Rattle.std.proofs.lemmas.Bool.{cases_eq, false≢true, true≢false, false_from_ne_true}

@@ -1,5 +1,5 @@
 -- What is asked of the axioms of an operator, as a test and as a fact.
-use Rattle.std.proofs.Common.{◌≡◌, Bool, true, false, Option, Some, None, refl, subst, sym}
+use Rattle.std.proofs.Common.{◌≡◌, true, Some, refl, subst, sym}
 use Rattle.fvn_terms.specs.declared.plain.OpId.{OpId}
 use Rattle.fvn_terms.specs.declared.declarations.Axioms.{Axioms}
 use Rattle.fvn_terms.specs.declared.declarations.Axioms.TheVariants.{Free, Comm, AssocComm, AssocCommId}

@@ -40,4 +40,3 @@ pub same_var_itself : (x : Var) → same_var x x ≡ true
 same_var_itself x =
     and_true (nat_eq x.name x.name && nat_eq x.sort.0 x.sort.0) (same_truth x.fresh x.fresh)
     (and_true (nat_eq x.name x.name) (nat_eq x.sort.0 x.sort.0) (eq-eqb x.name x.name refl) (eq-eqb x.sort.0 x.sort.0 refl)) (truth_itself x.fresh)
-

@@ -18,10 +18,18 @@ use std::marker::Model;
 ///
 /// It is made of a draft that is good. No query takes memory. An operator that is not known has no
 /// axioms, no ranks and no arguments.
-#[derive(Drop)]
 pub struct Signature {
     draft: Draft,
     direct: Vec<Seq<SortId>>,
+}
+
+impl Drop for Signature {
+    fn drop(self) {
+        let Signature {
+            draft: _,
+            direct: _,
+        } = self;
+    }
 }
 
 impl Model for Signature {

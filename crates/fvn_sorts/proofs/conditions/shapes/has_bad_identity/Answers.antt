@@ -4,7 +4,7 @@ use Rattle.std.specs.List.{Any}
 use Rattle.fvn_terms.specs.declared.declarations.OpDecl.{OpDecl}
 use Rattle.fvn_terms.specs.declared.declarations.Rank.{Rank}
 use Rattle.fvn_terms.specs.Signature.{kind, declared, HasKind}
-use Rattle.fvn_terms.specs.Equality.{constant}
+use Rattle.fvn_terms.specs.Equality.{constant, identity}
 use Rattle.fvn_sorts.proofs.ShapeLemmas.{bad_identity}
 use Rattle.fvn_sorts.proofs.conditions.shapes.has_bad_identity.Goals as goal
 
@@ -12,7 +12,7 @@ pub returns : goal.returns
 returns c =
     let d = c.args.draft.now.declarations in
     let e = c.in-Some-identity.identity in
-    let named = ap (λ (o : OpDecl). o.axioms) (sym c.in-Some.ensures) ∙ c.in-Some-identity.ensures in
+    let named = ap (λ (o : OpDecl). identity o.axioms) (sym c.in-Some.ensures) ∙ sym c.in-Some-identity.ensures in
     let all : c.as_slice.result.now ≡ (declared d c.args.op).ranks = c.as_slice.ensures ∙ ap (λ (o : OpDecl). o.ranks) c.in-Some.ensures in
     let P = λ (r : Rank). HasKind d (constant e) (kind d r.result) → ⊥ in
     let bad = bad_identity c.args.collected.now d c.requires.is c.args.op e named in (

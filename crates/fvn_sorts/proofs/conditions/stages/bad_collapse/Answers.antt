@@ -1,7 +1,8 @@
 -- A bad collapse is looked for among the sorts of the first declared rank's kind.
-use Rattle.std.proofs.Common.{get_or, sym, ◌∙◌}
+use Rattle.std.proofs.Common.{get_or, sym, ap, ◌∙◌}
 use Rattle.fvn_terms.specs.declared.declarations.Rank.{Rank}
 use Rattle.fvn_terms.specs.Signature.{kind, declared}
+use Rattle.fvn_terms.specs.Equality.{identity}
 use Rattle.fvn_sorts.specs.Faults.{HasBadCollapse}
 use Rattle.fvn_sorts.specs.inner.Searches.{one_sort, DoesNotCollapse}
 use Rattle.fvn_sorts.proofs.FaultOrder.{IsFirstList-same}
@@ -21,5 +22,5 @@ returns-in-Some c =
     let listed = first_listed ranks (declared d f).ranks c.index-ranks-0.result c.if-is_empty.ensures c.declared_ranks-ranks.ensures in
     let k = kind d first.result in
     IsFirstList-same one_sort (DoesNotCollapse d f e k) (HasBadCollapse c.args.collected.now f)
-    (bad_collapse c.args.collected.now c.requires.agree f first d c.requires.draft.is listed e (sym c.axioms.ensures ∙ c.in-Some.ensures))
+    (bad_collapse c.args.collected.now c.requires.agree f first d c.requires.draft.is listed e (ap identity (sym c.axioms.ensures) ∙ sym c.in-Some.ensures))
     c.first_not_collapsing.result (rw c.kind.ensures at c.first_not_collapsing.ensures)
