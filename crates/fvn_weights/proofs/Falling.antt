@@ -89,9 +89,9 @@ module _ (w : Linear) where
   equation_falls l r falls at =
       let xs = both l r in
       let right : value w (at_on at xs) r ≡ value w at r =
-          value_same w (at_on at xs) at r (λ x o. at_listed at xs x (Contains-append_right (variables l) (variables r) x (listed x r o))) in
+      value_same w (at_on at xs) at r (λ x o. at_listed at xs x (Contains-append_right (variables l) (variables r) x (listed x r o))) in
       let left : value w (at_on at xs) l ≡ value w at l =
-          value_same w (at_on at xs) at l (λ x o. at_listed at xs x (Contains-append_left (variables l) (variables r) x (listed x l o))) in
+      value_same w (at_on at xs) at l (λ x o. at_listed at xs x (Contains-append_left (variables l) (variables r) x (listed x l o))) in
       let less = falls_on w l r falls at xs in omega arith
 
   -- a positive multiple keeps the order

@@ -4,5 +4,4 @@ ghost use Rattle.fvn_weights.specs.Laws.{WeightsThatFitShowTermination};
 /// Where weights fit the axioms and each equation falls under them, every sequence of steps is bounded.
 pub fn weights_that_fit_show_termination()
     ensures { WeightsThatFitShowTermination }
-{
-}
+{}
