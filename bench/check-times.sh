@@ -1,10 +1,10 @@
 #!/usr/bin/env bash
-# Times of `check` on a module of about 1 MiB (256 equations with sides of 400 symbols, and comments), beside those of an installed Maude that loads the same text and of one that loads an empty module: medians of 15 runs in turn, processor time. Run at the top of the repository, after ./fvn was run once; it wants python3.
+# Times of `check` on a module of about 1 MiB (256 equations with sides of 400 symbols, and comments), beside those of an installed Maude that loads the same text and of one that loads an empty module: medians of 15 runs in turn, processor time. Run at the top of the repository, after ./build; it wants python3.
 set -e
 here=$(cd "$(dirname "$0")/.." && pwd)
 there=$(mktemp -d)
 trap 'rm -rf "$there"' EXIT
-python3 - "$here/crates/fvn/out/fvn" "$there" <<'PROGRAM'
+python3 - "$here/out/fvn" "$there" <<'PROGRAM'
 import random
 import resource
 import shutil

@@ -5,9 +5,10 @@
 
 Each line of the input has the statements of a module. The program adds its rules, each with the number of its equation;
 behind a bar comes for each operator that heads a left side how many of the rules that it heads are needed: those of
-which no other is more general, and of two that are instances of each other one. Operators, sorts and kinds stand as
-their numbers, and variables as their places in their equation; `z` is the new variable of an extension. Instances are
-made choice by choice, and an instance of a rule is found by trying all parts of the other as values of its variables.
+whose left sides no other is more general, and of two whose left sides are instances of each other one. Operators, sorts
+and kinds stand as their numbers, and variables as their places in their equation; `z` is the new variable of an
+extension. Instances are made choice by choice, and an instance of a left side is found by trying all parts of the other
+as values of its variables.
 """
 
 import itertools
@@ -109,14 +110,14 @@ class Rules(Module):
 
     def has_instance(self, rule, other):
         values = []
-        for t in self.parts(other[1], []) + self.parts(other[2], []) + [(e, []) for e in self.identities]:
+        for t in self.parts(other[1], []) + [(e, []) for e in self.identities]:
             if t not in values:
                 values.append(t)
         vars = self.variables(rule[1], [])
         fitting = [[v for v in values if x[2] in self.up[self.sort_of(v)]] for x in vars]
         for choice in itertools.product(*fitting):
             by = dict(zip(map(repr, vars), choice))
-            if self.flat(self.replaced(rule[1], by)) == other[1] and self.flat(self.replaced(rule[2], by)) == other[2]:
+            if self.flat(self.replaced(rule[1], by)) == other[1]:
                 return True
         return False
 

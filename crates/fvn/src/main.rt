@@ -1,10 +1,11 @@
 //! The program: it hands the words, standard input and standard output to the top call.
 #![tactic(auto)]
 
-ghost use Rattle.std.specs.Prelude.{◌≡◌, map, string_bytes};
+ghost use Rattle.std.specs.Prelude.{◌≡◌, map, string_bytes, None};
 ghost use Rattle.std.specs.Process.{exit_status};
 ghost use Rattle.fvn_cmd.specs.declared.status.Status.{Status as AnyStatus};
-ghost use Rattle.fvn_cmd.specs.Statuses.{exit_number};
+ghost use Rattle.fvn_cmd.specs.Statuses.{exit_number, IsSilent};
+ghost use Rattle.fvn_tool.specs.Words.{command_of};
 ghost use Rattle.fvn_tool.specs.Runs.{seen};
 ghost use Rattle.fvn_tool.specs.Claims.{IsReport};
 
@@ -35,12 +36,15 @@ fn program<S: Source, K: Sink>(
     source: &mut S,
     out: &mut K,
 ) -> ExitCode
-    ensures { (status : AnyStatus) × (exit_status result ≡ exit_number status) × IsReport (record {
-      words = map string_bytes words.now;
-      source = seen S.left S.faults source.old source.new;
-      status = status;
-      sink = seen K.written K.faults out.old out.new;
-    }) }
+    ensures report { (status : AnyStatus) × (exit_status result ≡ exit_number status)
+        × IsReport (record {
+          words = map string_bytes words.now;
+          source = seen S.left S.faults source.old source.new;
+          status = status;
+          sink = seen K.written K.faults out.old out.new;
+        })
+        × (IsSilent status → out.new ≡ out.old) }
+    ensures unread { command_of (map string_bytes words.now) ≡ None → source.new ≡ source.old }
 {
     let status = run(alloc, words, source, out);
     ExitCode::from(status.exit_number())

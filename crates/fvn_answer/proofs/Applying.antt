@@ -8,13 +8,12 @@ use Rattle.fvn_base.proofs.Membership.{contains_here, contains_none}
 use Rattle.fvn_terms.specs.declared.plain.OpId.{OpId}
 use Rattle.fvn_terms.specs.declared.plain.SortId.{SortId}
 use Rattle.fvn_terms.specs.declared.declarations.Rank.{Rank}
-use Rattle.fvn_terms.specs.declared.declarations.Axioms.{Axioms}
-use Rattle.fvn_terms.specs.declared.declarations.Axioms.TheVariants.{Free, Comm, AssocComm, AssocCommId}
 use Rattle.fvn_terms.specs.declared.declarations.Declarations.{Declarations}
 use Rattle.fvn_terms.specs.Signature.{kind, declared, axioms}
-use Rattle.fvn_terms.specs.Equality.{IsAssociative}
+use Rattle.fvn_terms.proofs.AxiomWords.{associative_sums}
+use Rattle.fvn_terms.specs.Equality.{IsAssociative, is_sum}
 use Rattle.fvn_forms.specs.FitsKinds.{FitsKinds}
-use Rattle.fvn_syntax.specs.Names.{first_args, first_result, is_sum, args_of, arity_of, result_of, same_sort}
+use Rattle.fvn_syntax.specs.Names.{first_args, first_result, args_of, arity_of, result_of, same_sort}
 use Rattle.fvn_syntax.specs.Resolve.{fits_number, wanted, fit_from, application_fault}
 
 same-number : (n : ℕ) → (n == n) ≡ true
@@ -22,13 +21,6 @@ same-number n = eq-eqb n n refl
 
 both : (a b : Bool) → a ≡ true → b ≡ true → (a && b) ≡ true
 both a b e f = rw (e, f) refl
-
--- associative operators are sums
-pub sum-is : (a : Axioms) → IsAssociative a → is_sum a ≡ true
-sum-is Free h = absurd h
-sum-is Comm h = absurd h
-sum-is AssocComm h = refl
-sum-is (AssocCommId e) h = refl
 
 module _ (d : Declarations) (fits : FitsKinds d) (f : OpId) where
   -- the first rank has the kinds of each
@@ -105,4 +97,4 @@ module _ (d : Declarations) (fits : FitsKinds d) (f : OpId) where
       application_fault d (is_sum (axioms d f)) f ks ≡ None
   takes-sum r h a ks long all =
       let wants : wanted d true f 0 ≡ kind d r.result = first-is (args_of d f) (kind d r.result) (kind d r.result) (args-of r h ∙ fits.associative f r a h) in
-      rw (sum-is (axioms d f) a) (none-of true ks (two-or-more (length ks) long) (fit-all (kind d r.result) wants ks all 0))
+      rw (associative_sums (axioms d f) a) (none-of true ks (two-or-more (length ks) long) (fit-all (kind d r.result) wants ks all 0))

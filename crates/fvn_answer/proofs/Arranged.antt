@@ -10,13 +10,13 @@ use Rattle.fvn_terms.specs.Signature.{axioms}
 use Rattle.fvn_terms.specs.Term.{Term, Terms, app}
 use Rattle.fvn_terms.specs.Substitution.{Substitution, apply, apply_all, OccursAmong}
 use Rattle.fvn_terms.specs.Places.{stop}
-use Rattle.fvn_terms.specs.Equality.{IsCommutative, IsAssociative, BEqual}
+use Rattle.fvn_terms.specs.Equality.{IsCommutative, IsAssociative, BEqual, is_commutative}
 use Rattle.fvn_terms.proofs.Equal.{BEqual-trans}
 use Rattle.fvn_forms.specs.Flat.{FlatTerm, fpack, nest, nest_all, plain, plain_all}
 use Rattle.fvn_syntax.specs.declared.names.Names.{Names}
 use Rattle.fvn_syntax.specs.Pieces.{Text}
 use Rattle.fvn_syntax.specs.Raw.{RawTerm}
-use Rattle.fvn_answer.specs.Writing.{text_of, is_after, put, in_byte_order, may_exchange, arranged, written, written_all}
+use Rattle.fvn_answer.specs.Writing.{text_of, is_after, put, in_byte_order, arranged, written, written_all}
 use Rattle.fvn_answer.proofs.Sums.{exchanged, first-exchanged, behind}
 
 module _ (d : Declarations) (names : Names) (order : List Var) where
@@ -36,7 +36,7 @@ module _ (d : Declarations) (names : Names) (order : List Var) where
 
   -- the forms in the order in which they are printed
   abbrev pub arranged_forms : Axioms → List FlatTerm → List FlatTerm
-  arranged_forms a ts = if may_exchange a then sorted_forms ts else ts
+  arranged_forms a ts = if is_commutative a then sorted_forms ts else ts
 
   -- They are printed in this order.
 
@@ -57,7 +57,7 @@ module _ (d : Declarations) (names : Names) (order : List Var) where
   all-written (t ∷ ts) = ap (λ us. shown_as t ∷ us) (all-written ts)
 
   pub written-arranged : (a : Axioms) (ts : List FlatTerm) → arranged a (written_all d names order (fpack ts)) ≡ map shown_as (arranged_forms a ts)
-  written-arranged a ts = ap (arranged a) (all-written ts) ∙ go (may_exchange a) where
+  written-arranged a ts = ap (arranged a) (all-written ts) ∙ go (is_commutative a) where
     go : (b : Bool) → (if b then in_byte_order (map shown_as ts) else map shown_as ts) ≡ map shown_as (if b then sorted_forms ts else ts)
     go true = sym (written-sorted ts)
     go false = refl

@@ -22,7 +22,7 @@ use Rattle.fvn_forms.specs.Flat.{plain}
 use Rattle.fvn_forms.specs.FitsKinds.{FitsKinds}
 use Rattle.fvn_flat.specs.Bindings.{Bindings, BindingsFit, value}
 use Rattle.fvn_flat.specs.Drawn.{Renaming, renamed}
-use Rattle.fvn_flat.proofs.Binding.{same_var_is, same_var_itself}
+use Rattle.fvn_terms.proofs.Variables.{same_var_is, same_var_itself}
 use Rattle.fvn_signature.specs.Queries.{IsKind, IsMaximalOf}
 use Rattle.fvn_syntax.specs.declared.names.Names.{Names}
 use Rattle.fvn_syntax.specs.Pieces.{Text}

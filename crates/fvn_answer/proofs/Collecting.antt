@@ -12,7 +12,7 @@ use Rattle.fvn_forms.proofs.Sums.{fpack-funpack}
 use Rattle.fvn_flat.specs.Forms.{variable_of, args_of}
 use Rattle.fvn_flat.specs.Variables.{listed, with_variable, with_variables, with_all_variables}
 use Rattle.fvn_flat.proofs.Occurrences.{occurs_in_app}
-use Rattle.fvn_flat.proofs.Binding.{same_var_is, same_var_itself}
+use Rattle.fvn_terms.proofs.Variables.{same_var_is, same_var_itself}
 use Rattle.fvn_answer.specs.Numberings.{IsNumbering}
 
 pub listed-only : (vars : List Var) (x : Var) → listed vars x ≡ true → Contains vars x

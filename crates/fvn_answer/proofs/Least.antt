@@ -16,7 +16,7 @@ use Rattle.fvn_base.specs.Order.{IsBefore}
 use Rattle.fvn_base.proofs.Pigeonhole.{length-le_within}
 use Rattle.fvn_terms.specs.declared.plain.Var.{Var}
 use Rattle.fvn_terms.specs.Substitution.{same_var}
-use Rattle.fvn_flat.proofs.Binding.{same_var_is, same_var_itself}
+use Rattle.fvn_terms.proofs.Variables.{same_var_is, same_var_itself}
 use Rattle.fvn_forms.specs.Flat.{FlatTerm}
 use Rattle.fvn_syntax.specs.Pieces.{Text}
 use Rattle.fvn_answer.specs.Numberings.{IsNumbering}

@@ -13,7 +13,8 @@ use Rattle.fvn_flat.specs.Forms.{head_of, args_of}
 use Rattle.fvn_syntax.specs.declared.names.Names.{Names}
 use Rattle.fvn_syntax.specs.Pieces.{Text}
 use Rattle.fvn_answer.specs.inner.Readable.{AreReadable}
-use Rattle.fvn_answer.specs.Writing.{text_of, written, may_exchange}
+use Rattle.fvn_terms.specs.Equality.{is_commutative}
+use Rattle.fvn_answer.specs.Writing.{text_of, written}
 use Rattle.fvn_answer.specs.inner.Bytes.{beside, between, pair_text, with_pairs, over_texts, IsPrintable}
 use Rattle.fvn_answer.specs.declared.front.Front.{Front}
 use Rattle.fvn_answer.specs.inner.Fronts.{AtLeast, NoneIsNext, AreTips, HasTips, IsUpTo, IsFrontOf, HaveMore, HaveTexts, AreGathered, arranged_if}
@@ -121,11 +122,11 @@ module _ (d : Declarations) (names : Names) (other : List Var) where
 
   -- all arguments
   pub application-front : AreReadable d names → (f : OpId) (t : FlatTerm) → head_of t ≡ Some f → IsPrintable d t → (w : Text) → slice_get names.ops f.0 ≡ Some w →
-      (exchange : Bool) → exchange ≡ may_exchange (axioms d f) → (items : List FlatTerm) (i : ℕ) → items ≡ args_of t → length items ≤ i → (known : ℕ) (front : Front) →
+      (exchange : Bool) → exchange ≡ is_commutative (axioms d f) → (items : List FlatTerm) (i : ℕ) → items ≡ args_of t → length items ≤ i → (known : ℕ) (front : Front) →
       IsFrontOf known other front (over_texts w (arranged_if exchange (map shown_text (take i items)))) → IsFrontOf known other front (shown_text t)
   application-front readable f t h p w g exchange e items i is end known front it =
       let all : take i items ≡ args_of t = take_all i items end ∙ is in
       subst (IsFrontOf known other front)
-      (ap (λ b. over_texts w (arranged_if b (map shown_text (take i items)))) e ∙ ap (λ l. over_texts w (arranged_if (may_exchange (axioms d f)) (map shown_text l))) all
+      (ap (λ b. over_texts w (arranged_if b (map shown_text (take i items)))) e ∙ ap (λ l. over_texts w (arranged_if (is_commutative (axioms d f)) (map shown_text l))) all
       ∙ application-text d names (operator-filled d names readable) other f t h p w g)
       it

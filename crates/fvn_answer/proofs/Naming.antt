@@ -3,7 +3,7 @@ use Rattle.std.proofs.Common.{◌≡◌, Bool, true, false, [], ◌∷◌, get_o
 use Rattle.std.specs.Prelude.{◌||◌, ◌==◌}
 use Rattle.fvn_syntax.specs.Pieces.{Text}
 use Rattle.fvn_syntax.specs.Names.{last_colon}
-use Rattle.fvn_module_statements.specs.Words.{has_colon}
+use Rattle.fvn_module_syntax.specs.Words.{has_colon}
 use Rattle.fvn_module.specs.Contents.{Contents}
 use Rattle.fvn_module.specs.Readable.{IsReadable}
 use Rattle.fvn_answer.specs.inner.Readable.{AreReadable}

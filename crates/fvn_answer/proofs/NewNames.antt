@@ -14,7 +14,7 @@ use Rattle.fvn_lex.specs.Parts.{goes_through, class_of}
 use Rattle.fvn_lex.proofs.JoinLemmas.{form-piece}
 use Rattle.fvn_terms.specs.declared.plain.Var.{Var}
 use Rattle.fvn_terms.specs.Substitution.{same_var}
-use Rattle.fvn_flat.proofs.Binding.{same_var_is, same_var_itself}
+use Rattle.fvn_terms.proofs.Variables.{same_var_is, same_var_itself}
 use Rattle.fvn_syntax.specs.Pieces.{Text, word, is_reserved}
 use Rattle.fvn_answer.specs.Numberings.{number, new_name}
 use Rattle.fvn_answer.proofs.TextPlaces.{position-finds, position-some}

@@ -23,7 +23,8 @@ use Rattle.fvn_syntax.specs.Raw.{RawTerm}
 use Rattle.fvn_answer.specs.Numberings.{new_name}
 use Rattle.fvn_module.specs.Readable.{IsWord}
 use Rattle.fvn_answer.specs.inner.Readable.{AreReadable}
-use Rattle.fvn_answer.specs.Writing.{text_of, is_after, put, in_byte_order, may_exchange, arranged, over, top, sort_text, op_text, sorted, written, written_all}
+use Rattle.fvn_terms.specs.Equality.{is_commutative}
+use Rattle.fvn_answer.specs.Writing.{text_of, is_after, put, in_byte_order, arranged, over, top, sort_text, op_text, sorted, written, written_all}
 use Rattle.fvn_answer.specs.inner.Bytes.{beside, over_texts, put_text, sorted_texts, arranged_texts, IsPrintable, ArePrintable}
 use Rattle.fvn_answer.proofs.Joining.{over-text, quoted-append, quoted-behind, IsFilled, filled, IsEnded}
 
@@ -49,9 +50,9 @@ text-in_byte_order [] = refl
 text-in_byte_order (t ∷ ts) = text-put t (in_byte_order ts) ∙ ap (put_text (text_of t)) (text-in_byte_order ts)
 
 text-arranged : (a : Axioms) (ts : List RawTerm) → map text_of (arranged a ts) ≡ arranged_texts a (map text_of ts)
-text-arranged a ts = go (may_exchange a) refl
+text-arranged a ts = go (is_commutative a) refl
   where
-    go : (b : Bool) → may_exchange a ≡ b → map text_of (arranged a ts) ≡ arranged_texts a (map text_of ts)
+    go : (b : Bool) → is_commutative a ≡ b → map text_of (arranged a ts) ≡ arranged_texts a (map text_of ts)
     go true e = rw e (text-in_byte_order ts)
     go false e = rw e refl
 
@@ -70,9 +71,9 @@ module _ (P : RawTerm → Type 0) where
   each-in_byte_order (t ∷ ts) ps = each-put t (in_byte_order ts) ps.0 (each-in_byte_order ts ps.1)
 
   pub each-arranged : (a : Axioms) (ts : List RawTerm) → AllByRecursion P ts → AllByRecursion P (arranged a ts)
-  each-arranged a ts ps = go (may_exchange a) refl
+  each-arranged a ts ps = go (is_commutative a) refl
     where
-      go : (b : Bool) → may_exchange a ≡ b → AllByRecursion P (arranged a ts)
+      go : (b : Bool) → is_commutative a ≡ b → AllByRecursion P (arranged a ts)
       go true e = rw e (each-in_byte_order ts ps)
       go false e = rw e ps
 

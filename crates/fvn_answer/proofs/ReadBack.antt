@@ -18,7 +18,7 @@ use Rattle.fvn_terms.specs.Term.{Term, Terms, var, app, none, more}
 use Rattle.fvn_terms.specs.Plain.{term, terms}
 use Rattle.fvn_terms.specs.Substitution.{Substitution, apply, apply_all, Occurs, OccursAmong}
 use Rattle.fvn_terms.specs.Places.{stop}
-use Rattle.fvn_terms.specs.Equality.{IsCommutative, IsAssociative, IsAxiomEitherWay, BEqual}
+use Rattle.fvn_terms.specs.Equality.{IsCommutative, IsAssociative, IsAxiomEitherWay, BEqual, is_sum}
 use Rattle.fvn_terms.proofs.Equal.{BEqual-trans, BEqual-inside}
 use Rattle.fvn_terms.proofs.Steps.{EachLeads, each_none, each_more}
 use Rattle.fvn_forms.specs.Flat.{FlatTerm, FlatTerms, fvar, fapp, fnone, fmore, fpack, funpack, nest, nest_all, plain, plain_all}
@@ -31,34 +31,22 @@ use Rattle.fvn_signature.specs.Queries.{IsKind, IsMaximalOf}
 use Rattle.fvn_syntax.specs.declared.names.Names.{Names}
 use Rattle.fvn_syntax.specs.Pieces.{Text}
 use Rattle.fvn_syntax.specs.Raw.{RawTerm, RawTerms, name}
-use Rattle.fvn_syntax.specs.Names.{is_sum, arity_of, result_of, op_named}
+use Rattle.fvn_syntax.specs.Names.{arity_of, result_of, op_named}
 use Rattle.fvn_syntax.specs.Texts.{place_or_end, with_text}
 use Rattle.fvn_syntax.specs.declared.fault.TermFault.TheVariants.{UnknownName}
 use Rattle.fvn_syntax.specs.Resolve.{Resolved, AllResolved, bind, or_fault, unless, resolve, resolve_all, the_variable, applied, nested_all, application_fault}
 use Rattle.fvn_syntax.specs.Resolve.{apply as apply_op}
 use Rattle.fvn_answer.specs.Numberings.{new_name}
-use Rattle.fvn_answer.specs.Writing.{is_after, may_exchange, arguments, over, top, op_text}
+use Rattle.fvn_answer.specs.Writing.{is_after, arguments, over, top, op_text}
 use Rattle.fvn_answer.specs.inner.Readable.{AreReadable}
-use Rattle.fvn_answer.proofs.Applying.{sum-is, result-of, arity-of, takes-its-own, AllAre, takes-sum}
+use Rattle.fvn_terms.proofs.AxiomWords.{associative_sums, associative_commutes, commutes_commutative}
+use Rattle.fvn_answer.proofs.Applying.{result-of, arity-of, takes-its-own, AllAre, takes-sum}
 use Rattle.fvn_answer.proofs.Arranged.{shown_as, key, sorted_forms, arranged_forms, written-arranged, length-sorted, each-sorted, Among, among-sorted, values, value_of, sum-sorted}
 use Rattle.fvn_answer.proofs.Printable.{ranked}
 use Rattle.fvn_answer.proofs.Sums.{apply-nest, term-nested, nest-each, exchanged}
 use Rattle.fvn_answer.proofs.NewNames.{new_name-some}
 use Rattle.fvn_answer.proofs.TextPlaces.{place-distinct, placed, with_text-more, with_text-contains}
 use Rattle.fvn_answer.proofs.Variables.{read_in_names, variable-stands}
-
--- associative operators are commutative
-commutes : (a : Axioms) → IsAssociative a → IsCommutative a
-commutes Free h = absurd h
-commutes Comm h = absurd h
-commutes AssocComm h = tt
-commutes (AssocCommId e) h = tt
-
-exchange-is : (a : Axioms) → IsAssociative a → may_exchange a ≡ true
-exchange-is Free h = absurd h
-exchange-is Comm h = absurd h
-exchange-is AssocComm h = refl
-exchange-is (AssocCommId e) h = refl
 
 occurs-nest : (x : Var) (f : OpId) (t : Term) (ts : Terms) → Occurs x (nest f t ts) → Occurs x t ⊎ OccursAmong x ts
 occurs-nest x f t none o = inl o
@@ -293,7 +281,7 @@ module _ (d : Declarations) (names : Names) (readable : AreReadable d names) (fi
   sum-can : (f : OpId) (l : List FlatTerm) (r : Rank) → Contains (declared d f).ranks r → f.0 < length d.ops → IsAssociative (axioms d f) → 2 ≤ length l →
       AllByRecursion (λ t. CanRead t (kind d r.result)) l → CanRead (fapp f true (fpack l)) (kind d r.result)
   sum-can f l r listed low assoc long hs = from-arranged f true l (kind d r.result) (λ before.
-      go (arranged_forms d names order (axioms d f) l) (ap (λ b. if b then sorted_forms d names order l else l) (exchange-is (axioms d f) assoc)) before)
+      go (arranged_forms d names order (axioms d f) l) (ap (λ b. if b then sorted_forms d names order l else l) (commutes_commutative (axioms d f) (associative_commutes (axioms d f) assoc))) before)
     where
       whole : Term
       whole = plain (fapp f true (fpack l))
@@ -310,11 +298,11 @@ module _ (d : Declarations) (names : Names) (readable : AreReadable d names) (fi
           (takes-sum d fits f r listed assoc (kind d r.result ∷ ks) (omega (arith, number, count, long)) (refl, all-are f (kind d r.result) us))
           whole
           (λ x o. subst (Among d names order x) (sym e) (among-sorted d names order x l (occurs-sum x f l o)))
-          (λ texts rs lead. rw (sum-is (axioms d f) assoc) (
+          (λ texts rs lead. rw (associative_sums (axioms d f) assoc) (
           BEqual-trans d (nest-read f rs (value_of d names order (as_read texts) u) (values d names order (as_read texts) us) lead)
           (subst (λ ts. BEqual d (nest_all f (values d names order (as_read texts) ts)) (renamed (read_as texts) whole)) (sym e)
           (subst (BEqual d (nest_all f (values d names order (as_read texts) (sorted_forms d names order l)))) (sym (apply-nest_all (as_read texts) f (plain_all (fpack l))))
-          (sum-sorted d names order (as_read texts) f (commutes (axioms d f) assoc) assoc l)))
+          (sum-sorted d names order (as_read texts) f (associative_commutes (axioms d f) assoc) assoc l)))
           ))
           before)
 

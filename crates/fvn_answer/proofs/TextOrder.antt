@@ -13,7 +13,8 @@ use Rattle.std.proofs.lemmas.List.Sorted.{sum_by-IsPermutation}
 use Rattle.fvn_base.specs.Order.{IsBefore}
 use Rattle.fvn_syntax.specs.Pieces.{Text}
 use Rattle.fvn_terms.specs.declared.declarations.Axioms.{Axioms}
-use Rattle.fvn_answer.specs.Writing.{is_after, may_exchange}
+use Rattle.fvn_terms.specs.Equality.{is_commutative}
+use Rattle.fvn_answer.specs.Writing.{is_after}
 use Rattle.fvn_answer.specs.inner.Bytes.{put_text, sorted_texts, arranged_texts}
 use Rattle.fvn_answer.proofs.Least.{before-lt}
 
@@ -153,7 +154,7 @@ module _ {V : Type 0} (f : V → Text) where
   sorted_is l m p s = sym (sorted_in_order (map f m) (in_order m s)) ∙ sym (same_counts (map f l) (map f m) (permutation_counts l m p))
 
 -- arguments that may be exchanged are put in byte order
-pub arranged-sorted : (a : Axioms) → may_exchange a ≡ true → (ts : List Text) → arranged_texts a ts ≡ sorted_texts ts
+pub arranged-sorted : (a : Axioms) → is_commutative a ≡ true → (ts : List Text) → arranged_texts a ts ≡ sorted_texts ts
 arranged-sorted a e ts = rw e refl
 
 -- a text that does not stand after another one stands before it, where the two differ

@@ -18,7 +18,7 @@ use Rattle.fvn_forms.proofs.SortTests.{same_sort-true, same_sort-self}
 use Rattle.fvn_flat.specs.Drawn.{OccursInValues, Renaming, renamed}
 use Rattle.fvn_flat.specs.Problems.{variables}
 use Rattle.fvn_flat.specs.Successors.{IsRenaming}
-use Rattle.fvn_flat.proofs.Binding.{same_var_is, same_var_itself}
+use Rattle.fvn_terms.proofs.Variables.{same_var_is, same_var_itself}
 use Rattle.fvn_flat.proofs.VariableLists.{variables_list, variables_occur}
 use Rattle.fvn_problems.specs.Laws.{BindingsAreSpelledOnce}
 use Rattle.fvn_answer.specs.Laws.{EqualLinesAreInstances, EqualLinesCover}

@@ -18,7 +18,7 @@ use Rattle.fvn_forms.specs.Flat.{FlatTerm, fvar, fapp}
 use Rattle.fvn_flat.specs.Bindings.{Bindings, value}
 use Rattle.fvn_flat.specs.Variables.{listed}
 use Rattle.fvn_flat.specs.Forms.{variable_of, head_of, args_of}
-use Rattle.fvn_flat.proofs.Binding.{same_var_is, same_var_itself}
+use Rattle.fvn_terms.proofs.Variables.{same_var_is, same_var_itself}
 use Rattle.fvn_syntax.specs.declared.names.Names.{Names}
 use Rattle.fvn_syntax.specs.Pieces.{Text}
 use Rattle.fvn_problems.specs.Variables.{IsNamed}
@@ -26,7 +26,8 @@ use Rattle.fvn_answer.specs.declared.printed.Printed.{Printed}
 use Rattle.fvn_answer.specs.declared.printed.Printed.TheVariants.{Alone, Values, Variant}
 use Rattle.fvn_answer.specs.Numberings.{number, new_name}
 use Rattle.fvn_answer.specs.Lines.{values, values_of, asked_name, text}
-use Rattle.fvn_answer.specs.Writing.{text_of, may_exchange, sorted, written}
+use Rattle.fvn_terms.specs.Equality.{is_commutative}
+use Rattle.fvn_answer.specs.Writing.{text_of, sorted, written}
 use Rattle.fvn_answer.specs.inner.Readable.{AreReadable}
 use Rattle.fvn_answer.specs.inner.Bytes.{beside, with_pairs, over_texts, arranged_texts, IsPrintable}
 use Rattle.fvn_answer.specs.inner.Shown.{shown, value_texts, HavePrintable, CanPrint}
@@ -145,11 +146,11 @@ module _ (d : Declarations) (names : Names) (x y : Var) (order other : List Var)
     | inr is ↦ (λ i. is i ∷ same-texts ts k.1 i)
   ]
 
-  arranged-same : (axioms : Axioms) (ts : List FlatTerm) → AllByRecursion (Kept (may_exchange axioms)) ts → (may_exchange axioms ≡ true → times x ts ≡ times y ts) →
+  arranged-same : (axioms : Axioms) (ts : List FlatTerm) → AllByRecursion (Kept (is_commutative axioms)) ts → (is_commutative axioms ≡ true → times x ts ≡ times y ts) →
       arranged_texts axioms (map new_text ts) ≡ arranged_texts axioms (map old_text ts)
-  arranged-same axioms ts k even = go (may_exchange axioms) refl k even
+  arranged-same axioms ts k even = go (is_commutative axioms) refl k even
     where
-      go : (b : Bool) → may_exchange axioms ≡ b → AllByRecursion (Kept b) ts → (b ≡ true → times x ts ≡ times y ts) →
+      go : (b : Bool) → is_commutative axioms ≡ b → AllByRecursion (Kept b) ts → (b ≡ true → times x ts ≡ times y ts) →
           arranged_texts axioms (map new_text ts) ≡ arranged_texts axioms (map old_text ts)
       go true p k even = rw p (same_counts (map new_text ts) (map old_text ts) (λ q. same-count q ts k (even refl)))
       go false p k even = rw p (same-texts ts k)
@@ -174,7 +175,7 @@ module _ (d : Declarations) (x y : Var) where
   keeps-variable z n m names readable p order other e = other-variable d names x y order other e z n m
 
   -- an operator over arguments that keep their texts
-  pub keeps-application : (f : OpId) (t : FlatTerm) → head_of t ≡ Some f → (exchange : Bool) → exchange ≡ may_exchange (axioms d f) → (items : List FlatTerm) → items ≡ args_of t →
+  pub keeps-application : (f : OpId) (t : FlatTerm) → head_of t ≡ Some f → (exchange : Bool) → exchange ≡ is_commutative (axioms d f) → (items : List FlatTerm) → items ≡ args_of t →
       ((i : ℕ) (z : FlatTerm) → i < length items → KeepsArgument d x y exchange (get_or items i z)) → (exchange ≡ true → times x items ≡ times y items) → KeepsText d x y t
   keeps-application f (fvar z) h exchange is items all kept even names readable p order other e = cc
   keeps-application f (fapp g joined ts) h exchange is items all kept even names readable p order other e =
@@ -184,7 +185,7 @@ module _ (d : Declarations) (x y : Var) where
       let full = operator-filled d names readable in
       let new = application-text d names full other f t h p op.0 op.1 in
       let old = application-text d names full order f t h p op.0 op.1 in
-      let each-kept : AllByRecursion (Kept d names x y order other e (may_exchange (axioms d f))) (args_of t) =
+      let each-kept : AllByRecursion (Kept d names x y order other e (is_commutative (axioms d f))) (args_of t) =
       subst (λ b. AllByRecursion (Kept d names x y order other e b) (args_of t)) is
       (subst (AllByRecursion (Kept d names x y order other e exchange)) all
       (each (Kept d names x y order other e exchange) items (λ i z low. elim (kept i z low) [

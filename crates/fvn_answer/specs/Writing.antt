@@ -1,5 +1,5 @@
 -- How values are written: each variable with its sort, and arguments that may be exchanged in byte order.
-use Rattle.std.specs.Prelude.{ℕ, Bool, true, false, nat_lt, if◌then◌else◌, List, [], ◌∷◌, ◌++◌, map, slice_index_or}
+use Rattle.std.specs.Prelude.{ℕ, Bool, false, nat_lt, if◌then◌else◌, List, [], ◌∷◌, ◌++◌, map, slice_index_or}
 use Rattle.std.specs.Global.{Vec}
 use Rattle.std.specs.Ordering.{is_gt, nat_cmp}
 use Rattle.std.specs.Cmp.Lexicographic.{slice_cmp}
@@ -9,7 +9,7 @@ use Rattle.fvn_terms.specs.declared.plain.Var.{Var}
 use Rattle.fvn_terms.specs.declared.plain.OpId.{OpId}
 use Rattle.fvn_terms.specs.declared.plain.SortId.{SortId}
 use Rattle.fvn_terms.specs.declared.declarations.Axioms.{Axioms}
-use Rattle.fvn_terms.specs.declared.declarations.Axioms.TheVariants.{Free, Comm, AssocComm, AssocCommId}
+use Rattle.fvn_terms.specs.Equality.{is_commutative}
 use Rattle.fvn_terms.specs.declared.declarations.Declarations.{Declarations}
 use Rattle.fvn_terms.specs.Signature.{axioms}
 use Rattle.fvn_signature.specs.Queries.{direct_subsorts}
@@ -45,16 +45,9 @@ abbrev pub in_byte_order : List RawTerm → List RawTerm
 in_byte_order [] = []
 in_byte_order (t ∷ ts) = put t (in_byte_order ts)
 
--- whether the arguments of an operator with these axioms may be exchanged
-abbrev pub may_exchange : Axioms → Bool
-may_exchange Free = false
-may_exchange Comm = true
-may_exchange AssocComm = true
-may_exchange (AssocCommId e) = true
-
 -- the arguments of an operator with these axioms: in byte order where they may be exchanged
 abbrev pub arranged : Axioms → List RawTerm → List RawTerm
-arranged a ts = if may_exchange a then in_byte_order ts else ts
+arranged a ts = if is_commutative a then in_byte_order ts else ts
 
 -- one or more arguments
 abbrev pub arguments : RawTerm → List RawTerm → RawTerms

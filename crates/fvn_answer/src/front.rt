@@ -9,7 +9,7 @@ ghost use Rattle.fvn_answer.specs.inner.Readable.{AreReadable};
 ghost use Rattle.fvn_answer.specs.inner.Bytes.{with_each, over_texts, IsPrintable};
 ghost use Rattle.fvn_answer.specs.inner.Fronts.{AtLeast, Agrees, HasTips, IsFrontOf, AreGathered, arranged_if, upto};
 
-use crate::texts::{arrange, may_exchange, number, operator, over, push_new, push_special};
+use crate::texts::{arrange, number, operator, over, push_new, push_special};
 use fvn_flat::Flat;
 use fvn_signature::Signature;
 use fvn_syntax::Names;
@@ -264,7 +264,7 @@ pub(crate) fn term_front(
         Some(x) => new_front(alloc, signature, names, fixed, x),
         None => {
             let f = operator(t);
-            let exchange = may_exchange(signature.axioms(f));
+            let exchange = signature.axioms(f).is_commutative();
             let mut texts = Vec::new(alloc);
             let mut least = closed(alloc, Vec::new(alloc));
             for u in t.args() {

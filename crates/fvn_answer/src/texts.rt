@@ -6,7 +6,7 @@ ghost use Rattle.fvn_signature.specs.Queries.{IsKind};
 ghost use Rattle.fvn_flat.specs.Forms.{variable_of, head_of};
 ghost use Rattle.fvn_answer.specs.Numberings.{number, new_name};
 ghost use Rattle.fvn_answer.specs.inner.Readable.{AreReadable};
-ghost use Rattle.fvn_answer.specs.Writing.{text_of, may_exchange, top, sorted, written, bytes_of};
+ghost use Rattle.fvn_answer.specs.Writing.{text_of, top, sorted, written, bytes_of};
 ghost use Rattle.fvn_answer.specs.inner.Bytes.{beside, over_texts, arranged_texts, IsPrintable};
 
 use fvn_flat::Flat;
@@ -111,24 +111,12 @@ pub(crate) fn push_new(
     push_sorted(signature, names, text, name.as_slice(), x.sort)
 }
 
-/// Whether the arguments of an operator with these axioms may be exchanged.
-pub(crate) fn may_exchange(axioms: Axioms) -> bool
-    ensures { result ≡ may_exchange axioms }
-{
-    match axioms {
-        Axioms::Free => false,
-        Axioms::Comm => true,
-        Axioms::AssocComm => true,
-        Axioms::AssocCommId(_) => true,
-    }
-}
-
 /// The texts of an operator's arguments, in byte order where they may be exchanged.
 pub(crate) fn arrange(axioms: Axioms, texts: &mut Vec<Vec<u8>>) -> Result<(), NoMemory>
     ensures { OnOk result
         (bytes_of texts.new.items ≡ arranged_texts axioms (bytes_of texts.old.items)) }
 {
-    if may_exchange(axioms) {
+    if axioms.is_commutative() {
         texts.sort()?;
     }
     Ok(())

@@ -6,7 +6,7 @@ ghost use Rattle.fvn_flat.specs.Forms.{variable_of, args_of};
 ghost use Rattle.fvn_answer.specs.inner.Twins.{is_here, times, KeepsText, KeepsTexts, KeepsPrinted, AreTwins, HasTwin, IsPassedOver};
 
 use crate::printed::Printed;
-use crate::texts::{may_exchange, operator};
+use crate::texts::operator;
 use fvn_flat::{Flat, Subst, is_listed};
 use fvn_signature::Signature;
 use fvn_terms::Var;
@@ -74,7 +74,7 @@ fn keeps_term(signature: &Signature, x: Var, y: Var, t: &Flat) -> bool
     match t.as_var() {
         Some(z) => is_neither(z, x, y),
         None => {
-            let exchange = may_exchange(signature.axioms(operator(t)));
+            let exchange = signature.axioms(operator(t)).is_commutative();
             for u in t.args() {
                 if !is_exchanged(exchange, u) {
                     if !keeps_term(signature, x, y, u) {

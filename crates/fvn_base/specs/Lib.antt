@@ -3,3 +3,4 @@ pub mod Decided
 pub mod Limits
 pub mod Listed
 pub mod Order
+pub mod Laws

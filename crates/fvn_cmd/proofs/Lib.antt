@@ -1,2 +1,1 @@
--- Lemmas of this crate.
-mod Replying
+-- Lemmas of this crate: none.

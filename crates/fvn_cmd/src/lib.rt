@@ -1,14 +1,12 @@
-//! The reply to `check` over the text of a module, and how modules, problems and bindings are refused, with statuses.
+//! What all commands need: statuses, answers, and how modules, problems and bindings are refused.
 #![tactic(auto)]
 
 mod answer;
-mod checking;
 mod laws;
 mod refusing;
 mod status;
 
 pub use answer::{Answer, Text};
-pub use checking::{check_reply, refuse_module};
 pub use laws::readers_are_lawful;
-pub use refusing::refuse_problem;
+pub use refusing::{refuse_module, refuse_problem};
 pub use status::Status;

@@ -12,7 +12,8 @@ use Rattle.fvn_cmd.specs.declared.status.Status.{Status}
 use Rattle.fvn_cmd.specs.declared.status.Status.TheVariants.{Solved, Usage, ModuleRefused}
 use Rattle.fvn_cmd.specs.Statuses.{IsSpoken}
 use Rattle.fvn_cmd.specs.Texts.{line, Is}
-use Rattle.fvn_cmd.specs.Checks.{IsRefusalLine, told_lines, TellsSorts, IsFirstRefusal, IsFirstRefusalOf, IsCheckText, IsCheckReply, refused, told}
+use Rattle.fvn_cmd.specs.Refusing.{IsRefusalLine, IsFirstRefusal, IsFirstRefusalOf}
+use Rattle.fvn_cmd_check.specs.Checks.{told_lines, TellsSorts, IsCheckText, IsCheckReply, refused, told}
 
 -- Want of memory has no line, and a fault has one line.
 

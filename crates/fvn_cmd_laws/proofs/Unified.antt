@@ -15,8 +15,7 @@ use Rattle.fvn_cmd.specs.declared.status.Status.{Status}
 use Rattle.fvn_cmd.specs.declared.status.Status.TheVariants.{Nothing, Usage, ModuleRefused, ProblemRefused}
 use Rattle.fvn_cmd.specs.Statuses.{IsSpoken, IsAnswering}
 use Rattle.fvn_cmd.specs.Laws.{ReadersAreLawful}
-use Rattle.fvn_cmd.specs.Checks.{IsFirstRefusal, IsFirstRefusalOf}
-use Rattle.fvn_cmd.specs.Refusing.{IsFirstProblemRefusal, AsksNoProblem, IsProblemRefusalOf}
+use Rattle.fvn_cmd.specs.Refusing.{IsFirstRefusal, IsFirstRefusalOf, IsFirstProblemRefusal, AsksNoProblem, IsProblemRefusalOf}
 use Rattle.fvn_cmd_unify.specs.Asked.{Unifies, CannotBeUnified}
 use Rattle.fvn_cmd_unify.specs.Ends.{status_of_end, IsCauseOf}
 use Rattle.fvn_cmd_unify.specs.Solutions.{IsLineOf}

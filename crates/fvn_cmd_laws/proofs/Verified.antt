@@ -8,7 +8,7 @@ use Rattle.fvn_terms.specs.declared.plain.Plain.{Plain}
 use Rattle.fvn_terms.specs.Substitution.{value}
 use Rattle.fvn_forms.specs.Flat.{FlatTerm}
 use Rattle.fvn_module.specs.Contents.{Contents}
-use Rattle.fvn_cohere.specs.Promises.{equations_of}
+use Rattle.fvn_theory.specs.Equations.{equations_of}
 use Rattle.fvn_module_loading.specs.Loading.{IsLoaded, AreNotLoaded}
 use Rattle.fvn_problems.specs.declared.fault.ProblemFault.{ProblemFault}
 use Rattle.fvn_problems.specs.declared.fault.ProblemFault.TheVariants.{NoMemory}
@@ -28,9 +28,8 @@ use Rattle.fvn_cmd.specs.declared.status.Status.TheVariants.{Solved, Nothing, Us
 use Rattle.fvn_cmd.specs.Statuses.{IsSpoken, IsAnswering}
 use Rattle.fvn_cmd.specs.Texts.{line, Is}
 use Rattle.fvn_cmd.specs.Laws.{ReadersAreLawful}
-use Rattle.fvn_cmd.specs.Checks.{IsFirstRefusal, IsFirstRefusalOf}
-use Rattle.fvn_cmd.specs.Refusing.{IsProblemRefusalLine, IsFirstProblemRefusal, IsFirstBindingRefusal, AsksNoProblem, AreNoBindings, IsProblemRefusalOf, IsBindingRefusalOf}
-use Rattle.fvn_cmd_verify.specs.Verdicts.{status_of_verdict, IsVerdictText, IsToldAs, IsVerdictOn, TellsVerdict}
+use Rattle.fvn_cmd.specs.Refusing.{IsFirstRefusal, IsFirstRefusalOf, IsProblemRefusalLine, IsFirstProblemRefusal, IsFirstBindingRefusal, AsksNoProblem, AreNoBindings, IsProblemRefusalOf, IsBindingRefusalOf}
+use Rattle.fvn_cmd_verify.specs.Verdicts.{status_of_verdict, IsVerdictText, IsToldAs, setting_under, IsVerdictOn, TellsVerdict}
 use Rattle.fvn_cmd_verify.specs.Replies.{IsVerifyText, AreSolvedBy, IsAskedIn, IsAskedOf, IsVerifyReply, module_refused, problem_refused, bindings_refused, verified}
 use Rattle.fvn_cmd_laws.specs.Verified.{AreConfluentIn, HasConfluentEquations, AreVerdictsOrOne, TellsYes, TellsNo, TellsYesOrNo, StaysWithin, AllStayWithin}
 use Rattle.fvn_cmd_laws.proofs.Checks.{refused_not_loaded, refusals_alike}
@@ -68,7 +67,7 @@ module _ (m : Contents) (p : Problem) (b : Bindings) (steps : ℕ) where
   solved_by (Size f) e k = cc
 
   -- a side at which the search ended met a bound
-  stays_at : AllStayWithin m p b steps → (t : Plain) → EndsAt m.signature (equations_of m.equations) (value b.subst.pairs) steps TERM_SYMBOLS p.pairs t → StaysWithin m p b steps t
+  stays_at : AllStayWithin m p b steps → (t : Plain) → EndsAt (setting_under m steps b) p.pairs t → StaysWithin m p b steps t
   stays_at all t ends = all_at (StaysWithin m p b steps) ends.before t ends.after (subst (All (StaysWithin m p b steps)) ends.split all)
 
   module _ (s : Status) (t : List ℕ) where
@@ -274,7 +273,8 @@ module _ (bytes problem bindings : List ℕ) (steps more : ℕ) (laws : ReadersA
       AreConfluentIn m → (s ≡ Ended → ⊥) → (u ≡ Ended → ⊥) → Is s t u v
   verdicts_alike m p b s t u v h k confluent f g =
       told_alike m steps more h.0 k.0 s t u v
-      (agree m.signature (equations_of m.equations) confluent (value b.subst.pairs) p.pairs steps TERM_SYMBOLS more TERM_SYMBOLS h.0 k.0 h.1.0 k.1.0)
+      (agree m.signature (equations_of m.equations) confluent (value b.subst.pairs) p.pairs
+      (record { steps = steps; size = TERM_SYMBOLS }) (record { steps = more; size = TERM_SYMBOLS }) h.0 k.0 h.1.0 k.1.0)
       h.1.1 k.1.1 f g
 
   pub verify_agrees : (s : Status) (t : List ℕ) → IsVerifyReply bytes problem bindings steps s t → (u : Status) (v : List ℕ) → IsVerifyReply bytes problem bindings more u v → AreVerdictsOrOne bytes s t u v

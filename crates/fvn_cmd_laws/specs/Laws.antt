@@ -5,7 +5,7 @@ use Rattle.fvn_problems.specs.declared.problem.Problem.{Problem}
 use Rattle.fvn_answer.specs.declared.end.End.TheVariants.{Complete}
 use Rattle.fvn_cmd.specs.declared.status.Status.{Status}
 use Rattle.fvn_cmd.specs.Texts.{Is}
-use Rattle.fvn_cmd.specs.Checks.{IsCheckReply}
+use Rattle.fvn_cmd_check.specs.Checks.{IsCheckReply}
 use Rattle.fvn_cmd_verify.specs.Replies.{IsVerifyReply}
 use Rattle.fvn_cmd_unify.specs.Replies.{IsAnswer, IsUnifyReply}
 use Rattle.fvn_cmd_laws.specs.Unified.{AreAnswersOrOne}

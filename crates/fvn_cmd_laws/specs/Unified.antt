@@ -17,8 +17,7 @@ use Rattle.fvn_cmd.specs.declared.status.Status.{Status}
 use Rattle.fvn_cmd.specs.declared.status.Status.TheVariants.{Solved, Nothing, Usage, ModuleRefused, ProblemRefused, Ended, ReadFault, WriteFault, NoMemory}
 use Rattle.fvn_cmd.specs.Statuses.{IsAnswering}
 use Rattle.fvn_cmd.specs.Texts.{Is}
-use Rattle.fvn_cmd.specs.Checks.{IsRefusalLine}
-use Rattle.fvn_cmd.specs.Refusing.{IsProblemRefusalLine}
+use Rattle.fvn_cmd.specs.Refusing.{IsRefusalLine, IsProblemRefusalLine}
 use Rattle.fvn_cmd_unify.specs.Asked.{Unifies, IsInstanceOf, CannotBeUnified, flattened}
 use Rattle.fvn_cmd_unify.specs.Ends.{status_of_end, HasNoBasis, IsTooLarge}
 use Rattle.fvn_cmd_unify.specs.Replies.{IsAnswer}

@@ -1,12 +1,10 @@
 -- What a reply to `verify` promises, in words over its status and its text.
 use Rattle.std.specs.Prelude.{ℕ, ◌≡◌, ◌⊎◌, List, All, Some, None}
-use Rattle.fvn_base.specs.declared.limits.TheConstants.{TERM_SYMBOLS}
 use Rattle.fvn_terms.specs.declared.plain.Plain.{Plain}
-use Rattle.fvn_terms.specs.Substitution.{value}
 use Rattle.fvn_terms.specs.Rewriting.{IsConfluent}
 use Rattle.fvn_forms.specs.Flat.{FlatTerm}
 use Rattle.fvn_module.specs.Contents.{Contents}
-use Rattle.fvn_cohere.specs.Promises.{equations_of}
+use Rattle.fvn_theory.specs.Equations.{equations_of}
 use Rattle.fvn_module_loading.specs.Loading.{IsLoaded}
 use Rattle.fvn_problems.specs.declared.problem.Problem.{Problem}
 use Rattle.fvn_problems.specs.declared.bindings.Bindings.{Bindings}
@@ -16,6 +14,7 @@ use Rattle.fvn_cmd.specs.declared.status.Status.{Status}
 use Rattle.fvn_cmd.specs.declared.status.Status.TheVariants.{Solved, Nothing, Ended}
 use Rattle.fvn_cmd.specs.Statuses.{IsAnswering}
 use Rattle.fvn_cmd.specs.Texts.{line, Is}
+use Rattle.fvn_cmd_verify.specs.Verdicts.{setting_under}
 use Rattle.fvn_cmd_verify.specs.Replies.{AreSolvedBy}
 
 -- Two replies.
@@ -53,8 +52,7 @@ module _ (m : Contents) (p : Problem) (b : Bindings) (steps : ℕ) where
     pub left : FlatTerm
     pub right : FlatTerm
     pub told : Is Nothing (line (verdict_text (Some number))) status text
-    pub first : IsFirstDifference m.signature (equations_of m.equations) (value b.subst.pairs)
-        steps TERM_SYMBOLS p.pairs number left right
+    pub first : IsFirstDifference (setting_under m steps b) p.pairs number left right
 
   -- one of these two lines
   abbrev pub TellsYesOrNo : Status → List ℕ → Type 0
@@ -63,10 +61,8 @@ module _ (m : Contents) (p : Problem) (b : Bindings) (steps : ℕ) where
   -- No bound is met at a side under the bindings: nothing that `steps` steps lead to can be rewritten further, and
   -- nothing that at most so many lead to has too many symbols.
   pub record StaysWithin (t : Plain) : Type 0 where
-    pub few : (start end : FlatTerm) →
-        IsUnfinished m.signature (equations_of m.equations) (value b.subst.pairs) steps TERM_SYMBOLS t start end → ⊥
-    pub small : (f : FlatTerm) →
-        IsTooLarge m.signature (equations_of m.equations) (value b.subst.pairs) steps TERM_SYMBOLS t f → ⊥
+    pub few : (start end : FlatTerm) → IsUnfinished (setting_under m steps b) t start end → ⊥
+    pub small : (f : FlatTerm) → IsTooLarge (setting_under m steps b) t f → ⊥
 
   -- no bound is met at any side of the problem
   abbrev pub AllStayWithin : Type 0

@@ -7,7 +7,7 @@ use crate::signatures::{number, push_told};
 use fvn_base::NoMemory;
 use fvn_lex::LexFault;
 use fvn_module::{ModuleFault, Place};
-use fvn_module_statements::Feature;
+use fvn_module_syntax::Feature;
 use fvn_sorts::SigFault;
 use fvn_syntax::Names;
 use fvn_terms::SortId;

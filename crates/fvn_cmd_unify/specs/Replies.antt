@@ -8,8 +8,7 @@ use Rattle.fvn_module_loading.specs.Loading.{IsLoaded}
 use Rattle.fvn_answer.specs.declared.end.End.{End}
 use Rattle.fvn_cmd.specs.declared.status.Status.{Status}
 use Rattle.fvn_cmd.specs.declared.status.Status.TheVariants.{ModuleRefused, ProblemRefused}
-use Rattle.fvn_cmd.specs.Checks.{IsFirstRefusal}
-use Rattle.fvn_cmd.specs.Refusing.{IsFirstProblemRefusal}
+use Rattle.fvn_cmd.specs.Refusing.{IsFirstRefusal, IsFirstProblemRefusal}
 use Rattle.fvn_cmd_unify.specs.Ends.{status_of_end}
 use Rattle.fvn_cmd_unify.specs.Solutions.{IsSolution, Shows}
 

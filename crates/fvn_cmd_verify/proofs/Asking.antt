@@ -14,8 +14,7 @@ use Rattle.fvn_problems.specs.Bindings.{IsBindings, RefusesBindings}
 use Rattle.fvn_problems.specs.Scopes.{AreNamesOf}
 use Rattle.fvn_cmd.specs.declared.status.Status.{Status}
 use Rattle.fvn_cmd.specs.declared.status.Status.TheVariants.{ModuleRefused, ProblemRefused}
-use Rattle.fvn_cmd.specs.Checks.{IsRefusalLine}
-use Rattle.fvn_cmd.specs.Refusing.{IsProblemRefusalLine}
+use Rattle.fvn_cmd.specs.Refusing.{IsRefusalLine, IsProblemRefusalLine}
 use Rattle.fvn_cmd_verify.specs.Verdicts.{TellsVerdict}
 use Rattle.fvn_cmd_verify.specs.Replies.{IsVerifyReply, module_refused, problem_refused, bindings_refused, verified}
 use Rattle.fvn_cmd_verify.specs.inner.Steps.{RepliesToBindings, RepliesToProblem}

@@ -6,9 +6,10 @@ use Rattle.fvn_base.specs.declared.limits.TheConstants.{TERM_SYMBOLS}
 use Rattle.fvn_terms.specs.declared.declarations.Declarations.{Declarations}
 use Rattle.fvn_terms.specs.Substitution.{value}
 use Rattle.fvn_syntax.specs.Pieces.{Text}
-use Rattle.fvn_module.specs.declared.equation.Equation.{Equation}
-use Rattle.fvn_cohere.specs.Promises.{equations_of}
-use Rattle.fvn_verify.specs.Verdicts.{IsVerdict}
+use Rattle.fvn_theory.specs.declared.equation.Equation.{Equation}
+use Rattle.fvn_theory.specs.declared.bounds.Bounds.{Bounds}
+use Rattle.fvn_theory.specs.Equations.{equations_of}
+use Rattle.fvn_verify.specs.Verdicts.{setting, IsVerdict}
 use Rattle.fvn_module.specs.Contents.{Contents}
 use Rattle.fvn_problems.specs.declared.problem.Problem.{Problem}
 use Rattle.fvn_problems.specs.declared.bindings.Bindings.{Bindings}
@@ -34,21 +35,21 @@ last_line m ending text h = record {
 }
 
 -- the form that is told of a verdict is flat and well-kinded
-module _ (d : Declarations) (equations : List Equation) (steps : ℕ) (p : Problem) (b : Bindings) where
-  pub fits_verdict : (v : Verdict) → IsVerdict d (equations_of equations) (value b.subst.pairs) steps TERM_SYMBOLS p.pairs v → FitsVerdict d v
+module _ (d : Declarations) (equations : List Equation) (bounds : Bounds) (p : Problem) (b : Bindings) where
+  pub fits_verdict : (v : Verdict) → IsVerdict (setting d (equations_of equations) (value b.subst.pairs) bounds) p.pairs v → FitsVerdict d v
   fits_verdict Yes h = tt
   fits_verdict (No n l r) h = tt
   fits_verdict (Steps start reached) h = h.1.1.start_fits
   fits_verdict (Size f) h = tt
 
--- a verdict in the signature and the equations of a module is one in the module
-pub told_verdict_on : (m : Contents) (d : Declarations) → d ≡ m.signature → (equations : List Equation) → equations ≡ m.equations → (steps : ℕ) (p : Problem) (b : Bindings) (v : Verdict) →
-    IsVerdict d (equations_of equations) (value b.subst.pairs) steps TERM_SYMBOLS p.pairs v → (status : Status) (text : List ℕ) → IsToldAs m steps v status text → TellsVerdict m steps p b status text
-told_verdict_on m d signature_is equations equations_are steps p b v h status text told = (
+-- a verdict by the equations of a module is one in the module
+pub told_verdict_on : (m : Contents) (equations : List Equation) → equations ≡ m.equations → (steps : ℕ) (p : Problem) (b : Bindings) (v : Verdict) →
+    IsVerdict (setting m.signature (equations_of equations) (value b.subst.pairs) (record { steps = steps; size = TERM_SYMBOLS })) p.pairs v → (status : Status) (text : List ℕ) → IsToldAs m steps v status text →
+    TellsVerdict m steps p b status text
+told_verdict_on m equations equations_are steps p b v h status text told = (
   v,
   (
-    subst (λ es. IsVerdict m.signature (equations_of es) (value b.subst.pairs) steps TERM_SYMBOLS p.pairs v) equations_are
-        (subst (λ x. IsVerdict x (equations_of equations) (value b.subst.pairs) steps TERM_SYMBOLS p.pairs v) signature_is h),
+    subst (λ es. IsVerdict (setting m.signature (equations_of es) (value b.subst.pairs) (record { steps = steps; size = TERM_SYMBOLS })) p.pairs v) equations_are h,
     told,
   ),
 )

@@ -3,7 +3,7 @@ use Rattle.std.specs.Prelude.{ℕ, List, All}
 use Rattle.fvn_terms.specs.Substitution.{value}
 use Rattle.fvn_module.specs.declared.fault.ModuleFault.{ModuleFault}
 use Rattle.fvn_module.specs.Contents.{Contents}
-use Rattle.fvn_cohere.specs.Promises.{equations_of}
+use Rattle.fvn_theory.specs.Equations.{equations_of}
 use Rattle.fvn_module_loading.specs.Loading.{IsLoaded}
 use Rattle.fvn_problems.specs.declared.fault.ProblemFault.{ProblemFault}
 use Rattle.fvn_problems.specs.declared.problem.Problem.{Problem}
@@ -14,8 +14,7 @@ use Rattle.fvn_verify.specs.declared.verdict.Verdict.{Verdict}
 use Rattle.fvn_verify.specs.Verdicts.{AreEqual}
 use Rattle.fvn_cmd.specs.declared.status.Status.{Status}
 use Rattle.fvn_cmd.specs.declared.status.Status.TheVariants.{Solved, Nothing, Usage, ModuleRefused, ProblemRefused, Ended, ReadFault, WriteFault, NoMemory}
-use Rattle.fvn_cmd.specs.Checks.{IsRefusalLine, IsFirstRefusal}
-use Rattle.fvn_cmd.specs.Refusing.{IsProblemRefusalLine, IsFirstProblemRefusal, IsFirstBindingRefusal}
+use Rattle.fvn_cmd.specs.Refusing.{IsRefusalLine, IsFirstRefusal, IsProblemRefusalLine, IsFirstProblemRefusal, IsFirstBindingRefusal}
 use Rattle.fvn_cmd_verify.specs.Verdicts.{IsToldAs, TellsVerdict}
 
 -- this status and this text tell some verdict in some module

@@ -3,12 +3,12 @@ use Rattle.std.specs.Prelude.{◌≡◌, ℕ, List, Some, None}
 use Rattle.fvn_base.specs.declared.limits.TheConstants.{TERM_SYMBOLS}
 use Rattle.fvn_terms.specs.Substitution.{value}
 use Rattle.fvn_module.specs.Contents.{Contents}
-use Rattle.fvn_cohere.specs.Promises.{equations_of}
+use Rattle.fvn_theory.specs.Equations.{equations_of}
 use Rattle.fvn_problems.specs.declared.problem.Problem.{Problem}
 use Rattle.fvn_problems.specs.declared.bindings.Bindings.{Bindings}
 use Rattle.fvn_verify.specs.declared.verdict.Verdict.{Verdict}
 use Rattle.fvn_verify.specs.declared.verdict.Verdict.TheVariants.{Yes, No, Steps, Size}
-use Rattle.fvn_verify.specs.Verdicts.{IsVerdict}
+use Rattle.fvn_verify.specs.Verdicts.{Setting, setting, IsVerdict}
 use Rattle.fvn_cmd_texts.specs.Verdicts.{verdict_text}
 use Rattle.fvn_answer.specs.declared.end.End.{End}
 use Rattle.fvn_answer.specs.declared.end.End.TheVariants as end
@@ -44,10 +44,15 @@ module _ (m : Contents) where
       pub status_is : status ≡ status_of_verdict v
       pub text_tells : IsVerdictText v text
 
+    -- what sides are rewritten in: the module under the bindings, with the limits on steps and symbols
+    abbrev pub setting_under : Bindings → Setting
+    setting_under b =
+        setting m.signature (equations_of m.equations) (value b.subst.pairs)
+        (record { steps = steps; size = TERM_SYMBOLS })
+
     -- the verdict is one on the problem under the bindings, in the theory of the module
     abbrev pub IsVerdictOn : Problem → Bindings → Verdict → Type 0
-    IsVerdictOn p b v =
-        IsVerdict m.signature (equations_of m.equations) (value b.subst.pairs) steps TERM_SYMBOLS p.pairs v
+    IsVerdictOn p b v = IsVerdict (setting_under b) p.pairs v
 
     -- this status and this text tell a verdict on the problem under the bindings
     abbrev pub TellsVerdict : Problem → Bindings → Status → List ℕ → Type 0

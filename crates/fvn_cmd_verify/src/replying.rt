@@ -13,13 +13,13 @@ ghost use Rattle.fvn_cmd_verify.specs.inner.Steps.{RepliesToBindings, RepliesToP
 use crate::telling::tell;
 use fvn_base::limits::TERM_SYMBOLS;
 use fvn_cmd::{Answer, refuse_module, refuse_problem};
+use fvn_cohere::harmless_equations_are_admissible;
 use fvn_module::Module;
+use fvn_module_engines::{extend, verify};
 use fvn_module_loading::load;
 use fvn_problems::{Bindings, Problem, read_bindings, read_problem};
-use fvn_rewrite::harmless_equations_are_admissible;
-use fvn_rewrite_rules::extend;
 use fvn_terms::NoMemory;
-use fvn_verify::verify;
+use fvn_theory::Bounds;
 use std::alloc::Global;
 
 // The answer to a problem under bindings.
@@ -38,17 +38,12 @@ fn verified(
 {
     declared.recall_readable();
     harmless_equations_are_admissible();
-    let signature = declared.signature();
     let rules = extend(alloc, declared)?;
-    let verdict = verify(
-        alloc,
-        signature,
-        &rules,
-        problem,
-        bindings,
+    let bounds = Bounds {
         steps,
-        TERM_SYMBOLS,
-    )?;
+        size: TERM_SYMBOLS,
+    };
+    let verdict = verify(alloc, declared, &rules, problem, bindings, bounds)?;
     let answer = tell(alloc, declared, steps, verdict)?;
     Ok(answer)
 }

@@ -13,10 +13,9 @@ use Rattle.fvn_terms.specs.Theory.{Equations}
 use Rattle.fvn_terms.specs.Rewriting.{IsSortDecreasing}
 use Rattle.fvn_rewrite_laws.specs.Kinds.{IsKindedEquation}
 use Rattle.fvn_rewrite_laws.specs.Losses.{AreSortDecreasing, IsFirstLoss}
-use Rattle.fvn_module.specs.declared.equation.Equation.{Equation}
-use Rattle.fvn_module.specs.Readable.{IsReadableEquation}
-use Rattle.fvn_module.specs.Contents.{Contents}
-use Rattle.fvn_cohere.specs.Promises.{sides_of, equations_of, OfEquation, LosesAs}
+use Rattle.fvn_theory.specs.declared.equation.Equation.{Equation}
+use Rattle.fvn_theory.specs.Equations.{sides_of, equations_of, IsReadableEquation}
+use Rattle.fvn_cohere.specs.Promises.{IsNumberIn, OfEquation, LosesAs}
 
 -- the equations before one of them, it, and those after it
 pub split_at : (list : List Equation) (i : ℕ) (e : Equation) → i < length list → e ≡ get_or list i e → (after : Equations) × ((equations_of list ≡ equations_of (take i list) ++ (sides_of e ∷ after)) × (length (equations_of (take i list)) ≡ i))
@@ -36,10 +35,18 @@ equation_in list i within = found (slice_get_cases list i).1
     found (inr w) = absurd (omega (arith, within, w.0))
 
 -- what holds of the equation that is found at its number
-pub of_found : (P : Equation → Type 0) (m : Contents) (number : ℕ) (e : Equation) → slice_get m.equations (number - 1) ≡ Some e → P e → OfEquation m number P
-of_found P m number e is h q p = subst P (Some-injective (sym is ∙ p)) h
+pub of_found : (P : Equation → Type 0) (equations : List Equation) (number : ℕ) (e : Equation) → slice_get equations (number - 1) ≡ Some e → P e → OfEquation equations number P
+of_found P equations number e is h q p = subst P (Some-injective (sym is ∙ p)) h
 
 module _ (d : Declarations) where
+  -- the equation of a number is readable, where all are
+  pub readable_at : (equations : List Equation) (number : ℕ) (e : Equation) → IsNumberIn equations number → slice_get equations (number - 1) ≡ Some e → All (IsReadableEquation d) equations → IsReadableEquation d e
+  readable_at equations number e n is all =
+      let within : number - 1 < length equations = omega (arith, n.from_one, n.listed) in
+      let w = equation_in equations (number - 1) within in
+      let same : w.0 ≡ e = Some-injective (sym w.1 ∙ is) in
+      subst (IsReadableEquation d) same (subst (IsReadableEquation d) (sym w.2) (all (number - 1) w.0 within))
+
   -- what was read of an equation is what is asked of it
   pub kinded : (e : Equation) → IsReadableEquation d e → IsKindedEquation d (sides_of e)
   kinded e h = record { kinds = record { kind = h.kind; left = h.left; right = h.right }; brings_none = h.brings_none }

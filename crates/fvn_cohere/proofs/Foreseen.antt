@@ -9,14 +9,12 @@ use Rattle.fvn_terms.specs.declared.plain.Var.{Var}
 use Rattle.fvn_terms.specs.declared.plain.OpId.{OpId}
 use Rattle.fvn_terms.specs.declared.plain.SortId.{SortId}
 use Rattle.fvn_terms.specs.declared.plain.Plain.{Plain}
-use Rattle.fvn_terms.specs.declared.declarations.Axioms.{Axioms}
-use Rattle.fvn_terms.specs.declared.declarations.Axioms.TheVariants.{AssocCommId}
 use Rattle.fvn_terms.specs.declared.declarations.Rank.{Rank}
 use Rattle.fvn_terms.specs.declared.declarations.Declarations.{Declarations}
 use Rattle.fvn_terms.specs.Term.{Term, Terms, var, app, none, more}
 use Rattle.fvn_terms.specs.Plain.{term, terms}
 use Rattle.fvn_terms.specs.Signature.{kind, declared, axioms, AtOrBelow, same, HasKind, HaveKinds}
-use Rattle.fvn_terms.specs.Equality.{IsAssociative, IsCommutative, identity}
+use Rattle.fvn_terms.specs.Equality.{identity}
 use Rattle.fvn_forms.specs.SortOrder.{at_or_below}
 use Rattle.fvn_forms.specs.Ranks.{result, ranks_of}
 use Rattle.fvn_forms.specs.Good.{IsGood, TakesKinds, IsOfKind}
@@ -24,7 +22,7 @@ use Rattle.fvn_forms.proofs.SortOrder.{AtOrBelow-trans, AtOrBelow-one_kind}
 use Rattle.fvn_forms.proofs.SortTests.{at_or_below-true, at_or_below-complete}
 use Rattle.fvn_forms.proofs.Results.{result_monotone, result_swap, result-kind, result-is}
 use Rattle.fvn_forms.proofs.Sums.{same_op_is}
-use Rattle.fvn_terms.proofs.AxiomWords.{identity_is}
+use Rattle.fvn_terms.proofs.AxiomWords.{identity_associates, identity_commutes}
 use Rattle.fvn_rewrite_laws.specs.declared.shapes.Root.{Root}
 use Rattle.fvn_rewrite_laws.specs.declared.shapes.Root.TheVariants.{Variable, Constant, Compound}
 use Rattle.fvn_rewrite_laws.specs.declared.shapes.Shape.{Shape}
@@ -48,12 +46,6 @@ compound_constant e h = cc
 
 compound_variable : Compound ≡ Variable → ⊥
 compound_variable h = cc
-
-associative_if : (a : Axioms) (e : OpId) → a ≡ AssocCommId e → IsAssociative a
-associative_if a e h = rw h tt
-
-commutative_if : (a : Axioms) (e : OpId) → a ≡ AssocCommId e → IsCommutative a
-commutative_if a e h = rw h tt
 
 module _ (d : Declarations) where
   -- a lower bound of a sort is one of those above it
@@ -186,11 +178,8 @@ module _ (d : Declarations) where
 
     -- beside an identity, the other argument is at or below the sum
     module _ (f e : OpId) (a b : Shape) (is : identity (axioms d f) ≡ Some e) (takes : TakesKinds d f (a.sort ∷ b.sort ∷ [])) where
-      with_identity : axioms d f ≡ AssocCommId e
-      with_identity = identity_is (axioms d f) e is
-
       both_kinds : kind d a.sort ∷ kind d b.sort ∷ [] ≡ kind d takes.rank.result ∷ kind d takes.rank.result ∷ []
-      both_kinds = takes.kinds ∙ good.fits.associative f takes.rank (associative_if (axioms d f) e with_identity) takes.listed
+      both_kinds = takes.kinds ∙ good.fits.associative f takes.rank (identity_associates (axioms d f) e is) takes.listed
 
       first_kind : IsOfKind d f a.sort
       first_kind = record { rank = takes.rank; listed = takes.listed; kind_is = let p = both_kinds in cc }
@@ -201,12 +190,12 @@ module _ (d : Declarations) where
       pub second_below : a.sort ≡ result d e [] → AtOrBelow d b.sort (result d f (a.sort ∷ b.sort ∷ []))
       second_below p =
           subst (AtOrBelow d b.sort)
-          (ap (λ s. result d f (b.sort ∷ s ∷ [])) (sym p) ∙ sym (result_swap d good f a.sort b.sort (commutative_if (axioms d f) e with_identity) takes))
-          (good.collapse f e b.sort with_identity second_kind)
+          (ap (λ s. result d f (b.sort ∷ s ∷ [])) (sym p) ∙ sym (result_swap d good f a.sort b.sort (identity_commutes (axioms d f) e is) takes))
+          (good.collapse f e b.sort is second_kind)
 
       pub first_below : b.sort ≡ result d e [] → AtOrBelow d a.sort (result d f (a.sort ∷ b.sort ∷ []))
       first_below p =
-          subst (λ s. AtOrBelow d a.sort (result d f (a.sort ∷ s ∷ []))) (sym p) (good.collapse f e a.sort with_identity first_kind)
+          subst (λ s. AtOrBelow d a.sort (result d f (a.sort ∷ s ∷ []))) (sym p) (good.collapse f e a.sort is first_kind)
 
     -- the outlook of two arguments, of which one may be the identity
     pub joined_suits : (f : OpId) (a b : Outlook) (low : Option SortId) (high : SortId) (o : Outlook) → IsJoined d a b low high o →
@@ -226,11 +215,11 @@ module _ (d : Declarations) where
         go : (v : Bool) → is_root_of i x.root ≡ v → (w : Bool) → is_root_of i y.root ≡ w → Suits d o (if v then y else if w then x else compound (result d f (x.sort ∷ y.sort ∷ [])))
         go true u w v =
             let r = root_identity i x.root u in
-            j.first_vanishes y (p.identity r.0 (identity_listed d f r.0 (identity_is (axioms d f) r.0 r.1.0)) r.1.1) q
+            j.first_vanishes y (p.identity r.0 (identity_listed d f r.0 r.1.0) r.1.1) q
             (AtOrBelow-trans d (second_below f r.0 x y r.1.0 args.kinds (constants.0 r.0 r.1.1)) h)
         go false u true v =
             let r = root_identity i y.root v in
-            j.second_vanishes x (q.identity r.0 (identity_listed d f r.0 (identity_is (axioms d f) r.0 r.1.0)) r.1.1) p
+            j.second_vanishes x (q.identity r.0 (identity_listed d f r.0 r.1.0) r.1.1) p
             (AtOrBelow-trans d (first_below f r.0 x y r.1.0 args.kinds (constants.1 r.0 r.1.1)) h)
         go false u false v = j.stays (result d f (x.sort ∷ y.sort ∷ [])) l h
 
@@ -243,26 +232,26 @@ module _ (d : Declarations) where
       )
 
       -- arguments of which none can be an identity
-      pub over_plain : (length parts ≡ 0 → ⊥) → (length parts ≡ 2 → ⊥) ⊎ ((e : OpId) → axioms d f ≡ AssocCommId e → ⊥) →
+      pub over_plain : (length parts ≡ 0 → ⊥) → (length parts ≡ 2 → ⊥) ⊎ ((e : OpId) → identity (axioms d f) ≡ Some e → ⊥) →
           (shapes : List Shape) → AllZip (Suits d) parts shapes → AreArguments d f shapes → Suits d (record { variable = false; identity = false; low = low; high = high }) (shape_over d f shapes)
       over_plain some free shapes h args = go parts some free shapes h (bounds shapes h args.kinds)
         where
           o : Outlook
           o = record { variable = false; identity = false; low = low; high = high }
 
-          no_root : ((e : OpId) → axioms d f ≡ AssocCommId e → ⊥) → (root : Root) → is_root_of (identity (axioms d f)) root ≡ false
+          no_root : ((e : OpId) → identity (axioms d f) ≡ Some e → ⊥) → (root : Root) → is_root_of (identity (axioms d f)) root ≡ false
           no_root n root = at (is_root_of (identity (axioms d f)) root) refl where
             at : (v : Bool) → is_root_of (identity (axioms d f)) root ≡ v → v ≡ false
             at false p = refl
-            at true p = let r = root_identity (identity (axioms d f)) root p in absurd (n r.0 (identity_is (axioms d f) r.0 r.1.0))
+            at true p = let r = root_identity (identity (axioms d f)) root p in absurd (n r.0 r.1.0)
 
-          two : (a b : Shape) → ((e : OpId) → axioms d f ≡ AssocCommId e → ⊥) → compound (result d f (a.sort ∷ b.sort ∷ [])) ≡ shape_over d f (a ∷ b ∷ [])
+          two : (a b : Shape) → ((e : OpId) → identity (axioms d f) ≡ Some e → ⊥) → compound (result d f (a.sort ∷ b.sort ∷ [])) ≡ shape_over d f (a ∷ b ∷ [])
           two a b n =
               sym (
               ap (λ v. if v then b else if is_root_of (identity (axioms d f)) b.root then a else compound (result d f (a.sort ∷ b.sort ∷ []))) (no_root n a.root)
               ∙ ap (λ v. if v then a else compound (result d f (a.sort ∷ b.sort ∷ []))) (no_root n b.root))
 
-          go : (parts : List Outlook) → (length parts ≡ 0 → ⊥) → (length parts ≡ 2 → ⊥) ⊎ ((e : OpId) → axioms d f ≡ AssocCommId e → ⊥) →
+          go : (parts : List Outlook) → (length parts ≡ 0 → ⊥) → (length parts ≡ 2 → ⊥) ⊎ ((e : OpId) → identity (axioms d f) ≡ Some e → ⊥) →
               (shapes : List Shape) → AllZip (Suits d) parts shapes → IsLow d low (result d f (sorts_of shapes)) × AtOrBelow d (result d f (sorts_of shapes)) high → Suits d o (shape_over d f shapes)
           go [] some free shapes h w = absurd (some refl)
           go (p ∷ ps) some free [] h w = absurd h
@@ -307,14 +296,14 @@ module _ (d : Declarations) where
             second p h = (subst (λ l. AllZip IsFitting (a ∷ b ∷ []) l) p h).1.0
 
             kinds_are : (e : OpId) → identity (axioms d f) ≡ Some e → map (kind d) r.args ≡ k ∷ k ∷ []
-            kinds_are e p = good.fits.associative f r (associative_if (axioms d f) e (identity_is (axioms d f) e p)) listed ∙ ap (λ z. z ∷ z ∷ []) is
+            kinds_are e p = good.fits.associative f r (identity_associates (axioms d f) e p) listed ∙ ap (λ z. z ∷ z ∷ []) is
         beside a b h t false p true q = let e = root_identity (identity (axioms d f)) b.root q in (first (kinds_are e.0 e.1.0) h)
           where
             first : map (kind d) r.args ≡ k ∷ k ∷ [] → AllZip IsFitting (a ∷ b ∷ []) (map (kind d) r.args) → IsFitting a k
             first p h = (subst (λ l. AllZip IsFitting (a ∷ b ∷ []) l) p h).0
 
             kinds_are : (e : OpId) → identity (axioms d f) ≡ Some e → map (kind d) r.args ≡ k ∷ k ∷ []
-            kinds_are e p = good.fits.associative f r (associative_if (axioms d f) e (identity_is (axioms d f) e p)) listed ∙ ap (λ z. z ∷ z ∷ []) is
+            kinds_are e p = good.fits.associative f r (identity_associates (axioms d f) e p) listed ∙ ap (λ z. z ∷ z ∷ []) is
         beside a b h t false p false q = (over (a.sort ∷ b.sort ∷ []) t, constant_compound (result d f (a.sort ∷ b.sort ∷ [])))
 
         go : (shapes : List Shape) → AllZip IsFitting shapes (map (kind d) r.args) → TakesKinds d f (sorts_of shapes) → IsFitting (shape_over d f shapes) k

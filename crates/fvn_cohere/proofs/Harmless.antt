@@ -11,12 +11,12 @@ use Rattle.fvn_terms.specs.declared.declarations.Declarations.{Declarations}
 use Rattle.fvn_terms.specs.Term.{Term}
 use Rattle.fvn_terms.specs.Plain.{term}
 use Rattle.fvn_rewrite_laws.specs.Choices.{InstancesFit}
-use Rattle.fvn_module.specs.declared.equation.Equation.{Equation}
-use Rattle.fvn_module.specs.Contents.{Contents}
+use Rattle.fvn_theory.specs.declared.equation.Equation.{Equation}
+use Rattle.fvn_theory.specs.Equations.{sides_of, equations_of}
 use Rattle.fvn_cohere.specs.declared.faults.LeftFault.{LeftFault}
 use Rattle.fvn_cohere.specs.declared.collapsing.Collapse.{Collapse}
 use Rattle.fvn_cohere.specs.declared.collapsing.Collapse.TheVariants.{Variable, Identity}
-use Rattle.fvn_cohere.specs.Promises.{sides_of, equations_of, OfEquation, CollapsesAs}
+use Rattle.fvn_cohere.specs.Promises.{OfEquation, CollapsesAs}
 use Rattle.fvn_cohere.specs.inner.Collapsing.{fault_of_collapse}
 use Rattle.fvn_cohere.specs.LeftFaults.{IsHarmless, AreHarmless, IsLeftFault, IsFirstLeftFault}
 use Rattle.fvn_cohere.proofs.Firsts.{split_at}
@@ -76,22 +76,23 @@ module _ (d : Declarations) where
     pub all_harmless : (i : ℕ) → length list ≤ i → HarmlessSoFar (take i list) → AreHarmless d (equations_of list)
     all_harmless i past h = harmless_sides list (subst HarmlessSoFar (take_all i list past) h)
 
--- what is said of the equation of a number
-abbrev Said : Contents → ℕ → Option LeftFault → Type 0
-Said m i fault = OfEquation m (i + 1) (λ (e : Equation). MatchOption fault (IsHarmless m.signature (term e.left)) (IsLeftFault m.signature (i + 1) (term e.left)))
+module _ (d : Declarations) (equations : List Equation) where
+  -- what is said of the equation of a number
+  abbrev Said : ℕ → Option LeftFault → Type 0
+  Said i fault = OfEquation equations (i + 1) (λ (e : Equation). MatchOption fault (IsHarmless d (term e.left)) (IsLeftFault d (i + 1) (term e.left)))
 
--- where nothing is wrong with it, one equation more
-pub harmless_step : (m : Contents) (i : ℕ) (fault : Option LeftFault) → i < length m.equations → HarmlessSoFar m.signature (take i m.equations) → fault ≡ None → Said m i fault → HarmlessSoFar m.signature (take (i + 1) m.equations)
-harmless_step m i fault within h none says =
-    let g = got m.equations i within in
-    let e : Equation = g.0 in
-    harmless_more m.signature m.equations i e within g.1 h
-    (subst (λ f. MatchOption f (IsHarmless m.signature (term e.left)) (IsLeftFault m.signature (i + 1) (term e.left))) none (says e (numbered m.equations i e within g.1)))
+  -- where nothing is wrong with it, one equation more
+  pub harmless_step : (i : ℕ) (fault : Option LeftFault) → i < length equations → HarmlessSoFar d (take i equations) → fault ≡ None → Said i fault → HarmlessSoFar d (take (i + 1) equations)
+  harmless_step i fault within h none says =
+      let g = got equations i within in
+      let e : Equation = g.0 in
+      harmless_more d equations i e within g.1 h
+      (subst (λ f. MatchOption f (IsHarmless d (term e.left)) (IsLeftFault d (i + 1) (term e.left))) none (says e (numbered equations i e within g.1)))
 
--- where something is, it is the first
-pub fault_step : (m : Contents) (i : ℕ) (fault : Option LeftFault) (wrong : LeftFault) → i < length m.equations → HarmlessSoFar m.signature (take i m.equations) → fault ≡ Some wrong → Said m i fault → IsFirstLeftFault m.signature (equations_of m.equations) wrong
-fault_step m i fault wrong within h some says =
-    let g = got m.equations i within in
-    let e : Equation = g.0 in
-    first_fault m.signature m.equations i e within g.1 h wrong
-    (subst (λ f. MatchOption f (IsHarmless m.signature (term e.left)) (IsLeftFault m.signature (i + 1) (term e.left))) some (says e (numbered m.equations i e within g.1)))
+  -- where something is, it is the first
+  pub fault_step : (i : ℕ) (fault : Option LeftFault) (wrong : LeftFault) → i < length equations → HarmlessSoFar d (take i equations) → fault ≡ Some wrong → Said i fault → IsFirstLeftFault d (equations_of equations) wrong
+  fault_step i fault wrong within h some says =
+      let g = got equations i within in
+      let e : Equation = g.0 in
+      first_fault d equations i e within g.1 h wrong
+      (subst (λ f. MatchOption f (IsHarmless d (term e.left)) (IsLeftFault d (i + 1) (term e.left))) some (says e (numbered equations i e within g.1)))

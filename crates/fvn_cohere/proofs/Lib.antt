@@ -10,3 +10,4 @@ mod Foreseen
 mod Hopeless
 mod Found
 mod Harmless
+mod Admissible

@@ -1,23 +1,13 @@
 -- The shape of an operator over so many shapes.
-use Rattle.std.proofs.Common.{◌≡◌, true, false, List, [], ◌∷◌, length, get_or, Option, Some, None, refl, sym, ap, ◌∙◌, arith}
-use Rattle.std.specs.Prelude.{if◌then◌else◌, MatchOption}
+use Rattle.std.proofs.Common.{◌≡◌, true, false, List, [], ◌∷◌, length, get_or, refl, sym, ap, ◌∙◌, arith}
+use Rattle.std.specs.Prelude.{if◌then◌else◌}
 use Rattle.fvn_terms.specs.declared.plain.OpId.{OpId}
-use Rattle.fvn_terms.specs.declared.declarations.Axioms.{Axioms}
-use Rattle.fvn_terms.specs.declared.declarations.Axioms.TheVariants.{Free, Comm, AssocComm, AssocCommId}
 use Rattle.fvn_terms.specs.declared.declarations.Declarations.{Declarations}
 use Rattle.fvn_terms.specs.Signature.{axioms}
 use Rattle.fvn_terms.specs.Equality.{identity}
 use Rattle.fvn_forms.specs.Ranks.{result}
 use Rattle.fvn_rewrite_laws.specs.declared.shapes.Shape.{Shape}
 use Rattle.fvn_rewrite_laws.specs.Shapes.{is_root_of, sorts_of, compound, shape_over}
-
--- the identity that axioms give
-pub identity_given : (a : Axioms) (given : Option OpId) → MatchOption given ((e : OpId) → a ≡ AssocCommId e → ⊥) (λ e. a ≡ AssocCommId e) → identity a ≡ given
-identity_given Free None h = refl
-identity_given Comm None h = refl
-identity_given AssocComm None h = refl
-identity_given (AssocCommId e) None h = absurd (h e refl)
-identity_given a (Some e) h = ap identity h
 
 module _ (d : Declarations) (f : OpId) where
   pub over_none : (ss : List Shape) → length ss ≡ 0 → shape_over d f [] ≡ shape_over d f ss

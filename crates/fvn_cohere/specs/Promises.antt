@@ -1,33 +1,22 @@
 -- What is promised of equations.
-use Rattle.std.specs.Prelude.{◌≡◌, ◌≤◌, ◌-◌, ℕ, Bool, true, false, List, map, length, Option, Some, None, slice_get}
+use Rattle.std.specs.Prelude.{◌≡◌, ◌≤◌, ◌-◌, ℕ, Bool, true, false, List, length, Option, Some, None, slice_get}
 use Rattle.fvn_terms.specs.declared.declarations.Declarations.{Declarations}
 use Rattle.fvn_terms.specs.Term.{Term}
-use Rattle.fvn_terms.specs.Plain.{term}
-use Rattle.fvn_terms.specs.Theory.{Equations}
 use Rattle.fvn_terms.specs.Rewriting.{IsSortDecreasing}
 use Rattle.fvn_rewrite_laws.specs.Collapses.{CollapsesToVariable, CollapsesToIdentity}
 use Rattle.fvn_rewrite_laws.specs.Losses.{IsLoss}
-use Rattle.fvn_module.specs.declared.equation.Equation.{Equation}
-use Rattle.fvn_module.specs.Contents.{Contents}
+use Rattle.fvn_theory.specs.declared.equation.Equation.{Equation}
 use Rattle.fvn_cohere.specs.declared.collapsing.Collapse.{Collapse}
 use Rattle.fvn_cohere.specs.declared.collapsing.Collapse.TheVariants.{Variable, Identity}
 
--- the sides of an equation of a module, as terms
-abbrev pub sides_of : Equation → Term × Term
-sides_of e = (term e.left, term e.right)
-
--- the equations of a module, as pairs of terms
-abbrev pub equations_of : List Equation → Equations
-equations_of equations = map sides_of equations
-
--- the module has an equation of this number, from 1
-pub record IsNumberIn (m : Contents) (number : ℕ) : Type 0 where
+-- there is an equation of this number, from 1
+pub record IsNumberIn (equations : List Equation) (number : ℕ) : Type 0 where
   pub from_one : 1 ≤ number
-  pub listed : number ≤ length m.equations
+  pub listed : number ≤ length equations
 
 -- what is said of the equation of this number
-abbrev pub OfEquation : Contents → ℕ → (Equation → Type 0) → Type 0
-OfEquation m number P = (e : Equation) → slice_get m.equations (number - 1) ≡ Some e → P e
+abbrev pub OfEquation : List Equation → ℕ → (Equation → Type 0) → Type 0
+OfEquation equations number P = (e : Equation) → slice_get equations (number - 1) ≡ Some e → P e
 
 module _ (d : Declarations) where
   -- the term collapses to a variable, or else to an identity, or to neither

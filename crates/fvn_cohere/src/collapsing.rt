@@ -1,7 +1,8 @@
 //! Left sides that collapse.
-ghost use Rattle.std.specs.Prelude.{IfOk};
+ghost use Rattle.std.specs.Prelude.{All, IfOk};
 ghost use Rattle.fvn_terms.specs.Plain.{term};
 ghost use Rattle.fvn_terms.specs.Signature.{IsTerm};
+ghost use Rattle.fvn_theory.specs.Equations.{IsReadableEquation};
 ghost use Rattle.fvn_cohere.specs.Promises.{IsNumberIn, OfEquation, CollapsesAs};
 
 use crate::choosing::unchosen;
@@ -10,9 +11,9 @@ use crate::identities::identities;
 use crate::searching::{Search, Sought};
 use crate::shapes::Chosen;
 use crate::variables::distinct_variables;
-use fvn_module::Module;
 use fvn_signature::Signature;
 use fvn_terms::{NoMemory, Plain};
+use fvn_theory::Equation;
 use std::alloc::Global;
 
 /// What a left side collapses to where some, perhaps none, of its variables are identities.
@@ -67,15 +68,16 @@ fn collapses(alloc: Global, sig: &Signature, left: &Plain) -> Result<Option<Coll
 /// can be neither in it; `instances_fit` says whether they are few enough at worst.
 pub fn left_collapses(
     alloc: Global,
-    declared: &Module,
+    sig: &Signature,
+    equations: &[Equation],
     number: usize,
 ) -> Result<Option<Collapse>, NoMemory>
-    requires { IsNumberIn declared.now number }
+    requires number { IsNumberIn equations.now number }
+    requires readable { All (IsReadableEquation sig.now) equations.now }
     ensures { IfOk result (λ c.
-        OfEquation declared.now number (λ e. CollapsesAs declared.now.signature (term e.left) c)) }
+        OfEquation equations.now number (λ e. CollapsesAs sig.now (term e.left) c)) }
 {
-    let sig = declared.signature();
-    let e = equation_at(declared, number);
+    let e = equation_at(equations, number);
     let collapse = collapses(alloc, sig, &e.left)?;
     Ok(collapse)
 }

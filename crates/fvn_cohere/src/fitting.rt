@@ -11,9 +11,9 @@ use crate::equations::equation_at;
 use crate::identities::{identities, identities_below, sorts_below};
 use crate::variables::distinct_variables;
 use fvn_base::limits::{IDENTITY_INSTANCES, SORT_INSTANCES};
-use fvn_module::Module;
 use fvn_signature::Signature;
 use fvn_terms::{NoMemory, OpId, Plain, SortId};
+use fvn_theory::Equation;
 use std::alloc::Global;
 
 // How many identities and how many sorts stand at or below a sort.
@@ -72,14 +72,18 @@ fn fits(alloc: Global, sig: &Signature, left: &Plain) -> Result<bool, NoMemory>
 /// identities, and at most 16,777,216 by sorts and identities.
 ///
 /// It takes both products of the choices of its variables in one pass.
-pub fn instances_fit(alloc: Global, declared: &Module, number: usize) -> Result<bool, NoMemory>
-    requires { IsNumberIn declared.now number }
+pub fn instances_fit(
+    alloc: Global,
+    sig: &Signature,
+    equations: &[Equation],
+    number: usize,
+) -> Result<bool, NoMemory>
+    requires { IsNumberIn equations.now number }
     ensures { IfOk result (λ fit.
-        OfEquation declared.now number (λ e.
-        IsTrue fit ↔ InstancesFit declared.now.signature (term e.left))) }
+        OfEquation equations.now number (λ e.
+        IsTrue fit ↔ InstancesFit sig.now (term e.left))) }
 {
-    let sig = declared.signature();
-    let e = equation_at(declared, number);
+    let e = equation_at(equations, number);
     let fit = fits(alloc, sig, &e.left)?;
     Ok(fit)
 }

@@ -1,7 +1,6 @@
 //! The identities of a signature, and the sorts and identities at or below a sort.
 ghost use Rattle.std.specs.Prelude.{◌≡◌, [], filter, nat_lt, Some, IfOk};
 ghost use Rattle.fvn_terms.specs.declared.plain.OpId.{OpId};
-ghost use Rattle.fvn_terms.specs.Equality.{identity};
 ghost use Rattle.fvn_forms.specs.SortOrder.{at_or_below};
 ghost use Rattle.fvn_forms.specs.Ranks.{result as least_result};
 ghost use Rattle.fvn_rewrite_laws.specs.Identities.{is_listed_op, with_operator, identities};
@@ -9,7 +8,7 @@ ghost use Rattle.fvn_signature.specs.Collected.{first_sorts};
 ghost use Rattle.fvn_rewrite_laws.specs.Choices.{sorts_below};
 
 use fvn_signature::Signature;
-use fvn_terms::{Axioms, NoMemory, OpId, SortId};
+use fvn_terms::{NoMemory, OpId, SortId};
 use std::alloc::Global;
 
 // Whether a sort is another one or below it.
@@ -17,18 +16,6 @@ pub(crate) fn is_at_or_below(sig: &Signature, s: SortId, q: SortId) -> bool
     ensures { result ≡ at_or_below sig.now s q }
 {
     sig.leq(s, q)
-}
-
-// The identity of an operator with these axioms.
-pub(crate) fn identity_in(axioms: Axioms) -> Option<OpId>
-    ensures { result ≡ identity axioms }
-{
-    match axioms {
-        Axioms::Free => None,
-        Axioms::Comm => None,
-        Axioms::AssocComm => None,
-        Axioms::AssocCommId(e) => Some(e),
-    }
 }
 
 // Whether the operator is listed.
@@ -74,7 +61,7 @@ pub fn identities(alloc: Global, sig: &Signature) -> Result<Vec<OpId>, NoMemory>
 {
     let mut all = Vec::new(alloc);
     for op in sig.declarations().ops.as_slice() {
-        all = with_operator(all, identity_in(op.axioms))?;
+        all = with_operator(all, op.axioms.identity())?;
     }
     Ok(all)
 }

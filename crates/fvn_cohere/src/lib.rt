@@ -1,4 +1,4 @@
-//! Which equations of a module lose a sort, and what their left sides collapse to.
+//! Which equations lose a sort, and what their left sides collapse to.
 #![tactic(auto)]
 
 mod choosing;
@@ -7,6 +7,7 @@ mod equations;
 mod faults;
 mod fitting;
 mod identities;
+mod laws;
 mod losing;
 mod outlooks;
 mod searching;
@@ -17,5 +18,6 @@ pub use collapsing::{Collapse, left_collapses};
 pub use faults::{LeftFault, first_left_fault};
 pub use fitting::instances_fit;
 pub use identities::{identities as all_identities, identities_below};
+pub use laws::harmless_equations_are_admissible;
 pub use losing::sort_loss;
 pub use variables::distinct_variables;

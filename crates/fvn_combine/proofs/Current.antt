@@ -22,7 +22,7 @@ use Rattle.fvn_combine_candidates.specs.Turning.{AreWheels}
 use Rattle.fvn_combine_candidates.specs.declared.sharing.SharedClass.{SharedClass}
 use Rattle.fvn_combine_triangular.specs.Ready.{AreListed}
 use Rattle.fvn_combine.specs.Tasks.{Combining, IsCombining}
-use Rattle.fvn_combine.specs.Frames.{IsTurning, IsCoveredBy, IsCoveredUnder}
+use Rattle.fvn_combine.specs.Leaves.{IsTurning, IsCoveredBy, IsCoveredUnder}
 use Rattle.fvn_combine.specs.declared.opened.Turning.{Turning}
 use Rattle.fvn_combine.proofs.Room.{room}
 

@@ -1,4 +1,4 @@
--- What is left to do falls: how many choices a frame has, and what each step leaves.
+-- What is left to do falls: how many choices a leaf has, and what each step leaves.
 use Rattle.std.proofs.Common.{◌≡◌, ℕ, zero, suc, ◌+◌, ◌*◌, ◌^◌, ◌<◌, ◌≤◌, List, [], ◌∷◌, length, map, get_or, sym, ap, ◌∙◌, subst, inl, inr, arith, All, Contains, Option}
 use Rattle.std.proofs.Math.Nat.{one-le-pow, pow-le-pow_right, mul-le-mul_right, mul_comm, add-mul}
 use Rattle.std.proofs.lemmas.Nat.{mul-le, pow_pos}
@@ -26,7 +26,7 @@ use Rattle.fvn_combine_candidates.specs.Turning.{AreWheels}
 use Rattle.fvn_combine_candidates.specs.declared.sharing.SharedClass.{SharedClass}
 use Rattle.fvn_combine.specs.Tasks.{Combining}
 use Rattle.fvn_combine.specs.Work.{most_tags, most_numbers, left_at, left_by}
-use Rattle.fvn_combine.specs.declared.opened.Frame.{Frame}
+use Rattle.fvn_combine.specs.declared.opened.Leaf.{Leaf}
 
 -- at most n numbers, none above b, have a product of at most b ^ n
 product-le : {X : Type 0} (f : X → ℕ) (b n : ℕ) (xs : List X) → 0 < b → All (λ x. f x ≤ b) xs → length xs ≤ n → product (map f xs) ≤ b ^ n
@@ -79,7 +79,7 @@ module _ (k : Combining) (few : SumOperatorsAreFew) (s : State) (r : Reading) (r
           let each = All-contains (λ (a : SharedClass). a.class < length k.table.nodes) shared c.0 (λ i d l. (are.each i d l).within) c.1.0 in
           subst (λ y. y < length k.table.nodes) c.1.1 each
 
-  -- a frame has few tags
+  -- a leaf has few tags
   pub few_tags : (shared : List SharedClass) → AreSharedClasses k.declarations k.table (class_of s) shared → All (λ c. length c.users ≤ length r.sums) shared → product (tag_counts shared) ≤ most_tags k
   unfolding most_tags
   few_tags shared are users = product-le (λ (c : SharedClass). length c.users + 1) (length k.table.subterms + 1) (length k.table.nodes) shared (omega arith)
@@ -101,13 +101,13 @@ module _ (k : Combining) (few : SumOperatorsAreFew) (s : State) (r : Reading) (r
         | inr n ↦ let m = asked.as_many in let o = n.0 in absurd (omega (arith, l, m, o))
       ]
 
--- a tree that falls makes room for a frame
-pub left_falls : (k : Combining) (before after : List State) (frame opened : Option Frame) → weight after < weight before → left_at k opened ≤ most_tags k * most_numbers k → left_by k after opened ≤ left_by k before frame
-left_falls k before after frame opened falls few = falls-le (most_tags k * most_numbers k) (weight before) (weight after) (left_at k opened) (left_at k frame) falls few
+-- a tree that falls makes room for a leaf
+pub left_falls : (k : Combining) (before after : List State) (leaf opened : Option Leaf) → weight after < weight before → left_at k opened ≤ most_tags k * most_numbers k → left_by k after opened ≤ left_by k before leaf
+left_falls k before after leaf opened falls few = falls-le (most_tags k * most_numbers k) (weight before) (weight after) (left_at k opened) (left_at k leaf) falls few
 
--- a frame that falls leaves less beside the states
-pub frame_falls : (k : Combining) (states : List State) (before after : Option Frame) → left_at k after < left_at k before → left_by k states after < left_by k states before
-frame_falls k states before after l = beside-lt (weight states * (most_tags k * most_numbers k)) (left_at k after) (left_at k before) l
+-- a leaf that falls leaves less beside the states
+pub leaf_falls : (k : Combining) (states : List State) (before after : Option Leaf) → left_at k after < left_at k before → left_by k states after < left_by k states before
+leaf_falls k states before after l = beside-lt (weight states * (most_tags k * most_numbers k)) (left_at k after) (left_at k before) l
 
-pub frame_stays : (k : Combining) (states : List State) (before after : Option Frame) → left_at k after ≤ left_at k before → left_by k states after ≤ left_by k states before
-frame_stays k states before after l = beside-le (weight states * (most_tags k * most_numbers k)) (left_at k after) (left_at k before) l
+pub leaf_stays : (k : Combining) (states : List State) (before after : Option Leaf) → left_at k after ≤ left_at k before → left_by k states after ≤ left_by k states before
+leaf_stays k states before after l = beside-le (weight states * (most_tags k * most_numbers k)) (left_at k after) (left_at k before) l

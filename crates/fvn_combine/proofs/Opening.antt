@@ -1,4 +1,4 @@
--- A frame that is opened: all that its state admits is covered by a choice that is to come.
+-- A leaf that is opened: all that its state admits is covered by a choice that is to come.
 use Rattle.std.proofs.Common.{◌≡◌, ℕ, ◌<◌, ◌≤◌, List, length, sym, subst, inr, arith, All, None}
 use Rattle.std.specs.List.{AllZip}
 use Rattle.fvn_terms.specs.Substitution.{Substitution}
@@ -7,7 +7,7 @@ use Rattle.fvn_lindio.specs.declared.system.Solution.{Solution}
 use Rattle.fvn_combine_nodes.specs.States.{class_of}
 use Rattle.fvn_combine_nodes.specs.declared.state.State.{State}
 use Rattle.fvn_combine_systems.specs.Laws.{TablesAreSmall}
-use Rattle.fvn_combine_leaves.specs.Frames.{IsFrame}
+use Rattle.fvn_combine_leaves.specs.Leaves.{IsLeaf}
 use Rattle.fvn_combine_leaves.specs.Readings.{IsReading}
 use Rattle.fvn_combine_leaves.specs.declared.reading.Reading.{Reading}
 use Rattle.fvn_acunify_product.specs.Tags.{Tagging, IsOption, PendingTags}
@@ -15,7 +15,7 @@ use Rattle.fvn_combine_choices.specs.Choosing.{Choice}
 use Rattle.fvn_combine_choices.specs.Plans.{AreOfOneKind}
 use Rattle.fvn_combine_admissible.specs.Listed.{systems_of}
 use Rattle.fvn_combine_complete.specs.CoveringChoices.{IsCovering}
-use Rattle.fvn_combine_complete.specs.Laws.{FramesCover, ReadingsTell}
+use Rattle.fvn_combine_complete.specs.Laws.{LeavesCover, ReadingsTell}
 use Rattle.fvn_combine_leaves.specs.Bases.{AreBases}
 use Rattle.fvn_combine_candidates.specs.Laws.{BasesMakeSystems, CoveringChoicesAreListed}
 use Rattle.fvn_combine_candidates.specs.Sharing.{AreSharedClasses}
@@ -23,7 +23,7 @@ use Rattle.fvn_combine_candidates.specs.Tags.{tag_counts}
 use Rattle.fvn_combine_candidates.specs.declared.sharing.SharedClass.{SharedClass}
 use Rattle.fvn_combine_triangular.specs.Ready.{IsReady}
 use Rattle.fvn_combine.specs.Tasks.{Combining, IsCombining}
-use Rattle.fvn_combine.specs.Frames.{IsOpened, IsCoveredToCome}
+use Rattle.fvn_combine.specs.Leaves.{IsOpened, IsCoveredToCome}
 use Rattle.fvn_combine.specs.declared.opened.Opened.{Opened}
 use Rattle.fvn_combine.specs.inner.Found.{IsAdmittedBy}
 use Rattle.fvn_combine.proofs.Room.{room}
@@ -36,24 +36,24 @@ module _ (k : Combining) (is : IsCombining k) (s : State) where
       let b = room k is small s r reading in
       omega (arith, a, b)
 
-  -- what is asked of a state that is a frame of one kind each
-  pub is_ready : IsFrame k.declarations k.table s → AreOfOneKind k.declarations k.table (class_of s) → IsReady k.declarations k.given k.first k.table s
-  is_ready frame kinds = record {
+  -- what is asked of a state that is a leaf of one kind each
+  pub is_ready : IsLeaf k.declarations k.table s → AreOfOneKind k.declarations k.table (class_of s) → IsReady k.declarations k.given k.first k.table s
+  is_ready leaf kinds = record {
     is_given = is.is_given;
     table = is.table_of;
-    closed = frame.closed;
-    partition = frame.partition;
+    closed = leaf.closed;
+    partition = leaf.partition;
     kinds = kinds;
   }
 
   module _ (r : Reading) (bases : List (List Solution)) (shared : List SharedClass) (tags : Tagging) (ready : IsReady k.declarations k.given k.first k.table s) (reading : IsReading k.declarations k.table (class_of s) r) (are_shared : AreSharedClasses k.declarations k.table (class_of s) shared) where
-    abbrev opened_frame : Opened
-    opened_frame = record { reading = r; bases = bases; shared = shared; tags = tags; turning = None }
+    abbrev opened_leaf : Opened
+    opened_leaf = record { reading = r; bases = bases; shared = shared; tags = tags; turning = None }
 
-    pub is_opened : IsFrame k.declarations k.table s → AreBases r.sums bases → tags.counts ≡ tag_counts shared → IsOpened k s opened_frame
-    is_opened frame are counts = record {
+    pub is_opened : IsLeaf k.declarations k.table s → AreBases r.sums bases → tags.counts ≡ tag_counts shared → IsOpened k s opened_leaf
+    is_opened leaf are counts = record {
       ready = ready;
-      frame = frame;
+      leaf = leaf;
       reading = reading;
       bases = are;
       shared = are_shared;
@@ -61,7 +61,7 @@ module _ (k : Combining) (is : IsCombining k) (s : State) where
       turning = λ v e. cc;
     }
 
-    pub all_to_come : CoveringChoicesAreListed → tags.counts ≡ tag_counts shared → ((options : List ℕ) → AllZip IsOption tags.counts options → PendingTags tags options) → (u : Substitution) (c : Choice) → IsCovering k.declarations (problem_of k.given) k.table s (systems_of r bases) u c → IsCoveredToCome k s opened_frame u
+    pub all_to_come : CoveringChoicesAreListed → tags.counts ≡ tag_counts shared → ((options : List ℕ) → AllZip IsOption tags.counts options → PendingTags tags options) → (u : Substitution) (c : Choice) → IsCovering k.declarations (problem_of k.given) k.table s (systems_of r bases) u c → IsCoveredToCome k s opened_leaf u
     all_to_come law counts pending u c covering =
         let l = law k.declarations (problem_of k.given) k.table is.well_made s ready.closed r reading shared are_shared (systems_of r bases) u c covering in
         inr (record {
@@ -73,9 +73,9 @@ module _ (k : Combining) (is : IsCombining k) (s : State) where
         })
 
   -- each unifier that the state admits is covered by a choice that is to come
-  pub covers_admitted : FramesCover → ReadingsTell → BasesMakeSystems → (o : Opened) → IsOpened k s o → ((u : Substitution) (c : Choice) → IsCovering k.declarations (problem_of k.given) k.table s (systems_of o.reading o.bases) u c → IsCoveredToCome k s o u) → (u : Substitution) → IsAdmittedBy k s u → IsCoveredToCome k s o u
+  pub covers_admitted : LeavesCover → ReadingsTell → BasesMakeSystems → (o : Opened) → IsOpened k s o → ((u : Substitution) (c : Choice) → IsCovering k.declarations (problem_of k.given) k.table s (systems_of o.reading o.bases) u c → IsCoveredToCome k s o u) → (u : Substitution) → IsAdmittedBy k s u → IsCoveredToCome k s o u
   covers_admitted cover tell make o opened all u h =
-      let told = tell k.declarations k.table s opened.frame.closed o.reading opened.reading in
+      let told = tell k.declarations k.table s opened.leaf.closed o.reading opened.reading in
       let systems = make k.declarations k.table (class_of s) o.reading opened.reading o.bases opened.bases in
-      let c = cover k.declarations is.good (problem_of k.given) is.is_given.kinds k.table is.well_made is.table_of s opened.frame told (systems_of o.reading o.bases) systems u h.0 h.1 in
+      let c = cover k.declarations is.good (problem_of k.given) is.is_given.kinds k.table is.well_made is.table_of s opened.leaf told (systems_of o.reading o.bases) systems u h.0 h.1 in
       all u c.0 c.1

@@ -13,11 +13,11 @@ use Rattle.fvn_combine_nodes.specs.Trees.{AreClosed, IsAsked, weight}
 use Rattle.fvn_combine_nodes.specs.Unifiers.{kernel}
 use Rattle.fvn_combine_nodes.specs.declared.state.State.{State}
 use Rattle.fvn_combine.specs.Tasks.{Combining, IsCombining}
-use Rattle.fvn_combine.specs.Frames.{IsOpened, IsCoveredToCome}
+use Rattle.fvn_combine.specs.Leaves.{IsOpened, IsCoveredToCome}
 use Rattle.fvn_combine.specs.Search.{IsAdmitted, IsCoveredAt, IsOpenedAt}
 use Rattle.fvn_combine.specs.declared.opened.Opened.{Opened}
 use Rattle.fvn_combine.specs.declared.looking.Looked.{Looked}
-use Rattle.fvn_combine.specs.declared.looking.Looked.TheVariants.{Passed, Framed}
+use Rattle.fvn_combine.specs.declared.looking.Looked.TheVariants.{Passed, Leaf}
 use Rattle.fvn_combine.specs.inner.Found.{IsLookedAtLast, IsAdmittedBy}
 
 -- lists with a last one are equal in both parts
@@ -117,19 +117,19 @@ after_passing k before after l e u unifies = (
   ],
 )
 
-module _ (k : Combining) (before after : List State) (o : Opened) (l : IsLookedAtLast k before (Framed o)) (s : State) (e : before ≡ after ++ s ∷ []) where
+module _ (k : Combining) (before after : List State) (o : Opened) (l : IsLookedAtLast k before (Leaf o)) (s : State) (e : before ≡ after ++ s ∷ []) where
   same : l.last ≡ s
-  same = sym (is_last k before after (Framed o) l s e)
+  same = sym (is_last k before after (Leaf o) l s e)
 
-  pub frame_opened : IsOpenedAt k (Some (record { state = s; opened = o }))
-  frame_opened = subst (λ x. IsOpened k x o) same l.looked.0
+  pub leaf_opened : IsOpenedAt k (Some (record { state = s; opened = o }))
+  leaf_opened = subst (λ x. IsOpened k x o) same l.looked.0
 
-  -- the last state is a frame, which is opened
+  -- the last state is a leaf, which is opened
   pub after_opening : (u : Substitution) → IsKindUnifier k.declarations (problem_of k.given) u → IsAdmitted k before u ↔ (IsAdmitted k after u ⊎ IsCoveredAt k (Some (record { state = s; opened = o })) u)
   after_opening u unifies = (
     λ h. elim (admitted_cases k u after (s ∷ []) (subst (λ x. IsAdmitted k x u) e h)) [
       | inl b ↦ inl b
-      | inr t ↦ inr (at_frame (admitted_one k u s t))
+      | inr t ↦ inr (at_leaf (admitted_one k u s t))
     ],
     λ h. elim h [
       | inl b ↦ subst (λ x. IsAdmitted k x u) (sym e) (admitted_left k u after (s ∷ []) b)
@@ -137,5 +137,5 @@ module _ (k : Combining) (before after : List State) (o : Opened) (l : IsLookedA
     ],
   )
     where
-      at_frame : Admits s (kernel k.declarations u k.table.nodes) → Admits s (kernel k.declarations u k.table.nodes) × IsCoveredToCome k s o u
-      at_frame a = (a, subst (λ x. IsAdmittedBy k x u → IsCoveredToCome k x o u) same (l.looked.1 u) (unifies, a))
+      at_leaf : Admits s (kernel k.declarations u k.table.nodes) → Admits s (kernel k.declarations u k.table.nodes) × IsCoveredToCome k s o u
+      at_leaf a = (a, subst (λ x. IsAdmittedBy k x u → IsCoveredToCome k x o u) same (l.looked.1 u) (unifies, a))

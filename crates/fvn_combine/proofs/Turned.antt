@@ -18,7 +18,7 @@ use Rattle.fvn_combine_candidates.specs.Laws.{ListedChoicesArePossible}
 use Rattle.fvn_combine_candidates.specs.Tags.{AreTags}
 use Rattle.fvn_combine_candidates.specs.Turning.{AreWheels}
 use Rattle.fvn_combine.specs.Tasks.{Combining, IsCombining}
-use Rattle.fvn_combine.specs.Frames.{IsTurning, IsCoveredLater, IsCoveredToCome, IsOpened}
+use Rattle.fvn_combine.specs.Leaves.{IsTurning, IsCoveredLater, IsCoveredToCome, IsOpened}
 use Rattle.fvn_combine.specs.declared.opened.Turning.{Turning}
 use Rattle.fvn_combine.specs.declared.opened.Opened.{Opened}
 use Rattle.fvn_combine.specs.Work.{most_numbers, numbers_left}
@@ -29,16 +29,16 @@ module _ (k : Combining) (is : IsCombining k) (possible : ListedChoicesArePossib
   abbrev current : Turning
   current = record { tags = tags; wheels = wheels }
 
-  abbrev turned_frame : Opened
-  turned_frame = record { reading = o.reading; bases = o.bases; shared = o.shared; tags = after; turning = Some current }
+  abbrev turned_leaf : Opened
+  turned_leaf = record { reading = o.reading; bases = o.bases; shared = o.shared; tags = after; turning = Some current }
 
   is_turning : IsTurning k s o.reading o.bases o.shared current
   is_turning = record { options = options; are_tags = are; are_wheels = asked }
 
-  still_opened : IsOpened k s turned_frame
+  still_opened : IsOpened k s turned_leaf
   still_opened = record {
     ready = opened.ready;
-    frame = opened.frame;
+    leaf = opened.leaf;
     reading = opened.reading;
     bases = opened.bases;
     shared = opened.shared;
@@ -50,7 +50,7 @@ module _ (k : Combining) (is : IsCombining k) (possible : ListedChoicesArePossib
   same_choice : (others : List (Option OpId)) (numbers : List ℕ) → AreTags o.shared options others → choice_of o.reading others numbers ≡ choice_of o.reading tags numbers
   same_choice others numbers h = λ i. record { tag = λ x. (h x ∙ sym (are x)) i; number = (choice_of o.reading tags numbers).number }
 
-  to_come : (u : Substitution) → IsCoveredLater k s o u → IsCoveredToCome k s turned_frame u
+  to_come : (u : Substitution) → IsCoveredLater k s o u → IsCoveredToCome k s turned_leaf u
   to_come u h = elim ((taken h.options).0 h.pending) [
     | inl e ↦
         let covered = h.covered tags (subst (λ n. AreTags o.shared n tags) (Some-injective (sym now ∙ e)) are) in
@@ -65,7 +65,7 @@ module _ (k : Combining) (is : IsCombining k) (possible : ListedChoicesArePossib
     })
   ]
 
-  was_to_come : (u : Substitution) → IsCoveredToCome k s turned_frame u → IsCoveredLater k s o u
+  was_to_come : (u : Substitution) → IsCoveredToCome k s turned_leaf u → IsCoveredLater k s o u
   was_to_come u (inl h) = record {
     options = options;
     pending = (taken options).1 (inl now);
@@ -81,5 +81,5 @@ module _ (k : Combining) (is : IsCombining k) (possible : ListedChoicesArePossib
     covered = h.covered;
   }
 
-  pub turned : IsTurned k s o turned_frame true
+  pub turned : IsTurned k s o turned_leaf true
   turned = (still_opened, falls, to_come, was_to_come, falls-le (most_numbers k) (tags_left o.tags) (tags_left after) (choices_left wheels) (numbers_left o.turning) falls no_more)

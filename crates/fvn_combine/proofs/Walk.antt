@@ -1,4 +1,4 @@
--- What is to come at a frame when the numbers under the current tags are gone through.
+-- What is to come at a leaf when the numbers under the current tags are gone through.
 use Rattle.std.proofs.Common.{sym, subst, inl, inr, Option}
 use Rattle.std.specs.Prelude.{◌⊎◌}
 use Rattle.fvn_terms.specs.Substitution.{Substitution}
@@ -6,7 +6,7 @@ use Rattle.fvn_combine_nodes.specs.declared.state.State.{State}
 use Rattle.fvn_combine_drawing.specs.declared.drawing.Drawn.{Drawn}
 use Rattle.fvn_combine_drawing.specs.declared.drawing.Drawn.TheVariants.{Nothing, TooLarge, Unifier}
 use Rattle.fvn_combine.specs.Tasks.{Combining}
-use Rattle.fvn_combine.specs.Frames.{IsCoveredNow, IsCoveredLater, IsCoveredToCome}
+use Rattle.fvn_combine.specs.Leaves.{IsCoveredNow, IsCoveredLater, IsCoveredToCome}
 use Rattle.fvn_combine.specs.declared.opened.Turning.{Turning}
 use Rattle.fvn_combine.specs.declared.opened.Opened.{Opened}
 use Rattle.fvn_combine.specs.inner.Found.{IsDrawnFrom, IsSameButCurrent}

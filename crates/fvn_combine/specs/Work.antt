@@ -9,9 +9,9 @@ use Rattle.fvn_combine.specs.Tasks.{Combining}
 use Rattle.fvn_combine.specs.Search.{Search}
 use Rattle.fvn_combine.specs.declared.opened.Turning.{Turning}
 use Rattle.fvn_combine.specs.declared.opened.Opened.{Opened}
-use Rattle.fvn_combine.specs.declared.opened.Frame.{Frame}
+use Rattle.fvn_combine.specs.declared.opened.Leaf.{Leaf}
 
--- the most lists of tags at a frame: a node has none, or one of the operators that head a subterm
+-- the most lists of tags at a leaf: a node has none, or one of the operators that head a subterm
 unfoldable pub most_tags : Combining → ℕ
 most_tags k = (length k.table.subterms + 1) ^ length k.table.nodes
 
@@ -24,19 +24,19 @@ abbrev pub numbers_left : Option Turning → ℕ
 numbers_left None = 0
 numbers_left (Some v) = choices_left v.wheels
 
--- how many choices of an open frame are left, at most
-abbrev pub frame_left : Combining → Opened → ℕ
-frame_left k o = tags_left o.tags * most_numbers k + numbers_left o.turning
+-- how many choices of an open leaf are left, at most
+abbrev pub leaf_left : Combining → Opened → ℕ
+leaf_left k o = tags_left o.tags * most_numbers k + numbers_left o.turning
 
--- how many choices of the open frame are left, at most; none where no frame is open
-abbrev pub left_at : Combining → Option Frame → ℕ
+-- how many choices of the open leaf are left, at most; none where no leaf is open
+abbrev pub left_at : Combining → Option Leaf → ℕ
 left_at k None = 0
-left_at k (Some w) = frame_left k w.opened
+left_at k (Some w) = leaf_left k w.opened
 
--- what these states and this frame leave to do
-abbrev pub left_by : Combining → List State → Option Frame → ℕ
-left_by k states frame = weight states * (most_tags k * most_numbers k) + left_at k frame
+-- what these states and this leaf leave to do
+abbrev pub left_by : Combining → List State → Option Leaf → ℕ
+left_by k states leaf = weight states * (most_tags k * most_numbers k) + left_at k leaf
 
 -- by this falls a search that gives a unifier
 abbrev pub work_left : Search → ℕ
-work_left m = left_by m.combining m.states m.frame
+work_left m = left_by m.combining m.states m.leaf

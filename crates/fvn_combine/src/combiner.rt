@@ -11,7 +11,7 @@ ghost use Rattle.fvn_combine.specs.inner.Parts.{search_by, search_of};
 ghost use Rattle.fvn_combine.specs.declared.ending.Ended.{Ended as Cause};
 
 use crate::ending::{CombineEnd, Ended, told};
-use crate::opened::Frame;
+use crate::opened::Leaf;
 use crate::stepping::{Found, next_unifier};
 use crate::task::Task;
 use fvn_combine_nodes::{Tree, unifiers_partition};
@@ -21,12 +21,12 @@ use fvn_terms::NoMemory;
 use std::alloc::Global;
 use std::marker::Model;
 
-/// A search: what is asked, the decision tree, the frame that is open, and why it has ended.
+/// A search: what is asked, the decision tree, the leaf that is open, and why it has ended.
 #[derive(Drop)]
 pub(crate) struct Parts<'a> {
     task: Task<'a>,
     tree: Tree,
-    frame: Option<Frame>,
+    leaf: Option<Leaf>,
     ended: Option<Ended>,
 }
 
@@ -59,19 +59,19 @@ impl<'a> Model for Combiner<'a> {
 fn next_of_parts(
     task: &Task,
     tree: &mut Tree,
-    frame: &mut Option<Frame>,
+    leaf: &mut Option<Leaf>,
     ended: &mut Option<Ended>,
 ) -> Result<Option<Subst>, CombineEnd>
-    requires search { IsSearch (search_by task.now tree.old frame.old ended.old) }
+    requires search { IsSearch (search_by task.now tree.old leaf.old ended.old) }
     requires running { ended.old ≡ None }
-    ensures search { IsSearch (search_by task.now tree.new frame.new ended.new) }
-    ensures advanced { IsAdvanced (search_by task.now tree.old frame.old ended.old)
-        (search_by task.now tree.new frame.new ended.new) result }
+    ensures search { IsSearch (search_by task.now tree.new leaf.new ended.new) }
+    ensures advanced { IsAdvanced (search_by task.now tree.old leaf.old ended.old)
+        (search_by task.now tree.new leaf.new ended.new) result }
     ensures falls { IfOk result (λ o. IfSome o (λ g.
-        work_left (search_by task.now tree.new frame.new ended.new)
-        < work_left (search_by task.now tree.old frame.old ended.old))) }
+        work_left (search_by task.now tree.new leaf.new ended.new)
+        < work_left (search_by task.now tree.old leaf.old ended.old))) }
 {
-    match next_unifier(task, tree, frame)? {
+    match next_unifier(task, tree, leaf)? {
         Found::Nothing => Ok(None),
         Found::Ends(cause) => {
             let end = told(task.alloc, &cause)?;
@@ -95,7 +95,7 @@ fn next_of(parts: &mut Parts) -> Result<Option<Subst>, CombineEnd>
     next_of_parts(
         &parts.task,
         &mut parts.tree,
-        &mut parts.frame,
+        &mut parts.leaf,
         &mut parts.ended,
     )
 }
@@ -126,7 +126,7 @@ impl<'a> Combiner<'a> {
             parts: Parts {
                 task,
                 tree,
-                frame: None,
+                leaf: None,
                 ended: None,
             },
         })

@@ -3,7 +3,7 @@ ghost use Rattle.std.specs.Prelude.{IfOk};
 ghost use Rattle.fvn_combine_nodes.specs.Trees.{AreClosed};
 ghost use Rattle.fvn_combine_nodes.specs.States.{class_of};
 ghost use Rattle.fvn_combine_leaves.specs.Bases.{AreBases};
-ghost use Rattle.fvn_combine_leaves.specs.Frames.{IsNearFrame, IsFrame};
+ghost use Rattle.fvn_combine_leaves.specs.Leaves.{IsNearLeaf, IsLeaf};
 ghost use Rattle.fvn_combine_leaves.specs.Readings.{IsReading};
 ghost use Rattle.fvn_combine_choices.specs.Plans.{AreOfOneKind};
 ghost use Rattle.fvn_combine.specs.inner.Found.{IsLooked, IsLookedAt};
@@ -14,7 +14,7 @@ use crate::task::Task;
 use fvn_base::Seq;
 use fvn_combine_candidates::{OpenFault, bases, bases_make_systems, refusals_are_causes};
 use fvn_combine_choices::classes_have_one_kind;
-use fvn_combine_complete::{frames_cover, readings_tell};
+use fvn_combine_complete::{leaves_cover, readings_tell};
 use fvn_combine_leaves::{Reading, first_question, question_on_all, question_on_touched, read};
 use fvn_combine_nodes::{State, Tree};
 use fvn_combine_systems::{tables_are_small, tables_hold_arguments};
@@ -33,17 +33,17 @@ pub(crate) enum Looked {
     /// To end: the sum system of an operator is refused.
     Refused(OpId, System),
     /// To go through its choices.
-    Framed(Opened),
+    Leaf(Opened),
 }
 
 // What is asked for by a state in which no question is open: its choices are to be gone through.
-fn look_at_frame(
+fn look_at_leaf(
     task: &Task,
     state: &State,
     reading: Reading,
     bases: Vec<Seq<Solution>>,
 ) -> Result<Looked, NoMemory>
-    requires frame { IsFrame task.now.declarations task.now.table state.now }
+    requires leaf { IsLeaf task.now.declarations task.now.table state.now }
     requires kinds { AreOfOneKind task.now.declarations task.now.table (class_of state.now) }
     requires reading { IsReading task.now.declarations task.now.table (class_of state.now) reading }
     requires bases { AreBases reading.sums bases.items }
@@ -51,15 +51,15 @@ fn look_at_frame(
 {
     task.recall();
     bases_make_systems();
-    frames_cover();
+    leaves_cover();
     readings_tell();
-    let frame = open(task, state, reading, bases)?;
-    Ok(Looked::Framed(frame))
+    let leaf = open(task, state, reading, bases)?;
+    Ok(Looked::Leaf(leaf))
 }
 
-// What is asked for by a state that is nearly a frame.
-fn look_at_near_frame(task: &Task, state: &State, reading: Reading) -> Result<Looked, NoMemory>
-    requires near { IsNearFrame task.now.declarations task.now.table state.now }
+// What is asked for by a state that is nearly a leaf.
+fn look_at_near_leaf(task: &Task, state: &State, reading: Reading) -> Result<Looked, NoMemory>
+    requires near { IsNearLeaf task.now.declarations task.now.table state.now }
     requires reading { IsReading task.now.declarations task.now.table (class_of state.now) reading }
     ensures { IfOk result (IsLookedAt task.now state.now) }
 {
@@ -81,7 +81,7 @@ fn look_at_near_frame(task: &Task, state: &State, reading: Reading) -> Result<Lo
             match question_on_touched(task.sig, &task.table, state, &reading, bases.as_slice()) {
                 Some(pair) => Ok(Looked::Open(pair.0, pair.1)),
                 None => {
-                    let looked = look_at_frame(task, state, reading, bases)?;
+                    let looked = look_at_leaf(task, state, reading, bases)?;
                     Ok(looked)
                 }
             }
@@ -104,7 +104,7 @@ pub(crate) fn look(task: &Task, tree: &Tree) -> Result<Looked, NoMemory>
             match first_question(task.sig, &task.table, state, &reading) {
                 Some((i, j)) => Ok(Looked::Open(i, j)),
                 None => {
-                    let looked = look_at_near_frame(task, state, reading)?;
+                    let looked = look_at_near_leaf(task, state, reading)?;
                     Ok(looked)
                 }
             }

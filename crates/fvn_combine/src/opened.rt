@@ -1,17 +1,17 @@
-//! Frames that are open.
+//! Leaves that are open.
 ghost use Rattle.std.specs.Prelude.{◌*◌, ◌≤◌, IfOk};
 ghost use Rattle.fvn_terms.specs.Substitution.{Substitution};
 ghost use Rattle.fvn_flat.specs.Solving.{problem_of};
 ghost use Rattle.fvn_combine_nodes.specs.States.{class_of};
-ghost use Rattle.fvn_combine_leaves.specs.Frames.{IsFrame};
+ghost use Rattle.fvn_combine_leaves.specs.Leaves.{IsLeaf};
 ghost use Rattle.fvn_combine_leaves.specs.Readings.{IsReading};
 ghost use Rattle.fvn_combine_choices.specs.Choosing.{Choice as InChoice};
 ghost use Rattle.fvn_combine_admissible.specs.Listed.{systems_of};
 ghost use Rattle.fvn_combine_complete.specs.CoveringChoices.{IsCovering};
 ghost use Rattle.fvn_combine_leaves.specs.Bases.{AreBases};
 ghost use Rattle.fvn_combine_triangular.specs.Ready.{IsReady};
-ghost use Rattle.fvn_combine.specs.Frames.{IsOpened, IsCoveredToCome};
-ghost use Rattle.fvn_combine.specs.Work.{most_tags, most_numbers, frame_left};
+ghost use Rattle.fvn_combine.specs.Leaves.{IsOpened, IsCoveredToCome};
+ghost use Rattle.fvn_combine.specs.Work.{most_tags, most_numbers, leaf_left};
 
 use crate::task::Task;
 use fvn_acunify_product::{Tags, Wheels};
@@ -32,7 +32,7 @@ pub(crate) struct Turning {
     pub(crate) wheels: Wheels,
 }
 
-/// What is read of a frame, and its choices that are still to come.
+/// What is read of a leaf, and its choices that are still to come.
 #[derive(Drop)]
 pub(crate) struct Opened {
     pub(crate) reading: Reading,
@@ -42,14 +42,14 @@ pub(crate) struct Opened {
     pub(crate) turning: Option<Turning>,
 }
 
-/// A state that is a frame, with what is read of it.
+/// A state that is a leaf, with what is read of it.
 #[derive(Drop)]
-pub(crate) struct Frame {
+pub(crate) struct Leaf {
     pub(crate) state: State,
     pub(crate) opened: Opened,
 }
 
-// Opens a frame, all of whose choices are to come.
+// Opens a leaf, all of whose choices are to come.
 pub(crate) fn open(
     task: &Task,
     state: &State,
@@ -57,14 +57,14 @@ pub(crate) fn open(
     bases: Vec<Seq<Solution>>,
 ) -> Result<Opened, NoMemory>
     requires ready { IsReady task.now.declarations task.now.given task.now.first task.now.table state.now }
-    requires frame { IsFrame task.now.declarations task.now.table state.now }
+    requires leaf { IsLeaf task.now.declarations task.now.table state.now }
     requires reading { IsReading task.now.declarations task.now.table (class_of state.now) reading }
     requires bases { AreBases reading.sums bases.items }
     ensures opened { IfOk result (IsOpened task.now state.now) }
     ensures all { IfOk result (λ o. (u : Substitution) (c : InChoice)
         → IsCovering task.now.declarations (problem_of task.now.given) task.now.table state.now
         (systems_of o.reading o.bases) u c → IsCoveredToCome task.now state.now o u) }
-    ensures few { IfOk result (λ o. frame_left task.now o ≤ most_tags task.now * most_numbers task.now) }
+    ensures few { IfOk result (λ o. leaf_left task.now o ≤ most_tags task.now * most_numbers task.now) }
 {
     task.recall();
     sum_operators_are_few();

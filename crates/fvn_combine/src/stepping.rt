@@ -7,7 +7,7 @@ ghost use Rattle.fvn_combine.specs.Work.{left_by};
 
 use crate::ending::Ended;
 use crate::looking::{Looked, look};
-use crate::opened::Frame;
+use crate::opened::Leaf;
 use crate::task::Task;
 use crate::walking::next_in;
 use fvn_combine_drawing::Drawn;
@@ -38,11 +38,11 @@ pub(crate) enum Found {
 }
 
 // Looks at the last state: asks its question, passes it over, opens it, or says why the search ends.
-fn take_step(task: &Task, tree: &mut Tree, frame: &mut Option<Frame>) -> Result<Step, NoMemory>
+fn take_step(task: &Task, tree: &mut Tree, leaf: &mut Option<Leaf>) -> Result<Step, NoMemory>
     requires closed { AreClosed task.now.declarations task.now.table tree.old }
     ensures closed { AreClosed task.now.declarations task.now.table tree.new }
-    ensures stepped { IfOk result (IsStep task.now tree.old frame.old tree.new frame.new) }
-    ensures no_memory { OnErr result ((tree.new ≡ tree.old) × (frame.new ≡ frame.old)) }
+    ensures stepped { IfOk result (IsStep task.now tree.old leaf.old tree.new leaf.new) }
+    ensures no_memory { OnErr result ((tree.new ≡ tree.old) × (leaf.new ≡ leaf.old)) }
 {
     task.recall();
     unifiers_partition();
@@ -50,19 +50,19 @@ fn take_step(task: &Task, tree: &mut Tree, frame: &mut Option<Frame>) -> Result<
         Looked::Over => Ok(Step::Over),
         Looked::Open(i, j) => {
             tree.ask(task.alloc, task.sig, &task.table, i, j)?;
-            *frame = None;
+            *leaf = None;
             Ok(Step::More)
         }
         Looked::Passed => {
             let _last = tree.take_top();
-            *frame = None;
+            *leaf = None;
             Ok(Step::More)
         }
         Looked::Refused(f, system) => Ok(Step::End(Ended::Basis(f, system))),
-        Looked::Framed(opened) => match tree.take_top() {
+        Looked::Leaf(opened) => match tree.take_top() {
             None => Ok(Step::Over),
             Some(state) => {
-                *frame = Some(Frame { state, opened });
+                *leaf = Some(Leaf { state, opened });
                 Ok(Step::More)
             }
         },
@@ -73,23 +73,23 @@ fn take_step(task: &Task, tree: &mut Tree, frame: &mut Option<Frame>) -> Result<
 pub(crate) fn next_unifier(
     task: &Task,
     tree: &mut Tree,
-    frame: &mut Option<Frame>,
+    leaf: &mut Option<Leaf>,
 ) -> Result<Found, NoMemory>
     requires closed { AreClosed task.now.declarations task.now.table tree.old }
-    requires opened { IsOpenedAt task.now frame.old }
+    requires opened { IsOpenedAt task.now leaf.old }
     ensures closed { AreClosed task.now.declarations task.now.table tree.new }
-    ensures opened { IsOpenedAt task.now frame.new }
-    ensures found { AreFound task.now tree.old frame.old tree.new frame.new result }
-    ensures falls { IfOk result (IsLessLeft (left_by task.now tree.old frame.old)
-        (left_by task.now tree.new frame.new)) }
+    ensures opened { IsOpenedAt task.now leaf.new }
+    ensures found { AreFound task.now tree.old leaf.old tree.new leaf.new result }
+    ensures falls { IfOk result (IsLessLeft (left_by task.now tree.old leaf.old)
+        (left_by task.now tree.new leaf.new)) }
 {
     'steps: loop {
-        match next_in(task, frame)? {
+        match next_in(task, leaf)? {
             Drawn::Nothing => {}
             Drawn::TooLarge(list) => return Ok(Found::Ends(Ended::Size(list))),
             Drawn::Unifier(g) => return Ok(Found::Given(g)),
         }
-        match take_step(task, tree, frame)? {
+        match take_step(task, tree, leaf)? {
             Step::Over => return Ok(Found::Nothing),
             Step::More => {}
             Step::End(ended) => return Ok(Found::Ends(ended)),

@@ -1,4 +1,4 @@
-//! The choices of an open frame, one after another.
+//! The choices of an open leaf, one after another.
 ghost use Rattle.std.specs.Prelude.{◌≡◌, IfOk, OnErr};
 ghost use Rattle.fvn_terms.specs.Substitution.{Substitution};
 ghost use Rattle.fvn_combine_nodes.specs.States.{class_of};
@@ -6,13 +6,13 @@ ghost use Rattle.fvn_combine_leaves.specs.Readings.{IsReading};
 ghost use Rattle.fvn_combine_leaves.specs.Bases.{AreBases};
 ghost use Rattle.fvn_combine_candidates.specs.Sharing.{AreSharedClasses};
 ghost use Rattle.fvn_combine_triangular.specs.Ready.{IsReady};
-ghost use Rattle.fvn_combine.specs.Frames.{IsTurning, IsOpened, IsCoveredUnder, IsCoveredNow, IsCoveredToCome};
+ghost use Rattle.fvn_combine.specs.Leaves.{IsTurning, IsOpened, IsCoveredUnder, IsCoveredNow, IsCoveredToCome};
 ghost use Rattle.fvn_combine.specs.Search.{IsCoveredAt, IsOpenedAt};
 ghost use Rattle.fvn_combine.specs.inner.Found.{AreDrawnFrom, IsSameButCurrent, IsTurned, LeavesLess};
-ghost use Rattle.fvn_combine.specs.Work.{frame_left, left_at};
+ghost use Rattle.fvn_combine.specs.Work.{leaf_left, left_at};
 ghost use Rattle.fvn_acunify_product.specs.Wheels.{choices_left};
 
-use crate::opened::{Frame, Opened, Turning};
+use crate::opened::{Leaf, Opened, Turning};
 use crate::task::Task;
 use fvn_base::Seq;
 use fvn_combine_candidates::{
@@ -91,8 +91,8 @@ fn next_of_current(task: &Task, state: &State, opened: &mut Opened) -> Result<Dr
         → IsCoveredNow task.now state.now opened.old u }
     ensures drawn { AreDrawnFrom task.now (IsCoveredNow task.now state.now opened.old)
         (IsCoveredNow task.now state.now opened.new) result }
-    ensures falls { IfOk result (LeavesLess (frame_left task.now opened.old)
-        (frame_left task.now opened.new)) }
+    ensures falls { IfOk result (LeavesLess (leaf_left task.now opened.old)
+        (leaf_left task.now opened.new)) }
 {
     match &mut opened.turning {
         None => Ok(Drawn::Nothing),
@@ -146,16 +146,16 @@ fn turn(task: &Task, state: &State, opened: &mut Opened) -> Result<bool, NoMemor
     Ok(true)
 }
 
-// The next unifier of an open frame.
-fn next_of_frame(task: &Task, state: &State, opened: &mut Opened) -> Result<Drawn, NoMemory>
+// The next unifier of an open leaf.
+fn next_of_leaf(task: &Task, state: &State, opened: &mut Opened) -> Result<Drawn, NoMemory>
     requires opened { IsOpened task.now state.now opened.old }
     ensures opened { IsOpened task.now state.now opened.new }
     ensures fewer { (u : Substitution) → IsCoveredToCome task.now state.now opened.new u
         → IsCoveredToCome task.now state.now opened.old u }
     ensures drawn { AreDrawnFrom task.now (IsCoveredToCome task.now state.now opened.old)
         (IsCoveredToCome task.now state.now opened.new) result }
-    ensures falls { IfOk result (LeavesLess (frame_left task.now opened.old)
-        (frame_left task.now opened.new)) }
+    ensures falls { IfOk result (LeavesLess (leaf_left task.now opened.old)
+        (leaf_left task.now opened.new)) }
 {
     'tags: loop {
         match next_of_current(task, state, opened)? {
@@ -169,20 +169,20 @@ fn next_of_frame(task: &Task, state: &State, opened: &mut Opened) -> Result<Draw
     }
 }
 
-// The next unifier of the frame that is open, if one is.
-pub(crate) fn next_in(task: &Task, frame: &mut Option<Frame>) -> Result<Drawn, NoMemory>
-    requires opened { IsOpenedAt task.now frame.old }
-    ensures opened { IsOpenedAt task.now frame.new }
+// The next unifier of the leaf that is open, if one is.
+pub(crate) fn next_in(task: &Task, leaf: &mut Option<Leaf>) -> Result<Drawn, NoMemory>
+    requires opened { IsOpenedAt task.now leaf.old }
+    ensures opened { IsOpenedAt task.now leaf.new }
     ensures fewer { (u : Substitution)
-        → IsCoveredAt task.now frame.new u → IsCoveredAt task.now frame.old u }
-    ensures drawn { AreDrawnFrom task.now (IsCoveredAt task.now frame.old)
-        (IsCoveredAt task.now frame.new) result }
-    ensures falls { IfOk result (LeavesLess (left_at task.now frame.old) (left_at task.now frame.new)) }
+        → IsCoveredAt task.now leaf.new u → IsCoveredAt task.now leaf.old u }
+    ensures drawn { AreDrawnFrom task.now (IsCoveredAt task.now leaf.old)
+        (IsCoveredAt task.now leaf.new) result }
+    ensures falls { IfOk result (LeavesLess (left_at task.now leaf.old) (left_at task.now leaf.new)) }
 {
-    match frame {
+    match leaf {
         None => Ok(Drawn::Nothing),
         Some(w) => {
-            let drawn = next_of_frame(task, &w.state, &mut w.opened)?;
+            let drawn = next_of_leaf(task, &w.state, &mut w.opened)?;
             Ok(drawn)
         }
     }

@@ -4,7 +4,7 @@ use Rattle.fvn_terms.specs.declared.plain.OpId.{OpId}
 use Rattle.fvn_terms.specs.declared.declarations.Declarations.{Declarations}
 use Rattle.fvn_flat.specs.SolvedLists.{component}
 use Rattle.fvn_combine_nodes.specs.Table.{NodeTable}
-use Rattle.fvn_combine_leaves.specs.Frames.{IsShared}
+use Rattle.fvn_combine_leaves.specs.Leaves.{IsShared}
 use Rattle.fvn_combine_choices.specs.Binding.{IsBound, IsConstant}
 
 -- a shared class that is bound to a sum of f with a constant among its members has two members or more

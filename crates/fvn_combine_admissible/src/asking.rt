@@ -1,7 +1,5 @@
 //! What is asked of the minimal solutions that are taken for a sum operator.
 ghost use Rattle.std.specs.Prelude.{◌↔◌, ◌<◌, length, Contains, IfOk, IsTrue};
-ghost use Rattle.fvn_terms.specs.Signature.{axioms};
-ghost use Rattle.fvn_flat.specs.Partitions.{HasNoIdentity};
 ghost use Rattle.fvn_combine_nodes.specs.States.{IsClosed, class_of};
 ghost use Rattle.fvn_combine_leaves.specs.Readings.{IsReading};
 ghost use Rattle.fvn_combine_leaves.specs.Users.{IsWholeSums, IsWhole};
@@ -17,9 +15,9 @@ ghost use Rattle.fvn_combine_admissible.specs.inner.Reads.{
 use crate::bound::is_bound_in;
 use fvn_base::Seq;
 use fvn_combine_leaves::{Reading, Sums, is_shared};
-use fvn_combine_nodes::{State, Table};
+use fvn_combine_nodes::{State, Table, has_no_identity};
 use fvn_signature::Signature;
-use fvn_terms::{Axioms, NoMemory, OpId};
+use fvn_terms::{NoMemory, OpId};
 use std::alloc::Global;
 
 /// What is asked of the minimal solutions that are taken for a sum operator.
@@ -66,18 +64,6 @@ pub(crate) fn constants_of(
     Ok(constants)
 }
 
-// Whether an operator has no identity.
-fn has_no_identity(sig: &Signature, f: OpId) -> bool
-    ensures { IsTrue result ↔ HasNoIdentity (axioms sig.now f) }
-{
-    match sig.axioms(f) {
-        Axioms::Free => true,
-        Axioms::Comm => true,
-        Axioms::AssocComm => true,
-        Axioms::AssocCommId(_) => false,
-    }
-}
-
 // Whether the sum to which class k is bound has a member.
 fn is_required(
     sig: &Signature,
@@ -95,7 +81,7 @@ fn is_required(
     if !is_bound_in(reading, n, tags, sums, k) {
         return false;
     }
-    if has_no_identity(sig, sums.operator) {
+    if has_no_identity(sig.axioms(sums.operator)) {
         return true;
     }
     is_shared(reading, n, k)

@@ -1,7 +1,7 @@
 //! Which operators use a class, and which classes are shared.
 ghost use Rattle.std.specs.Prelude.{◌↔◌, ◌<◌, length, Contains, IsTrue};
 ghost use Rattle.fvn_combine_nodes.specs.States.{IsClosed, class_of};
-ghost use Rattle.fvn_combine_leaves.specs.Frames.{IsShared, Uses};
+ghost use Rattle.fvn_combine_leaves.specs.Leaves.{IsShared, Uses};
 ghost use Rattle.fvn_combine_leaves.specs.Readings.{IsReading};
 
 use fvn_combine_leaves::{Reading, Sums, is_shared, is_user};

@@ -1,15 +1,15 @@
 -- Operators whose identity leaves sorts alone, by the sorts of their kind.
-use Rattle.std.proofs.Common.{◌≡◌, ◌⊎◌, ℕ, ◌+◌, ◌<◌, [], length, sym, ap, ◌∙◌, subst, inl, inr, arith, Contains}
+use Rattle.std.proofs.Common.{◌≡◌, ◌⊎◌, ℕ, ◌+◌, ◌<◌, [], length, sym, ap, ◌∙◌, subst, inl, inr, arith, Some, Contains}
 use Rattle.std.specs.Prelude.{◌↔◌}
 use Rattle.std.proofs.lemmas.Bool.{cases_lt}
 use Rattle.std.proofs.lemmas.List.{get_or_past}
 use Rattle.fvn_base.proofs.Membership.{contains_none}
 use Rattle.fvn_terms.specs.declared.plain.OpId.{OpId}
 use Rattle.fvn_terms.specs.declared.plain.SortId.{SortId}
-use Rattle.fvn_terms.specs.declared.declarations.Axioms.TheVariants.{AssocCommId}
 use Rattle.fvn_terms.specs.declared.declarations.Rank.{Rank}
 use Rattle.fvn_terms.specs.declared.declarations.Declarations.{Declarations}
 use Rattle.fvn_terms.specs.Signature.{kind, declared, axioms}
+use Rattle.fvn_terms.specs.Equality.{identity}
 use Rattle.fvn_forms.specs.Good.{IsGood, IsOfKind}
 use Rattle.fvn_forms.specs.SortOrder.{sort_number}
 use Rattle.fvn_signature.specs.Queries.{IsCompleted}
@@ -52,14 +52,14 @@ module _ (d : Declarations) where
   ]
 
   -- by the sorts of the kind an operator is neutral or not
-  pub neutral_by : (f e : OpId) → axioms d f ≡ AssocCommId e → (of : SortId) → ((a : SortId) → IsOfKind d f a ↔ (kind d a ≡ of)) → ((a : SortId) → kind d a ≡ of → Absorbs d f e a) ↔ IsNeutral d f
+  pub neutral_by : (f e : OpId) → identity (axioms d f) ≡ Some e → (of : SortId) → ((a : SortId) → IsOfKind d f a ↔ (kind d a ≡ of)) → ((a : SortId) → kind d a ≡ of → Absorbs d f e a) ↔ IsNeutral d f
   neutral_by f e is of iff = (
     λ all. record { unit = e; is_identity = is; absorbs = λ a h. all a ((iff a).0 h) },
     λ n a k.
-        let same : AssocCommId n.unit ≡ AssocCommId e = sym n.is_identity ∙ is in
+        let same : Some n.unit ≡ Some e = sym n.is_identity ∙ is in
         let unit_is : n.unit ≡ e = cc in
         subst (λ o. Absorbs d f o a) unit_is (n.absorbs a ((iff a).1 k)),
   )
 
-  pub neutral_without : (f e : OpId) → axioms d f ≡ AssocCommId e → ((a : SortId) → IsOfKind d f a → ⊥) → IsNeutral d f
+  pub neutral_without : (f e : OpId) → identity (axioms d f) ≡ Some e → ((a : SortId) → IsOfKind d f a → ⊥) → IsNeutral d f
   neutral_without f e is none = record { unit = e; is_identity = is; absorbs = λ a h. absurd (none a h) }

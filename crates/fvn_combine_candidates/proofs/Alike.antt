@@ -11,7 +11,7 @@ use Rattle.fvn_flat.specs.SolvedLists.{Form, unbound, as_member, as_sum, Plan, c
 use Rattle.fvn_combine_nodes.specs.Table.{NodeTable}
 use Rattle.fvn_combine_nodes.specs.States.{class_of}
 use Rattle.fvn_combine_nodes.specs.declared.state.State.{State}
-use Rattle.fvn_combine_leaves.specs.Frames.{IsSumOperator}
+use Rattle.fvn_combine_leaves.specs.Leaves.{IsSumOperator}
 use Rattle.fvn_combine_choices.specs.Choosing.{Systems, Choice, AreTakenTogether, IsAcceptable, IsPossible, Needs, argument, summand, Falls, member_count, taken}
 use Rattle.fvn_combine_choices.specs.Plans.{IsSimpleAt, IsFormBy, StandsFor, IsPlanBy}
 use Rattle.fvn_combine_complete.specs.CoveringChoices.{IsCovering}

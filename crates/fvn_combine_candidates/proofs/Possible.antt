@@ -13,7 +13,7 @@ use Rattle.fvn_acunify.specs.ValidChoice.{chosen, touched, IsValid, IsFull as Ta
 use Rattle.fvn_flat.specs.Problems.{IsProblem}
 use Rattle.fvn_flat.specs.SolvedLists.{component}
 use Rattle.fvn_combine_nodes.specs.Table.{NodeTable, IsWellMade, IsTableOf}
-use Rattle.fvn_combine_leaves.specs.Frames.{IsSumOperator, IsShared}
+use Rattle.fvn_combine_leaves.specs.Leaves.{IsSumOperator, IsShared}
 use Rattle.fvn_combine_leaves.specs.Readings.{IsReading}
 use Rattle.fvn_combine_leaves.specs.declared.reading.Sums.{Sums}
 use Rattle.fvn_combine_leaves.specs.declared.reading.Reading.{Reading}

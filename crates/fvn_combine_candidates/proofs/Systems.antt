@@ -15,7 +15,7 @@ use Rattle.fvn_lindio.specs.declared.system.Solution.{Solution}
 use Rattle.fvn_lindio.specs.Systems.{IsMinimal, rows_of, vectors_of}
 use Rattle.fvn_combine_nodes.specs.Table.{NodeTable}
 use Rattle.fvn_combine_systems.specs.NodeSystems.{IsNodeSystem}
-use Rattle.fvn_combine_leaves.specs.Frames.{IsSumOperator, Uses}
+use Rattle.fvn_combine_leaves.specs.Leaves.{IsSumOperator, Uses}
 use Rattle.fvn_combine_leaves.specs.Readings.{AreSums, IsReading}
 use Rattle.fvn_combine_leaves.specs.declared.reading.Sums.{Sums}
 use Rattle.fvn_combine_leaves.specs.declared.reading.Reading.{Reading}

@@ -8,7 +8,7 @@ use Rattle.fvn_base.proofs.Membership.{contains_cases, contains_none, contains_m
 use Rattle.fvn_terms.specs.declared.plain.OpId.{OpId}
 use Rattle.fvn_terms.specs.declared.declarations.Declarations.{Declarations}
 use Rattle.fvn_combine_nodes.specs.Table.{NodeTable}
-use Rattle.fvn_combine_leaves.specs.Frames.{Uses, IsShared}
+use Rattle.fvn_combine_leaves.specs.Leaves.{Uses, IsShared}
 use Rattle.fvn_combine_admissible.specs.Listed.{tag_in}
 use Rattle.fvn_acunify_product.specs.Tags.{IsOption}
 use Rattle.fvn_combine_candidates.specs.declared.sharing.SharedClass.{SharedClass}

@@ -14,7 +14,7 @@ use Rattle.fvn_acunify.specs.ValidChoice.{chosen}
 use Rattle.fvn_combine_nodes.specs.Table.{NodeTable, IsWellMade}
 use Rattle.fvn_combine_nodes.specs.States.{IsClosed, class_of}
 use Rattle.fvn_combine_nodes.specs.declared.state.State.{State}
-use Rattle.fvn_combine_leaves.specs.Frames.{Uses, IsShared}
+use Rattle.fvn_combine_leaves.specs.Leaves.{Uses, IsShared}
 use Rattle.fvn_combine_leaves.specs.Readings.{IsReading}
 use Rattle.fvn_combine_leaves.specs.declared.reading.Sums.{Sums}
 use Rattle.fvn_combine_leaves.specs.declared.reading.Reading.{Reading}

@@ -1,4 +1,4 @@
--- Laws of frames that are opened.
+-- Laws of leaves that are opened.
 use Rattle.std.specs.Prelude.{◌≡◌, ◌↔◌, ℕ, ◌≤◌, List, length, Option}
 use Rattle.std.specs.List.{AllZip}
 use Rattle.fvn_terms.specs.declared.plain.OpId.{OpId}
@@ -19,7 +19,7 @@ use Rattle.fvn_combine_nodes.specs.States.{Admits, IsClosed, class_of}
 use Rattle.fvn_combine_nodes.specs.Unifiers.{kernel}
 use Rattle.fvn_combine_nodes.specs.declared.state.State.{State}
 use Rattle.fvn_combine_leaves.specs.Bases.{AreBases}
-use Rattle.fvn_combine_leaves.specs.Frames.{IsFrame}
+use Rattle.fvn_combine_leaves.specs.Leaves.{IsLeaf}
 use Rattle.fvn_combine_leaves.specs.Readings.{IsReading}
 use Rattle.fvn_combine_leaves.specs.declared.reading.Reading.{Reading}
 use Rattle.fvn_combine_choices.specs.Choosing.{Systems, Choice, AreSystems, IsPossible}
@@ -68,12 +68,12 @@ CoveringChoicesAreListed =
     → (options : List ℕ) × (numbers : List ℕ) × AllZip IsOption (tag_counts shared) options × (length numbers ≡ length r.sums)
     × ((tags : List (Option OpId)) → AreTags shared options tags → IsCovering d problem t s y u (choice_of r tags numbers))
 
--- at a frame that admits its partition, each unifier on kinds is covered by a choice that can be listed: by an option for each shared class, and,
+-- at a leaf that admits its partition, each unifier on kinds is covered by a choice that can be listed: by an option for each shared class, and,
 -- under their tags, by numbers that are choices of the wheels and make no class an alias
 abbrev pub ListsCover : Type 0
 ListsCover =
     (d : Declarations) → IsGood d → (problem : Problem) → IsProblem d problem → (t : NodeTable) → IsWellMade t → IsTableOf d problem t
-    → (s : State) → IsFrame d t s → (r : Reading) → IsReading d t (class_of s) r → (bases : List (List Solution)) → AreBases r.sums bases
+    → (s : State) → IsLeaf d t s → (r : Reading) → IsReading d t (class_of s) r → (bases : List (List Solution)) → AreBases r.sums bases
     → (shared : List SharedClass) → AreSharedClasses d t (class_of s) shared → (u : Substitution) → IsKindUnifier d problem u → Admits s (kernel d u t.nodes)
     → (options : List ℕ) × (numbers : List ℕ) × AllZip IsOption (tag_counts shared) options
     × ((tags : List (Option OpId)) → AreTags shared options tags → IsCovering d problem t s (systems_of r bases) u (choice_of r tags numbers)

@@ -1,4 +1,4 @@
--- The words of frames that are opened: minimal solutions, shared classes with their tags, and wheels.
+-- The words of leaves that are opened: minimal solutions, shared classes with their tags, and wheels.
 pub mod Refusals
 pub mod Sharing
 pub mod Tags

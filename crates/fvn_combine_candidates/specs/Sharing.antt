@@ -3,7 +3,7 @@ use Rattle.std.specs.Prelude.{◌≢◌, ◌↔◌, ℕ, ◌<◌, ◌≤◌, Lis
 use Rattle.fvn_terms.specs.declared.plain.OpId.{OpId}
 use Rattle.fvn_terms.specs.declared.declarations.Declarations.{Declarations}
 use Rattle.fvn_combine_nodes.specs.Table.{NodeTable}
-use Rattle.fvn_combine_leaves.specs.Frames.{Uses, IsShared}
+use Rattle.fvn_combine_leaves.specs.Leaves.{Uses, IsShared}
 use Rattle.fvn_combine_candidates.specs.declared.sharing.SharedClass.{SharedClass}
 
 -- the classes of the list

@@ -1,4 +1,4 @@
-//! Laws of frames that are opened, each the contract of a function that does nothing.
+//! Laws of leaves that are opened, each the contract of a function that does nothing.
 ghost use Rattle.fvn_combine_candidates.specs.Laws.{
   SumOperatorsAreFew,
   BasesMakeSystems,
@@ -9,7 +9,7 @@ ghost use Rattle.fvn_combine_candidates.specs.Laws.{
 };
 
 use fvn_combine_choices::valid_choices_are_acceptable;
-use fvn_combine_complete::{frames_cover, readings_tell};
+use fvn_combine_complete::{leaves_cover, readings_tell};
 use fvn_combine_nodes::node_partitions_are_partitions;
 use fvn_combine_systems::node_systems_are_sum_systems;
 
@@ -44,11 +44,11 @@ pub fn covering_choices_are_listed()
     ensures { CoveringChoicesAreListed }
 {}
 
-/// At a frame each unifier is covered by a choice that can be listed.
+/// At a leaf each unifier is covered by a choice that can be listed.
 pub fn lists_cover()
     ensures { ListsCover }
 {
-    frames_cover();
+    leaves_cover();
     readings_tell();
     covering_choices_are_listed();
     listed_choices_are_possible();

@@ -1,4 +1,4 @@
-//! What is held of a frame that is opened: minimal solutions, shared classes with their tags, and wheels.
+//! What is held of a leaf that is opened: minimal solutions, shared classes with their tags, and wheels.
 #![tactic(auto)]
 
 mod aliases;

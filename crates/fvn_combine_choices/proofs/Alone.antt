@@ -30,7 +30,7 @@ use Rattle.fvn_combine_nodes.specs.States.{class_of}
 use Rattle.fvn_combine_nodes.specs.declared.state.State.{State}
 use Rattle.fvn_combine_supports.specs.Laws.{CombinationsSolve}
 use Rattle.fvn_combine_systems.specs.Laws.{CountsSolve}
-use Rattle.fvn_combine_leaves.specs.Frames.{IsSumOperator, IsSolid, IsShared}
+use Rattle.fvn_combine_leaves.specs.Leaves.{IsSumOperator, IsSolid, IsShared}
 use Rattle.fvn_combine_choices.specs.Binding.{IsBound, solid, alone, tagged, IsConstant}
 use Rattle.fvn_combine_choices.specs.Choosing.{Systems, Choice, member_count}
 use Rattle.fvn_combine_choices.specs.Plans.{IsForSolution, IsFormBy, unfolds_to}

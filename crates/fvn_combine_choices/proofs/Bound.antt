@@ -15,7 +15,7 @@ use Rattle.fvn_flat.specs.Partitions.{HasNoIdentity}
 use Rattle.fvn_flat.specs.SolvedLists.{Form, unbound, as_member, as_sum, IsSimple}
 use Rattle.fvn_combine_nodes.specs.Table.{NodeTable, IsOver, term_at}
 use Rattle.fvn_combine_nodes.specs.Classes.{IsNodePartition}
-use Rattle.fvn_combine_leaves.specs.Frames.{IsSolid}
+use Rattle.fvn_combine_leaves.specs.Leaves.{IsSolid}
 use Rattle.fvn_combine_choices.specs.Binding.{IsBound, solid, alone, tagged}
 use Rattle.fvn_combine_choices.specs.Choosing.{Systems, Choice}
 use Rattle.fvn_combine_choices.specs.Plans.{IsSimpleAt, IsFormBy}

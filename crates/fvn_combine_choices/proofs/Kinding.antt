@@ -33,7 +33,7 @@ use Rattle.fvn_combine_nodes.proofs.Nodes.{term_at-over, arguments_within}
 use Rattle.fvn_combine_nodes.proofs.NodesOf.{own_class, variable_place}
 use Rattle.fvn_combine_nodes.proofs.Subterms.{node_kinded}
 use Rattle.fvn_combine_systems.specs.NodeSystems.{IsNodeColumn}
-use Rattle.fvn_combine_leaves.specs.Frames.{IsSumOperator}
+use Rattle.fvn_combine_leaves.specs.Leaves.{IsSumOperator}
 use Rattle.fvn_combine_choices.specs.Binding.{IsBound}
 use Rattle.fvn_combine_choices.specs.Choosing.{Systems, Choice}
 use Rattle.fvn_combine_choices.specs.Plans.{IsFormBy}

@@ -24,7 +24,7 @@ use Rattle.fvn_combine_nodes.specs.declared.state.State.{State}
 use Rattle.fvn_combine_nodes.specs.declared.table.Node.TheVariants.{App}
 use Rattle.fvn_combine_nodes.proofs.Nodes.{arguments_within}
 use Rattle.fvn_combine_nodes.proofs.NodesOf.{own_class, variable_place}
-use Rattle.fvn_combine_leaves.specs.Frames.{IsSumOperator}
+use Rattle.fvn_combine_leaves.specs.Leaves.{IsSumOperator}
 use Rattle.fvn_combine_choices.specs.Choosing.{Systems, Choice}
 use Rattle.fvn_combine_choices.specs.Plans.{IsForSolution, IsFormBy, unfolds_to}
 use Rattle.fvn_combine_choices.specs.Laws.{IsPlanned, PlannedBindingsUnfoldToNew}

@@ -13,7 +13,7 @@ use Rattle.fvn_combine_nodes.proofs.Nodes.{term_at-over, application_at}
 use Rattle.fvn_combine_nodes.proofs.NodesOf.{listed_node, subterm_within}
 use Rattle.fvn_combine_nodes.proofs.Subterms.{listed_subterm}
 use Rattle.fvn_combine_systems.proofs.Members.{headed_over, listed_sum, sum_listed}
-use Rattle.fvn_combine_leaves.specs.Frames.{IsSumOperator}
+use Rattle.fvn_combine_leaves.specs.Leaves.{IsSumOperator}
 
 module _ {d : Declarations} {problem : Problem} {t : NodeTable} (made : IsWellMade t) (table : IsTableOf d problem t) where
   -- what heads a subterm that is listed heads a sum, where it is associative

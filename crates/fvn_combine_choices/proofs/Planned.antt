@@ -15,7 +15,7 @@ use Rattle.fvn_combine_nodes.specs.declared.state.State.{State}
 use Rattle.fvn_combine_nodes.proofs.Admitting.{named_within}
 use Rattle.fvn_combine_nodes.proofs.NodesOf.{node_of, is_node, own_class}
 use Rattle.fvn_combine_systems.specs.NodeSystems.{IsNodeColumn}
-use Rattle.fvn_combine_leaves.specs.Frames.{IsSumOperator}
+use Rattle.fvn_combine_leaves.specs.Leaves.{IsSumOperator}
 use Rattle.fvn_combine_choices.specs.Binding.{IsBound, solid, alone, tagged}
 use Rattle.fvn_combine_choices.specs.Choosing.{Systems, Choice}
 use Rattle.fvn_combine_choices.specs.Plans.{IsForSolution}

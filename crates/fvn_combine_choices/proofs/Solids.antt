@@ -8,7 +8,7 @@ use Rattle.fvn_flat.specs.Partitions.{HasNoIdentity}
 use Rattle.fvn_combine_nodes.specs.Table.{NodeTable, IsOver}
 use Rattle.fvn_combine_nodes.proofs.Heading.{identity_of}
 use Rattle.fvn_combine_systems.specs.NodeSystems.{IsIdentityClass, IsNodeColumn}
-use Rattle.fvn_combine_leaves.specs.Frames.{IsSolid}
+use Rattle.fvn_combine_leaves.specs.Leaves.{IsSolid}
 use Rattle.fvn_combine_choices.specs.Tables.{HasSums}
 
 -- two arguments

@@ -23,7 +23,7 @@ use Rattle.fvn_combine_nodes.proofs.Nodes.{term_at-over}
 use Rattle.fvn_combine_nodes.proofs.NodesOf.{is_node, own_class}
 use Rattle.fvn_combine_nodes.proofs.Lists.{all_from}
 use Rattle.fvn_combine_systems.specs.Laws.{NodeSystemsAreSumSystems}
-use Rattle.fvn_combine_leaves.specs.Frames.{IsSumOperator, Uses}
+use Rattle.fvn_combine_leaves.specs.Leaves.{IsSumOperator, Uses}
 use Rattle.fvn_combine_choices.specs.Binding.{IsBound, IsConstant}
 use Rattle.fvn_combine_choices.specs.Choosing.{Systems, Choice, member_count}
 use Rattle.fvn_combine_choices.specs.Plans.{IsFormBy}

@@ -18,7 +18,7 @@ use Rattle.fvn_combine_nodes.specs.Table.{NodeTable}
 use Rattle.fvn_combine_nodes.proofs.Lists.{all_from}
 use Rattle.fvn_combine_systems.specs.NodeSystems.{addends, sums, coefficient, row_at, IsNodeSystem}
 use Rattle.fvn_combine_systems.proofs.Zeroes.{zero_told}
-use Rattle.fvn_combine_leaves.specs.Frames.{Uses}
+use Rattle.fvn_combine_leaves.specs.Leaves.{Uses}
 use Rattle.fvn_combine_choices.proofs.Columns.{component_at, column_listed, column_is}
 
 other_told : (z : ℤ) → Decided (z ≢ pos 0)

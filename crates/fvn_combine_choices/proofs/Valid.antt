@@ -9,7 +9,7 @@ use Rattle.fvn_acunify.specs.ValidChoice.{touched, column_sum, IsValid}
 use Rattle.fvn_flat.specs.SolvedLists.{component}
 use Rattle.fvn_combine_nodes.specs.Table.{NodeTable}
 use Rattle.fvn_combine_nodes.proofs.Lists.{all_from}
-use Rattle.fvn_combine_leaves.specs.Frames.{IsSumOperator, IsShared}
+use Rattle.fvn_combine_leaves.specs.Leaves.{IsSumOperator, IsShared}
 use Rattle.fvn_combine_choices.specs.Binding.{IsBound, solid, alone, tagged, IsConstant, IsRequired, AreAsked}
 use Rattle.fvn_combine_choices.specs.Choosing.{Systems, Choice, taken, AreSystems, AreTakenTogether, IsAcceptable, member_count}
 use Rattle.fvn_combine_choices.specs.Laws.{ValidChoicesAreAcceptable}

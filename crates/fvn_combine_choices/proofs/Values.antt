@@ -39,7 +39,7 @@ use Rattle.fvn_combine_supports.specs.Laws.{CombinationsSolve}
 use Rattle.fvn_combine_systems.specs.NodeSystems.{IsNodeSystem}
 use Rattle.fvn_combine_systems.specs.Values.{AreValues, AddsNothing, Counts}
 use Rattle.fvn_combine_systems.specs.Laws.{CountsSolve}
-use Rattle.fvn_combine_leaves.specs.Frames.{IsSumOperator}
+use Rattle.fvn_combine_leaves.specs.Leaves.{IsSumOperator}
 use Rattle.fvn_combine_choices.specs.Binding.{IsBound, IsConstant}
 use Rattle.fvn_combine_choices.specs.Choosing.{Systems, Choice, taken}
 use Rattle.fvn_combine_choices.specs.Plans.{IsSimpleAt, unfolds_to}

@@ -1,4 +1,4 @@
--- What a class is bound to at a frame, and what that asks of the choice of minimal solutions.
+-- What a class is bound to at a leaf, and what that asks of the choice of minimal solutions.
 use Rattle.std.specs.Prelude.{◌≡◌, ◌≢◌, ◌⊎◌, ◌↔◌, ℕ, ◌<◌, Bool, true, false, List, length, slice_index, slice_index_or, Option, Some, AllPairs, Contains}
 use Rattle.fvn_terms.specs.declared.plain.OpId.{OpId}
 use Rattle.fvn_terms.specs.declared.declarations.Declarations.{Declarations}
@@ -6,7 +6,7 @@ use Rattle.fvn_terms.specs.Signature.{axioms}
 use Rattle.fvn_terms.specs.Equality.{IsAssociative}
 use Rattle.fvn_flat.specs.Partitions.{HasNoIdentity}
 use Rattle.fvn_combine_nodes.specs.Table.{NodeTable}
-use Rattle.fvn_combine_leaves.specs.Frames.{IsSolid, Uses, IsShared}
+use Rattle.fvn_combine_leaves.specs.Leaves.{IsSolid, Uses, IsShared}
 
 -- Each shared class may have an operator as its tag, of which it is a sum.
 module _ (d : Declarations) (t : NodeTable) (class : ℕ → ℕ) (tag : ℕ → Option OpId) where

@@ -1,4 +1,4 @@
--- Choices at a frame: a tag for each shared class, and minimal solutions for each sum operator.
+-- Choices at a leaf: a tag for each shared class, and minimal solutions for each sum operator.
 use Rattle.std.specs.Prelude.{◌≡◌, ◌≢◌, ◌↔◌, ℕ, ◌<◌, ◌≤◌, ◌^◌, List, length, sum_by, Option, Some, AllPairs, Contains}
 use Rattle.fvn_terms.specs.declared.plain.OpId.{OpId}
 use Rattle.fvn_terms.specs.declared.declarations.Declarations.{Declarations}
@@ -9,7 +9,7 @@ use Rattle.fvn_acunify.specs.ValidChoice.{chosen}
 use Rattle.fvn_flat.specs.SolvedLists.{component, IsSimple}
 use Rattle.fvn_combine_nodes.specs.Table.{NodeTable, IsOver}
 use Rattle.fvn_combine_systems.specs.NodeSystems.{IsNodeSystem}
-use Rattle.fvn_combine_leaves.specs.Frames.{IsSumOperator, Uses, IsShared}
+use Rattle.fvn_combine_leaves.specs.Leaves.{IsSumOperator, Uses, IsShared}
 use Rattle.fvn_combine_choices.specs.Binding.{IsBound, IsConstant, IsRequired}
 
 -- for each sum operator the classes of its columns, its system, and minimal solutions of it

@@ -19,7 +19,7 @@ use Rattle.fvn_combine_nodes.specs.Laws.{class_at}
 use Rattle.fvn_combine_nodes.specs.States.{Admits, IsClosed, class_of}
 use Rattle.fvn_combine_nodes.specs.Unifiers.{kernel}
 use Rattle.fvn_combine_nodes.specs.declared.state.State.{State}
-use Rattle.fvn_combine_leaves.specs.Frames.{IsSumOperator, IsShared}
+use Rattle.fvn_combine_leaves.specs.Leaves.{IsSumOperator, IsShared}
 use Rattle.fvn_combine_choices.specs.Binding.{IsBound, IsConstant, AreAsked}
 use Rattle.fvn_combine_choices.specs.Choosing.{Systems, Choice, AreSystems, AreTakenTogether, IsAcceptable, IsPossible, member_count}
 use Rattle.fvn_combine_choices.specs.Plans.{AreOfOneKind, IsPlanBy, AreBindingsBy, UnfoldsToNew, unfolds_to, size_in}

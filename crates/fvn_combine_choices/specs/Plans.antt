@@ -15,7 +15,7 @@ use Rattle.fvn_flat.specs.Bindings.{Bindings}
 use Rattle.fvn_flat.specs.Problems.{variables_of}
 use Rattle.fvn_flat.specs.SolvedLists.{Form, unbound, as_member, as_sum, Part, Plan, component, IsSimple, IsTriangular, IsClass, IsBinding, bound_to, unfolded}
 use Rattle.fvn_combine_nodes.specs.Table.{NodeTable, IsOver, term_at}
-use Rattle.fvn_combine_leaves.specs.Frames.{IsSumOperator}
+use Rattle.fvn_combine_leaves.specs.Leaves.{IsSumOperator}
 use Rattle.fvn_combine_choices.specs.Binding.{IsBound, IsConstant}
 use Rattle.fvn_combine_choices.specs.Choosing.{Systems, Choice, taken}
 

@@ -1,4 +1,4 @@
-//! What is taken for a frame, the plan that it makes, and what the plan's bindings unfold to.
+//! What is taken for a leaf, the plan that it makes, and what the plan's bindings unfold to.
 #![tactic(auto)]
 
 mod laws;

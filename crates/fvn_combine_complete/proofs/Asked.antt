@@ -1,4 +1,4 @@
--- What is bound, constant and required at a frame is told, so that what is asked of a choice can be listed.
+-- What is bound, constant and required at a leaf is told, so that what is asked of a choice can be listed.
 use Rattle.std.proofs.Common.{◌≡◌, ◌≢◌, ◌⊎◌, ℕ, zero, suc, ◌+◌, ◌<◌, true, false, List, [], ◌∷◌, length, get_or, refl, sym, ap, ◌∙◌, subst, inl, inr, arith, AllPairs, Contains, Option, Some, None, slice_get, pos}
 use Rattle.std.specs.Prelude.{Bool, ◌↔◌}
 use Rattle.std.proofs.lemmas.Bool.{cases_Bool, cases_eq, true≢false}
@@ -22,7 +22,7 @@ use Rattle.fvn_combine_nodes.specs.States.{class_of}
 use Rattle.fvn_combine_nodes.specs.declared.state.State.{State}
 use Rattle.fvn_combine_systems.specs.NodeSystems.{addends, sums, coefficient, IsNodeColumn}
 use Rattle.fvn_combine_systems.proofs.Zeroes.{zero_told}
-use Rattle.fvn_combine_leaves.specs.Frames.{IsSumOperator, IsSolid, Uses, IsShared, IsFrame}
+use Rattle.fvn_combine_leaves.specs.Leaves.{IsSumOperator, IsSolid, Uses, IsShared, IsLeaf}
 use Rattle.fvn_combine_choices.specs.Binding.{IsBound, solid, alone, tagged, IsConstant, IsRequired, AreAsked}
 use Rattle.fvn_combine_choices.specs.Choosing.{Systems, AreSystems}
 use Rattle.fvn_combine_choices.specs.Tables.{HasSums}
@@ -169,12 +169,12 @@ shared_told d t class told f k u = elim (told.heads k) [
   ]
 ]
 
-module _ (d : Declarations) (t : NodeTable) (made : IsWellMade t) (has : HasSums d t) (s : State) (frame : IsFrame d t s) (told : IsTold d t (class_of s)) (values : ℕ → FlatTerm) (go_with : GoWith d t s values) (tag : ℕ → Option OpId) (obey : ObeyTags d t (class_of s) tag values) where
+module _ (d : Declarations) (t : NodeTable) (made : IsWellMade t) (has : HasSums d t) (s : State) (leaf : IsLeaf d t s) (told : IsTold d t (class_of s)) (values : ℕ → FlatTerm) (go_with : GoWith d t s values) (tag : ℕ → Option OpId) (obey : ObeyTags d t (class_of s) tag values) where
   abbrev class : ℕ → ℕ
   class = class_of s
 
   other_head : (f g : OpId) (k : ℕ) → IsSolid d t class g k → g ≢ f → IsBound d t class tag f k → ⊥
-  other_head f g k h n (solid assoc m) = n (Some-injective (sym (head_of_solid d t made has s frame told values go_with tag obey g k h) ∙ head_of_solid d t made has s frame told values go_with tag obey f k m))
+  other_head f g k h n (solid assoc m) = n (Some-injective (sym (head_of_solid d t made has s leaf told values go_with tag obey g k h) ∙ head_of_solid d t made has s leaf told values go_with tag obey f k m))
   other_head f g k h n (alone u soft only) = soft g h
   other_head f g k h n (tagged u shared e) = shared.soft g h
 
@@ -206,7 +206,7 @@ module _ (d : Declarations) (t : NodeTable) (made : IsWellMade t) (has : HasSums
   ]
 
   required_told : (f : OpId) (k : ℕ) → Decided (Uses d t class f k) → Decided (IsRequired d t class tag f k)
-  required_told f k (inr n) = inr (λ h. n (bound_used d t made has s frame told values go_with tag obey f k h.bound))
+  required_told f k (inr n) = inr (λ h. n (bound_used d t made has s leaf told values go_with tag obey f k h.bound))
   required_told f k (inl u) = elim (bound_told f k u) [
     | inr n ↦ inr (λ h. n h.bound)
     | inl b ↦ elim (shared_told d t class told f k u) [

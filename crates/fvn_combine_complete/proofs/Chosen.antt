@@ -20,7 +20,7 @@ use Rattle.fvn_combine_systems.specs.NodeSystems.{addends, sums, coefficient, ro
 use Rattle.fvn_combine_systems.proofs.Zeroes.{zero_told}
 use Rattle.fvn_combine_supports.specs.Laws.{MadeUpByTaken}
 use Rattle.fvn_combine_supports.specs.Pieces.{has_some, number_of, taken as with_pieces}
-use Rattle.fvn_combine_leaves.specs.Frames.{IsFrame, IsSumOperator, Uses, IsShared}
+use Rattle.fvn_combine_leaves.specs.Leaves.{IsLeaf, IsSumOperator, Uses, IsShared}
 use Rattle.fvn_combine_choices.specs.Binding.{IsBound, IsConstant, IsRequired, AreAsked}
 use Rattle.fvn_combine_choices.specs.Choosing.{Systems, Choice, AreSystems, AreTakenTogether, IsAcceptable, taken, member_count}
 use Rattle.fvn_combine_complete.specs.Laws.{IsChosen, NoAliases}
@@ -44,7 +44,7 @@ some_component [] h = absurd (omega (arith, h))
 some_component (zero ∷ v) h = let r = some_component v (let e = sum_by-cons (λ a. a) 0 v in omega (arith, h, e)) in (suc r.0, (let l = r.1 in omega (arith, l)), r.2)
 some_component (suc n ∷ v) h = (0, omega arith, omega arith)
 
-module _ (d : Declarations) (t : NodeTable) (made : IsWellMade t) (has : HasSums d t) (s : State) (frame : IsFrame d t s) (told : IsTold d t (class_of s)) (values : ℕ → FlatTerm) (go_with : GoWith d t s values) (y : Systems) (systems : AreSystems d t (class_of s) y) (c : Choice) (obey : ObeyTags d t (class_of s) c.tag values)
+module _ (d : Declarations) (t : NodeTable) (made : IsWellMade t) (has : HasSums d t) (s : State) (leaf : IsLeaf d t s) (told : IsTold d t (class_of s)) (values : ℕ → FlatTerm) (go_with : GoWith d t s values) (y : Systems) (systems : AreSystems d t (class_of s) y) (c : Choice) (obey : ObeyTags d t (class_of s) c.tag values)
     (f : OpId) (sum : IsSumOperator d t f) (constants : List ℕ) (may_be_zero : List Bool) (are_asked : AreAsked d t (class_of s) c.tag f (y.columns f) constants may_be_zero) (ch : IsChosen d f values (y.columns f) (y.system f) (y.basis f) constants may_be_zero) (also : List ℕ → Bool) (marks : List Bool) (are : AreMarks also marks ch.pieces (y.basis f)) (number : c.number f ≡ number_by marks)
     (neutral : (v : List ℕ) → also v ≡ true → IsNeutral d f) (bare : (v : List ℕ) → also v ≡ true → touched constants v ≡ 0) (law : MadeUpByTaken) where
   abbrev class : ℕ → ℕ
@@ -186,7 +186,7 @@ module _ (d : Declarations) (t : NodeTable) (made : IsWellMade t) (has : HasSums
       let m = together.among in
       let r = from m.0 m.1 in
       let v_is : get_or (y.basis f) r.place [] ≡ together.solution = sym (solution_from m.0 m.1) ∙ get_or_default (taken y c f) m.0 [] together.solution m.1 ∙ m.2 in
-      let u = bound_used d t made has s frame told values go_with c.tag obey f k b in
+      let u = bound_used d t made has s leaf told values go_with c.tag obey f k b in
       let a = at k u in
       let e = at l h.used in
       let place_right = ap (λ v. component (y.columns f) v l) (get_or_default (taken y c f) m.0 [] together.solution m.1 ∙ m.2) in
@@ -194,7 +194,7 @@ module _ (d : Declarations) (t : NodeTable) (made : IsWellMade t) (has : HasSums
       let right = ap (λ v. get_or v e.column 0) v_is ∙ sym (e.component_is together.solution) in
       let p = together.left in
       let q = together.right in
-      let two = shared_two d t made has s frame told values go_with c.tag obey f k shared b in
+      let two = shared_two d t made has s leaf told values go_with c.tag obey f k shared b in
       let same_length = ap (λ n. length (parts d f (values n))) a.of in
       let count = law d f values (y.columns f) (y.system f) (y.basis f) exact constants may_be_zero ch r.place a.column e.column r.within (has_pieces m.0 l m.1 h (omega (arith, place_right, q))) a.within (used_column k u)
       ((are_asked.are_constant e.column).1 (e.within, subst (IsConstant d t class c.tag f) (sym e.of) h)) (omega (arith, two, same_length)) (omega (arith, left, p)) (omega (arith, right, q)) in
@@ -221,8 +221,8 @@ module _ (d : Declarations) (t : NodeTable) (made : IsWellMade t) (has : HasSums
         let r = from m.0 m.1 in
         let v_is : get_or (y.basis f) r.place [] ≡ together.solution = sym (solution_from m.0 m.1) ∙ is in
         let minimal = (exact together.solution).0 (subst (Contains (y.basis f)) v_is (Contains-get_or (y.basis f) r.place [] r.within)) in
-        absurd (constants_differ d t made has s frame told values go_with c.tag obey f k l hk hl n
-        (frame.constants f k l (may_be d t made has s frame told values go_with c.tag obey f k hk) (may_be d t made has s frame told values go_with c.tag obey f l hl)
+        absurd (constants_differ d t made has s leaf told values go_with c.tag obey f k l hk hl n
+        (leaf.constants f k l (may_be d t made has s leaf told values go_with c.tag obey f k hk) (may_be d t made has s leaf told values go_with c.tag obey f l hl)
         (record { columns = y.columns f; system = y.system f; is = is_node_system; solution = together.solution; minimal = minimal; left = p; right = q }))
         same)
   ]
@@ -239,7 +239,7 @@ module _ (d : Declarations) (t : NodeTable) (made : IsWellMade t) (has : HasSums
         ∙ All-contains (λ j. column_sum j (chosen (number_of ch.pieces) (y.basis f)) ≡ 1) constants a.column ch.valid.once listed;
     apart = constants_apart;
     filled = λ k h.
-        let u = bound_used d t made has s frame told values go_with c.tag obey f k h.bound in
+        let u = bound_used d t made has s leaf told values go_with c.tag obey f k h.bound in
         let a = at k u in
         let p = ch.valid.filled a.column ((are_asked.required a.column).1 (a.within, subst (IsRequired d t class c.tag f) (sym a.of) h)) in
         let e = counted k u in

@@ -17,7 +17,7 @@ use Rattle.fvn_combine_nodes.specs.declared.state.State.{State}
 use Rattle.fvn_combine_choices.specs.Choosing.{Systems, Choice}
 use Rattle.fvn_combine_choices.specs.Covering.{CoversOnKinds}
 use Rattle.fvn_combine_choices.specs.Plans.{AreBindingsBy, unfolds_to}
-use Rattle.fvn_combine_complete.specs.Laws.{UnifiersGoWith, TablesHaveSums, ValuesObeyChoices, ObeyedChoicesFall, ObeyedChoicesCover, FramesCover}
+use Rattle.fvn_combine_complete.specs.Laws.{UnifiersGoWith, TablesHaveSums, ValuesObeyChoices, ObeyedChoicesFall, ObeyedChoicesCover, LeavesCover}
 use Rattle.fvn_combine_nodes.proofs.Subterms.{node_kinded}
 use Rattle.fvn_combine_complete.proofs.Later.{later, later_flat, value_of_variable}
 use Rattle.fvn_combine_nodes.proofs.NodesOf.{variable_node}
@@ -37,38 +37,38 @@ module _ {d : Declarations} {problem : Problem} {t : NodeTable} {s : State} {y :
           (subst (IsTerm d) n.is (node_kinded d g.good.fits problem g.kinded t g.table n.number n.within)).1.0
 
 pub obeyed_choices_cover : UnifiersPartition → UnifiersGoWith → TablesHaveSums → ObeyedChoicesCover
-obeyed_choices_cover partitions go_with sums d good problem kinded t made table s frame told y systems u unifier admits c obeying first next plan after plan_by bindings by =
+obeyed_choices_cover partitions go_with sums d good problem kinded t made table s leaf told y systems u unifier admits c obeying first next plan after plan_by bindings by =
     covered (record {
       good = good;
       kinded = kinded;
       made = made;
       table = table;
       has = sums d good.fits problem kinded t made table;
-      frame = frame;
+      leaf = leaf;
       told = told;
       systems = systems;
       unifier = unifier;
       partitions = partitions d good.fits problem kinded t made table u unifier;
       admits = admits;
-      go_with = go_with d good.fits problem kinded t made table u unifier s frame.closed admits;
+      go_with = go_with d good.fits problem kinded t made table u unifier s leaf.closed admits;
       obeying = obeying;
       after = after;
       plan_by = plan_by;
     }) bindings by
 
-pub frames_cover : UnifiersGoWith → TablesHaveSums → ValuesObeyChoices → ObeyedChoicesFall → ObeyedChoicesCover → FramesCover
-frames_cover go_with sums obey fall cover d good problem kinded t made table s frame told y systems u unifier admits =
+pub leaves_cover : UnifiersGoWith → TablesHaveSums → ValuesObeyChoices → ObeyedChoicesFall → ObeyedChoicesCover → LeavesCover
+leaves_cover go_with sums obey fall cover d good problem kinded t made table s leaf told y systems u unifier admits =
     let has = sums d good.fits problem kinded t made table in
-    let values = go_with d good.fits problem kinded t made table u unifier s frame.closed admits in
-    let chosen = obey d good t made has s frame told y systems (value_at d u t.nodes) values in
+    let values = go_with d good.fits problem kinded t made table u unifier s leaf.closed admits in
+    let chosen = obey d good t made has s leaf told y systems (value_at d u t.nodes) values in
     let c = chosen.0 in
-    let ranked = fall d t made has s frame told y (value_at d u t.nodes) values c chosen.3 in (
+    let ranked = fall d t made has s leaf told y (value_at d u t.nodes) values c chosen.3 in (
       c,
       record {
         possible = chosen.1;
         full = chosen.2;
         rank = ranked.0;
         falls = ranked.1;
-        covers = λ first next plan after plan_by bindings by. cover d good problem kinded t made table s frame told y systems u unifier admits c chosen.3 first next plan after plan_by bindings by;
+        covers = λ first next plan after plan_by bindings by. cover d good problem kinded t made table s leaf told y systems u unifier admits c chosen.3 first next plan after plan_by bindings by;
       },
     )

@@ -18,7 +18,7 @@ use Rattle.fvn_flat.specs.SolvedLists.{component, IsSimple}
 use Rattle.fvn_combine_nodes.specs.Table.{NodeTable, IsWellMade}
 use Rattle.fvn_combine_nodes.specs.States.{class_of}
 use Rattle.fvn_combine_nodes.specs.declared.state.State.{State}
-use Rattle.fvn_combine_leaves.specs.Frames.{IsFrame, IsSumOperator, IsSolid, Uses}
+use Rattle.fvn_combine_leaves.specs.Leaves.{IsLeaf, IsSumOperator, IsSolid, Uses}
 use Rattle.fvn_combine_choices.specs.Binding.{IsBound, solid, alone, tagged, IsConstant}
 use Rattle.fvn_combine_choices.specs.Choosing.{Systems, Choice, AreTakenTogether, argument, summand, Falls, taken}
 use Rattle.fvn_combine_choices.specs.Tables.{HasSums}
@@ -61,7 +61,7 @@ argument_smaller d f simple l q c = go (axioms d f) refl
     go AssocComm e = absurd (subst IsSimple e simple)
     go (AssocCommId o) e = absurd (subst IsSimple e simple)
 
-module _ (d : Declarations) (t : NodeTable) (made : IsWellMade t) (has : HasSums d t) (s : State) (frame : IsFrame d t s) (told : IsTold d t (class_of s)) (y : Systems) (values : ℕ → FlatTerm) (go_with : GoWith d t s values) (c : Choice) (obeying : AreObeying d t (class_of s) y c values) where
+module _ (d : Declarations) (t : NodeTable) (made : IsWellMade t) (has : HasSums d t) (s : State) (leaf : IsLeaf d t s) (told : IsTold d t (class_of s)) (y : Systems) (values : ℕ → FlatTerm) (go_with : GoWith d t s values) (c : Choice) (obeying : AreObeying d t (class_of s) y c values) where
   abbrev class : ℕ → ℕ
   class = class_of s
 
@@ -126,7 +126,7 @@ module _ (d : Declarations) (t : NodeTable) (made : IsWellMade t) (has : HasSums
   constant_no_alias f k h = of_head (told.heads k)
     where
       not_only : (g : OpId) → ((o : OpId) → IsSolid d t class o k → ⊥) → ((o : OpId) → Uses d t class o k → o ≡ g) → ⊥
-      not_only g soft only = elim (constant_why d t made has s frame told values go_with c.tag obeying.tags f k h) [
+      not_only g soft only = elim (constant_why d t made has s leaf told values go_with c.tag obeying.tags f k h) [
         | inl p ↦ soft p.0 p.2
         | inr shared ↦ shared.different (only shared.first shared.uses_first ∙ sym (only shared.second shared.uses_second))
       ]
@@ -159,7 +159,7 @@ module _ (d : Declarations) (t : NodeTable) (made : IsWellMade t) (has : HasSums
       let q = together.right in
       let piece = m.alone i l within h (omega (arith, right, q)) in
       let counted = laid_counts (y.columns f) k (values l) (taken y c f) (obeying.pieces f) i within (omega (arith, left, p)) (subst (λ z. Contains z (values l)) (sym piece) (contains_here (values l) [])) in
-      let same = m.made k (bound_used d t made has s frame told values go_with c.tag obeying.tags f k b) (values l) in
+      let same = m.made k (bound_used d t made has s leaf told values go_with c.tag obeying.tags f k b) (values l) in
       contains_counted (values l) (parts d f (values k)) (omega (arith, counted, same))
 
   falls_to_summand : (f : OpId) (k l : ℕ) → IsBound d t class c.tag f k → IsConstant d t class c.tag f l → Contains (parts d f (values k)) (values l) → rank l < rank k
@@ -184,9 +184,9 @@ module _ (d : Declarations) (t : NodeTable) (made : IsWellMade t) (has : HasSums
       only_value (p ∷ q ∷ ps) e m n = absurd (omega (arith, n))
 
       is_alias : IsBound d t class c.tag f k → length (parts d f (values k)) < 2 → alias k ≡ 1
-      is_alias (solid assoc m) few = absurd (let two = solid_two d t made has s frame told values go_with c.tag obeying.tags f k assoc m in omega (arith, two, few))
+      is_alias (solid assoc m) few = absurd (let two = solid_two d t made has s leaf told values go_with c.tag obeying.tags f k assoc m in omega (arith, two, few))
       is_alias (alone u soft only) few = alone_alias f k soft only
-      is_alias (tagged u shared e) few = absurd (let two = shared_two d t made has s frame told values go_with c.tag obeying.tags f k shared (tagged u shared e) in omega (arith, two, few))
+      is_alias (tagged u shared e) few = absurd (let two = shared_two d t made has s leaf told values go_with c.tag obeying.tags f k shared (tagged u shared e) in omega (arith, two, few))
 
   falls : Falls d t class y c rank
   falls k l (argument i f ks j over simple of among other) =

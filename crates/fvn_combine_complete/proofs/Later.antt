@@ -13,7 +13,6 @@ use Rattle.fvn_terms.specs.Signature.{kind, IsSort, HasKind}
 use Rattle.fvn_terms.specs.Unifiers.{Problem}
 use Rattle.fvn_forms.specs.Flat.{FlatTerm, plain}
 use Rattle.fvn_forms.specs.Canon.{same_op, sum, canon, empty_sum}
-use Rattle.fvn_terms.specs.Equality.{identity}
 use Rattle.fvn_forms.specs.Settled.{Settled}
 use Rattle.fvn_forms.specs.LeastSort.{IsFlatSubstitution}
 use Rattle.fvn_forms.proofs.Build.{HasIdentity, sum_settled}
@@ -31,7 +30,7 @@ use Rattle.fvn_combine_nodes.specs.declared.state.State.{State}
 use Rattle.fvn_combine_nodes.specs.declared.table.Node.{Node}
 use Rattle.fvn_combine_nodes.specs.declared.table.Node.TheVariants.{Var, App}
 use Rattle.fvn_combine_systems.specs.NodeSystems.{is_headed}
-use Rattle.fvn_combine_leaves.specs.Frames.{IsSumOperator}
+use Rattle.fvn_combine_leaves.specs.Leaves.{IsSumOperator}
 use Rattle.fvn_combine_choices.specs.Choosing.{Systems, Choice}
 use Rattle.fvn_combine_choices.specs.Plans.{IsForSolution}
 use Rattle.fvn_combine_complete.specs.Neutral.{IsNeutral}
@@ -189,7 +188,7 @@ module _ {d : Declarations} {problem : Problem} {t : NodeTable} {s : State} {y :
       go (inr n) = standing n (some_standing x)
 
   neutral_identity : (f : OpId) → IsNeutral d f → HasIdentity d f
-  neutral_identity f n = (n.unit, ap identity n.is_identity)
+  neutral_identity f n = (n.unit, n.is_identity)
 
   -- the values are settled and keep kinds
   pub later_flat : IsFlatSubstitution d later
@@ -216,7 +215,7 @@ module _ {d : Declarations} {problem : Problem} {t : NodeTable} {s : State} {y :
           of_pieces : (f : OpId) → IsSumOperator d t f → (new : IsForSolution d t first next f x) → (l : List FlatTerm) → (l ≡ [] → IsNeutral d f) → AllByRecursion (λ q. HasKind d (plain q) (kind d new.rank.result)) l → HasKind d (plain (sum d f l)) (kind d new.rank.result)
           of_pieces f sum_operator new [] n h =
               let e = n refl in
-              subst (λ a. HasKind d (plain (empty_sum d f (identity a))) (kind d new.rank.result)) (sym e.is_identity) (g.good.fits.identity f e.unit new.rank e.is_identity new.declared_so)
+              subst (λ o. HasKind d (plain (empty_sum d f o)) (kind d new.rank.result)) (sym e.is_identity) (g.good.fits.identity f e.unit new.rank e.is_identity new.declared_so)
           of_pieces f sum_operator new (q ∷ qs) n h = sum_of_forms_of_kind d g.good.fits f sum_operator.associative (kind d new.rank.result) new.rank new.declared_so refl q qs h
       kinded_standing x i n (inr m) = canon_of_kind d g.good.fits (u x) (kind d x.sort) (g.unifier.0 x i)
 

@@ -1,4 +1,4 @@
--- Lemmas on the values of classes at a frame.
+-- Lemmas on the values of classes at a leaf.
 mod Heads
 mod Values
 mod Meeting
@@ -12,7 +12,7 @@ mod TwoSummands
 mod Taken
 mod Marked
 pub mod Touching
-pub mod NeutralTold
+mod NeutralTold
 mod Chosen
 mod Obeying
 mod Falling

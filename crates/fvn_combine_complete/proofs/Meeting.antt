@@ -1,4 +1,4 @@
--- What is counted of values that go with a frame meets what is asked of a choice.
+-- What is counted of values that go with a leaf meets what is asked of a choice.
 use Rattle.std.proofs.Common.{◌≡◌, ◌≢◌, ℕ, zero, ◌<◌, List, [], ◌∷◌, length, get_or, sym, ap, ◌∙◌, subst, inl, inr, arith, Contains, Option, slice_get}
 use Rattle.std.specs.Prelude.{Bool, pos, ◌↔◌}
 use Rattle.std.proofs.lemmas.Bool.{cases_order}
@@ -23,7 +23,7 @@ use Rattle.fvn_combine_nodes.proofs.Lists.{all_from}
 use Rattle.fvn_combine_systems.specs.NodeSystems.{addends, sums, coefficient, row_at, IsNodeSystem}
 use Rattle.fvn_combine_systems.specs.Values.{AddUp, AddsNothing}
 use Rattle.fvn_combine_systems.specs.Laws.{CountsSolve}
-use Rattle.fvn_combine_leaves.specs.Frames.{IsFrame, IsSumOperator, Uses}
+use Rattle.fvn_combine_leaves.specs.Leaves.{IsLeaf, IsSumOperator, Uses}
 use Rattle.fvn_combine_choices.specs.Binding.{AreAsked}
 use Rattle.fvn_combine_choices.specs.Tables.{HasSums}
 use Rattle.fvn_combine_complete.specs.Obeying.{IsTold, GoWith, ObeyTags}
@@ -39,7 +39,7 @@ not_unused d t class f columns system is j l u z =
     let zero = All-contains (λ r. get_or r j (pos 0) ≡ pos 0) (rows_of system) row z listed in
     u.other (sym (get_or-map (coefficient class u.row (addends f (slice_get t.nodes u.row))) columns j 0 (pos 0) l) ∙ zero)
 
-module _ (law : CountsSolve) (d : Declarations) (t : NodeTable) (made : IsWellMade t) (has : HasSums d t) (s : State) (frame : IsFrame d t s) (told : IsTold d t (class_of s)) (values : ℕ → FlatTerm) (go_with : GoWith d t s values) (tag : ℕ → Option OpId) (obey : ObeyTags d t (class_of s) tag values) (f : OpId) (sum : IsSumOperator d t f) (columns : List ℕ) (system : System) (is : IsNodeSystem t (class_of s) f columns system) where
+module _ (law : CountsSolve) (d : Declarations) (t : NodeTable) (made : IsWellMade t) (has : HasSums d t) (s : State) (leaf : IsLeaf d t s) (told : IsTold d t (class_of s)) (values : ℕ → FlatTerm) (go_with : GoWith d t s values) (tag : ℕ → Option OpId) (obey : ObeyTags d t (class_of s) tag values) (f : OpId) (sum : IsSumOperator d t f) (columns : List ℕ) (system : System) (is : IsNodeSystem t (class_of s) f columns system) where
   add_up : AddUp d t (class_of s) f values
   add_up i a b listed over = go_with.are.built i f (a ∷ b ∷ []) over
 
@@ -71,7 +71,7 @@ module _ (law : CountsSolve) (d : Declarations) (t : NodeTable) (made : IsWellMa
                 let r = (asked.are_constant c).0 m in
                 let k = get_or columns c 0 in
                 let n = (solve q).1.used c r.0 (not_unused d t (class_of s) f columns system is c r.0 r.1.used) in
-                let a = ap (count q) (constant_alone d t made has s frame told values go_with tag obey f k r.1) in
+                let a = ap (count q) (constant_alone d t made has s leaf told values go_with tag obey f k r.1) in
                 omega (arith, n, a);
             different = λ c e m n ne v b p q.
                 let rc = (asked.are_constant c).0 m in
@@ -80,19 +80,19 @@ module _ (law : CountsSolve) (d : Declarations) (t : NodeTable) (made : IsWellMa
                 let l = get_or columns e 0 in
                 let left : 0 < component columns v k = let a = component_at columns v is.distinct c rc.0 in omega (arith, a, p) in
                 let right : 0 < component columns v l = let a = component_at columns v is.distinct e re.0 in omega (arith, a, q) in
-                constants_differ d t made has s frame told values go_with tag obey f k l rc.1 re.1 (columns_apart c e ne rc.0 re.0)
-                (frame.constants f k l (may_be d t made has s frame told values go_with tag obey f k rc.1) (may_be d t made has s frame told values go_with tag obey f l re.1)
+                constants_differ d t made has s leaf told values go_with tag obey f k l rc.1 re.1 (columns_apart c e ne rc.0 re.0)
+                (leaf.constants f k l (may_be d t made has s leaf told values go_with tag obey f k rc.1) (may_be d t made has s leaf told values go_with tag obey f l re.1)
                 (record { columns = columns; system = system; is = is; solution = v; minimal = (exact v).0 b; left = left; right = right }));
             filled = λ j z.
                 let r = (asked.required j).0 z in
                 let k = get_or columns j 0 in
-                let some = required_some d t made has s frame told values go_with tag obey f k r.1 in
-                let n = (solve some.0).1.used j r.0 (not_unused d t (class_of s) f columns system is j r.0 (bound_used d t made has s frame told values go_with tag obey f k r.1.bound)) in
+                let some = required_some d t made has s leaf told values go_with tag obey f k r.1 in
+                let n = (solve some.0).1.used j r.0 (not_unused d t (class_of s) f columns system is j r.0 (bound_used d t made has s leaf told values go_with tag obey f k r.1.bound)) in
                 (some.0, let p = some.1 in omega (arith, n, p));
           };
         }
 
-pub values_meet : (law : CountsSolve) (d : Declarations) (t : NodeTable) → IsWellMade t → HasSums d t → (s : State) → IsFrame d t s → IsTold d t (class_of s) → (values : ℕ → FlatTerm) → GoWith d t s values → (tag : ℕ → Option OpId) → ObeyTags d t (class_of s) tag values →
+pub values_meet : (law : CountsSolve) (d : Declarations) (t : NodeTable) → IsWellMade t → HasSums d t → (s : State) → IsLeaf d t s → IsTold d t (class_of s) → (values : ℕ → FlatTerm) → GoWith d t s values → (tag : ℕ → Option OpId) → ObeyTags d t (class_of s) tag values →
     (f : OpId) → IsSumOperator d t f → (columns : List ℕ) (system : System) → IsNodeSystem t (class_of s) f columns system → (basis : List (List ℕ)) → ((v : List ℕ) → Contains basis v ↔ IsMinimal system.columns (rows_of system) v) →
     (constants : List ℕ) (may_be_zero : List Bool) → AreAsked d t (class_of s) tag f columns constants may_be_zero → CountsMeet d f values columns system basis constants may_be_zero
-values_meet law d t made has s frame told values go_with tag obey f sum columns system is basis exact constants may_be_zero asked = counts_meet law d t made has s frame told values go_with tag obey f sum columns system is basis exact constants may_be_zero asked
+values_meet law d t made has s leaf told values go_with tag obey f sum columns system is basis exact constants may_be_zero asked = counts_meet law d t made has s leaf told values go_with tag obey f sum columns system is basis exact constants may_be_zero asked

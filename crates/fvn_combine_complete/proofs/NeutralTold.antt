@@ -1,5 +1,5 @@
 -- An operator of a good signature is neutral, or it is not.
-use Rattle.std.proofs.Common.{◌≡◌, ℕ, zero, suc, ◌<◌, true, List, [], ◌∷◌, length, refl, sym, ap, ◌∙◌, subst, inl, inr, arith, Contains}
+use Rattle.std.proofs.Common.{◌≡◌, ℕ, zero, suc, ◌<◌, true, List, [], ◌∷◌, length, refl, sym, ap, ◌∙◌, subst, inl, inr, arith, Option, Some, None, Contains}
 use Rattle.std.proofs.lemmas.Bool.{cases_lt}
 use Rattle.std.proofs.lemmas.List.{get_or_past}
 use Rattle.fvn_base.specs.Decided.{Decided}
@@ -7,11 +7,10 @@ use Rattle.fvn_base.proofs.Decided.{some_or_none, decided_by, both_or}
 use Rattle.fvn_base.proofs.Membership.{contains_here, contains_later}
 use Rattle.fvn_terms.specs.declared.plain.OpId.{OpId}
 use Rattle.fvn_terms.specs.declared.plain.SortId.{SortId}
-use Rattle.fvn_terms.specs.declared.declarations.Axioms.{Axioms}
-use Rattle.fvn_terms.specs.declared.declarations.Axioms.TheVariants.{Free, Comm, AssocComm, AssocCommId}
 use Rattle.fvn_terms.specs.declared.declarations.Rank.{Rank}
 use Rattle.fvn_terms.specs.declared.declarations.Declarations.{Declarations}
 use Rattle.fvn_terms.specs.Signature.{kind, declared, axioms, AtOrBelow, IsSort}
+use Rattle.fvn_terms.specs.Equality.{identity}
 use Rattle.fvn_forms.specs.Good.{IsGood, IsOfKind}
 use Rattle.fvn_forms.specs.Ranks.{result}
 use Rattle.fvn_forms.specs.SortOrder.{sort_number, same_sort, at_or_below}
@@ -67,15 +66,13 @@ module _ (d : Declarations) (good : IsGood d) where
           decided_by (at_or_below d q a) (at_or_below-true d q a) (λ h. at_or_below-complete d h)
 
   pub neutral_told : (f : OpId) → Decided (IsNeutral d f)
-  neutral_told f = go (axioms d f) refl
+  neutral_told f = go (identity (axioms d f)) refl
     where
-      go : (x : Axioms) → axioms d f ≡ x → Decided (IsNeutral d f)
-      go Free is = inr (λ n. let e = sym is ∙ n.is_identity in cc)
-      go Comm is = inr (λ n. let e = sym is ∙ n.is_identity in cc)
-      go AssocComm is = inr (λ n. let e = sym is ∙ n.is_identity in cc)
-      go (AssocCommId e) is = elim (some_or_none (Fails f e) (fails_told f e) (sorts_below (length d.kinds))) [
+      go : (o : Option OpId) → identity (axioms d f) ≡ o → Decided (IsNeutral d f)
+      go None is = inr (λ n. let e : None ≡ Some n.unit = sym is ∙ n.is_identity in cc)
+      go (Some e) is = elim (some_or_none (Fails f e) (fails_told f e) (sorts_below (length d.kinds))) [
         | inl h ↦ inr (λ n.
-            let same : AssocCommId n.unit ≡ AssocCommId e = sym n.is_identity ∙ is in
+            let same : Some n.unit ≡ Some e = sym n.is_identity ∙ is in
             let unit_is : n.unit ≡ e = cc in
             h.1.1.1 (subst (λ o. Absorbs d f o h.0) unit_is (n.absorbs h.0 h.1.1.0)))
         | inr none ↦ inl (record {

@@ -1,4 +1,4 @@
--- Values that go with a frame obey a possible choice that is full.
+-- Values that go with a leaf obey a possible choice that is full.
 use Rattle.std.proofs.Common.{◌≡◌, ℕ, ◌/◌, ◌%◌, ◌^◌, ◌<◌, true, false, List, [], length, get_or, refl, sym, ap, ◌∙◌, subst, inl, inr, arith, Option, Some, None}
 use Rattle.std.specs.Prelude.{◌↔◌, Bool, nat_eq}
 use Rattle.std.proofs.lemmas.Bool.{eqb-true, eq-eqb, true≢false}
@@ -13,7 +13,7 @@ use Rattle.fvn_combine_nodes.specs.Table.{NodeTable, IsWellMade}
 use Rattle.fvn_combine_nodes.specs.States.{class_of}
 use Rattle.fvn_combine_nodes.specs.declared.state.State.{State}
 use Rattle.fvn_combine_supports.specs.Laws.{MadeUpByTaken}
-use Rattle.fvn_combine_leaves.specs.Frames.{IsFrame, IsSumOperator, Uses, IsShared}
+use Rattle.fvn_combine_leaves.specs.Leaves.{IsLeaf, IsSumOperator, Uses, IsShared}
 use Rattle.fvn_combine_choices.specs.Choosing.{Systems, Choice, AreSystems, IsAcceptable, IsPossible}
 use Rattle.fvn_combine_complete.specs.Laws.{ValuesChoose, NoAliases, IsChosen}
 use Rattle.fvn_combine_choices.specs.Tables.{HasSums}
@@ -28,7 +28,7 @@ use Rattle.fvn_combine_complete.proofs.NeutralTold.{neutral_told}
 use Rattle.fvn_combine_complete.proofs.Touching.{bare_is}
 use Rattle.fvn_combine_complete.proofs.Tagging.{sum_head, sum_told as headed_told}
 
-module _ (choose : ValuesChoose) (aliases : NoAliases) (law : MadeUpByTaken) (d : Declarations) (good : IsGood d) (t : NodeTable) (made : IsWellMade t) (has : HasSums d t) (s : State) (frame : IsFrame d t s) (told : IsTold d t (class_of s)) (y : Systems) (systems : AreSystems d t (class_of s) y) (values : ℕ → FlatTerm) (go_with : GoWith d t s values) where
+module _ (choose : ValuesChoose) (aliases : NoAliases) (law : MadeUpByTaken) (d : Declarations) (good : IsGood d) (t : NodeTable) (made : IsWellMade t) (has : HasSums d t) (s : State) (leaf : IsLeaf d t s) (told : IsTold d t (class_of s)) (y : Systems) (systems : AreSystems d t (class_of s) y) (values : ℕ → FlatTerm) (go_with : GoWith d t s values) where
   abbrev class : ℕ → ℕ
   class = class_of s
 
@@ -70,12 +70,12 @@ module _ (choose : ValuesChoose) (aliases : NoAliases) (law : MadeUpByTaken) (d 
   obey k f shared u = (tag_at k).1.obeyed f shared u
 
   -- what is asked for an operator, and what is chosen for it
-  asked_for : (f : OpId) → IsSumOperator d t f → Asked d t made has s frame told values go_with tag obey f (y.columns f)
-  asked_for f sum = asked d t made has s frame told values go_with tag obey f sum (y.columns f) (systems.is_system f sum).exact
+  asked_for : (f : OpId) → IsSumOperator d t f → Asked d t made has s leaf told values go_with tag obey f (y.columns f)
+  asked_for f sum = asked d t made has s leaf told values go_with tag obey f sum (y.columns f) (systems.is_system f sum).exact
 
   chosen_for : (f : OpId) (sum : IsSumOperator d t f) → IsChosen d f values (y.columns f) (y.system f) (y.basis f) (asked_for f sum).constants (asked_for f sum).may_be_zero
   chosen_for f sum =
-      choose d t made has s frame told values go_with tag obey f sum (y.columns f) (y.system f) (systems.is_system f sum) (y.basis f) (systems.exact f sum)
+      choose d t made has s leaf told values go_with tag obey f sum (y.columns f) (y.system f) (systems.is_system f sum) (y.basis f) (systems.exact f sum)
       (asked_for f sum).constants (asked_for f sum).may_be_zero (asked_for f sum).are_asked
 
   -- where the operator is neutral, solutions without a constant are taken with or without pieces
@@ -127,13 +127,13 @@ module _ (choose : ValuesChoose) (aliases : NoAliases) (law : MadeUpByTaken) (d 
 
   accepted : (f : OpId) → IsSumOperator d t f → (o : Decided (IsSumOperator d t f)) → sum_told d t f ≡ o → IsAcceptable d t class y choice f
   accepted f sum (inl h) e =
-      acceptable d t made has s frame told values go_with y systems choice obey f h (asked_for f h).constants (asked_for f h).may_be_zero (asked_for f h).are_asked (chosen_for f h) (also f h) (marks_for f h) (marks_are f h) (ap (number_in f) e) (also_neutral f h) (also_bare f h) law aliases
+      acceptable d t made has s leaf told values go_with y systems choice obey f h (asked_for f h).constants (asked_for f h).may_be_zero (asked_for f h).are_asked (chosen_for f h) (also f h) (marks_for f h) (marks_are f h) (ap (number_in f) e) (also_neutral f h) (also_bare f h) law aliases
   accepted f sum (inr n) e = absurd (n sum)
 
   made_up : (f : OpId) → IsSumOperator d t f → (o : Decided (IsSumOperator d t f)) → sum_told d t f ≡ o → AreMadeOf d t class y choice values f (pieces_in f (sum_told d t f))
   made_up f sum (inl h) e =
       subst (AreMadeOf d t class y choice values f) (sym (ap (pieces_in f) e))
-      (made_of d t made has s frame told values go_with y systems choice obey f h (asked_for f h).constants (asked_for f h).may_be_zero (asked_for f h).are_asked (chosen_for f h) (also f h) (marks_for f h) (marks_are f h) (ap (number_in f) e) (also_neutral f h) (also_bare f h) law)
+      (made_of d t made has s leaf told values go_with y systems choice obey f h (asked_for f h).constants (asked_for f h).may_be_zero (asked_for f h).are_asked (chosen_for f h) (also f h) (marks_for f h) (marks_are f h) (ap (number_in f) e) (also_neutral f h) (also_bare f h) law)
   made_up f sum (inr n) e = absurd (n sum)
 
   -- every solution without a constant is taken

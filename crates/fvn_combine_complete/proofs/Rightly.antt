@@ -41,7 +41,7 @@ use Rattle.fvn_combine_nodes.specs.Unifiers.{value_at}
 use Rattle.fvn_combine_nodes.specs.declared.state.State.{State}
 use Rattle.fvn_combine_nodes.specs.declared.table.Node.TheVariants.{App}
 use Rattle.fvn_combine_nodes.proofs.Nodes.{term_at-over, arguments_within}
-use Rattle.fvn_combine_leaves.specs.Frames.{IsSumOperator, Uses}
+use Rattle.fvn_combine_leaves.specs.Leaves.{IsSumOperator, Uses}
 use Rattle.fvn_combine_choices.specs.Choosing.{Systems, Choice}
 use Rattle.fvn_combine_choices.specs.Plans.{IsFormBy}
 use Rattle.fvn_combine_complete.specs.LaidOut.{laid_for}
@@ -298,7 +298,7 @@ module _ {d : Declarations} {problem : Problem} {t : NodeTable} {s : State} {y :
       go (as_member v) h is =
           let at = h.1 in
           member_right h.0 at.operator at.arguments at.over at.simple k b at.of e (ap (over_classes d problem (class_at t class) plan) h.2 ∙ Some-injective is)
-      go (as_sum f) h is = sum_right f k (bound_used d t g.made g.has s g.frame g.told values g.go_with c.tag g.obeying.tags f k h) b e (Some-injective is)
+      go (as_sum f) h is = sum_right f k (bound_used d t g.made g.has s g.leaf g.told values g.go_with c.tag g.obeying.tags f k h) b e (Some-injective is)
 
   variable_right : (b : Var × FlatTerm) → Contains (variables_of problem) b.0 → b.1 ≡ fvar (plan.name (class_at t class (var b.0))) → Right b
   variable_right b among is =

@@ -1,4 +1,4 @@
--- A frame that admits a unifier's partition, with a choice that the unifier's values obey, and the kinds of the values.
+-- A leaf that admits a unifier's partition, with a choice that the unifier's values obey, and the kinds of the values.
 use Rattle.std.proofs.Common.{◌≡◌, ℕ, ◌<◌, [], ◌∷◌, length, sym, ap, ◌∙◌, subst, inl, inr, arith, Contains}
 use Rattle.std.proofs.lemmas.Option.{slice_get_within}
 use Rattle.fvn_base.proofs.Membership.{contains_cases, contains_none}
@@ -26,7 +26,7 @@ use Rattle.fvn_combine_nodes.specs.declared.state.State.{State}
 use Rattle.fvn_combine_nodes.specs.declared.table.Node.TheVariants.{App}
 use Rattle.fvn_combine_nodes.proofs.Admitting.{named_within}
 use Rattle.fvn_combine_nodes.proofs.Nodes.{term_at-over, arguments_within}
-use Rattle.fvn_combine_leaves.specs.Frames.{IsFrame, Uses}
+use Rattle.fvn_combine_leaves.specs.Leaves.{IsLeaf, Uses}
 use Rattle.fvn_combine_choices.specs.Choosing.{Systems, Choice, AreSystems}
 use Rattle.fvn_combine_choices.specs.Plans.{IsPlanBy}
 use Rattle.fvn_combine_complete.specs.CoveringChoices.{IsAfterNumbersOf}
@@ -36,14 +36,14 @@ use Rattle.fvn_combine_complete.specs.Obeying.{IsTold, GoWith}
 use Rattle.fvn_combine_nodes.proofs.Subterms.{node_kinded}
 use Rattle.fvn_combine_complete.proofs.Values.{own_name}
 
--- a frame that admits a unifier's partition, a choice that the unifier's values obey, and a plan of the choice
+-- a leaf that admits a unifier's partition, a choice that the unifier's values obey, and a plan of the choice
 pub record Setting (d : Declarations) (problem : Problem) (t : NodeTable) (s : State) (y : Systems) (u : Substitution) (c : Choice) (first next : ℕ) (plan : Plan) : Type 0 where
   pub good : IsGood d
   pub kinded : IsProblem d problem
   pub made : IsWellMade t
   pub table : IsTableOf d problem t
   pub has : HasSums d t
-  pub frame : IsFrame d t s
+  pub leaf : IsLeaf d t s
   pub told : IsTold d t (class_of s)
   pub systems : AreSystems d t (class_of s) y
   pub unifier : IsKindUnifier d problem u
@@ -73,12 +73,12 @@ module _ {d : Declarations} {problem : Problem} {t : NodeTable} {s : State} {y :
   value_kinded i k h = canon_of_kind d g.good.fits (apply u (term_at t.nodes i)) k (HasKind-apply d u g.unifier.0 (term_at t.nodes i) k h)
 
   pub class_within : (i : ℕ) → i < length t.nodes → class i < length t.nodes
-  class_within i l = let w = g.frame.closed.whole in let n = named_within s g.frame.closed.naming i (omega (arith, l, w)) in omega (arith, n, w)
+  class_within i l = let w = g.leaf.closed.whole in let n = named_within s g.leaf.closed.naming i (omega (arith, l, w)) in omega (arith, n, w)
 
   -- the value of a node is that of its class
   pub same_value : (i : ℕ) → i < length t.nodes → values (class i) ≡ values i
   same_value i l =
-      let w = g.frame.closed.whole in
+      let w = g.leaf.closed.whole in
       sym (canon_respects d ((g.partitions.exact i (class i) l (class_within i l)).0 (g.admits.together i (omega (arith, l, w)))))
 
   -- what f gives, where it uses a class
@@ -122,7 +122,7 @@ module _ {d : Declarations} {problem : Problem} {t : NodeTable} {s : State} {y :
 
   -- a class that is used is a node's name
   pub column_within : (f : OpId) (k : ℕ) → Uses d t class f k → k < length t.nodes
-  column_within f k uses = (own_name d t g.made g.has s g.frame g.told values g.go_with c.tag g.obeying.tags f k uses.column).within
+  column_within f k uses = (own_name d t g.made g.has s g.leaf g.told values g.go_with c.tag g.obeying.tags f k uses.column).within
 
   -- names of classes
   pub name_kinded : (k : ℕ) → k < length t.nodes → IsSort d (plan.name k).sort × (kind d (plan.name k).sort ≡ (plan.name k).sort)

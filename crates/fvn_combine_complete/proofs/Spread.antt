@@ -8,7 +8,8 @@ use Rattle.fvn_terms.specs.declared.declarations.Rank.{Rank}
 use Rattle.fvn_terms.specs.declared.declarations.Declarations.{Declarations}
 use Rattle.fvn_terms.specs.Term.{var}
 use Rattle.fvn_terms.specs.Signature.{kind, declared, axioms, HasKind, AtOrBelow}
-use Rattle.fvn_terms.specs.Equality.{IsAssociative, IsCommutative, identity}
+use Rattle.fvn_terms.specs.Equality.{IsAssociative, identity}
+use Rattle.fvn_terms.proofs.AxiomWords.{identity_commutes}
 use Rattle.fvn_forms.specs.Flat.{FlatTerm, fvar, plain}
 use Rattle.fvn_forms.specs.InOrder.{count, SameCounts}
 use Rattle.fvn_forms.specs.Canon.{parts, all_parts, sum, build, inst, empty_sum}
@@ -117,10 +118,10 @@ module _ (d : Declarations) (good : IsGood d) (w : Var → FlatTerm) (flat : IsF
   some_summand l n p e = n (sort_is_nil l (sym (parts_sum d f l p) ∙ e))
 
   neutral_identity : IsNeutral d f → HasIdentity d f
-  neutral_identity n = (n.unit, ap identity n.is_identity)
+  neutral_identity n = (n.unit, n.is_identity)
 
   neutral_empty : (n : IsNeutral d f) → least_sort d (sum d f []) ≡ result d n.unit []
-  neutral_empty n = ap (λ a. least_sort d (empty_sum d f (identity a))) n.is_identity
+  neutral_empty n = ap (λ o. least_sort d (empty_sum d f o)) n.is_identity
 
   -- pieces of a sum
   record ArePieces (l : List FlatTerm) : Type 0 where
@@ -145,7 +146,7 @@ module _ (d : Declarations) (good : IsGood d) (w : Var → FlatTerm) (flat : IsF
   over_two : (l m : List FlatTerm) → ArePieces l → ArePieces m → AtOrBelow d (result d f (least_sort d (sum d f l) ∷ least_sort d (sum d f m) ∷ [])) (least_sort d (sum d f (l ++ m)))
   over_two [] m hl hm =
       let n = hl.some refl in
-      let swap = result_swap d good f (least_sort d (sum d f [])) (least_sort d (sum d f m)) (subst IsCommutative (sym n.is_identity) tt) (pieces_take [] m hl hm) in
+      let swap = result_swap d good f (least_sort d (sum d f [])) (least_sort d (sum d f m)) (identity_commutes (axioms d f) n.unit n.is_identity) (pieces_take [] m hl hm) in
       let is = swap ∙ ap (λ q. result d f (least_sort d (sum d f m) ∷ q ∷ [])) (neutral_empty n) in
       subst (λ q. AtOrBelow d q (least_sort d (sum d f m))) (sym is) (n.absorbs (least_sort d (sum d f m)) (pieces_of_kind m hm))
   over_two (x ∷ l) [] hl hm =

@@ -24,7 +24,7 @@ use Rattle.fvn_combine_nodes.specs.Table.{NodeTable}
 use Rattle.fvn_combine_nodes.specs.States.{class_of}
 use Rattle.fvn_combine_nodes.specs.Unifiers.{value_at}
 use Rattle.fvn_combine_nodes.specs.declared.state.State.{State}
-use Rattle.fvn_combine_leaves.specs.Frames.{IsSumOperator}
+use Rattle.fvn_combine_leaves.specs.Leaves.{IsSumOperator}
 use Rattle.fvn_combine_choices.specs.Binding.{IsConstant}
 use Rattle.fvn_combine_choices.specs.Choosing.{Systems, Choice, taken}
 use Rattle.fvn_combine_choices.specs.Plans.{IsForSolution, StandsFor}
@@ -114,7 +114,7 @@ module _ {d : Declarations} {problem : Problem} {t : NodeTable} {s : State} {y :
     ]
       where
         told : (k : ℕ) → Decided (HasConstant k)
-        told k = elim (constant_told d t g.made g.has s g.frame g.told values g.go_with c.tag g.obeying.tags f k (user_told d t class y g.systems f k)) [
+        told k = elim (constant_told d t g.made g.has s g.leaf g.told values g.go_with c.tag g.obeying.tags f k (user_told d t class y g.systems f k)) [
           | inl h ↦ elim (zero_or_more (component (y.columns f) e.0.solution k)) [
             | inl z ↦ inr (λ o. let p = o.positive in omega (arith, p, z))
             | inr p ↦ inl (record { constant = h; positive = p })

@@ -1,4 +1,4 @@
--- Values that go with a frame choose minimal solutions, with pieces.
+-- Values that go with a leaf choose minimal solutions, with pieces.
 use Rattle.std.proofs.Common.{◌≡◌, ℕ, ◌<◌, List, [], ◌∷◌, length, replicate, get_or, refl, sym, ap, ◌∙◌, subst, inl, inr, arith, All, Contains}
 use Rattle.std.specs.Prelude.{Bool, ◌↔◌}
 use Rattle.std.specs.List.{flat_map}

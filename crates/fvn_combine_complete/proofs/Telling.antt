@@ -17,7 +17,7 @@ use Rattle.fvn_combine_nodes.specs.declared.state.State.{State}
 use Rattle.fvn_combine_nodes.specs.declared.table.Node.TheVariants.{App}
 use Rattle.fvn_combine_nodes.proofs.Admitting.{named_within}
 use Rattle.std.proofs.lemmas.Option.{slice_get_within}
-use Rattle.fvn_combine_leaves.specs.Frames.{IsSolid, Uses}
+use Rattle.fvn_combine_leaves.specs.Leaves.{IsSolid, Uses}
 use Rattle.fvn_combine_leaves.specs.Readings.{AreSums, IsReading}
 use Rattle.fvn_combine_leaves.specs.declared.reading.Sums.{Sums}
 use Rattle.fvn_combine_leaves.specs.declared.reading.Reading.{Reading}

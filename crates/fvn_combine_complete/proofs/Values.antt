@@ -29,7 +29,7 @@ use Rattle.fvn_combine_nodes.proofs.Heading.{identity_of, some_part, build_head}
 use Rattle.fvn_combine_systems.specs.NodeSystems.{is_headed, addends, stands_in, coefficient, IsNodeColumn}
 use Rattle.fvn_combine_systems.proofs.Members.{column_of_node, over_addends}
 use Rattle.fvn_combine_systems.proofs.Weighing.{balance}
-use Rattle.fvn_combine_leaves.specs.Frames.{IsSolid, Uses, IsShared, MayBeConstant, HaveTwoHeads, IsFrame}
+use Rattle.fvn_combine_leaves.specs.Leaves.{IsSolid, Uses, IsShared, MayBeConstant, HaveTwoHeads, IsLeaf}
 use Rattle.fvn_combine_choices.specs.Binding.{IsBound, solid, alone, tagged, IsConstant, IsRequired}
 use Rattle.fvn_combine_choices.specs.Tables.{HasSums}
 use Rattle.fvn_combine_complete.specs.Obeying.{IsTold, GoWith, IsSumOf, ObeyTags}
@@ -38,7 +38,7 @@ use Rattle.fvn_combine_complete.proofs.Heads.{build_constant, single_part}
 equal_parts : (m n : ℕ) → pos m -ℤ pos n ≡ pos 0 → m ≡ n
 equal_parts m n e = let b = balance m n in let a : above (pos m -ℤ pos n) ≡ 0 = ap above e in let c : below (pos m -ℤ pos n) ≡ 0 = ap below e in omega (arith, a, b, c)
 
-module _ (d : Declarations) (t : NodeTable) (made : IsWellMade t) (has : HasSums d t) (s : State) (frame : IsFrame d t s) (told : IsTold d t (class_of s)) (values : ℕ → FlatTerm) (go_with : GoWith d t s values) (tag : ℕ → Option OpId) (obey : ObeyTags d t (class_of s) tag values) where
+module _ (d : Declarations) (t : NodeTable) (made : IsWellMade t) (has : HasSums d t) (s : State) (leaf : IsLeaf d t s) (told : IsTold d t (class_of s)) (values : ℕ → FlatTerm) (go_with : GoWith d t s values) (tag : ℕ → Option OpId) (obey : ObeyTags d t (class_of s) tag values) where
   abbrev class : ℕ → ℕ
   class = class_of s
 
@@ -64,10 +64,10 @@ module _ (d : Declarations) (t : NodeTable) (made : IsWellMade t) (has : HasSums
     where
       at : (i : ℕ) → i < length t.nodes → class i ≡ k → IsName k
       at i l e =
-          let w = frame.closed.whole in
+          let w = leaf.closed.whole in
           let m : i < length s.names = omega (arith, l, w) in
-          let n = named_within s frame.closed.naming i m in
-          record { own = ap class (sym e) ∙ (frame.closed.naming.named i m).1 ∙ e; within = omega (arith, n, w, e) }
+          let n = named_within s leaf.closed.naming i m in
+          record { own = ap class (sym e) ∙ (leaf.closed.naming.named i m).1 ∙ e; within = omega (arith, n, w, e) }
 
   -- why a constant is none that is bound
   pub constant_why : (f : OpId) (k : ℕ) → IsConstant d t class tag f k → ((g : OpId) × (g ≢ f) × IsSolid d t class g k) ⊎ IsShared d t class k
@@ -118,11 +118,11 @@ module _ (d : Declarations) (t : NodeTable) (made : IsWellMade t) (has : HasSums
                 let nothing = build_constant d e plain (map (λ k. values (class k)) m.arguments) (sym (go_with.are.built m.member e m.arguments m.over) ∙ ap values m.of ∙ is) in
                 let none : m.arguments ≡ [] = map_nothing m.arguments nothing in
                 let same_node : class m.member ≡ class p.1 =
-                (frame.partition.nodes m.member p.1 e e [] [] (subst (IsOver t.nodes m.member e) none m.over) over).congruent refl refl
+                (leaf.partition.nodes m.member p.1 e e [] [] (subst (IsOver t.nodes m.member e) none m.over) over).congruent refl refl
                 in
                 not_identity (sym m.of ∙ same_node)
             | inr shared ↦ elim (same_class k p.1 (own_name f k h.used.column) (slice_get_within t.nodes p.1 (App e []) over)) [
-              | inl o ↦ frame.identities f k shared h.used p (j, l, at) same o
+              | inl o ↦ leaf.identities f k shared h.used p (j, l, at) same o
               | inr r ↦ elim r [
                 | inl q ↦ not_identity q
                 | inr n ↦ n (is ∙ sym value)

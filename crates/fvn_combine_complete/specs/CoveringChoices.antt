@@ -1,4 +1,4 @@
--- Choices at a frame that cover a unifier.
+-- Choices at a leaf that cover a unifier.
 use Rattle.std.specs.Prelude.{◌≡◌, ℕ, ◌<◌, true, Contains}
 use Rattle.fvn_terms.specs.declared.plain.Var.{Var}
 use Rattle.fvn_terms.specs.declared.declarations.Declarations.{Declarations}

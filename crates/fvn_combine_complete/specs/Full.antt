@@ -4,7 +4,7 @@ use Rattle.fvn_terms.specs.declared.plain.OpId.{OpId}
 use Rattle.fvn_terms.specs.declared.declarations.Declarations.{Declarations}
 use Rattle.fvn_flat.specs.SolvedLists.{component}
 use Rattle.fvn_combine_nodes.specs.Table.{NodeTable}
-use Rattle.fvn_combine_leaves.specs.Frames.{IsSumOperator}
+use Rattle.fvn_combine_leaves.specs.Leaves.{IsSumOperator}
 use Rattle.fvn_combine_choices.specs.Binding.{IsConstant}
 use Rattle.fvn_combine_choices.specs.Choosing.{Systems, Choice}
 use Rattle.fvn_combine_complete.specs.Neutral.{IsNeutral}

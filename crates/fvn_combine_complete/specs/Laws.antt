@@ -23,7 +23,7 @@ use Rattle.fvn_combine_nodes.specs.declared.state.State.{State}
 use Rattle.fvn_combine_systems.specs.NodeSystems.{IsNodeSystem}
 use Rattle.fvn_combine_systems.specs.Values.{Counts}
 use Rattle.fvn_combine_supports.specs.Pieces.{has_some, number_of, AreMadeUp, Meets, StandAlone}
-use Rattle.fvn_combine_leaves.specs.Frames.{IsFrame, IsSumOperator}
+use Rattle.fvn_combine_leaves.specs.Leaves.{IsLeaf, IsSumOperator}
 use Rattle.fvn_combine_leaves.specs.Readings.{IsReading}
 use Rattle.fvn_combine_leaves.specs.declared.reading.Reading.{Reading}
 use Rattle.fvn_combine_choices.specs.Binding.{AreAsked}
@@ -54,10 +54,10 @@ pub record IsChosen (d : Declarations) (f : OpId) (values : ℕ → FlatTerm) (c
   -- a solution that is chosen and has a constant has the value of its class as its one piece
   pub stand : StandAlone constants basis pieces (λ j. values (slice_index columns j))
 
--- what is counted of values that go with a frame and obey tags meets what is asked for each sum operator
+-- what is counted of values that go with a leaf and obey tags meets what is asked for each sum operator
 abbrev pub ValuesMeetWhatIsAsked : Type 0
 ValuesMeetWhatIsAsked =
-    (d : Declarations) (t : NodeTable) → IsWellMade t → HasSums d t → (s : State) → IsFrame d t s → IsTold d t (class_of s)
+    (d : Declarations) (t : NodeTable) → IsWellMade t → HasSums d t → (s : State) → IsLeaf d t s → IsTold d t (class_of s)
     → (values : ℕ → FlatTerm) → GoWith d t s values → (tag : ℕ → Option OpId) → ObeyTags d t (class_of s) tag values
     → (f : OpId) → IsSumOperator d t f → (columns : List ℕ) (system : System) → IsNodeSystem t (class_of s) f columns system
     → (basis : List (List ℕ)) → ((v : List ℕ) → Contains basis v ↔ IsMinimal system.columns (rows_of system) v)
@@ -67,7 +67,7 @@ ValuesMeetWhatIsAsked =
 -- such values choose minimal solutions for each sum operator
 abbrev pub ValuesChoose : Type 0
 ValuesChoose =
-    (d : Declarations) (t : NodeTable) → IsWellMade t → HasSums d t → (s : State) → IsFrame d t s → IsTold d t (class_of s)
+    (d : Declarations) (t : NodeTable) → IsWellMade t → HasSums d t → (s : State) → IsLeaf d t s → IsTold d t (class_of s)
     → (values : ℕ → FlatTerm) → GoWith d t s values → (tag : ℕ → Option OpId) → ObeyTags d t (class_of s) tag values
     → (f : OpId) → IsSumOperator d t f → (columns : List ℕ) (system : System) → IsNodeSystem t (class_of s) f columns system
     → (basis : List (List ℕ)) → ((v : List ℕ) → Contains basis v ↔ IsMinimal system.columns (rows_of system) v)
@@ -111,17 +111,17 @@ UnifiersGoWith =
     (d : Declarations) → FitsKinds d → (problem : Problem) → IsProblem d problem → (t : NodeTable) → IsWellMade t → IsTableOf d problem t
     → (u : Substitution) → IsKindUnifier d problem u → (s : State) → IsClosed d t s → Admits s (kernel d u t.nodes) → GoWith d t s (value_at d u t.nodes)
 
--- values that go with a frame obey a possible choice that is full
+-- values that go with a leaf obey a possible choice that is full
 abbrev pub ValuesObeyChoices : Type 0
 ValuesObeyChoices =
-    (d : Declarations) → IsGood d → (t : NodeTable) → IsWellMade t → HasSums d t → (s : State) → IsFrame d t s → IsTold d t (class_of s)
+    (d : Declarations) → IsGood d → (t : NodeTable) → IsWellMade t → HasSums d t → (s : State) → IsLeaf d t s → IsTold d t (class_of s)
     → (y : Systems) → AreSystems d t (class_of s) y → (values : ℕ → FlatTerm) → GoWith d t s values
     → (c : Choice) × IsPossible d t (class_of s) y c × IsFull d t (class_of s) y c × AreObeying d t (class_of s) y c values
 
 -- where values obey a choice, a class needs only classes of a lower rank
 abbrev pub ObeyedChoicesFall : Type 0
 ObeyedChoicesFall =
-    (d : Declarations) (t : NodeTable) → IsWellMade t → HasSums d t → (s : State) → IsFrame d t s → IsTold d t (class_of s)
+    (d : Declarations) (t : NodeTable) → IsWellMade t → HasSums d t → (s : State) → IsLeaf d t s → IsTold d t (class_of s)
     → (y : Systems) (values : ℕ → FlatTerm) → GoWith d t s values
     → (c : Choice) → AreObeying d t (class_of s) y c values → (rank : ℕ → ℕ) × Falls d t (class_of s) y c rank
 
@@ -129,16 +129,16 @@ ObeyedChoicesFall =
 abbrev pub ObeyedChoicesCover : Type 0
 ObeyedChoicesCover =
     (d : Declarations) → IsGood d → (problem : Problem) → IsProblem d problem → (t : NodeTable) → IsWellMade t → IsTableOf d problem t
-    → (s : State) → IsFrame d t s → IsTold d t (class_of s) → (y : Systems) → AreSystems d t (class_of s) y
+    → (s : State) → IsLeaf d t s → IsTold d t (class_of s) → (y : Systems) → AreSystems d t (class_of s) y
     → (u : Substitution) → IsKindUnifier d problem u → Admits s (kernel d u t.nodes)
     → (c : Choice) → AreObeying d t (class_of s) y c (value_at d u t.nodes)
     → (first next : ℕ) (plan : Plan) → IsAfterNumbersOf problem first → IsPlanBy d t (class_of s) y c first next plan
     → (bindings : Bindings) → AreBindingsBy d problem (class_at t (class_of s)) plan bindings
     → CoversOnKinds d (variables_of problem) (unfolds_to d bindings) u
 
--- at a frame that admits its partition, each unifier on kinds is covered by some choice
-abbrev pub FramesCover : Type 0
-FramesCover =
+-- at a leaf that admits its partition, each unifier on kinds is covered by some choice
+abbrev pub LeavesCover : Type 0
+LeavesCover =
     (d : Declarations) → IsGood d → (problem : Problem) → IsProblem d problem → (t : NodeTable) → IsWellMade t → IsTableOf d problem t
-    → (s : State) → IsFrame d t s → IsTold d t (class_of s) → (y : Systems) → AreSystems d t (class_of s) y
+    → (s : State) → IsLeaf d t s → IsTold d t (class_of s) → (y : Systems) → AreSystems d t (class_of s) y
     → (u : Substitution) → IsKindUnifier d problem u → Admits s (kernel d u t.nodes) → (c : Choice) × IsCovering d problem t s y u c

@@ -1,4 +1,4 @@
--- The words of covering: values that go with a frame, choices that they obey, and choices that cover a unifier.
+-- The words of covering: values that go with a leaf, choices that they obey, and choices that cover a unifier.
 pub mod Obeying
 pub mod LaidOut
 pub mod Neutral

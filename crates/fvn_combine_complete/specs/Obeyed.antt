@@ -7,7 +7,7 @@ use Rattle.fvn_forms.specs.InOrder.{SameCounts}
 use Rattle.fvn_forms.specs.Canon.{parts}
 use Rattle.fvn_flat.specs.SolvedLists.{component}
 use Rattle.fvn_combine_nodes.specs.Table.{NodeTable}
-use Rattle.fvn_combine_leaves.specs.Frames.{IsSumOperator, Uses}
+use Rattle.fvn_combine_leaves.specs.Leaves.{IsSumOperator, Uses}
 use Rattle.fvn_combine_choices.specs.Binding.{IsConstant}
 use Rattle.fvn_combine_choices.specs.Choosing.{Systems, Choice, taken}
 use Rattle.fvn_combine_complete.specs.LaidOut.{laid_for}

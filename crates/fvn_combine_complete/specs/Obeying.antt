@@ -1,4 +1,4 @@
--- Values that go with a frame, and tags that they obey.
+-- Values that go with a leaf, and tags that they obey.
 use Rattle.std.specs.Prelude.{◌≡◌, ◌≢◌, ◌⊎◌, ◌↔◌, ℕ, ◌<◌, true, length, Option, Some}
 use Rattle.fvn_terms.specs.declared.plain.OpId.{OpId}
 use Rattle.fvn_terms.specs.declared.declarations.Declarations.{Declarations}
@@ -7,7 +7,7 @@ use Rattle.fvn_combine_nodes.specs.Table.{NodeTable}
 use Rattle.fvn_combine_nodes.specs.States.{class_of, is_apart}
 use Rattle.fvn_combine_nodes.specs.declared.state.State.{State}
 use Rattle.fvn_combine_systems.specs.Values.{AreValues}
-use Rattle.fvn_combine_leaves.specs.Frames.{IsSolid, Uses, IsShared}
+use Rattle.fvn_combine_leaves.specs.Leaves.{IsSolid, Uses, IsShared}
 
 -- of each class it is told whether an operator without an identity heads a member, and whether an operator other than a given one uses it
 pub record IsTold (d : Declarations) (t : NodeTable) (class : ℕ → ℕ) : Type 0 where

@@ -1,4 +1,4 @@
-//! Laws of values at a frame, each the contract of a function that does nothing.
+//! Laws of values at a leaf, each the contract of a function that does nothing.
 ghost use Rattle.fvn_combine_complete.specs.Laws.{
   ValuesMeetWhatIsAsked,
   ValuesChoose,
@@ -11,21 +11,21 @@ ghost use Rattle.fvn_combine_complete.specs.Laws.{
   ValuesObeyChoices,
   ObeyedChoicesFall,
   ObeyedChoicesCover,
-  FramesCover,
+  LeavesCover,
 };
 
 use fvn_combine_nodes::unifiers_partition;
 use fvn_combine_supports::{counts_are_made_up, made_up_by_taken, pieces_choose};
 use fvn_combine_systems::{counts_solve, unifiers_have_values};
 
-/// The counts of values that go with a frame meet what is asked of the choice for an operator.
+/// The counts of values that go with a leaf meet what is asked of the choice for an operator.
 pub fn values_meet_what_is_asked()
     ensures { ValuesMeetWhatIsAsked }
 {
     counts_solve();
 }
 
-/// Values that go with a frame choose minimal solutions, with pieces.
+/// Values that go with a leaf choose minimal solutions, with pieces.
 pub fn values_choose()
     ensures { ValuesChoose }
 {
@@ -69,7 +69,7 @@ pub fn unifiers_go_with()
     unifiers_partition();
 }
 
-/// Values that go with a frame obey a possible choice that is full.
+/// Values that go with a leaf obey a possible choice that is full.
 pub fn values_obey_choices()
     ensures { ValuesObeyChoices }
 {
@@ -92,9 +92,9 @@ pub fn obeyed_choices_cover()
     tables_have_sums();
 }
 
-/// At a frame that admits its partition, each unifier on kinds is covered by some choice.
-pub fn frames_cover()
-    ensures { FramesCover }
+/// At a leaf that admits its partition, each unifier on kinds is covered by some choice.
+pub fn leaves_cover()
+    ensures { LeavesCover }
 {
     unifiers_go_with();
     tables_have_sums();

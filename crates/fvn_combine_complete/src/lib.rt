@@ -1,10 +1,10 @@
-//! What classes are bound to at a frame, and that values which go with it choose minimal solutions.
+//! What classes are bound to at a leaf, and that values which go with it choose minimal solutions.
 #![tactic(auto)]
 
 mod laws;
 
 pub use laws::{
-    frames_cover, no_aliases, obeyed_choices_cover, obeyed_choices_fall, readings_tell,
+    leaves_cover, no_aliases, obeyed_choices_cover, obeyed_choices_fall, readings_tell,
     tables_have_sums, tags_exist, unifiers_go_with, values_are_laid_out, values_choose,
     values_meet_what_is_asked, values_obey_choices,
 };

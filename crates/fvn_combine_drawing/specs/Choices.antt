@@ -1,4 +1,4 @@
--- A choice at a frame, as it is listed.
+-- A choice at a leaf, as it is listed.
 use Rattle.std.specs.Prelude.{ℕ, List, Option}
 use Rattle.std.specs.List.{AllZip}
 use Rattle.fvn_terms.specs.declared.plain.OpId.{OpId}

@@ -1,4 +1,4 @@
--- What a choice at a frame gives.
+-- What a choice at a leaf gives.
 use Rattle.std.specs.Prelude.{ℕ}
 use Rattle.fvn_terms.specs.declared.declarations.Declarations.{Declarations}
 use Rattle.fvn_terms.specs.Substitution.{Substitution}

@@ -1,4 +1,4 @@
--- The words of what a choice at a frame gives.
+-- The words of what a choice at a leaf gives.
 pub mod OnKinds
 pub mod Choices
 pub mod Drawn

@@ -1,4 +1,4 @@
-//! What a choice at a frame gives: nothing, bindings that are too large, or a unifier on kinds.
+//! What a choice at a leaf gives: nothing, bindings that are too large, or a unifier on kinds.
 #![tactic(auto)]
 
 mod drawing;

@@ -15,7 +15,7 @@ use Rattle.fvn_combine_nodes.specs.Table.{NodeTable, IsOver}
 use Rattle.fvn_combine_nodes.specs.declared.table.Node.TheVariants.{App}
 use Rattle.fvn_combine_systems.specs.NodeSystems.{addends, sums, coefficient, row_at, IsNodeSystem}
 use Rattle.fvn_combine_systems.proofs.Members.{headed_over, listed_sum, sum_listed}
-use Rattle.fvn_combine_leaves.specs.Frames.{Uses}
+use Rattle.fvn_combine_leaves.specs.Leaves.{Uses}
 use Rattle.fvn_combine_leaves.specs.Readings.{AreSumOperators, AreSums}
 use Rattle.fvn_combine_leaves.specs.inner.Reading.{IsAdded, AreUsed, AreOperatorsAmong}
 

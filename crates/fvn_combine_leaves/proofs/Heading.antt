@@ -10,7 +10,7 @@ use Rattle.fvn_flat.specs.Partitions.{HasNoIdentity}
 use Rattle.fvn_combine_nodes.specs.Table.{NodeTable, IsOver}
 use Rattle.fvn_combine_nodes.specs.Classes.{IsPartitionBut}
 use Rattle.fvn_combine_nodes.specs.declared.table.Node.TheVariants.{App}
-use Rattle.fvn_combine_leaves.specs.Frames.{IsSolid}
+use Rattle.fvn_combine_leaves.specs.Leaves.{IsSolid}
 use Rattle.fvn_combine_leaves.specs.Readings.{AreHeads}
 use Rattle.fvn_combine_leaves.specs.inner.Reading.{noted, AreHeadsBelow}
 

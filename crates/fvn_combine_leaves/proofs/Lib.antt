@@ -7,4 +7,4 @@ mod Heading
 mod Using
 mod Carrying
 pub mod ReadOfState
-mod Framing
+mod AskedOfLeaves

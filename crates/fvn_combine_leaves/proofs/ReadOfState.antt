@@ -15,7 +15,7 @@ use Rattle.fvn_combine_nodes.proofs.Admitting.{named_within}
 use Rattle.fvn_combine_nodes.proofs.Lists.{all_from}
 use Rattle.fvn_combine_systems.specs.NodeSystems.{IsNodeColumn}
 use Rattle.fvn_combine_systems.proofs.Members.{column_of_node}
-use Rattle.fvn_combine_leaves.specs.Frames.{IsSumOperator, IsSolid, Uses, IsShared}
+use Rattle.fvn_combine_leaves.specs.Leaves.{IsSumOperator, IsSolid, Uses, IsShared}
 use Rattle.fvn_combine_leaves.specs.Readings.{AreSums, IsReading}
 use Rattle.fvn_combine_leaves.specs.Users.{IsWholeSums, IsWhole, IsMarked, IsUserAt, HasTwoUsers, head_of, IsSharedIn}
 use Rattle.fvn_combine_leaves.specs.declared.reading.Sums.{Sums}

@@ -1,7 +1,7 @@
-//! The next question of a state that is no frame yet.
+//! The next question of a state that is no leaf yet.
 ghost use Rattle.fvn_combine_nodes.specs.States.{IsClosed, class_of};
 ghost use Rattle.fvn_combine_leaves.specs.Bases.{AreBases};
-ghost use Rattle.fvn_combine_leaves.specs.Frames.{IsNearFrame, IsFirstQuestion, IsQuestion};
+ghost use Rattle.fvn_combine_leaves.specs.Leaves.{IsNearLeaf, IsFirstQuestion, IsQuestion};
 ghost use Rattle.fvn_combine_leaves.specs.Readings.{IsReading};
 
 use crate::constants::constants_question;
@@ -36,14 +36,14 @@ pub fn first_question(
 }
 
 /// A question on two classes that may be constants of one operator, whatever its minimal solutions are;
-/// none only where the state is a frame. For operators whose minimal solutions are not known.
+/// none only where the state is a leaf. For operators whose minimal solutions are not known.
 pub fn question_on_all(
     sig: &Signature,
     table: &Table,
     state: &State,
     reading: &Reading,
 ) -> Option<(usize, usize)>
-    requires near { IsNearFrame sig.now table.now state.now }
+    requires near { IsNearLeaf sig.now table.now state.now }
     requires reading { IsReading sig.now table.now (class_of state.now) reading.now }
     ensures { IsQuestion sig.now table.now state.now result }
 {
@@ -53,7 +53,7 @@ pub fn question_on_all(
 }
 
 /// A question on two classes that may be constants of one operator, and that one of its minimal
-/// solutions has both of; none only where the state is a frame.
+/// solutions has both of; none only where the state is a leaf.
 pub fn question_on_touched(
     sig: &Signature,
     table: &Table,
@@ -61,7 +61,7 @@ pub fn question_on_touched(
     reading: &Reading,
     bases: &[Seq<Solution>],
 ) -> Option<(usize, usize)>
-    requires near { IsNearFrame sig.now table.now state.now }
+    requires near { IsNearLeaf sig.now table.now state.now }
     requires reading { IsReading sig.now table.now (class_of state.now) reading.now }
     requires bases { AreBases reading.now.sums bases.now }
     ensures { IsQuestion sig.now table.now state.now result }

@@ -1,5 +1,5 @@
 //! What heads the classes of a state.
-ghost use Rattle.std.specs.Prelude.{◌≡◌, ◌↔◌, ℕ, ◌<◌, List, length, IfOk, MatchOption, IsTrue};
+ghost use Rattle.std.specs.Prelude.{◌≡◌, ℕ, ◌<◌, List, length, IfOk, MatchOption};
 ghost use Rattle.fvn_terms.specs.declared.plain.OpId.{OpId as Operator};
 ghost use Rattle.fvn_terms.specs.Signature.{axioms};
 ghost use Rattle.fvn_flat.specs.Partitions.{HasNoIdentity};
@@ -8,22 +8,10 @@ ghost use Rattle.fvn_combine_nodes.specs.States.{IsClosed, class_of};
 ghost use Rattle.fvn_combine_leaves.specs.Readings.{AreHeads};
 ghost use Rattle.fvn_combine_leaves.specs.inner.Reading.{noted};
 
-use fvn_combine_nodes::{Node, State, Table};
+use fvn_combine_nodes::{Node, State, Table, has_no_identity};
 use fvn_signature::Signature;
-use fvn_terms::{Axioms, NoMemory, OpId};
+use fvn_terms::{NoMemory, OpId};
 use std::alloc::Global;
-
-// Whether operators with these axioms have no identity.
-fn has_no_identity(axioms: Axioms) -> bool
-    ensures { IsTrue result ↔ HasNoIdentity axioms }
-{
-    match axioms {
-        Axioms::Free => true,
-        Axioms::Comm => true,
-        Axioms::AssocComm => true,
-        Axioms::AssocCommId(_) => false,
-    }
-}
 
 // The operator of a node, where it has no identity.
 fn own_head(sig: &Signature, table: &Table, i: usize) -> Option<OpId>

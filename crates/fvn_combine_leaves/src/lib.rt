@@ -1,4 +1,4 @@
-//! What is read of a state, and the questions until it is a frame.
+//! What is read of a state, and the questions until it is a leaf.
 #![tactic(auto)]
 
 mod asking;

@@ -9,20 +9,8 @@ ghost use Rattle.fvn_combine_leaves.specs.inner.Reading.{IsAdded};
 
 use fvn_combine_nodes::{Node, Table};
 use fvn_signature::Signature;
-use fvn_terms::{Axioms, NoMemory, OpId};
+use fvn_terms::{NoMemory, OpId};
 use std::alloc::Global;
-
-// Whether operators with these axioms are associative.
-fn is_associative(axioms: Axioms) -> bool
-    ensures { IsTrue result ↔ IsAssociative axioms }
-{
-    match axioms {
-        Axioms::Free => false,
-        Axioms::Comm => false,
-        Axioms::AssocComm => true,
-        Axioms::AssocCommId(_) => true,
-    }
-}
 
 // The operator of a node, where it is associative.
 fn sum_operator(sig: &Signature, table: &Table, i: usize) -> Option<OpId>
@@ -34,7 +22,7 @@ fn sum_operator(sig: &Signature, table: &Table, i: usize) -> Option<OpId>
     match table.node(i) {
         Node::Var(_) => None,
         Node::App(f, _) => {
-            if is_associative(sig.axioms(*f)) {
+            if sig.axioms(*f).is_sum() {
                 Some(*f)
             } else {
                 None

@@ -1,13 +1,12 @@
 -- How members of one class are made alike.
-use Rattle.std.proofs.Common.{◌≡◌, ◌≢◌, ◌⊎◌, ℕ, ◌<◌, Bool, true, false, ◌||◌, List, [], ◌∷◌, length, map, get_or, refl, sym, ap, ◌∙◌, subst, inl, inr, arith, All, is_some}
+use Rattle.std.proofs.Common.{◌≡◌, ◌≢◌, ◌⊎◌, ℕ, ◌<◌, Bool, true, false, ◌||◌, List, [], ◌∷◌, length, map, get_or, refl, sym, ap, ◌∙◌, subst, inl, inr, arith, All}
 use Rattle.std.proofs.lemmas.Bool.{eqb-true, or_cases, or_parts, or_from, not_from_false}
 use Rattle.std.proofs.lemmas.List.{get_or-map, length-map, same_lists}
 use Rattle.fvn_terms.specs.declared.plain.OpId.{OpId}
-use Rattle.fvn_terms.specs.declared.declarations.Axioms.{Axioms}
-use Rattle.fvn_terms.specs.declared.declarations.Axioms.TheVariants.{Free, Comm, AssocComm, AssocCommId}
+use Rattle.fvn_terms.specs.declared.declarations.Axioms.TheVariants.{Free, Comm}
 use Rattle.fvn_terms.specs.declared.declarations.Declarations.{Declarations}
 use Rattle.fvn_terms.specs.Signature.{axioms}
-use Rattle.fvn_terms.specs.Equality.{identity}
+use Rattle.fvn_terms.specs.Equality.{IsAssociative}
 use Rattle.fvn_flat.specs.Partitions.{HasNoIdentity}
 use Rattle.fvn_combine_nodes.specs.Classes.{AreTogether, MeetEitherWay, MeetInPairs, AreAlike}
 use Rattle.fvn_combine_nodes.specs.States.{Admits, IsNaming, class_of, is_same, is_apart, IsOpen}
@@ -80,19 +79,6 @@ pub no_pair : (Undecided : ℕ → ℕ → Type 0) (class : ℕ → ℕ) (ks ls 
 no_pair Undecided class ks ls (inl n) a b v w e f = absurd (n (ap length e))
 no_pair Undecided class ks ls (inr n) a b v w e f = absurd (n (ap length f))
 
--- operators with and without identities
-pub no_identity : (a : Axioms) → is_some (identity a) ≡ false → HasNoIdentity a
-no_identity Free e = tt
-no_identity Comm e = tt
-no_identity AssocComm e = tt
-no_identity (AssocCommId o) e = cc
-
-pub some_identity : (a : Axioms) → is_some (identity a) ≡ true → HasNoIdentity a → ⊥
-some_identity Free e n = cc
-some_identity Comm e n = cc
-some_identity AssocComm e n = cc
-some_identity (AssocCommId o) e n = n
-
 module _ (d : Declarations) (Undecided : ℕ → ℕ → Type 0) (class : ℕ → ℕ) (f g : OpId) (ks ls : List ℕ) where
   -- nothing is asked of operators of which one has an identity
   pub alike_identity : (HasNoIdentity (axioms d f) → HasNoIdentity (axioms d g) → ⊥) → AreAlike d Undecided class f g ks ls
@@ -109,8 +95,8 @@ module _ (d : Declarations) (Undecided : ℕ → ℕ → Type 0) (class : ℕ �
     pub alike_commutative : axioms d f ≡ Comm → MeetInPairs Undecided ks ls class → AreAlike d Undecided class f g ks ls
     alike_commutative e h = record { one_head = λ a b. one; free = λ c _. cc; commutative = λ _ _. h }
 
-    pub alike_associative : axioms d f ≡ AssocComm → AreAlike d Undecided class f g ks ls
-    alike_associative e = record { one_head = λ a b. one; free = λ c _. cc; commutative = λ c _. cc }
+    pub alike_associative : IsAssociative (axioms d f) → AreAlike d Undecided class f g ks ls
+    alike_associative e = record { one_head = λ a b. one; free = λ c _. absurd (subst IsAssociative c e); commutative = λ c _. absurd (subst IsAssociative c e) }
 
 -- what holds of four
 pub four : (P : ℕ → Type 0) (a b v w : ℕ) → All P (a ∷ b ∷ v ∷ w ∷ []) → P a × P b × P v × P w

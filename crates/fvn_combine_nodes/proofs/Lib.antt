@@ -12,6 +12,7 @@ pub mod Subterms
 pub mod Admitting
 mod Moves
 mod Joining
+pub mod AxiomTests
 mod Alike
 mod Chaining
 mod Settling

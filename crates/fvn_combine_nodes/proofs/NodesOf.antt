@@ -11,7 +11,6 @@ use Rattle.fvn_terms.specs.Term.{Term, Terms, var, app, none, more}
 use Rattle.fvn_terms.specs.Signature.{axioms}
 use Rattle.fvn_terms.specs.Equality.{constant, identity}
 use Rattle.fvn_terms.specs.Unifiers.{Problem}
-use Rattle.fvn_terms.proofs.AxiomWords.{identity_is}
 use Rattle.fvn_flat.specs.Problems.{subterms, subterms_among, subterms_of, variables, variables_among, variables_of}
 use Rattle.fvn_flat.specs.Partitions.{IsNode}
 use Rattle.fvn_combine_nodes.specs.Table.{NodeTable, IsWellMade, IsTableOf, IsUnitOf, nothing, terms_of, term_at}
@@ -99,12 +98,11 @@ module _ {d : Declarations} {problem : Problem} {t : NodeTable} (made : IsWellMa
   pub node_of : (u : Term) → IsNode d problem u → NodeOf t u
   node_of u (inl c) = let r = listed_node u c in record { number = r.0; within = subterm_within r.0 r.1.0; is = r.1.1 }
   node_of u (inr unit) =
-      let is : identity (axioms d unit.operator) ≡ Some unit.constant_of = ap identity unit.identity in
-      let found = table.all_units unit.operator unit.constant_of unit.heads is in
+      let found = table.all_units unit.operator unit.constant_of unit.heads unit.identity in
       let p = found.1 in
       let c : Contains t.units p = (found.0, found.2, found.3) in
       let entry = unit_at p c in
-      let same = Some-injective (sym entry.identity ∙ ap (λ f. identity (axioms d f)) found.4 ∙ is) in
+      let same = Some-injective (sym entry.identity ∙ ap (λ f. identity (axioms d f)) found.4 ∙ unit.identity) in
       record { number = p.1; within = unit_within p c; is = entry.is ∙ ap constant same ∙ sym unit.is }
 
   -- the term of a node
@@ -118,7 +116,7 @@ module _ {d : Declarations} {problem : Problem} {t : NodeTable} (made : IsWellMa
           operator = p.0;
           heads = entry.heads;
           constant_of = entry.constant_of;
-          identity = identity_is (axioms d p.0) entry.constant_of entry.identity;
+          identity = entry.identity;
           is = ap (term_at t.nodes) (sym a.4) ∙ entry.is;
         }
   ]

@@ -3,7 +3,6 @@ ghost use Rattle.std.specs.Prelude.{◌≡◌, ◌≢◌, ◌↔◌, ℕ, ◌<�
 ghost use Rattle.fvn_terms.specs.Term.{pack};
 ghost use Rattle.fvn_terms.specs.Plain.{term};
 ghost use Rattle.fvn_forms.specs.Flat.{plain};
-ghost use Rattle.fvn_terms.specs.Equality.{identity};
 ghost use Rattle.fvn_flat.specs.Problems.{subterms, subterms_among, subterms_of, plain_pairs};
 ghost use Rattle.fvn_flat.specs.Solving.{problem_of};
 ghost use Rattle.fvn_combine_nodes.specs.Table.{term_at, IsTableOf};
@@ -21,7 +20,7 @@ use crate::table::{Node, Table};
 use fvn_base::Seq;
 use fvn_flat::{Flat, Pairs};
 use fvn_signature::Signature;
-use fvn_terms::{Args, Axioms, NoMemory, OpId, Plain};
+use fvn_terms::{Args, NoMemory, OpId, Plain};
 use std::alloc::Global;
 
 /// The nodes so far, and the nodes of all subterms so far in the order in which they begin.
@@ -169,18 +168,6 @@ fn once(alloc: Global, walk: &[usize]) -> Result<Vec<usize>, NoMemory>
     Ok(list)
 }
 
-// The identity of an operator with these axioms.
-fn identity_of(axioms: Axioms) -> Option<OpId>
-    ensures { result ≡ identity axioms }
-{
-    match axioms {
-        Axioms::Free => None,
-        Axioms::Comm => None,
-        Axioms::AssocComm => None,
-        Axioms::AssocCommId(e) => Some(e),
-    }
-}
-
 // Whether the operator has an entry.
 fn is_listed(units: &[(OpId, usize)], f: OpId) -> bool
     ensures { IsTrue result ↔ Any (λ p. p.0 ≡ f) units.now }
@@ -199,7 +186,7 @@ fn new_unit(sig: &Signature, units: &[(OpId, usize)], node: &Node) -> Option<(Op
 {
     match node {
         Node::Var(_) => None,
-        Node::App(f, _) => match identity_of(sig.axioms(*f)) {
+        Node::App(f, _) => match sig.identity(*f) {
             None => None,
             Some(e) => {
                 if is_listed(units, *f) {

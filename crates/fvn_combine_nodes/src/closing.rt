@@ -1,8 +1,7 @@
 //! How states are closed: nodes are joined as partitions ask, until nothing more is asked.
-ghost use Rattle.std.specs.Prelude.{◌≡◌, ◌≢◌, ◌⊎◌, ◌↔◌, ◌<◌, [], ◌∷◌, length, map, is_some, All, IsTrue};
+ghost use Rattle.std.specs.Prelude.{◌≡◌, ◌≢◌, ◌⊎◌, ◌↔◌, ◌<◌, [], ◌∷◌, length, map, All, IsTrue};
 ghost use Rattle.std.specs.List.{list_any};
 ghost use Rattle.fvn_terms.specs.Signature.{axioms};
-ghost use Rattle.fvn_terms.specs.Equality.{identity};
 ghost use Rattle.fvn_combine_nodes.specs.Classes.{AreTogether, MeetEitherWay, AreAlike, IsNodePartition, MeetInPairs};
 ghost use Rattle.fvn_combine_nodes.specs.States.{class_of, is_same, is_apart, IsOpen, IsNaming};
 ghost use Rattle.fvn_combine_nodes.specs.inner.Closing.{state_of, renamed, is_straight, then_move, HasMoved, IsClosureOf};
@@ -14,7 +13,7 @@ use crate::state::{State, is_kept_apart};
 use crate::table::{Node, Table};
 use fvn_base::Seq;
 use fvn_signature::Signature;
-use fvn_terms::{Axioms, OpId};
+use fvn_terms::OpId;
 
 /// What a look at some nodes came to: all is settled, nodes were joined, or there is no partition.
 #[derive(Clone, Copy)]
@@ -66,18 +65,6 @@ fn row(up: bool, count: usize, k: usize) -> usize
         return k;
     }
     count - 1 - k
-}
-
-// Whether operators with these axioms have an identity.
-fn has_identity(axioms: Axioms) -> bool
-    ensures { result ≡ is_some (identity axioms) }
-{
-    match axioms {
-        Axioms::Free => false,
-        Axioms::Comm => false,
-        Axioms::AssocComm => false,
-        Axioms::AssocCommId(_) => true,
-    }
 }
 
 impl Closing {
@@ -233,21 +220,23 @@ impl Closing {
             (λ s. AreAlike sig.now (IsOpen s) (class_of s) f g ks.now ls.now)
             (state_of self.old) (state_of self.new) result }
     {
-        if has_identity(sig.axioms(f)) {
+        if sig.identity(f).is_some() {
             return Move::Stays;
         }
-        if has_identity(sig.axioms(g)) {
+        if sig.identity(g).is_some() {
             return Move::Stays;
         }
         if f != g {
             return Move::Clashes;
         }
-        match sig.axioms(f) {
-            Axioms::Free => self.join_all(ks, ls),
-            Axioms::Comm => self.turn_all(ks, ls),
-            Axioms::AssocComm => Move::Stays,
-            Axioms::AssocCommId(_) => Move::Stays,
+        let axioms = sig.axioms(f);
+        if axioms.is_sum() {
+            return Move::Stays;
         }
+        if axioms.is_free() {
+            return self.join_all(ks, ls);
+        }
+        self.turn_all(ks, ls)
     }
 }
 

@@ -1,25 +1,13 @@
 //! Questions that decide which way commutative nodes of one class meet.
-ghost use Rattle.std.specs.Prelude.{◌≡◌, ◌<◌, ◌↔◌, ◌&&◌, [], ◌∷◌, IsTrue, length, All};
+ghost use Rattle.std.specs.Prelude.{◌≡◌, ◌<◌, ◌&&◌, [], ◌∷◌, length, All};
 ghost use Rattle.fvn_combine_nodes.specs.States.{IsClosed, IsNaming, is_same};
 ghost use Rattle.fvn_combine_nodes.specs.Questions.{IsUndecided};
 ghost use Rattle.fvn_combine_nodes.specs.inner.Swaps.{IsOpenFirst, IsUndecidedAt, IsUndecidedIn};
 
+use crate::operators::is_only_commutative;
 use crate::state::State;
 use crate::table::{Node, Table};
 use fvn_signature::Signature;
-use fvn_terms::Axioms;
-
-// Whether these axioms are commutativity alone.
-fn is_commutative(axioms: Axioms) -> bool
-    ensures { IsTrue result ↔ (axioms ≡ Axioms.Comm) }
-{
-    match axioms {
-        Axioms::Free => false,
-        Axioms::Comm => true,
-        Axioms::AssocComm => false,
-        Axioms::AssocCommId(_) => false,
-    }
-}
 
 // Whether a is in the class of w, and b in that of v.
 fn are_crosswise(state: &State, a: usize, b: usize, v: usize, w: usize) -> bool
@@ -76,7 +64,7 @@ fn undecided_at(
                 if *f != *g {
                     return None;
                 }
-                if !is_commutative(sig.axioms(*f)) {
+                if !is_only_commutative(sig.axioms(*f)) {
                     return None;
                 }
                 if !state.is_same(i, j) {

@@ -79,32 +79,32 @@ module _ {d : Declarations} {given : Pairs} {first : ℕ} {t : NodeTable} {s : S
   bound_same : (k : ℕ) (b : Binder) → IsBinderOf d t (class_of s) (tag_in tags) r.sums k b → bound_as d (problem_of given) (class_at t (class_of s)) (plan_of t r names binders all) (form_of t r.sums b) k ≡ bound_by d t (class_of s) names r.sums all b k
   bound_same k Nothing h = refl
   bound_same k (Member i) (l, of, (f, ks, over, simple)) =
-      ap Some (over_classes_is m.frame.good.fits m.frame.made (are_kinded m.frame m.names_are) i f ks over (problem_of given) (m.frame.partitions.same (class_of s)) (plan_of t r names binders all) refl
+      ap Some (over_classes_is m.leaf.good.fits m.leaf.made (are_kinded m.leaf m.names_are) i f ks over (problem_of given) (m.leaf.partitions.same (class_of s)) (plan_of t r names binders all) refl
       ∙ ap (over_names d t (class_of s) names) (sym over))
   bound_same k (Sum i) (e, at, bound) =
       let none : OpId = record { 0 = 0 } in
       let plan = plan_of t r names binders all in
-      let l = entry_within m.frame i e at in
+      let l = entry_within m.leaf i e at in
       let n = m.shares_are.as_many in
       let is : slice_index_or (map (λ (s : Sums). s.operator) r.sums) i none ≡ e.operator = get_or-map (λ (s : Sums). s.operator) r.sums i e none l ∙ ap (λ (s : Sums). s.operator) (get_or_from_slice_get r.sums i e e at) in
       ap Some
       (ap (λ f. sum d f (members_of d (problem_of given) (class_at t (class_of s)) plan f k)) is
-      ∙ ap (λ cs. sum d e.operator (members cs (plan.parts e.operator) k)) (columns_at m.frame i e at)
-      ∙ ap (λ ps. sum d e.operator (members e.columns ps k)) (parts_at m.frame i e at all n)
+      ∙ ap (λ cs. sum d e.operator (members cs (plan.parts e.operator) k)) (columns_at m.leaf i e at)
+      ∙ ap (λ ps. sum d e.operator (members e.columns ps k)) (parts_at m.leaf i e at all n)
       ∙ sym (sum_at_place d r.sums all i k e at (omega (arith, l, n))))
 
   -- a class has a node
   class_node : (k : ℕ) → IsClass d (problem_of given) (class_at t (class_of s)) k → (i : ℕ) × (i < length t.nodes) × (class_of s i ≡ k)
   class_node k c =
-      let n = node_of m.frame.made m.frame.ready.table c.0 c.1 in
-      (n.number, n.within, sym (m.frame.partitions.same (class_of s) n.number n.within) ∙ ap (class_at t (class_of s)) n.is ∙ c.2)
+      let n = node_of m.leaf.made m.leaf.ready.table c.0 c.1 in
+      (n.number, n.within, sym (m.leaf.partitions.same (class_of s) n.number n.within) ∙ ap (class_at t (class_of s)) n.is ∙ c.2)
 
   node_class : (i : ℕ) → i < length t.nodes → IsClass d (problem_of given) (class_at t (class_of s)) (class_of s i)
-  node_class i l = (term_at t.nodes i, is_node m.frame.made m.frame.ready.table i l, m.frame.partitions.same (class_of s) i l)
+  node_class i l = (term_at t.nodes i, is_node m.leaf.made m.leaf.ready.table i l, m.leaf.partitions.same (class_of s) i l)
 
   -- a new variable is none of the problem
   not_given : (x : Variable) → x.fresh ≡ true → first ≤ x.name → Contains (variables_of (problem_of given)) x → ⊥
-  not_given x fresh l c = let n = m.frame.ready.is_given.numbers x c fresh in omega (arith, l, n)
+  not_given x fresh l c = let n = m.leaf.ready.is_given.numbers x c fresh in omega (arith, l, n)
 
   name_not_given : (k : ℕ) → k < length t.nodes → Contains (variables_of (problem_of given)) (name_in names k) → ⊥
   name_not_given k l c =
@@ -123,29 +123,29 @@ module _ {d : Declarations} {given : Pairs} {first : ℕ} {t : NodeTable} {s : S
     pub variable_form : (b : Variable × FlatTerm) → Contains vars b → (i : ℕ) × (i < length t.nodes) × Contains (variables_of (problem_of given)) b.0 × (term_at t.nodes i ≡ var b.0) × (b.1 ≡ fvar (name_in names (class_of s i)))
     variable_form b listed =
         let f = v.from b listed in
-        let given_so = node_variable m.frame.made m.frame.ready.table f.0 b.0 f.2 in
+        let given_so = node_variable m.leaf.made m.leaf.ready.table f.0 b.0 f.2 in
         (f.0, f.1, given_so, term_at-variable t.nodes f.0 b.0 f.2, f.3)
 
     class_bound : (k : ℕ) (u : FlatTerm) → IsClass d (problem_of given) (class_at t (class_of s)) k → bound_as d (problem_of given) (class_at t (class_of s)) plan (plan.form k) k ≡ Some u → Contains (vars ++ placed) (name_in names k, u)
     class_bound k u is e =
         let n = class_node k is in
-        let within : k < length t.nodes = subst (λ k. k < length t.nodes) n.2 (class_within m.frame.made m.frame.ready.closed n.0 n.1) in
-        let own : class_of s k ≡ k = subst (λ k. class_of s k ≡ k) n.2 (class_itself m.frame.made m.frame.ready.closed n.0 n.1) in
+        let within : k < length t.nodes = subst (λ k. k < length t.nodes) n.2 (class_within m.leaf.made m.leaf.ready.closed n.0 n.1) in
+        let own : class_of s k ≡ k = subst (λ k. class_of s k ≡ k) n.2 (class_itself m.leaf.made m.leaf.ready.closed n.0 n.1) in
         let b = slice_index_or binders k Nothing in
         Contains-append_right vars placed (name_in names k, u) ((o.1 (name_in names k, u)).1 (c.every k u within own (sym (bound_same k b (m.binders_are.each k within)) ∙ e)))
 
     variable_bound : (x : Variable) → Contains (variables_of (problem_of given)) x → Contains (vars ++ placed) (x, fvar (name_in names (class_at t (class_of s) (var x))))
     variable_bound x given_so =
-        let n = variable_place m.frame.made m.frame.ready.table x given_so in
-        let same : class_of s n.0 ≡ class_at t (class_of s) (var x) = sym (m.frame.partitions.same (class_of s) n.0 n.1) ∙ ap (class_at t (class_of s)) n.3 in
+        let n = variable_place m.leaf.made m.leaf.ready.table x given_so in
+        let same : class_of s n.0 ≡ class_at t (class_of s) (var x) = sym (m.leaf.partitions.same (class_of s) n.0 n.1) ∙ ap (class_at t (class_of s)) n.3 in
         Contains-append_left vars placed (x, fvar (name_in names (class_at t (class_of s) (var x)))) (subst (λ k. Contains vars (x, fvar (name_in names k))) same (v.every n.0 x n.1 n.2))
 
     is_binding : (b : Variable × FlatTerm) → Contains (vars ++ placed) b → IsBinding d (problem_of given) (class_at t (class_of s)) plan b
     is_binding b listed = elim (Contains-append_cases vars placed b listed) [
       | inl old ↦
           let f = variable_form b old in
-          let same : class_of s f.0 ≡ class_at t (class_of s) (var b.0) = sym (m.frame.partitions.same (class_of s) f.0 f.1) ∙ ap (class_at t (class_of s)) f.3 in
-          let within = class_within m.frame.made m.frame.ready.closed f.0 f.1 in
+          let same : class_of s f.0 ≡ class_at t (class_of s) (var b.0) = sym (m.leaf.partitions.same (class_of s) f.0 f.1) ∙ ap (class_at t (class_of s)) f.3 in
+          let within = class_within m.leaf.made m.leaf.ready.closed f.0 f.1 in
           inr (f.2, λ e. name_not_given (class_of s f.0) within (subst (Contains (variables_of (problem_of given))) (sym (ap (name_in names) same ∙ e)) f.2), f.4 ∙ ap (λ k. fvar (name_in names k)) same)
       | inr new ↦
           let f = class_form b new in
@@ -165,7 +165,7 @@ module _ {d : Declarations} {given : Pairs} {first : ℕ} {t : NodeTable} {s : S
             let f = variable_form a ca in
             let g = variable_form b cb in
             let is : a.0 ≡ name_in names (class_of s g.0) = subst (λ u. Occurs a.0 (plain u)) g.4 same in
-            name_not_given (class_of s g.0) (class_within m.frame.made m.frame.ready.closed g.0 g.1) (subst (Contains (variables_of (problem_of given))) is f.2)
+            name_not_given (class_of s g.0) (class_within m.leaf.made m.leaf.ready.closed g.0 g.1) (subst (Contains (variables_of (problem_of given))) is f.2)
 
     variables_first : (a b : Variable × FlatTerm) → Contains vars a → Contains placed b → NotLater a b
     variables_first a b ca cb =

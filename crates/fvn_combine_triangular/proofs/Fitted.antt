@@ -38,7 +38,7 @@ module _ {d : Declarations} {given : Pairs} {first : ℕ} {t : NodeTable} {s : S
   form_fits : (k : ℕ) (b : Binder) → IsBinderOf d t (class_of s) (tag_in tags) r.sums k b → (u : FlatTerm) → bound_by d t (class_of s) names r.sums all b k ≡ Some u → IsFitting d (name_in names k, u)
   form_fits k Nothing h u e = cc
   form_fits k (Member i) (l, of, (f, ks, over, simple)) u e =
-      let c = m.frame in
+      let c = m.leaf in
       let is = ap (over_names d t (class_of s) names) (sym over) ∙ Some-injective e in
       let q = node_terms c i l in
       let named : HasKind d (var (name_in names k)) q.0 = subst (λ k. HasKind d (var (name_in names k)) q.0) of (name_kind c.made c.ready.closed c.good (node_terms c) c.ready.kinds m.names_are i q.0 l q.1) in
@@ -47,7 +47,7 @@ module _ {d : Declarations} {given : Pairs} {first : ℕ} {t : NodeTable} {s : S
         kinded = subst (HasKind d (plain (build d f (name_forms d (class_of s) names ks)))) (sym named.1) (member_kind c.good.fits c.made (are_kinded c m.names_are) i f ks over q.0 q.1);
       })
   form_fits k (Sum i) (o, at, bound) u e =
-      let c = m.frame in
+      let c = m.leaf in
       let l = entry_within c i o at in
       let n = m.shares_are.as_many in
       let h = summable m i o at k bound in
@@ -64,7 +64,7 @@ module _ {d : Declarations} {given : Pairs} {first : ℕ} {t : NodeTable} {s : S
   fitting vars classes placed v c o = all_from (IsFitting d) (vars ++ placed) (λ b listed. elim (Contains-append_cases vars placed b listed) [
     | inl old ↦
         let f = variable_form m vars classes placed v c o b old in
-        let ch = m.frame in
+        let ch = m.leaf in
         let q = node_terms ch f.0 f.1 in
         let named = name_kind ch.made ch.ready.closed ch.good (node_terms ch) ch.ready.kinds m.names_are f.0 q.0 f.1 q.1 in
         let own : HasKind d (var b.0) q.0 = subst (λ u. HasKind d u q.0) f.3 q.1 in

@@ -1,4 +1,5 @@
 -- The lemmas of the crate.
+mod Simple
 mod Ordering
 mod Naming
 mod Members

@@ -1,4 +1,4 @@
--- Lists of names, binders and shares at a frame, and what stands at the place of an operator.
+-- Lists of names, binders and shares at a leaf, and what stands at the place of an operator.
 use Rattle.std.proofs.Common.{◌≡◌, ◌≢◌, ℕ, suc, ◌+◌, ◌<◌, ◌≤◌, true, List, [], ◌∷◌, length, map, slice_index, slice_index_or, refl, sym, ap, ◌∙◌, subst, inl, inr, arith, All, AllPairs, Contains, Option, Some, None}
 use Rattle.std.specs.Prelude.{slice_get, if◌then◌else◌}
 use Rattle.std.proofs.lemmas.Bool.{cases_Bool}
@@ -29,7 +29,7 @@ use Rattle.fvn_combine_nodes.specs.declared.table.Node.{Node}
 use Rattle.fvn_combine_nodes.specs.declared.table.Node.TheVariants.{Var, App}
 use Rattle.fvn_combine_nodes.proofs.Nodes.{term_at-over}
 use Rattle.fvn_combine_systems.specs.NodeSystems.{is_headed}
-use Rattle.fvn_combine_leaves.specs.Frames.{IsSumOperator}
+use Rattle.fvn_combine_leaves.specs.Leaves.{IsSumOperator}
 use Rattle.fvn_combine_leaves.specs.Readings.{AreSums, IsReading}
 use Rattle.fvn_combine_leaves.specs.declared.reading.Sums.{Sums}
 use Rattle.fvn_combine_leaves.specs.declared.reading.Reading.{Reading}
@@ -61,8 +61,8 @@ at_some (s ∷ sums) (l ∷ xs) f x m = elim (cases_Bool (same_op s.operator f))
 abbrev pub start_of : NodeTable → ℕ → ℕ
 start_of t first = first + length t.nodes
 
--- a frame that was read, with a possible choice
-pub record IsFrameWithChoice (d : Declarations) (given : Pairs) (first : ℕ) (t : NodeTable) (s : State) (r : Reading) (bases : List (List Solution)) (tags : List (Option OpId)) (numbers : List ℕ) : Type 0 where
+-- a leaf that was read, with a possible choice
+pub record IsLeafWithChoice (d : Declarations) (given : Pairs) (first : ℕ) (t : NodeTable) (s : State) (r : Reading) (bases : List (List Solution)) (tags : List (Option OpId)) (numbers : List ℕ) : Type 0 where
   pub good : IsGood d
   pub made : IsWellMade t
   pub ready : IsReady d given first t s
@@ -74,12 +74,12 @@ pub record IsFrameWithChoice (d : Declarations) (given : Pairs) (first : ℕ) (t
 
 -- its names, binders and shares
 pub record IsMade (d : Declarations) (given : Pairs) (first : ℕ) (t : NodeTable) (s : State) (r : Reading) (bases : List (List Solution)) (tags : List (Option OpId)) (numbers : List ℕ) (names : List Variable) (binders : List Binder) (all : List (List Share)) : Type 0 where
-  pub frame : IsFrameWithChoice d given first t s r bases tags numbers
+  pub leaf : IsLeafWithChoice d given first t s r bases tags numbers
   pub names_are : AreNames d t first names
   pub binders_are : AreBinders d t (class_of s) (tag_in tags) r.sums binders
   pub shares_are : AreAllShares d t (class_of s) (tag_in tags) r.sums bases numbers names (start_of t first) all
 
-module _ {d : Declarations} {given : Pairs} {first : ℕ} {t : NodeTable} {s : State} {r : Reading} {bases : List (List Solution)} {tags : List (Option OpId)} {numbers : List ℕ} (c : IsFrameWithChoice d given first t s r bases tags numbers) where
+module _ {d : Declarations} {given : Pairs} {first : ℕ} {t : NodeTable} {s : State} {r : Reading} {bases : List (List Solution)} {tags : List (Option OpId)} {numbers : List ℕ} (c : IsLeafWithChoice d given first t s r bases tags numbers) where
   pub has_sums : HasSums d t
   has_sums = tables_have_sums d c.good.fits (problem_of given) c.ready.is_given.kinds t c.made c.ready.table
 

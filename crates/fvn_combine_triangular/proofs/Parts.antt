@@ -116,40 +116,40 @@ module _ {d : Declarations} {given : Pairs} {first : ℕ} {t : NodeTable} {s : S
 
     -- their solutions are those that are taken
     pub solutions_are : map (λ p. p.solution) (slice_index_or all i []) ≡ taken (systems_of r bases) (choice_of r tags numbers) e.operator
-    solutions_are = are_shares.solutions ∙ sym (taken_at m.frame i e at)
+    solutions_are = are_shares.solutions ∙ sym (taken_at m.leaf i e at)
 
     pub few_shares : length (slice_index_or all i []) ≤ MINIMAL_SOLUTIONS
     few_shares =
         let a = length-map (slice_index_or all i []) (λ (p : Share). p.solution) in
         let b = ap length are_shares.solutions in
         let c = length-chosen (slice_index numbers i) (vectors_of (slice_index_or bases i [])) in
-        let f = few_at m.frame i e at in
+        let f = few_at m.leaf i e at in
         omega (arith, a, b, c, f)
 
     pub share_taken : (p : Share) → Contains (slice_index_or all i []) p → Contains (taken (systems_of r bases) (choice_of r tags numbers) e.operator) p.solution
     share_taken p q = subst (λ vs. Contains vs p.solution) solutions_are (contains_map (λ (p : Share). p.solution) (slice_index_or all i []) p q)
 
     pub component_is : (v : List ℕ) (k : ℕ) → component ((systems_of r bases).columns e.operator) v k ≡ component e.columns v k
-    component_is v k = ap (λ (cs : List ℕ). component cs v k) (columns_at m.frame i e at)
+    component_is v k = ap (λ (cs : List ℕ). component cs v k) (columns_at m.leaf i e at)
 
     pub share_sized : (p : Share) → Contains (slice_index_or all i []) p → length p.solution ≡ length e.columns
     share_sized p q =
         let f = e.operator in
-        let sum = entry_operator m.frame i e at in
+        let sum = entry_operator m.leaf i e at in
         let basis = (systems_of r bases).basis f in
         let listed = chosen_listed ((choice_of r tags numbers).number f) basis p.solution (share_taken p q) in
-        ((m.frame.systems.exact f sum p.solution).0 listed).solves.sized ∙ (m.frame.systems.is_system f sum).wide ∙ ap length (columns_at m.frame i e at)
+        ((m.leaf.systems.exact f sum p.solution).0 listed).solves.sized ∙ (m.leaf.systems.is_system f sum).wide ∙ ap length (columns_at m.leaf i e at)
 
     -- what stands for a solution has the kind of the operator
-    pub variable_kind : (q : SortId) → IsKindOf m.frame.good e.operator q → (p : Share) → Contains (slice_index_or all i []) p → HasKind d (var p.variable) q
+    pub variable_kind : (q : SortId) → IsKindOf m.leaf.good e.operator q → (p : Share) → Contains (slice_index_or all i []) p → HasKind d (var p.variable) q
     variable_kind q of p listed = elim (share_stands listed.0 p (place_at (slice_index_or all i []) p listed)) [
       | inl (k, constant, some, is) ↦
-          let c = m.frame in
+          let c = m.leaf in
           let kinded = column_kind c.made c.ready.closed c.good (node_terms c) c.ready.kinds m.names_are e.operator (entry_operator c i e at).associative k constant.used.column in
           let theirs = kinded.1.1 in
           let same : kinded.0 ≡ q = sym theirs.gives ∙ (c.good.fits.agree e.operator theirs.rank of.rank theirs.listed of.listed).1 ∙ of.gives in
           subst (λ x. HasKind d (var x) q) (sym is) (subst (HasKind d (var (name_in names k))) same kinded.1.0)
-      | inr (none, new) ↦ subst (HasKind d (var p.variable)) of.gives (kind_of_new m.frame.good e.operator of.rank of.listed p.variable (new.sort of.rank of.listed))
+      | inr (none, new) ↦ subst (HasKind d (var p.variable)) of.gives (kind_of_new m.leaf.good e.operator of.rank of.listed p.variable (new.sort of.rank of.listed))
     ]
 
     -- the choice has as many members as the shares
@@ -161,7 +161,7 @@ module _ {d : Declarations} {given : Pairs} {first : ℕ} {t : NodeTable} {s : S
 
     some_members : (k : ℕ) → IsBound d t (class_of s) (tag_in tags) e.operator k → HasNoIdentity (axioms d e.operator) → members e.columns (map part_of (slice_index_or all i [])) k ≢ []
     some_members k bound bare none =
-        let n = (m.frame.possible.acceptable e.operator (entry_operator m.frame i e at)).filled k (record { bound = bound; why = inr bare }) in
+        let n = (m.leaf.possible.acceptable e.operator (entry_operator m.leaf i e at)).filled k (record { bound = bound; why = inr bare }) in
         let c = count_is k in
         let some = some_above (λ (p : Share). component e.columns p.solution k) (slice_index_or all i []) (omega (arith, n, c)) in
         let p = some.0 in
@@ -173,7 +173,7 @@ module _ {d : Declarations} {given : Pairs} {first : ℕ} {t : NodeTable} {s : S
     -- a sum of the operator can be made for each class that is bound to one
     pub summable : (k : ℕ) → IsBound d t (class_of s) (tag_in tags) e.operator k → IsSummable d e.operator (members e.columns (map part_of (slice_index_or all i [])) k)
     summable k bound =
-        let c = m.frame in
+        let c = m.leaf in
         let sum = entry_operator c i e at in
         let of = (column_kind c.made c.ready.closed c.good (node_terms c) c.ready.kinds m.names_are e.operator sum.associative k (bound_column (has_sums c) (class_of s) e.operator k bound)).1.1 in
         let P = λ (x : Variable). IsSort d x.sort × (kind d x.sort ≡ kind d of.rank.result) in
@@ -195,7 +195,7 @@ module _ {d : Declarations} {given : Pairs} {first : ℕ} {t : NodeTable} {s : S
     pub number_of : (j : ℕ) (p : Share) → slice_get (slice_index_or all i []) j ≡ Some p → (p.variable.name < start_of t first) ⊎ (p.variable.name ≡ start_of t first + MINIMAL_SOLUTIONS * i + j)
     number_of j p is = elim (share_stands j p is) [
       | inl (k, constant, some, named) ↦
-          let l = column_within m.frame.made m.frame.ready.closed e.operator k constant.used.column in
+          let l = column_within m.leaf.made m.leaf.ready.closed e.operator k constant.used.column in
           let n = (m.names_are.each k l).number in
           let same = ap (λ (x : Variable). x.name) named in
           inl (omega (arith, l, n, same))
@@ -207,7 +207,7 @@ module _ {d : Declarations} {given : Pairs} {first : ℕ} {t : NodeTable} {s : S
     shares_differ a b p q l at_p at_q same = elim (share_stands a p at_p) [
       | inl (k, constant, some, named) ↦ elim (share_stands b q at_q) [
         | inl (j, other, more, is) ↦
-            let c = m.frame in
+            let c = m.leaf in
             let one = names_differ c.made c.ready.closed c.good (node_terms c) c.ready.kinds m.names_are k j
             (column_within c.made c.ready.closed e.operator k constant.used.column) (column_within c.made c.ready.closed e.operator j other.used.column) (sym named ∙ same ∙ is)
             in
@@ -230,7 +230,7 @@ module _ {d : Declarations} {given : Pairs} {first : ℕ} {t : NodeTable} {s : S
       where
         named_new : (k : ℕ) → IsConstant d t (class_of s) (tag_in tags) e.operator k → (p : Share) → p.variable ≡ name_in names k → (j : ℕ) (q : Share) → q.variable.name ≡ start_of t first + MINIMAL_SOLUTIONS * i + j → p.variable ≢ q.variable
         named_new k constant p named j q is same =
-            let l = column_within m.frame.made m.frame.ready.closed e.operator k constant.used.column in
+            let l = column_within m.leaf.made m.leaf.ready.closed e.operator k constant.used.column in
             let n = (m.names_are.each k l).number in
             let x = ap (λ (x : Variable). x.name) (sym named ∙ same) in
             omega (arith, l, n, x, is)
@@ -240,7 +240,7 @@ module _ {d : Declarations} {given : Pairs} {first : ℕ} {t : NodeTable} {s : S
   makes k Nothing h = tt
   makes k (Member i) h = (h.0, h.2)
   makes k (Sum i) (e, at, bound) = record {
-    within = entry_within m.frame i e at;
+    within = entry_within m.leaf i e at;
     as_many = m.shares_are.as_many;
     sized = λ o is. all_from (λ (p : Share). length p.solution ≡ length o.columns) (slice_index_or all i []) (share_sized i o is);
     summable = λ o is.

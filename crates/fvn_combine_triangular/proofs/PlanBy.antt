@@ -17,7 +17,7 @@ use Rattle.fvn_combine_nodes.specs.States.{class_of}
 use Rattle.fvn_combine_nodes.specs.declared.state.State.{State}
 use Rattle.fvn_combine_nodes.specs.declared.table.Node.TheVariants.{App}
 use Rattle.fvn_combine_nodes.proofs.Lists.{all_from}
-use Rattle.fvn_combine_leaves.specs.Frames.{IsSumOperator}
+use Rattle.fvn_combine_leaves.specs.Leaves.{IsSumOperator}
 use Rattle.fvn_combine_leaves.specs.declared.reading.Sums.{Sums}
 use Rattle.fvn_combine_leaves.specs.declared.reading.Reading.{Reading}
 use Rattle.fvn_combine_choices.specs.Binding.{IsBound, IsConstant}
@@ -42,7 +42,7 @@ module _ {d : Declarations} {given : Pairs} {first : ℕ} {t : NodeTable} {s : S
   form_by : (k : ℕ) (b : Binder) → IsBinderOf d t (class_of s) (tag_in tags) r.sums k b → IsFormBy d t (class_of s) (systems_of r bases) (choice_of r tags numbers) k (form_of t r.sums b)
   form_by k Nothing h = (
     λ f bound.
-        let p = place_of m.frame f (bound_operator (has_sums m.frame) (class_of s) f k bound) in
+        let p = place_of m.leaf f (bound_operator (has_sums m.leaf) (class_of s) f k bound) in
         h.0 p.number (p.entry, p.at, subst (λ g. IsBound d t (class_of s) (tag_in tags) g k) (sym p.is) bound),
     λ i simple. h.1 i (slice_get_within t.nodes i (App simple.operator simple.arguments) simple.over) simple.of (simple.operator, simple.arguments, simple.over, simple.simple),
   )
@@ -58,7 +58,7 @@ module _ {d : Declarations} {given : Pairs} {first : ℕ} {t : NodeTable} {s : S
     of_constant p listed k constant some = elim (share_stands m i e at listed.0 p (place_at (slice_index_or all i []) p listed)) [
       | inl (j, other, more, is) ↦
           let n = component_is m i e at p.solution j in
-          let one = (m.frame.possible.acceptable e.operator (entry_operator m.frame i e at)).apart j k other constant (record { solution = p.solution; among = share_taken m i e at p listed; left = omega (arith, more, n); right = some }) in
+          let one = (m.leaf.possible.acceptable e.operator (entry_operator m.leaf i e at)).apart j k other constant (record { solution = p.solution; among = share_taken m i e at p listed; left = omega (arith, more, n); right = some }) in
           is ∙ ap (name_in names) one
       | inr (none, new) ↦
           let z = none k constant in
@@ -74,11 +74,11 @@ module _ {d : Declarations} {given : Pairs} {first : ℕ} {t : NodeTable} {s : S
           let z = zero j other in
           absurd (omega (arith, more, n, z))
       | inr (none, new) ↦
-          let rank = operator_rank m.frame e.operator (entry_operator m.frame i e at) in
+          let rank = operator_rank m.leaf e.operator (entry_operator m.leaf i e at) in
           let n = new.is in
           let j = listed.1 in
           let few = few_shares m i e at in
-          let within = entry_within m.frame i e at in
+          let within = entry_within m.leaf i e at in
           record {
             fresh = new.fresh;
             above = omega (arith, n);
@@ -112,11 +112,11 @@ module _ {d : Declarations} {given : Pairs} {first : ℕ} {t : NodeTable} {s : S
   parts_of = at_operator [] r.sums (map (map part_of) all)
 
   parts_are : (i : ℕ) (e : Sums) → slice_get r.sums i ≡ Some e → parts_of e.operator ≡ map part_of (slice_index_or all i [])
-  parts_are i e at = parts_at m.frame i e at all m.shares_are.as_many
+  parts_are i e at = parts_at m.leaf i e at all m.shares_are.as_many
 
   -- what holds of each operator that was read holds of each sum operator
   at_each : (P : OpId → Type 0) → ((i : ℕ) (e : Sums) → slice_get r.sums i ≡ Some e → P e.operator) → (f : OpId) → IsSumOperator d t f → P f
-  at_each P h f sum = let p = place_of m.frame f sum in subst P p.is (h p.number p.entry p.at)
+  at_each P h f sum = let p = place_of m.leaf f sum in subst P p.is (h p.number p.entry p.at)
 
   solutions_by : (f : OpId) → IsSumOperator d t f → map (λ (q : Part). q.solution) (parts_of f) ≡ taken (systems_of r bases) (choice_of r tags numbers) f
   solutions_by = at_each (λ f. map (λ (q : Part). q.solution) (parts_of f) ≡ taken (systems_of r bases) (choice_of r tags numbers) f) (λ i e at.
@@ -132,7 +132,7 @@ module _ {d : Declarations} {given : Pairs} {first : ℕ} {t : NodeTable} {s : S
       (all_from (StandsFor d t (class_of s) (systems_of r bases) (choice_of r tags numbers) first (next_of t r first) (plan_of t r names binders all) e.operator) (map part_of (slice_index_or all i [])) (part_stands i e at)))
 
   only_by : (f : OpId) (q : Part) → Contains (parts_of f) q → IsSumOperator d t f
-  only_by f q listed = let p = part_operator m.frame all f q listed in subst (IsSumOperator d t) p.is (entry_operator m.frame p.number p.entry p.at)
+  only_by f q listed = let p = part_operator m.leaf all f q listed in subst (IsSumOperator d t) p.is (entry_operator m.leaf p.number p.entry p.at)
 
   distinct_by : (f : OpId) → IsSumOperator d t f → AllPairs (λ q r. q.variable ≢ r.variable) (parts_of f)
   distinct_by = at_each (λ f. AllPairs (λ q r. q.variable ≢ r.variable) (parts_of f)) (λ i e at. subst (AllPairs (λ (q r : Part). q.variable ≢ r.variable)) (sym (parts_are i e at)) (parts_differ i e at))
@@ -150,7 +150,7 @@ module _ {d : Declarations} {given : Pairs} {first : ℕ} {t : NodeTable} {s : S
 
   share_of : (f : OpId) (q : Part) → Contains (parts_of f) q → ShareOf f q
   share_of f q listed =
-      let p = part_operator m.frame all f q listed in
+      let p = part_operator m.leaf all f q listed in
       let here : Contains (map part_of (slice_index_or all p.number [])) q = subst (λ l. Contains l q) (ap parts_of (sym p.is) ∙ parts_are p.number p.entry p.at) listed in
       let u = map_contains part_of (slice_index_or all p.number []) q here in
       record { number = p.number; entry = p.entry; at = p.at; is = p.is; place = u.1.0.0; share = u.0; there = place_at (slice_index_or all p.number []) u.0 u.1.0; part = u.1.1 }
@@ -186,14 +186,14 @@ module _ {d : Declarations} {given : Pairs} {first : ℕ} {t : NodeTable} {s : S
 
   pub next_bounded : next_of t r first ≤ NEXT_FRESH
   next_bounded =
-      let a = m.frame.ready.is_given.small in
-      let b = m.frame.listed.room in
+      let a = m.leaf.ready.is_given.small in
+      let b = m.leaf.listed.room in
       omega (arith, a, b)
 
   pub plan_by : IsPlanBy d t (class_of s) (systems_of r bases) (choice_of r tags numbers) first (next_of t r first) (plan_of t r names binders all)
   plan_by = record {
     enough = omega arith;
-    names = name_is m.frame.made m.frame.ready.closed m.frame.good (node_terms m.frame) m.frame.ready.kinds m.names_are;
+    names = name_is m.leaf.made m.leaf.ready.closed m.leaf.good (node_terms m.leaf) m.leaf.ready.kinds m.names_are;
     forms = λ k l. form_by k (slice_index_or binders k Nothing) (m.binders_are.each k l);
     columns = λ f sum. refl;
     solutions = solutions_by;

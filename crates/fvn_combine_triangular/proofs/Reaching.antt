@@ -54,14 +54,14 @@ module _ {d : Declarations} {given : Pairs} {first : ℕ} {t : NodeTable} {s : S
       (holds_build (IsReached k) d f simple (name_forms d (class_of s) names ks) (each ks (λ j listed. listed)))
     where
       within : All (λ k. k < length t.nodes) ks
-      within = arguments_within t.nodes m.frame.made.ordered i f ks over
+      within = arguments_within t.nodes m.leaf.made.ordered i f ks over
 
       each : (ls : List ℕ) → ((j : ℕ) → Contains ls j → Contains ks j) → AllByRecursion (Holds (IsReached k)) (name_forms d (class_of s) names ls)
       each [] h = tt
       each (j ∷ ls) h = (
         λ x o.
             let listed = h j (contains_here j ls) in
-            by_name (class_of s j) (class_within m.frame.made m.frame.ready.closed j (All-contains (λ k. k < length t.nodes) ks j within listed)) o (argument i f ks j over simple of listed refl),
+            by_name (class_of s j) (class_within m.leaf.made m.leaf.ready.closed j (All-contains (λ k. k < length t.nodes) ks j within listed)) o (argument i f ks j over simple of listed refl),
         each ls (λ o listed. h o (contains_later j ls o listed)),
       )
 
@@ -80,8 +80,8 @@ module _ {d : Declarations} {given : Pairs} {first : ℕ} {t : NodeTable} {s : S
             let b = component_is m i e at p.solution l in
             let z : Some o ≡ Some e = sym there ∙ at in
             let one : o ≡ e = cc in
-            by_name l (column_within m.frame.made m.frame.ready.closed e.operator l constant.used.column) (is ∙ named)
-            (summand e.operator (entry_operator m.frame i e at) (subst (λ (o : Sums). IsBound d t (class_of s) (tag_in tags) o.operator k) one bound) constant
+            by_name l (column_within m.leaf.made m.leaf.ready.closed e.operator l constant.used.column) (is ∙ named)
+            (summand e.operator (entry_operator m.leaf i e at) (subst (λ (o : Sums). IsBound d t (class_of s) (tag_in tags) o.operator k) one bound) constant
             (record { solution = p.solution; among = share_taken m i e at p listed; left = omega (arith, some, a); right = omega (arith, more, b) }))
         | inr (none, new) ↦
             let n = new.is in
@@ -94,6 +94,6 @@ module _ {d : Declarations} {given : Pairs} {first : ℕ} {t : NodeTable} {s : S
   form_reaches k Nothing h u e = cc
   form_reaches k (Member i) h u e = subst (Holds (IsReached k)) (Some-injective e) (member_reaches k i h)
   form_reaches k (Sum i) (o, at, bound) u e =
-      let l = entry_within m.frame i o at in
+      let l = entry_within m.leaf i o at in
       let n = m.shares_are.as_many in
       subst (Holds (IsReached k)) (sym (sum_at_place d r.sums all i k o at (omega (arith, l, n))) ∙ Some-injective e) (sum_reaches k i o at (o, at, bound))

@@ -1,8 +1,8 @@
 -- Sums over variables.
-use Rattle.std.proofs.Common.{◌≡◌, ◌<◌, ◌≤◌, true, false, List, [], ◌∷◌, length, get_or, map, refl, sym, ap, ◌∙◌, subst, arith, All, Option, Some, None}
+use Rattle.std.proofs.Common.{◌≡◌, ◌<◌, ◌≤◌, true, false, List, [], ◌∷◌, length, get_or, map, refl, sym, ap, ◌∙◌, subst, arith, All, Option, Some, None, is_some}
 use Rattle.std.specs.List.{AllByRecursion}
 use Rattle.std.specs.Prelude.{◌==◌}
-use Rattle.std.specs.Option.{MatchOption, unwrap_or}
+use Rattle.std.specs.Option.{unwrap_or}
 use Rattle.std.proofs.lemmas.Bool.{eqb-true}
 use Rattle.std.proofs.lemmas.List.{length-map}
 use Rattle.std.proofs.lemmas.List.Elements.{All-head, All-tail}
@@ -21,8 +21,8 @@ use Rattle.fvn_forms.specs.Settled.{IsPiece, Settled}
 use Rattle.fvn_forms.proofs.Build.{build_sum, sum_settled}
 use Rattle.fvn_forms.proofs.KindsOfSums.{sum_of_forms_of_kind}
 use Rattle.fvn_flat.specs.Fits.{AllFit, AllOfKind, Takes, TakesAsDeclared}
-use Rattle.fvn_flat.specs.Partitions.{HasNoIdentity}
 use Rattle.fvn_flat.proofs.Fitting.{takes_arguments}
+use Rattle.fvn_combine_nodes.proofs.AxiomTests.{no_identity}
 use Rattle.fvn_combine_triangular.specs.inner.Planning.{IsSummable}
 
 -- the sum of one term is the term
@@ -93,44 +93,36 @@ module _ {d : Declarations} (fits : FitsKinds d) {f : OpId} {ts : List FlatTerm}
 
   -- the identity of the operator of a sum without summands
   pub record HasUnit (e : OpId) : Type 0 where
-    pub axioms_are : axioms d f ≡ AssocCommId e
+    pub is : identity (axioms d f) ≡ Some e
     pub kinded : HasKind d (constant e) (kind d h.rank.result)
 
-  unit_of : ts ≡ [] → (o : Option OpId) → MatchOption o ((e : OpId) → axioms d f ≡ AssocCommId e → ⊥) (λ e. axioms d f ≡ AssocCommId e) → HasUnit (unwrap_or o f)
-  unit_of empty None m = absurd (h.some (bare (axioms d f) m) empty)
-    where
-      bare : (a : Axioms) → ((e : OpId) → a ≡ AssocCommId e → ⊥) → HasNoIdentity a
-      bare Free n = tt
-      bare Comm n = tt
-      bare AssocComm n = tt
-      bare (AssocCommId e) n = n e refl
-  unit_of empty (Some e) m = record { axioms_are = m; kinded = fits.identity f e h.rank m h.listed }
+  unit_of : ts ≡ [] → (o : Option OpId) → o ≡ identity (axioms d f) → HasUnit (unwrap_or o f)
+  unit_of empty None m = absurd (h.some (no_identity (axioms d f) (ap is_some (sym m))) empty)
+  unit_of empty (Some e) m = record { is = sym m; kinded = fits.identity f e h.rank (sym m) h.listed }
 
   -- it is a constant, which is the sum
-  pub unit_takes : ts ≡ [] → (o : Option OpId) → MatchOption o ((e : OpId) → axioms d f ≡ AssocCommId e → ⊥) (λ e. axioms d f ≡ AssocCommId e) → Takes d (unwrap_or o f) ts
+  pub unit_takes : ts ≡ [] → (o : Option OpId) → o ≡ identity (axioms d f) → Takes d (unwrap_or o f) ts
   unit_takes empty o m = subst (Takes d (unwrap_or o f)) (sym empty) (takes_arguments d fits (unwrap_or o f) none (kind d h.rank.result, (unit_of empty o m).kinded))
 
-  pub unit_is_sum : ts ≡ [] → (o : Option OpId) → MatchOption o ((e : OpId) → axioms d f ≡ AssocCommId e → ⊥) (λ e. axioms d f ≡ AssocCommId e) → build d (unwrap_or o f) ts ≡ sum d f ts
-  unit_is_sum empty o m = subst (λ l. build d (unwrap_or o f) l ≡ sum d f l) (sym empty) (sym (ap (λ a. empty_sum d f (identity a)) (unit_of empty o m).axioms_are))
+  pub unit_is_sum : ts ≡ [] → (o : Option OpId) → o ≡ identity (axioms d f) → build d (unwrap_or o f) ts ≡ sum d f ts
+  unit_is_sum empty o m = subst (λ l. build d (unwrap_or o f) l ≡ sum d f l) (sym empty) (sym (ap (empty_sum d f) (unit_of empty o m).is))
 
   -- a sum is flat, and of the kind of what the operator gives
   pub sum_kind : HasKind d (plain (sum d f ts)) (kind d h.rank.result)
   sum_kind = go ts refl summands_of_kind
     where
-      empty_kind : ts ≡ [] → (a : Axioms) → axioms d f ≡ a → HasKind d (plain (empty_sum d f (identity a))) (kind d h.rank.result)
-      empty_kind empty Free e = absurd (h.some (subst HasNoIdentity (sym e) tt) empty)
-      empty_kind empty Comm e = absurd (h.some (subst HasNoIdentity (sym e) tt) empty)
-      empty_kind empty AssocComm e = absurd (h.some (subst HasNoIdentity (sym e) tt) empty)
-      empty_kind empty (AssocCommId o) e = fits.identity f o h.rank e h.listed
+      empty_kind : ts ≡ [] → (o : Option OpId) → identity (axioms d f) ≡ o → HasKind d (plain (empty_sum d f o)) (kind d h.rank.result)
+      empty_kind empty None e = absurd (h.some (no_identity (axioms d f) (ap is_some e)) empty)
+      empty_kind empty (Some o) e = fits.identity f o h.rank e h.listed
 
       go : (l : List FlatTerm) → ts ≡ l → AllOfKind d (kind d h.rank.result) l → HasKind d (plain (sum d f l)) (kind d h.rank.result)
-      go [] e k = empty_kind e (axioms d f) refl
+      go [] e k = empty_kind e (identity (axioms d f)) refl
       go (u ∷ us) e k = sum_of_forms_of_kind d fits f h.associative (kind d h.rank.result) h.rank h.listed refl u us k
 
   pub sum_flat : Settled d (sum d f ts)
   sum_flat =
       subst (λ l. Settled d (sum d f l)) (sym h.are)
-      (sum_settled d f h.associative (map fvar h.variables) (pieces h.variables) (settled h.variables) (λ e. some_identity (axioms d f) refl (h.are ∙ e)))
+      (sum_settled d f h.associative (map fvar h.variables) (pieces h.variables) (settled h.variables) (λ e. some_identity (identity (axioms d f)) refl (h.are ∙ e)))
     where
       pieces : (xs : List Variable) → AllByRecursion (IsPiece d f) (map fvar xs)
       pieces [] = tt
@@ -140,8 +132,6 @@ module _ {d : Declarations} (fits : FitsKinds d) {f : OpId} {ts : List FlatTerm}
       settled [] = tt
       settled (x ∷ xs) = (tt, settled xs)
 
-      some_identity : (a : Axioms) → axioms d f ≡ a → ts ≡ [] → (e : OpId) × (identity a ≡ Some e)
-      some_identity Free e empty = absurd (h.some (subst HasNoIdentity (sym e) tt) empty)
-      some_identity Comm e empty = absurd (h.some (subst HasNoIdentity (sym e) tt) empty)
-      some_identity AssocComm e empty = absurd (h.some (subst HasNoIdentity (sym e) tt) empty)
-      some_identity (AssocCommId o) e empty = (o, refl)
+      some_identity : (o : Option OpId) → identity (axioms d f) ≡ o → ts ≡ [] → (e : OpId) × (o ≡ Some e)
+      some_identity None e empty = absurd (h.some (no_identity (axioms d f) (ap is_some e)) empty)
+      some_identity (Some o) e empty = (o, refl)

@@ -1,3 +1,3 @@
--- The words of bindings at a frame.
+-- The words of bindings at a leaf.
 pub mod Ready
 pub mod inner

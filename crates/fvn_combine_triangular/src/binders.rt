@@ -1,5 +1,6 @@
 //! How each class is bound.
 ghost use Rattle.std.specs.Prelude.{◌≡◌, ◌↔◌, ℕ, ◌<◌, length, IsTrue, IfOk, MatchOption};
+ghost use Rattle.fvn_flat.specs.SolvedLists.{IsSimple};
 ghost use Rattle.fvn_combine_nodes.specs.States.{IsClosed, class_of};
 ghost use Rattle.fvn_combine_leaves.specs.Readings.{IsReading};
 ghost use Rattle.fvn_combine_admissible.specs.Listed.{tag_in};
@@ -62,6 +63,13 @@ fn sum_binder(
     None
 }
 
+// Whether operators with these axioms are free or commutative, and make no sums.
+fn has_simple_axioms(axioms: Axioms) -> bool
+    ensures { IsTrue result ↔ IsSimple axioms }
+{
+    !axioms.is_sum()
+}
+
 // Whether a free or commutative operator heads the node.
 fn is_simple(sig: &Signature, table: &Table, i: usize) -> bool
     requires { i < length table.now.nodes }
@@ -69,12 +77,7 @@ fn is_simple(sig: &Signature, table: &Table, i: usize) -> bool
 {
     match table.node(i) {
         Node::Var(_) => false,
-        Node::App(f, _) => match sig.axioms(*f) {
-            Axioms::Free => true,
-            Axioms::Comm => true,
-            Axioms::AssocComm => false,
-            Axioms::AssocCommId(_) => false,
-        },
+        Node::App(f, _) => has_simple_axioms(sig.axioms(*f)),
     }
 }
 

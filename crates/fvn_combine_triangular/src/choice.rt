@@ -1,4 +1,4 @@
-//! The bindings that a choice at a frame makes.
+//! The bindings that a choice at a leaf makes.
 ghost use Rattle.std.specs.Prelude.{◌≡◌, ◌<◌, ℕ, map, length, slice_get, slice_index_or, All, IfOk, OnOk, IfSome, IfNone};
 ghost use Rattle.fvn_combine_nodes.specs.States.{IsClosed, class_of};
 ghost use Rattle.fvn_combine_leaves.specs.Readings.{IsReading};

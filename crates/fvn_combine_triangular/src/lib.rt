@@ -1,4 +1,4 @@
-//! The bindings that a choice at a frame makes, in an order in which no class reaches itself.
+//! The bindings that a choice at a leaf makes, in an order in which no class reaches itself.
 #![tactic(auto)]
 
 mod binders;

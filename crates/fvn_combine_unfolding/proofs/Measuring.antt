@@ -11,7 +11,8 @@ use Rattle.fvn_terms.specs.declared.declarations.Axioms.TheVariants.{Free, Comm,
 use Rattle.fvn_terms.specs.declared.declarations.Declarations.{Declarations}
 use Rattle.fvn_terms.specs.Signature.{axioms}
 use Rattle.fvn_terms.specs.Substitution.{Occurs, OccursAmong}
-use Rattle.fvn_terms.specs.Equality.{IsAssociative}
+use Rattle.fvn_terms.specs.Equality.{is_sum}
+use Rattle.fvn_terms.proofs.AxiomWords.{associative_sums}
 use Rattle.fvn_forms.specs.Flat.{FlatTerm, FlatTerms, fvar, fapp, fnone, fmore, fpack, funpack, plain, plain_all}
 use Rattle.fvn_forms.specs.Settled.{Settled, FitsUnjoined}
 use Rattle.fvn_forms.proofs.Sums.{fpack-funpack, SettledAll-funpack}
@@ -19,7 +20,7 @@ use Rattle.fvn_flat.specs.Forms.{variable_of, head_of, args_of}
 use Rattle.fvn_flat.specs.Own.{own}
 use Rattle.fvn_flat.proofs.Occurrences.{occurs_in_app}
 use Rattle.fvn_combine_choices.specs.Plans.{size_in, sizes_in, joined_in}
-use Rattle.fvn_combine_unfolding.specs.inner.Noted.{joins, capped, between, own_size}
+use Rattle.fvn_combine_unfolding.specs.inner.Noted.{capped, between, own_size}
 
 -- the arguments of a settled form are settled
 pub args_settled : (d : Declarations) (t : FlatTerm) → Settled d t → AllByRecursion (Settled d) (args_of t)
@@ -46,33 +47,27 @@ own_of_some_arguments n m e = go (nat_eq n 0) refl
     go true f = let z = eqb-true n 0 f in absurd (omega (arith, z, e))
     go false f = omega (arith, e)
 
-joins_if : (a : Axioms) → IsAssociative a → joins a ≡ true
-joins_if Free h = absurd h
-joins_if Comm h = absurd h
-joins_if AssocComm h = refl
-joins_if (AssocCommId i) h = refl
-
-joins_unless : (d : Declarations) (a : Axioms) (t : FlatTerm) (l : List FlatTerm) → FitsUnjoined d a (t ∷ l) → joins a ≡ false
-joins_unless d Free t l h = refl
-joins_unless d Comm t l h = refl
-joins_unless d AssocComm t l h = cc
-joins_unless d (AssocCommId i) t l h = cc
+sums_unless : (d : Declarations) (a : Axioms) (t : FlatTerm) (l : List FlatTerm) → FitsUnjoined d a (t ∷ l) → is_sum a ≡ false
+sums_unless d Free t l h = refl
+sums_unless d Comm t l h = refl
+sums_unless d AssocComm t l h = cc
+sums_unless d (AssocCommId i) t l h = cc
 
 module _ (d : Declarations) where
   -- an operator has those of its place over the arguments
-  own_of_app : (g : OpId) (joined : Bool) (ts : FlatTerms) → Settled d (fapp g joined ts) → own (joins (axioms d g)) (length (funpack ts)) ≡ own_size (fapp g joined ts)
-  own_of_app g true fnone h = own_of_nothing (joins (axioms d g))
-  own_of_app g false fnone h = own_of_nothing (joins (axioms d g))
+  own_of_app : (g : OpId) (joined : Bool) (ts : FlatTerms) → Settled d (fapp g joined ts) → own (is_sum (axioms d g)) (length (funpack ts)) ≡ own_size (fapp g joined ts)
+  own_of_app g true fnone h = own_of_nothing (is_sum (axioms d g))
+  own_of_app g false fnone h = own_of_nothing (is_sum (axioms d g))
   own_of_app g true (fmore t ts) h =
       let b = between_is t ts in
-      ap (λ j. own j (length (t ∷ funpack ts))) (joins_if (axioms d g) h.0.associative) ∙ own_of_some_arguments (length (t ∷ funpack ts)) (length (funpack ts)) (omega arith) ∙ sym b
-  own_of_app g false (fmore t ts) h = ap (λ j. own j (length (t ∷ funpack ts))) (joins_unless d (axioms d g) t (funpack ts) h.0)
+      ap (λ j. own j (length (t ∷ funpack ts))) (associative_sums (axioms d g) h.0.associative) ∙ own_of_some_arguments (length (t ∷ funpack ts)) (length (funpack ts)) (omega arith) ∙ sym b
+  own_of_app g false (fmore t ts) h = ap (λ j. own j (length (t ∷ funpack ts))) (sums_unless d (axioms d g) t (funpack ts) h.0)
 
-  pub own_of_some : (t : FlatTerm) (f : OpId) → Settled d t → head_of t ≡ Some f → own (joins (axioms d f)) (length (args_of t)) ≡ own_size t
+  pub own_of_some : (t : FlatTerm) (f : OpId) → Settled d t → head_of t ≡ Some f → own (is_sum (axioms d f)) (length (args_of t)) ≡ own_size t
   own_of_some (fvar x) f h e = cc
   own_of_some (fapp g joined ts) f h e =
       let same : g ≡ f = cc in
-      ap (λ k. own (joins (axioms d k)) (length (funpack ts))) (sym same) ∙ own_of_app g joined ts h
+      ap (λ k. own (is_sum (axioms d k)) (length (funpack ts))) (sym same) ∙ own_of_app g joined ts h
 
 module _ (env : Var → ℕ) where
   -- the symbols of the forms of a list together

@@ -2,29 +2,16 @@
 ghost use Rattle.std.specs.Prelude.{◌≡◌, ◌↔◌, ◌<◌, ◌-◌, ◌^◌, All, Any, IfOk, IsTrue};
 ghost use Rattle.fvn_forms.specs.Flat.{symbols};
 ghost use Rattle.fvn_forms.specs.Settled.{Settled};
-ghost use Rattle.fvn_terms.specs.Signature.{axioms};
 ghost use Rattle.fvn_flat.specs.SolvedLists.{IsTriangular};
 ghost use Rattle.fvn_flat.specs.Own.{own};
 ghost use Rattle.fvn_combine_choices.specs.Plans.{unfolds_to, size_in};
 ghost use Rattle.fvn_combine_unfolding.specs.Sizes.{AddUp};
-ghost use Rattle.fvn_combine_unfolding.specs.inner.Noted.{noted_size, noted_sizes, capped, own_size, joins};
+ghost use Rattle.fvn_combine_unfolding.specs.inner.Noted.{noted_size, noted_sizes, capped, own_size};
 
 use fvn_flat::{Flat, SolvedList};
 use fvn_signature::Signature;
-use fvn_terms::{Axioms, NoMemory, OpId, Var};
+use fvn_terms::{NoMemory, Var};
 use std::alloc::Global;
-
-// Whether the operator is associative.
-fn joins(sig: &Signature, f: OpId) -> bool
-    ensures { result ≡ joins (axioms sig.now f) }
-{
-    match sig.axioms(f) {
-        Axioms::Free => false,
-        Axioms::Comm => false,
-        Axioms::AssocComm => true,
-        Axioms::AssocCommId(_) => true,
-    }
-}
 
 // The symbols of an operator over so many arguments, besides those of the arguments.
 fn own_symbols(joined: bool, count: usize) -> u64
@@ -45,7 +32,7 @@ fn own_size(sig: &Signature, t: &Flat) -> u64
     let us = t.args();
     match t.head() {
         None => 1,
-        Some(f) => own_symbols(joins(sig, f), us.len()),
+        Some(f) => own_symbols(sig.axioms(f).is_sum(), us.len()),
     }
 }
 

@@ -4,3 +4,4 @@ pub mod Leftovers
 pub mod Additions
 mod Prunings
 mod PieceFacts
+pub mod Ranges

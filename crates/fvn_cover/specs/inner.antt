@@ -1,3 +1,2 @@
 -- What mirrors the code.
-pub mod Pieces
 pub mod Profiled

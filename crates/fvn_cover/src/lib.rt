@@ -6,6 +6,7 @@ mod gate;
 mod keeping;
 mod laws;
 mod marking;
+mod pieces;
 mod pruning;
 mod values;
 mod variant;
@@ -17,5 +18,6 @@ pub use laws::{
     at_most_sixteen_workers, covering_of_unifiers_is_instance, covering_of_variants_is_a_preorder,
 };
 pub use marking::{WORKERS, marks};
+pub use pieces::{piece_count, piece_start};
 pub use pruning::{prune, with_member};
 pub use variant::{Variant, all_shared};

@@ -1,15 +1,16 @@
 //! Which candidates are covered, found by several workers.
-ghost use Rattle.std.specs.Prelude.{◌≡◌, ◌↔◌, ◌<◌, ◌≤◌, ◌++◌, length, min, IsTrue, IfOk, All};
+ghost use Rattle.std.specs.Prelude.{◌≡◌, ◌↔◌, ◌<◌, ◌≤◌, ◌++◌, length, IsTrue, IfOk, All};
 ghost use Rattle.std.specs.Thread.{IsSync};
 ghost use Rattle.fvn_cover.specs.declared.marking.TheConstants.{WORKERS};
 ghost use Rattle.fvn_cover.specs.Covering.{AreAlike, IsFlatVariant};
 ghost use Rattle.fvn_cover.specs.Pruning.{IsCoveredBySome};
 ghost use Rattle.fvn_cover.specs.Marks.{AreComparable, AreMarks};
-ghost use Rattle.fvn_cover.specs.inner.Pieces.{IsRange, cut};
+ghost use Rattle.fvn_cover.specs.Pieces.{IsRange};
 
 use crate::covering::Shown;
 use crate::gate::Gate;
-use crate::keeping::Prepared;
+use crate::keeping::{Kept, Prepared};
+use crate::pieces::{piece_count, piece_start};
 use crate::variant::Variant;
 use fvn_signature::Signature;
 use fvn_terms::NoMemory;
@@ -24,33 +25,16 @@ pub const WORKERS: u32 = 16;
 struct Work<'a> {
     alloc: Global,
     sig: &'a Signature,
-    kept: &'a [Prepared<'a>],
+    kept: &'a [Kept],
     count: usize,
     pieces: u32,
-}
-
-// The kept variants, each with its values and its profile.
-fn prepared<'a>(
-    alloc: Global,
-    sig: &Signature,
-    list: &'a [Variant],
-) -> Result<Vec<Prepared<'a>>, NoMemory>
-    requires { All (IsFlatVariant sig.now) list.now }
-    ensures { IfOk result (λ all. all.items ≡ list.now) }
-{
-    let mut all = Vec::new(alloc);
-    for v in list {
-        let p = Prepared::new(alloc, sig, v)?;
-        all.push(p)?;
-    }
-    Ok(all)
 }
 
 // Whether some kept variant covers the candidate.
 fn is_covered(
     alloc: Global,
     sig: &Signature,
-    kept: &[Prepared<'_>],
+    kept: &[Kept],
     candidate: &Shown<'_>,
 ) -> Result<bool, NoMemory>
     requires flat { IsFlatVariant sig.now candidate.now × All (IsFlatVariant sig.now) kept.now }
@@ -69,7 +53,7 @@ fn is_covered(
 fn marked(
     alloc: Global,
     sig: &Signature,
-    kept: &[Prepared<'_>],
+    kept: &[Kept],
     candidates: &[Variant],
 ) -> Result<Vec<bool>, NoMemory>
     requires { AreComparable sig.now kept.now candidates.now }
@@ -82,25 +66,6 @@ fn marked(
         marks.push(mark)?;
     }
     Ok(marks)
-}
-
-// Where the piece begins.
-fn start(count: usize, pieces: u32, piece: u32) -> usize
-    requires some { 0 < pieces }
-    requires within { piece ≤ pieces }
-    ensures { result ≡ cut count pieces piece }
-{
-    (u128::from(piece) * (count as u128) / u128::from(pieces)) as usize
-}
-
-// The number of pieces: one for each worker, but none without a candidate.
-fn piece_count(workers: u32, count: usize) -> u32
-    ensures { result ≡ min workers count }
-{
-    match u32::try_from(count) {
-        Ok(n) => workers.min(n),
-        Err(_) => workers,
-    }
 }
 
 // The marks of the candidates in the pieces from `low` to below `high`.
@@ -123,8 +88,8 @@ fn run<R: Threads + Sync, G: Gate>(
         return Ok(marks);
     }
     let middle = low + (high - low) / 2;
-    let begin = start(work.count, work.pieces, low);
-    let size = start(work.count, work.pieces, middle) - begin;
+    let begin = piece_start(work.count, work.pieces, low);
+    let size = piece_start(work.count, work.pieces, middle) - begin;
     let (front, back) = candidates.split_at(size);
     let marks = halves(rt, work, gate, front, low, middle, back, high)?;
     Ok(marks)
@@ -173,13 +138,13 @@ fn halves<R: Threads + Sync, G: Gate>(
 /// For each candidate, whether some kept variant covers it.
 ///
 /// The candidates are cut into as many pieces as there are workers, or candidates if these are fewer.
-/// Piece i of p has those from `i * n / p` to below `(i + 1) * n / p`. It goes through the gate and is then marked in order.
+/// Each piece goes through the gate and is then marked in order.
 /// Pieces run at once, where threads can be had.
 pub fn marks<R: Threads + Sync, G: Gate>(
     rt: &R,
     alloc: Global,
     sig: &Signature,
-    kept: &[Variant],
+    kept: &[Kept],
     candidates: &[Variant],
     workers: u32,
     gate: &G,
@@ -191,13 +156,12 @@ pub fn marks<R: Threads + Sync, G: Gate>(
     if candidates.is_empty() {
         return Ok(Vec::new(alloc));
     }
-    let list = prepared(alloc, sig, kept)?;
     let count = candidates.len();
     let pieces = piece_count(workers, count);
     let work = Work {
         alloc,
         sig,
-        kept: list.as_slice(),
+        kept,
         count,
         pieces,
     };

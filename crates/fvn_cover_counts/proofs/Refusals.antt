@@ -1,5 +1,5 @@
 -- Where forms are matched, the counts of the targets are those of the patterns or greater.
-use Rattle.std.proofs.Common.{◌≡◌, ◌≢◌, ◌≤◌, ℕ, ◌+◌, zero, suc, ◌<◌, Bool, true, false, List, [], ◌∷◌, ◌++◌, length, map, take, get_or, refl, sym, ap, ◌∙◌, subst, inl, inr, arith}
+use Rattle.std.proofs.Common.{◌≡◌, ◌≢◌, ◌≤◌, ℕ, ◌+◌, zero, suc, ◌<◌, Bool, true, false, List, [], ◌∷◌, ◌++◌, length, map, take, get_or, Some, refl, sym, ap, ◌∙◌, subst, inl, inr, arith}
 use Rattle.std.specs.Prelude.{◌↔◌, ◌⊎◌, nat_lt, All, Any, Contains, IsTrue}
 use Rattle.std.specs.List.{AllZip}
 use Rattle.std.specs.List.Sorted.{IsNonDecreasingBy}
@@ -10,11 +10,10 @@ use Rattle.fvn_base.proofs.Membership.{contains_cases, contains_none, contains_h
 use Rattle.fvn_terms.specs.declared.plain.Var.{Var}
 use Rattle.fvn_terms.specs.declared.plain.OpId.{OpId}
 use Rattle.fvn_terms.specs.declared.declarations.Declarations.{Declarations}
-use Rattle.fvn_terms.specs.declared.declarations.Axioms.TheVariants.{AssocCommId}
 use Rattle.fvn_terms.specs.Signature.{axioms}
 use Rattle.fvn_terms.specs.Term.{Term}
 use Rattle.fvn_terms.specs.Substitution.{Substitution, apply, Occurs}
-use Rattle.fvn_terms.specs.Equality.{BEqual}
+use Rattle.fvn_terms.specs.Equality.{BEqual, identity}
 use Rattle.fvn_terms.specs.Variants.{OccursInSome}
 use Rattle.fvn_terms.proofs.Occurrences.{BEqual-occurs, occurs_value}
 use Rattle.fvn_forms.specs.Flat.{FlatTerm, plain}
@@ -40,11 +39,11 @@ module _ (d : Declarations) where
   kept_weights f k g e is = (top (same_op f g) refl, constant (same_op f e) refl)
     where
       top : (b : Bool) → same_op f g ≡ b → one_if b ≡ 0
-      top true q = absurd (k.without_identity e (subst (λ h. axioms d h ≡ AssocCommId e) (sym (same_op_is f g q)) is))
+      top true q = absurd (k.without_identity e (subst (λ h. identity (axioms d h) ≡ Some e) (sym (same_op_is f g q)) is))
       top false q = refl
 
       constant : (b : Bool) → same_op f e ≡ b → one_if b ≡ 0
-      constant true q = absurd (k.no_identity g (subst (λ h. axioms d g ≡ AssocCommId h) (sym (same_op_is f e q)) is))
+      constant true q = absurd (k.no_identity g (subst (λ h. identity (axioms d g) ≡ Some h) (sym (same_op_is f e q)) is))
       constant false q = refl
 
   module _ (s : Substitution) where

@@ -1,12 +1,11 @@
 -- Equality modulo the axioms keeps weights that identities do not have.
-use Rattle.std.proofs.Common.{◌≡◌, ◌+◌, refl, sym, ap, ◌∙◌, inl, inr, arith}
+use Rattle.std.proofs.Common.{◌≡◌, ◌+◌, Some, refl, sym, ap, ◌∙◌, inl, inr, arith}
 use Rattle.fvn_terms.specs.declared.plain.OpId.{OpId}
-use Rattle.fvn_terms.specs.declared.declarations.Axioms.TheVariants.{AssocCommId}
 use Rattle.fvn_terms.specs.declared.declarations.Declarations.{Declarations}
 use Rattle.fvn_terms.specs.Term.{Term, Terms, app, none}
 use Rattle.fvn_terms.specs.Signature.{axioms}
 use Rattle.fvn_terms.specs.Places.{AtOnePlace, AmongOnePlace, here, inside, first, later, stop, step}
-use Rattle.fvn_terms.specs.Equality.{two, IsAxiom, swap, shift, right_identity, left_identity, IsAxiomEitherWay, BEqual}
+use Rattle.fvn_terms.specs.Equality.{two, identity, IsAxiom, swap, shift, right_identity, left_identity, IsAxiomEitherWay, BEqual}
 use Rattle.fvn_cover_counts.specs.Weights.{Weights, weight, weight_all, AreKept}
 
 module _ (d : Declarations) (w : Weights) (kept : AreKept d w) where
@@ -16,10 +15,10 @@ module _ (d : Declarations) (w : Weights) (kept : AreKept d w) where
   shifted : (f : OpId) (t u v : Term) → weight w (two f (two f t u) v) ≡ weight w (two f t (two f u v))
   shifted f t u v = omega arith
 
-  right_gone : (f e : OpId) (t : Term) → axioms d f ≡ AssocCommId e → weight w (two f t (app e none)) ≡ weight w t
+  right_gone : (f e : OpId) (t : Term) → identity (axioms d f) ≡ Some e → weight w (two f t (app e none)) ≡ weight w t
   right_gone f e t is = let k = kept f e is in let a = k.0 in let b = k.1 in omega arith
 
-  left_gone : (f e : OpId) (t : Term) → axioms d f ≡ AssocCommId e → weight w (two f (app e none) t) ≡ weight w t
+  left_gone : (f e : OpId) (t : Term) → identity (axioms d f) ≡ Some e → weight w (two f (app e none) t) ≡ weight w t
   left_gone f e t is = let k = kept f e is in let a = k.0 in let b = k.1 in omega arith
 
   by_axiom : (t u : Term) → IsAxiom d t u → weight w t ≡ weight w u

@@ -1,13 +1,12 @@
 //! The symbols of terms: variables and operators.
 ghost use Rattle.std.specs.Prelude.{◌≡◌};
-ghost use Rattle.fvn_terms.specs.Signature.{axioms};
 ghost use Rattle.fvn_forms.specs.Settled.{Settled};
 ghost use Rattle.fvn_cover_counts.specs.Weights.{same_symbol};
-ghost use Rattle.fvn_cover_counts.specs.inner.Heads.{is_sum, symbol_of, further};
+ghost use Rattle.fvn_cover_counts.specs.inner.Heads.{symbol_of, further};
 
 use fvn_flat::Flat;
 use fvn_signature::Signature;
-use fvn_terms::{Axioms, OpId, Var};
+use fvn_terms::{OpId, Var};
 
 /// A variable or an operator.
 #[derive(Clone, Copy)]
@@ -45,18 +44,6 @@ pub(crate) fn top_symbol(t: &Flat) -> Symbol
     }
 }
 
-// Whether the operator is used between the arguments of its flat form.
-fn is_sum(sig: &Signature, f: OpId) -> bool
-    ensures { result ≡ is_sum (axioms sig.now f) }
-{
-    match sig.axioms(f) {
-        Axioms::Free => false,
-        Axioms::Comm => false,
-        Axioms::AssocComm => true,
-        Axioms::AssocCommId(_) => true,
-    }
-}
-
 // How often the symbol at the top stands there beyond once: a sum of n terms has n - 1 operators.
 pub(crate) fn further(sig: &Signature, t: &Flat) -> usize
     requires { Settled sig.now t.now }
@@ -65,7 +52,7 @@ pub(crate) fn further(sig: &Signature, t: &Flat) -> usize
     match t.head() {
         None => 0,
         Some(f) => {
-            if is_sum(sig, f) {
+            if sig.axioms(f).is_sum() {
                 return t.args().len().saturating_sub(2);
             }
             0

@@ -1,16 +1,16 @@
 -- A partition and a solved list of the problem x0 =? one.
-use Rattle.std.proofs.Common.{◌≡◌, ℕ, zero, suc, ◌<◌, Bool, true, false, if◌then◌else◌, [], ◌∷◌, refl, sym, ap, ◌∙◌, subst, inl, inr, arith, lit<}
+use Rattle.std.proofs.Common.{◌≡◌, ℕ, zero, suc, ◌<◌, Bool, true, false, if◌then◌else◌, [], ◌∷◌, Some, None, refl, sym, ap, ◌∙◌, subst, inl, inr, arith, lit<}
 use Rattle.std.specs.Prelude.{Contains, slice_index_or}
 use Rattle.std.proofs.lemmas.List.Elements.{All-nil, All-cons}
 use Rattle.fvn_terms.specs.declared.plain.Var.{Var}
 use Rattle.fvn_terms.specs.declared.plain.OpId.{OpId}
 use Rattle.fvn_terms.specs.declared.plain.SortId.{SortId}
-use Rattle.fvn_terms.specs.declared.declarations.Axioms.TheVariants.{Free, Comm, AssocCommId}
+use Rattle.fvn_terms.specs.declared.declarations.Axioms.TheVariants.{Free, Comm}
 use Rattle.fvn_terms.specs.Term.{Term, Terms, var, app, none, more}
 use Rattle.fvn_terms.specs.Substitution.{apply, Occurs, same_var}
 use Rattle.fvn_terms.specs.Signature.{axioms, kind, IsSort, HasKind, KeepsKinds}
 use Rattle.fvn_terms.specs.Places.{stop}
-use Rattle.fvn_terms.specs.Equality.{IsAssociative, BEqual}
+use Rattle.fvn_terms.specs.Equality.{IsAssociative, BEqual, identity}
 use Rattle.fvn_terms.specs.Unifiers.{Problem}
 use Rattle.fvn_terms.proofs.Substitutions.{apply-var}
 use Rattle.fvn_forms.specs.Flat.{FlatTerm, fconstant, plain}
@@ -46,7 +46,7 @@ unfolding operator_of
 heads_one f h = ap operator_of (headed f h.arguments h.listed)
 
 no_unit : (t : Term) → IsUnit numbers assigned t → ⊥
-no_unit t u = let e : Free ≡ AssocCommId u.constant_of = ap (axioms numbers) (heads_one u.operator u.heads) ∙ u.identity in cc
+no_unit t u = let e : None ≡ Some u.constant_of = ap (λ f. identity (axioms numbers f)) (heads_one u.operator u.heads) ∙ u.identity in cc
 
 node_is : (f : OpId) (ts : Terms) → IsNode numbers assigned (app f ts) → one_ ≡ app f ts
 node_is f ts (inl c) = headed f ts c

@@ -1,5 +1,5 @@
 -- The rules that come from the equation X ; a = b, where mt is the identity of the sum ; of sets.
-use Rattle.std.proofs.Common.{◌≡◌, ℕ, zero, suc, Bool, true, false, List, [], ◌∷◌, refl, sym, ap, ◌∙◌, subst, inl, inr, arith, lit<}
+use Rattle.std.proofs.Common.{◌≡◌, ℕ, zero, suc, Bool, true, false, List, [], ◌∷◌, Some, refl, sym, ap, ◌∙◌, subst, inl, inr, arith, lit<}
 use Rattle.std.specs.Prelude.{◌⊎◌}
 use Rattle.fvn_terms.specs.declared.plain.Var.{Var}
 use Rattle.fvn_terms.specs.declared.plain.OpId.{OpId}
@@ -10,7 +10,7 @@ use Rattle.fvn_terms.specs.Term.{Term, var}
 use Rattle.fvn_terms.specs.Substitution.{Occurs, same_var}
 use Rattle.fvn_terms.specs.Signature.{axioms, same, HasKind}
 use Rattle.fvn_terms.specs.Places.{stop}
-use Rattle.fvn_terms.specs.Equality.{two, constant}
+use Rattle.fvn_terms.specs.Equality.{two, constant, identity}
 use Rattle.fvn_terms.specs.Sorts.{HasSort, is_declared}
 use Rattle.fvn_forms.specs.Flat.{FlatTerm, fvar, fapp, fnone, fmore, fconstant, plain}
 use Rattle.fvn_forms.specs.Canon.{canon}
@@ -56,18 +56,18 @@ b = constant (op 3)
 abbrev pub form_a : FlatTerm
 form_a = fconstant (op 2)
 
-abbrev form_b : FlatTerm
+abbrev pub form_b : FlatTerm
 form_b = fconstant (op 3)
 
 -- X ; a = b
-abbrev equation : Term × Term
+abbrev pub equation : Term × Term
 equation = (two (op 0) (var x) a, b)
 
-abbrev x_and_a : FlatTerm
+abbrev pub x_and_a : FlatTerm
 x_and_a = fapp (op 0) true (fmore (fvar x) (fmore form_a fnone))
 
 -- with no variable replaced: X ; a = b
-as_it_is : IsIdentityInstance sets equation x_and_a form_b
+pub as_it_is : IsIdentityInstance sets equation x_and_a form_b
 as_it_is = record { by = var; choice = λ y. inl refl; left = refl; right = refl }
 
 mt_is_an_identity : IsIdentity sets (op 1)
@@ -123,7 +123,7 @@ extended = record {
 identity_is_mt : (e : OpId) → IsIdentity sets e → op 1 ≡ e
 identity_is_mt e (f, is) = go f.0 is
   where
-    go : (n : ℕ) → axioms sets (op n) ≡ AssocCommId e → op 1 ≡ e
+    go : (n : ℕ) → identity (axioms sets (op n)) ≡ Some e → op 1 ≡ e
     go zero p = cc
     go (suc zero) p = cc
     go (suc (suc zero)) p = cc

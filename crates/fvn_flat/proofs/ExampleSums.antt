@@ -1,16 +1,16 @@
 -- A partition and a solved list of the problem union(x0, x1) =? x2: x2 is bound to the sum of two minimal solutions.
-use Rattle.std.proofs.Common.{◌≡◌, ◌≢◌, ◌⊎◌, ℕ, zero, suc, ◌+◌, ◌*◌, ◌<◌, ℤ, Bool, true, false, if◌then◌else◌, List, [], ◌∷◌, Some, refl, sym, ap, ◌∙◌, subst, inl, inr, arith, lit<}
+use Rattle.std.proofs.Common.{◌≡◌, ◌≢◌, ◌⊎◌, ℕ, zero, suc, ◌+◌, ◌*◌, ◌<◌, ℤ, Bool, true, false, if◌then◌else◌, List, [], ◌∷◌, Some, None, refl, sym, ap, ◌∙◌, subst, inl, inr, arith, lit<}
 use Rattle.std.specs.Prelude.{All, AllPairs, Any, Contains, slice_index, slice_index_or}
 use Rattle.std.proofs.lemmas.List.Elements.{All-nil, All-cons, All-head}
 use Rattle.fvn_terms.specs.declared.plain.Var.{Var}
 use Rattle.fvn_terms.specs.declared.plain.OpId.{OpId}
 use Rattle.fvn_terms.specs.declared.plain.SortId.{SortId}
-use Rattle.fvn_terms.specs.declared.declarations.Axioms.TheVariants.{Free, Comm, AssocComm, AssocCommId}
+use Rattle.fvn_terms.specs.declared.declarations.Axioms.TheVariants.{Free, Comm, AssocComm}
 use Rattle.fvn_terms.specs.Term.{Term, Terms, var, app, none, more}
 use Rattle.fvn_terms.specs.Substitution.{apply, Occurs, same_var}
 use Rattle.fvn_terms.specs.Signature.{axioms, kind, IsSort, HasKind, KeepsKinds}
 use Rattle.fvn_terms.specs.Places.{stop}
-use Rattle.fvn_terms.specs.Equality.{BEqual}
+use Rattle.fvn_terms.specs.Equality.{BEqual, identity}
 use Rattle.fvn_terms.specs.Unifiers.{Problem}
 use Rattle.fvn_terms.proofs.Substitutions.{apply-var}
 use Rattle.fvn_forms.specs.Flat.{FlatTerm, fvar, fapp, plain}
@@ -55,7 +55,7 @@ heads_union : (f : OpId) → Heads numbers added f → op 2 ≡ f
 heads_union f h = at_subterm HeadIsUnion refl tt tt tt (app f h.arguments) h.listed
 
 no_unit : (t : Term) → IsUnit numbers added t → ⊥
-no_unit t u = let e : AssocComm ≡ AssocCommId u.constant_of = ap (axioms numbers) (heads_union u.operator u.heads) ∙ u.identity in cc
+no_unit t u = let e : None ≡ Some u.constant_of = ap (λ f. identity (axioms numbers f)) (heads_union u.operator u.heads) ∙ u.identity in cc
 
 at_node : (P : Term → Type 0) → P (union (x 0) (x 1)) → P (x 0) → P (x 1) → P (x 2) → (t : Term) → IsNode numbers added t → P t
 at_node P of_sum of_x0 of_x1 of_x2 t (inl c) = at_subterm P of_sum of_x0 of_x1 of_x2 t c

@@ -4,13 +4,12 @@ use Rattle.std.specs.Prelude.{◌&&◌, if◌then◌else◌}
 use Rattle.std.proofs.lemmas.List.{append-nil, append_assoc, take_more}
 use Rattle.fvn_terms.specs.declared.plain.OpId.{OpId}
 use Rattle.fvn_terms.specs.declared.plain.Plain.{Plain}
-use Rattle.fvn_terms.specs.declared.declarations.Axioms.{Axioms}
-use Rattle.fvn_terms.specs.declared.declarations.Axioms.TheVariants.{Free, Comm, AssocComm, AssocCommId}
 use Rattle.fvn_terms.specs.declared.declarations.Declarations.{Declarations}
 use Rattle.fvn_terms.specs.Term.{Term, Terms, var, app, none, more, nodes, nodes_all}
 use Rattle.fvn_terms.specs.Plain.{term, terms}
 use Rattle.fvn_terms.specs.Signature.{axioms}
-use Rattle.fvn_terms.specs.Equality.{IsAssociative}
+use Rattle.fvn_terms.specs.Equality.{is_sum}
+use Rattle.fvn_terms.proofs.AxiomWords.{sums_associate}
 use Rattle.fvn_forms.specs.Flat.{FlatTerm, fvar, fconstant}
 use Rattle.fvn_forms.specs.InOrder.{count}
 use Rattle.fvn_forms.specs.Canon.{same_op, parts, all_parts, sum, build, eval_all, canon}
@@ -19,7 +18,6 @@ use Rattle.fvn_forms.proofs.Sums.{same_op_itself, same_op_is, parts_sum, sum_sam
 use Rattle.fvn_forms.proofs.Build.{build_sum}
 use Rattle.fvn_forms.proofs.Eval.{fvar_settled, eval_all_settled}
 use Rattle.fvn_flat.specs.inner.Gathered.{gathered_of, gathered, IsNested}
-use Rattle.fvn_flat.specs.Joining.{joins}
 
 -- the nodes of an argument
 pub nodes_at : (items : List Plain) (i : ℕ) (t : Plain) → i < length items → t ≡ get_or items i t → nodes (term t) ≤ nodes_all (terms items)
@@ -27,34 +25,28 @@ nodes_at [] i t within is = absurd (omega arith)
 nodes_at (u ∷ items) zero t within is = let e = ap (λ v. nodes (term v)) is in omega arith
 nodes_at (u ∷ items) (suc i) t within is = let e = nodes_at items i t (omega arith) is in omega arith
 
-joining : (a : Axioms) → joins a ≡ true → IsAssociative a
-joining Free e = cc
-joining Comm e = cc
-joining AssocComm e = tt
-joining (AssocCommId o) e = tt
-
 module _ (d : Declarations) (f : OpId) where
-  -- f, which joins, heads a term
+  -- f, which makes sums, heads a term
   abbrev IsSum : OpId → Bool
-  IsSum g = same_op f g && joins (axioms d f)
+  IsSum g = same_op f g && is_sum (axioms d f)
 
-  is_sum : (g : OpId) → IsSum g ≡ true → (f ≡ g) × (joins (axioms d f) ≡ true)
-  is_sum g e = go (same_op f g) (joins (axioms d f)) refl refl e
+  heads_sum : (g : OpId) → IsSum g ≡ true → (f ≡ g) × (is_sum (axioms d f) ≡ true)
+  heads_sum g e = go (same_op f g) (is_sum (axioms d f)) refl refl e
     where
-      go : (a b : Bool) → same_op f g ≡ a → joins (axioms d f) ≡ b → (a && b) ≡ true → (f ≡ g) × (joins (axioms d f) ≡ true)
+      go : (a b : Bool) → same_op f g ≡ a → is_sum (axioms d f) ≡ b → (a && b) ≡ true → (f ≡ g) × (is_sum (axioms d f) ≡ true)
       go true true p q r = (same_op_is f g p, q)
       go true false p q r = cc
       go false true p q r = cc
       go false false p q r = cc
 
-  -- where f does not join, the forms gathered are those of the arguments
-  module _ (free : joins (axioms d f) ≡ false) where
+  -- where f makes no sums, the forms gathered are those of the arguments
+  module _ (free : is_sum (axioms d f) ≡ false) where
     alone : (t : Term) → gathered_of d f t ≡ canon d t ∷ []
     alone (var x) = refl
     alone (app g none) = refl
     alone (app g (more t ts)) = go (same_op f g)
       where
-        go : (a : Bool) → (if a && joins (axioms d f) then gathered_of d f t ++ gathered d f ts else canon d (app g (more t ts)) ∷ []) ≡ canon d (app g (more t ts)) ∷ []
+        go : (a : Bool) → (if a && is_sum (axioms d f) then gathered_of d f t ++ gathered d f ts else canon d (app g (more t ts)) ∷ []) ≡ canon d (app g (more t ts)) ∷ []
         go true = rw free refl
         go false = refl
 
@@ -63,13 +55,13 @@ module _ (d : Declarations) (f : OpId) where
     all_alone (more t ts) = ap (λ l. l ++ gathered d f ts) (alone t) ∙ ap (λ l. canon d t ∷ l) (all_alone ts)
 
   -- where it does, they have the same summands
-  module _ (joined : joins (axioms d f) ≡ true) where
+  module _ (joined : is_sum (axioms d f) ≡ true) where
     summed : (t : Term) (ts : Terms) (q : _) → count q (all_parts d f (eval_all d fvar (more t ts))) ≡ count q (parts d f (canon d (app f (more t ts))))
     summed t ts q =
         let l = eval_all d fvar (more t ts) in
         sym (count_sort q (all_parts d f l))
         ∙ ap (count q) (sym (parts_sum d f (all_parts d f l) (all_parts_are_pieces d f l (eval_all_settled d fvar (fvar_settled d) (more t ts)))))
-        ∙ ap (λ u. count q (parts d f u)) (sym (build_sum d f (joining (axioms d f) joined) (canon d t) (eval_all d fvar ts)))
+        ∙ ap (λ u. count q (parts d f u)) (sym (build_sum d f (sums_associate (axioms d f) joined) (canon d t) (eval_all d fvar ts)))
 
     one_counts : (u : FlatTerm) (q : FlatTerm) → count q (all_parts d f (u ∷ [])) ≡ count q (parts d f u)
     one_counts u q = ap (count q) (append-nil (parts d f u))
@@ -90,7 +82,7 @@ module _ (d : Declarations) (f : OpId) where
         where
           go : (b : Bool) → IsSum g ≡ b → count q (all_parts d f (gathered_of d f t ++ gathered d f ts)) ≡ count q (all_parts d f (eval_all d fvar (more t ts))) →
               count q (all_parts d f (if b then gathered_of d f t ++ gathered d f ts else canon d (app g (more t ts)) ∷ [])) ≡ count q (parts d f (canon d (app g (more t ts))))
-          go true e ih = ih ∙ summed t ts q ∙ ap (λ o. count q (parts d f (canon d (app o (more t ts))))) (is_sum g e).0
+          go true e ih = ih ∙ summed t ts q ∙ ap (λ o. count q (parts d f (canon d (app o (more t ts))))) (heads_sum g e).0
           go false e ih = one_counts (canon d (app g (more t ts))) q
 
       counts : (ts : Terms) (q : FlatTerm) → count q (all_parts d f (gathered d f ts)) ≡ count q (all_parts d f (eval_all d fvar ts))
@@ -111,7 +103,7 @@ module _ (d : Declarations) (f : OpId) where
     build_joined : (t : Term) (ts : Terms) → build d f (gathered d f (more t ts)) ≡ build d f (eval_all d fvar (more t ts))
     build_joined t ts =
         let s = some_of t in
-        let assoc = joining (axioms d f) joined in
+        let assoc = sums_associate (axioms d f) joined in
         let e : gathered d f (more t ts) ≡ s.0 ∷ (s.1 ++ gathered d f ts) = ap (λ l. l ++ gathered d f ts) s.2 in
         ap (build d f) e
         ∙ build_sum d f assoc s.0 (s.1 ++ gathered d f ts)
@@ -122,14 +114,14 @@ module _ (d : Declarations) (f : OpId) where
   -- of any arguments
   pub build_gathered : (ts : Terms) → build d f (gathered d f ts) ≡ build d f (eval_all d fvar ts)
   build_gathered none = refl
-  build_gathered (more t ts) = go (joins (axioms d f)) refl
+  build_gathered (more t ts) = go (is_sum (axioms d f)) refl
     where
-      go : (b : Bool) → joins (axioms d f) ≡ b → build d f (gathered d f (more t ts)) ≡ build d f (eval_all d fvar (more t ts))
+      go : (b : Bool) → is_sum (axioms d f) ≡ b → build d f (gathered d f (more t ts)) ≡ build d f (eval_all d fvar (more t ts))
       go true e = build_joined e t ts
       go false e = ap (build d f) (all_alone e (more t ts))
 
   -- a nested sum of f
-  pub nested_here : (t : Term) (g : OpId) (items : List Plain) (us : Terms) → t ≡ app g us → terms items ≡ us → nat_eq (length items) 0 ≡ false → f ≡ g → joins (axioms d f) ≡ true → IsNested d f t us
+  pub nested_here : (t : Term) (g : OpId) (items : List Plain) (us : Terms) → t ≡ app g us → terms items ≡ us → nat_eq (length items) 0 ≡ false → f ≡ g → is_sum (axioms d f) ≡ true → IsNested d f t us
   nested_here t g [] us is view some e joined = cc
   nested_here t g (u ∷ items) us is view some e joined =
       subst (λ v. IsNested d f v us) (sym (is ∙ ap (λ o. app o us) (sym e)))

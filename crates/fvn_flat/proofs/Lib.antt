@@ -6,6 +6,7 @@ mod Views
 pub mod Smaller
 mod SortedLists
 mod Summands
+mod Built
 mod Nesting
 pub mod Evaluation
 mod Gathering
@@ -28,3 +29,4 @@ mod ExampleSums
 mod ExampleRules
 mod ExamplePlaces
 mod ExampleSuccessors
+mod ExampleParts

@@ -1,14 +1,16 @@
 -- Variables of forms, listed in order of first occurrence: none twice, and all that occur.
-use Rattle.std.proofs.Common.{◌≡◌, ℕ, ◌+◌, ◌<◌, Bool, true, false, List, [], ◌∷◌, ◌++◌, length, take, get_or, refl, sym, ap, ◌∙◌, subst, inl, inr}
-use Rattle.std.specs.Prelude.{◌||◌, if◌then◌else◌}
+use Rattle.std.proofs.Common.{◌≡◌, ◌≢◌, ℕ, ◌+◌, ◌<◌, Bool, true, false, List, [], ◌∷◌, ◌++◌, length, take, get_or, refl, sym, ap, ◌∙◌, subst, inl, inr, arith}
+use Rattle.std.specs.Prelude.{◌||◌, if◌then◌else◌, AllPairs, Contains}
 use Rattle.std.proofs.lemmas.List.{take_more}
 use Rattle.std.proofs.lemmas.Bool.{or_parts, or_from, or_right, true≢false, false≢true}
+use Rattle.fvn_base.proofs.Pigeonhole.{AllPairs-tail, AllPairs-first, AllPairs-cons}
 use Rattle.fvn_terms.specs.declared.plain.Var.{Var}
 use Rattle.fvn_terms.specs.Substitution.{same_var, Occurs, OccursAmong}
 use Rattle.fvn_forms.specs.Flat.{FlatTerm, FlatTerms, fvar, fapp, fnone, fmore, fpack, plain, plain_all}
 use Rattle.fvn_flat.specs.Variables.{listed, with_variable, with_variables, with_all_variables}
 use Rattle.fvn_flat.proofs.Occurrences.{occurs_in_app}
 use Rattle.fvn_flat.proofs.Binding.{same_var_is, same_var_itself}
+use Rattle.fvn_flat.proofs.Listed.{listed_if, listed_only}
 
 -- no variable is listed twice
 abbrev pub Distinct : List Var → Type 0
@@ -36,6 +38,19 @@ with_variable_distinct vars x h = go (listed vars x) refl
     go : (b : Bool) → listed vars x ≡ b → Distinct (if b then vars else vars ++ x ∷ [])
     go true e = h
     go false e = Distinct-push vars x h e
+
+-- a list that has each variable once, as pairs
+pub distinct_pairs : (vars : List Var) → Distinct vars → AllPairs ◌≢◌ vars
+distinct_pairs [] h = λ i j d l m. absurd (omega (arith, m))
+distinct_pairs (x ∷ vars) h = AllPairs-cons x vars (distinct_pairs vars h.1) (λ y k e. true≢false (sym (listed_if vars x (subst (Contains vars) (sym e) k)) ∙ h.0))
+
+pub pairs_distinct : (vars : List Var) → AllPairs ◌≢◌ vars → Distinct vars
+pairs_distinct [] h = tt
+pairs_distinct (x ∷ vars) h = (go (listed vars x) refl, pairs_distinct vars (AllPairs-tail ◌≢◌ x vars h))
+  where
+    go : (b : Bool) → listed vars x ≡ b → listed vars x ≡ false
+    go true e = absurd (AllPairs-first ◌≢◌ x vars x h (listed_only vars x e) refl)
+    go false e = e
 
 mutual
   pub with_variables_distinct : (t : FlatTerm) (vars : List Var) → Distinct vars → Distinct (with_variables t vars)

@@ -12,7 +12,7 @@ use Rattle.fvn_forms.specs.Flat.{FlatTerm, FlatTerms, fvar, fapp, fnone, fmore, 
 use Rattle.fvn_forms.specs.Settled.{Settled}
 use Rattle.fvn_forms.proofs.Sizes.{symbols_all, symbols_joined}
 use Rattle.fvn_flat.specs.Bindings.{bound, form_or, value, BindsOnce, BindingsFit}
-use Rattle.fvn_flat.specs.Variables.{listed, with_variable, with_variables, with_all_variables, distinct_variables, fresh_for, renaming, RenamesApart}
+use Rattle.fvn_flat.specs.Variables.{listed, with_variable, with_variables, with_all_variables, distinct_variables, fresh_for, renaming, OccursInForm, RenamesApart}
 use Rattle.fvn_flat.proofs.Binding.{same_var_is}
 use Rattle.fvn_flat.proofs.ListedVariables.{Distinct, with_variables_distinct, occurring_listed}
 
@@ -136,9 +136,13 @@ apart m (z ∷ vars) x y ex ey h = go (same_var z x) (same_var z y) refl refl (a
     go false true f g ih = absurd (clash x (rest x f ex) (sym (step y true g) ∙ sym h ∙ step x false f))
     go false false f g ih = ih (rest x f ex) (rest y g ey) (sym (step x false f) ∙ h ∙ step y false g)
 
--- variables of the form go apart
-pub renaming_apart : (m : ℕ) (t : FlatTerm) → RenamesApart t m (m + length (distinct_variables t)) (value (renaming m (distinct_variables t)))
-renaming_apart m t = record {
-  fresh = λ x h. named m (distinct_variables t) x (occurring_listed t [] x h);
-  distinct = λ x y hx hy e. apart m (distinct_variables t) x y (occurring_listed t [] x hx) (occurring_listed t [] y hy) e;
+-- listed variables go apart
+pub listed_apart : (Among : Var → Type 0) (m : ℕ) (vars : List Var) → ((x : Var) → Among x → listed vars x ≡ true) → RenamesApart Among m (m + length vars) (value (renaming m vars))
+listed_apart Among m vars among = record {
+  fresh = λ x h. named m vars x (among x h);
+  distinct = λ x y hx hy e. apart m vars x y (among x hx) (among y hy) e;
 }
+
+-- variables of the form go apart
+pub renaming_apart : (m : ℕ) (t : FlatTerm) → RenamesApart (OccursInForm t) m (m + length (distinct_variables t)) (value (renaming m (distinct_variables t)))
+renaming_apart m t = listed_apart (OccursInForm t) m (distinct_variables t) (λ x h. occurring_listed t [] x h)

@@ -1,6 +1,5 @@
 -- What contracts of flat terms and substitutions speak of.
 pub mod Forms
-pub mod Joining
 pub mod Own
 pub mod Weight
 pub mod Fits

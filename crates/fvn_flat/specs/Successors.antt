@@ -1,4 +1,5 @@
 -- Drawn successors: what one narrowing step makes of terms and a substitution, with a unifier that is drawn for the step's problem.
+-- A step is modulo the axioms, so that two or more summands of a sum may be rewritten and the others stand beside what comes of them.
 use Rattle.std.specs.Prelude.{◌≡◌, ◌≢◌, ◌⊎◌, List, [], ◌∷◌, ◌++◌, map, Any, Contains}
 use Rattle.fvn_terms.specs.declared.plain.Var.{Var}
 use Rattle.fvn_terms.specs.declared.declarations.Declarations.{Declarations}
@@ -12,7 +13,7 @@ use Rattle.fvn_forms.specs.Canon.{canon}
 use Rattle.fvn_flat.specs.Problems.{variables_of, plain_pairs, flat_pairs}
 use Rattle.fvn_flat.specs.Drawn.{OccursInValues, Renaming, renamed, IsOneToOne}
 use Rattle.fvn_flat.specs.Rules.{IsRuleOf}
-use Rattle.fvn_flat.specs.FlatPlaces.{IsReplaced}
+use Rattle.fvn_flat.specs.FlatPlaces.{IsReplaced, Beside, IsPartOf, with_beside}
 
 -- one to one on these variables, each keeping its sort
 pub record IsRenaming (Among : Var → Type 0) (r : Renaming) : Type 0 where
@@ -56,14 +57,17 @@ module _ (d : Declarations) where
       pub values : (x : Var) → Contains vars x → BEqual d (w.values x) (renamed by (v.values x))
 
     module _ (equations : Equations) (drawn : Problem → Substitution → Type 0) where
-      -- w comes from v by a rule l = r at one place of one term
+      -- w comes from v by a rule l = r at a part of the form at one place of one term
       pub record IsStepFrom (v w : Narrowed) : Type 0 where
-        -- the term, and a form at a place of it that is no variable
+        -- the term, the form at a place of it, and a part of this form that is no variable
         pub before : List FlatTerm
         pub term : FlatTerm
         pub after : List FlatTerm
         pub listed : v.terms ≡ before ++ term ∷ after
+        pub whole : FlatTerm
         pub at : FlatTerm
+        pub beside : Beside
+        pub part : IsPartOf whole at beside
         pub no_variable : (x : Var) → at ≢ fvar x
         -- a rule, its variables renamed to variables that do not occur in v
         pub l : FlatTerm
@@ -72,7 +76,7 @@ module _ (d : Declarations) where
         pub by : Renaming
         pub renames : IsRenaming (λ x. Occurs x (plain l) ⊎ Occurs x (plain r)) by
         pub apart : (x : Var) → Occurs x (plain l) ⊎ Occurs x (plain r) → OccursIn v (by x) → ⊥
-        -- a drawn unifier of the form and the rule's left side; it moves their variables alone, to terms over new ones
+        -- a drawn unifier of the part and the rule's left side; it moves their variables alone, to terms over new ones
         pub unifier : Substitution
         pub problem : Problem
         pub is_problem : problem ≡ (plain at, plain (renamed_form by l)) ∷ []
@@ -80,9 +84,9 @@ module _ (d : Declarations) where
         pub drawn_for : IsDrawnUpToRenaming drawn problem unifier
         pub others_stay : (x : Var) → (Contains (variables_of problem) x → ⊥) → unifier x ≡ var x
         pub new : (x : Var) → OccursInValues (variables_of problem) unifier x → OccursIn v x → ⊥
-        -- the term with the rule's right side at the place, and all terms and values under the unifier
+        -- the term with the rule's right side, beside what stands there, at the place, and all terms and values under the unifier
         pub replaced : FlatTerm
-        pub replaces : IsReplaced at (renamed_form by r) term replaced
+        pub replaces : IsReplaced whole (with_beside d beside (renamed_form by r)) term replaced
         pub terms : w.terms ≡ map (λ t. canon d (apply unifier (plain t))) (before ++ replaced ∷ after)
         pub values : (x : Var) → Contains vars x → BEqual d (w.values x) (apply unifier (v.values x))
 

@@ -42,7 +42,11 @@ renaming n (x ∷ vars) = (x, fvar (fresh_for n x)) ∷ renaming (n + 1) vars
 abbrev pub fresh_names : ℕ → FlatTerm → Var → FlatTerm
 fresh_names n t = value (renaming n (distinct_variables t))
 
--- s sends the variables of the form to fresh ones of the same sorts, numbered from first and below next, distinct ones to distinct ones
-pub record RenamesApart (t : FlatTerm) (first next : ℕ) (s : Var → FlatTerm) : Type 0 where
-  pub fresh : (x : Var) → Occurs x (plain t) → (n : ℕ) × (s x ≡ fvar (fresh_for n x)) × (first ≤ n) × (n < next)
-  pub distinct : (x y : Var) → Occurs x (plain t) → Occurs y (plain t) → s x ≡ s y → x ≡ y
+-- s sends these variables to fresh ones of the same sorts, numbered from first and below next, distinct ones to distinct ones
+pub record RenamesApart (Among : Var → Type 0) (first next : ℕ) (s : Var → FlatTerm) : Type 0 where
+  pub fresh : (x : Var) → Among x → (n : ℕ) × (s x ≡ fvar (fresh_for n x)) × (first ≤ n) × (n < next)
+  pub distinct : (x y : Var) → Among x → Among y → s x ≡ s y → x ≡ y
+
+-- x occurs in the form
+abbrev pub OccursInForm : FlatTerm → Var → Type 0
+OccursInForm t x = Occurs x (plain t)

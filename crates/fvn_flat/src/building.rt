@@ -1,7 +1,6 @@
 //! Operators over flat terms, flat again.
 ghost use Rattle.std.specs.Prelude.{◌≡◌, ◌++◌, false, IfOk, OnOk};
-ghost use Rattle.fvn_terms.specs.Equality.{BEqual, identity};
-ghost use Rattle.fvn_terms.specs.Signature.{axioms};
+ghost use Rattle.fvn_terms.specs.Equality.{BEqual};
 ghost use Rattle.fvn_forms.specs.Flat.{fapp, fpack, plain};
 ghost use Rattle.fvn_forms.specs.InOrder.{sort};
 ghost use Rattle.fvn_forms.specs.Canon.{as_constant, parts, all_parts, joined, sum, build};
@@ -11,20 +10,8 @@ ghost use Rattle.fvn_flat.specs.inner.Summands.{is_sum_of};
 
 use crate::flat::{Flat, Node};
 use fvn_signature::Signature;
-use fvn_terms::{Axioms, NoMemory, OpId};
+use fvn_terms::{NoMemory, OpId};
 use std::alloc::Global;
-
-// The identity of an operator with these axioms.
-fn identity_in(axioms: Axioms) -> Option<OpId>
-    ensures { result ≡ identity axioms }
-{
-    match axioms {
-        Axioms::Free => None,
-        Axioms::Comm => None,
-        Axioms::AssocComm => None,
-        Axioms::AssocCommId(e) => Some(e),
-    }
-}
 
 impl Flat {
     // Whether the term is a sum of the operator.
@@ -88,7 +75,7 @@ fn add_summands(
         summands.append(&mut more)?;
         return Ok(());
     }
-    let identity = identity_in(sig.axioms(f));
+    let identity = sig.axioms(f).identity();
     match t.as_constant() {
         Some(g) => match identity {
             Some(e) => {
@@ -121,7 +108,7 @@ fn joined(alloc: Global, sig: &Signature, f: OpId, mut summands: Vec<Flat>) -> F
         }
     }
     if summands.is_empty() {
-        if let Some(e) = identity_in(sig.axioms(f)) {
+        if let Some(e) = sig.axioms(f).identity() {
             return Flat::unjoined(e, Vec::new(alloc));
         }
     }
@@ -153,12 +140,15 @@ pub(crate) fn built(
     if args.is_empty() {
         return Ok(Flat::unjoined(f, args));
     }
-    match sig.axioms(f) {
-        Axioms::Free => Ok(Flat::unjoined(f, args)),
-        Axioms::Comm => Ok(Flat::unjoined(f, sorted(args)?)),
-        Axioms::AssocComm => summed(alloc, sig, f, args),
-        Axioms::AssocCommId(_) => summed(alloc, sig, f, args),
+    let axioms = sig.axioms(f);
+    if axioms.is_sum() {
+        let sum = summed(alloc, sig, f, args)?;
+        return Ok(sum);
     }
+    if axioms.is_commutative() {
+        return Ok(Flat::unjoined(f, sorted(args)?));
+    }
+    Ok(Flat::unjoined(f, args))
 }
 
 impl Flat {

@@ -7,25 +7,12 @@ ghost use Rattle.fvn_forms.specs.Flat.{plain, nest_all};
 ghost use Rattle.fvn_forms.specs.Canon.{canon};
 ghost use Rattle.fvn_flat.specs.Fits.{Fits};
 ghost use Rattle.fvn_flat.specs.inner.Gathered.{gathered_of, gathered, IsNested};
-ghost use Rattle.fvn_flat.specs.Joining.{joins};
 
 use crate::building::built;
 use crate::flat::{Flat, Node};
 use fvn_signature::Signature;
-use fvn_terms::{Args, Axioms, NoMemory, OpId, Plain};
+use fvn_terms::{Args, NoMemory, OpId, Plain};
 use std::alloc::Global;
-
-// Whether an operator with these axioms joins nested sums.
-fn joins(axioms: Axioms) -> bool
-    ensures { result ≡ joins axioms }
-{
-    match axioms {
-        Axioms::Free => false,
-        Axioms::Comm => false,
-        Axioms::AssocComm => true,
-        Axioms::AssocCommId(_) => true,
-    }
-}
 
 // The arguments of a nested sum of the operator.
 fn nested_args<'a>(sig: &Signature, f: OpId, t: &'a Plain) -> Option<&'a Args>
@@ -42,7 +29,11 @@ fn nested_args<'a>(sig: &Signature, f: OpId, t: &'a Plain) -> Option<&'a Args>
             if f != *g {
                 return None;
             }
-            if joins(sig.axioms(f)) { Some(us) } else { None }
+            if sig.axioms(f).is_sum() {
+                Some(us)
+            } else {
+                None
+            }
         }
     }
 }

@@ -18,7 +18,7 @@ pub use laws::{
     answers_to_flattened_pairs, equal_pairs_have_one_answer, flattened_pairs_are_given,
     flattened_pairs_have_one_answer,
 };
-pub use renaming::{is_listed, rename_apart, with_variable};
+pub use renaming::{fresh_variables, is_listed, rename_apart, with_variable};
 pub use solver::{
     AxiomSolver, Normal, Pairs, SizeCause, SolveEnd, Solved, SolvedList, all_answers_shared,
 };

@@ -1,10 +1,12 @@
 //! Terms with fresh variables.
-ghost use Rattle.std.specs.Prelude.{◌≡◌, ◌+◌, ◌<◌, ◌≤◌, ◌^◌, length, IfOk};
+ghost use Rattle.std.specs.Prelude.{◌≡◌, ◌≢◌, ◌+◌, ◌<◌, ◌≤◌, ◌^◌, length, AllPairs, Contains, IfOk};
 ghost use Rattle.fvn_base.specs.declared.limits.TheConstants.{FIRST_FRESH};
+ghost use Rattle.fvn_terms.specs.declared.declarations.Declarations.{Declarations};
 ghost use Rattle.fvn_forms.specs.Flat.{symbols};
 ghost use Rattle.fvn_forms.specs.Canon.{inst};
 ghost use Rattle.fvn_flat.specs.Fits.{Fits};
-ghost use Rattle.fvn_flat.specs.Variables.{listed, with_variable, with_variables, distinct_variables, renaming, fresh_names, RenamesApart};
+ghost use Rattle.fvn_flat.specs.Bindings.{value, BindingsFit};
+ghost use Rattle.fvn_flat.specs.Variables.{listed, with_variable, with_variables, distinct_variables, renaming, fresh_names, OccursInForm, RenamesApart};
 
 use crate::flat::{Flat, Node};
 use crate::substitution::Subst;
@@ -57,10 +59,11 @@ impl Flat {
     }
 }
 
-// Fresh variables for those of the list, numbered along it.
-fn renaming(alloc: Global, vars: &[Var], first: u32) -> Result<Vec<(Var, Flat)>, NoMemory>
+// Fresh variables for those of the list, numbered along it, and the next number.
+fn renaming(alloc: Global, vars: &[Var], first: u32) -> Result<(Vec<(Var, Flat)>, u32), NoMemory>
     requires { first + length vars.now < 2 ^ 32 }
-    ensures { IfOk result (λ pairs. pairs.items ≡ renaming first vars.now) }
+    ensures named { IfOk result (λ r. r.0.items ≡ renaming first vars.now) }
+    ensures next { IfOk result (λ r. r.1 ≡ first + length vars.now) }
 {
     let mut pairs = Vec::new(alloc);
     let mut next = first;
@@ -73,7 +76,21 @@ fn renaming(alloc: Global, vars: &[Var], first: u32) -> Result<Vec<(Var, Flat)>,
         pairs.push((*x, Flat::var(fresh)))?;
         next += 1;
     }
-    Ok(pairs)
+    Ok((pairs, next))
+}
+
+/// Fresh variables of the same sorts for those of the list, numbered along it from `first`, and the next free number.
+pub fn fresh_variables(alloc: Global, vars: &[Var], first: u32) -> Result<(Subst, u32), NoMemory>
+    requires once { AllPairs ◌≢◌ vars.now }
+    requires number { first + length vars.now < 2 ^ 32 }
+    ensures named { IfOk result (λ r. r.0 ≡ renaming first vars.now) }
+    ensures apart { IfOk result (λ r. RenamesApart (Contains vars.now) first r.1 (value r.0)) }
+    ensures next { IfOk result (λ r. r.1 ≡ first + length vars.now) }
+    ensures fits { IfOk result (λ r. (d : Declarations) → BindingsFit d r.0) }
+{
+    let (pairs, next) = renaming(alloc, vars, first)?;
+    let s = Subst { pairs };
+    Ok((s, next))
 }
 
 /// The term with its variables renamed to fresh ones of the same sorts, and the next free number.
@@ -90,13 +107,12 @@ pub fn rename_apart(
     requires size { symbols t.now ≤ FIRST_FRESH }
     // Distinct variables go to distinct fresh ones, numbered from `first` up to below the next number.
     ensures renamed { IfOk result (λ r. r.0 ≡ inst sig.now (fresh_names first t.now) t.now) }
-    ensures apart { IfOk result (λ r. RenamesApart t.now first r.1 (fresh_names first t.now)) }
+    ensures apart { IfOk result (λ r. RenamesApart (OccursInForm t.now) first r.1 (fresh_names first t.now)) }
     ensures next { IfOk result (λ r. r.1 ≡ first + length (distinct_variables t.now)) }
     ensures fits { IfOk result (λ r. Fits sig.now r.0) }
 {
     let vars = t.with_variables(Vec::new(alloc))?;
-    let pairs = renaming(alloc, vars.as_slice(), first)?;
-    let s = Subst { pairs };
+    let (s, next) = fresh_variables(alloc, vars.as_slice(), first)?;
     let u = s.apply(alloc, sig, t)?;
-    Ok((u, first + vars.len() as u32))
+    Ok((u, next))
 }

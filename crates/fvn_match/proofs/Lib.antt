@@ -1,4 +1,5 @@
 -- The lemmas of the crate.
+mod AxiomTests
 mod Advancing
 mod Tallies
 mod Placing

@@ -7,7 +7,7 @@ use Rattle.fvn_terms.specs.declared.plain.SortId.{SortId}
 use Rattle.fvn_terms.specs.declared.declarations.Axioms.TheVariants.{Free, Comm, AssocComm}
 use Rattle.fvn_terms.specs.declared.declarations.Declarations.{Declarations}
 use Rattle.fvn_terms.specs.Signature.{axioms, HasKind}
-use Rattle.fvn_terms.specs.Equality.{IsAssociative, identity}
+use Rattle.fvn_terms.specs.Equality.{IsAssociative, identity, is_sum, is_commutative}
 use Rattle.fvn_forms.specs.Flat.{FlatTerm, FlatTerms, fvar, fapp, fnone, fmore, fpack, funpack, fconstant, plain}
 use Rattle.fvn_forms.specs.InOrder.{sort}
 use Rattle.fvn_forms.specs.Canon.{same_op, is_identity, parts, all_parts, inst}
@@ -16,6 +16,7 @@ use Rattle.fvn_forms.specs.FitsKinds.{FitsKinds}
 use Rattle.fvn_forms.proofs.Sums.{same_op_is}
 use Rattle.fvn_forms.proofs.Instances.{inst_free, inst_commutative, parts_inst}
 use Rattle.fvn_flat.specs.Forms.{head_of, args_of}
+use Rattle.fvn_match.proofs.AxiomTests.{free_if, commutative_if}
 use Rattle.fvn_match.proofs.Tallies.{same_length}
 use Rattle.fvn_match.proofs.SummandLists.{unjoined_none}
 use Rattle.fvn_match.proofs.PairSteps.{not_joined}
@@ -43,13 +44,20 @@ module _ (d : Declarations) (f : OpId) where
   few_other (fapp h false ts) g n two = few_unjoined h ts
 
   module _ (fits : FitsKinds d) (p : FlatTerm) (g : OpId) (head : head_of p ≡ Some g) (s : Settled d p) (c : Var → FlatTerm) (settled : SettledValues d c) where
-    pub free_is_one : axioms d g ≡ Free → length (parts d f (inst d c p)) ≤ 1
+    free_is_one : axioms d g ≡ Free → length (parts d f (inst d c p)) ≤ 1
     free_is_one e = let n = not_joined d Free (λ a. a) g e p s head in
         subst (λ t. length (parts d f t) ≤ 1) (sym (ap (inst d c) n.1 ∙ inst_free d c settled g e n.0)) (few_unjoined g (fpack (map (inst d c) (funpack n.0))))
 
-    pub commutative_is_one : axioms d g ≡ Comm → length (parts d f (inst d c p)) ≤ 1
+    commutative_is_one : axioms d g ≡ Comm → length (parts d f (inst d c p)) ≤ 1
     commutative_is_one e = let n = not_joined d Comm (λ a. a) g e p s head in
         subst (λ t. length (parts d f t) ≤ 1) (sym (ap (inst d c) n.1 ∙ inst_commutative d c settled g e n.0)) (few_unjoined g (fpack (sort (map (inst d c) (funpack n.0)))))
+
+    pub unjoined_is_one : is_sum (axioms d g) ≡ false → length (parts d f (inst d c p)) ≤ 1
+    unjoined_is_one s = go (is_commutative (axioms d g)) refl
+      where
+        go : (b : Bool) → is_commutative (axioms d g) ≡ b → length (parts d f (inst d c p)) ≤ 1
+        go true e = commutative_is_one (commutative_if (axioms d g) s e)
+        go false e = free_is_one (free_if (axioms d g) s e)
 
     module _ (k : SortId) (h : HasKind d (plain p) k) (e : axioms d g ≡ AssocComm) where
       assoc : IsAssociative (axioms d g)

@@ -8,6 +8,7 @@ use Rattle.fvn_terms.specs.declared.declarations.Declarations.{Declarations}
 use Rattle.fvn_terms.specs.Substitution.{same_var}
 use Rattle.fvn_terms.specs.declared.declarations.Axioms.TheVariants.{Free, Comm}
 use Rattle.fvn_terms.specs.Signature.{kind, axioms, IsSort, HasKind, AtOrBelow, same}
+use Rattle.fvn_terms.specs.Equality.{is_sum, is_commutative}
 use Rattle.fvn_forms.specs.Flat.{FlatTerm, fvar, plain}
 use Rattle.fvn_forms.specs.Canon.{inst}
 use Rattle.fvn_forms.specs.Settled.{Settled}
@@ -19,6 +20,7 @@ use Rattle.fvn_flat.specs.Forms.{head_of, args_of}
 use Rattle.fvn_match.specs.inner.Candidates.{Values, IsCandidate, Agrees, IsSolution, pairs_of, Finds}
 use Rattle.fvn_match.specs.inner.Goals.{AllMake, IsPair}
 use Rattle.fvn_match.specs.inner.Searching.{crossed, IsCrossing}
+use Rattle.fvn_match.proofs.AxiomTests.{free_if, commutative_if}
 use Rattle.fvn_match.proofs.PairSteps.{zip_parted, rest_of, free_head, commutative_head, free_pairs, free_step, crossing, two_patterns, two_targets, commutative_step}
 use Rattle.fvn_match.proofs.Finding.{if_found_same, found_first, found_none}
 
@@ -176,11 +178,18 @@ module _ (d : Declarations) (b : Bindings) (vars : List Var) (X : Values → Typ
 
 -- heads that no instance loses
 module _ (d : Declarations) (fits : FitsKinds d) (f : OpId) (p t : FlatTerm) (pair : IsPair d p t) (head : head_of p ≡ Some f) (b : Bindings) (vars : List Var) (X : Values → Type 0) where
-  pub refused_free : axioms d f ≡ Free → (head_of t ≡ Some f → ⊥) → Finds vars (IsSolution d b (λ c. (inst d c p ≡ t) × X c)) None
+  refused_free : axioms d f ≡ Free → (head_of t ≡ Some f → ⊥) → Finds vars (IsSolution d b (λ c. (inst d c p ≡ t) × X c)) None
   refused_free e n = λ c s. n (free_head d fits f p t pair head c s.candidate.flat.settled e s.holds.0)
 
-  pub refused_commutative : axioms d f ≡ Comm → (head_of t ≡ Some f → ⊥) → Finds vars (IsSolution d b (λ c. (inst d c p ≡ t) × X c)) None
+  refused_commutative : axioms d f ≡ Comm → (head_of t ≡ Some f → ⊥) → Finds vars (IsSolution d b (λ c. (inst d c p ≡ t) × X c)) None
   refused_commutative e n = λ c s. n (commutative_head d fits f p t pair head c s.candidate.flat.settled e s.holds.0)
+
+  pub refused_unheaded : is_sum (axioms d f) ≡ false → (head_of t ≡ Some f → ⊥) → Finds vars (IsSolution d b (λ c. (inst d c p ≡ t) × X c)) None
+  refused_unheaded s n = go (is_commutative (axioms d f)) refl
+    where
+      go : (a : Bool) → is_commutative (axioms d f) ≡ a → Finds vars (IsSolution d b (λ c. (inst d c p ≡ t) × X c)) None
+      go true e = refused_commutative (commutative_if (axioms d f) s e) n
+      go false e = refused_free (free_if (axioms d f) s e) n
 
   module _ (headed : head_of t ≡ Some f) (ps ts : List FlatTerm) (ps_are : ps ≡ args_of p) (ts_are : ts ≡ args_of t) where
     pub pairs_of_args : axioms d f ≡ Free → AllZip (IsPair d) ps ts

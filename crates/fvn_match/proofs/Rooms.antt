@@ -1,11 +1,8 @@
 -- How many pieces a pattern of a sum may have.
-use Rattle.std.proofs.Common.{◌≡◌, ℕ, ◌+◌, ◌-◌, ◌*◌, ◌/◌, ◌++◌, length, replicate, drop, None, refl, sym, ap, ◌∙◌, arith}
+use Rattle.std.proofs.Common.{◌≡◌, ℕ, ◌+◌, ◌-◌, ◌*◌, ◌/◌, ◌++◌, length, replicate, drop, None, sym, ap, ◌∙◌, arith}
 use Rattle.std.specs.Prelude.{sum as std_sum}
 use Rattle.std.proofs.lemmas.List.{take-append-drop, length-drop}
 use Rattle.std.proofs.lemmas.Nat.{le-div}
-use Rattle.fvn_terms.specs.declared.plain.OpId.{OpId}
-use Rattle.fvn_terms.specs.declared.declarations.Axioms.{Axioms}
-use Rattle.fvn_terms.specs.declared.declarations.Axioms.TheVariants.{Free, Comm, AssocComm, AssocCommId}
 use Rattle.fvn_terms.specs.declared.declarations.Declarations.{Declarations}
 use Rattle.fvn_terms.specs.Signature.{axioms}
 use Rattle.fvn_forms.specs.Flat.{FlatTerm}
@@ -17,13 +14,6 @@ use Rattle.fvn_match.specs.inner.Searching.{IsGroup, IsRoom}
 use Rattle.fvn_match.specs.declared.goals.SumGoal.{SumGoal}
 use Rattle.fvn_match.proofs.Runs.{length_references}
 use Rattle.fvn_match.proofs.SumSteps.{as_many, length_adds_up, measured, summands_of}
-
--- axioms without an identity
-pub no_identity : (a : Axioms) → ((e : OpId) → a ≡ AssocCommId e → ⊥) → identity a ≡ None
-no_identity Free n = refl
-no_identity Comm n = refl
-no_identity AssocComm n = refl
-no_identity (AssocCommId e) n = absurd (n e refl)
 
 module _ (d : Declarations) (goal : SumGoal) (fit : SumFits d goal) (p : FlatTerm) (k : ℕ) (g : IsGroup d goal p k) where
   group : patterns_of goal ≡ replicate k p ++ drop k (patterns_of goal)

@@ -12,7 +12,7 @@ use Rattle.fvn_terms.specs.declared.declarations.Rank.{Rank}
 use Rattle.fvn_terms.specs.declared.declarations.Declarations.{Declarations}
 use Rattle.fvn_terms.specs.Term.{none}
 use Rattle.fvn_terms.specs.Signature.{kind, declared, axioms, HasKind, HaveKinds}
-use Rattle.fvn_terms.specs.Equality.{IsAssociative, constant}
+use Rattle.fvn_terms.specs.Equality.{IsAssociative, constant, identity}
 use Rattle.fvn_forms.specs.Flat.{FlatTerm, FlatTerms, fvar, fapp, fnone, fmore, funpack, plain}
 use Rattle.fvn_forms.specs.InOrder.{count}
 use Rattle.fvn_forms.specs.Canon.{parts, empty_sum, sum, build}
@@ -144,7 +144,7 @@ module _ (d : Declarations) where
           go (t ∷ m) n h = build_sum d f assoc t m ∙ ap (sum d f) (all_parts-pieces d f (t ∷ m) h)
 
     -- an identity takes nothing
-    pub takes_nothing : (r : Rank) → Contains (declared d f).ranks r → (e : OpId) → axioms d f ≡ AssocCommId e → Takes d e []
+    pub takes_nothing : (r : Rank) → Contains (declared d f).ranks r → (e : OpId) → identity (axioms d f) ≡ Some e → Takes d e []
     takes_nothing r listed e ax = record { rank = h.rank; listed = h.listed; args = go (axioms d e) refl }
       where
         h : HasKind d (constant e) (kind d r.result)

@@ -4,7 +4,6 @@ use Rattle.std.specs.Prelude.{nat_eq, sum as std_sum}
 use Rattle.std.specs.List.{AllByRecursion}
 use Rattle.std.proofs.lemmas.List.{nil_from_length, length-append}
 use Rattle.fvn_terms.specs.declared.plain.OpId.{OpId}
-use Rattle.fvn_terms.specs.declared.declarations.Axioms.TheVariants.{AssocCommId}
 use Rattle.fvn_terms.specs.declared.declarations.Declarations.{Declarations}
 use Rattle.fvn_terms.specs.Signature.{kind, axioms}
 use Rattle.fvn_forms.specs.Flat.{FlatTerm, fconstant}
@@ -22,8 +21,8 @@ use Rattle.fvn_match.proofs.Runs.{length_references}
 use Rattle.fvn_match.proofs.SumFitting.{flat_fit, takes_pieces, built_is_sum}
 
 -- an identity is the sum of nothing
-pub identity_is_sum : (d : Declarations) (f e : OpId) (t : FlatTerm) → axioms d f ≡ AssocCommId e → t ≡ fconstant e → IsEmptySum d f (Some t)
-identity_is_sum d f e t ax is = (is ∙ sym (ap (λ a. empty_sum d f (identity a)) ax), λ none. let z : Some e ≡ None = sym (ap identity ax) ∙ none in cc)
+pub identity_is_sum : (d : Declarations) (f e : OpId) (t : FlatTerm) → identity (axioms d f) ≡ Some e → t ≡ fconstant e → IsEmptySum d f (Some t)
+identity_is_sum d f e t i is = (is ∙ sym (ap (empty_sum d f) i), λ none. let z : Some e ≡ None = sym i ∙ none in cc)
 
 pub not_zero : (n : ℕ) → nat_eq n 0 ≡ false → 1 ≤ n
 not_zero zero e = cc

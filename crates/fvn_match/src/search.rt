@@ -29,7 +29,7 @@ use crate::summands::{after, alike, count_pieces, is_headed, reversed, summands}
 use crate::wholes::{are_zero, is_short, room, whole};
 use fvn_flat::{Flat, Subst};
 use fvn_signature::Signature;
-use fvn_terms::{Axioms, NoMemory, OpId, Var};
+use fvn_terms::{NoMemory, OpId, Var};
 use std::alloc::Global;
 
 // A search for the values of some variables.
@@ -112,22 +112,17 @@ impl Search<'_> {
             Some(f) => f,
         };
         self.sig.recall_good();
-        match self.sig.axioms(f) {
-            Axioms::Free => {
-                if !is_headed(t, f) {
-                    return Ok(None);
-                }
-                self.lists(p.args(), t.args(), &*rest, &*sums, &*bound)
-            }
-            Axioms::Comm => {
-                if !is_headed(t, f) {
-                    return Ok(None);
-                }
-                self.either(p.args(), t.args(), &*rest, &*sums, &*bound)
-            }
-            Axioms::AssocComm => self.summed(f, &*p, &*t, &*rest, &*sums, &*bound),
-            Axioms::AssocCommId(_) => self.summed(f, &*p, &*t, &*rest, &*sums, &*bound),
+        let axioms = self.sig.axioms(f);
+        if axioms.is_sum() {
+            return self.summed(f, &*p, &*t, &*rest, &*sums, &*bound);
         }
+        if !is_headed(t, f) {
+            return Ok(None);
+        }
+        if axioms.is_commutative() {
+            return self.either(p.args(), t.args(), &*rest, &*sums, &*bound);
+        }
+        self.lists(p.args(), t.args(), &*rest, &*sums, &*bound)
     }
 
     // The value of a variable, then other goals.

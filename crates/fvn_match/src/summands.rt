@@ -10,7 +10,7 @@ ghost use Rattle.fvn_match.specs.inner.Summands.{references, IsTakenAway, IsCoun
 
 use fvn_flat::Flat;
 use fvn_signature::Signature;
-use fvn_terms::{Axioms, NoMemory, OpId};
+use fvn_terms::{NoMemory, OpId};
 use std::alloc::Global;
 use std::slice;
 
@@ -28,11 +28,9 @@ pub(crate) fn is_headed(t: &Flat, f: OpId) -> bool
 fn is_identity_of(sig: &Signature, f: OpId, g: OpId) -> bool
     ensures { result ≡ is_identity (identity (axioms sig.now f)) g }
 {
-    match sig.axioms(f) {
-        Axioms::Free => false,
-        Axioms::Comm => false,
-        Axioms::AssocComm => false,
-        Axioms::AssocCommId(e) => e == g,
+    match sig.identity(f) {
+        Some(e) => e == g,
+        None => false,
     }
 }
 

@@ -11,7 +11,7 @@ use crate::goals::SumGoal;
 use crate::summands::is_headed;
 use fvn_flat::Flat;
 use fvn_signature::Signature;
-use fvn_terms::{Axioms, NoMemory, OpId};
+use fvn_terms::{NoMemory, OpId};
 use std::alloc::Global;
 
 // Whether all numbers are zero.
@@ -113,12 +113,14 @@ fn is_one_piece(sig: &Signature, f: OpId, p: &Flat) -> bool
         None => return false,
         Some(g) => g,
     };
-    match sig.axioms(g) {
-        Axioms::Free => true,
-        Axioms::Comm => true,
-        Axioms::AssocComm => !is_headed(p, f),
-        Axioms::AssocCommId(_) => false,
+    let axioms = sig.axioms(g);
+    if !axioms.is_sum() {
+        return true;
     }
+    if axioms.identity().is_some() {
+        return false;
+    }
+    !is_headed(p, f)
 }
 
 // How many of the pieces the first pattern may have at most.

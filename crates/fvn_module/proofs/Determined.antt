@@ -1,5 +1,5 @@
 -- A written module declares one thing at most.
-use Rattle.std.proofs.Common.{◌≡◌, ℕ, List, [], ◌∷◌, Ok, refl, sym, ap, ◌∙◌, subst}
+use Rattle.std.proofs.Common.{◌≡◌, List, [], ◌∷◌, Ok, refl, sym, ap, ◌∙◌, subst}
 use Rattle.fvn_terms.specs.declared.plain.Plain.{Plain}
 use Rattle.fvn_terms.specs.declared.declarations.Declarations.{Declarations}
 use Rattle.fvn_syntax.specs.declared.names.Names.{Names}
@@ -8,8 +8,8 @@ use Rattle.fvn_syntax.specs.Raw.{RawTerm}
 use Rattle.fvn_syntax.specs.Scope.{Scope}
 use Rattle.fvn_syntax.specs.Resolve.{Resolved, resolve}
 use Rattle.fvn_syntax.proofs.SpelledOnce.{alone-once}
-use Rattle.fvn_module_statements.specs.declared.form.Form.{Form}
-use Rattle.fvn_module.specs.declared.equation.Equation.{Equation}
+use Rattle.fvn_module_syntax.specs.declared.form.Form.{Form}
+use Rattle.fvn_theory.specs.declared.equation.Equation.{Equation}
 use Rattle.fvn_module.specs.declared.sides.Sides.{Sides}
 use Rattle.fvn_module.specs.Contents.{Contents}
 use Rattle.fvn_module.specs.Equations.{AreWrittenAs, StandFor, IsEquationOf, AreEquationsOf, equations_in}
@@ -36,11 +36,9 @@ module _ (c : Scope) where
       let a : resolve c t.first.texts r ≡ Ok s.second = subst (λ x. resolve c x r ≡ Ok s.second) e s.right_stands in
       first-once r s.second t.second t.first.texts a t.right_stands
 
-  same-equation : (p q : Equation) → p.statement ≡ q.statement → p.left ≡ q.left → p.right ≡ q.right → p ≡ q
-  same-equation p q n a b =
-      ap (λ (x : ℕ). record { statement = x; left = p.left; right = p.right }) n
-      ∙ ap (λ (x : Plain). record { statement = q.statement; left = x; right = p.right }) a
-      ∙ ap (λ (x : Plain). record { statement = q.statement; left = q.left; right = x }) b
+  same-equation : (p q : Equation) → p.left ≡ q.left → p.right ≡ q.right → p ≡ q
+  same-equation p q a b =
+      ap (λ (x : Plain). record { left = x; right = p.right }) a ∙ ap (λ (x : Plain). record { left = q.left; right = x }) b
 
   equation-once : (e : Sides) (p q : Equation) → IsEquationOf c e p → IsEquationOf c e q → p ≡ q
   equation-once e p q a b =
@@ -55,7 +53,7 @@ module _ (c : Scope) where
         where
           same : (s : StandFor c a.left a.right) → q.left ≡ s.first.term → q.right ≡ s.second.term → p ≡ q
           same s f g =
-              same-equation p q (a.statement_is ∙ sym b.statement_is) (a.left_is ∙ ap (λ x. x.term) (stand-first a.left a.right a.stand s) ∙ sym f)
+              same-equation p q (a.left_is ∙ ap (λ x. x.term) (stand-first a.left a.right a.stand s) ∙ sym f)
               (a.right_is ∙ ap (λ x. x.term) (stand-second a.left a.right a.stand s) ∙ sym g)
 
   pub equations-once : (es : List Sides) (ps qs : List Equation) → AreEquationsOf c es ps → AreEquationsOf c es qs → ps ≡ qs

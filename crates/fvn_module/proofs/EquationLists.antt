@@ -9,12 +9,12 @@ use Rattle.fvn_lex.specs.Cut.{Piece}
 use Rattle.fvn_base.proofs.Drops.{drop-at}
 use Rattle.fvn_syntax.specs.Raw.{spell, IsTermBefore}
 use Rattle.fvn_syntax.proofs.SpelledOnce.{ends-nil}
-use Rattle.fvn_module_statements.specs.declared.statement.Statement.{Statement}
-use Rattle.fvn_module_statements.specs.declared.statement.Statement.TheVariants as statement
+use Rattle.fvn_module_syntax.specs.declared.statement.Statement.{Statement}
+use Rattle.fvn_module_syntax.specs.declared.statement.Statement.TheVariants as statement
 use Rattle.fvn_module_statements.specs.Forms.{IsStatement}
-use Rattle.fvn_module_statements.specs.Written.{IsSide}
+use Rattle.fvn_module_syntax.specs.Written.{IsSide}
 use Rattle.fvn_syntax.specs.Scope.{Scope}
-use Rattle.fvn_module.specs.declared.equation.Equation.{Equation}
+use Rattle.fvn_theory.specs.declared.equation.Equation.{Equation}
 use Rattle.fvn_module.specs.declared.sides.Sides.{Sides}
 use Rattle.fvn_module.specs.declared.fault.ModuleFault.{ModuleFault}
 use Rattle.fvn_module.specs.declared.fault.ModuleFault.TheVariants.{NoMemory}

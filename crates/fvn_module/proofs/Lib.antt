@@ -18,3 +18,4 @@ mod ReadableDeclared
 mod ReadableScope
 mod ReadableEquations
 mod ReadableModules
+mod GoodModules

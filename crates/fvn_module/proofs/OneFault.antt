@@ -13,14 +13,14 @@ use Rattle.fvn_syntax.specs.Pieces.{Text}
 use Rattle.fvn_syntax.specs.Raw.{RawTerm}
 use Rattle.fvn_syntax.specs.Scope.{Scope}
 use Rattle.fvn_syntax.specs.Resolve.{Resolved, resolve}
-use Rattle.fvn_module_statements.specs.declared.statement.Statement.{Statement}
+use Rattle.fvn_module_syntax.specs.declared.statement.Statement.{Statement}
 use Rattle.fvn_module_names.specs.declared.fault.NameFault.{NameFault}
 use Rattle.fvn_module_names.specs.declared.fault.NameFault.TheVariants as name
 use Rattle.fvn_module_names.specs.Names.{sorts_of, operators_of}
 use Rattle.fvn_module_names.specs.Order.{kinds_in}
 use Rattle.fvn_module_names.specs.Faults.{names_unknown, declares_twice, AreNamed, IsFirstAt, NamesUnknown, DeclaresTwice, IsFirstFault as IsFirstNameFault}
 use Rattle.fvn_module.specs.declared.sides.Sides.{Sides}
-use Rattle.fvn_module.specs.declared.equation.Equation.{Equation}
+use Rattle.fvn_theory.specs.declared.equation.Equation.{Equation}
 use Rattle.fvn_module.specs.declared.fault.ModuleFault.{ModuleFault}
 use Rattle.fvn_module.specs.Equations.{AreWrittenAs, StandFor, IsEquationOf, AreEquationsOf, IsFaultOf, in_left, in_right, two_kinds, too_large, extra_variable, fault_of, IsLarge, IsFirstFaultOf}
 use Rattle.fvn_module.proofs.Determined.{left-once, right-once, first-once, stand-first, stand-second}

@@ -6,15 +6,15 @@ use Rattle.std.proofs.lemmas.List.{append-nil, append_cancel_right}
 use Rattle.fvn_lex.specs.Cut.{Piece}
 use Rattle.fvn_syntax.specs.Pieces.{Text, word, dot}
 use Rattle.fvn_module.proofs.Stops.{is_stop}
-use Rattle.fvn_module_statements.specs.declared.statement.Feature.{Feature}
-use Rattle.fvn_module_statements.specs.declared.statement.Statement.{Statement}
-use Rattle.fvn_module_statements.specs.declared.statement.Reading.{Reading}
-use Rattle.fvn_module_statements.specs.declared.statement.Reading.TheVariants.{Read, LeftOut, NoForm}
-use Rattle.fvn_module_statements.specs.declared.form.Form.{Form}
+use Rattle.fvn_module_syntax.specs.declared.statement.Feature.{Feature}
+use Rattle.fvn_module_syntax.specs.declared.statement.Statement.{Statement}
+use Rattle.fvn_module_statements.specs.declared.outcome.Reading.{Reading}
+use Rattle.fvn_module_statements.specs.declared.outcome.Reading.TheVariants.{Read, LeftOut, NoForm}
+use Rattle.fvn_module_syntax.specs.declared.form.Form.{Form}
 use Rattle.fvn_module_statements.specs.declared.form.FormFault.{FormFault}
 use Rattle.fvn_module_statements.specs.declared.form.FormFault.TheVariants as fault
-use Rattle.fvn_module_statements.specs.Spelling.{each, spell_statement}
-use Rattle.fvn_module_statements.specs.Written.{NotEmpty, IsWritten}
+use Rattle.fvn_module_syntax.specs.Spelling.{each, spell_statement}
+use Rattle.fvn_module_syntax.specs.Written.{NotEmpty, IsWritten}
 use Rattle.fvn_module_statements.specs.Laws.{StatementsAreExact}
 use Rattle.fvn_module_statements.specs.Forms.{dotted, end, spell_frame, IsFrame, IsStatement, IsFormOf, IsFront, LeadsTo, IsRefused, IsFirstFault}
 

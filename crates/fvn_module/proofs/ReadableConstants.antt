@@ -12,8 +12,8 @@ use Rattle.fvn_syntax.specs.Texts.{place}
 use Rattle.fvn_syntax.specs.Names.{sorted_name, resolve_sort, declared_sort}
 use Rattle.fvn_syntax.specs.declared.names.Variables.{Variables}
 use Rattle.fvn_syntax.specs.declared.names.Names.{Names}
-use Rattle.fvn_module_statements.specs.declared.statement.Statement.{Statement}
-use Rattle.fvn_module_statements.specs.declared.statement.Statement.TheVariants as statement
+use Rattle.fvn_module_syntax.specs.declared.statement.Statement.{Statement}
+use Rattle.fvn_module_syntax.specs.declared.statement.Statement.TheVariants as statement
 use Rattle.fvn_module_names.specs.Names.{constants_in, constants_of, with_texts}
 use Rattle.fvn_module_names.specs.Variables.{unless_declared, with_variables, where_sorted, with_declared, with_all_declared, no_variables, variables_of}
 use Rattle.fvn_module_names.specs.Faults.{is_none, is_missing, is_other, reads_as_variable, clashes, is_declared_otherwise, declares_twice, AreNamed}

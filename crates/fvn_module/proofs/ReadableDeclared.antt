@@ -17,10 +17,10 @@ use Rattle.fvn_syntax.specs.Pieces.{Text}
 use Rattle.fvn_syntax.specs.Texts.{place, or_end, place_or_end}
 use Rattle.fvn_syntax.specs.Names.{first_args, arity_of}
 use Rattle.fvn_syntax.specs.declared.sorts.RawSort.{RawSort}
-use Rattle.fvn_module_statements.specs.declared.statement.RawRank.{RawRank}
-use Rattle.fvn_module_statements.specs.declared.statement.Attribute.{Attribute}
-use Rattle.fvn_module_statements.specs.declared.statement.Statement.{Statement}
-use Rattle.fvn_module_statements.specs.declared.statement.Statement.TheVariants.{Sorts, Subsorts, Operator, Operators, Variables, Equation}
+use Rattle.fvn_module_syntax.specs.declared.statement.RawRank.{RawRank}
+use Rattle.fvn_module_syntax.specs.declared.statement.Attribute.{Attribute}
+use Rattle.fvn_module_syntax.specs.declared.statement.Statement.{Statement}
+use Rattle.fvn_module_syntax.specs.declared.statement.Statement.TheVariants.{Sorts, Subsorts, Operator, Operators, Variables, Equation}
 use Rattle.fvn_module_names.specs.Names.{joined, name_text, operators_in, without_arguments, constants_in, sorts_of, operators_of, constants_of}
 use Rattle.fvn_module_names.specs.Order.{with_new, with_all}
 use Rattle.fvn_module_declarations.specs.Operators.{same_declaration, op_number as op_named, rank_number, declaration_of, with_declarations, with_statement, with_statements, declarations_in}

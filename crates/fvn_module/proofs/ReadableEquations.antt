@@ -17,15 +17,16 @@ use Rattle.fvn_syntax.specs.declared.naming.Meaning.{Meaning}
 use Rattle.fvn_syntax.specs.declared.naming.Meaning.TheVariants.{Constant, Variable}
 use Rattle.fvn_syntax.specs.Pieces.{Text, is_reserved, without_last}
 use Rattle.fvn_syntax.specs.Raw.{RawTerm, RawTerms, name, call, round, kind_variable, last, and}
-use Rattle.fvn_syntax.specs.Names.{is_sum, resolve_name, op_named, bracket, result_of}
+use Rattle.fvn_terms.specs.Equality.{is_sum}
+use Rattle.fvn_syntax.specs.Names.{resolve_name, op_named, bracket, result_of}
 use Rattle.fvn_syntax.specs.Scope.{Scope}
 use Rattle.fvn_syntax.specs.Resolve.{Resolved, AllResolved, bind, or_fault, nested, applied, application_fault, unless, apply, the_variable, resolve_meaning, resolve_kind, resolve, resolve_all}
 use Rattle.fvn_syntax.specs.Laws.{IsFitting}
 use Rattle.fvn_syntax.proofs.WellKinded.{well-kinded}
-use Rattle.fvn_module.specs.declared.equation.Equation.{Equation}
+use Rattle.fvn_theory.specs.declared.equation.Equation.{Equation}
 use Rattle.fvn_module.specs.declared.sides.Sides.{Sides}
 use Rattle.fvn_module.specs.Equations.{IsEquationOf, AreEquationsOf}
-use Rattle.fvn_module.specs.Readable.{IsReadableEquation}
+use Rattle.fvn_theory.specs.Equations.{IsReadableEquation}
 
 -- No variable of a term that is read is fresh.
 
@@ -134,10 +135,10 @@ module _ (c : Scope) where
   equation-readable : IsFitting c → (e : Sides) (q : Equation) → IsEquationOf c e q → IsReadableEquation c.declarations q
   equation-readable fit e q is = subst (IsReadableEquation c.declarations) (sym same) read where
     made : Equation
-    made = record { statement = q.statement; left = is.stand.first.term; right = is.stand.second.term }
+    made = record { left = is.stand.first.term; right = is.stand.second.term }
 
     same : q ≡ made
-    same = ap (λ t. record { statement = q.statement; left = t; right = q.right }) is.left_is ∙ ap (λ t. record { statement = q.statement; left = is.stand.first.term; right = t }) is.right_is
+    same = ap (λ t. record { left = t; right = q.right }) is.left_is ∙ ap (λ t. record { left = is.stand.first.term; right = t }) is.right_is
 
     read : IsReadableEquation c.declarations made
     read = record {

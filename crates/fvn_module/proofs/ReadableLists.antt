@@ -8,7 +8,7 @@ use Rattle.fvn_base.proofs.Membership.{contains_here, contains_later, contains_c
 use Rattle.fvn_syntax.specs.Pieces.{Text}
 use Rattle.fvn_syntax.specs.Texts.{place, unless_at, with_text}
 use Rattle.fvn_syntax.proofs.PieceLemmas.{bytes_eq-refl, bytes_eq-is}
-use Rattle.fvn_module_statements.specs.declared.statement.Statement.{Statement}
+use Rattle.fvn_module_syntax.specs.declared.statement.Statement.{Statement}
 use Rattle.fvn_module_names.specs.Names.{with_texts, with_names}
 use Rattle.fvn_module.specs.Readable.{AreDistinct}
 

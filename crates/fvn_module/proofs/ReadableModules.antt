@@ -11,13 +11,13 @@ use Rattle.fvn_signature.specs.Collected.{completed}
 use Rattle.fvn_signature.specs.Queries.{IsCompleted}
 use Rattle.fvn_syntax.specs.Pieces.{Text}
 use Rattle.fvn_syntax.specs.Names.{arity_of}
-use Rattle.fvn_module_statements.specs.declared.form.Form.{Form}
+use Rattle.fvn_module_syntax.specs.declared.form.Form.{Form}
 use Rattle.fvn_module_statements.specs.Forms.{IsFormOf}
 use Rattle.fvn_module_names.specs.Names.{sorts_in, sorts_of, operators_in, operators_of}
 use Rattle.fvn_module_names.specs.Order.{kinds_in}
 use Rattle.fvn_module_declarations.specs.Module.{collected_in, names_in}
 use Rattle.fvn_module_names.specs.Faults.{HasNames}
-use Rattle.fvn_module.specs.declared.equation.Equation.{Equation}
+use Rattle.fvn_theory.specs.declared.equation.Equation.{Equation}
 use Rattle.fvn_module.specs.Equations.{equations_in, AreEquationsOf}
 use Rattle.fvn_module.specs.ModuleText.{scope_in}
 use Rattle.fvn_module.specs.Readable.{IsConstantText, IsReadable}

@@ -22,9 +22,9 @@ use Rattle.fvn_syntax.specs.declared.sorts.RawSort.{RawSort}
 use Rattle.fvn_syntax.specs.declared.sorts.RawSort.TheVariants.{Name, Kind}
 use Rattle.fvn_syntax.proofs.TextLemmas.{place-below}
 use Rattle.fvn_syntax.proofs.WellKinded.{well-kinded}
-use Rattle.fvn_module_statements.specs.declared.statement.Statement.{Statement}
-use Rattle.fvn_module_statements.specs.declared.statement.Statement.TheVariants as statement
-use Rattle.fvn_module_statements.specs.declared.form.Form.{Form}
+use Rattle.fvn_module_syntax.specs.declared.statement.Statement.{Statement}
+use Rattle.fvn_module_syntax.specs.declared.statement.Statement.TheVariants as statement
+use Rattle.fvn_module_syntax.specs.declared.form.Form.{Form}
 use Rattle.fvn_module_names.specs.Names.{sorts_of, operators_of}
 use Rattle.fvn_module_names.specs.Variables.{no_variables, unless_declared, with_variables, where_sorted, with_declared, with_all_declared}
 use Rattle.fvn_module_names.specs.Order.{kinds_in}

@@ -7,14 +7,14 @@ use Rattle.fvn_base.proofs.Membership.{contains_here, contains_later, contains_c
 use Rattle.fvn_lex.specs.Cut.{Piece}
 use Rattle.fvn_lex.specs.Join.{IsPiece}
 use Rattle.fvn_syntax.specs.Pieces.{Text, word, dot, left_paren, right_paren}
-use Rattle.fvn_module_statements.specs.declared.statement.OperatorName.{OperatorName}
-use Rattle.fvn_module_statements.specs.declared.statement.OperatorName.TheVariants.{Single, Round}
-use Rattle.fvn_module_statements.specs.declared.statement.Statement.{Statement}
-use Rattle.fvn_module_statements.specs.declared.statement.Statement.TheVariants.{Sorts, Subsorts, Operator, Operators, Variables, Equation}
-use Rattle.fvn_module_statements.specs.declared.form.Form.{Form}
-use Rattle.fvn_module_statements.specs.Spelling.{each, spell_word, words, colon, spell_rank, bracketed, spell_attribute, spell_name, spell_statement}
-use Rattle.fvn_module_statements.specs.Words.{names_touch}
-use Rattle.fvn_module_statements.specs.Written.{IsSortName, IsName, IsWritten}
+use Rattle.fvn_module_syntax.specs.declared.statement.OperatorName.{OperatorName}
+use Rattle.fvn_module_syntax.specs.declared.statement.OperatorName.TheVariants.{Single, Round}
+use Rattle.fvn_module_syntax.specs.declared.statement.Statement.{Statement}
+use Rattle.fvn_module_syntax.specs.declared.statement.Statement.TheVariants.{Sorts, Subsorts, Operator, Operators, Variables, Equation}
+use Rattle.fvn_module_syntax.specs.declared.form.Form.{Form}
+use Rattle.fvn_module_syntax.specs.Spelling.{each, spell_word, words, colon, spell_rank, bracketed, spell_attribute, spell_name, spell_statement}
+use Rattle.fvn_module_syntax.specs.Words.{names_touch}
+use Rattle.fvn_module_syntax.specs.Written.{IsSortName, IsName, IsWritten}
 use Rattle.fvn_module_statements.specs.Forms.{dotted, end, spell_frame, IsStatement, IsFormOf}
 use Rattle.fvn_module.proofs.Stops.{is_stop}
 use Rattle.fvn_module_names.specs.Names.{joined, name_text, sorts_in, operators_in, sorts_of, operators_of}

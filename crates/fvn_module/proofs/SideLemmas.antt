@@ -8,7 +8,7 @@ use Rattle.fvn_terms.specs.Plain.{term}
 use Rattle.fvn_syntax.specs.Raw.{spell}
 use Rattle.fvn_syntax.specs.Scope.{Scope}
 use Rattle.fvn_syntax.specs.Resolve.{resolve}
-use Rattle.fvn_module.specs.declared.equation.Equation.{Equation}
+use Rattle.fvn_theory.specs.declared.equation.Equation.{Equation}
 use Rattle.fvn_module.specs.declared.equations.Side.{Side}
 use Rattle.fvn_module.specs.declared.sides.Sides.{Sides}
 use Rattle.fvn_module.specs.declared.fault.ModuleFault.{ModuleFault}
@@ -92,7 +92,6 @@ module _ (c : Scope) (k : ℕ) (e : Sides) (h : AreTerms e) where
           within (nodes (term second.resolved.term)) s2.count second.count j.right_small,
         );
         brings_none = occur j.left_small j.right_small j.brings_none;
-        statement_is = j.statement_is;
         left_is = j.left_is ∙ first.built j.left_small;
         right_is = j.right_is ∙ second.built j.right_small;
       }

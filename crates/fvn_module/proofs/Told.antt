@@ -4,7 +4,7 @@ use Rattle.fvn_lex.specs.Cut.{Piece, pieces_of}
 use Rattle.fvn_syntax.specs.declared.fault.TermFault.{TermFault}
 use Rattle.fvn_syntax.specs.declared.fault.TermFault.TheVariants as term_fault
 use Rattle.fvn_syntax.specs.Pieces.{Text}
-use Rattle.fvn_module_statements.specs.declared.form.Form.{Form}
+use Rattle.fvn_module_syntax.specs.declared.form.Form.{Form}
 use Rattle.fvn_module.specs.declared.signing.Signed.{Signed}
 use Rattle.fvn_module.specs.declared.fault.ModuleFault.{ModuleFault}
 use Rattle.fvn_module.specs.declared.fault.ModuleFault.TheVariants.{Lex, Header, Statement as AtStatement, UnknownName, Twice, Arity, WrongKind, LeftOut, Signature, VariableLeft, ExtraVariable, IdentityLeft, TooMany, TooLong, NoMemory}

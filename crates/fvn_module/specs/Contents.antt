@@ -3,7 +3,7 @@ use Rattle.std.specs.Prelude.{List, false}
 use Rattle.fvn_terms.specs.declared.declarations.Declarations.{Declarations}
 use Rattle.fvn_syntax.specs.declared.names.Names.{Names}
 use Rattle.fvn_syntax.specs.Scope.{Scope}
-use Rattle.fvn_module.specs.declared.equation.Equation.{Equation}
+use Rattle.fvn_theory.specs.declared.equation.Equation.{Equation}
 
 -- a signature, names and equations
 pub record Contents : Type 0 where

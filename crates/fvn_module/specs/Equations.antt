@@ -10,9 +10,9 @@ use Rattle.fvn_syntax.specs.declared.fault.TermFault.TheVariants as term_fault
 use Rattle.fvn_syntax.specs.Raw.{RawTerm, spell, IsWritten}
 use Rattle.fvn_syntax.specs.Scope.{Scope}
 use Rattle.fvn_syntax.specs.Resolve.{Resolved, resolve}
-use Rattle.fvn_module_statements.specs.declared.statement.Statement.{Statement}
-use Rattle.fvn_module_statements.specs.declared.statement.Statement.TheVariants as statement
-use Rattle.fvn_module.specs.declared.equation.Equation.{Equation}
+use Rattle.fvn_module_syntax.specs.declared.statement.Statement.{Statement}
+use Rattle.fvn_module_syntax.specs.declared.statement.Statement.TheVariants as statement
+use Rattle.fvn_theory.specs.declared.equation.Equation.{Equation}
 use Rattle.fvn_module.specs.declared.sides.Sides.{Sides}
 use Rattle.fvn_module.specs.declared.fault.Place.TheVariants as place
 use Rattle.fvn_module.specs.declared.fault.ModuleFault.{ModuleFault}
@@ -81,7 +81,6 @@ module _ (c : Scope) where
     pub one_kind : stand.first.kind ≡ stand.second.kind
     pub small : AreSmall stand.first stand.second
     pub brings_none : BringsNone stand.first stand.second
-    pub statement_is : q.statement ≡ e.number
     pub left_is : q.left ≡ stand.first.term
     pub right_is : q.right ≡ stand.second.term
 

@@ -6,7 +6,7 @@ use Rattle.fvn_signature.specs.Collected.{completed}
 use Rattle.fvn_sorts.specs.Faults.{HasNoFault}
 use Rattle.fvn_syntax.specs.Pieces.{Text}
 use Rattle.fvn_syntax.specs.Scope.{Scope}
-use Rattle.fvn_module_statements.specs.declared.form.Form.{Form}
+use Rattle.fvn_module_syntax.specs.declared.form.Form.{Form}
 use Rattle.fvn_module_statements.specs.Forms.{IsFormOf}
 use Rattle.fvn_module_declarations.specs.Module.{names_in, collected_in}
 use Rattle.fvn_module_names.specs.Faults.{HasNames}

@@ -1,23 +1,16 @@
 -- What holds of every module that was read.
 use Rattle.std.specs.Prelude.{◌≡◌, ◌≢◌, ◌≤◌, false, List, length, slice_get, All, AllPairs, Some, None}
 use Rattle.fvn_lex.specs.Join.{IsPiece}
-use Rattle.fvn_base.specs.declared.limits.TheConstants.{SORTS, OPERATORS, EQUATIONS, TEXT_SYMBOLS}
-use Rattle.fvn_terms.specs.declared.plain.Var.{Var}
+use Rattle.fvn_base.specs.declared.limits.TheConstants.{SORTS, OPERATORS, EQUATIONS}
 use Rattle.fvn_terms.specs.declared.plain.OpId.{OpId}
-use Rattle.fvn_terms.specs.declared.plain.SortId.{SortId}
-use Rattle.fvn_terms.specs.declared.declarations.Declarations.{Declarations}
-use Rattle.fvn_terms.specs.Term.{nodes}
-use Rattle.fvn_terms.specs.Plain.{term}
-use Rattle.fvn_terms.specs.Substitution.{Occurs}
-use Rattle.fvn_terms.specs.Signature.{HasKind}
 use Rattle.fvn_syntax.specs.declared.names.Names.{Names}
 use Rattle.fvn_syntax.specs.Pieces.{Text, word, is_colon_name}
 use Rattle.fvn_syntax.specs.Names.{arity_of, sorted_name}
 use Rattle.fvn_syntax.specs.Texts.{place}
 use Rattle.fvn_syntax.specs.Scope.{IsNumbered}
 use Rattle.fvn_syntax.specs.Laws.{IsFitting}
-use Rattle.fvn_module_statements.specs.Words.{has_colon}
-use Rattle.fvn_module.specs.declared.equation.Equation.{Equation}
+use Rattle.fvn_module_syntax.specs.Words.{has_colon}
+use Rattle.fvn_theory.specs.Equations.{IsReadableEquation}
 use Rattle.fvn_module.specs.Contents.{Contents, scope_of}
 
 -- The text is a word, and is read as that word alone.
@@ -39,17 +32,6 @@ pub record IsConstantText (names : Names) (w : Text) : Type 0 where
   pub no_kind : is_colon_name w ≡ false
   pub no_sort : sorted_name names.sorts w ≡ None
   pub no_variable : place names.variables.texts w ≡ None
-
--- Both sides are well-kinded and of one kind, without a new variable, and within the limit of symbols; the right
--- side has no variable of its own.
-pub record IsReadableEquation (d : Declarations) (e : Equation) : Type 0 where
-  pub kind : SortId
-  pub left : HasKind d (term e.left) kind
-  pub right : HasKind d (term e.right) kind
-  pub brings_none : (x : Var) → Occurs x (term e.right) → Occurs x (term e.left)
-  pub not_fresh : (x : Var) → Occurs x (term e.left) → x.fresh ≡ false
-  pub left_small : nodes (term e.left) ≤ TEXT_SYMBOLS
-  pub right_small : nodes (term e.right) ≤ TEXT_SYMBOLS
 
 -- The names fit the signature and are read as what they name; equations are well-made.
 pub record IsReadable (m : Contents) : Type 0 where

@@ -10,7 +10,7 @@ use Rattle.fvn_sorts.specs.declared.conditions.fault.SigFault.TheVariants.{TooMa
 use Rattle.fvn_sorts.specs.Faults.{HasNoFault, IsFirstFault as IsFirstSignatureFault}
 use Rattle.fvn_syntax.specs.Pieces.{Text}
 use Rattle.fvn_syntax.specs.declared.names.Names.{Names}
-use Rattle.fvn_module_statements.specs.declared.form.Form.{Form}
+use Rattle.fvn_module_syntax.specs.declared.form.Form.{Form}
 use Rattle.fvn_module_statements.specs.declared.form.FormFault.{FormFault}
 use Rattle.fvn_module_statements.specs.declared.form.FormFault.TheVariants as form
 use Rattle.fvn_module_statements.specs.Forms.{IsFirstFault as IsFirstFormFault}

@@ -9,15 +9,15 @@ ghost use Rattle.fvn_module.specs.Equations.{IsEquationOf, AreEquationsOf, IsFir
 ghost use Rattle.fvn_module.specs.inner.Sides.{IsRead, IsReadRefused, IsJudged, IsJudgedFault, AreTerms, HasFault};
 ghost use Rattle.fvn_module.specs.inner.Steps.{AreRead, AreRefused};
 
-use crate::equation::Equation;
 use crate::fault::{ModuleFault, Place};
 use crate::sides::{Sides, collect_sides};
 use crate::signing::Signed;
 use crate::variables::brings_none;
 use fvn_base::Seq;
 use fvn_base::limits::{EQUATIONS, TEXT_SYMBOLS};
-use fvn_module_statements::Statement;
-use fvn_syntax::{Kinded, Piece, Scope, Seen, TermFault, Texts, read_term};
+use fvn_module_syntax::Statement;
+use fvn_syntax::{Kinded, Piece, Scope, Seen, TermFault, Texts, resolve_term};
+use fvn_theory::Equation;
 use std::alloc::Global;
 
 /// A side that was read: its term and kind, the names of the variables up to its end, and its number of symbols.
@@ -56,7 +56,7 @@ fn read_side(
     ensures err { IfErr result (IsReadRefused scope.now number texts row.now) }
 {
     let seen = Seen { texts, count: 0 };
-    match read_term(alloc, TEXT_SYMBOLS, scope, seen, row) {
+    match resolve_term(alloc, TEXT_SYMBOLS, scope, seen, row) {
         Ok((read, seen)) => Ok(Side {
             read,
             texts: seen.texts,
@@ -87,7 +87,6 @@ fn judge(
         return Err(ModuleFault::ExtraVariable(k));
     }
     Ok(Equation {
-        statement: number,
         left: left.term,
         right: right.read.term,
     })

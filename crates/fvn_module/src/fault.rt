@@ -4,7 +4,7 @@ ghost use Rattle.fvn_module.specs.declared.fault.ModuleFault.TheVariants.{NoMemo
 
 use fvn_base::{NoMemory, Seq};
 use fvn_lex::LexFault;
-use fvn_module_statements::Feature;
+use fvn_module_syntax::Feature;
 use fvn_sorts::SigFault;
 use fvn_syntax::Names;
 use fvn_terms::SortId;
@@ -23,7 +23,7 @@ pub enum Place {
 /// A fault of the signature is told with the names of sorts and operators, and with the sort after which each kind
 /// is named, in the order of kinds; where there is too much of something, without these sorts. After `NoMemory` the
 /// text may be a module: there was no room for it.
-#[derive(Debug, Drop, Error)]
+#[derive(Debug, Error)]
 pub enum ModuleFault {
     #[error("the text has no tokens: {0}")]
     Lex(LexFault),
@@ -55,6 +55,28 @@ pub enum ModuleFault {
     TooLong,
     #[error("out of memory")]
     NoMemory,
+}
+
+impl Drop for ModuleFault {
+    fn drop(self) {
+        match self {
+            ModuleFault::Lex(_) => {}
+            ModuleFault::Header => {}
+            ModuleFault::Statement(_) => {}
+            ModuleFault::UnknownName(_) => {}
+            ModuleFault::Twice(_) => {}
+            ModuleFault::Arity(_) => {}
+            ModuleFault::WrongKind(_) => {}
+            ModuleFault::LeftOut(_, _) => {}
+            ModuleFault::Signature(_, _, _) => {}
+            ModuleFault::VariableLeft(_) => {}
+            ModuleFault::ExtraVariable(_) => {}
+            ModuleFault::IdentityLeft(_) => {}
+            ModuleFault::TooMany(_) => {}
+            ModuleFault::TooLong => {}
+            ModuleFault::NoMemory => {}
+        }
+    }
 }
 
 impl From<NoMemory> for ModuleFault {

@@ -3,9 +3,12 @@ ghost use Rattle.fvn_module.specs.Laws.{
   ModulesAreDetermined,
   RefusalsAreDetermined,
   RefusedTextsDeclareNothing,
+  ModulesAreGood,
 };
 
+use fvn_lex::pieces_stand_alone;
 use fvn_module_statements::statements_are_exact;
+use fvn_sorts::faultless_signatures_are_good;
 
 /// A text is one module at most.
 pub fn modules_are_determined()
@@ -26,4 +29,12 @@ pub fn refused_texts_declare_nothing()
     ensures { RefusedTextsDeclareNothing }
 {
     statements_are_exact();
+}
+
+/// A module is readable, and its signature is good, with all that its queries need.
+pub fn modules_are_good()
+    ensures { ModulesAreGood }
+{
+    pieces_stand_alone();
+    faultless_signatures_are_good();
 }

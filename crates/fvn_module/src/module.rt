@@ -2,18 +2,27 @@
 ghost use Rattle.std.specs.Prelude.{◌≡◌};
 ghost use Rattle.fvn_module.specs.Readable.{IsReadable};
 
-use crate::equation::Equation;
 use fvn_base::Seq;
 use fvn_signature::Signature;
 use fvn_syntax::Names;
+use fvn_theory::Equation;
 use std::marker::Model;
 
 /// A module that was read: its signature, its names, and its equations in the order of its text.
-#[derive(Drop)]
 pub struct Module {
     pub(crate) signature: Signature,
     pub(crate) names: Names,
     pub(crate) equations: Seq<Equation>,
+}
+
+impl Drop for Module {
+    fn drop(self) {
+        let Module {
+            signature: _,
+            names: _,
+            equations: _,
+        } = self;
+    }
 }
 
 impl Model for Module {

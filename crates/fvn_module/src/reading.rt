@@ -24,7 +24,8 @@ use crate::fault::ModuleFault;
 use crate::module::Module;
 use crate::signing::{Signed, sign};
 use fvn_lex::{LexFault, pieces_stand_alone};
-use fvn_module_statements::{Form, FormFault, read_form};
+use fvn_module_statements::{FormFault, read_form};
+use fvn_module_syntax::Form;
 use fvn_syntax::{Piece, cut};
 use std::alloc::Global;
 

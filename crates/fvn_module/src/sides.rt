@@ -2,7 +2,7 @@
 ghost use Rattle.std.specs.Prelude.{◌≡◌, IfOk};
 ghost use Rattle.fvn_module.specs.Equations.{equations_in};
 
-use fvn_module_statements::Statement;
+use fvn_module_syntax::Statement;
 use fvn_syntax::Row;
 use fvn_terms::NoMemory;
 use std::alloc::Global;

@@ -8,7 +8,7 @@ ghost use Rattle.fvn_syntax.specs.declared.names.Names.{Names};
 use crate::fault::ModuleFault;
 use fvn_base::Seq;
 use fvn_module_declarations::{Declared, NameFault, declare};
-use fvn_module_statements::Form;
+use fvn_module_syntax::Form;
 use fvn_signature::Signature;
 use fvn_sorts::{SigFault, SignatureBuilder};
 use fvn_syntax::{Names, Texts, Variables};

@@ -5,8 +5,8 @@ use Rattle.fvn_base.specs.declared.limits.TheConstants.{OPERATORS}
 use Rattle.fvn_signature.specs.declared.collected.Collected.{Collected}
 use Rattle.fvn_syntax.specs.Pieces.{Text}
 use Rattle.fvn_syntax.specs.Texts.{place_or_end}
-use Rattle.fvn_module_statements.specs.declared.statement.Statement.{Statement}
-use Rattle.fvn_module_statements.specs.declared.statement.Statement.TheVariants.{Sorts, Subsorts, Operator, Operators, Variables, Equation}
+use Rattle.fvn_module_syntax.specs.declared.statement.Statement.{Statement}
+use Rattle.fvn_module_syntax.specs.declared.statement.Statement.TheVariants.{Sorts, Subsorts, Operator, Operators, Variables, Equation}
 use Rattle.fvn_module_names.specs.Names.{joined, name_text, sorts_of, operators_of}
 use Rattle.fvn_module_names.specs.Order.{with_pairs}
 use Rattle.fvn_module_declarations.specs.Operators.{with_statements}
@@ -19,16 +19,19 @@ use Rattle.fvn_module_names.proofs.TextCounts.{length-with_text}
 use Rattle.fvn_module_declarations.proofs.Drafted.{IsDrafted, statements, all-others, all-names, drafted-none}
 
 -- as many operators were collected as there are names
-abbrev IsCounted : Draft → Type 0
+abbrev pub IsCounted : Draft → Type 0
 IsCounted d = d.collected.operators ≡ length d.names
+
+-- one more name is counted
+pub name-counted : (d : Draft) (s : Shape) (w : Text) → IsCounted d → IsCounted (with_name d s w)
+name-counted d s w h = ap (λ n. max n (place_or_end d.names w + 1)) h ∙ sym (length-with_text d.names w).1
 
 names-counted : (d : Draft) (s : Shape) (ws : List Text) → IsCounted d → IsCounted (with_names d s ws)
 names-counted d s [] h = h
-names-counted d s (w ∷ ws) h =
-    names-counted (with_name d s w) s ws (ap (λ n. max n (place_or_end d.names w + 1)) h ∙ sym (length-with_text d.names w).1)
+names-counted d s (w ∷ ws) h = names-counted (with_name d s w) s ws (name-counted d s w h)
 
 module _ (v : Vocabulary) where
-  statement-counted : (d : Draft) (st : Statement) → IsCounted d → IsCounted (with_operators v d st)
+  pub statement-counted : (d : Draft) (st : Statement) → IsCounted d → IsCounted (with_operators v d st)
   statement-counted d (Sorts plural ws) h = h
   statement-counted d (Subsorts plural groups) h = h
   statement-counted d (Operator name rank xs) h = names-counted d (shape_of v rank xs) (joined name ∷ []) h

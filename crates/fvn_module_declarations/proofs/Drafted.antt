@@ -10,11 +10,11 @@ use Rattle.fvn_signature.specs.declared.collected.Declaration.{Declaration}
 use Rattle.fvn_signature.specs.Collected.{op_number, same_op}
 use Rattle.fvn_syntax.specs.Pieces.{Text}
 use Rattle.fvn_syntax.specs.Texts.{place_or_end, with_text}
-use Rattle.fvn_module_statements.specs.declared.statement.RawRank.{RawRank}
-use Rattle.fvn_module_statements.specs.declared.statement.Attribute.{Attribute}
-use Rattle.fvn_module_statements.specs.declared.statement.Statement.{Statement}
-use Rattle.fvn_module_statements.specs.declared.statement.Statement.TheVariants.{Sorts, Subsorts, Operator, Operators, Variables, Equation}
-use Rattle.fvn_module_statements.specs.LeftOut.{is_ditto}
+use Rattle.fvn_module_syntax.specs.declared.statement.RawRank.{RawRank}
+use Rattle.fvn_module_syntax.specs.declared.statement.Attribute.{Attribute}
+use Rattle.fvn_module_syntax.specs.declared.statement.Statement.{Statement}
+use Rattle.fvn_module_syntax.specs.declared.statement.Statement.TheVariants.{Sorts, Subsorts, Operator, Operators, Variables, Equation}
+use Rattle.fvn_module_syntax.specs.LeftOut.{is_ditto}
 use Rattle.fvn_module_names.specs.Names.{joined, name_text, operators_in, with_texts, with_names as with_all_names}
 use Rattle.fvn_module_names.specs.Order.{with_new, with_all}
 use Rattle.fvn_module_declarations.specs.Operators.{same_declaration, or_else, or_free, nearest, axioms_of, declared_axioms, declaration_of, with_declarations, with_statement, with_statements}

@@ -8,3 +8,4 @@ mod Drafted
 mod Collecting
 mod NamedRanks
 mod LongRanks
+pub mod ClosedModules

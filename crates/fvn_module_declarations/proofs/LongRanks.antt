@@ -11,10 +11,10 @@ use Rattle.fvn_base.specs.declared.limits.TheConstants.{SORTS, OPERATORS, ARGUME
 use Rattle.fvn_signature.specs.declared.collected.Declaration.{Declaration}
 use Rattle.fvn_syntax.specs.Pieces.{Text}
 use Rattle.fvn_sorts.specs.Faults.{IsTooLarge}
-use Rattle.fvn_module_statements.specs.declared.statement.RawRank.{RawRank}
-use Rattle.fvn_module_statements.specs.declared.statement.Attribute.{Attribute}
-use Rattle.fvn_module_statements.specs.declared.statement.Statement.{Statement}
-use Rattle.fvn_module_statements.specs.declared.statement.Statement.TheVariants.{Sorts, Subsorts, Operator, Operators, Variables, Equation}
+use Rattle.fvn_module_syntax.specs.declared.statement.RawRank.{RawRank}
+use Rattle.fvn_module_syntax.specs.declared.statement.Attribute.{Attribute}
+use Rattle.fvn_module_syntax.specs.declared.statement.Statement.{Statement}
+use Rattle.fvn_module_syntax.specs.declared.statement.Statement.TheVariants.{Sorts, Subsorts, Operator, Operators, Variables, Equation}
 use Rattle.fvn_module_names.specs.Names.{joined, name_text, sorts_of, operators_of}
 use Rattle.fvn_module_names.specs.Order.{with_new, with_all}
 use Rattle.fvn_module_declarations.specs.Operators.{same_declaration, rank_number, declaration_of, with_declarations, with_statement, with_statements, declarations_in}

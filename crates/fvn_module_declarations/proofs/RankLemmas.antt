@@ -11,7 +11,7 @@ use Rattle.fvn_syntax.specs.Names.{sort_at, kind_of, kind_of_all}
 use Rattle.fvn_syntax.specs.declared.sorts.RawSort.{RawSort}
 use Rattle.fvn_syntax.specs.declared.sorts.RawSort.TheVariants.{Name, Kind}
 use Rattle.fvn_syntax.proofs.TextLemmas.{place-below}
-use Rattle.fvn_module_statements.specs.declared.statement.RawRank.{RawRank}
+use Rattle.fvn_module_syntax.specs.declared.statement.RawRank.{RawRank}
 use Rattle.fvn_module_declarations.specs.Operators.{rank_number, rank_of}
 use Rattle.fvn_module_names.specs.Faults.{is_none, is_unknown_sort, has_unknown_sort}
 use Rattle.fvn_module_names.specs.Vocabulary.{Vocabulary}

@@ -1,7 +1,7 @@
 -- What is answered for the statements of a module.
 use Rattle.std.specs.Prelude.{◌≡◌}
 use Rattle.fvn_sorts.specs.Faults.{IsTooLarge}
-use Rattle.fvn_module_statements.specs.declared.form.Form.{Form}
+use Rattle.fvn_module_syntax.specs.declared.form.Form.{Form}
 use Rattle.fvn_module_declarations.specs.declared.declaring.Declared.{Declared}
 use Rattle.fvn_module_declarations.specs.declared.declaring.Declared.TheVariants.{Fitting, TooLarge}
 use Rattle.fvn_module_declarations.specs.Module.{names_alone, names_in, collected_in}

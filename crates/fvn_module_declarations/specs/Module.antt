@@ -2,8 +2,8 @@
 use Rattle.std.specs.Prelude.{List, [], length}
 use Rattle.fvn_signature.specs.declared.collected.Collected.{Collected}
 use Rattle.fvn_syntax.specs.declared.names.Names.{Names}
-use Rattle.fvn_module_statements.specs.declared.statement.Statement.{Statement}
-use Rattle.fvn_module_statements.specs.declared.form.Form.{Form}
+use Rattle.fvn_module_syntax.specs.declared.statement.Statement.{Statement}
+use Rattle.fvn_module_syntax.specs.declared.form.Form.{Form}
 use Rattle.fvn_module_names.specs.Names.{sorts_of, operators_of}
 use Rattle.fvn_module_names.specs.Order.{with_pairs, kinds_in}
 use Rattle.fvn_module_declarations.specs.Operators.{declarations_in}

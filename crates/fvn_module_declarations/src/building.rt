@@ -8,7 +8,7 @@ ghost use Rattle.fvn_module_names.specs.Vocabulary.{vocabulary_of};
 use crate::drafts::Draft;
 use crate::pairs::add_pairs;
 use fvn_module_names::Vocabulary;
-use fvn_module_statements::Statement;
+use fvn_module_syntax::Statement;
 use fvn_sorts::SignatureBuilder;
 use fvn_terms::NoMemory;
 use std::alloc::Global;

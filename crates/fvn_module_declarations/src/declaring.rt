@@ -13,7 +13,7 @@ use crate::building::build;
 use crate::sizes::is_too_large;
 use fvn_base::Seq;
 use fvn_module_names::{NameFault, VariableTable, Vocabulary, test_statements};
-use fvn_module_statements::Form;
+use fvn_module_syntax::Form;
 use fvn_sorts::SignatureBuilder;
 use fvn_syntax::{Names, Texts, Variables};
 use fvn_terms::NoMemory;

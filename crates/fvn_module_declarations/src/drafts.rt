@@ -15,7 +15,7 @@ use crate::shapes::{Shape, shape_of};
 use fvn_base::Seq;
 use fvn_base::limits::OPERATORS;
 use fvn_module_names::{Vocabulary, operator_names};
-use fvn_module_statements::{Attribute, RawRank, Statement};
+use fvn_module_syntax::{Attribute, RawRank, Statement};
 use fvn_sorts::SignatureBuilder;
 use fvn_syntax::Texts;
 use fvn_terms::{Axioms, NoMemory, OpId, Rank};

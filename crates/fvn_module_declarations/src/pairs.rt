@@ -16,7 +16,7 @@ ghost use Rattle.fvn_module_declarations.specs.inner.Pairs.{with_more, row};
 
 use fvn_base::Seq;
 use fvn_base::limits::SORTS;
-use fvn_module_statements::Statement;
+use fvn_module_syntax::Statement;
 use fvn_sorts::SignatureBuilder;
 use fvn_syntax::{Text, Texts};
 use fvn_terms::{NoMemory, SortId};

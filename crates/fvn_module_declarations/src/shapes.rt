@@ -2,7 +2,7 @@
 ghost use Rattle.std.specs.Prelude.{◌≡◌, ◌≤◌, map, length, option_map, IfOk};
 ghost use Rattle.fvn_base.specs.declared.limits.TheConstants.{SORTS as MOST_SORTS, OPERATORS as MOST_OPERATORS};
 ghost use Rattle.fvn_module_declarations.specs.Operators.{rank_number, identity_in, sum_axioms, axioms_of};
-ghost use Rattle.fvn_module_statements.specs.LeftOut.{is_assoc, is_comm};
+ghost use Rattle.fvn_module_syntax.specs.LeftOut.{is_assoc, is_comm};
 ghost use Rattle.std.specs.List.{list_any};
 ghost use Rattle.fvn_module_declarations.specs.inner.Shapes.{own_axioms, shape_of};
 ghost use Rattle.fvn_syntax.specs.Texts.{place_or_end};
@@ -10,7 +10,7 @@ ghost use Rattle.fvn_syntax.specs.Texts.{place_or_end};
 use fvn_base::Seq;
 use fvn_base::limits::FIRST_KIND;
 use fvn_module_names::{Vocabulary, has_ditto};
-use fvn_module_statements::{Attribute, RawRank};
+use fvn_module_syntax::{Attribute, RawRank};
 use fvn_syntax::{RawSort, Texts};
 use fvn_terms::{Axioms, NoMemory, OpId, Rank, SortId};
 use std::alloc::Global;

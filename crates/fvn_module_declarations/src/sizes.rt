@@ -8,7 +8,7 @@ ghost use Rattle.fvn_module_names.specs.Vocabulary.{vocabulary_of};
 
 use fvn_base::limits::{ARGUMENTS, OPERATORS, SORTS};
 use fvn_module_names::Vocabulary;
-use fvn_module_statements::Statement;
+use fvn_module_syntax::Statement;
 
 // Whether a statement declares an operator with more arguments than one may have.
 fn has_long_rank(statement: &Statement<'_>) -> bool

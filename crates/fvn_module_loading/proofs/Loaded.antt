@@ -9,7 +9,7 @@ use Rattle.fvn_module.specs.Refusals.{Refuses}
 use Rattle.fvn_module.specs.Laws.{ModulesAreDetermined, RefusalsAreDetermined, RefusedTextsDeclareNothing}
 use Rattle.fvn_cohere.specs.declared.faults.LeftFault.{LeftFault}
 use Rattle.fvn_cohere.specs.LeftFaults.{IsFirstLeftFault}
-use Rattle.fvn_cohere.specs.Promises.{equations_of}
+use Rattle.fvn_theory.specs.Equations.{equations_of}
 use Rattle.fvn_module_loading.specs.Loading.{fault_of_left, HasHarmlessSides, HasLeftFault, IsLoaded, IsLoadFault, IsOnlyLoaded, HasNoLoad}
 use Rattle.fvn_module_loading.proofs.LeftFaults.{first_harmful, first_once}
 

@@ -6,7 +6,7 @@ use Rattle.fvn_terms.specs.Theory.{Equations}
 use Rattle.fvn_terms.specs.Rewriting.{IsSortDecreasing}
 use Rattle.fvn_rewrite_laws.specs.Losses.{IsLoss, AreSortDecreasing, IsFirstLoss}
 use Rattle.fvn_module.specs.Contents.{Contents}
-use Rattle.fvn_cohere.specs.Promises.{equations_of}
+use Rattle.fvn_theory.specs.Equations.{equations_of}
 use Rattle.fvn_module_loading.specs.Losses.{IsLossOf}
 use Rattle.fvn_module_loading.proofs.Firsts.{not_good, one_first}
 

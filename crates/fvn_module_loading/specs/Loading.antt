@@ -9,7 +9,7 @@ use Rattle.fvn_module.specs.Refusals.{Refuses}
 use Rattle.fvn_cohere.specs.declared.faults.LeftFault.{LeftFault}
 use Rattle.fvn_cohere.specs.declared.faults.LeftFault.TheVariants.{TooManyInstances, BecomesVariable, BecomesIdentity}
 use Rattle.fvn_cohere.specs.LeftFaults.{AreHarmless, IsFirstLeftFault}
-use Rattle.fvn_cohere.specs.Promises.{equations_of}
+use Rattle.fvn_theory.specs.Equations.{equations_of}
 
 -- what is wrong with a left side, as a fault of its module
 abbrev pub fault_of_left : LeftFault → ModuleFault

@@ -11,7 +11,8 @@ ghost use Rattle.fvn_module_loading.specs.Loading.{
   HasNoLoad,
 };
 
-use fvn_cohere::{LeftFault, first_left_fault};
+use crate::checks::first_left_fault;
+use fvn_cohere::LeftFault;
 use fvn_module::{Module, ModuleFault, Place, read_module};
 use fvn_terms::NoMemory;
 use std::alloc::Global;

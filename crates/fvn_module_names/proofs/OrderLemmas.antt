@@ -11,7 +11,7 @@ use Rattle.fvn_syntax.specs.Pieces.{Text}
 use Rattle.fvn_syntax.specs.Texts.{place}
 use Rattle.fvn_syntax.specs.Names.{sort_named, sort_at}
 use Rattle.fvn_syntax.proofs.TextLemmas.{place-below}
-use Rattle.fvn_module_statements.specs.declared.statement.Statement.{Statement}
+use Rattle.fvn_module_syntax.specs.declared.statement.Statement.{Statement}
 use Rattle.fvn_module_names.specs.Order.{with_all, with_sort, crossed, declared_among, pairs_between, pairs_of_groups, pairs_in}
 use Rattle.fvn_module_names.specs.inner.Classes.{AreAlike}
 use Rattle.fvn_module_names.specs.inner.Joining.{AreLinked, IsJoinedBy}

@@ -11,7 +11,7 @@ use Rattle.fvn_forms.proofs.SortTests.{same_sort-true, reaches-sound}
 use Rattle.fvn_signature.specs.Collected.{both_ways, turned, joins}
 use Rattle.fvn_signature.proofs.Parts.{same_tests}
 use Rattle.fvn_syntax.specs.Pieces.{Text}
-use Rattle.fvn_module_statements.specs.declared.statement.Statement.{Statement}
+use Rattle.fvn_module_syntax.specs.declared.statement.Statement.{Statement}
 use Rattle.fvn_module_names.specs.Order.{same_pair, with_all, pairs_in, with_pairs, ordered}
 use Rattle.fvn_module_names.specs.inner.Classes.{label, AreAlike}
 use Rattle.fvn_module_names.specs.inner.Joining.{AreLinked, AreSound, IsJoinedBy}

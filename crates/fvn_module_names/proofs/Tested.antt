@@ -3,7 +3,7 @@ use Rattle.std.proofs.Common.{◌≡◌, ℕ, ◌+◌, ◌<◌, false, List, [],
 use Rattle.std.proofs.lemmas.List.{append-nil, append_assoc, take-append-drop, drop_more, take_more, length-take-le}
 use Rattle.fvn_syntax.specs.Pieces.{Text}
 use Rattle.fvn_syntax.specs.declared.names.Variables.{Variables}
-use Rattle.fvn_module_statements.specs.declared.statement.Statement.{Statement}
+use Rattle.fvn_module_syntax.specs.declared.statement.Statement.{Statement}
 use Rattle.fvn_module_names.specs.declared.fault.NameFault.{NameFault}
 use Rattle.fvn_module_names.specs.declared.fault.NameFault.TheVariants.{UnknownName, Twice, NoMemory}
 use Rattle.fvn_module_names.specs.Names.{operators_in, constants_in, sorts_of, operators_of, with_texts, with_names}

@@ -7,7 +7,7 @@ use Rattle.std.proofs.lemmas.Slice.Eq.{bytes_eq-Decides}
 use Rattle.fvn_syntax.specs.Pieces.{Text}
 use Rattle.fvn_syntax.specs.Texts.{place, or_end, place_or_end, unless_at, with_text}
 use Rattle.fvn_syntax.proofs.TextLemmas.{place-below}
-use Rattle.fvn_module_statements.specs.declared.statement.Statement.{Statement}
+use Rattle.fvn_module_syntax.specs.declared.statement.Statement.{Statement}
 use Rattle.fvn_module_names.specs.Names.{with_texts, with_names}
 
 -- a text that is put in has a place among the others or comes next

@@ -11,8 +11,8 @@ use Rattle.fvn_syntax.specs.declared.names.Variables.{Variables}
 use Rattle.fvn_syntax.specs.declared.sorts.RawSort.{RawSort}
 use Rattle.fvn_syntax.specs.declared.sorts.RawSort.TheVariants.{Name, Kind}
 use Rattle.fvn_syntax.proofs.TextLemmas.{place-below}
-use Rattle.fvn_module_statements.specs.declared.statement.Statement.{Statement}
-use Rattle.fvn_module_statements.specs.declared.statement.Statement.TheVariants as statement
+use Rattle.fvn_module_syntax.specs.declared.statement.Statement.{Statement}
+use Rattle.fvn_module_syntax.specs.declared.statement.Statement.TheVariants as statement
 use Rattle.fvn_module_names.specs.Variables.{no_variables, unless_declared, with_variables, where_sorted, with_declared, with_all_declared, variables_of}
 use Rattle.fvn_module_names.specs.Ranges.{IsInRange}
 use Rattle.fvn_module_names.specs.Vocabulary.{Vocabulary}

@@ -7,7 +7,7 @@ ghost use Rattle.fvn_module_names.specs.inner.Testing.{no_past, with_past};
 use crate::names::{declares_constants, insert_all};
 use crate::variables::VariableTable;
 use crate::vocabulary::Vocabulary;
-use fvn_module_statements::Statement;
+use fvn_module_syntax::Statement;
 use fvn_syntax::{Text, Texts};
 use fvn_terms::NoMemory;
 use std::alloc::Global;

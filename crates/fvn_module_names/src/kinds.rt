@@ -6,7 +6,7 @@ ghost use Rattle.fvn_module_names.specs.Order.{kinds_of};
 ghost use Rattle.fvn_module_names.specs.inner.Numbering.{HasLabels, IsNumbered};
 
 use crate::order::join_statements;
-use fvn_module_statements::Statement;
+use fvn_module_syntax::Statement;
 use fvn_syntax::Texts;
 use fvn_terms::NoMemory;
 use std::alloc::Global;

@@ -13,7 +13,7 @@ ghost use Rattle.fvn_module_names.specs.Names.{
 };
 
 use fvn_base::Seq;
-use fvn_module_statements::{OperatorName, Statement};
+use fvn_module_syntax::{OperatorName, Statement};
 use fvn_syntax::{Piece, Row, Text, Texts};
 use fvn_terms::NoMemory;
 use std::alloc::Global;

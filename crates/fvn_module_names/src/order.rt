@@ -8,7 +8,7 @@ ghost use Rattle.fvn_module_names.specs.inner.Numbering.{HasLabels};
 
 use crate::classes::Classes;
 use fvn_base::Seq;
-use fvn_module_statements::Statement;
+use fvn_module_syntax::Statement;
 use fvn_syntax::{Text, Texts};
 use fvn_terms::NoMemory;
 use std::alloc::Global;

@@ -14,7 +14,7 @@ use crate::twice::declares_twice;
 use crate::unknown::names_unknown;
 use crate::variables::VariableTable;
 use crate::vocabulary::Vocabulary;
-use fvn_module_statements::Statement;
+use fvn_module_syntax::Statement;
 use fvn_syntax::Text;
 use std::alloc::Global;
 

@@ -18,7 +18,7 @@ use crate::names::declares_constants;
 use crate::unknown::is_missing;
 use crate::variables::VariableTable;
 use crate::vocabulary::Vocabulary;
-use fvn_module_statements::Statement;
+use fvn_module_syntax::Statement;
 use fvn_syntax::{Text, Texts, find_last_colon};
 
 // Whether a text ends with a colon and has a byte before it.

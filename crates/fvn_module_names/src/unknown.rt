@@ -1,7 +1,7 @@
 //! Whether a statement names something that is not declared.
 ghost use Rattle.std.specs.Prelude.{◌≡◌};
 ghost use Rattle.std.specs.List.{list_any};
-ghost use Rattle.fvn_module_statements.specs.LeftOut.{is_ditto};
+ghost use Rattle.fvn_module_syntax.specs.LeftOut.{is_ditto};
 ghost use Rattle.fvn_module_names.specs.Names.{operators_in};
 ghost use Rattle.fvn_module_names.specs.Faults.{
   is_missing,
@@ -15,7 +15,7 @@ ghost use Rattle.fvn_module_names.specs.Faults.{
 
 use crate::vocabulary::Vocabulary;
 use fvn_base::Seq;
-use fvn_module_statements::{Attribute, RawRank, Statement};
+use fvn_module_syntax::{Attribute, RawRank, Statement};
 use fvn_syntax::{RawSort, Text, Texts};
 
 /// Whether a name is not among these.

@@ -8,7 +8,7 @@ ghost use Rattle.fvn_module_names.specs.Ranges.{IsInRange};
 use crate::kinds::find_kinds;
 use crate::names::{collect_operators, collect_sorts};
 use fvn_base::Seq;
-use fvn_module_statements::Statement;
+use fvn_module_syntax::Statement;
 use fvn_syntax::{Names, RawSort, Text, Texts, Variables};
 use fvn_terms::NoMemory;
 use std::alloc::Global;

@@ -6,15 +6,15 @@ use Rattle.std.specs.Str.{bytes_eq}
 use Rattle.fvn_lex.specs.Cut.{Piece}
 use Rattle.fvn_syntax.specs.Pieces.{Text, word, left_paren, right_paren, left_bracket, right_bracket, is_word, is_special}
 use Rattle.fvn_syntax.proofs.PieceLemmas.{bytes_eq-is, and-left, and-right, word-is, special-is}
-use Rattle.fvn_module_statements.specs.declared.statement.Attribute.{Attribute}
-use Rattle.fvn_module_statements.specs.declared.statement.Attribute.TheVariants.{Assoc, Comm, Identity, Constructor, Ditto, Precedence, Gather, Format}
-use Rattle.fvn_module_statements.specs.declared.statement.Feature.{Feature}
-use Rattle.fvn_module_statements.specs.declared.statement.Reading.TheVariants.{Read}
-use Rattle.fvn_module_statements.specs.Spelling.{each, spell_word, words, in_parens, spell_attribute, bracketed}
-use Rattle.fvn_module_statements.specs.Written.{NotEmpty, IsAttribute, AreAttributes}
+use Rattle.fvn_module_syntax.specs.declared.statement.Attribute.{Attribute}
+use Rattle.fvn_module_syntax.specs.declared.statement.Attribute.TheVariants.{Assoc, Comm, Identity, Constructor, Ditto, Precedence, Gather, Format}
+use Rattle.fvn_module_syntax.specs.declared.statement.Feature.{Feature}
+use Rattle.fvn_module_statements.specs.declared.outcome.Reading.TheVariants.{Read}
+use Rattle.fvn_module_syntax.specs.Spelling.{each, spell_word, words, in_parens, spell_attribute, bracketed}
+use Rattle.fvn_module_syntax.specs.Written.{NotEmpty, IsAttribute, AreAttributes}
 use Rattle.fvn_module_statements.specs.inner.Gather.{gather}
 use Rattle.fvn_module_statements.specs.inner.Attributes.{word_of, words_before, words_in_parens, identity_of, made, attribute_named, attribute_of, is_close, is_some, attributes_before, attributes_of}
-use Rattle.fvn_module_statements.specs.LeftOut.{left_out_in}
+use Rattle.fvn_module_syntax.specs.LeftOut.{left_out_in}
 use Rattle.fvn_module_statements.proofs.GatherExact.{gather-sound, gather-spelled}
 use Rattle.fvn_module_statements.proofs.SortExact.{Any, all_any}
 

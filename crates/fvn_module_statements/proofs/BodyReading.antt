@@ -2,9 +2,9 @@
 use Rattle.std.proofs.Common.{ℕ, zero, suc, ◌≡◌, ◌+◌, ◌<◌, ◌≤◌, List, [], ◌∷◌, ◌++◌, length, drop, Some, None, Ok, Err, refl, ap, ◌∙◌, arith}
 use Rattle.std.proofs.lemmas.List.{drop_all}
 use Rattle.fvn_lex.specs.Cut.{Piece}
-use Rattle.fvn_module_statements.specs.declared.statement.Statement.{Statement}
-use Rattle.fvn_module_statements.specs.declared.statement.Feature.{Feature}
-use Rattle.fvn_module_statements.specs.declared.statement.Reading.TheVariants.{Read, LeftOut, NoForm}
+use Rattle.fvn_module_syntax.specs.declared.statement.Statement.{Statement}
+use Rattle.fvn_module_syntax.specs.declared.statement.Feature.{Feature}
+use Rattle.fvn_module_statements.specs.declared.outcome.Reading.TheVariants.{Read, LeftOut, NoForm}
 use Rattle.fvn_module_statements.specs.declared.form.FormFault.TheVariants as fault
 use Rattle.fvn_module_statements.specs.inner.Statements.{statement_of}
 use Rattle.fvn_module_statements.specs.inner.Forms.{split_dot, on_dot, statements_from}

@@ -11,15 +11,15 @@ use Rattle.fvn_syntax.specs.Raw.{RawTerm, name, call, round, kind_variable, spel
 use Rattle.fvn_syntax.specs.Behind.{behind_term}
 use Rattle.fvn_syntax.proofs.PieceLemmas.{bytes_eq-is, and-left, and-right, word-is, name-is, special-is}
 use Rattle.fvn_syntax.proofs.FormExact.{behind_term-sound, behind_term-complete}
-use Rattle.fvn_module_statements.specs.declared.statement.Mark.{Mark}
-use Rattle.fvn_module_statements.specs.declared.statement.Mark.TheVariants.{Variant, Label}
-use Rattle.fvn_module_statements.specs.declared.statement.Feature.{Feature}
-use Rattle.fvn_module_statements.specs.declared.statement.Statement.{Statement}
-use Rattle.fvn_module_statements.specs.declared.statement.Statement.TheVariants as statement
-use Rattle.fvn_module_statements.specs.declared.statement.Reading.{Reading}
-use Rattle.fvn_module_statements.specs.declared.statement.Reading.TheVariants.{Read, LeftOut, NoForm}
-use Rattle.fvn_module_statements.specs.Spelling.{each, spell_mark, bracketed, equals, spell_label, spell_equation, spell_statement}
-use Rattle.fvn_module_statements.specs.Written.{NotEmpty, IsSide, IsWritten}
+use Rattle.fvn_module_syntax.specs.declared.statement.Mark.{Mark}
+use Rattle.fvn_module_syntax.specs.declared.statement.Mark.TheVariants.{Variant, Label}
+use Rattle.fvn_module_syntax.specs.declared.statement.Feature.{Feature}
+use Rattle.fvn_module_syntax.specs.declared.statement.Statement.{Statement}
+use Rattle.fvn_module_syntax.specs.declared.statement.Statement.TheVariants as statement
+use Rattle.fvn_module_statements.specs.declared.outcome.Reading.{Reading}
+use Rattle.fvn_module_statements.specs.declared.outcome.Reading.TheVariants.{Read, LeftOut, NoForm}
+use Rattle.fvn_module_syntax.specs.Spelling.{each, spell_mark, bracketed, equals, spell_label, spell_equation, spell_statement}
+use Rattle.fvn_module_syntax.specs.Written.{NotEmpty, IsSide, IsWritten}
 use Rattle.fvn_module_statements.specs.inner.Gather.{map_reading, gather}
 use Rattle.fvn_module_statements.specs.inner.Attributes.{word_of, is_some, is_close}
 use Rattle.fvn_module_statements.specs.inner.Equations.{before, term_of, labelled, mark_named, mark_of, is_variant, left_out_at_mark, left_out_or_none, marks_before, marks_of, label_behind, label_of, behind_equals, equation_of}

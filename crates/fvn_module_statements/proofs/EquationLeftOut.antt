@@ -7,16 +7,16 @@ use Rattle.fvn_base.proofs.Membership.{contains_none}
 use Rattle.fvn_lex.specs.Cut.{Piece}
 use Rattle.fvn_syntax.specs.Pieces.{Text, word, left_bracket, right_bracket, is_word, is_name, is_special}
 use Rattle.fvn_syntax.proofs.PieceLemmas.{and-left, and-right, word-is, special-is, name-word}
-use Rattle.fvn_module_statements.specs.declared.statement.Mark.{Mark}
-use Rattle.fvn_module_statements.specs.declared.statement.Mark.TheVariants.{Variant}
-use Rattle.fvn_module_statements.specs.declared.statement.Feature.{Feature}
-use Rattle.fvn_module_statements.specs.declared.statement.Feature.TheVariants as feature
-use Rattle.fvn_module_statements.specs.declared.statement.Statement.TheVariants as statement
-use Rattle.fvn_module_statements.specs.declared.statement.Reading.{Reading}
-use Rattle.fvn_module_statements.specs.declared.statement.Reading.TheVariants.{Read, LeftOut, NoForm}
+use Rattle.fvn_module_syntax.specs.declared.statement.Mark.{Mark}
+use Rattle.fvn_module_syntax.specs.declared.statement.Mark.TheVariants.{Variant}
+use Rattle.fvn_module_syntax.specs.declared.statement.Feature.{Feature}
+use Rattle.fvn_module_syntax.specs.declared.statement.Feature.TheVariants as feature
+use Rattle.fvn_module_syntax.specs.declared.statement.Statement.TheVariants as statement
+use Rattle.fvn_module_statements.specs.declared.outcome.Reading.{Reading}
+use Rattle.fvn_module_statements.specs.declared.outcome.Reading.TheVariants.{Read, LeftOut, NoForm}
 use Rattle.fvn_module_statements.specs.declared.reading.Keyword.TheVariants.{Equation}
-use Rattle.fvn_module_statements.specs.Spelling.{each, spell_mark, bracketed, equals, spell_label}
-use Rattle.fvn_module_statements.specs.Written.{NotEmpty}
+use Rattle.fvn_module_syntax.specs.Spelling.{each, spell_mark, bracketed, equals, spell_label}
+use Rattle.fvn_module_syntax.specs.Written.{NotEmpty}
 use Rattle.fvn_module_statements.specs.Laws.{BeginsNone, mark_words, StandsBehind, IsLeftOutEquation, EquationsAreLeftOut}
 use Rattle.fvn_module_statements.specs.inner.Gather.{map_reading, gather}
 use Rattle.fvn_module_statements.specs.inner.Attributes.{is_some, is_close}

@@ -10,13 +10,13 @@ use Rattle.fvn_lex.specs.declared.token.Class.TheVariants.{Word, Special, Dot}
 use Rattle.fvn_lex.specs.Cut.{Piece}
 use Rattle.fvn_syntax.specs.Pieces.{Text, word, dot, is_dot_class, is_name}
 use Rattle.fvn_syntax.proofs.PieceLemmas.{and-left, and-right, bytes_eq-is, name-is}
-use Rattle.fvn_module_statements.specs.declared.statement.Statement.{Statement}
-use Rattle.fvn_module_statements.specs.declared.statement.Reading.{Reading}
-use Rattle.fvn_module_statements.specs.declared.statement.Reading.TheVariants.{Read, LeftOut, NoForm}
-use Rattle.fvn_module_statements.specs.declared.form.Form.{Form}
+use Rattle.fvn_module_syntax.specs.declared.statement.Statement.{Statement}
+use Rattle.fvn_module_statements.specs.declared.outcome.Reading.{Reading}
+use Rattle.fvn_module_statements.specs.declared.outcome.Reading.TheVariants.{Read, LeftOut, NoForm}
+use Rattle.fvn_module_syntax.specs.declared.form.Form.{Form}
 use Rattle.fvn_module_statements.specs.declared.form.FormFault.{FormFault}
 use Rattle.fvn_module_statements.specs.declared.form.FormFault.TheVariants as fault
-use Rattle.fvn_module_statements.specs.Spelling.{each, spell_statement}
+use Rattle.fvn_module_syntax.specs.Spelling.{each, spell_statement}
 use Rattle.fvn_module_statements.specs.Forms.{dotted, end, HasNo, IsFrame, IsStatement, IsFormOf, HasNoStatement, HasLeftOut, IsFirstFault, HasNoForm}
 use Rattle.fvn_module_statements.specs.inner.Attributes.{word_of}
 use Rattle.fvn_module_statements.specs.inner.Names.{is_empty}

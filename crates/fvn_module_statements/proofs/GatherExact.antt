@@ -3,7 +3,7 @@ use Rattle.std.proofs.Common.{◌≡◌, ◌≤◌, List, [], ◌∷◌, ◌++�
 use Rattle.std.specs.List.{AllByRecursion}
 use Rattle.std.proofs.lemmas.List.{append-nil}
 use Rattle.fvn_lex.specs.Cut.{Piece}
-use Rattle.fvn_module_statements.specs.Spelling.{each}
+use Rattle.fvn_module_syntax.specs.Spelling.{each}
 use Rattle.fvn_module_statements.specs.inner.Gather.{gather}
 
 module _ {A : Type 0} (item : List Piece → Option (A × List Piece)) (spell : A → List Piece) where

@@ -5,13 +5,13 @@ use Rattle.std.specs.List.{AllByRecursion}
 use Rattle.fvn_lex.specs.Cut.{Piece}
 use Rattle.fvn_syntax.specs.Pieces.{Text, word, left_bracket, is_word, is_special}
 use Rattle.fvn_syntax.proofs.PieceLemmas.{word-is}
-use Rattle.fvn_module_statements.specs.declared.statement.Attribute.{Attribute}
-use Rattle.fvn_module_statements.specs.declared.statement.Feature.{Feature}
-use Rattle.fvn_module_statements.specs.declared.statement.Statement.TheVariants as statement
-use Rattle.fvn_module_statements.specs.declared.statement.Reading.TheVariants.{LeftOut}
-use Rattle.fvn_module_statements.specs.Spelling.{each, spell_rank, spell_attribute}
-use Rattle.fvn_module_statements.specs.LeftOut.{left_out_in}
-use Rattle.fvn_module_statements.specs.Written.{IsAttribute}
+use Rattle.fvn_module_syntax.specs.declared.statement.Attribute.{Attribute}
+use Rattle.fvn_module_syntax.specs.declared.statement.Feature.{Feature}
+use Rattle.fvn_module_syntax.specs.declared.statement.Statement.TheVariants as statement
+use Rattle.fvn_module_statements.specs.declared.outcome.Reading.TheVariants.{LeftOut}
+use Rattle.fvn_module_syntax.specs.Spelling.{each, spell_rank, spell_attribute}
+use Rattle.fvn_module_syntax.specs.LeftOut.{left_out_in}
+use Rattle.fvn_module_syntax.specs.Written.{IsAttribute}
 use Rattle.fvn_module_statements.specs.Laws.{StatementsAreExact, FirstWordsAreLeftOut, NamesAreLeftOut, attribute_words, Closes, BeginsNone, BeginsIdentity, AttributesAreLeftOut}
 use Rattle.fvn_module_statements.specs.inner.Attributes.{identity_of, attribute_of, attributes_of}
 use Rattle.fvn_module_statements.specs.inner.Statements.{with_rank, statement_of}

@@ -6,12 +6,12 @@ use Rattle.std.proofs.lemmas.List.{append-nil}
 use Rattle.fvn_lex.specs.Cut.{Piece}
 use Rattle.fvn_syntax.specs.Pieces.{Text, word, is_word, is_name}
 use Rattle.fvn_syntax.proofs.PieceLemmas.{bytes_eq-refl, and-left, and-right, word-is, name-is}
-use Rattle.fvn_module_statements.specs.Spelling.{each, spell_word, words, spell_above, spell_groups}
-use Rattle.fvn_module_statements.specs.Written.{NotEmpty, IsSortName, IsMember, IsGroup}
+use Rattle.fvn_module_syntax.specs.Spelling.{each, spell_word, words, spell_above, spell_groups}
+use Rattle.fvn_module_syntax.specs.Written.{NotEmpty, IsSortName, IsMember, IsGroup}
 use Rattle.fvn_module_statements.specs.inner.Gather.{gather}
 use Rattle.fvn_module_statements.specs.inner.Attributes.{is_some}
 use Rattle.fvn_module_statements.specs.inner.Names.{sort_name_of, member_of, if_some, group_of, group_above, is_empty, sort_names_of, groups_of}
-use Rattle.fvn_module_statements.specs.Words.{has_colon}
+use Rattle.fvn_module_syntax.specs.Words.{has_colon}
 use Rattle.fvn_module_statements.proofs.Unequal.{bytes_eq-not}
 use Rattle.fvn_module_statements.proofs.GatherExact.{gather-sound, gather-spelled, gather-whole}
 use Rattle.fvn_module_statements.proofs.SortExact.{Any}

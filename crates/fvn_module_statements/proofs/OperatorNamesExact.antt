@@ -9,15 +9,15 @@ use Rattle.fvn_syntax.specs.declared.sorts.RawSort.{RawSort}
 use Rattle.fvn_syntax.specs.declared.sorts.RawSort.TheVariants.{Name, Kind}
 use Rattle.fvn_syntax.specs.Raw.{spell_sort}
 use Rattle.fvn_syntax.proofs.PieceLemmas.{bytes_eq-refl, and-left, and-right, word-is, name-is, special-is}
-use Rattle.fvn_module_statements.specs.declared.statement.OperatorName.{OperatorName}
-use Rattle.fvn_module_statements.specs.declared.statement.OperatorName.TheVariants.{Single, Round}
-use Rattle.fvn_module_statements.specs.Spelling.{spell_word, words, colon, spell_name}
-use Rattle.fvn_module_statements.specs.Written.{NotEmpty, NoColons, IsBalanced, IsName}
+use Rattle.fvn_module_syntax.specs.declared.statement.OperatorName.{OperatorName}
+use Rattle.fvn_module_syntax.specs.declared.statement.OperatorName.TheVariants.{Single, Round}
+use Rattle.fvn_module_syntax.specs.Spelling.{spell_word, words, colon, spell_name}
+use Rattle.fvn_module_syntax.specs.Written.{NotEmpty, NoColons, IsBalanced, IsName}
 use Rattle.fvn_module_statements.specs.inner.Gather.{bind, gather}
 use Rattle.fvn_module_statements.specs.inner.Sorts.{sort_of}
 use Rattle.fvn_module_statements.specs.inner.Attributes.{is_some}
 use Rattle.fvn_module_statements.specs.inner.Names.{is_empty, alone, whole_sort, declared_sort, is_none, variable_of, variables_of, split_colon, before_close, round_name, name_of}
-use Rattle.fvn_module_statements.specs.Words.{depth_behind}
+use Rattle.fvn_module_syntax.specs.Words.{depth_behind}
 use Rattle.fvn_module_statements.proofs.Unequal.{bytes_eq-not}
 use Rattle.fvn_module_statements.proofs.GatherExact.{gather-sound, gather-spelled}
 use Rattle.fvn_module_statements.proofs.SortExact.{Any, all_any, sort-sound, sort-complete}

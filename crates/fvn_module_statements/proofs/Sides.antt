@@ -4,8 +4,8 @@ use Rattle.std.proofs.lemmas.List.{append_cancel_right}
 use Rattle.fvn_lex.specs.Cut.{Piece}
 use Rattle.fvn_syntax.specs.Raw.{RawTerm, name, call, round, kind_variable, spell, EndsBefore, IsTermBefore}
 use Rattle.fvn_syntax.proofs.FormExact.{spelled-alone}
-use Rattle.fvn_module_statements.specs.Spelling.{equals}
-use Rattle.fvn_module_statements.specs.Written.{IsSide}
+use Rattle.fvn_module_syntax.specs.Spelling.{equals}
+use Rattle.fvn_module_syntax.specs.Written.{IsSide}
 
 -- a side is a term alone
 pub side-alone : (rest side : List Piece) → IsSide rest side → IsTermBefore [] side

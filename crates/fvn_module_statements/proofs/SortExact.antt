@@ -8,9 +8,9 @@ use Rattle.fvn_syntax.specs.declared.sorts.RawSort.{RawSort}
 use Rattle.fvn_syntax.specs.declared.sorts.RawSort.TheVariants.{Name, Kind}
 use Rattle.fvn_syntax.specs.Raw.{spell_sort, spell_others}
 use Rattle.fvn_syntax.proofs.PieceLemmas.{bytes_eq-refl, and-left, and-right, word-is, name-is, special-is}
-use Rattle.fvn_module_statements.specs.declared.statement.RawRank.{RawRank}
-use Rattle.fvn_module_statements.specs.Spelling.{each, arrow, spell_rank}
-use Rattle.fvn_module_statements.specs.Written.{IsArgument, IsRank}
+use Rattle.fvn_module_syntax.specs.declared.statement.RawRank.{RawRank}
+use Rattle.fvn_module_syntax.specs.Spelling.{each, arrow, spell_rank}
+use Rattle.fvn_module_syntax.specs.Written.{IsArgument, IsRank}
 use Rattle.fvn_module_statements.specs.inner.Gather.{gather}
 use Rattle.fvn_module_statements.specs.inner.Sorts.{after_comma, kind_before, bracket_sort, sort_of, arrow_of, argument_of, rank_before, rank_of}
 use Rattle.fvn_module_statements.proofs.Unequal.{bytes_eq-not}

@@ -8,25 +8,25 @@ use Rattle.fvn_syntax.specs.Pieces.{Text, word, is_word, is_name}
 use Rattle.fvn_syntax.specs.declared.sorts.RawSort.{RawSort}
 use Rattle.fvn_syntax.specs.Raw.{spell_sort}
 use Rattle.fvn_syntax.proofs.PieceLemmas.{word-is, name-is}
-use Rattle.fvn_module_statements.specs.declared.statement.RawRank.{RawRank}
-use Rattle.fvn_module_statements.specs.declared.statement.Attribute.{Attribute}
-use Rattle.fvn_module_statements.specs.declared.statement.OperatorName.{OperatorName}
-use Rattle.fvn_module_statements.specs.declared.statement.Statement.{Statement}
-use Rattle.fvn_module_statements.specs.declared.statement.Statement.TheVariants as statement
-use Rattle.fvn_module_statements.specs.declared.statement.Feature.{Feature}
-use Rattle.fvn_module_statements.specs.declared.statement.Reading.{Reading}
-use Rattle.fvn_module_statements.specs.declared.statement.Reading.TheVariants.{Read, LeftOut, NoForm}
+use Rattle.fvn_module_syntax.specs.declared.statement.RawRank.{RawRank}
+use Rattle.fvn_module_syntax.specs.declared.statement.Attribute.{Attribute}
+use Rattle.fvn_module_syntax.specs.declared.statement.OperatorName.{OperatorName}
+use Rattle.fvn_module_syntax.specs.declared.statement.Statement.{Statement}
+use Rattle.fvn_module_syntax.specs.declared.statement.Statement.TheVariants as statement
+use Rattle.fvn_module_syntax.specs.declared.statement.Feature.{Feature}
+use Rattle.fvn_module_statements.specs.declared.outcome.Reading.{Reading}
+use Rattle.fvn_module_statements.specs.declared.outcome.Reading.TheVariants.{Read, LeftOut, NoForm}
 use Rattle.fvn_module_statements.specs.declared.reading.Keyword.{Keyword}
 use Rattle.fvn_module_statements.specs.declared.reading.Keyword.TheVariants.{Sorts, Subsorts, Operator, Operators, Variables, Equation}
-use Rattle.fvn_module_statements.specs.Spelling.{each, equals, spell_label, spell_mark, words, colon, spell_rank, spell_attribute, bracketed, spell_name, spell_groups, sort_word, subsort_word, variable_word, spell_statement}
-use Rattle.fvn_module_statements.specs.Written.{NotEmpty, IsRank, AreAttributes, IsName, IsWritten}
+use Rattle.fvn_module_syntax.specs.Spelling.{each, equals, spell_label, spell_mark, words, colon, spell_rank, spell_attribute, bracketed, spell_name, spell_groups, sort_word, subsort_word, variable_word, spell_statement}
+use Rattle.fvn_module_syntax.specs.Written.{NotEmpty, IsRank, AreAttributes, IsName, IsWritten}
 use Rattle.fvn_module_statements.specs.inner.Gather.{gather}
 use Rattle.fvn_module_statements.specs.inner.Sorts.{rank_of}
 use Rattle.fvn_module_statements.specs.inner.Attributes.{is_some, attributes_of}
 use Rattle.fvn_module_statements.specs.inner.Names.{is_empty, sort_names_of, groups_of, variables_of, split_colon, name_of}
-use Rattle.fvn_module_statements.specs.Words.{touch, names_touch}
+use Rattle.fvn_module_syntax.specs.Words.{touch, names_touch}
 use Rattle.fvn_module_statements.specs.inner.Statements.{with_rank, operator_of, operators_behind, operators_of, keyword_of, statement_behind, statement_of}
-use Rattle.fvn_module_statements.specs.LeftOut.{feature_of}
+use Rattle.fvn_module_syntax.specs.LeftOut.{feature_of}
 use Rattle.fvn_module_statements.proofs.GatherExact.{gather-sound, gather-spelled}
 use Rattle.fvn_module_statements.proofs.SortExact.{Any, rank-sound, rank-complete}
 use Rattle.fvn_module_statements.proofs.AttributeExact.{by_text, some-is, attributes-sound, attributes-complete}

@@ -3,14 +3,14 @@ use Rattle.std.specs.Prelude.{ℕ, ◌≡◌, ◌+◌, ◌⊎◌, Bool, false, L
 use Rattle.std.specs.List.{AllByRecursion}
 use Rattle.fvn_lex.specs.Cut.{Piece}
 use Rattle.fvn_syntax.specs.Pieces.{Text, word, dot, is_name}
-use Rattle.fvn_module_statements.specs.declared.statement.Feature.{Feature}
-use Rattle.fvn_module_statements.specs.declared.statement.Statement.{Statement}
-use Rattle.fvn_module_statements.specs.declared.statement.Reading.TheVariants.{LeftOut, NoForm}
-use Rattle.fvn_module_statements.specs.declared.form.Form.{Form}
+use Rattle.fvn_module_syntax.specs.declared.statement.Feature.{Feature}
+use Rattle.fvn_module_syntax.specs.declared.statement.Statement.{Statement}
+use Rattle.fvn_module_statements.specs.declared.outcome.Reading.TheVariants.{LeftOut, NoForm}
+use Rattle.fvn_module_syntax.specs.declared.form.Form.{Form}
 use Rattle.fvn_module_statements.specs.declared.form.FormFault.{FormFault}
 use Rattle.fvn_module_statements.specs.declared.form.FormFault.TheVariants as fault
-use Rattle.fvn_module_statements.specs.Spelling.{each, spell_statement}
-use Rattle.fvn_module_statements.specs.Written.{NotEmpty, IsWritten}
+use Rattle.fvn_module_syntax.specs.Spelling.{each, spell_statement}
+use Rattle.fvn_module_syntax.specs.Written.{NotEmpty, IsWritten}
 use Rattle.fvn_module_statements.specs.inner.Statements.{statement_of}
 use Rattle.fvn_module_statements.specs.inner.Forms.{is_stop}
 

@@ -3,18 +3,18 @@ use Rattle.std.specs.Prelude.{◌≡◌, ◌≢◌, ◌↔◌, ◌⊎◌, ◌||�
 use Rattle.std.specs.List.{AllByRecursion, Contains}
 use Rattle.fvn_lex.specs.Cut.{Piece}
 use Rattle.fvn_syntax.specs.Pieces.{Text, word, left_bracket, right_bracket, is_word, is_special}
-use Rattle.fvn_module_statements.specs.declared.statement.RawRank.{RawRank}
-use Rattle.fvn_module_statements.specs.declared.statement.Attribute.{Attribute}
-use Rattle.fvn_module_statements.specs.declared.statement.Mark.{Mark}
-use Rattle.fvn_module_statements.specs.declared.statement.Mark.TheVariants.{Variant}
-use Rattle.fvn_module_statements.specs.declared.statement.Feature.{Feature}
-use Rattle.fvn_module_statements.specs.declared.statement.Feature.TheVariants as feature
-use Rattle.fvn_module_statements.specs.declared.statement.Statement.{Statement}
-use Rattle.fvn_module_statements.specs.declared.statement.Reading.TheVariants.{Read, LeftOut}
-use Rattle.fvn_module_statements.specs.Spelling.{each, colon, equals, spell_rank, spell_attribute, spell_mark, bracketed, spell_equation, spell_statement}
-use Rattle.fvn_module_statements.specs.Words.{touch}
-use Rattle.fvn_module_statements.specs.LeftOut.{feature_of, left_out_in}
-use Rattle.fvn_module_statements.specs.Written.{NotEmpty, NoColons, IsRank, IsAttribute, IsSide, IsWritten}
+use Rattle.fvn_module_syntax.specs.declared.statement.RawRank.{RawRank}
+use Rattle.fvn_module_syntax.specs.declared.statement.Attribute.{Attribute}
+use Rattle.fvn_module_syntax.specs.declared.statement.Mark.{Mark}
+use Rattle.fvn_module_syntax.specs.declared.statement.Mark.TheVariants.{Variant}
+use Rattle.fvn_module_syntax.specs.declared.statement.Feature.{Feature}
+use Rattle.fvn_module_syntax.specs.declared.statement.Feature.TheVariants as feature
+use Rattle.fvn_module_syntax.specs.declared.statement.Statement.{Statement}
+use Rattle.fvn_module_statements.specs.declared.outcome.Reading.TheVariants.{Read, LeftOut}
+use Rattle.fvn_module_syntax.specs.Spelling.{each, colon, equals, spell_rank, spell_attribute, spell_mark, bracketed, spell_equation, spell_statement}
+use Rattle.fvn_module_syntax.specs.Words.{touch}
+use Rattle.fvn_module_syntax.specs.LeftOut.{feature_of, left_out_in}
+use Rattle.fvn_module_syntax.specs.Written.{NotEmpty, NoColons, IsRank, IsAttribute, IsSide, IsWritten}
 use Rattle.fvn_module_statements.specs.inner.Statements.{statement_of}
 
 -- Pieces are read as a statement exactly where they are its spelling and it can be written.

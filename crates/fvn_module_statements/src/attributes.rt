@@ -3,12 +3,13 @@ ghost use Rattle.std.specs.Prelude.{◌≡◌, ◌||◌, IfOk, codes};
 ghost use Rattle.std.specs.List.{list_any};
 ghost use Rattle.fvn_syntax.specs.Pieces.{is_word, is_special};
 ghost use Rattle.fvn_module_statements.specs.inner.Attributes.{word_of as the_word, made, words_before, words_in_parens, identity_of, attribute_named, attribute_of, is_close, attributes_of};
-ghost use Rattle.fvn_module_statements.specs.LeftOut.{is_assoc, is_comm, is_ditto, stands, left_out, first_left_out, begins_identity, left_out_at_word, left_out_at, left_out_in};
+ghost use Rattle.fvn_module_syntax.specs.LeftOut.{is_assoc, is_comm, is_ditto, stands, left_out, first_left_out, begins_identity, left_out_at_word, left_out_at, left_out_in};
 
+use crate::outcome::Reading;
 use crate::reader::{Reader, read_all};
-use crate::statement::{Attribute, Feature, Reading};
 use crate::words::is_text;
 use fvn_base::Seq;
+use fvn_module_syntax::{Attribute, Feature};
 use fvn_syntax::{Piece, Row, Text};
 use fvn_terms::NoMemory;
 use std::alloc::Global;

@@ -15,10 +15,11 @@ ghost use Rattle.fvn_module_statements.specs.inner.Equations.{
 };
 
 use crate::attributes::{is_close, read_word};
+use crate::outcome::Reading;
 use crate::reader::{Reader, read_all};
-use crate::statement::{Feature, Mark, Reading, Statement};
 use crate::words::is_text;
 use fvn_base::Seq;
+use fvn_module_syntax::{Feature, Mark, Statement};
 use fvn_syntax::{Piece, Row, Text, skip_term};
 use fvn_terms::NoMemory;
 use std::alloc::Global;

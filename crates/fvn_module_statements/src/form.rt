@@ -1,26 +1,20 @@
 //! Cutting a module into statements, and reading them.
 ghost use Rattle.std.specs.Prelude.{◌≡◌, ◌⊎◌, Ok, Err, IfOk, IfErr};
 ghost use Rattle.fvn_module_statements.specs.declared.form.FormFault.TheVariants.{NoMemory as OutOfMemory};
-ghost use Rattle.fvn_module_statements.specs.declared.form.Form.{Form};
+ghost use Rattle.fvn_module_syntax.specs.declared.form.Form.{Form};
 ghost use Rattle.fvn_module_statements.specs.Forms.{IsFormOf, HasNoForm, IsFirstFault};
 ghost use Rattle.fvn_module_statements.specs.inner.Forms.{behind, before_end, frame_of, is_stop, split_dot, body_of, form_of};
 
 use crate::attributes::read_word;
+use crate::outcome::Reading;
 use crate::reading::read_statement;
-use crate::statement::{Feature, Reading, Statement};
 use crate::words::is_text;
 use fvn_base::Seq;
+use fvn_module_syntax::{Feature, Form, Statement};
 use fvn_syntax::{Piece, Row, Text};
 use fvn_terms::NoMemory;
 use std::alloc::{AllocFailed, Global};
 use thiserror::Error;
-
-/// A module as it is written.
-#[derive(Drop)]
-pub struct Form<'a> {
-    pub name: Text<'a>,
-    pub statements: Seq<Statement<'a>>,
-}
 
 /// Why tokens are no module, told of the first statement that is refused.
 ///

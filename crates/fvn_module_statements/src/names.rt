@@ -2,12 +2,12 @@
 ghost use Rattle.std.specs.Prelude.{◌≡◌, ◌<◌, ◌^◌, IfOk, Some, None, MatchOption};
 ghost use Rattle.std.specs.List.{list_all};
 ghost use Rattle.fvn_module_statements.specs.inner.Names.{group_of, sort_names_of, groups_of, whole_sort, declared_sort, variables_of, split_colon, before_close, round_name};
-ghost use Rattle.fvn_module_statements.specs.Words.{has_colon, begins_with_underscore, ends_with_underscore, are_apart, touch, depth_behind, names_touch};
+ghost use Rattle.fvn_module_syntax.specs.Words.{has_colon, begins_with_underscore, ends_with_underscore, are_apart, touch, depth_behind, names_touch};
 
 use crate::reader::{Reader, read_all};
 use crate::sorts::read_sort;
-use crate::statement::OperatorName;
 use fvn_base::Seq;
+use fvn_module_syntax::OperatorName;
 use fvn_syntax::{Piece, RawSort, Row, Text};
 use fvn_terms::NoMemory;
 use std::alloc::Global;

@@ -2,18 +2,19 @@
 ghost use Rattle.std.specs.Prelude.{◌≡◌, IfOk};
 ghost use Rattle.fvn_module_statements.specs.inner.Names.{sort_names_of, groups_of, variables_of};
 ghost use Rattle.fvn_module_statements.specs.inner.Statements.{sorts_read, groups_read, variables_read, operator_with, operators_with, operator_of, operators_of, operators_at, keyword_of, statement_of, statement_behind};
-ghost use Rattle.fvn_module_statements.specs.LeftOut.{feature_of};
+ghost use Rattle.fvn_module_syntax.specs.LeftOut.{feature_of};
 
 use crate::attributes::read_attributes;
 use crate::equations::read_equation;
 use crate::names::{
     AnyName, all_touch, read_groups, read_sort_names, read_variables, split_colon, touch,
 };
+use crate::outcome::Reading;
 use crate::reader::read_all;
 use crate::sorts::read_rank;
-use crate::statement::{Feature, OperatorName, Reading, Statement};
 use crate::words::is_text;
 use fvn_base::Seq;
+use fvn_module_syntax::{Feature, OperatorName, Statement};
 use fvn_syntax::{Piece, Row};
 use fvn_terms::NoMemory;
 use std::alloc::Global;

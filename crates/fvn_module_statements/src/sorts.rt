@@ -4,8 +4,8 @@ ghost use Rattle.fvn_module_statements.specs.inner.Sorts.{kind_before, bracket_s
 
 use crate::attributes::read_word;
 use crate::reader::{Reader, read_all};
-use crate::statement::RawRank;
 use fvn_base::Seq;
+use fvn_module_syntax::RawRank;
 use fvn_syntax::{Piece, RawSort, Row, Text};
 use fvn_terms::NoMemory;
 use std::alloc::Global;

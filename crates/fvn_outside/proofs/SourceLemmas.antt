@@ -9,7 +9,7 @@ use Rattle.fvn_outside.specs.Source.{Takes, TakesCount, TakesAtMost}
 pub record IsReadTo (before after : Option (List ℕ)) (bytes : List ℕ) (limit : ℕ) (faults_before faults_after : ℕ) : Type 0 where
   pub within : length bytes ≤ limit
   pub taken : Takes before after bytes
-  pub never_falls : faults_before ≤ faults_after
+  pub uncounted : faults_after ≡ faults_before
 
 pub Takes-append : (a b c : Option (List ℕ)) (xs ys : List ℕ) → Takes a b xs → Takes b c ys → Takes a c (xs ++ ys)
 Takes-append a b None xs ys h k = h ∙ ap (option_map (λ rest. xs ++ rest)) k

@@ -22,9 +22,10 @@ pub trait Source {
         ensures ok { IfOk result (λ n. Takes (left self.old) (left self.new) (take n buffer.new)) }
         ensures end { IfOk result (λ n. n ≡ 0 → 0 < length buffer.new → IsAtEnd (left self.old)) }
 
-        // A failing read takes nothing, and is counted.
+        // A failing read takes nothing, and is counted; no other read is.
         ensures untaken { OnErr result (left self.new ≡ left self.old) }
         ensures fault { OnErr result (Rose (faults self.old) (faults self.new)) }
+        ensures uncounted { OnOk result (faults self.new ≡ faults self.old) }
         ensures never_falls { faults self.old ≤ faults self.new };
 }
 
@@ -52,6 +53,8 @@ pub fn read_all<S: Source>(alloc: Global, source: &mut S, limit: usize) -> Resul
 
     ensures fault { IsErrOf result ReadAll.Fault →
         Rose (S.faults source.old) (S.faults source.new) }
+    ensures uncounted { ¬ IsErrOf result ReadAll.Fault →
+        S.faults source.new ≡ S.faults source.old }
     ensures no_fault { NeverFails S.faults → ¬ IsErrOf result ReadAll.Fault }
     ensures never_falls { S.faults source.old ≤ S.faults source.new }
 

@@ -29,7 +29,7 @@ use Rattle.fvn_problems.specs.inner.Bound.{AreBound, TellsOnce, Binds, BindsNoth
 use Rattle.fvn_problems.proofs.Answering.{on-ok, on-err, first-written, refuted, IsOfText, fault_of-text}
 use Rattle.fvn_problems.proofs.Binding.{bindings-same, bindings-faultless}
 use Rattle.fvn_problems.proofs.Named.{grown-ok}
-use Rattle.fvn_problems.proofs.Occurring.{same_var_is}
+use Rattle.fvn_terms.proofs.Variables.{same_var_is}
 use Rattle.fvn_problems.proofs.ProblemTexts.{all-at, are-terms}
 use Rattle.fvn_problems.proofs.Spelled.{bindings-once, pairs-written}
 

@@ -17,7 +17,8 @@ use Rattle.fvn_syntax.specs.declared.fault.TermFault.{TermFault}
 use Rattle.fvn_syntax.specs.declared.fault.TermFault.TheVariants.{UnknownName, ReservedName}
 use Rattle.fvn_syntax.specs.declared.naming.Meaning.{Meaning}
 use Rattle.fvn_syntax.specs.declared.naming.Meaning.TheVariants.{Constant, Variable}
-use Rattle.fvn_syntax.specs.Names.{resolve_name, op_named, bracket, is_sum, result_of}
+use Rattle.fvn_terms.specs.Equality.{is_sum}
+use Rattle.fvn_syntax.specs.Names.{resolve_name, op_named, bracket, result_of}
 use Rattle.fvn_syntax.specs.Pieces.{Text, without_last, is_reserved}
 use Rattle.fvn_syntax.specs.Raw.{RawTerm, RawTerms, name, call, round, kind_variable, last, and}
 use Rattle.fvn_syntax.specs.Resolve.{Resolved, AllResolved, bind, or_fault, nested, applied, unless, application_fault, apply, the_constant, the_variable, resolve_meaning, resolve_kind, resolve, resolve_all}

@@ -1,8 +1,7 @@
 -- The variables that are listed are those that occur, each once.
 use Rattle.std.proofs.Common.{◌≡◌, ◌≢◌, ◌⊎◌, inl, inr, Bool, true, false, List, [], ◌∷◌, ◌++◌, refl, sym, ap, ◌∙◌, subst, arith}
-use Rattle.std.specs.Prelude.{◌&&◌, ◌||◌, ◌↔◌, nat_eq, if◌then◌else◌, Contains, AllPairs}
+use Rattle.std.specs.Prelude.{◌||◌, ◌↔◌, if◌then◌else◌, Contains, AllPairs}
 use Rattle.std.specs.List.{list_any}
-use Rattle.std.proofs.lemmas.Bool.{eqb-true, eq-eqb}
 use Rattle.std.proofs.lemmas.List.{get_or_default}
 use Rattle.std.proofs.lemmas.List.Elements.{Contains-push, Contains-append_left, Contains-push_cases}
 use Rattle.std.proofs.lemmas.List.Quantifiers.{all_pairs_push}
@@ -11,36 +10,9 @@ use Rattle.fvn_terms.specs.declared.plain.Var.{Var}
 use Rattle.fvn_terms.specs.declared.plain.Plain.{Plain}
 use Rattle.fvn_terms.specs.Term.{Term, Terms, var, app, none, more}
 use Rattle.fvn_terms.specs.Plain.{term}
-use Rattle.fvn_terms.specs.Substitution.{Occurs, OccursAmong, same_truth, same_var}
+use Rattle.fvn_terms.specs.Substitution.{Occurs, OccursAmong, same_var}
+use Rattle.fvn_terms.proofs.Variables.{same_var_is, same_var_itself}
 use Rattle.fvn_problems.specs.Variables.{with_variable, with_variables, with_all, with_sides, OccursInSides}
-
-both : (a b : Bool) → (a && b) ≡ true → (a ≡ true) × (b ≡ true)
-both true true e = (refl, refl)
-both true false e = cc
-both false true e = cc
-both false false e = cc
-
-truths : (a b : Bool) → same_truth a b ≡ true → a ≡ b
-truths true true e = refl
-truths true false e = cc
-truths false true e = cc
-truths false false e = refl
-
-truth_itself : (a : Bool) → same_truth a a ≡ true
-truth_itself true = refl
-truth_itself false = refl
-
-pub same_var_is : (x y : Var) → same_var x y ≡ true → x ≡ y
-same_var_is x y e =
-    let p = both (nat_eq x.name y.name && nat_eq x.sort.0 y.sort.0) (same_truth x.fresh y.fresh) e in
-    let q = both (nat_eq x.name y.name) (nat_eq x.sort.0 y.sort.0) p.0 in
-    let n = eqb-true x.name y.name q.0 in
-    let s = eqb-true x.sort.0 y.sort.0 q.1 in
-    let f = truths x.fresh y.fresh p.1 in
-    λ i. record { name = n i; sort = record { 0 = s i }; fresh = f i }
-
-pub same_var_itself : (x : Var) → same_var x x ≡ true
-same_var_itself x = rw (eq-eqb x.name x.name refl, eq-eqb x.sort.0 x.sort.0 refl, truth_itself x.fresh) refl
 
 any_contains : (x : Var) (xs : List Var) → list_any (same_var x) xs ≡ true → Contains xs x
 any_contains x [] e = cc

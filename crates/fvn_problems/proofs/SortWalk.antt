@@ -16,7 +16,8 @@ use Rattle.fvn_syntax.specs.declared.fault.TermFault.{TermFault}
 use Rattle.fvn_syntax.specs.declared.fault.TermFault.TheVariants.{UnknownName, ReservedName}
 use Rattle.fvn_syntax.specs.declared.names.Names.{Names}
 use Rattle.fvn_syntax.specs.Laws.{IsFitting, TermsAreWellKinded}
-use Rattle.fvn_syntax.specs.Names.{constant_or, constant_named, variable_of, variable_named, op_named, sort_named, same_sort, kind_in, kind_of, if_of_kind, kind_of_all, bracket, is_sum, result_of}
+use Rattle.fvn_terms.specs.Equality.{is_sum}
+use Rattle.fvn_syntax.specs.Names.{constant_or, constant_named, variable_of, variable_named, op_named, sort_named, same_sort, kind_in, kind_of, if_of_kind, kind_of_all, bracket, result_of}
 use Rattle.fvn_syntax.specs.Pieces.{Text, word, left_paren, right_paren, left_bracket, right_bracket, comma, is_special, is_colon_name, without_last, is_reserved}
 use Rattle.fvn_syntax.specs.Raw.{RawTerm, RawTerms, name, call, round, kind_variable, last, and, spell, spell_all, spell_others, IsWritten, AreWritten, EndsBefore}
 use Rattle.fvn_syntax.specs.Resolve.{Resolved, AllResolved, bind, or_fault, unless, application_fault, applied, apply, the_variable, resolve_meaning, resolve_kind, resolve, resolve_all}

@@ -7,12 +7,11 @@ use Rattle.fvn_terms.specs.declared.plain.OpId.{OpId}
 use Rattle.fvn_terms.specs.declared.plain.SortId.{SortId}
 use Rattle.fvn_terms.specs.declared.plain.Plain.{Plain}
 use Rattle.fvn_terms.specs.declared.declarations.Axioms.{Axioms}
-use Rattle.fvn_terms.specs.declared.declarations.Axioms.TheVariants.{Free, Comm, AssocComm, AssocCommId}
 use Rattle.fvn_terms.specs.declared.declarations.Declarations.{Declarations}
 use Rattle.fvn_terms.specs.Term.{Term, app, none, more}
 use Rattle.fvn_terms.specs.Plain.{term, terms}
 use Rattle.fvn_terms.specs.Signature.{axioms, IsTerm}
-use Rattle.fvn_terms.specs.Equality.{two, IsAssociative, identity}
+use Rattle.fvn_terms.specs.Equality.{two, IsAssociative, identity, is_sum}
 use Rattle.fvn_forms.specs.Flat.{fvar}
 use Rattle.fvn_forms.specs.Canon.{as_constant, eval_all, canon}
 use Rattle.fvn_forms.specs.Ranks.{result}
@@ -21,7 +20,7 @@ use Rattle.fvn_forms.specs.LeastSort.{least_sort}
 use Rattle.fvn_forms.proofs.Build.{build_unjoined_some}
 use Rattle.fvn_forms.proofs.KindsKept.{both_of_kind}
 use Rattle.fvn_forms.proofs.LeastSortOf.{IsIdentityOf, canon_left_identity, canon_right_identity, least_sort_of_app, canon_joined}
-use Rattle.fvn_syntax.specs.Names.{is_sum}
+use Rattle.fvn_terms.proofs.AxiomWords.{sums_associate, associative_sums, identity_associates}
 use Rattle.fvn_syntax.specs.Resolve.{nested, applied}
 use Rattle.fvn_problems.specs.declared.sorting.Sorted.{Sorted}
 use Rattle.fvn_problems.specs.inner.Sorting.{sorted_of, of_sort, same_constant, sum_of_two, sum_of, sum_of_all, over}
@@ -31,22 +30,10 @@ each P h [] = tt
 each P h (a ∷ l) = (h a, each P h l)
 
 no_identity : (a : Axioms) (e : OpId) → (IsAssociative a → ⊥) → identity a ≡ Some e → ⊥
-no_identity Free e n h = (let q : None ≡ Some e = h in cc)
-no_identity Comm e n h = (let q : None ≡ Some e = h in cc)
-no_identity AssocComm e n h = n tt
-no_identity (AssocCommId g) e n h = n tt
-
-sum_associates : (a : Axioms) → is_sum a ≡ true → IsAssociative a
-sum_associates Free h = cc
-sum_associates Comm h = cc
-sum_associates AssocComm h = tt
-sum_associates (AssocCommId e) h = tt
+no_identity a e n h = n (identity_associates a e h)
 
 other_associates_not : (a : Axioms) → is_sum a ≡ false → IsAssociative a → ⊥
-other_associates_not Free h a = a
-other_associates_not Comm h a = a
-other_associates_not AssocComm h a = (let q : true ≡ false = h in cc)
-other_associates_not (AssocCommId e) h a = (let q : true ≡ false = h in cc)
+other_associates_not a h associates = (let q : true ≡ false = sym (associative_sums a associates) ∙ h in cc)
 
 same_op_is : (e g : OpId) → nat_eq e.0 g.0 ≡ true → e ≡ g
 same_op_is e g h = ap (λ n. record { 0 = n }) (eqb-true e.0 g.0 h)
@@ -124,5 +111,5 @@ module _ (d : Declarations) (good : IsGood d) (f : OpId) where
     go : (b : Bool) → is_sum (axioms d f) ≡ b → IsTerm d (term (applied b f (t ∷ ts))) →
         (if b then sum_of_all d f (map (λ (u : Plain). sorted_of d (term u)) (t ∷ ts)) else of_sort (result d f (map (λ a. a.sort) (map (λ (u : Plain). sorted_of d (term u)) (t ∷ ts)))))
         ≡ sorted_of d (term (applied b f (t ∷ ts)))
-    go true e k = sum_sorted t ts (sum_associates (axioms d f) e) k
+    go true e k = sum_sorted t ts (sums_associate (axioms d f) e) k
     go false e k = plain_sorted t ts (other_associates_not (axioms d f) e) k

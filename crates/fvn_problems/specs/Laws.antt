@@ -2,6 +2,8 @@
 use Rattle.std.specs.Prelude.{◌≡◌, ◌≢◌, List, ◌++◌, All, AllPairs, Ok}
 use Rattle.std.specs.List.{AllByRecursion}
 use Rattle.fvn_terms.specs.declared.declarations.Declarations.{Declarations}
+use Rattle.fvn_terms.specs.Plain.{term}
+use Rattle.fvn_terms.specs.Signature.{IsTerm}
 use Rattle.fvn_syntax.specs.declared.names.Names.{Names}
 use Rattle.fvn_syntax.specs.Pieces.{Text}
 use Rattle.fvn_syntax.specs.Raw.{RawTerm, IsWritten}
@@ -11,11 +13,12 @@ use Rattle.fvn_problems.specs.declared.fault.ProblemFault.{ProblemFault}
 use Rattle.fvn_problems.specs.declared.problem.Problem.{Problem}
 use Rattle.fvn_problems.specs.declared.query.Query.{Query}
 use Rattle.fvn_problems.specs.Faults.{AreOneFault}
-use Rattle.fvn_problems.specs.Queries.{IsQuery, RefusesQuery, HasNoQuery}
-use Rattle.fvn_problems.specs.Problems.{IsProblem, RefusesProblem, HasNoProblem}
+use Rattle.fvn_problems.specs.Queries.{IsQuery, RefusesQuery, HasNoQuery, HasVariables as HasQueryVariables}
+use Rattle.fvn_problems.specs.Problems.{AreOfOneKind, IsProblem, RefusesProblem, HasNoProblem, HasVariables}
 use Rattle.fvn_problems.specs.declared.bindings.Bindings.{Bindings}
 use Rattle.fvn_problems.specs.Bindings.{IsBindings, RefusesBindings, HasNoBindings}
 use Rattle.fvn_problems.specs.VariableTexts.{IsVariableText}
+use Rattle.fvn_problems.specs.Scopes.{AreNamesOf}
 use Rattle.fvn_problems.specs.Spelling.{RawQuery, RawProblem, RawPair, spell_query, spell_problem, spell_bindings, pairs_in, IsWrittenPair, IsWrittenBinding}
 
 -- Two term texts that are spelled alike are one.
@@ -75,6 +78,18 @@ abbrev pub ProblemNamesDiffer : Type 0
 ProblemNamesDiffer =
     (d : Declarations) (names : Names) (bytes : Text) (p : Problem) →
     IsProblem d names bytes p → AllPairs (λ x y. x ≢ y) p.names.texts
+
+-- The term of a term text is well-kinded, and the variables are those in it, each once.
+abbrev pub QueriesAreKinded : Type 0
+QueriesAreKinded =
+    (d : Declarations) (names : Names) → AreNamesOf d names → (bytes : Text) (q : Query) →
+    IsQuery d names bytes q → IsTerm d (term q.term) × HasQueryVariables d q
+
+-- The sides of each pair of a problem are well-kinded and of one kind, and the variables are those in them, each once.
+abbrev pub ProblemsAreKinded : Type 0
+ProblemsAreKinded =
+    (d : Declarations) (names : Names) → AreNamesOf d names → (bytes : Text) (p : Problem) →
+    IsProblem d names bytes p → All (AreOfOneKind d) p.pairs × HasVariables d p
 
 -- A text asks one term at most.
 abbrev pub QueriesAreDetermined : Type 0

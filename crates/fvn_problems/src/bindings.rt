@@ -24,7 +24,7 @@ use crate::written::{are_once, find_written};
 use fvn_base::Seq;
 use fvn_base::limits::TERM_SYMBOLS;
 use fvn_signature::Signature;
-use fvn_syntax::{Names, Scope, Seen, Texts, read_term, terms_are_well_kinded};
+use fvn_syntax::{Names, Scope, Seen, Texts, resolve_term, terms_are_well_kinded};
 use fvn_terms::{NoMemory, Plain, PlainSubst, Var};
 use std::alloc::Global;
 
@@ -35,9 +35,14 @@ const SYMBOLS: usize = TERM_SYMBOLS as usize;
 ///
 /// In the terms, the names of the problem have the numbers that they have there; greater numbers stand for other
 /// names.
-#[derive(Drop)]
 pub struct Bindings {
     pub subst: PlainSubst,
+}
+
+impl Drop for Bindings {
+    fn drop(self) {
+        let Bindings { subst: _ } = self;
+    }
 }
 
 // The same texts, in memory of their own.
@@ -73,7 +78,7 @@ fn read_binding(
     };
     let scope = Scope::new(signature.declarations(), names, false);
     let seen = Seen { texts, count: 0 };
-    match read_term(alloc, SYMBOLS, &scope, seen, halves.right.pieces()) {
+    match resolve_term(alloc, SYMBOLS, &scope, seen, halves.right.pieces()) {
         Err(fault) => Err(term_fault(fault)),
         Ok((read, seen)) => {
             if read.kind.0 != signature.kind(x.sort).0 {

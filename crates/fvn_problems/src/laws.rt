@@ -10,6 +10,8 @@ ghost use Rattle.fvn_problems.specs.Laws.{
   QueryNamesAreWords,
   ProblemNamesAreWords,
   ProblemNamesDiffer,
+  QueriesAreKinded,
+  ProblemsAreKinded,
   QueriesAreDetermined,
   ProblemsAreDetermined,
   BindingsAreDetermined,
@@ -19,6 +21,7 @@ ghost use Rattle.fvn_problems.specs.Laws.{
 };
 
 use fvn_lex::{pieces_by_form, pieces_stand_alone};
+use fvn_syntax::terms_are_well_kinded;
 
 /// Two term texts that are spelled alike are one.
 pub fn queries_are_spelled_once()
@@ -75,6 +78,20 @@ pub fn problem_names_are_words()
 pub fn problem_names_differ()
     ensures { ProblemNamesDiffer }
 {}
+
+/// The term of a term text is well-kinded, and the variables are those in it, each once.
+pub fn queries_are_kinded()
+    ensures { QueriesAreKinded }
+{
+    terms_are_well_kinded();
+}
+
+/// The sides of each pair of a problem are well-kinded and of one kind, and the variables are those in them.
+pub fn problems_are_kinded()
+    ensures { ProblemsAreKinded }
+{
+    terms_are_well_kinded();
+}
 
 /// A text asks one term at most.
 pub fn queries_are_determined()

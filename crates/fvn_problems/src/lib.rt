@@ -17,9 +17,10 @@ pub use fault::ProblemFault;
 pub use laws::{
     binding_faults_are_determined, bindings_are_determined, bindings_are_spelled_once, names_go_on,
     problem_faults_are_determined, problem_names_are_words, problem_names_differ,
-    problems_are_determined, problems_are_spelled_once, queries_are_determined,
-    queries_are_spelled_once, query_faults_are_determined, query_names_are_words,
-    refused_bindings_bind_nothing, refused_problems_ask_nothing, refused_queries_ask_nothing,
+    problems_are_determined, problems_are_kinded, problems_are_spelled_once,
+    queries_are_determined, queries_are_kinded, queries_are_spelled_once,
+    query_faults_are_determined, query_names_are_words, refused_bindings_bind_nothing,
+    refused_problems_ask_nothing, refused_queries_ask_nothing,
 };
 pub use problem::{Problem, read_problem};
-pub use query::{Query, read_query};
+pub use query::{Query, read_term};

@@ -14,17 +14,26 @@ use fvn_base::Seq;
 use fvn_base::limits::TEXT_SYMBOLS;
 use fvn_signature::Signature;
 use fvn_syntax::{
-    Names, Scope, Seen, TermFault, Texts, VarNames, read_term, terms_are_well_kinded,
+    Names, Scope, Seen, TermFault, Texts, VarNames, resolve_term, terms_are_well_kinded,
 };
 use fvn_terms::{NoMemory, Plain, Var};
 use std::alloc::Global;
 
 /// Pairs of terms, their variables in order of first occurrence, each once, and their names.
-#[derive(Drop)]
 pub struct Problem {
     pub pairs: Seq<(Plain, Plain)>,
     pub vars: Seq<Var>,
     pub names: VarNames,
+}
+
+impl Drop for Problem {
+    fn drop(self) {
+        let Problem {
+            pairs: _,
+            vars: _,
+            names: _,
+        } = self;
+    }
 }
 
 // Reads both sides of a pair.
@@ -38,8 +47,8 @@ fn read_pair(
     ensures ok { IfOk result (ReadsPair scope.now seen halves.now) }
     ensures err { IfErr result (MemoryOr (RefusesPair scope.now seen.texts halves.now)) }
 {
-    let (left, seen) = read_term(alloc, TEXT_SYMBOLS, scope, seen, halves.left.pieces())?;
-    let (right, seen) = read_term(alloc, TEXT_SYMBOLS, scope, seen, halves.right.pieces())?;
+    let (left, seen) = resolve_term(alloc, TEXT_SYMBOLS, scope, seen, halves.left.pieces())?;
+    let (right, seen) = resolve_term(alloc, TEXT_SYMBOLS, scope, seen, halves.right.pieces())?;
     if left.kind.0 != right.kind.0 {
         return Err(TermFault::WrongKind);
     }

@@ -15,16 +15,25 @@ use crate::vars::add_variables;
 use fvn_base::Seq;
 use fvn_base::limits::TEXT_SYMBOLS;
 use fvn_signature::Signature;
-use fvn_syntax::{Names, Piece, Scope, Seen, Texts, VarNames, read_term, terms_are_well_kinded};
+use fvn_syntax::{Names, Piece, Scope, Seen, Texts, VarNames, resolve_term, terms_are_well_kinded};
 use fvn_terms::{NoMemory, Plain, Var};
 use std::alloc::Global;
 
 /// A term, its variables in order of first occurrence, each once, and their names.
-#[derive(Drop)]
 pub struct Query {
     pub term: Plain,
     pub vars: Seq<Var>,
     pub names: VarNames,
+}
+
+impl Drop for Query {
+    fn drop(self) {
+        let Query {
+            term: _,
+            vars: _,
+            names: _,
+        } = self;
+    }
 }
 
 // The variables of a term.
@@ -46,7 +55,7 @@ fn ask(alloc: Global, scope: &Scope<'_>, row: &[Piece<'_>]) -> Result<Query, Pro
         texts: Texts::new(alloc),
         count: 0,
     };
-    match read_term(alloc, TEXT_SYMBOLS, scope, seen, row) {
+    match resolve_term(alloc, TEXT_SYMBOLS, scope, seen, row) {
         Err(fault) => Err(term_fault(fault)),
         Ok((read, seen)) => {
             if TEXT_SYMBOLS < seen.count {
@@ -87,7 +96,7 @@ fn query_of(
 /// What a term text asks in a signature and its names, or its first fault.
 ///
 /// Tokens, form, the names from left to right, and the number of symbols are tested in this order.
-pub fn read_query(
+pub fn read_term(
     alloc: Global,
     signature: &Signature,
     names: &Names,

@@ -1,9 +1,9 @@
 //! The least sort of a written term, piece by piece, with what is not closed on a stack: the term need not be built.
 ghost use Rattle.std.specs.Prelude.{◌≡◌, [], ◌∷◌, map, reverse, IfOk};
 ghost use Rattle.fvn_terms.specs.Signature.{axioms};
-ghost use Rattle.fvn_terms.specs.Equality.{identity};
+ghost use Rattle.fvn_terms.specs.Equality.{identity, is_sum};
 ghost use Rattle.fvn_syntax.specs.Pieces.{is_colon_name};
-ghost use Rattle.fvn_syntax.specs.Names.{declared_sort, variable_named, op_named, is_sum};
+ghost use Rattle.fvn_syntax.specs.Names.{declared_sort, variable_named, op_named};
 ghost use Rattle.fvn_syntax.specs.Texts.{place};
 ghost use Rattle.fvn_problems.specs.declared.sorting.Spot.TheVariants.{Wanted};
 ghost use Rattle.fvn_problems.specs.Scopes.{unguarded, AreNamesOf};
@@ -132,16 +132,6 @@ fn sort_leaf(signature: &Signature, scope: &Scope<'_>, name: &[u8]) -> Sorted
     }
 }
 
-// The identity of an operator with these axioms.
-fn identity_in(axioms: Axioms) -> Option<OpId>
-    ensures { result ≡ identity axioms }
-{
-    match axioms {
-        Axioms::AssocCommId(e) => Some(e),
-        _ => None,
-    }
-}
-
 // Whether there are two operators, and they are one.
 fn is_same(e: Option<OpId>, g: Option<OpId>) -> bool
     ensures { result ≡ same_constant e g }
@@ -152,18 +142,11 @@ fn is_same(e: Option<OpId>, g: Option<OpId>) -> bool
     }
 }
 
-// Whether an operator's sums are associative and commutative.
-fn is_sum(axioms: Axioms) -> bool
-    ensures { result ≡ is_sum axioms }
-{
-    matches!(axioms, Axioms::AssocComm | Axioms::AssocCommId(_))
-}
-
 // A sum of two terms, of which one may be the identity.
 fn sort_two(signature: &Signature, f: OpId, a: Sorted, b: Sorted) -> Sorted
     ensures { result ≡ sum_of_two signature.now f a b }
 {
-    let identity = identity_in(signature.axioms(f));
+    let identity = signature.axioms(f).identity();
     if is_same(identity, a.constant) {
         return b;
     }
@@ -207,7 +190,7 @@ fn sort_over(
 ) -> Result<Sorted, NoMemory>
     ensures { IfOk result (λ v. v ≡ over signature.now f list.items) }
 {
-    if is_sum(signature.axioms(f)) {
+    if signature.axioms(f).is_sum() {
         return Ok(sort_sum(signature, f, list));
     }
     let sorts = sorts_of(alloc, list.as_slice())?;

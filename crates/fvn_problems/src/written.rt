@@ -10,7 +10,7 @@ use crate::problem::Problem;
 use crate::split::Halves;
 use fvn_base::Seq;
 use fvn_signature::Signature;
-use fvn_syntax::{Names, Piece, Scope, Seen, TermFault, Texts, read_term};
+use fvn_syntax::{Names, Piece, Scope, Seen, TermFault, Texts, resolve_term};
 use fvn_terms::{NoMemory, Plain, SortId, Var};
 use std::alloc::Global;
 
@@ -52,7 +52,7 @@ fn read_variable(
         texts: Texts::new(alloc),
         count: 0,
     };
-    match read_term(alloc, 1, &scope, seen, row) {
+    match resolve_term(alloc, 1, &scope, seen, row) {
         Err(TermFault::NoMemory) => Err(NoMemory),
         Err(_) => Ok(None),
         Ok((read, seen)) => text_and_sort(alloc, &seen.texts, &read.term),

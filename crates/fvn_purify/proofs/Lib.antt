@@ -1,5 +1,6 @@
 -- Lemmas on parts, splits and what is decided of them.
 mod Elements
+mod AxiomTests
 mod Each
 mod Numbers
 mod Decided

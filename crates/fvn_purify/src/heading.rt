@@ -10,7 +10,7 @@ ghost use Rattle.fvn_purify.specs.inner.Choices.{ArePlacesWithin};
 ghost use Rattle.fvn_purify.specs.inner.Options.{IsEarlier, IsUnitIn, IsSolidAt, IsForcedHead, IsHeadOptions};
 
 use crate::classes::{Classes, Head};
-use fvn_combine_nodes::{Node, State, Table};
+use fvn_combine_nodes::{Node, State, Table, has_no_identity};
 use fvn_signature::Signature;
 use fvn_terms::{Axioms, NoMemory, OpId};
 use std::alloc::Global;
@@ -77,17 +77,29 @@ fn unit_in(table: &Table, state: &State, i: usize) -> Option<OpId>
     None
 }
 
-/// The head of an operator without an identity.
+// The head of what an operator with these axioms heads.
+fn head_by(axioms: Axioms, f: OpId) -> Head
+    ensures { result ≡ head_by axioms f }
+{
+    if axioms.is_sum() {
+        return Head::Sum(f);
+    }
+    if axioms.is_free() {
+        return Head::Free;
+    }
+    Head::Pair(f)
+}
+
+// The head of an operator without an identity.
 fn solid_head(f: OpId, axioms: Axioms) -> Option<Head>
     ensures { MatchOption result
         (HasNoIdentity axioms → ⊥)
         (λ h. HasNoIdentity axioms × (h ≡ head_by axioms f)) }
 {
-    match axioms {
-        Axioms::Free => Some(Head::Free),
-        Axioms::Comm => Some(Head::Pair(f)),
-        Axioms::AssocComm => Some(Head::Sum(f)),
-        Axioms::AssocCommId(_) => None,
+    if has_no_identity(axioms) {
+        Some(head_by(axioms, f))
+    } else {
+        None
     }
 }
 
@@ -153,12 +165,7 @@ fn forced_head(
 fn operator_head(sig: &Signature, f: OpId) -> Head
     ensures { result ≡ operator_head sig.now f }
 {
-    match sig.axioms(f) {
-        Axioms::Free => Head::Free,
-        Axioms::Comm => Head::Pair(f),
-        Axioms::AssocComm => Head::Sum(f),
-        Axioms::AssocCommId(_) => Head::Sum(f),
-    }
+    head_by(sig.axioms(f), f)
 }
 
 // The heads of all theories.

@@ -5,7 +5,7 @@ ghost use Rattle.fvn_purify.specs.Parts.{IsEach, may_collapse, ArePair, HasAxiom
 ghost use Rattle.fvn_purify.specs.inner.Standing.{IsPairBelow, HeadsWithAxioms};
 
 use crate::standing::{is_abstracted, is_shared};
-use fvn_combine_nodes::{Node, Table};
+use fvn_combine_nodes::{Node, Table, is_only_commutative};
 use fvn_signature::Signature;
 use fvn_terms::{Axioms, NoMemory, OpId};
 use std::alloc::Global;
@@ -14,24 +14,7 @@ use std::alloc::Global;
 fn is_free(axioms: Axioms) -> bool
     ensures { IsTrue result ↔ (axioms ≡ Axioms.Free) }
 {
-    match axioms {
-        Axioms::Free => true,
-        Axioms::Comm => false,
-        Axioms::AssocComm => false,
-        Axioms::AssocCommId(_) => false,
-    }
-}
-
-// Whether these axioms are commutativity alone.
-fn is_commutative(axioms: Axioms) -> bool
-    ensures { IsTrue result ↔ (axioms ≡ Axioms.Comm) }
-{
-    match axioms {
-        Axioms::Free => false,
-        Axioms::Comm => true,
-        Axioms::AssocComm => false,
-        Axioms::AssocCommId(_) => false,
-    }
+    axioms.is_free()
 }
 
 /// The abstracted nodes.
@@ -71,12 +54,7 @@ fn may_collapse(sig: &Signature, table: &Table, i: usize) -> bool
 {
     match table.node(i) {
         Node::Var(_) => false,
-        Node::App(f, _) => match sig.axioms(*f) {
-            Axioms::Free => false,
-            Axioms::Comm => false,
-            Axioms::AssocComm => false,
-            Axioms::AssocCommId(_) => true,
-        },
+        Node::App(f, _) => sig.identity(*f).is_some(),
     }
 }
 
@@ -114,7 +92,7 @@ fn are_pair(sig: &Signature, table: &Table, i: usize, j: usize) -> bool
                 if *f != *g {
                     return false;
                 }
-                is_commutative(sig.axioms(*f))
+                is_only_commutative(sig.axioms(*f))
             }
         },
     }

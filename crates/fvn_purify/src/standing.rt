@@ -15,18 +15,16 @@ ghost use Rattle.fvn_purify.specs.inner.Standing.{StandsUnderAt, StandsOutsideAt
 
 use fvn_combine_nodes::{Node, Table};
 use fvn_signature::Signature;
-use fvn_terms::{Axioms, OpId};
+use fvn_terms::OpId;
 
 // The theory of an operator; none is that of the free operators.
 fn theory(sig: &Signature, f: OpId) -> Option<OpId>
     ensures { result ≡ theory sig.now f }
 {
-    match sig.axioms(f) {
-        Axioms::Free => None,
-        Axioms::Comm => Some(f),
-        Axioms::AssocComm => Some(f),
-        Axioms::AssocCommId(_) => Some(f),
+    if sig.axioms(f).is_free() {
+        return None;
     }
+    Some(f)
 }
 
 // Whether the theory of an operator is another than this one.

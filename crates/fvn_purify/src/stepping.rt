@@ -26,16 +26,6 @@ pub enum Step {
     Whole(Split),
 }
 
-// A list of its own with the same items.
-fn copied<T: Copy>(alloc: Global, items: &[T]) -> Result<Seq<T>, NoMemory>
-    ensures { IfOk result (λ copy. copy ≡ items.now) }
-{
-    match Vec::from_slice(alloc, items) {
-        Ok(items) => Ok(Seq::from_vec(items)),
-        Err(_) => Err(NoMemory),
-    }
-}
-
 // The items, and one more.
 fn with_one<T: Copy>(alloc: Global, items: &[T], item: T) -> Result<Seq<T>, NoMemory>
     ensures { IfOk result (λ more. more ≡ items.now ++ item ∷ []) }
@@ -53,8 +43,8 @@ fn with_one<T: Copy>(alloc: Global, items: &[T], item: T) -> Result<Seq<T>, NoMe
 fn same_state(alloc: Global, state: &State) -> Result<State, NoMemory>
     ensures { IfOk result (λ copy. copy ≡ state.now) }
 {
-    let names = copied(alloc, state.names.as_slice())?;
-    let apart = copied(alloc, state.apart.as_slice())?;
+    let names = Seq::from_slice(alloc, state.names.as_slice())?;
+    let apart = Seq::from_slice(alloc, state.apart.as_slice())?;
     Ok(State { names, apart })
 }
 
@@ -117,7 +107,7 @@ fn with_head(alloc: Global, leaf: &Leaf, head: Head) -> Result<Partial, NoMemory
 {
     let state = same_state(alloc, &leaf.state)?;
     let heads = with_one(alloc, leaf.heads.as_slice(), head)?;
-    let swaps = copied(alloc, leaf.swaps.as_slice())?;
+    let swaps = Seq::from_slice(alloc, leaf.swaps.as_slice())?;
     Ok(Partial::Choosing(Leaf {
         state,
         heads,
@@ -144,7 +134,7 @@ fn with_way(alloc: Global, leaf: &Leaf, crossed: bool) -> Result<Partial, NoMemo
         p ≡ chosen leaf.now.state leaf.now.heads (leaf.now.swaps ++ crossed ∷ [])) }
 {
     let state = same_state(alloc, &leaf.state)?;
-    let heads = copied(alloc, leaf.heads.as_slice())?;
+    let heads = Seq::from_slice(alloc, leaf.heads.as_slice())?;
     let swaps = with_one(alloc, leaf.swaps.as_slice(), crossed)?;
     Ok(Partial::Choosing(Leaf {
         state,
@@ -247,8 +237,8 @@ fn whole(alloc: Global, classes: &Classes, leaf: &Leaf) -> Result<Split, NoMemor
     ensures { IfOk result (λ split. split ≡ split_of (outline classes.now) leaf.now) }
 {
     let class_of = numbers(alloc, &leaf.state, classes.places.parts.as_slice())?;
-    let heads = copied(alloc, leaf.heads.as_slice())?;
-    let swaps = copied(alloc, leaf.swaps.as_slice())?;
+    let heads = Seq::from_slice(alloc, leaf.heads.as_slice())?;
+    let swaps = Seq::from_slice(alloc, leaf.swaps.as_slice())?;
     Ok(Split {
         class_of,
         heads,

@@ -23,7 +23,7 @@ use crate::rows::{alone, is_at_or_below, with_row, with_rows};
 use fvn_base::Seq;
 use fvn_flat::{Flat, is_listed};
 use fvn_signature::Signature;
-use fvn_terms::{Axioms, NoMemory, OpId, SortId, Var};
+use fvn_terms::{NoMemory, OpId, SortId, Var};
 use std::alloc::Global;
 
 // A search for the sorts of some variables.
@@ -39,12 +39,7 @@ fn is_associative(sig: &Signature, f: OpId) -> bool
     ensures yes { IsTrue result → IsAssociative (axioms sig.now f) }
     ensures no { result ≡ false → IsAssociative (axioms sig.now f) → ⊥ }
 {
-    match sig.axioms(f) {
-        Axioms::Free => false,
-        Axioms::Comm => false,
-        Axioms::AssocComm => true,
-        Axioms::AssocCommId(_) => true,
-    }
+    sig.axioms(f).is_sum()
 }
 
 // Whether the operator takes the terms as summands.

@@ -8,17 +8,17 @@ use Rattle.fvn_forms.specs.Good.{IsGood}
 use Rattle.fvn_signature.specs.Queries.{IsCompleted}
 use Rattle.fvn_flat.specs.Fits.{Fits}
 use Rattle.fvn_rewrite_laws.specs.Laws.{SequencesAreLawful, KindedTheoriesAreLawful, RulesAreLawful}
-use Rattle.fvn_cohere.specs.Promises.{equations_of}
+use Rattle.fvn_theory.specs.Equations.{equations_of}
 use Rattle.fvn_rewrite_rules.specs.Given.{RuleLists}
-use Rattle.fvn_rewrite.specs.Normalised.{IsReached}
+use Rattle.fvn_rewrite_laws.specs.Normalised.{IsReached}
 use Rattle.fvn_rewrite.specs.Usable.{AreUsable}
-use Rattle.fvn_rewrite.specs.inner.Making.{AreLawful, IsBegun}
+use Rattle.fvn_rewrite.specs.inner.Making.{AreStepRules, IsBegun}
 use Rattle.fvn_rewrite.specs.declared.quick.Begun.{Begun}
 use Rattle.fvn_rewrite.proofs.Reaching.{reached_itself}
 use Rattle.fvn_rewrite.proofs.Roots.{have_one_kind, is_rule, sides_fit}
 
 -- usable rules have what the pass needs
-pub lawful : (d : Declarations) (lists : RuleLists) → AreUsable d lists → IsGood d → IsCompleted d → RulesAreLawful → RewritingIsLawful → SequencesAreLawful → KindedTheoriesAreLawful → AreLawful d lists
+pub lawful : (d : Declarations) (lists : RuleLists) → AreUsable d lists → IsGood d → IsCompleted d → RulesAreLawful → RewritingIsLawful → SequencesAreLawful → KindedTheoriesAreLawful → AreStepRules d lists
 lawful d lists usable good completed rules rewriting sequences kinds = record {
   good = good;
   fit = sides_fit d lists usable good completed rules;

@@ -7,7 +7,7 @@ use Rattle.fvn_forms.proofs.Eval.{canon_plain}
 use Rattle.fvn_flat.specs.Fits.{Fits}
 use Rattle.fvn_rewrite_coherence.specs.PlacedSteps.{StepsAtPlace}
 use Rattle.fvn_rewrite_coherence.specs.Laws.{CoherenceLaws}
-use Rattle.fvn_rewrite.specs.Normalised.{IsNormalForm}
+use Rattle.fvn_rewrite_laws.specs.Normalised.{IsNormalForm}
 use Rattle.fvn_rewrite.specs.inner.Walking.{WalkAs}
 
 module _ (d : Declarations) (equations : Equations) (t : FlatTerm) where

@@ -24,7 +24,7 @@ use Rattle.fvn_forms.specs.Ranks.{result}
 use Rattle.fvn_flat.specs.Forms.{variable_of, args_of}
 use Rattle.fvn_flat.specs.Fits.{Fits}
 use Rattle.fvn_rewrite_laws.specs.Laws.{SequenceLaws, KindedLaws}
-use Rattle.fvn_cohere.specs.Promises.{equations_of}
+use Rattle.fvn_theory.specs.Equations.{equations_of}
 use Rattle.fvn_rewrite_rules.specs.Given.{RuleLists, headed}
 use Rattle.fvn_rewrite.specs.declared.fitting.Found.{Found}
 use Rattle.fvn_rewrite.specs.declared.making.Made.{Made}
@@ -33,7 +33,7 @@ use Rattle.fvn_rewrite.specs.declared.quick.Begun.{Begun}
 use Rattle.fvn_rewrite.specs.inner.Trying.{SidesFit}
 use Rattle.fvn_rewrite.specs.inner.SortedTerms.{SortedTerm, sapp, spack, sort_of, term_of, terms_of, IsSorted, AreSorted, IsValue}
 use Rattle.fvn_rewrite.specs.inner.Fitting.{SortedBindings, sorted_bound, sorted_or, standing_for, IsFreeHead, AreBindings, IsFound}
-use Rattle.fvn_rewrite.specs.inner.Making.{AreLawful, LeadsTo, IsMade, AreMade, IsMadeOver, IsBegun}
+use Rattle.fvn_rewrite.specs.inner.Making.{AreStepRules, LeadsTo, IsMade, AreMade, IsMadeOver, IsBegun}
 use Rattle.fvn_rewrite.proofs.Values.{sorted_append, sorted_over}
 use Rattle.fvn_rewrite.proofs.Bound.{bound_well_sorted, bound_is_sorted, instance_term, free_plain}
 
@@ -174,7 +174,7 @@ module _ (d : Declarations) (equations : Equations) where
       sorted = subst (IsSorted d) (sym value) (sorted_over d v f ts is s.free s.sorted);
     }
 
-module _ (d : Declarations) (lists : RuleLists) (laws : AreLawful d lists) where
+module _ (d : Declarations) (lists : RuleLists) (laws : AreStepRules d lists) where
   module _ (v : SortedTerm) (f : OpId) (found : Found) (h : IsFound d (headed lists f) v found) where
     -- the right side that is found fits
     pub found_fits : Fits d found.right.now

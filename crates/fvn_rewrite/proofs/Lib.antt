@@ -5,7 +5,6 @@ mod Found
 mod Replacing
 mod Reaching
 mod Ending
-mod Harmless
 mod Values
 mod Bound
 mod InsideOut

@@ -6,7 +6,7 @@ use Rattle.fvn_terms.specs.Laws.{RewritingIsLawful}
 use Rattle.fvn_terms.proofs.Equal.{BEqual-refl}
 use Rattle.fvn_forms.specs.Flat.{FlatTerm, plain}
 use Rattle.fvn_flat.specs.Fits.{Fits}
-use Rattle.fvn_rewrite.specs.Normalised.{IsReached}
+use Rattle.fvn_rewrite_laws.specs.Normalised.{IsReached}
 use Rattle.fvn_rewrite.specs.inner.Walking.{IsNext}
 
 module _ (d : Declarations) (equations : Equations) where

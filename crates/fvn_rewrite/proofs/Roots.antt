@@ -22,7 +22,7 @@ use Rattle.fvn_flat.specs.FlatPlaces.{here}
 use Rattle.fvn_flat.specs.Rules.{IsRuleFrom, IsRuleOf}
 use Rattle.fvn_rewrite_laws.specs.Kinds.{HaveOneKind}
 use Rattle.fvn_rewrite_laws.specs.Laws.{RulesAreLawful}
-use Rattle.fvn_cohere.specs.Promises.{sides_of, equations_of}
+use Rattle.fvn_theory.specs.Equations.{sides_of, equations_of}
 use Rattle.fvn_rewrite_coherence.specs.PlacedSteps.{IsRedex}
 use Rattle.fvn_rewrite_coherence.specs.Laws.{RulesAreCoherent}
 use Rattle.fvn_rewrite_rules.specs.declared.rule.Rule.{Rule}

@@ -1,5 +1,3 @@
 -- What is promised of steps and normal forms.
 pub mod Usable
-pub mod Normalised
-pub mod Laws
 pub mod inner

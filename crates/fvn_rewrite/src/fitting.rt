@@ -17,12 +17,7 @@ use std::alloc::Global;
 fn is_free(axioms: Axioms) -> bool
     ensures { IsTrue result → axioms ≡ Axioms.Free }
 {
-    match axioms {
-        Axioms::Free => true,
-        Axioms::Comm => false,
-        Axioms::AssocComm => false,
-        Axioms::AssocCommId(_) => false,
-    }
+    axioms.is_free()
 }
 
 // The operator that heads a form, where it has no axioms.

@@ -1,10 +1,9 @@
 //! Normal forms.
 ghost use Rattle.std.specs.Prelude.{IfOk};
 ghost use Rattle.fvn_flat.specs.Fits.{Fits};
-ghost use Rattle.fvn_cohere.specs.Promises.{equations_of};
-ghost use Rattle.fvn_rewrite_coherence.specs.Admissible.{AreAdmissible};
-ghost use Rattle.fvn_rewrite_rules.specs.Given.{AreRules};
-ghost use Rattle.fvn_rewrite.specs.Normalised.{IsNormalised};
+ghost use Rattle.fvn_theory.specs.Equations.{equations_of};
+ghost use Rattle.fvn_rewrite_laws.specs.Normalised.{IsNormalised};
+ghost use Rattle.fvn_rewrite.specs.Usable.{AreUsable};
 ghost use Rattle.fvn_rewrite.specs.inner.Turns.{TurnAs};
 
 use crate::quick::begin;
@@ -13,6 +12,7 @@ use fvn_flat::{Flat, Normal};
 use fvn_rewrite_rules::Rules;
 use fvn_signature::Signature;
 use fvn_terms::{NoMemory, rewriting_is_lawful};
+use fvn_theory::Bounds;
 use std::alloc::Global;
 
 // What comes of one turn: the form is too large, or irreducible, or one step leads on.
@@ -32,8 +32,7 @@ fn take_turn(
     size: u64,
 ) -> Result<Turn, NoMemory>
     requires term { Fits sig.now t.now }
-    requires rules { AreRules sig.now rules.now }
-    requires admissible { AreAdmissible sig.now (equations_of rules.now.equations) }
+    requires rules { AreUsable sig.now rules.now }
     ensures { IfOk result (TurnAs sig.now (equations_of rules.now.equations) t.now size) }
 {
     let large = t.size() > size;
@@ -47,29 +46,27 @@ fn take_turn(
     }
 }
 
-/// A normal form to which at most `steps` steps lead; or what just so many lead to, where it is reducible; or what at
-/// most so many lead to, where it has over `size` symbols.
+/// A normal form to which at most `bounds.steps` steps lead; or what just so many lead to, where it is reducible; or
+/// what at most so many lead to, where it has over `bounds.size` symbols.
 pub fn normal(
     alloc: Global,
     sig: &Signature,
     rules: &Rules,
     t: &Flat,
-    steps: u64,
-    size: u64,
+    bounds: Bounds,
 ) -> Result<Normal, NoMemory>
     requires term { Fits sig.now t.now }
-    requires rules { AreRules sig.now rules.now }
-    requires admissible { AreAdmissible sig.now (equations_of rules.now.equations) }
+    requires rules { AreUsable sig.now rules.now }
     ensures { IfOk result
-        (IsNormalised sig.now (equations_of rules.now.equations) t.now steps size) }
+        (IsNormalised sig.now (equations_of rules.now.equations) t.now bounds) }
 {
     rewriting_is_lawful();
     // Each form is tested for its size before a step is sought, the first one too.
-    let begun = begin(alloc, sig, rules, t, steps, size)?;
+    let begun = begin(alloc, sig, rules, t, bounds)?;
     let mut left = begun.left;
     let mut reached = begun.form;
     loop {
-        let now = take_turn(alloc, sig, rules, &reached, size)?;
+        let now = take_turn(alloc, sig, rules, &reached, bounds.size)?;
         match now {
             Turn::Large => return Ok(Normal::Size(reached)),
             Turn::Irreducible => return Ok(Normal::Form(reached)),

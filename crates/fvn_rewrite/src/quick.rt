@@ -1,17 +1,17 @@
 //! Where turns from the root begin: a first pass from the inside out goes before them.
 ghost use Rattle.std.specs.Prelude.{IfOk, IfSome};
 ghost use Rattle.fvn_flat.specs.Fits.{Fits};
-ghost use Rattle.fvn_cohere.specs.Promises.{equations_of};
-ghost use Rattle.fvn_rewrite_coherence.specs.Admissible.{AreAdmissible};
-ghost use Rattle.fvn_rewrite_rules.specs.Given.{AreRules};
-ghost use Rattle.fvn_rewrite.specs.inner.Making.{AreLawful, IsMade, IsBegun};
+ghost use Rattle.fvn_theory.specs.Equations.{equations_of};
+ghost use Rattle.fvn_rewrite.specs.Usable.{AreUsable};
+ghost use Rattle.fvn_rewrite.specs.inner.Making.{AreStepRules, IsBegun};
 
-use crate::making::make;
+use crate::making::{Pass, make};
 use fvn_flat::{Flat, flatten};
 use fvn_rewrite_laws::{kinded_theories_are_lawful, rules_are_lawful, sequences_are_lawful};
 use fvn_rewrite_rules::Rules;
 use fvn_signature::Signature;
 use fvn_terms::{NoMemory, rewriting_is_lawful};
+use fvn_theory::Bounds;
 use std::alloc::Global;
 
 // How deep forms are taken apart, so that the stack suffices.
@@ -30,15 +30,20 @@ fn quick(
     sig: &Signature,
     rules: &Rules,
     t: &Flat,
-    steps: u64,
-    size: u64,
+    bounds: Bounds,
 ) -> Result<Option<Begun>, NoMemory>
     requires term { Fits sig.now t.now }
-    requires laws { AreLawful sig.now rules.now }
+    requires laws { AreStepRules sig.now rules.now }
     ensures { IfOk result (λ o. IfSome o
-        (IsBegun sig.now (equations_of rules.now.equations) t.now steps)) }
+        (IsBegun sig.now (equations_of rules.now.equations) t.now bounds.steps)) }
 {
-    let made = make(alloc, sig, rules, size, DEPTH, t, &[], steps)?;
+    let pass = Pass {
+        alloc,
+        sig,
+        rules,
+        size: bounds.size,
+    };
+    let made = make(&pass, DEPTH, t, &[], bounds.steps)?;
     match made {
         Some(one) => {
             let plain = one.value.to_plain(alloc)?;
@@ -58,13 +63,11 @@ pub(crate) fn begin(
     sig: &Signature,
     rules: &Rules,
     t: &Flat,
-    steps: u64,
-    size: u64,
+    bounds: Bounds,
 ) -> Result<Begun, NoMemory>
     requires term { Fits sig.now t.now }
-    requires rules { AreRules sig.now rules.now }
-    requires admissible { AreAdmissible sig.now (equations_of rules.now.equations) }
-    ensures { IfOk result (IsBegun sig.now (equations_of rules.now.equations) t.now steps) }
+    requires rules { AreUsable sig.now rules.now }
+    ensures { IfOk result (IsBegun sig.now (equations_of rules.now.equations) t.now bounds.steps) }
 {
     sig.recall_good();
     sig.recall_completed();
@@ -72,13 +75,16 @@ pub(crate) fn begin(
     sequences_are_lawful();
     kinded_theories_are_lawful();
     rules_are_lawful();
-    let large = t.size() > size;
+    let large = t.size() > bounds.size;
     if !large {
-        let made = quick(alloc, sig, rules, t, steps, size)?;
+        let made = quick(alloc, sig, rules, t, bounds)?;
         if let Some(begun) = made {
             return Ok(begun);
         }
     }
     let form = t.copy(alloc)?;
-    Ok(Begun { form, left: steps })
+    Ok(Begun {
+        form,
+        left: bounds.steps,
+    })
 }

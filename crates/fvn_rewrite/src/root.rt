@@ -2,7 +2,7 @@
 ghost use Rattle.std.specs.Prelude.{◌≡◌, Some, IfOk};
 ghost use Rattle.fvn_flat.specs.Forms.{head_of};
 ghost use Rattle.fvn_flat.specs.Fits.{Fits};
-ghost use Rattle.fvn_cohere.specs.Promises.{equations_of};
+ghost use Rattle.fvn_theory.specs.Equations.{equations_of};
 ghost use Rattle.fvn_rewrite.specs.inner.Trying.{AllSidesFit, TriesAs};
 ghost use Rattle.fvn_rewrite.specs.inner.Walking.{RootAs};
 ghost use Rattle.fvn_rewrite.specs.Usable.{AreUsable};

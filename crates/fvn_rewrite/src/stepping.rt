@@ -1,10 +1,9 @@
 //! One step.
 ghost use Rattle.std.specs.Prelude.{◌≡◌, None, IfOk, IfSome};
 ghost use Rattle.fvn_flat.specs.Fits.{Fits};
-ghost use Rattle.fvn_cohere.specs.Promises.{equations_of};
-ghost use Rattle.fvn_rewrite_coherence.specs.Admissible.{AreAdmissible};
-ghost use Rattle.fvn_rewrite_rules.specs.Given.{AreRules};
-ghost use Rattle.fvn_rewrite.specs.Normalised.{StepsTo, IsNormalForm};
+ghost use Rattle.fvn_theory.specs.Equations.{equations_of};
+ghost use Rattle.fvn_rewrite_laws.specs.Normalised.{StepsTo, IsNormalForm};
+ghost use Rattle.fvn_rewrite.specs.Usable.{AreUsable};
 
 use crate::walking::walk;
 use fvn_flat::Flat;
@@ -24,8 +23,7 @@ pub fn step(
     t: &Flat,
 ) -> Result<Option<Flat>, NoMemory>
     requires term { Fits sig.now t.now }
-    requires rules { AreRules sig.now rules.now }
-    requires admissible { AreAdmissible sig.now (equations_of rules.now.equations) }
+    requires rules { AreUsable sig.now rules.now }
     ensures some { IfOk result (λ o.
         IfSome o (StepsTo sig.now (equations_of rules.now.equations) t.now)) }
     ensures fits { IfOk result (λ o. IfSome o (Fits sig.now)) }

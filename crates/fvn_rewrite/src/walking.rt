@@ -2,7 +2,7 @@
 ghost use Rattle.std.specs.Prelude.{◌≡◌, ◌<◌, ◌+◌, ◌++◌, ◌∷◌, take, drop, length, Some, IfOk};
 ghost use Rattle.fvn_flat.specs.Forms.{head_of, args_of};
 ghost use Rattle.fvn_flat.specs.Fits.{Fits};
-ghost use Rattle.fvn_cohere.specs.Promises.{equations_of};
+ghost use Rattle.fvn_theory.specs.Equations.{equations_of};
 ghost use Rattle.fvn_rewrite.specs.inner.Walking.{WalkAs, ArgumentSteps, IsNext};
 ghost use Rattle.fvn_rewrite.specs.Usable.{AreUsable};
 

@@ -25,7 +25,7 @@ use Rattle.fvn_flat.specs.FlatPlaces.{IsReplaced, IsReplacedAmong, here, inside,
 use Rattle.fvn_flat.specs.Rules.{IsIdentity}
 use Rattle.fvn_rewrite_laws.specs.Laws.{KindedLaws, RuleLaws}
 use Rattle.fvn_rewrite_laws.proofs.Identities.{identity_kind}
-use Rattle.fvn_rewrite_coherence.specs.Admissible.{AreAdmissible}
+use Rattle.fvn_rewrite_laws.specs.Admissible.{AreAdmissible}
 use Rattle.fvn_rewrite_coherence.specs.PlacedSteps.{IsRedex, StepsAtPlace}
 use Rattle.fvn_rewrite_coherence.specs.Laws.{CoherenceLaws}
 use Rattle.fvn_rewrite_coherence.proofs.ArgumentSteps.{StepsInside}

@@ -14,7 +14,7 @@ use Rattle.fvn_forms.specs.Good.{IsGood}
 use Rattle.fvn_forms.proofs.Build.{parts_none_iff, build_joined}
 use Rattle.fvn_signature.specs.Queries.{IsCompleted}
 use Rattle.fvn_rewrite_laws.specs.Laws.{KindedLaws}
-use Rattle.fvn_rewrite_coherence.specs.Admissible.{AreAdmissible}
+use Rattle.fvn_rewrite_laws.specs.Admissible.{AreAdmissible}
 use Rattle.fvn_rewrite_coherence.proofs.Tight.{IsIdentityForm}
 use Rattle.fvn_rewrite_coherence.proofs.TightSteps.{whole_step, instance_no_identity}
 use Rattle.fvn_rewrite_coherence.proofs.SumSteps.{sum_with_nothing, sum_step}

@@ -21,7 +21,6 @@ use Rattle.fvn_forms.proofs.Build.{is_constant}
 use Rattle.fvn_forms.proofs.Eval.{canon_respects, eval_apply}
 use Rattle.fvn_forms.proofs.KindsKept.{b_equal_keeps_kind}
 use Rattle.fvn_forms.proofs.ToCanon.{to_canon, canon_of_kind, b_equal_iff_canon}
-use Rattle.fvn_terms.proofs.AxiomWords.{identity_is}
 use Rattle.fvn_flat.specs.Fits.{Fits, AllFit}
 use Rattle.fvn_flat.specs.Forms.{head_of}
 use Rattle.fvn_flat.specs.FlatPlaces.{IsReplaced, IsReplacedAmong, here as here_form, inside as inside_form, first as first_form, later as later_form}
@@ -94,7 +93,7 @@ module _ (d : Declarations) (good : IsGood d) (equations : Equations) (rewriting
     no_redex : (o given : FlatTerm) → IsRedex d equations o (plain given) → IsIdentityForm d o → ⊥
     no_redex o given r i =
         let is = is_constant o i.1.0 i.1.2 in
-        coherent.identities i.1.0 (i.0, identity_is (axioms d i.0) i.1.0 i.1.1) (plain given) (subst (λ z. Rewrites d equations (plain z) (plain given)) is (redex_steps o given r))
+        coherent.identities i.1.0 (i.0, i.1.1) (plain given) (subst (λ z. Rewrites d equations (plain z) (plain given)) is (redex_steps o given r))
 
     module _ (u : Term) (whole : Rewrites d equations (apply s (plain t)) u) (o given : FlatTerm) (redex : IsRedex d equations o (plain given)) (at value : FlatTerm) (place : IsPlace d (values d s) (values_settled d s) at t (canon d (plain value)) (canon d u)) where
       at_part : IsPart d (values d s) (values_settled d s) o given at value → StepsAtPart d equations s t u

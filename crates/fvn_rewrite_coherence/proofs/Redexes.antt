@@ -27,7 +27,7 @@ use Rattle.fvn_flat.specs.Rules.{GoesToIdentity, IsExtension, IsRuleOf}
 use Rattle.fvn_rewrite_laws.specs.Kinds.{HasOneKind}
 use Rattle.fvn_rewrite_laws.specs.Laws.{RuleLaws}
 use Rattle.fvn_rewrite_laws.proofs.Collapsing.{keeps}
-use Rattle.fvn_rewrite_coherence.specs.Admissible.{AreAdmissible}
+use Rattle.fvn_rewrite_laws.specs.Admissible.{AreAdmissible}
 use Rattle.fvn_rewrite_coherence.specs.PlacedSteps.{IsRedex}
 use Rattle.fvn_rewrite_coherence.proofs.Tight.{sum_of_two_form, parts_joined, head_stays}
 use Rattle.fvn_rewrite_coherence.proofs.TightSteps.{values, values_settled, IsTightInstance, IsBeside, IsTightRedex, left_settled, beside_associative, left_no_variable, beside_form}

@@ -25,12 +25,11 @@ use Rattle.fvn_forms.proofs.SortOrder.{AtOrBelow-trans, AtOrBelow-from_same}
 use Rattle.fvn_forms.proofs.Results.{AllBelow-self, result_monotone, result_swap}
 use Rattle.fvn_forms.proofs.Build.{parts_none, parts_none_iff, build_left_identity}
 use Rattle.fvn_forms.proofs.KindsKept.{both_of_kind, swapped_of_kind, b_equal_keeps_kind}
-use Rattle.fvn_terms.proofs.AxiomWords.{identity_is}
 use Rattle.fvn_forms.proofs.LeastSort.{sort_in-kind, sort_of_build, least_sort_below, least_sort_exact, has_least_sort}
 use Rattle.fvn_signature.specs.Queries.{IsCompleted}
 use Rattle.fvn_rewrite_laws.specs.Losses.{AreSortDecreasing}
 use Rattle.fvn_rewrite_laws.specs.Laws.{KindedLaws}
-use Rattle.fvn_rewrite_coherence.specs.Admissible.{AreAdmissible}
+use Rattle.fvn_rewrite_laws.specs.Admissible.{AreAdmissible}
 use Rattle.fvn_rewrite_coherence.proofs.SumSteps.{sum_with_nothing}
 use Rattle.fvn_rewrite_coherence.proofs.ArgumentSteps.{StepsInside}
 use Rattle.fvn_rewrite_coherence.proofs.PlaceInduction.{commutes, app_of, KeptUnjoined, KeptBeside, at_one_place}
@@ -87,11 +86,10 @@ module _ (d : Declarations) where
       lower_gone : parts d f b ≡ [] → AtOrBelow d (least_sort d (build d f (b ∷ o ∷ []))) (least_sort d (build d f (a ∷ o ∷ [])))
       lower_gone e =
           let w = parts_none d f b hb e in
-          let is_axiom = identity_is (axioms d f) w.0 w.1 in
-          let left : build d f (b ∷ o ∷ []) ≡ o = ap (λ z. build d f (z ∷ o ∷ [])) w.2 ∙ build_left_identity d f w.0 is_axiom o ho in
+          let left : build d f (b ∷ o ∷ []) ≡ o = ap (λ z. build d f (z ∷ o ∷ [])) w.2 ∙ build_left_identity d f w.0 w.1 o ho in
           let other_kind : IsOfKind d f (least_sort d o) = record { rank = i.rank; listed = i.listed; kind_is = least_of_kind o ho k (both_of_kind d good.fits f assoc (plain a) (plain o) k i).1 ∙ sym i.result } in
           let turned = takes f (o ∷ a ∷ []) (ho, (ha, tt)) k (swapped_of_kind d good.fits f (commutes (axioms d f) assoc) (plain a) (plain o) k i) in
-          let beside : AtOrBelow d (least_sort d o) (result d f (least_sort d o ∷ least_sort d b ∷ [])) = subst (λ z. AtOrBelow d (least_sort d o) (result d f (least_sort d o ∷ least_sort d z ∷ []))) (sym w.2) (good.collapse f w.0 (least_sort d o) is_axiom other_kind) in
+          let beside : AtOrBelow d (least_sort d o) (result d f (least_sort d o ∷ least_sort d b ∷ [])) = subst (λ z. AtOrBelow d (least_sort d o) (result d f (least_sort d o ∷ least_sort d z ∷ []))) (sym w.2) (good.collapse f w.0 (least_sort d o) w.1 other_kind) in
           AtOrBelow-trans d (AtOrBelow-from_same d (ap (least_sort d) left))
           (AtOrBelow-trans d beside
           (AtOrBelow-trans d (result_monotone d good f (least_sort d o ∷ least_sort d b ∷ []) (least_sort d o ∷ least_sort d a ∷ []) (same, (low, tt)) turned)

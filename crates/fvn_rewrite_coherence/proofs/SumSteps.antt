@@ -18,7 +18,7 @@ use Rattle.fvn_forms.proofs.Sums.{fpack-funpack, same_op_is, SettledAll-funpack,
 use Rattle.fvn_forms.proofs.Build.{parts_none, build_sum, build_right_identity}
 use Rattle.fvn_forms.proofs.Eval.{canon_settled, canon_plain}
 use Rattle.fvn_flat.specs.FlatPlaces.{IsReplaced, here, inside}
-use Rattle.fvn_rewrite_coherence.specs.Admissible.{AreAdmissible}
+use Rattle.fvn_rewrite_laws.specs.Admissible.{AreAdmissible}
 use Rattle.fvn_rewrite_coherence.proofs.Tight.{some_length, sum_of_two_form, parts_joined}
 use Rattle.fvn_rewrite_coherence.proofs.Members.{StandsAmong, stands_among, count_around, each_around, replaced_among, replaced_member, count_parts_around, canon_replaced}
 use Rattle.fvn_rewrite_coherence.proofs.TightSteps.{IsTightRedex, StepsTightly, redex_settled, redex_beside}

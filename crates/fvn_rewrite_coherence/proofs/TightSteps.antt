@@ -22,10 +22,9 @@ use Rattle.fvn_forms.proofs.Eval.{canon_settled, canon_plain}
 use Rattle.fvn_forms.proofs.KindsKept.{kind_unique, both_of_kind, sum_of_kind}
 use Rattle.fvn_forms.proofs.KindsOfSums.{build_of_kind}
 use Rattle.fvn_forms.proofs.Instances.{inst_settled}
-use Rattle.fvn_terms.proofs.AxiomWords.{identity_is}
 use Rattle.fvn_flat.specs.FlatPlaces.{IsReplaced, here}
 use Rattle.fvn_flat.specs.Rules.{IsIdentityInstance}
-use Rattle.fvn_rewrite_coherence.specs.Admissible.{AreAdmissible}
+use Rattle.fvn_rewrite_laws.specs.Admissible.{AreAdmissible}
 use Rattle.fvn_rewrite_coherence.proofs.Tight.{IsIdentityForm, sum_of_two_form, IsTight, identity_back, joined_back, instance_parts}
 
 -- the flat forms of the values of a substitution
@@ -125,7 +124,7 @@ module _ (d : Declarations) (equations : Equations) where
     instance_no_identity t u i w =
         let back = identity_back d (values d i.by) (values_settled d i.by) w.0 i.left (left_settled t u i) i.tight (subst (IsIdentityForm d) i.from w).1 in
         (admissible i.equation i.listed).no_identity
-        (back.0, (w.0, identity_is (axioms d w.0) back.0 back.1), record { by = i.instance_of.by; choice = i.instance_of.choice; is = sym (is_constant i.left back.0 back.2) ∙ i.instance_of.left })
+        (back.0, (w.0, back.1), record { by = i.instance_of.by; choice = i.instance_of.choice; is = sym (is_constant i.left back.0 back.2) ∙ i.instance_of.left })
 
     instance_joined : (f : OpId) (ts : FlatTerms) (t u : FlatTerm) (i : IsTightInstance t u) → t ≡ fapp f true ts → (us : FlatTerms) × (i.left ≡ fapp f true us)
     instance_joined f ts t u i e = joined_back d (values d i.by) (values_settled d i.by) f ts i.left (left_settled t u i) i.tight (sym i.from ∙ e) (left_no_variable t u i)

@@ -19,7 +19,6 @@ use Rattle.fvn_forms.proofs.Build.{is_constant}
 use Rattle.fvn_forms.proofs.Eval.{eval_apply}
 use Rattle.fvn_forms.proofs.Instances.{eval_canon}
 use Rattle.fvn_forms.proofs.ToCanon.{to_canon}
-use Rattle.fvn_terms.proofs.AxiomWords.{identity_is}
 use Rattle.fvn_signature.specs.Queries.{IsCompleted}
 use Rattle.fvn_flat.specs.Rules.{IsIdentity, GoesToIdentity, IsIdentityChoice}
 use Rattle.fvn_rewrite_laws.specs.Kinds.{HasOneKind}
@@ -28,7 +27,7 @@ use Rattle.fvn_rewrite_laws.proofs.Identities.{op_listed, listed_op, identity_li
 use Rattle.fvn_rewrite_laws.proofs.Listing.{occurs_test, occurs_if, test_if}
 use Rattle.fvn_rewrite_laws.proofs.Choosing.{occurring_sort}
 use Rattle.fvn_rewrite_laws.proofs.Collapsing.{keeps}
-use Rattle.fvn_rewrite_coherence.specs.Admissible.{AreAdmissible}
+use Rattle.fvn_rewrite_laws.specs.Admissible.{AreAdmissible}
 use Rattle.fvn_rewrite_coherence.proofs.Tight.{IsIdentityForm, IsTight, tight_where}
 use Rattle.fvn_rewrite_coherence.proofs.TightSteps.{values, values_settled, IsTightInstance}
 
@@ -91,7 +90,7 @@ module _ (d : Declarations) (good : IsGood d) (completed : IsCompleted d) where
       at e q false r h =
           let one : Some w.1.0 ≡ Some e = sym w.1.2 ∙ ap (λ z. as_constant (values d s z)) h ∙ q in
           let same_op : w.1.0 ≡ e = cc in
-          let listed = listed_op (identities d) e (subst (Contains (identities d)) same_op (identity_listed d w.0 w.1.0 (identity_is (axioms d w.0) w.1.0 w.1.1))) in
+          let listed = listed_op (identities d) e (subst (Contains (identities d)) same_op (identity_listed d w.0 w.1.0 w.1.1)) in
           let both : true ≡ false = sym listed ∙ r in
           cc
 

@@ -19,7 +19,7 @@ use Rattle.fvn_flat.specs.Rules.{IsIdentity}
 use Rattle.fvn_flat.specs.Fits.{Fits}
 use Rattle.fvn_flat.specs.FlatPlaces.{IsReplaced}
 use Rattle.fvn_rewrite_laws.specs.Losses.{AreSortDecreasing}
-use Rattle.fvn_rewrite_coherence.specs.Admissible.{AreAdmissible}
+use Rattle.fvn_rewrite_laws.specs.Admissible.{AreAdmissible}
 use Rattle.fvn_rewrite_coherence.specs.PlacedSteps.{StepsAtPlace}
 use Rattle.fvn_rewrite_coherence.specs.InstanceSteps.{StepsAtPart, StepsInValue}
 

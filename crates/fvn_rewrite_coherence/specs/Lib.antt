@@ -1,5 +1,4 @@
 -- The words of steps at places of flat forms.
-pub mod Admissible
 pub mod PlacedSteps
 pub mod InstanceSteps
 pub mod Laws

@@ -7,7 +7,6 @@ use Rattle.std.proofs.lemmas.List.{get_or_past, get_or_default}
 use Rattle.std.proofs.lemmas.List.Elements.{Contains-append_left, Contains-push, Contains-push_cases, Contains-get_or}
 use Rattle.fvn_base.proofs.Membership.{contains_here, contains_later, contains_cases, contains_none}
 use Rattle.fvn_terms.specs.declared.plain.OpId.{OpId}
-use Rattle.fvn_terms.specs.declared.declarations.Axioms.TheVariants.{Free, AssocCommId}
 use Rattle.fvn_terms.specs.declared.declarations.OpDecl.{OpDecl}
 use Rattle.fvn_terms.specs.declared.declarations.Declarations.{Declarations}
 use Rattle.fvn_terms.specs.Signature.{kind, unknown, declared, axioms, HasKind}
@@ -17,7 +16,7 @@ use Rattle.fvn_forms.specs.Canon.{same_op}
 use Rattle.fvn_forms.specs.Ranks.{result}
 use Rattle.fvn_forms.specs.Good.{IsGood}
 use Rattle.fvn_forms.proofs.Sums.{same_op_is, same_op_itself, constant_settled}
-use Rattle.fvn_terms.proofs.AxiomWords.{identity_is}
+use Rattle.fvn_terms.proofs.AxiomWords.{free_without}
 use Rattle.fvn_forms.proofs.LeastSort.{sort_in-kind}
 use Rattle.fvn_signature.specs.Queries.{IsCompleted}
 use Rattle.fvn_flat.specs.Rules.{IsIdentity}
@@ -90,14 +89,14 @@ op_of_identity (q ∷ ops) es e h = go (op_of_identity ops (with_identity_of es 
 
 module _ (d : Declarations) where
   -- an operator with an identity is declared
-  known : (f e : OpId) → axioms d f ≡ AssocCommId e → f.0 < length d.ops
+  known : (f e : OpId) → identity (axioms d f) ≡ Some e → f.0 < length d.ops
   known f e h = elim (cases_lt f.0 (length d.ops)) as (λ _. f.0 < length d.ops) [
     | inl l ↦ l
-    | inr m ↦ let p : axioms d f ≡ Free = ap (λ (o : OpDecl). o.axioms) (get_or_past d.ops f.0 unknown m) in let q : Free ≡ AssocCommId e = sym p ∙ h in cc
+    | inr m ↦ absurd (free_without (axioms d f) e (ap (λ (o : OpDecl). o.axioms) (get_or_past d.ops f.0 unknown m)) h)
   ]
 
-  pub identity_listed : (f e : OpId) → axioms d f ≡ AssocCommId e → Contains (identities d) e
-  identity_listed f e h = identity_of_op d.ops [] (declared d f) e (Contains-get_or d.ops f.0 unknown (known f e h)) (ap identity h)
+  pub identity_listed : (f e : OpId) → identity (axioms d f) ≡ Some e → Contains (identities d) e
+  identity_listed f e h = identity_of_op d.ops [] (declared d f) e (Contains-get_or d.ops f.0 unknown (known f e h)) h
 
   pub listed_identity : (e : OpId) → Contains (identities d) e → IsIdentity d e
   listed_identity e h = go (op_of_identity d.ops [] e h) where
@@ -106,7 +105,7 @@ module _ (d : Declarations) where
     go (inr w) =
         let f : OpId = record { 0 = w.1.0.0 } in
         let p : declared d f ≡ w.0 = get_or_default d.ops w.1.0.0 unknown w.0 w.1.0.1 ∙ w.1.0.2 in
-        (f, ap (λ (o : OpDecl). o.axioms) p ∙ identity_is w.0.axioms e w.1.1)
+        (f, ap (λ (o : OpDecl). identity o.axioms) p ∙ w.1.1)
 
   -- an identity is a constant of the kind of its sort
   pub identity_kind : IsGood d → IsCompleted d → (e : OpId) → IsIdentity d e → HasKind d (constant e) (kind d (result d e []))

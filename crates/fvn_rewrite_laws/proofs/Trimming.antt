@@ -10,7 +10,6 @@ use Rattle.fvn_terms.specs.Signature.{axioms}
 use Rattle.fvn_terms.specs.Equality.{identity}
 use Rattle.fvn_forms.specs.Ranks.{result}
 use Rattle.fvn_forms.proofs.Sums.{same_op_is}
-use Rattle.fvn_terms.proofs.AxiomWords.{identity_is}
 use Rattle.fvn_rewrite_laws.specs.declared.shapes.Root.{Root}
 use Rattle.fvn_rewrite_laws.specs.declared.shapes.Root.TheVariants.{Variable, Constant, Compound}
 use Rattle.fvn_rewrite_laws.specs.declared.shapes.Shape.{Shape}
@@ -32,7 +31,7 @@ module _ (d : Declarations) where
   is_identity_listed f g h = go (identity (axioms d f)) refl h where
     go : (i : Option OpId) → identity (axioms d f) ≡ i → is_root_of i (Constant g) ≡ true → is_listed_op (identities d) g ≡ true
     go None p q = cc
-    go (Some e) p q = subst (λ z. is_listed_op (identities d) z ≡ true) (same_op_is e g q) (listed_op (identities d) e (identity_listed d f e (identity_is (axioms d f) e p)))
+    go (Some e) p q = subst (λ z. is_listed_op (identities d) z ≡ true) (same_op_is e g q) (listed_op (identities d) e (identity_listed d f e p))
 
   root_none : (i : Option OpId) → is_root_of i Variable ≡ false
   root_none None = refl

@@ -2,11 +2,17 @@
 use Rattle.std.specs.Prelude.{Contains}
 use Rattle.fvn_terms.specs.declared.plain.Var.{Var}
 use Rattle.fvn_terms.specs.declared.plain.SortId.{SortId}
+use Rattle.fvn_terms.specs.declared.plain.Plain.{Plain}
 use Rattle.fvn_terms.specs.declared.declarations.Declarations.{Declarations}
 use Rattle.fvn_terms.specs.Term.{Term}
+use Rattle.fvn_terms.specs.Plain.{term}
 use Rattle.fvn_terms.specs.Substitution.{Occurs}
 use Rattle.fvn_terms.specs.Signature.{HasKind}
 use Rattle.fvn_terms.specs.Theory.{Equations}
+
+-- both sides of a pair are well-kinded, and of one kind
+abbrev pub AreOfOneKind : Declarations → Plain × Plain → Type 0
+AreOfOneKind d p = (k : SortId) × (HasKind d (term p.0) k × HasKind d (term p.1) k)
 
 module _ (d : Declarations) where
   -- both sides are well-kinded terms of one kind

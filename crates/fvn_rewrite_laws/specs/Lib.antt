@@ -1,4 +1,4 @@
--- The words of rewriting with the rules of a module.
+-- The words of rewriting with equations.
 pub mod Lists
 pub mod Agreement
 pub mod Kinds
@@ -7,4 +7,7 @@ pub mod Identities
 pub mod Choices
 pub mod Collapses
 pub mod Losses
+pub mod Admissible
+pub mod Lawful
+pub mod Normalised
 pub mod Laws

@@ -1,4 +1,4 @@
-//! Rewriting with the equations of a module, modulo the axioms: definitions and laws.
+//! Rewriting with equations, modulo the axioms: definitions and laws.
 #![tactic(auto)]
 
 mod laws;

@@ -6,4 +6,4 @@ mod Assigning
 mod Matching
 mod Redexes
 mod Deciding
-mod Normalising
+pub mod Normalising

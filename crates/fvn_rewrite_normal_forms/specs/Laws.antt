@@ -12,7 +12,7 @@ use Rattle.fvn_terms.specs.Variants.{IsWithin}
 use Rattle.fvn_forms.specs.Good.{IsGood}
 use Rattle.fvn_signature.specs.Queries.{IsCompleted}
 use Rattle.fvn_rewrite_laws.specs.Losses.{AreSortDecreasing}
-use Rattle.fvn_rewrite_coherence.specs.Admissible.{AreAdmissible}
+use Rattle.fvn_rewrite_laws.specs.Admissible.{AreAdmissible}
 use Rattle.fvn_rewrite_normal_forms.specs.NormalForms.{HasNormalForm, HaveNormalForms, IsNormalisedFrom}
 
 -- what is decided of terms, and what their normal forms keep

@@ -19,13 +19,12 @@ use Rattle.fvn_forms.specs.Settled.{Settled}
 use Rattle.fvn_forms.proofs.Eval.{canon_settled}
 use Rattle.fvn_flat.specs.Forms.{head_of}
 use Rattle.fvn_flat.specs.Rules.{IsRuleFrom}
-use Rattle.fvn_module.specs.declared.equation.Equation.{Equation}
-use Rattle.fvn_module.specs.Readable.{IsReadableEquation}
-use Rattle.fvn_cohere.specs.Promises.{sides_of, equations_of}
+use Rattle.fvn_theory.specs.declared.equation.Equation.{Equation}
+use Rattle.fvn_theory.specs.Equations.{sides_of, equations_of, IsReadableEquation}
 use Rattle.fvn_rewrite_laws.specs.Kinds.{HasOneKind, HaveOneKind}
 use Rattle.fvn_rewrite_laws.specs.Laws.{RuleLaws}
 use Rattle.fvn_rewrite_rules.specs.declared.rule.Rule.{Rule}
-use Rattle.fvn_rewrite_rules.specs.Given.{RuleLists, IsNumberedRule, HaveNoInstances, AreGivenUnder, AreEnoughUnder, AreApartUnder, AreRules}
+use Rattle.fvn_rewrite_rules.specs.Given.{RuleLists, HasOldVariables, IsNumberedRule, HaveNoInstances, AreGivenUnder, AreEnoughUnder, AreApartUnder, AreRules}
 use Rattle.fvn_rewrite_rules.specs.inner.Making.{IsKindedRule}
 use Rattle.fvn_rewrite_rules.specs.inner.Collecting.{AreRulesUpTo}
 use Rattle.fvn_rewrite_rules.specs.inner.Heads.{IsTable}
@@ -108,7 +107,7 @@ module _ (d : Declarations) where
           let heads = stands.head ∙ h in
           let known = operator_known f rule.left kinded.left heads kinded.kinds.kind kinded.kinds.left in
           let n = (tabled.needed f known).enough rule g.1.0 heads in
-          (n.0, (n.1.0, HasInstance-trans d n.0 rule l r n.1.1 stands.instance))
+          (n.0, (n.1.0, HasInstance-trans d n.0 rule l n.1.1 stands.instance))
 
       apart_under : (f : OpId) → AreApartUnder d lists f
       apart_under f = elim (cases_lt f.0 (length table)) as (λ _. AreApartUnder d lists f) [
@@ -123,6 +122,7 @@ module _ (d : Declarations) where
             let g = made.complete before e l r (within before e is) is from in
             (g.0, (g.1.0, (g.1.1.0, g.1.1.1.renamed)));
         ordered = made.ordered;
+        old = All-contained HasOldVariables rules made.old;
         given = given_under;
         enough = enough_under;
         apart = apart_under;

@@ -9,8 +9,8 @@ use Rattle.fvn_base.proofs.Membership.{contains_here, contains_later, contains_n
 use Rattle.fvn_terms.specs.declared.declarations.Declarations.{Declarations}
 use Rattle.fvn_forms.specs.Flat.{FlatTerm}
 use Rattle.fvn_flat.specs.Rules.{IsRuleFrom}
-use Rattle.fvn_module.specs.declared.equation.Equation.{Equation}
-use Rattle.fvn_cohere.specs.Promises.{sides_of}
+use Rattle.fvn_theory.specs.declared.equation.Equation.{Equation}
+use Rattle.fvn_theory.specs.Equations.{sides_of}
 use Rattle.fvn_rewrite_rules.specs.declared.rule.Rule.{Rule}
 use Rattle.fvn_rewrite_rules.specs.Given.{IsNumberedRule}
 use Rattle.fvn_rewrite_rules.specs.inner.Making.{StandsFor, AreRulesFrom}
@@ -35,6 +35,7 @@ module _ (d : Declarations) (equations : List Equation) where
     numbers = λ rule c. absurd (contains_none rule c);
     complete = λ before e l r lt. absurd (omega (arith, lt));
     ordered = λ i j e lt within. absurd (omega (arith, within));
+    old = λ rule c. absurd (contains_none rule c);
   }
 
   module _ (i : ℕ) (e : Equation) (is : slice_get equations i ≡ Some e) (all more : List Rule) (old : AreRulesUpTo d equations i all) (new : AreRulesFrom d (i + 1) (sides_of e) more) where
@@ -69,4 +70,5 @@ module _ (d : Declarations) (equations : List Equation) where
           let b = (new.sound (get_or more k o) (Contains-get_or more k o within)).0 in
           omega (arith, a, b))
           (λ x y a b. let n = old.numbers x a in let m = (new.sound y b).0 in omega (arith, n, m));
+      old = λ rule c. one_or_other rule c (old.old rule) (new.old rule);
     }

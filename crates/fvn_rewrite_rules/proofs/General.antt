@@ -25,22 +25,16 @@ module _ (d : Declarations) where
   )
 
   -- a rule has itself as an instance
-  pub HasInstance-of : (rule : Rule) (l r : FlatTerm) → rule.left ≡ l → rule.right ≡ r → HasInstance d rule l r
-  HasInstance-of rule l r e f = record {
-    by = var;
-    well_sorted = renaming_sorted (λ x. x) (λ x. refl);
-    left = itself rule.left l e;
-    right = itself rule.right r f;
-  }
+  pub HasInstance-of : (rule : Rule) (l : FlatTerm) → rule.left ≡ l → HasInstance d rule l
+  HasInstance-of rule l e = record { by = var; well_sorted = renaming_sorted (λ x. x) (λ x. refl); left = itself rule.left l e }
     where
       itself : (t u : FlatTerm) → t ≡ u → BEqual d (apply var (plain t)) (plain u)
       itself t u q = subst (λ v. BEqual d v (plain u)) (sym (apply-var (plain t) ∙ (λ i. plain (q i)))) stop
 
   -- what is an instance of an instance
-  pub HasInstance-trans : (a b : Rule) (l r : FlatTerm) → HasInstance d a b.left b.right → HasInstance d b l r → HasInstance d a l r
-  HasInstance-trans a b l r g h = record {
+  pub HasInstance-trans : (a b : Rule) (l : FlatTerm) → HasInstance d a b.left → HasInstance d b l → HasInstance d a l
+  HasInstance-trans a b l g h = record {
     by = followed_by g.by h.by;
     well_sorted = IsWellSorted-followed_by d g.by h.by g.well_sorted h.well_sorted;
     left = subst (λ t. BEqual d t (plain l)) (apply-apply g.by h.by (plain a.left)) (BEqual-trans d (BEqual-apply d h.by h.well_sorted.0 g.left) h.left);
-    right = subst (λ t. BEqual d t (plain r)) (apply-apply g.by h.by (plain a.right)) (BEqual-trans d (BEqual-apply d h.by h.well_sorted.0 g.right) h.right);
   }

@@ -1,5 +1,5 @@
--- Matchers of both sides of a rule.
-use Rattle.std.proofs.Common.{◌≡◌, Bool, true, false, List, [], ◌∷◌, ◌++◌, map, Option, Some, None, refl, sym, ◌∙◌, subst}
+-- Matchers of the left side of a rule.
+use Rattle.std.proofs.Common.{◌≡◌, Bool, true, false, List, [], ◌∷◌, map, Option, Some, None, refl, sym, ◌∙◌, subst}
 use Rattle.std.specs.Prelude.{◌↔◌, is_some, IfSome, IsTrue}
 use Rattle.fvn_terms.specs.declared.declarations.Declarations.{Declarations}
 use Rattle.fvn_terms.specs.Substitution.{Substitution}
@@ -13,24 +13,26 @@ use Rattle.fvn_rewrite_rules.specs.Given.{HasInstance}
 use Rattle.fvn_rewrite_rules.specs.inner.Making.{IsKindedRule}
 
 module _ (d : Declarations) where
-  -- both sides of a rule
-  abbrev pub both : Rule → List FlatTerm
-  both rule = rule.left ∷ rule.right ∷ []
+  -- the left side of a rule, alone
+  abbrev left_alone : Rule → List FlatTerm
+  left_alone rule = rule.left ∷ []
 
-  pub both_fit : (rule : Rule) → IsKindedRule d rule → (ts us : List FlatTerm) → ts ≡ rule.left ∷ [] → us ≡ rule.right ∷ [] → AllFit d (ts ++ us)
-  both_fit rule h ts us e f = rw (e, f) (record { flat = h.left; kinded = (h.kinds.kind, h.kinds.left) }, (record { flat = h.right; kinded = (h.kinds.kind, h.kinds.right) }, tt))
+  pub left_fits : (rule : Rule) → IsKindedRule d rule → (ts : List FlatTerm) → ts ≡ rule.left ∷ [] → AllFit d ts
+  left_fits rule h ts e = rw e (record { flat = h.left; kinded = (h.kinds.kind, h.kinds.left) }, tt)
 
   module _ (rule other : Rule) where
     -- a matcher makes an instance
-    from_matcher : (s : Substitution) → IsMatcher d (map plain (both rule)) (map plain (both other)) s → HasInstance d rule other.left other.right
-    from_matcher s m = record { by = s; well_sorted = m.0; left = m.1.0; right = m.1.1.0 }
+    from_matcher : (s : Substitution) → IsMatcher d (map plain (left_alone rule)) (map plain (left_alone other)) s → HasInstance d rule other.left
+    from_matcher s m = record { by = s; well_sorted = m.0; left = m.1.0 }
 
     -- without one there is no instance
-    no_instance : HasNoMatcher d (both rule) (both other) → HasInstance d rule other.left other.right → ⊥
-    no_instance nothing h = nothing h.by (h.well_sorted, (h.left, (h.right, tt)))
+    no_instance : HasNoMatcher d (left_alone rule) (left_alone other) → HasInstance d rule other.left → ⊥
+    no_instance nothing h = nothing h.by (h.well_sorted, (h.left, tt))
 
     -- what is found tells whether there is one
-    pub told : (ps ts : List FlatTerm) → ps ≡ both rule → ts ≡ both other → (o : Option Bindings) (b : Bool) → b ≡ is_some o →
-        IfSome o (Matches d ps ts) → (o ≡ None → HasNoMatcher d ps ts) → IsTrue b ↔ HasInstance d rule other.left other.right
-    told ps ts e f None b is some nothing = (λ t. (let q : true ≡ false = sym t ∙ is in cc), λ h. absurd (no_instance (subst (λ l. HasNoMatcher d l (both other)) e (subst (HasNoMatcher d ps) f (nothing refl))) h))
-    told ps ts e f (Some s) b is some nothing = (λ t. from_matcher (substitution s) (subst (λ l. Matches d l (both other) s) e (subst (λ l. Matches d ps l s) f some)), λ h. is)
+    pub told : (ps ts : List FlatTerm) → ps ≡ rule.left ∷ [] → ts ≡ other.left ∷ [] → (o : Option Bindings) (b : Bool) → b ≡ is_some o →
+        IfSome o (Matches d ps ts) → (o ≡ None → HasNoMatcher d ps ts) → IsTrue b ↔ HasInstance d rule other.left
+    told ps ts e f None b is some nothing =
+        (λ t. (let q : true ≡ false = sym t ∙ is in cc), λ h. absurd (no_instance (subst (λ l. HasNoMatcher d l (left_alone other)) e (subst (HasNoMatcher d ps) f (nothing refl))) h))
+    told ps ts e f (Some s) b is some nothing =
+        (λ t. from_matcher (substitution s) (subst (λ l. Matches d l (left_alone other) s) e (subst (λ l. Matches d ps l s) f some)), λ h. is)

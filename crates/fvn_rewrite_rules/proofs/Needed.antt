@@ -12,7 +12,7 @@ use Rattle.fvn_flat.specs.Forms.{head_of}
 use Rattle.fvn_rewrite_rules.specs.declared.rule.Rule.{Rule}
 use Rattle.fvn_rewrite_rules.specs.Given.{HasInstance, HaveNoInstances}
 use Rattle.fvn_rewrite_rules.specs.inner.Making.{IsKindedRule}
-use Rattle.fvn_rewrite_rules.specs.inner.Heads.{HasAsInstance, SomeHasInstance, AreApart, AreLeft, AreNeededWith, AreNeeded, IsTable}
+use Rattle.fvn_rewrite_rules.specs.inner.Heads.{HasAsInstance, SomeHasInstance, ServesAs, SomeServesAs, AreApart, AreLeft, AreNeededWith, AreNeeded, IsTable}
 use Rattle.fvn_rewrite_rules.proofs.General.{HasInstance-of, HasInstance-trans}
 use Rattle.fvn_rewrite_rules.proofs.Collecting.{All-contained, AllPairs-append}
 
@@ -23,17 +23,24 @@ not_told t f = let q : true ≡ false = sym t ∙ f in cc
 module _ (d : Declarations) where
   -- a rule that is listed has itself as an instance
   itself : (rules : List Rule) (rule : Rule) → Contains rules rule → SomeHasInstance d rules rule
-  itself rules rule c = (rule, (c, HasInstance-of d rule rule.left rule.right refl refl))
+  itself rules rule c = (rule, (c, HasInstance-of d rule rule.left refl))
 
-  -- no rule has it as an instance, among none and with one more
-  pub none_of_none : (rule : Rule) → SomeHasInstance d [] rule → ⊥
-  none_of_none rule h = contains_none h.0 h.1.0
+  -- no rule serves, among none and with one more
+  pub none_of_none : (rule : Rule) → SomeServesAs d [] rule false
+  none_of_none rule r c = absurd (contains_none r c)
 
-  pub none_of_more : (rule : Rule) (rules more : List Rule) (r : Rule) → more ≡ rules ++ r ∷ [] → (SomeHasInstance d rules rule → ⊥) → (HasAsInstance d r rule → ⊥) → SomeHasInstance d more rule → ⊥
-  none_of_more rule rules more r e none_has none_of h = elim (Contains-push_cases rules r h.0 (subst (λ (l : List Rule). Contains l h.0) e h.1.0)) as (λ _. ⊥) [
-    | inl i ↦ none_has (h.0, (i, h.1.1))
-    | inr q ↦ none_of (subst (λ (v : Rule). HasAsInstance d v rule) (sym q) h.1.1)
+  pub none_of_more : (rule : Rule) (rules more : List Rule) (r : Rule) → more ≡ rules ++ r ∷ [] → SomeServesAs d rules rule false → (b : Bool) → b ≡ false → ServesAs d r rule b → SomeServesAs d more rule false
+  none_of_more rule rules more r e none_serves b is h general c = elim (Contains-push_cases rules r general (subst (λ (l : List Rule). Contains l general) e c)) as (λ _. ServesAs d general rule false) [
+    | inl i ↦ none_serves general i
+    | inr q ↦ subst (λ (v : Rule). ServesAs d v rule false) q (subst (ServesAs d r rule) is h)
   ]
+
+  -- what serves has the rule as an instance
+  pub serves_one : (rule other : Rule) (b : Bool) → b ≡ true → ServesAs d rule other b → HasAsInstance d rule other
+  serves_one rule other b is h = subst (ServesAs d rule other) is h
+
+  pub serves_some : (rules : List Rule) (other : Rule) (b : Bool) → b ≡ true → SomeServesAs d rules other b → SomeHasInstance d rules other
+  serves_some rules other b is h = subst (SomeServesAs d rules other) is h
 
   -- no rules are apart, and one more
   none_apart : AreApart d []
@@ -84,45 +91,45 @@ module _ (d : Declarations) where
             | inr e ↦ subst (Contains (rules ++ r ∷ [])) e (Contains-push rules r)
           ]
 
-          kept : (rule : Rule) → Contains left rule ⊎ HasInstance d general rule.left rule.right → Contains (left ++ r ∷ []) rule ⊎ HasInstance d general rule.left rule.right
+          kept : (rule : Rule) → Contains left rule ⊎ HasInstance d general rule.left → Contains (left ++ r ∷ []) rule ⊎ HasInstance d general rule.left
           kept rule (inl i) = inl (Contains-append_left left (r ∷ []) rule i)
           kept rule (inr h) = inr h
 
-          other : (rule : Rule) → Contains (rules ++ r ∷ []) rule → Contains (left ++ r ∷ []) rule ⊎ HasInstance d general rule.left rule.right
-          other rule c = elim (Contains-push_cases rules r rule c) as (λ _. Contains (left ++ r ∷ []) rule ⊎ HasInstance d general rule.left rule.right) [
+          other : (rule : Rule) → Contains (rules ++ r ∷ []) rule → Contains (left ++ r ∷ []) rule ⊎ HasInstance d general rule.left
+          other rule c = elim (Contains-push_cases rules r rule c) as (λ _. Contains (left ++ r ∷ []) rule ⊎ HasInstance d general rule.left) [
             | inl i ↦ kept rule (old.others rule i)
             | inr e ↦ inl (subst (Contains (left ++ r ∷ [])) e (Contains-push left r))
           ]
 
-      pub left_out : HasInstance d general r.left r.right → AreLeft d general (rules ++ r ∷ []) left
+      pub left_out : HasInstance d general r.left → AreLeft d general (rules ++ r ∷ []) left
       left_out h = record {
         listed = λ rule c. Contains-append_left rules (r ∷ []) rule (old.listed rule c);
-        others = λ rule c. elim (Contains-push_cases rules r rule c) as (λ _. Contains left rule ⊎ HasInstance d general rule.left rule.right) [
+        others = λ rule c. elim (Contains-push_cases rules r rule c) as (λ _. Contains left rule ⊎ HasInstance d general rule.left) [
           | inl i ↦ old.others rule i
-          | inr e ↦ inr (subst (λ (v : Rule). HasInstance d general v.left v.right) e h)
+          | inr e ↦ inr (subst (λ (v : Rule). HasInstance d general v.left) e h)
         ];
         no_instances = old.no_instances;
         apart = λ a. old.apart (apart_before rules r a);
       }
 
   module _ (rule : Rule) (before : List Rule) where
-    -- one of them has the rule as an instance
+    -- one of them serves in place of the rule
     pub with_none : SomeHasInstance d before rule → AreNeededWith d rule before before
     with_none h = record { listed = λ r c. inl c; before_too = λ r c. itself before r c; this_too = h; apart = λ a. a }
 
     -- the rule stands behind those that are no instances of it
-    pub with_one : (SomeHasInstance d before rule → ⊥) → (left : List Rule) → AreLeft d rule before left → AreNeededWith d rule before (left ++ rule ∷ [])
-    with_one none_has left old = record {
+    pub with_one : SomeServesAs d before rule false → (left : List Rule) → AreLeft d rule before left → AreNeededWith d rule before (left ++ rule ∷ [])
+    with_one none_serves left old = record {
       listed = λ r c. elim (Contains-push_cases left rule r c) as (λ _. Contains before r ⊎ (r ≡ rule)) [
         | inl i ↦ inl (old.listed r i)
         | inr e ↦ inr (sym e)
       ];
       before_too = λ r c. go r (old.others r c);
       this_too = itself (left ++ rule ∷ []) rule (Contains-push left rule);
-      apart = λ a. apart_push left rule (old.apart a) (λ x i. record { first = λ h. none_has (x, (old.listed x i, h)); second = old.no_instances x i });
+      apart = λ a. apart_push left rule (old.apart a) (λ x i. record { first = λ h. old.no_instances x i (none_serves x (old.listed x i) h); second = old.no_instances x i });
     }
       where
-        go : (r : Rule) → Contains left r ⊎ HasInstance d rule r.left r.right → SomeHasInstance d (left ++ rule ∷ []) r
+        go : (r : Rule) → Contains left r ⊎ HasInstance d rule r.left → SomeHasInstance d (left ++ rule ∷ []) r
         go r (inl i) = itself (left ++ rule ∷ []) r (Contains-append_left left (rule ∷ []) r i)
         go r (inr h) = (rule, (Contains-push left rule, h))
 
@@ -144,7 +151,7 @@ module _ (d : Declarations) where
           through : (rule : Rule) → SomeHasInstance d needed rule → SomeHasInstance d after rule
           through rule w =
               let v = new.before_too w.0 w.1.0 in
-              (v.0, (v.1.0, HasInstance-trans d v.0 w.0 rule.left rule.right v.1.1 w.1.1))
+              (v.0, (v.1.0, HasInstance-trans d v.0 w.0 rule.left v.1.1 w.1.1))
 
           enough_with : (rule : Rule) → Contains (rules ++ r ∷ []) rule → head_of rule.left ≡ Some f → SomeHasInstance d after rule
           enough_with rule c g = elim (Contains-push_cases rules r rule c) as (λ _. SomeHasInstance d after rule) [

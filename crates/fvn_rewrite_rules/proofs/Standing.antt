@@ -11,7 +11,8 @@ use Rattle.fvn_terms.specs.declared.declarations.Declarations.{Declarations}
 use Rattle.fvn_terms.specs.Term.{Term, var}
 use Rattle.fvn_terms.specs.Substitution.{apply, same_var, Occurs}
 use Rattle.fvn_terms.specs.Signature.{axioms, HasKind}
-use Rattle.fvn_terms.specs.Equality.{two, IsAssociative, BEqual}
+use Rattle.fvn_terms.specs.Equality.{two, is_sum, IsAssociative, BEqual}
+use Rattle.fvn_terms.proofs.AxiomWords.{sums_associate, associative_sums}
 use Rattle.fvn_terms.proofs.Substitutions.{apply-var}
 use Rattle.fvn_terms.proofs.Equal.{HasKind-apply}
 use Rattle.fvn_terms.proofs.Occurrences.{occurs_value, BEqual-occurs}
@@ -27,15 +28,15 @@ use Rattle.fvn_signature.specs.Queries.{IsCompleted}
 use Rattle.fvn_flat.specs.Forms.{head_of}
 use Rattle.fvn_flat.specs.Successors.{renamed_form}
 use Rattle.fvn_flat.specs.Rules.{GoesToIdentity, IsIdentityInstance, IsExtension, IsRuleFrom}
-use Rattle.fvn_flat.specs.Joining.{joins}
 use Rattle.fvn_flat.proofs.Binding.{same_var_is, same_var_itself}
 use Rattle.fvn_rewrite_laws.specs.Kinds.{HasOneKind}
 use Rattle.fvn_rewrite_laws.proofs.Collapsing.{keeps}
 use Rattle.fvn_rewrite_rules.specs.declared.rule.Rule.{Rule}
+use Rattle.fvn_rewrite_rules.specs.Given.{HasOldVariables}
 use Rattle.fvn_rewrite_rules.specs.inner.Making.{IsKindedRule, new_variable, beside, extended, extension_under, extension_of, AreInstances, StandsFor, AreRulesFrom}
 use Rattle.fvn_rewrite_rules.proofs.General.{renaming_sorted, HasInstance-of}
 use Rattle.fvn_rewrite_rules.proofs.Choosing.{instance_kinded}
-use Rattle.fvn_rewrite_rules.proofs.Wide.{joins_associative, associative_joins, swapped_if, swapped, swapped_sorts, head_app, app_head, renamed_beside, new_sort, pair_kind, beside_canon, beside_kind, beside_head, renamed_equal}
+use Rattle.fvn_rewrite_rules.proofs.Wide.{swapped_if, swapped, swapped_sorts, head_app, app_head, renamed_beside, new_sort, pair_kind, beside_canon, beside_kind, beside_head, renamed_equal}
 
 -- what a filter with changes keeps
 pub filter_map_contains : {A B : Type 0} (h : A → Option B) (xs : List A) (x : A) (y : B) → Contains xs x → h x ≡ Some y → Contains (filter_map h xs) y
@@ -62,25 +63,25 @@ contains_filter_map {A} {B} h (a ∷ xs) y c = go (h a) refl (contains_filter_ma
 
 module _ (d : Declarations) where
   -- the extension of a rule, by its head
-  pub extension_is : (rule : Rule) (f : OpId) → head_of rule.left ≡ Some f → joins (axioms d f) ≡ true → extension_of d rule ≡ Some (extended d rule f)
+  pub extension_is : (rule : Rule) (f : OpId) → head_of rule.left ≡ Some f → is_sum (axioms d f) ≡ true → extension_of d rule ≡ Some (extended d rule f)
   extension_is rule f e j = ap (extension_under d rule) e ∙ ap (λ (b : Bool). if b then Some (extended d rule f) else None) j
 
   -- how an extension was made
   pub record IsExtended (rule wide : Rule) : Type 0 where
     pub operator : OpId
     pub head : head_of rule.left ≡ Some operator
-    pub joins_it : joins (axioms d operator) ≡ true
+    pub makes_sums : is_sum (axioms d operator) ≡ true
     pub is : extended d rule operator ≡ wide
 
   pub extension_only : (rule wide : Rule) → extension_of d rule ≡ Some wide → IsExtended rule wide
   extension_only rule wide e = go (head_of rule.left) refl e where
-    at : (f : OpId) → head_of rule.left ≡ Some f → (b : Bool) → joins (axioms d f) ≡ b → (if b then Some (extended d rule f) else None) ≡ Some wide → IsExtended rule wide
-    at f p true j q = record { operator = f; head = p; joins_it = j; is = cc }
+    at : (f : OpId) → head_of rule.left ≡ Some f → (b : Bool) → is_sum (axioms d f) ≡ b → (if b then Some (extended d rule f) else None) ≡ Some wide → IsExtended rule wide
+    at f p true j q = record { operator = f; head = p; makes_sums = j; is = cc }
     at f p false j q = cc
 
     go : (o : Option OpId) → head_of rule.left ≡ o → extension_under d rule o ≡ Some wide → IsExtended rule wide
     go None p q = cc
-    go (Some f) p q = at f p (joins (axioms d f)) refl q
+    go (Some f) p q = at f p (is_sum (axioms d f)) refl q
 
   -- a flat form as it is
   as_it_is : (t : FlatTerm) → Settled d t → renamed_form d (λ x. x) t ≡ t
@@ -95,7 +96,7 @@ module _ (d : Declarations) where
       left = e ∙ sym (as_it_is l (subst (Settled d) e kinded.left));
       right = f ∙ sym (as_it_is r (subst (Settled d) f kinded.right));
     };
-    instance = HasInstance-of d rule l r e f;
+    instance = HasInstance-of d rule l e;
     head = ap head_of e;
   }
 
@@ -138,9 +139,6 @@ module _ (d : Declarations) (good : IsGood d) (completed : IsCompleted d) (equat
 
       not_left : Occurs z (plain rule.left) → ⊥
       not_left o = z_fresh z (not_fresh z (left_variable rule.left rule.right i z o)) refl
-
-      not_right : Occurs z (plain rule.right) → ⊥
-      not_right o = z_fresh z (not_fresh z (brings_none z (right_variable rule.left rule.right i z o))) refl
 
       canon_left : (x : Var) → x.sort ≡ k → beside d f x rule.left ≡ canon d (two f (plain rule.left) (var x))
       canon_left x e = beside_canon d good f rule.left k kinded.left kinded.kinds.left heads associative x e rule.left kinded.left kinded.kinds.left
@@ -229,7 +227,6 @@ module _ (d : Declarations) (good : IsGood d) (completed : IsCompleted d) (equat
             by = λ y. var (swapped z x y);
             well_sorted = renaming_sorted d (swapped z x) back;
             left = renamed_equal d good (swapped z x) back (beside d f z rule.left) (beside d f x rule.left) k (wide_kind rule.left kinded.left kinded.kinds.left) (renamed_beside d f z x rule.left kinded.left not_left);
-            right = renamed_equal d good (swapped z x) back (beside d f z rule.right) (beside d f x rule.right) k (wide_kind rule.right kinded.right kinded.kinds.right) (renamed_beside d f z x rule.right kinded.right not_right);
           };
           head = beside_head d good f rule.left k kinded.left kinded.kinds.left heads associative z ∙ sym (beside_head d good f rule.left k kinded.left kinded.kinds.left heads associative x);
         }
@@ -239,6 +236,19 @@ module _ (d : Declarations) (good : IsGood d) (completed : IsCompleted d) (equat
 
             wide_kind : (u : FlatTerm) → Settled d u → HasKind d (plain u) k → HasKind d (plain (beside d f z u)) k
             wide_kind u s h = beside_kind d good f rule.left k kinded.left kinded.kinds.left heads associative z z_sort u s h
+
+      -- its variables are those of the rule, and the new one
+      pub extended_old : HasOldVariables (extended d rule f)
+      extended_old y o =
+          elim (known z z_sort (λ p. z_fresh z (not_fresh z p) refl) (λ p. z_fresh z (not_fresh z (brings_none z p)) refl) y o) as (λ _. (y.fresh ≡ false) ⊎ (y.name ≡ 0)) [
+            | inl e ↦ inl e
+            | inr e ↦ inr (sym (ap (λ (v : Var). v.name) e))
+          ]
+
+    -- those of an instance are those of the equation
+    pub instance_old : (rule : Rule) → IsIdentityInstance d equation rule.left rule.right → HasOldVariables rule
+    instance_old rule i x (inl o) = inl (not_fresh x (left_variable rule.left rule.right i x o))
+    instance_old rule i x (inr o) = inl (not_fresh x (brings_none x (right_variable rule.left rule.right i x o)))
 
     -- instances and the extensions of these are all rules
     module _ (number : ℕ) (rules : List Rule) (all : AreInstances d number equation rules) where
@@ -255,7 +265,7 @@ module _ (d : Declarations) (good : IsGood d) (completed : IsCompleted d) (equat
             let s = all.sound w.0 w.1.0 in
             let x = extension_only d w.0 rule w.1.1 in
             subst (λ (v : Rule). (v.equation ≡ number) × IsRuleFrom d equation v.left v.right) x.is
-            (s.0, inr (is_extension w.0 s.1 (kinded_of w.0 w.1.0) x.operator x.head (joins_associative (axioms d x.operator) x.joins_it)))
+            (s.0, inr (is_extension w.0 s.1 (kinded_of w.0 w.1.0) x.operator x.head (sums_associate (axioms d x.operator) x.makes_sums)))
 
         go : Contains rules rule ⊎ Contains wide rule → (rule.equation ≡ number) × IsRuleFrom d equation rule.left rule.right
         go (inl i) = let s = all.sound rule i in (s.0, inl s.1)
@@ -278,11 +288,23 @@ module _ (d : Declarations) (good : IsGood d) (completed : IsCompleted d) (equat
           let r_is = canon_right rule s kinded f heads e.associative x x_sort ∙ ap (λ t. canon d (two f (plain t) (var x))) w.1.1.1 ∙ sym e.right in
           let stands = extended_stands rule s kinded f heads e.associative x x_sort e.new_left e.new_right in (
             extended d rule f,
-            (Contains-append_right rules wide (extended d rule f) (filter_map_contains (extension_of d) rules rule (extended d rule f) w.1.0 (extension_is d rule f heads (associative_joins (axioms d f) e.associative))), rw (l_is, r_is) at stands),
+            (Contains-append_right rules wide (extended d rule f) (filter_map_contains (extension_of d) rules rule (extended d rule f) w.1.0 (extension_is d rule f heads (associative_sums (axioms d f) e.associative))), rw (l_is, r_is) at stands),
           )
 
+      old_from : (rule : Rule) → Contains (rules ++ wide) rule → HasOldVariables rule
+      old_from rule c = go (Contains-append_cases rules wide rule c) where
+        at : (i : Rule) × (Contains rules i × (extension_of d i ≡ Some rule)) → HasOldVariables rule
+        at w =
+            let x = extension_only d w.0 rule w.1.1 in
+            subst HasOldVariables x.is
+            (extended_old w.0 (all.sound w.0 w.1.0).1 (kinded_of w.0 w.1.0) x.operator x.head (sums_associate (axioms d x.operator) x.makes_sums))
+
+        go : Contains rules rule ⊎ Contains wide rule → HasOldVariables rule
+        go (inl i) = instance_old rule (all.sound rule i).1
+        go (inr i) = at (contains_filter_map (extension_of d) rules rule i)
+
       pub all_rules : AreRulesFrom d number equation (rules ++ wide)
-      all_rules = record { sound = sound_from; complete = complete_from }
+      all_rules = record { sound = sound_from; complete = complete_from; old = old_from }
         where
           complete_from : (l r : FlatTerm) → IsRuleFrom d equation l r → (rule : Rule) × (Contains (rules ++ wide) rule × StandsFor d l r rule)
           complete_from l r (inl i) = let w = instance_given l r i in (w.0, (Contains-append_left rules wide w.0 w.1.0, same_stands d l r w.0 (kinded_of w.0 w.1.0) w.1.1.0 w.1.1.1))

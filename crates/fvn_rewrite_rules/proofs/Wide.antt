@@ -11,7 +11,8 @@ use Rattle.fvn_terms.specs.declared.declarations.Declarations.{Declarations}
 use Rattle.fvn_terms.specs.Term.{Term, Terms, var, app, none, more}
 use Rattle.fvn_terms.specs.Substitution.{apply, same_var, Occurs}
 use Rattle.fvn_terms.specs.Signature.{kind, axioms, IsSort, HasKind}
-use Rattle.fvn_terms.specs.Equality.{two, IsAssociative, BEqual}
+use Rattle.fvn_terms.specs.Equality.{two, is_sum, IsAssociative, BEqual}
+use Rattle.fvn_terms.proofs.AxiomWords.{sums_associate}
 use Rattle.fvn_terms.proofs.Substitutions.{apply-var, apply-agree}
 use Rattle.fvn_terms.proofs.Equal.{HasKind-apply}
 use Rattle.fvn_forms.specs.Flat.{FlatTerm, fvar, fapp, fnone, fmore, plain, plain_all}
@@ -30,25 +31,11 @@ use Rattle.fvn_flat.specs.Forms.{head_of}
 use Rattle.fvn_flat.specs.Fits.{AllFit, TakesAsDeclared, Takes}
 use Rattle.fvn_flat.specs.Drawn.{Renaming}
 use Rattle.fvn_flat.specs.Successors.{renamed_form}
-use Rattle.fvn_flat.specs.Joining.{joins}
 use Rattle.fvn_flat.proofs.Binding.{same_var_is, same_var_itself}
 use Rattle.fvn_rewrite_laws.proofs.Shaping.{two_terms}
 use Rattle.fvn_rewrite_rules.specs.declared.rule.Rule.{Rule}
 use Rattle.fvn_rewrite_rules.specs.inner.Making.{IsKindedRule, new_variable, beside}
 use Rattle.fvn_rewrite_rules.proofs.General.{renaming_sorted}
-
--- a sort at its place
-pub joins_associative : (a : Axioms) → joins a ≡ true → IsAssociative a
-joins_associative Free e = cc
-joins_associative Comm e = cc
-joins_associative AssocComm e = tt
-joins_associative (AssocCommId o) e = tt
-
-pub associative_joins : (a : Axioms) → IsAssociative a → joins a ≡ true
-associative_joins Free h = absurd h
-associative_joins Comm h = absurd h
-associative_joins AssocComm h = refl
-associative_joins (AssocCommId o) h = refl
 
 -- z where x stands, and others as they are
 abbrev pub swapped_if : Var → Bool → Var → Var
@@ -178,7 +165,7 @@ module _ (d : Declarations) where
           of_joined (u ∷ v ∷ l) n = refl
 
     -- both sides of a rule may stand beside a new variable
-    module _ (rule : Rule) (kinded : IsKindedRule d rule) (f : OpId) (heads : head_of rule.left ≡ Some f) (joins_it : joins (axioms d f) ≡ true) (z : Var) (new : z ≡ new_variable d rule.left) where
+    module _ (rule : Rule) (kinded : IsKindedRule d rule) (f : OpId) (heads : head_of rule.left ≡ Some f) (makes_sums : is_sum (axioms d f) ≡ true) (z : Var) (new : z ≡ new_variable d rule.left) where
       abbrev k : SortId
       k = kinded.kinds.kind
 
@@ -187,14 +174,14 @@ module _ (d : Declarations) where
 
       pub left_beside : AllFit d (rule.left ∷ fvar z ∷ []) × Takes d f (rule.left ∷ fvar z ∷ [])
       left_beside =
-          let a = joins_associative (axioms d f) joins_it in (
+          let a = sums_associate (axioms d f) makes_sums in (
             fit f rule.left k kinded.left kinded.kinds.left heads a z new_kind rule.left kinded.left kinded.kinds.left,
             takes f rule.left k kinded.left kinded.kinds.left heads a z new_kind rule.left kinded.left kinded.kinds.left,
           )
 
       pub right_beside : AllFit d (rule.right ∷ fvar z ∷ []) × Takes d f (rule.right ∷ fvar z ∷ [])
       right_beside =
-          let a = joins_associative (axioms d f) joins_it in (
+          let a = sums_associate (axioms d f) makes_sums in (
             fit f rule.left k kinded.left kinded.kinds.left heads a z new_kind rule.right kinded.right kinded.kinds.right,
             takes f rule.left k kinded.left kinded.kinds.left heads a z new_kind rule.right kinded.right kinded.kinds.right,
           )

@@ -1,6 +1,7 @@
--- What is promised of the rules of a module.
+-- What is promised of the rules of equations.
 -- G. E. Peterson and M. E. Stickel, Complete sets of reductions for some equational theories, 1981.
-use Rattle.std.specs.Prelude.{◌≡◌, ◌⊎◌, ◌≤◌, ◌+◌, ℕ, List, [], All, AllPairs, Contains, Some, slice_get, slice_index_or}
+use Rattle.std.specs.Prelude.{◌≡◌, ◌⊎◌, ◌≤◌, ◌+◌, ℕ, false, List, [], All, AllPairs, Contains, Some, slice_get, slice_index_or}
+use Rattle.fvn_terms.specs.declared.plain.Var.{Var}
 use Rattle.fvn_terms.specs.declared.plain.OpId.{OpId}
 use Rattle.fvn_terms.specs.declared.declarations.Declarations.{Declarations}
 use Rattle.fvn_terms.specs.Substitution.{Substitution, apply, Occurs}
@@ -11,8 +12,8 @@ use Rattle.fvn_flat.specs.Forms.{head_of}
 use Rattle.fvn_flat.specs.Drawn.{Renaming}
 use Rattle.fvn_flat.specs.Successors.{IsRenaming, renamed_form}
 use Rattle.fvn_flat.specs.Rules.{IsRuleFrom, IsRuleOf}
-use Rattle.fvn_module.specs.declared.equation.Equation.{Equation}
-use Rattle.fvn_cohere.specs.Promises.{sides_of, equations_of}
+use Rattle.fvn_theory.specs.declared.equation.Equation.{Equation}
+use Rattle.fvn_theory.specs.Equations.{sides_of, equations_of}
 use Rattle.fvn_rewrite_rules.specs.declared.rule.Rule.{Rule}
 
 -- equations, the rules that are made from them, and for each operator those that are needed under it
@@ -29,6 +30,11 @@ headed lists f = slice_index_or lists.table f.0 []
 abbrev pub AreOrdered : List Rule → Type 0
 AreOrdered = AllPairs (λ (a b : Rule). a.equation ≤ b.equation)
 
+-- Each variable of the rule is not fresh, or has number 0, so that none is among the fresh ones that are numbered from 1.
+abbrev pub HasOldVariables : Rule → Type 0
+HasOldVariables rule =
+    (x : Var) → Occurs x (plain rule.left) ⊎ Occurs x (plain rule.right) → (x.fresh ≡ false) ⊎ (x.name ≡ 0)
+
 module _ (d : Declarations) where
   -- the rule is l = r with renamed variables, flat again
   pub record IsRenamedRule (l r : FlatTerm) (rule : Rule) : Type 0 where
@@ -37,17 +43,16 @@ module _ (d : Declarations) where
     pub left : rule.left ≡ renamed_form d by l
     pub right : rule.right ≡ renamed_form d by r
 
-  -- l = r is an instance of the rule: one well-sorted substitution makes both sides, modulo the axioms
-  pub record HasInstance (rule : Rule) (l r : FlatTerm) : Type 0 where
+  -- l is an instance of the rule's left side: a well-sorted substitution makes it l, modulo the axioms
+  pub record HasInstance (rule : Rule) (l : FlatTerm) : Type 0 where
     pub by : Substitution
     pub well_sorted : IsWellSorted d by
     pub left : BEqual d (apply by (plain rule.left)) (plain l)
-    pub right : BEqual d (apply by (plain rule.right)) (plain r)
 
-  -- neither rule is an instance of the other
+  -- the left side of neither rule is an instance of the other's
   pub record HaveNoInstances (a b : Rule) : Type 0 where
-    pub first : HasInstance a b.left b.right → ⊥
-    pub second : HasInstance b a.left a.right → ⊥
+    pub first : HasInstance a b.left → ⊥
+    pub second : HasInstance b a.left → ⊥
 
   -- the rule is made from the equation whose number, from 1, it has
   pub record IsNumberedRule (equations : List Equation) (rule : Rule) : Type 0 where
@@ -72,15 +77,15 @@ module _ (d : Declarations) where
         (rule : Rule) → Contains (headed lists f) rule →
         Contains lists.rules rule × (head_of rule.left ≡ Some f)
 
-    -- each rule of the equations whose left side f heads is an instance of one of them,
+    -- each left side of a rule of the equations that f heads is an instance of that of one of them,
     -- so what none of them matches is matched by no rule that f heads
     abbrev pub AreEnoughUnder : Type 0
     AreEnoughUnder =
         (l r : FlatTerm) →
         IsRuleOf d (equations_of lists.equations) l r → head_of l ≡ Some f →
-        (rule : Rule) × (Contains (headed lists f) rule × HasInstance rule l r)
+        (rule : Rule) × (Contains (headed lists f) rule × HasInstance rule l)
 
-    -- none of them is an instance of another one
+    -- the left side of none of them is an instance of another's
     abbrev pub AreApartUnder : Type 0
     AreApartUnder = AllPairs HaveNoInstances (headed lists f)
 
@@ -89,6 +94,7 @@ module _ (d : Declarations) where
     pub sound : All (IsNumberedRule lists.equations) lists.rules
     pub complete : AreComplete lists.equations lists.rules
     pub ordered : AreOrdered lists.rules
+    pub old : All HasOldVariables lists.rules
     pub given : (f : OpId) → AreGivenUnder lists f
     pub enough : (f : OpId) → AreEnoughUnder lists f
     pub apart : (f : OpId) → AreApartUnder lists f

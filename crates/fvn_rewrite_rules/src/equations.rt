@@ -1,8 +1,7 @@
 //! The rules of equations.
 ghost use Rattle.std.specs.Prelude.{◌≡◌, All, IfOk};
 ghost use Rattle.fvn_rewrite_laws.specs.Identities.{identities};
-ghost use Rattle.fvn_module.specs.Readable.{IsReadableEquation};
-ghost use Rattle.fvn_cohere.specs.Promises.{sides_of};
+ghost use Rattle.fvn_theory.specs.Equations.{sides_of, IsReadableEquation};
 ghost use Rattle.fvn_rewrite_rules.specs.inner.Making.{AreRulesFrom};
 ghost use Rattle.fvn_rewrite_rules.specs.inner.Collecting.{AreAllRules};
 
@@ -10,9 +9,9 @@ use crate::extensions::extensions;
 use crate::instances::instances;
 use crate::rule::Rule;
 use fvn_cohere::all_identities;
-use fvn_module::Equation;
 use fvn_signature::Signature;
 use fvn_terms::{NoMemory, OpId};
+use fvn_theory::Equation;
 use std::alloc::Global;
 
 // The rules of one equation, with its number.
@@ -59,13 +58,8 @@ pub(crate) fn copied(alloc: Global, equations: &[Equation]) -> Result<Vec<Equati
 {
     let mut all = Vec::new(alloc);
     for e in equations {
-        let left = e.left.copy(alloc)?;
-        let right = e.right.copy(alloc)?;
-        all.push(Equation {
-            statement: e.statement,
-            left,
-            right,
-        })?;
+        let copy = e.copy(alloc)?;
+        all.push(copy)?;
     }
     Ok(all)
 }

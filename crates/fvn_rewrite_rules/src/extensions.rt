@@ -2,29 +2,17 @@
 ghost use Rattle.std.specs.Prelude.{◌≡◌, true, [], ◌∷◌, ◌++◌, filter_map, Some, All, IfOk};
 ghost use Rattle.std.specs.List.{cons_option};
 ghost use Rattle.fvn_terms.specs.Signature.{axioms};
+ghost use Rattle.fvn_terms.specs.Equality.{is_sum};
 ghost use Rattle.fvn_flat.specs.Fits.{Fits, AllFit, Takes};
 ghost use Rattle.fvn_flat.specs.Forms.{head_of};
 ghost use Rattle.fvn_forms.specs.Flat.{fvar};
-ghost use Rattle.fvn_flat.specs.Joining.{joins};
 ghost use Rattle.fvn_rewrite_rules.specs.inner.Making.{IsKindedRule, new_variable, beside, extended, extension_of};
 
 use crate::rule::Rule;
 use fvn_flat::Flat;
 use fvn_signature::Signature;
-use fvn_terms::{Axioms, NoMemory, OpId, Var};
+use fvn_terms::{NoMemory, OpId, Var};
 use std::alloc::Global;
-
-// Whether an operator with these axioms is associative.
-fn is_associative(axioms: Axioms) -> bool
-    ensures { result ≡ joins axioms }
-{
-    match axioms {
-        Axioms::Free => false,
-        Axioms::Comm => false,
-        Axioms::AssocComm => true,
-        Axioms::AssocCommId(_) => true,
-    }
-}
 
 // The fresh variable 0 of the form's kind.
 fn new_variable(sig: &Signature, t: &Flat) -> Var
@@ -57,7 +45,7 @@ fn beside(alloc: Global, sig: &Signature, f: OpId, z: Var, side: &Flat) -> Resul
 fn extended(alloc: Global, sig: &Signature, rule: &Rule, f: OpId) -> Result<Rule, NoMemory>
     requires kinds { IsKindedRule sig.now rule.now }
     requires head { head_of rule.now.left ≡ Some f }
-    requires associative { joins (axioms sig.now f) ≡ true }
+    requires associative { is_sum (axioms sig.now f) ≡ true }
     ensures { IfOk result (λ r. r ≡ extended sig.now rule.now f) }
 {
     sig.recall_good();
@@ -79,7 +67,7 @@ fn extension(alloc: Global, sig: &Signature, rule: &Rule) -> Result<Option<Rule>
     match rule.left.head() {
         None => Ok(None),
         Some(f) => {
-            if !is_associative(sig.axioms(f)) {
+            if !sig.axioms(f).is_sum() {
                 return Ok(None);
             }
             let wide = extended(alloc, sig, rule, f)?;

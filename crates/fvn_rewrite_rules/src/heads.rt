@@ -1,32 +1,52 @@
-//! The rules that are needed under each head: those of which no other is more general.
+//! The rules that are needed under each head: those of whose left sides no other is more general.
 ghost use Rattle.std.specs.Prelude.{◌≡◌, ◌↔◌, IsTrue, Some, All, IfOk};
 ghost use Rattle.fvn_flat.specs.Forms.{head_of};
 ghost use Rattle.fvn_rewrite_rules.specs.inner.Making.{IsKindedRule};
-ghost use Rattle.fvn_rewrite_rules.specs.inner.Heads.{HasAsInstance, SomeHasInstance, AreLeft, AreNeededWith, AreNeeded, IsTable};
+ghost use Rattle.fvn_rewrite_rules.specs.inner.Heads.{HasAsInstance, ServesAs, SomeServesAs, AreLeft, AreNeededWith, AreNeeded, IsTable};
 
 use crate::rule::Rule;
 use fvn_base::Seq;
-use fvn_match::matches_both;
+use fvn_match::matches;
 use fvn_signature::Signature;
 use fvn_terms::{NoMemory, OpId};
 use std::alloc::Global;
 use std::slice::from_ref;
 
-// Whether one substitution makes both sides of a rule those of another.
+// Whether a substitution makes the left side of a rule that of another.
 fn has_instance(alloc: Global, sig: &Signature, rule: &Rule, other: &Rule) -> Result<bool, NoMemory>
     requires rule { IsKindedRule sig.now rule.now }
     requires other { IsKindedRule sig.now other.now }
     ensures { IfOk result (λ b. IsTrue b ↔ HasAsInstance sig.now rule.now other.now) }
 {
-    let patterns = (from_ref(&rule.left), from_ref(&rule.right));
-    let targets = (from_ref(&other.left), from_ref(&other.right));
-    let found = matches_both(alloc, sig, patterns, targets)?;
+    let found = matches(alloc, sig, from_ref(&rule.left), from_ref(&other.left))?;
     let is = found.is_some();
     Ok(is)
 }
 
-// Whether one of the rules has this one as an instance.
-fn some_has_instance(
+// Whether a rule serves in place of another one: it has it as an instance, and where each has the other, the other has
+// no smaller right side.
+fn serves(alloc: Global, sig: &Signature, rule: &Rule, other: &Rule) -> Result<bool, NoMemory>
+    requires rule { IsKindedRule sig.now rule.now }
+    requires other { IsKindedRule sig.now other.now }
+    ensures { IfOk result (ServesAs sig.now rule.now other.now) }
+{
+    let general = has_instance(alloc, sig, rule, other)?;
+    if !general {
+        return Ok(false);
+    }
+    let small = rule.right.size() <= other.right.size();
+    if small {
+        return Ok(true);
+    }
+    let back = has_instance(alloc, sig, other, rule)?;
+    if back {
+        return Ok(false);
+    }
+    Ok(true)
+}
+
+// Whether one of the rules serves in place of this one.
+fn some_serves(
     alloc: Global,
     sig: &Signature,
     rules: &[Rule],
@@ -34,10 +54,10 @@ fn some_has_instance(
 ) -> Result<bool, NoMemory>
     requires rules { All (IsKindedRule sig.now) rules.now }
     requires rule { IsKindedRule sig.now rule.now }
-    ensures { IfOk result (λ b. IsTrue b ↔ SomeHasInstance sig.now rules.now rule.now) }
+    ensures { IfOk result (SomeServesAs sig.now rules.now rule.now) }
 {
     for general in rules {
-        let found = has_instance(alloc, sig, general, rule)?;
+        let found = serves(alloc, sig, general, rule)?;
         if found {
             return Ok(true);
         }
@@ -68,7 +88,7 @@ fn without_instances(
     Ok(all)
 }
 
-// The rules with one more, and without its instances; as they are, where one of them has it as an instance.
+// The rules with one more, and without its instances; as they are, where one of them serves in its place.
 fn needed_with(
     alloc: Global,
     sig: &Signature,
@@ -79,7 +99,7 @@ fn needed_with(
     requires rule { IsKindedRule sig.now rule.now }
     ensures { IfOk result (λ all. AreNeededWith sig.now rule.now needed.items all.items) }
 {
-    let found = some_has_instance(alloc, sig, needed.as_slice(), rule)?;
+    let found = some_serves(alloc, sig, needed.as_slice(), rule)?;
     if found {
         return Ok(needed);
     }

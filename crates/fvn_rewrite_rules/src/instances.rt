@@ -6,15 +6,15 @@ ghost use Rattle.fvn_flat.specs.Bindings.{BindingsFit};
 ghost use Rattle.fvn_rewrite_laws.specs.Kinds.{HasOneKind};
 ghost use Rattle.fvn_rewrite_laws.specs.Identities.{identities};
 ghost use Rattle.fvn_rewrite_laws.specs.Choices.{identities_below};
-ghost use Rattle.fvn_cohere.specs.Promises.{sides_of};
+ghost use Rattle.fvn_theory.specs.Equations.{sides_of};
 ghost use Rattle.fvn_rewrite_rules.specs.inner.Making.{goes_to, IsKindedRule, instance_by, by_identities, with_choices, AreInstancesOver, AreInstances};
 
 use crate::rule::Rule;
 use fvn_cohere::{distinct_variables, identities_below};
 use fvn_flat::{Subst, flatten};
-use fvn_module::Equation;
 use fvn_signature::Signature;
 use fvn_terms::{Args, NoMemory, OpId, Plain, Var};
+use fvn_theory::Equation;
 use std::alloc::Global;
 
 // The constant as a term.

@@ -1,14 +1,14 @@
-//! The rules of a module, with a table by heads.
+//! The rules of equations, with a table by heads.
 ghost use Rattle.std.specs.Prelude.{◌≡◌};
 ghost use Rattle.fvn_rewrite_rules.specs.Given.{headed};
 
 use crate::rule::Rule;
 use fvn_base::Seq;
-use fvn_module::Equation;
 use fvn_terms::OpId;
+use fvn_theory::Equation;
 use std::marker::Model;
 
-/// The equations of a module, the rules that are made from them, and for each operator those that are needed where it
+/// Equations, the rules that are made from them, and for each operator those that are needed where it
 /// heads a term. No query takes memory.
 #[derive(Drop)]
 pub struct Rules {
@@ -53,7 +53,8 @@ impl Rules {
         self.rules.as_slice()
     }
 
-    /// The rules that are needed where the operator heads a term: each left out is an instance of one of them.
+    /// The rules that are needed where the operator heads a term: the left side of each left out is an instance of that
+    /// of one of them.
     pub fn headed(&self, f: OpId) -> &[Rule]
         ensures { result.now ≡ headed self.now f }
     {

@@ -12,9 +12,8 @@ use std::alloc::Global;
 pub fn copied(alloc: Global, rank: &Rank) -> Result<Rank, NoMemory>
     ensures { IfOk result (λ r. r ≡ rank.now) }
 {
-    let args = Vec::from_slice(alloc, rank.args.as_slice())?;
     Ok(Rank {
-        args: Seq::from_vec(args),
+        args: Seq::from_slice(alloc, rank.args.as_slice())?,
         result: rank.result,
     })
 }

@@ -74,7 +74,7 @@ fn copied_rows(alloc: Global, rows: &[Seq<SortId>]) -> Result<Vec<Seq<SortId>>, 
 {
     let mut all = Vec::with_capacity(alloc, rows.len())?;
     for row in rows {
-        all.push(Seq::from_vec(Vec::from_slice(alloc, row.as_slice())?))?;
+        all.push(Seq::from_slice(alloc, row.as_slice())?)?;
     }
     Ok(all)
 }

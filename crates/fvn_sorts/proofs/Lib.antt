@@ -1,5 +1,5 @@
 -- The lemmas of the crate.
-mod CollectedSteps
+pub mod CollectedSteps
 mod AlikeLemmas
 mod ShapeLemmas
 mod LowestResults

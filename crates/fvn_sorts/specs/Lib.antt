@@ -1,3 +1,4 @@
 -- The faults of signatures.
 pub mod Faults
+pub mod Laws
 pub mod inner

@@ -17,7 +17,8 @@ use Rattle.fvn_syntax.specs.declared.seen.Seen.{Seen}
 use Rattle.fvn_syntax.specs.declared.seen.Kinded.{Kinded}
 use Rattle.fvn_syntax.specs.Pieces.{Text, is_reserved, without_last}
 use Rattle.fvn_syntax.specs.Raw.{RawTerm, RawTerms, name, call, round, kind_variable, last, and}
-use Rattle.fvn_syntax.specs.Names.{resolve_name, op_named, bracket, is_sum, result_of}
+use Rattle.fvn_terms.specs.Equality.{is_sum}
+use Rattle.fvn_syntax.specs.Names.{resolve_name, op_named, bracket, result_of}
 use Rattle.fvn_syntax.specs.Scope.{Scope}
 use Rattle.fvn_syntax.specs.Resolve.{Resolved, AllResolved, bind, or_fault, checked, nested, applied, application_fault, unless, apply, the_constant, the_variable, resolve_meaning, resolve_kind, resolve, resolve_all}
 use Rattle.fvn_syntax.specs.Readings.{sum_or_most, IsReadAs, Reads, Refuses}

@@ -7,17 +7,16 @@ use Rattle.fvn_terms.specs.declared.plain.SortId.{SortId}
 use Rattle.fvn_terms.specs.declared.plain.Plain.{Plain}
 use Rattle.fvn_terms.specs.declared.plain.Plain.TheVariants.{App}
 use Rattle.fvn_terms.specs.declared.declarations.Rank.{Rank}
-use Rattle.fvn_terms.specs.declared.declarations.Axioms.{Axioms}
-use Rattle.fvn_terms.specs.declared.declarations.Axioms.TheVariants.{Free, Comm, AssocComm, AssocCommId}
-use Rattle.fvn_terms.specs.Equality.{IsAssociative}
+use Rattle.fvn_terms.specs.Equality.{is_sum}
 use Rattle.fvn_terms.specs.Signature.{kind, declared, axioms, IsSort, HasKind, HaveKinds}
 use Rattle.fvn_terms.specs.Plain.{term, terms}
 use Rattle.fvn_syntax.specs.declared.fault.TermFault.{TermFault}
 use Rattle.fvn_syntax.specs.declared.fault.TermFault.TheVariants.{UnknownName, ReservedName}
+use Rattle.fvn_terms.proofs.AxiomWords.{sums_associate}
 use Rattle.fvn_syntax.specs.Pieces.{Text, is_reserved, without_last}
 use Rattle.fvn_syntax.specs.Texts.{place}
 use Rattle.fvn_syntax.specs.Raw.{RawTerm, RawTerms, name, call, round, kind_variable, last, and}
-use Rattle.fvn_syntax.specs.Names.{of_sort, kind_in, same_sort, sort_named, split_at, last_colon, if_of_kind, kind_of_all, bracket, variable_of, declared_sort, first_args, first_result, is_sum, args_of, arity_of, result_of, op_named, variable_named, constant_named}
+use Rattle.fvn_syntax.specs.Names.{of_sort, kind_in, same_sort, sort_named, split_at, last_colon, if_of_kind, kind_of_all, bracket, variable_of, declared_sort, first_args, first_result, args_of, arity_of, result_of, op_named, variable_named, constant_named}
 use Rattle.fvn_syntax.specs.Scope.{Scope}
 use Rattle.fvn_syntax.specs.Resolve.{Resolved, AllResolved, bind, or_fault, nested, nested_all, applied, wanted, fit_from, fits_number, apply, the_constant, the_variable, resolve_meaning, resolve_kind, resolve, resolve_all}
 use Rattle.fvn_syntax.specs.Laws.{IsFitting}
@@ -34,12 +33,6 @@ record First (rs : List Rank) : Type 0 where
 first-of : (rs : List Rank) (r : Rank) → Contains rs r → First rs
 first-of [] r h = absurd (let k = h.1 in omega (arith, k))
 first-of (q ∷ rs) r h = record { rank = q; listed = (0, omega arith, refl); args = refl; result = refl }
-
-sum-associates : (a : Axioms) → is_sum a ≡ true → IsAssociative a
-sum-associates Free h = cc
-sum-associates Comm h = cc
-sum-associates AssocComm h = tt
-sum-associates (AssocCommId e) h = tt
 
 same-sort : (s q : SortId) → same_sort s q ≡ true → s ≡ q
 same-sort s q h = let e : s.0 ≡ q.0 = eqb-true s.0 q.0 h in ap (λ n. record { 0 = n }) e
@@ -240,7 +233,7 @@ module _ (c : Scope) (fit : IsFitting c) where
       is_sum (axioms c.declarations f) ≡ true → fit_from c.declarations true f 0 ks ≡ true → Kinded (nested_all f ts) (result_of c.declarations f)
   sum-kinded f first [] ks a n s g = absurd (omega (arith, n))
   sum-kinded f first (t ∷ ts) ks a n s g =
-      let two = fit.sums f first.rank (sum-associates (axioms c.declarations f) s) first.listed in
+      let two = fit.sums f first.rank (sums_associate (axioms c.declarations f) s) first.listed in
       let e : result_of c.declarations f ≡ kind c.declarations first.rank.result = ap (kind c.declarations) first.result in
       let w : wanted c.declarations true f 0 ≡ kind c.declarations first.rank.result =
       ap (λ xs. kind c.declarations (slice_index_or xs 0 (record { 0 = 0 }))) first.args ∙ head-kind first.rank.args (kind c.declarations first.rank.result) two in

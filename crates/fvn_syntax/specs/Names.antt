@@ -3,8 +3,6 @@ use Rattle.std.specs.Prelude.{ℕ, ◌+◌, ◌==◌, Bool, true, false, if◌th
 use Rattle.fvn_terms.specs.declared.plain.OpId.{OpId}
 use Rattle.fvn_terms.specs.declared.plain.SortId.{SortId}
 use Rattle.fvn_terms.specs.declared.declarations.Rank.{Rank}
-use Rattle.fvn_terms.specs.declared.declarations.Axioms.{Axioms}
-use Rattle.fvn_terms.specs.declared.declarations.Axioms.TheVariants.{Free, Comm, AssocComm, AssocCommId}
 use Rattle.fvn_terms.specs.declared.declarations.Declarations.{Declarations}
 use Rattle.fvn_terms.specs.Signature.{kind, declared}
 use Rattle.fvn_syntax.specs.declared.names.Names.{Names}
@@ -108,13 +106,6 @@ first_args (r ∷ rs) = r.args
 abbrev pub first_result : List Rank → SortId
 first_result [] = record { 0 = 0 }
 first_result (r ∷ rs) = r.result
-
--- sums are associative and commutative
-abbrev pub is_sum : Axioms → Bool
-is_sum Free = false
-is_sum Comm = false
-is_sum AssocComm = true
-is_sum (AssocCommId e) = true
 
 module _ (d : Declarations) where
   -- the sorts of an operator's arguments, in its first declaration

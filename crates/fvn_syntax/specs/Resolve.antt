@@ -16,7 +16,8 @@ use Rattle.fvn_syntax.specs.Raw.{RawTerm, RawTerms, name, call, round, kind_vari
 use Rattle.fvn_syntax.specs.Texts.{place_or_end, with_text}
 use Rattle.fvn_syntax.specs.declared.naming.Meaning.{Meaning}
 use Rattle.fvn_syntax.specs.declared.naming.Meaning.TheVariants.{Constant, Variable}
-use Rattle.fvn_syntax.specs.Names.{resolve_name, op_named, bracket, args_of, arity_of, result_of, is_sum, same_sort}
+use Rattle.fvn_terms.specs.Equality.{is_sum}
+use Rattle.fvn_syntax.specs.Names.{resolve_name, op_named, bracket, args_of, arity_of, result_of, same_sort}
 
 -- a term with its kind, and the names of the variables so far, in order of first occurrence
 pub record Resolved : Type 0 where

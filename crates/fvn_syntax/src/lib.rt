@@ -20,7 +20,7 @@ pub use laws::terms_are_well_kinded;
 pub use names::{Names, VarNames, Variables};
 pub use naming::{find_constant, find_last_colon, find_operator, find_sort, split_sorted};
 pub use piece::{Piece, Row, Text, cut};
-pub use reading::read_term;
+pub use reading::resolve_term;
 pub use scope::Scope;
 pub use seen::{Kinded, Seen};
 pub use sorts::RawSort;

@@ -2,13 +2,14 @@
 ghost use Rattle.std.specs.Prelude.{◌≡◌, ◌<◌, ◌≤◌, length, IfSome};
 ghost use Rattle.fvn_base.specs.declared.limits.TheConstants.{NAMES};
 ghost use Rattle.fvn_terms.specs.Signature.{axioms};
+ghost use Rattle.fvn_terms.specs.Equality.{is_sum};
 ghost use Rattle.fvn_syntax.specs.Texts.{place};
-ghost use Rattle.fvn_syntax.specs.Names.{last_colon, sort_named, sorted_name, kind_in, kind_of, if_of_kind, args_of, result_of, is_sum, op_named, constant_named, declared_sort, variable_named, resolve_name};
+ghost use Rattle.fvn_syntax.specs.Names.{last_colon, sort_named, sorted_name, kind_in, kind_of, if_of_kind, args_of, result_of, op_named, constant_named, declared_sort, variable_named, resolve_name};
 
 use crate::names::{Names, Variables};
 use crate::piece::Text;
 use crate::texts::Texts;
-use fvn_terms::{Axioms, Declarations, OpId, SortId};
+use fvn_terms::{Declarations, OpId, SortId};
 
 /// What a name alone stands for: a constant, or the variable of a name and a sort.
 #[derive(Drop)]
@@ -119,7 +120,7 @@ pub fn is_sum_operator(d: &Declarations, op: OpId) -> bool
     ensures { result ≡ is_sum (axioms d.now op) }
 {
     match d.declared(op) {
-        Some(declared) => matches!(declared.axioms, Axioms::AssocComm | Axioms::AssocCommId(_)),
+        Some(declared) => declared.axioms.is_sum(),
         None => false,
     }
 }

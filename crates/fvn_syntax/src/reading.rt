@@ -508,7 +508,7 @@ fn read_row(
 ///
 /// A term with which there are more symbols than the limit is tested and counted to its end, and not built. The
 /// depth of the term costs no call depth.
-pub fn read_term(
+pub fn resolve_term(
     alloc: Global,
     limit: usize,
     scope: &Scope<'_>,

@@ -18,7 +18,7 @@ use Rattle.fvn_forms.specs.Good.{IsGood}
 use Rattle.fvn_forms.proofs.Eval.{canon_settled}
 use Rattle.fvn_forms.proofs.ToCanon.{to_canon, canon_of_kind}
 use Rattle.fvn_flat.specs.Bindings.{Bindings, BindingsFit, bound, form_or, value}
-use Rattle.fvn_flat.proofs.Binding.{same_var_is, same_var_itself}
+use Rattle.fvn_terms.proofs.Variables.{same_var_is, same_var_itself}
 use Rattle.fvn_syntax.specs.Pieces.{Text}
 use Rattle.fvn_answer.specs.Asked.{AreAsked, HaveSorts}
 

@@ -4,7 +4,7 @@ mod queries;
 
 use fvn_lex::LexFault;
 use fvn_module::{Module, ModuleFault, Place, read_module};
-use fvn_module_statements::Feature;
+use fvn_module_syntax::Feature;
 use fvn_sorts::SigFault;
 use fvn_terms::NoMemory;
 use std::alloc::Global;

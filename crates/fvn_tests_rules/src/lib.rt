@@ -1,4 +1,4 @@
-//! Tests of what becomes of the equations of a module, through the public calls of `fvn_cohere`, `fvn_rewrite_rules` and `fvn_rewrite`.
+//! Tests of what becomes of equations, through the public calls of `fvn_cohere`, `fvn_rewrite_rules` and `fvn_rewrite`.
 #![tactic(auto)]
 
 #[cfg(test)]

@@ -1,7 +1,7 @@
 //! Writes flat terms.
 use fvn_flat::Flat;
 use fvn_signature::Signature;
-use fvn_terms::{Axioms, NoMemory, OpId, SortId, Var};
+use fvn_terms::{NoMemory, SortId, Var};
 
 fn push_letter(out: &mut String, first: u8, number: u16) -> Result<(), NoMemory> {
     out.push(char::from(first.wrapping_add((number % 20) as u8)))?;
@@ -21,15 +21,6 @@ fn push_var(out: &mut String, x: &Var) -> Result<(), NoMemory> {
     push_letter(out, b'0', (x.name % 10) as u16)
 }
 
-fn is_sum(sig: &Signature, f: OpId) -> bool {
-    match sig.axioms(f) {
-        Axioms::Free => false,
-        Axioms::Comm => false,
-        Axioms::AssocComm => true,
-        Axioms::AssocCommId(_) => true,
-    }
-}
-
 /// The arguments of a sum stand in square brackets.
 pub fn push_flat(out: &mut String, sig: &Signature, t: &Flat) -> Result<(), NoMemory> {
     if let Some(x) = t.as_var() {
@@ -37,7 +28,7 @@ pub fn push_flat(out: &mut String, sig: &Signature, t: &Flat) -> Result<(), NoMe
     }
     if let Some(f) = t.head() {
         push_letter(out, b'f', f.0)?;
-        let joined = is_sum(sig, f);
+        let joined = sig.axioms(f).is_sum();
         if t.args().is_empty() {
             return Ok(());
         }

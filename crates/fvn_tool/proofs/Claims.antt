@@ -17,8 +17,8 @@ use Rattle.fvn_cmd.specs.declared.status.Status.TheVariants.{Solved, Nothing, Us
 use Rattle.fvn_cmd.specs.Statuses.{IsSilent, IsSpoken, IsAnswering}
 use Rattle.fvn_cmd.specs.Laws.{ReadersAreLawful}
 use Rattle.fvn_cmd.specs.Texts.{Is}
-use Rattle.fvn_cmd.specs.Checks.{IsFirstRefusalOf, told_lines, TellsSorts}
-use Rattle.fvn_cmd.specs.Refusing.{AsksNoProblem, AreNoBindings, IsProblemRefusalOf, IsBindingRefusalOf}
+use Rattle.fvn_cmd.specs.Refusing.{IsFirstRefusalOf, AsksNoProblem, AreNoBindings, IsProblemRefusalOf, IsBindingRefusalOf}
+use Rattle.fvn_cmd_check.specs.Checks.{told_lines, TellsSorts}
 use Rattle.fvn_cmd_verify.specs.Verdicts.{TellsVerdict}
 use Rattle.fvn_cmd_verify.specs.Replies.{AreSolvedBy, IsAskedIn, IsAskedOf, IsVerifyReply}
 use Rattle.fvn_cmd_unify.specs.Replies.{IsAnswer, IsToBeUnified}
@@ -321,14 +321,16 @@ module _ (run : Run) (h : Leaves (IsOutcome run.words run.source) run.status run
   -- the outcome, what stays the same and the causes of faults are all that there is to prove of a run
   pub report : (run.status ≡ ReadFault → HasFailed run.source) → (run.status ≡ WriteFault → HasFailed run.sink) → ReadersAreLawful →
       (command_of run.words ≡ None → (run.status ≡ Usage) ⊎ (run.status ≡ WriteFault)) →
-      (command_of run.words ≡ None → run.source.after ≡ run.source.before) → (IsSilent run.status → run.sink.after ≡ run.sink.before) → IsReport run
-  report read write laws always unread unwritten = record {
+      (command_of run.words ≡ None → run.source.after ≡ run.source.before) → (IsSilent run.status → run.sink.after ≡ run.sink.before) →
+      (run.source.faults_before < run.source.faults_after → run.status ≡ ReadFault) → IsReport run
+  report read write laws always unread unwritten failed = record {
     outcome = h;
     unread = unread;
     unwritten = unwritten;
     whole = Leaves-weaker (IsOutcome run.words run.source) (IsOneText (command_of run.words)) (outcome_one_text run.words run.source) run.status run.sink h;
     read_fault = read;
     write_fault = write;
+    failed_read = failed;
     usage = refuses_words always;
     too_long = refuses_long;
     check = λ bytes asks. answers_check bytes asks laws.loaded laws.not_loaded laws.losses;

@@ -10,8 +10,8 @@ use Rattle.fvn_cmd.specs.declared.status.Status.{Status}
 use Rattle.fvn_cmd.specs.declared.status.Status.TheVariants.{Solved, Nothing, Usage, ModuleRefused, ProblemRefused, ReadFault, WriteFault, NoMemory}
 use Rattle.fvn_cmd.specs.Statuses.{IsSilent, IsAnswering}
 use Rattle.fvn_cmd.specs.Texts.{Is}
-use Rattle.fvn_cmd.specs.Checks.{IsFirstRefusalOf, IsCheckText, told_lines, TellsSorts}
-use Rattle.fvn_cmd.specs.Refusing.{AsksNoProblem, AreNoBindings, IsProblemRefusalOf, IsBindingRefusalOf}
+use Rattle.fvn_cmd.specs.Refusing.{IsFirstRefusalOf, AsksNoProblem, AreNoBindings, IsProblemRefusalOf, IsBindingRefusalOf}
+use Rattle.fvn_cmd_check.specs.Checks.{IsCheckText, told_lines, TellsSorts}
 use Rattle.fvn_cmd_verify.specs.Verdicts.{TellsVerdict}
 use Rattle.fvn_cmd_verify.specs.Replies.{IsVerifyText, AreSolvedBy, IsAskedIn, IsAskedOf}
 use Rattle.fvn_cmd_unify.specs.Replies.{IsAnswer, IsToBeUnified}
@@ -163,6 +163,8 @@ pub record IsReport (run : Run) : Type 0 where
   -- faults come only from the outside
   pub read_fault : run.status ≡ ReadFault → HasFailed run.source
   pub write_fault : run.status ≡ WriteFault → HasFailed run.sink
+  -- and where the source counted one, the status says so
+  pub failed_read : run.source.faults_before < run.source.faults_after → run.status ≡ ReadFault
   -- what is refused at every command
   pub usage : RefusesWords run
   pub too_long : RefusesLongText run

@@ -1,4 +1,5 @@
 -- The words of the contracts of this crate.
+pub mod Limits
 pub mod Words
 pub mod Runs
 pub mod Replies

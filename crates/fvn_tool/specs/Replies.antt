@@ -1,7 +1,7 @@
 -- What the program replies to a command over a module's text.
 use Rattle.std.specs.Prelude.{ℕ, List}
 use Rattle.fvn_cmd.specs.declared.status.Status.{Status}
-use Rattle.fvn_cmd.specs.Checks.{IsCheckReply}
+use Rattle.fvn_cmd_check.specs.Checks.{IsCheckReply}
 use Rattle.fvn_cmd_verify.specs.Replies.{IsVerifyReply}
 use Rattle.fvn_cmd_unify.specs.Replies.{IsUnifyReply}
 use Rattle.fvn_tool.specs.Words.{Command, check, unify, verify}

@@ -6,7 +6,8 @@ ghost use Rattle.fvn_tool.specs.Outcomes.{usage_line, too_long_line};
 ghost use Rattle.fvn_cmd.specs.Texts.{bytes_of};
 
 use crate::words::Command;
-use fvn_cmd::{Answer, Status, check_reply};
+use fvn_cmd::{Answer, Status};
+use fvn_cmd_check::check_reply;
 use fvn_cmd_unify::unify_reply;
 use fvn_cmd_verify::verify_reply;
 use fvn_terms::NoMemory;

@@ -1,5 +1,6 @@
-//! A law of outcomes, the contract of a function that does nothing.
+//! Laws of outcomes and of the numbers of options, each the contract of a function that does nothing.
 ghost use Rattle.fvn_tool.specs.Laws.{OutcomesAreDetermined};
+ghost use Rattle.fvn_tool.specs.Limits.{AreStepLimits};
 
 use fvn_cmd::readers_are_lawful;
 use fvn_verify::verdicts_agree;
@@ -21,3 +22,9 @@ pub fn outcomes_are_determined()
     readers_are_lawful();
     verdicts_agree();
 }
+
+/// The number of steps where the words tell none, and the most that they may ask for, are those that are written in
+/// `AreStepLimits`.
+pub fn step_limits_are()
+    ensures { AreStepLimits }
+{}

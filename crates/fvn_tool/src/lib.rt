@@ -8,5 +8,5 @@ mod top;
 mod words;
 
 pub use fvn_cmd::Status;
-pub use laws::outcomes_are_determined;
+pub use laws::{outcomes_are_determined, step_limits_are};
 pub use top::run;

@@ -1,5 +1,5 @@
 //! The top call.
-ghost use Rattle.std.specs.Prelude.{◌≡◌, ◌⊎◌, map, string_bytes, None, ◌≢◌, IfOk, IfErr, IsOk};
+ghost use Rattle.std.specs.Prelude.{◌≡◌, ◌<◌, ◌⊎◌, map, string_bytes, None, ◌≢◌, IfOk, IfErr, IsOk, IsErrOf};
 ghost use Rattle.fvn_outside.specs.Faults.{Rose, NeverFails};
 ghost use Rattle.fvn_tool.specs.Words.{command_of};
 ghost use Rattle.fvn_cmd.specs.Texts.{bytes_of};
@@ -27,6 +27,8 @@ fn respond<S: Source>(alloc: Global, words: &[String], source: &mut S) -> Result
     ensures read_fault { IfErr result (λ s. s ≡ Status.ReadFault →
         Rose (S.faults source.old) (S.faults source.new)) }
     ensures no_read_fault { NeverFails S.faults → IfErr result (λ s. s ≡ Status.NoMemory) }
+    ensures failed_read { S.faults source.old < S.faults source.new →
+        IsErrOf result Status.ReadFault }
 {
     let Some(command) = words::read_command(words) else {
         return Ok(answer::usage());
@@ -60,6 +62,7 @@ fn conclude<S: Source, K: Sink>(
     ensures read_fault { result ≡ Status.ReadFault →
         Rose (S.faults source.old) (S.faults source.new) }
     ensures no_read_fault { NeverFails S.faults → result ≢ Status.ReadFault }
+    ensures failed_read { S.faults source.old < S.faults source.new → result ≡ Status.ReadFault }
     ensures write_fault { result ≡ Status.WriteFault →
         Rose (K.faults out.old) (K.faults out.new) }
     ensures no_write_fault { NeverFails K.faults → result ≢ Status.WriteFault }

@@ -6,11 +6,12 @@ use Rattle.fvn_terms.specs.declared.plain.Plain.{Plain}
 use Rattle.fvn_terms.specs.declared.declarations.Declarations.{Declarations}
 use Rattle.fvn_terms.specs.Substitution.{Substitution}
 use Rattle.fvn_terms.specs.Theory.{Equations}
+use Rattle.fvn_theory.specs.declared.bounds.Bounds.{Bounds}
 use Rattle.fvn_terms.specs.Rewriting.{IsConfluent}
 use Rattle.fvn_terms.specs.Laws.{RewritingIsLawful, TheoryEqualityIsLawful}
 use Rattle.fvn_forms.specs.Flat.{FlatTerm}
 use Rattle.fvn_verify.specs.declared.verdict.Verdict.TheVariants.{Yes, No, Steps, Size}
-use Rattle.fvn_verify.specs.Verdicts.{AreEqual, MeetInForm, IsFirstDifference}
+use Rattle.fvn_verify.specs.Verdicts.{setting, AreEqual, MeetInForm, IsFirstDifference}
 use Rattle.fvn_verify.specs.Laws.{VerdictsAgree}
 use Rattle.fvn_verify.proofs.Forms.{meet_equal}
 
@@ -37,33 +38,33 @@ first-once P (b ∷ bs) (c ∷ cs) p q x y e h k n m =
 
 module _ (rewriting : RewritingIsLawful) (theory : TheoryEqualityIsLawful) (d : Declarations) (equations : Equations) (confluent : IsConfluent d equations) (s : Substitution) (pairs : List (Plain × Plain)) where
   -- pairs whose sides differ are not all equal
-  all-differ : (steps size n : ℕ) (l r : FlatTerm) → IsFirstDifference d equations s steps size pairs n l r → All (AreEqual d equations s) pairs → ⊥
-  all-differ steps size n l r h all = h.apart confluent (all-at (AreEqual d equations s) h.before h.after h.pair (subst (All (AreEqual d equations s)) h.split all))
+  all-differ : (bounds : Bounds) (n : ℕ) (l r : FlatTerm) → IsFirstDifference (setting d equations s bounds) pairs n l r → All (AreEqual d equations s) pairs → ⊥
+  all-differ bounds n l r h all = h.apart confluent (all-at (AreEqual d equations s) h.before h.after h.pair (subst (All (AreEqual d equations s)) h.split all))
 
   -- the pairs before the first difference are equal
-  equal-before : (steps size : ℕ) (ps : List (Plain × Plain)) → All (MeetInForm d equations s steps size) ps → All (AreEqual d equations s) ps
-  equal-before steps size ps = All-weaker (MeetInForm d equations s steps size) (AreEqual d equations s) (λ p h. meet_equal d equations s steps size rewriting theory p h) ps
+  equal-before : (bounds : Bounds) (ps : List (Plain × Plain)) → All (MeetInForm (setting d equations s bounds)) ps → All (AreEqual d equations s) ps
+  equal-before bounds ps = All-weaker (MeetInForm (setting d equations s bounds)) (AreEqual d equations s) (λ p h. meet_equal d equations s bounds rewriting theory p h) ps
 
-  one-difference : (steps size more_steps more_size n m : ℕ) (l r k q : FlatTerm) →
-      IsFirstDifference d equations s steps size pairs n l r → IsFirstDifference d equations s more_steps more_size pairs m k q → n ≡ m
-  one-difference steps size more_steps more_size n m l r k q a b =
+  one-difference : (bounds others : Bounds) (n m : ℕ) (l r k q : FlatTerm) →
+      IsFirstDifference (setting d equations s bounds) pairs n l r → IsFirstDifference (setting d equations s others) pairs m k q → n ≡ m
+  one-difference bounds others n m l r k q a b =
       a.number_is
       ∙ ap (λ i. i + 1)
-      (first-once (AreEqual d equations s) a.before b.before a.pair b.pair a.after b.after (sym a.split ∙ b.split) (equal-before steps size a.before a.meet) (equal-before more_steps more_size b.before b.meet)
+      (first-once (AreEqual d equations s) a.before b.before a.pair b.pair a.after b.after (sym a.split ∙ b.split) (equal-before bounds a.before a.meet) (equal-before others b.before b.meet)
       (a.apart confluent) (b.apart confluent)).0
       ∙ sym b.number_is
 
 pub verdicts-agree : RewritingIsLawful → TheoryEqualityIsLawful → VerdictsAgree
-verdicts-agree rewriting theory d equations confluent s pairs steps size more_steps more_size Yes Yes a b = tt
-verdicts-agree rewriting theory d equations confluent s pairs steps size more_steps more_size Yes (No m k q) a b =
-    all-differ rewriting theory d equations confluent s pairs more_steps more_size m k q b a.0
-verdicts-agree rewriting theory d equations confluent s pairs steps size more_steps more_size Yes (Steps f g) a b = tt
-verdicts-agree rewriting theory d equations confluent s pairs steps size more_steps more_size Yes (Size g) a b = tt
-verdicts-agree rewriting theory d equations confluent s pairs steps size more_steps more_size (No n l r) Yes a b =
-    all-differ rewriting theory d equations confluent s pairs steps size n l r a b.0
-verdicts-agree rewriting theory d equations confluent s pairs steps size more_steps more_size (No n l r) (No m k q) a b =
-    one-difference rewriting theory d equations confluent s pairs steps size more_steps more_size n m l r k q a b
-verdicts-agree rewriting theory d equations confluent s pairs steps size more_steps more_size (No n l r) (Steps f g) a b = tt
-verdicts-agree rewriting theory d equations confluent s pairs steps size more_steps more_size (No n l r) (Size g) a b = tt
-verdicts-agree rewriting theory d equations confluent s pairs steps size more_steps more_size (Steps f g) w a b = tt
-verdicts-agree rewriting theory d equations confluent s pairs steps size more_steps more_size (Size f) w a b = tt
+verdicts-agree rewriting theory d equations confluent s pairs bounds others Yes Yes a b = tt
+verdicts-agree rewriting theory d equations confluent s pairs bounds others Yes (No m k q) a b =
+    all-differ rewriting theory d equations confluent s pairs others m k q b a.0
+verdicts-agree rewriting theory d equations confluent s pairs bounds others Yes (Steps f g) a b = tt
+verdicts-agree rewriting theory d equations confluent s pairs bounds others Yes (Size g) a b = tt
+verdicts-agree rewriting theory d equations confluent s pairs bounds others (No n l r) Yes a b =
+    all-differ rewriting theory d equations confluent s pairs bounds n l r a b.0
+verdicts-agree rewriting theory d equations confluent s pairs bounds others (No n l r) (No m k q) a b =
+    one-difference rewriting theory d equations confluent s pairs bounds others n m l r k q a b
+verdicts-agree rewriting theory d equations confluent s pairs bounds others (No n l r) (Steps f g) a b = tt
+verdicts-agree rewriting theory d equations confluent s pairs bounds others (No n l r) (Size g) a b = tt
+verdicts-agree rewriting theory d equations confluent s pairs bounds others (Steps f g) w a b = tt
+verdicts-agree rewriting theory d equations confluent s pairs bounds others (Size f) w a b = tt

@@ -8,6 +8,7 @@ use Rattle.fvn_terms.specs.Signature.{KeepsKinds, IsTerm}
 use Rattle.fvn_terms.specs.Substitution.{Substitution, apply}
 use Rattle.fvn_terms.specs.Equality.{BEqual}
 use Rattle.fvn_terms.specs.Theory.{Equations}
+use Rattle.fvn_theory.specs.declared.bounds.Bounds.{Bounds}
 use Rattle.fvn_terms.specs.Rewriting.{TermSequence}
 use Rattle.fvn_terms.specs.Laws.{RewritingIsLawful, TheoryEqualityIsLawful}
 use Rattle.fvn_terms.proofs.Equal.{BEqual-sym, HasKind-apply}
@@ -21,36 +22,36 @@ use Rattle.fvn_flat.specs.declared.solver.Normal.{Normal}
 use Rattle.fvn_flat.specs.declared.solver.Normal.TheVariants.{Form, Steps, Size}
 use Rattle.fvn_rewrite_laws.specs.Kinds.{HaveOneKind}
 use Rattle.fvn_rewrite_laws.specs.Laws.{SequencesAreLawful, KindedTheoriesAreLawful}
-use Rattle.fvn_rewrite_coherence.specs.Admissible.{AreAdmissible}
-use Rattle.fvn_rewrite.specs.Normalised.{counted, IsNormalised}
-use Rattle.fvn_verify.specs.Verdicts.{instance, AreEqual, IsFormOf, MeetInForm}
+use Rattle.fvn_rewrite_laws.specs.Admissible.{AreAdmissible}
+use Rattle.fvn_rewrite_laws.specs.Normalised.{counted, IsNormalised}
+use Rattle.fvn_verify.specs.Verdicts.{setting, instance, AreEqual, IsFormOf, MeetInForm}
 use Rattle.fvn_verify.specs.inner.Comparing.{AreKinded, IsSideAs, AreDifferent}
 
 -- an instance of a well-kinded term is well-kinded
 pub instance-kinded : (d : Declarations) (s : Substitution) → KeepsKinds d s → (t : Term) → IsTerm d t → IsTerm d (apply s t)
 instance-kinded d s keeps t h = (h.0, HasKind-apply d s keeps t h.0 h.1)
 
-module _ (d : Declarations) (equations : Equations) (s : Substitution) (steps size : ℕ) where
+module _ (d : Declarations) (equations : Equations) (s : Substitution) (bounds : Bounds) where
   -- a search from the flat form of a side
-  module _ (laws : SequencesAreLawful) (t : Plain) (f : FlatTerm) (equal : BEqual d (instance d equations s t) (plain f)) where
+  module _ (laws : SequencesAreLawful) (t : Plain) (f : FlatTerm) (equal : BEqual d (instance s t) (plain f)) where
     -- what a sequence from the form reaches is reached from the side
-    from_side : (k : ℕ) (u : FlatTerm) → TermSequence d equations k (plain f) (plain u) → TermSequence d equations k (instance d equations s t) (plain u)
-    from_side k u q = (laws d equations).before k (plain f) (instance d equations s t) (plain u) (BEqual-sym d equal) q
+    from_side : (k : ℕ) (u : FlatTerm) → TermSequence d equations k (plain f) (plain u) → TermSequence d equations k (instance s t) (plain u)
+    from_side k u q = (laws d equations).before k (plain f) (instance s t) (plain u) (BEqual-sym d equal) q
 
     -- what is found of the form is found of the side
-    pub side_as : f ≡ canon d (instance d equations s t) → Fits d f → size < 2 ^ 64 - 1 → (n : Normal) → IsNormalised d equations f steps size n → IsSideAs d equations s steps size t n
+    pub side_as : f ≡ canon d (instance s t) → Fits d f → bounds.size < 2 ^ 64 - 1 → (n : Normal) → IsNormalised d equations f bounds n → IsSideAs (setting d equations s bounds) t n
     side_as is fits limit (Form u) h = record {
       count = h.reached.count;
       within = h.reached.within;
       reached = from_side h.reached.count u h.reached.reached.sequence;
       fits = h.reached.reached.fits;
       irreducible = h.irreducible;
-      small = let small : counted u ≤ size = h.small in omega (arith, small, limit);
+      small = let small : counted u ≤ bounds.size = h.small in omega (arith, small, limit);
     }
     side_as is fits limit (Steps start u) h = record {
       start_is = h.is ∙ is;
       start_fits = subst (Fits d) (sym h.is) fits;
-      sequence = from_side steps u h.reached.sequence;
+      sequence = from_side bounds.steps u h.reached.sequence;
       fits = h.reached.fits;
       reducible = h.reducible;
     }
@@ -59,24 +60,24 @@ module _ (d : Declarations) (equations : Equations) (s : Substitution) (steps si
       within = h.reached.within;
       sequence = from_side h.reached.count u h.reached.reached.sequence;
       fits = h.reached.reached.fits;
-      large = let large : size < counted u = h.large in omega (arith, large);
+      large = let large : bounds.size < counted u = h.large in omega (arith, large);
     }
 
   -- sides that meet in a form are equal in the theory
-  pub meet_equal : RewritingIsLawful → TheoryEqualityIsLawful → (p : Plain × Plain) → MeetInForm d equations s steps size p → AreEqual d equations s p
+  pub meet_equal : RewritingIsLawful → TheoryEqualityIsLawful → (p : Plain × Plain) → MeetInForm (setting d equations s bounds) p → AreEqual d equations s p
   meet_equal rewriting theory p h =
-      (theory d equations).equivalence.transitive (instance d equations s p.0) (plain h.0) (instance d equations s p.1)
-      ((rewriting d equations).theory h.1.0.count (instance d equations s p.0) (plain h.0) h.1.0.reached)
-      ((theory d equations).equivalence.symmetric (instance d equations s p.1) (plain h.0)
-      ((rewriting d equations).theory h.1.1.count (instance d equations s p.1) (plain h.0) h.1.1.reached))
+      (theory d equations).equivalence.transitive (instance s p.0) (plain h.0) (instance s p.1)
+      ((rewriting d equations).theory h.1.0.count (instance s p.0) (plain h.0) h.1.0.reached)
+      ((theory d equations).equivalence.symmetric (instance s p.1) (plain h.0)
+      ((rewriting d equations).theory h.1.1.count (instance s p.1) (plain h.0) h.1.1.reached))
 
   -- sides of different forms are not equal in the theory, where the equations are confluent
   module _ (same : EqualityIsThatOfFlatForms) (laws : KindedTheoriesAreLawful) (fits : FitsKinds d) (admissible : AreAdmissible d equations) (keeps : KeepsKinds d s) where
     kinds : HaveOneKind d equations
     kinds = λ equation listed. (admissible equation listed).kinded.kinds
 
-    pub are_different : (p : Plain × Plain) → AreKinded d p → (l r : FlatTerm) → IsFormOf d equations s steps size p.0 l → IsFormOf d equations s steps size p.1 r → (l ≡ r → ⊥) →
-        AreDifferent d equations s steps size p l r
+    pub are_different : (p : Plain × Plain) → AreKinded d p → (l r : FlatTerm) → IsFormOf (setting d equations s bounds) p.0 l → IsFormOf (setting d equations s bounds) p.1 r → (l ≡ r → ⊥) →
+        AreDifferent (setting d equations s bounds) p l r
     are_different p kinded l r left right n =
         let differ : BEqual d (plain l) (plain r) → ⊥ =
         λ e. n (sym (canon_plain d l left.fits.flat) ∙ (same d fits (plain l) (plain r) left.fits.kinded right.fits.kinded).0 e ∙ canon_plain d r right.fits.flat) in
@@ -86,6 +87,6 @@ module _ (d : Declarations) (equations : Equations) (s : Substitution) (steps si
           differ = differ;
           apart = λ confluent e.
               differ
-              ((laws d fits equations kinds).one_normal_form confluent (instance d equations s p.0) (instance d equations s p.1) (plain l) (plain r) left.count right.count
+              ((laws d fits equations kinds).one_normal_form confluent (instance s p.0) (instance s p.1) (plain l) (plain r) left.count right.count
               (instance-kinded d s keeps (term p.0) kinded.0) e left.reached right.reached left.irreducible right.irreducible);
         }

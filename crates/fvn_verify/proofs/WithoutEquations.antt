@@ -19,9 +19,9 @@ use Rattle.fvn_forms.specs.FitsKinds.{FitsKinds}
 use Rattle.fvn_forms.specs.Laws.{EqualityIsThatOfFlatForms}
 use Rattle.fvn_forms.proofs.Eval.{canon_plain}
 use Rattle.fvn_flat.specs.Fits.{Fits}
-use Rattle.fvn_problems.specs.Problems.{AreOfOneKind}
+use Rattle.fvn_rewrite_laws.specs.Kinds.{AreOfOneKind}
 use Rattle.fvn_verify.specs.declared.verdict.Verdict.TheVariants.{Yes, No, Steps, Size}
-use Rattle.fvn_verify.specs.Verdicts.{sides_in_turn, instance, IsFormOf, IsTooLarge, HasForm, MeetInForm, IsFirstDifference, EndsAt}
+use Rattle.fvn_verify.specs.Verdicts.{Setting, setting, sides_in_turn, instance, IsFormOf, IsTooLarge, HasForm, MeetInForm, IsFirstDifference, EndsAt}
 use Rattle.fvn_verify.specs.Laws.{VerdictsWithoutEquationsAreDetermined}
 use Rattle.fvn_verify.proofs.Forms.{instance-kinded}
 use Rattle.fvn_verify.proofs.Comparisons.{sides_in_turn-append}
@@ -61,17 +61,21 @@ module _ (d : Declarations) where
   module _ (law : EqualityIsThatOfFlatForms) (fits : FitsKinds d) (s : Substitution) (keeps : KeepsKinds d s) where
     -- the flat form of a side
     abbrev form : Plain → FlatTerm
-    form t = canon d (instance d [] s t)
+    form t = canon d (instance s t)
 
     abbrev Kinded : Plain → Type 0
     Kinded t = IsTerm d (term t)
 
     -- what a side comes to is its flat form
-    comes-to : (t : Plain) (f : FlatTerm) (k : ℕ) → Kinded t → Fits d f → TermSequence d [] k (instance d [] s t) (plain f) → f ≡ form t
+    comes-to : (t : Plain) (f : FlatTerm) (k : ℕ) → Kinded t → Fits d f → TermSequence d [] k (instance s t) (plain f) → f ≡ form t
     comes-to t f k kinded h q =
-        sym ((law d fits (instance d [] s t) (plain f) (instance-kinded d s keeps (term t) kinded) h.kinded).0 (no-steps k (instance d [] s t) (plain f) q) ∙ canon_plain d f h.flat)
+        sym ((law d fits (instance s t) (plain f) (instance-kinded d s keeps (term t) kinded) h.kinded).0 (no-steps k (instance s t) (plain f) q) ∙ canon_plain d f h.flat)
 
     module _ (size : ℕ) where
+      -- the setting with these limits
+      abbrev limited : ℕ → Setting
+      limited steps = setting d [] s (record { steps = steps; size = size })
+
       abbrev Small : Plain → Type 0
       Small t = symbols (form t) ≤ size
 
@@ -79,28 +83,28 @@ module _ (d : Declarations) where
       Alike p = form p.0 ≡ form p.1
 
       module _ (steps : ℕ) where
-        form-is : (t : Plain) (f : FlatTerm) → Kinded t → IsFormOf d [] s steps size t f → f ≡ form t
+        form-is : (t : Plain) (f : FlatTerm) → Kinded t → IsFormOf (limited steps) t f → f ≡ form t
         form-is t f kinded h = comes-to t f h.count kinded h.fits h.reached
 
-        formed-small : (t : Plain) → Kinded t → HasForm d [] s steps size t → Small t
+        formed-small : (t : Plain) → Kinded t → HasForm (limited steps) t → Small t
         formed-small t kinded h = subst (λ f. symbols f ≤ size) (form-is t h.0 kinded h.1) h.1.small
 
-        too-large : (t : Plain) (f : FlatTerm) → Kinded t → IsTooLarge d [] s steps size t f → Small t → ⊥
+        too-large : (t : Plain) (f : FlatTerm) → Kinded t → IsTooLarge (limited steps) t f → Small t → ⊥
         too-large t f kinded h small =
             let large : size < symbols (form t) = subst (λ u. size < symbols u) (comes-to t f h.count kinded h.fits h.sequence) h.large in
             omega (arith, large, small)
 
-        meet-alike : (p : Plain × Plain) → Kinded p.0 × Kinded p.1 → MeetInForm d [] s steps size p → Alike p
+        meet-alike : (p : Plain × Plain) → Kinded p.0 × Kinded p.1 → MeetInForm (limited steps) p → Alike p
         meet-alike p kinded h = sym (form-is p.0 h.0 kinded.0 h.1.0) ∙ form-is p.1 h.0 kinded.1 h.1.1
 
-        meet-small : (p : Plain × Plain) → Kinded p.0 × Kinded p.1 → MeetInForm d [] s steps size p → Small p.0 × Small p.1
+        meet-small : (p : Plain × Plain) → Kinded p.0 × Kinded p.1 → MeetInForm (limited steps) p → Small p.0 × Small p.1
         meet-small p kinded h = (formed-small p.0 kinded.0 (h.0, h.1.0), formed-small p.1 kinded.1 (h.0, h.1.1))
 
         abbrev BothKinded : Plain × Plain → Type 0
         BothKinded p = Kinded p.0 × Kinded p.1
 
         abbrev Meets : Plain × Plain → Type 0
-        Meets = MeetInForm d [] s steps size
+        Meets = MeetInForm (limited steps)
 
         all-alike : (pairs : List (Plain × Plain)) → All BothKinded pairs → All Meets pairs → All Alike pairs
         all-alike = all-both BothKinded Meets Alike meet-alike
@@ -108,14 +112,14 @@ module _ (d : Declarations) where
         meets-small : (pairs : List (Plain × Plain)) → All BothKinded pairs → All Meets pairs → All Small (sides_in_turn pairs)
         meets-small pairs kinded h = sides-all Small pairs (all-both BothKinded Meets (λ p. Small p.0 × Small p.1) meet-small pairs kinded h)
 
-        all-formed-small : (ts : List Plain) → All Kinded ts → All (HasForm d [] s steps size) ts → All Small ts
-        all-formed-small = all-both Kinded (HasForm d [] s steps size) Small formed-small
+        all-formed-small : (ts : List Plain) → All Kinded ts → All (HasForm (limited steps)) ts → All Small ts
+        all-formed-small = all-both Kinded (HasForm (limited steps)) Small formed-small
 
         module _ (pairs : List (Plain × Plain)) (kinded : All BothKinded pairs) where
           sides-kinded : All Kinded (sides_in_turn pairs)
           sides-kinded = sides-all Kinded pairs kinded
 
-          module _ (n : ℕ) (l r : FlatTerm) (h : IsFirstDifference d [] s steps size pairs n l r) where
+          module _ (n : ℕ) (l r : FlatTerm) (h : IsFirstDifference (limited steps) pairs n l r) where
             split-kinded : All BothKinded (h.before ++ h.pair ∷ h.after)
             split-kinded = subst (All BothKinded) h.split kinded
 
@@ -148,7 +152,7 @@ module _ (d : Declarations) where
                 (All-cons Small h.pair.0 (h.pair.1 ∷ sides_in_turn h.after) (formed-small h.pair.0 pair-kinded.0 (l, h.left_form))
                 (All-cons Small h.pair.1 (sides_in_turn h.after) (formed-small h.pair.1 pair-kinded.1 (r, h.right_form)) after-small)))
 
-          module _ (t : Plain) (ends : EndsAt d [] s steps size pairs t) where
+          module _ (t : Plain) (ends : EndsAt (limited steps) pairs t) where
             sides-split : All Kinded (ends.before ++ t ∷ ends.after)
             sides-split = subst (All Kinded) ends.split sides-kinded
 
@@ -162,7 +166,7 @@ module _ (d : Declarations) where
             end-small h = all-at Small ends.before ends.after t (subst (All Small) ends.split h)
 
       module _ (steps more : ℕ) (pairs : List (Plain × Plain)) (kinded : All (λ p. Kinded p.0 × Kinded p.1) pairs) where
-        one-difference : (n m : ℕ) (l r k q : FlatTerm) → IsFirstDifference d [] s steps size pairs n l r → IsFirstDifference d [] s more size pairs m k q → No n l r ≡ No m k q
+        one-difference : (n m : ℕ) (l r k q : FlatTerm) → IsFirstDifference (limited steps) pairs n l r → IsFirstDifference (limited more) pairs m k q → No n l r ≡ No m k q
         one-difference n m l r k q a b =
             let o =
             first-once Alike a.before b.before a.pair b.pair a.after b.after (sym a.split ∙ b.split) (before-alike steps pairs kinded n l r a) (before-alike more pairs kinded m k q b)
@@ -171,13 +175,13 @@ module _ (d : Declarations) where
             ∙ ap (λ t. No m t r) (left-is steps pairs kinded n l r a ∙ ap (λ p. form p.0) o.1 ∙ sym (left-is more pairs kinded m k q b))
             ∙ ap (λ t. No m k t) (right-is steps pairs kinded n l r a ∙ ap (λ p. form p.1) o.1 ∙ sym (right-is more pairs kinded m k q b))
 
-        all-differ : (n : ℕ) (l r : FlatTerm) → IsFirstDifference d [] s steps size pairs n l r → All (MeetInForm d [] s more size) pairs → ⊥
+        all-differ : (n : ℕ) (l r : FlatTerm) → IsFirstDifference (limited steps) pairs n l r → All (MeetInForm (limited more)) pairs → ⊥
         all-differ n l r h meet = unlike steps pairs kinded n l r h (all-at Alike h.before h.after h.pair (subst (All Alike) h.split (all-alike more pairs kinded meet)))
 
-        none-large : (t : Plain) (f : FlatTerm) → EndsAt d [] s steps size pairs t → IsTooLarge d [] s steps size t f → All Small (sides_in_turn pairs) → ⊥
+        none-large : (t : Plain) (f : FlatTerm) → EndsAt (limited steps) pairs t → IsTooLarge (limited steps) t f → All Small (sides_in_turn pairs) → ⊥
         none-large t f ends h small = too-large steps t f (end-kinded steps pairs kinded t ends) h (end-small steps pairs kinded t ends small)
 
-        one-size : (t u : Plain) (f g : FlatTerm) → EndsAt d [] s steps size pairs t → IsTooLarge d [] s steps size t f → EndsAt d [] s more size pairs u → IsTooLarge d [] s more size u g → f ≡ g
+        one-size : (t u : Plain) (f g : FlatTerm) → EndsAt (limited steps) pairs t → IsTooLarge (limited steps) t f → EndsAt (limited more) pairs u → IsTooLarge (limited more) u g → f ≡ g
         one-size t u f g a h b k =
             let o =
             first-once Small a.before b.before t u a.after b.after (sym a.split ∙ b.split) (before-small steps pairs kinded t a) (before-small more pairs kinded u b)

@@ -7,10 +7,11 @@ use Rattle.fvn_terms.specs.Substitution.{Substitution}
 use Rattle.fvn_terms.specs.Theory.{Equations}
 use Rattle.fvn_terms.specs.Rewriting.{IsConfluent}
 use Rattle.fvn_forms.specs.FitsKinds.{FitsKinds}
-use Rattle.fvn_problems.specs.Problems.{AreOfOneKind}
+use Rattle.fvn_theory.specs.declared.bounds.Bounds.{Bounds}
+use Rattle.fvn_rewrite_laws.specs.Kinds.{AreOfOneKind}
 use Rattle.fvn_verify.specs.declared.verdict.Verdict.{Verdict}
 use Rattle.fvn_verify.specs.declared.verdict.Verdict.TheVariants.{Yes, No, Steps, Size}
-use Rattle.fvn_verify.specs.Verdicts.{IsVerdict}
+use Rattle.fvn_verify.specs.Verdicts.{setting, IsVerdict}
 
 -- not one of them yes and the other no, and where both are no, of one pair
 abbrev pub Agree : Verdict → Verdict → Type 0
@@ -30,12 +31,13 @@ Agree (Size f) v = Unit
 abbrev pub VerdictsAgree : Type 0
 VerdictsAgree =
     (d : Declarations) (equations : Equations) → IsConfluent d equations →
-    (s : Substitution) (pairs : List (Plain × Plain)) (steps size more_steps more_size : ℕ) (v w : Verdict) →
-    IsVerdict d equations s steps size pairs v → IsVerdict d equations s more_steps more_size pairs w → Agree v w
+    (s : Substitution) (pairs : List (Plain × Plain)) (bounds others : Bounds) (v w : Verdict) →
+    IsVerdict (setting d equations s bounds) pairs v → IsVerdict (setting d equations s others) pairs w → Agree v w
 
 -- Without equations there is one verdict at most on pairs under a substitution, whatever the limits on steps were.
 abbrev pub VerdictsWithoutEquationsAreDetermined : Type 0
 VerdictsWithoutEquationsAreDetermined =
     (d : Declarations) → FitsKinds d → (s : Substitution) → KeepsKinds d s →
-    (pairs : List (Plain × Plain)) → All (AreOfOneKind d) pairs → (steps more_steps size : ℕ) (v w : Verdict) →
-    IsVerdict d [] s steps size pairs v → IsVerdict d [] s more_steps size pairs w → v ≡ w
+    (pairs : List (Plain × Plain)) → All (AreOfOneKind d) pairs → (steps others size : ℕ) (v w : Verdict) →
+    IsVerdict (setting d [] s (record { steps = steps; size = size })) pairs v →
+    IsVerdict (setting d [] s (record { steps = others; size = size })) pairs w → v ≡ w

@@ -1,4 +1,4 @@
--- What is said of a problem under bindings.
+-- What is said of pairs under a substitution.
 pub mod Verdicts
 pub mod Laws
 pub mod inner

@@ -1,20 +1,16 @@
-//! Comparing the two sides of a pair under bindings.
+//! Comparing the two sides of a pair under a substitution.
 ghost use Rattle.std.specs.Prelude.{◌≡◌, ◌<◌, IfOk};
 ghost use Rattle.fvn_terms.specs.Plain.{term};
 ghost use Rattle.fvn_terms.specs.Signature.{KeepsKinds, IsTerm};
 ghost use Rattle.fvn_terms.specs.Substitution.{value};
-ghost use Rattle.fvn_cohere.specs.Promises.{equations_of};
 ghost use Rattle.fvn_verify.specs.Verdicts.{IsFormOf};
-ghost use Rattle.fvn_verify.specs.inner.Comparing.{AreKinded, IsSideAs, IsDifference, IsCompared, earlier};
-ghost use Rattle.fvn_rewrite.specs.Usable.{AreUsable};
+ghost use Rattle.fvn_verify.specs.inner.Comparing.{under, AreKinded, IsSideAs, IsDifference, IsCompared, earlier};
 
 use crate::verdict::Verdict;
-use fvn_flat::{Flat, Normal, flatten};
+use fvn_flat::{Flat, Normal};
 use fvn_forms::equality_is_that_of_flat_forms;
-use fvn_rewrite::normal;
+use fvn_rewrite::Rewriter;
 use fvn_rewrite_laws::{kinded_theories_are_lawful, sequences_are_lawful};
-use fvn_rewrite_rules::Rules;
-use fvn_signature::Signature;
 use fvn_terms::{NoMemory, Plain, PlainSubst, rewriting_is_lawful, theory_equality_is_lawful};
 use std::alloc::Global;
 
@@ -27,52 +23,40 @@ pub enum Compared {
     Ended(Verdict),
 }
 
-// The normal form of a side under bindings, or how the search for it ended.
+// The normal form of a side under a substitution, or how the search for it ended.
 fn form_of(
     alloc: Global,
-    signature: &Signature,
-    rules: &Rules,
+    rewriter: &Rewriter<'_>,
     bindings: &PlainSubst,
     side: &Plain,
-    steps: u64,
-    size: u64,
 ) -> Result<Normal, NoMemory>
-    requires rules { AreUsable signature.now rules.now }
-    requires keeps { KeepsKinds signature.now (value bindings.now.pairs) }
-    requires kinded { IsTerm signature.now (term side.now) }
-    requires limited { size < u64.MAX }
-    ensures { IfOk result (IsSideAs signature.now (equations_of rules.now.equations)
-        (value bindings.now.pairs) steps size side.now) }
+    requires keeps { KeepsKinds rewriter.now.signature (value bindings.now.pairs) }
+    requires kinded { IsTerm rewriter.now.signature (term side.now) }
+    requires limited { rewriter.now.bounds.size < u64.MAX }
+    ensures { IfOk result (IsSideAs (under rewriter.now (value bindings.now.pairs)) side.now) }
 {
     sequences_are_lawful();
     let instance = bindings.apply(alloc, side)?;
-    let form = flatten(alloc, signature, &instance)?;
-    let found = normal(alloc, signature, rules, &form, steps, size)?;
+    let form = rewriter.flat(&instance)?;
+    let found = rewriter.normal(&form)?;
     Ok(found)
 }
 
 // The forms of two sides, where they differ.
 fn difference(
-    signature: &Signature,
-    rules: &Rules,
+    rewriter: &Rewriter<'_>,
     bindings: &PlainSubst,
     pair: &(Plain, Plain),
-    steps: u64,
-    size: u64,
     left: Flat,
     right: Flat,
 ) -> Option<(Flat, Flat)>
-    requires rules { AreUsable signature.now rules.now }
-    requires keeps { KeepsKinds signature.now (value bindings.now.pairs) }
-    requires kinded { AreKinded signature.now pair.now }
-    requires left { IsFormOf signature.now (equations_of rules.now.equations)
-        (value bindings.now.pairs) steps size pair.now.0 left }
-    requires right { IsFormOf signature.now (equations_of rules.now.equations)
-        (value bindings.now.pairs) steps size pair.now.1 right }
-    ensures { IsDifference signature.now (equations_of rules.now.equations)
-        (value bindings.now.pairs) steps size pair.now result }
+    requires keeps { KeepsKinds rewriter.now.signature (value bindings.now.pairs) }
+    requires kinded { AreKinded rewriter.now.signature pair.now }
+    requires left { IsFormOf (under rewriter.now (value bindings.now.pairs)) pair.now.0 left }
+    requires right { IsFormOf (under rewriter.now (value bindings.now.pairs)) pair.now.1 right }
+    ensures { IsDifference (under rewriter.now (value bindings.now.pairs)) pair.now result }
 {
-    signature.recall_good();
+    rewriter.recall();
     equality_is_that_of_flat_forms();
     kinded_theories_are_lawful();
     rewriting_is_lawful();
@@ -87,56 +71,41 @@ fn difference(
 // Compares the right side of a pair with the form of the left one.
 fn compare_right(
     alloc: Global,
-    signature: &Signature,
-    rules: &Rules,
+    rewriter: &Rewriter<'_>,
     bindings: &PlainSubst,
     pair: &(Plain, Plain),
-    steps: u64,
-    size: u64,
     left: Flat,
 ) -> Result<Compared, NoMemory>
-    requires rules { AreUsable signature.now rules.now }
-    requires keeps { KeepsKinds signature.now (value bindings.now.pairs) }
-    requires kinded { AreKinded signature.now pair.now }
-    requires limited { size < u64.MAX }
-    requires left { IsFormOf signature.now (equations_of rules.now.equations)
-        (value bindings.now.pairs) steps size pair.now.0 left }
-    ensures { IfOk result (IsCompared signature.now (equations_of rules.now.equations)
-        (value bindings.now.pairs) steps size pair.now) }
+    requires keeps { KeepsKinds rewriter.now.signature (value bindings.now.pairs) }
+    requires kinded { AreKinded rewriter.now.signature pair.now }
+    requires limited { rewriter.now.bounds.size < u64.MAX }
+    requires left { IsFormOf (under rewriter.now (value bindings.now.pairs)) pair.now.0 left }
+    ensures { IfOk result (IsCompared (under rewriter.now (value bindings.now.pairs)) pair.now) }
 {
-    let right = form_of(alloc, signature, rules, bindings, &pair.1, steps, size)?;
+    let right = form_of(alloc, rewriter, bindings, &pair.1)?;
     match right {
-        Normal::Form(form) => Ok(Compared::Found(difference(
-            signature, rules, bindings, pair, steps, size, left, form,
-        ))),
+        Normal::Form(form) => Ok(Compared::Found(difference(rewriter, bindings, pair, left, form))),
         Normal::Steps(start, end) => Ok(Compared::Ended(Verdict::Steps(start, end))),
         Normal::Size(large) => Ok(Compared::Ended(Verdict::Size(large))),
     }
 }
 
-/// Compares the sides of a pair under bindings.
+/// Compares the sides of a pair under a substitution.
 pub fn compare(
     alloc: Global,
-    signature: &Signature,
-    rules: &Rules,
+    rewriter: &Rewriter<'_>,
     bindings: &PlainSubst,
     pair: &(Plain, Plain),
-    steps: u64,
-    size: u64,
 ) -> Result<Compared, NoMemory>
-    requires rules { AreUsable signature.now rules.now }
-    requires keeps { KeepsKinds signature.now (value bindings.now.pairs) }
-    requires kinded { AreKinded signature.now pair.now }
-    requires limited { size < u64.MAX }
-    ensures { IfOk result (IsCompared signature.now (equations_of rules.now.equations)
-        (value bindings.now.pairs) steps size pair.now) }
+    requires keeps { KeepsKinds rewriter.now.signature (value bindings.now.pairs) }
+    requires kinded { AreKinded rewriter.now.signature pair.now }
+    requires limited { rewriter.now.bounds.size < u64.MAX }
+    ensures { IfOk result (IsCompared (under rewriter.now (value bindings.now.pairs)) pair.now) }
 {
-    let left = form_of(alloc, signature, rules, bindings, &pair.0, steps, size)?;
+    let left = form_of(alloc, rewriter, bindings, &pair.0)?;
     match left {
         Normal::Form(form) => {
-            let compared = compare_right(
-                alloc, signature, rules, bindings, pair, steps, size, form,
-            )?;
+            let compared = compare_right(alloc, rewriter, bindings, pair, form)?;
             Ok(compared)
         }
         Normal::Steps(start, end) => Ok(Compared::Ended(Verdict::Steps(start, end))),

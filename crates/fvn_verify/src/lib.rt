@@ -1,4 +1,4 @@
-//! Whether bindings solve a problem in the theory of a module's equations.
+//! Whether a substitution solves pairs of terms in the theory of equations.
 #![tactic(auto)]
 
 mod comparing;

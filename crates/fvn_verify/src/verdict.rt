@@ -1,7 +1,7 @@
-//! What is said of a problem under bindings.
+//! What is said of pairs under a substitution.
 use fvn_flat::Flat;
 
-/// Whether bindings solve a problem in the theory of a module's equations.
+/// Whether a substitution solves pairs of terms in the theory of equations.
 #[derive(Drop)]
 pub enum Verdict {
     /// The sides of each pair are equal.

@@ -1,22 +1,21 @@
-//! Whether bindings solve a problem in the theory of a module's equations.
+//! Whether a substitution solves pairs in the theory of equations.
 ghost use Rattle.std.specs.Prelude.{◌≡◌, ◌<◌, All, IfOk};
 ghost use Rattle.fvn_terms.specs.Signature.{KeepsKinds};
 ghost use Rattle.fvn_terms.specs.Substitution.{value};
-ghost use Rattle.fvn_problems.specs.Problems.{AreOfOneKind};
-ghost use Rattle.fvn_cohere.specs.Promises.{equations_of};
-ghost use Rattle.fvn_rewrite_coherence.specs.Admissible.{AreAdmissible};
-ghost use Rattle.fvn_rewrite_rules.specs.Given.{AreRules};
-ghost use Rattle.fvn_verify.specs.Verdicts.{IsVerdict};
-ghost use Rattle.fvn_verify.specs.inner.Comparing.{AreKinded, concluded};
+ghost use Rattle.fvn_theory.specs.Equations.{equations_of};
+ghost use Rattle.fvn_rewrite_laws.specs.Kinds.{AreOfOneKind};
 ghost use Rattle.fvn_rewrite.specs.Usable.{AreUsable};
+ghost use Rattle.fvn_verify.specs.Verdicts.{setting, IsVerdict};
+ghost use Rattle.fvn_verify.specs.inner.Comparing.{under, AreKinded, concluded};
 
 use crate::comparing::{Compared, compare, earlier};
 use crate::verdict::Verdict;
 use fvn_flat::Flat;
-use fvn_problems::{Bindings, Problem};
+use fvn_rewrite::Rewriter;
 use fvn_rewrite_rules::Rules;
 use fvn_signature::Signature;
 use fvn_terms::{NoMemory, Plain, PlainSubst};
+use fvn_theory::Bounds;
 use std::alloc::Global;
 
 // The verdict on pairs all of whose forms were found, where this is their first difference.
@@ -29,26 +28,21 @@ fn conclude(first: Option<(usize, Flat, Flat)>) -> Verdict
     }
 }
 
-// Compares all pairs under bindings, one after another.
+// Compares all pairs under a substitution, one after another.
 fn verify_pairs(
     alloc: Global,
-    signature: &Signature,
-    rules: &Rules,
+    rewriter: &Rewriter<'_>,
     pairs: &[(Plain, Plain)],
     bindings: &PlainSubst,
-    steps: u64,
-    size: u64,
 ) -> Result<Verdict, NoMemory>
-    requires rules { AreUsable signature.now rules.now }
-    requires keeps { KeepsKinds signature.now (value bindings.now.pairs) }
-    requires kinded { All (AreKinded signature.now) pairs.now }
-    requires limited { size < u64.MAX }
-    ensures { IfOk result (IsVerdict signature.now (equations_of rules.now.equations)
-        (value bindings.now.pairs) steps size pairs.now) }
+    requires keeps { KeepsKinds rewriter.now.signature (value bindings.now.pairs) }
+    requires kinded { All (AreKinded rewriter.now.signature) pairs.now }
+    requires limited { rewriter.now.bounds.size < u64.MAX }
+    ensures { IfOk result (IsVerdict (under rewriter.now (value bindings.now.pairs)) pairs.now) }
 {
     let mut first = None;
     for (i, pair) in pairs.iter().enumerate() {
-        match compare(alloc, signature, rules, bindings, pair, steps, size)? {
+        match compare(alloc, rewriter, bindings, pair)? {
             Compared::Ended(verdict) => return Ok(verdict),
             Compared::Found(difference) => first = earlier(first, i + 1, difference),
         }
@@ -56,36 +50,28 @@ fn verify_pairs(
     Ok(conclude(first))
 }
 
-/// Whether bindings solve a problem: whether the sides of each pair, with the bindings put in, are equal in the theory
+/// Whether a substitution solves pairs: whether the sides of each, with the substitution put in, are equal in the theory
 /// of the equations that the rules are of, modulo the axioms.
 ///
 /// Both sides of each pair are brought to normal forms, the left side first and pair by pair. A side from which
-/// `steps` steps led to no normal form, or that came to a form with over `size` symbols, ends the search, also behind a
-/// difference.
+/// `bounds.steps` steps led to no normal form, or that came to a form with over `bounds.size` symbols, ends the search,
+/// also behind a difference.
 pub fn verify(
     alloc: Global,
-    signature: &Signature,
+    sig: &Signature,
     rules: &Rules,
-    problem: &Problem,
-    bindings: &Bindings,
-    steps: u64,
-    size: u64,
+    pairs: &[(Plain, Plain)],
+    bindings: &PlainSubst,
+    bounds: Bounds,
 ) -> Result<Verdict, NoMemory>
-    requires rules { AreRules signature.now rules.now }
-    requires admissible { AreAdmissible signature.now (equations_of rules.now.equations) }
-    requires kinded { All (AreOfOneKind signature.now) problem.now.pairs }
-    requires limited { size < u64.MAX }
-    requires keeps { KeepsKinds signature.now (value bindings.now.subst.pairs) }
-    ensures { IfOk result (IsVerdict signature.now (equations_of rules.now.equations)
-        (value bindings.now.subst.pairs) steps size problem.now.pairs) }
+    requires rules { AreUsable sig.now rules.now }
+    requires kinded { All (AreOfOneKind sig.now) pairs.now }
+    requires limited { bounds.size < u64.MAX }
+    requires keeps { KeepsKinds sig.now (value bindings.now.pairs) }
+    ensures { IfOk result (IsVerdict (setting sig.now (equations_of rules.now.equations)
+        (value bindings.now.pairs) bounds) pairs.now) }
 {
-    verify_pairs(
-        alloc,
-        signature,
-        rules,
-        problem.pairs.as_slice(),
-        &bindings.subst,
-        steps,
-        size,
-    )
+    let rewriter = Rewriter::new(alloc, sig, rules, bounds);
+    let verdict = verify_pairs(alloc, &rewriter, pairs, bindings)?;
+    Ok(verdict)
 }

@@ -7,7 +7,8 @@ use Rattle.fvn_terms.specs.declared.declarations.Declarations.{Declarations}
 use Rattle.fvn_terms.specs.Signature.{IsSort}
 use Rattle.fvn_forms.specs.Flat.{FlatTerm, FlatTerms, fvar, fapp, fnone, fmore}
 use Rattle.fvn_syntax.specs.Pieces.{Text}
-use Rattle.fvn_answer.specs.Writing.{is_after, may_exchange}
+use Rattle.fvn_terms.specs.Equality.{is_commutative}
+use Rattle.fvn_answer.specs.Writing.{is_after}
 
 -- the text goes on with a special byte; after a backquote one space stands between
 abbrev pub beside : Text → ℕ → Text
@@ -35,7 +36,7 @@ sorted_texts (t ∷ ts) = put_text t (sorted_texts ts)
 
 -- the texts of an operator's arguments: in byte order where they may be exchanged
 abbrev pub arranged_texts : Axioms → List Text → List Text
-arranged_texts a ts = if may_exchange a then sorted_texts ts else ts
+arranged_texts a ts = if is_commutative a then sorted_texts ts else ts
 
 -- a variable's text, an arrow and the text of its value
 abbrev pub pair_text : Text × Text → Text

@@ -14,17 +14,17 @@ use Rattle.fvn_combine_drawing.specs.declared.drawing.Drawn.{Drawn}
 use Rattle.fvn_combine_drawing.specs.declared.drawing.Drawn.TheVariants.{Nothing as NoneDrawn, TooLarge, Unifier}
 use Rattle.fvn_combine.specs.Tasks.{Combining}
 use Rattle.fvn_combine.specs.Advancing.{IsCovered}
-use Rattle.fvn_combine.specs.Frames.{IsOpened, IsCoveredLater, IsCoveredToCome}
+use Rattle.fvn_combine.specs.Leaves.{IsOpened, IsCoveredLater, IsCoveredToCome}
 use Rattle.fvn_combine.specs.Search.{IsEnd, IsAdmitted, IsOpenedAt, IsCoveredAt}
-use Rattle.fvn_combine.specs.Work.{most_tags, most_numbers, frame_left, left_by}
+use Rattle.fvn_combine.specs.Work.{most_tags, most_numbers, leaf_left, left_by}
 use Rattle.fvn_combine.specs.declared.opened.Opened.{Opened}
-use Rattle.fvn_combine.specs.declared.opened.Frame.{Frame}
+use Rattle.fvn_combine.specs.declared.opened.Leaf.{Leaf}
 use Rattle.fvn_combine.specs.declared.stepping.Step.{Step}
 use Rattle.fvn_combine.specs.declared.stepping.Step.TheVariants.{Over as NoneLeft, More, End}
 use Rattle.fvn_combine.specs.declared.stepping.Found.{Found}
 use Rattle.fvn_combine.specs.declared.stepping.Found.TheVariants.{Nothing, Ends, Given}
 use Rattle.fvn_combine.specs.declared.looking.Looked.{Looked}
-use Rattle.fvn_combine.specs.declared.looking.Looked.TheVariants.{Over, Open, Passed, Refused, Framed}
+use Rattle.fvn_combine.specs.declared.looking.Looked.TheVariants.{Over, Open, Passed, Refused, Leaf}
 
 module _ (k : Combining) (Before After : Substitution → Type 0) where
   -- nothing, where nothing was to come; bindings that are too large, with all still to come; or a unifier that covers what is no longer to come
@@ -50,7 +50,7 @@ IsLessLeft before after Nothing = Unit {0}
 IsLessLeft before after (Ends e) = Unit {0}
 IsLessLeft before after (Given g) = after < before
 
--- two open frames are the same but for the current tags
+-- two open leaves are the same but for the current tags
 pub record IsSameButCurrent (before after : Opened) : Type 0 where
   pub reading : after.reading ≡ before.reading
   pub bases : after.bases ≡ before.bases
@@ -65,22 +65,22 @@ module _ (k : Combining) (s : State) (before after : Opened) where
       IsOpened k s after × (tags_left after.tags < tags_left before.tags)
       × ((u : Substitution) → IsCoveredLater k s before u → IsCoveredToCome k s after u)
       × ((u : Substitution) → IsCoveredToCome k s after u → IsCoveredLater k s before u)
-      × (frame_left k after ≤ frame_left k before)
+      × (leaf_left k after ≤ leaf_left k before)
 
 module _ (k : Combining) where
   -- the state admits the partition of u, which is a unifier on kinds
   abbrev pub IsAdmittedBy : State → Substitution → Type 0
   IsAdmittedBy s u = IsKindUnifier k.declarations (problem_of k.given) u × Admits s (kernel k.declarations u k.table.nodes)
 
-  -- a question is open in the state; it admits no unifier; a sum system of the problem under a partition is refused; or it is a frame, which is opened
+  -- a question is open in the state; it admits no unifier; a sum system of the problem under a partition is refused; or it is a leaf, which is opened
   abbrev pub IsLookedAt : State → Looked → Type 0
   IsLookedAt s Over = ⊥
   IsLookedAt s (Open i j) = (i < length k.table.nodes) × (j < length k.table.nodes) × IsOpen s i j
   IsLookedAt s Passed = (u : Substitution) → IsAdmittedBy s u → ⊥
   IsLookedAt s (Refused f system) = IsBasisCause k.declarations k.given f system
-  IsLookedAt s (Framed o) =
+  IsLookedAt s (Leaf o) =
       IsOpened k s o × ((u : Substitution) → IsAdmittedBy s u → IsCoveredToCome k s o u)
-      × (frame_left k o ≤ most_tags k * most_numbers k)
+      × (leaf_left k o ≤ most_tags k * most_numbers k)
 
   -- this is so of the last state
   pub record IsLookedAtLast (states : List State) (r : Looked) : Type 0 where
@@ -95,32 +95,32 @@ module _ (k : Combining) where
   IsLooked states (Open i j) = IsLookedAtLast states (Open i j)
   IsLooked states Passed = IsLookedAtLast states Passed
   IsLooked states (Refused f system) = IsLookedAtLast states (Refused f system)
-  IsLooked states (Framed o) = IsLookedAtLast states (Framed o)
+  IsLooked states (Leaf o) = IsLookedAtLast states (Leaf o)
 
 module _ (k : Combining) where
-  -- u, a unifier on kinds, is to come in these states, or at the frame that is open
-  abbrev pub IsAhead : List State → Option Frame → Substitution → Type 0
-  IsAhead states frame u = IsKindUnifier k.declarations (problem_of k.given) u × (IsAdmitted k states u ⊎ IsCoveredAt k frame u)
+  -- u, a unifier on kinds, is to come in these states, or at the leaf that is open
+  abbrev pub IsAhead : List State → Option Leaf → Substitution → Type 0
+  IsAhead states leaf u = IsKindUnifier k.declarations (problem_of k.given) u × (IsAdmitted k states u ⊎ IsCoveredAt k leaf u)
 
-  module _ (states : List State) (frame : Option Frame) (states_after : List State) (frame_after : Option Frame) where
+  module _ (states : List State) (leaf : Option Leaf) (states_after : List State) (leaf_after : Option Leaf) where
     -- no state is left; or the tree falls, and what the states admit is to come, and no more; or the search ends here, and all is as it was
     abbrev pub IsStep : Step → Type 0
-    IsStep NoneLeft = (states ≡ []) × (states_after ≡ states) × (frame_after ≡ frame)
+    IsStep NoneLeft = (states ≡ []) × (states_after ≡ states) × (leaf_after ≡ leaf)
     IsStep More =
-        (weight states_after < weight states) × IsOpenedAt k frame_after
-        × ((u : Substitution) → IsKindUnifier k.declarations (problem_of k.given) u → IsAdmitted k states u ↔ (IsAdmitted k states_after u ⊎ IsCoveredAt k frame_after u))
-        × (left_by k states_after frame_after ≤ left_by k states frame)
-    IsStep (End e) = IsEnd k e × (states_after ≡ states) × (frame_after ≡ frame)
+        (weight states_after < weight states) × IsOpenedAt k leaf_after
+        × ((u : Substitution) → IsKindUnifier k.declarations (problem_of k.given) u → IsAdmitted k states u ↔ (IsAdmitted k states_after u ⊎ IsCoveredAt k leaf_after u))
+        × (left_by k states_after leaf_after ≤ left_by k states leaf)
+    IsStep (End e) = IsEnd k e × (states_after ≡ states) × (leaf_after ≡ leaf)
 
     -- all that was to come is so, and no more
     abbrev pub IsAheadAsBefore : Type 0
-    IsAheadAsBefore = (u : Substitution) → IsAhead states frame u ↔ IsAhead states_after frame_after u
+    IsAheadAsBefore = (u : Substitution) → IsAhead states leaf u ↔ IsAhead states_after leaf_after u
 
     -- nothing was to come; or the search ends here; or a unifier covers what is no longer to come
     abbrev pub IsFound : Found → Type 0
-    IsFound Nothing = ((u : Substitution) → IsAhead states frame u → ⊥) × IsAheadAsBefore
+    IsFound Nothing = ((u : Substitution) → IsAhead states leaf u → ⊥) × IsAheadAsBefore
     IsFound (Ends e) = IsEnd k e × IsAheadAsBefore
-    IsFound (Given g) = IsGivenOnKinds k.declarations k.given k.first k.size g × ((u : Substitution) → IsAhead states frame u → IsCovered k g u ⊎ IsAhead states_after frame_after u)
+    IsFound (Given g) = IsGivenOnKinds k.declarations k.given k.first k.size g × ((u : Substitution) → IsAhead states leaf u → IsCovered k g u ⊎ IsAhead states_after leaf_after u)
 
     -- so it is, and at want of memory all is to come as before
     abbrev pub AreFound : Result Found NoMemory → Type 0

@@ -6,7 +6,7 @@ use Rattle.fvn_lindio.specs.declared.system.Solution.{Solution}
 use Rattle.fvn_flat.specs.Solving.{IsRefused}
 use Rattle.fvn_combine_nodes.specs.Table.{NodeTable}
 use Rattle.fvn_combine_leaves.specs.declared.reading.Sums.{Sums}
-use Rattle.fvn_combine_leaves.specs.Frames.{Uses, IsShared}
+use Rattle.fvn_combine_leaves.specs.Leaves.{Uses, IsShared}
 use Rattle.fvn_acunify_product.specs.Wheels.{Wheel}
 use Rattle.fvn_combine_candidates.specs.declared.opening.OpenFault.{OpenFault}
 use Rattle.fvn_combine_candidates.specs.declared.opening.OpenFault.TheVariants.{Basis, NoMemory}

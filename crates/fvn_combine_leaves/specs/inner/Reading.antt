@@ -5,7 +5,7 @@ use Rattle.fvn_terms.specs.declared.declarations.Declarations.{Declarations}
 use Rattle.fvn_terms.specs.Signature.{axioms}
 use Rattle.fvn_terms.specs.Equality.{IsAssociative}
 use Rattle.fvn_combine_nodes.specs.Table.{NodeTable, IsOver}
-use Rattle.fvn_combine_leaves.specs.Frames.{IsSolid}
+use Rattle.fvn_combine_leaves.specs.Leaves.{IsSolid}
 use Rattle.fvn_lindio.specs.declared.system.System.{System}
 use Rattle.fvn_lindio.specs.Systems.{rows_of}
 

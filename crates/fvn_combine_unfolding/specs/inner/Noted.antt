@@ -1,19 +1,10 @@
 -- Sizes that are noted of variables, from the last binding to the first.
-use Rattle.std.specs.Prelude.{ℕ, ◌+◌, ◌-◌, ◌^◌, min, Bool, true, false, if◌then◌else◌, List, [], ◌∷◌, ◌++◌}
+use Rattle.std.specs.Prelude.{ℕ, ◌+◌, ◌-◌, ◌^◌, min, true, false, if◌then◌else◌, List, [], ◌∷◌, ◌++◌}
 use Rattle.fvn_terms.specs.declared.plain.Var.{Var}
-use Rattle.fvn_terms.specs.declared.declarations.Axioms.{Axioms}
-use Rattle.fvn_terms.specs.declared.declarations.Axioms.TheVariants.{Free, Comm, AssocComm, AssocCommId}
 use Rattle.fvn_terms.specs.Substitution.{same_var}
 use Rattle.fvn_forms.specs.Flat.{FlatTerm, FlatTerms, fvar, fapp, fnone, fmore}
 use Rattle.fvn_flat.specs.Bindings.{Bindings}
 use Rattle.fvn_combine_choices.specs.Plans.{size_in}
-
--- whether an operator with these axioms is associative
-abbrev pub joins : Axioms → Bool
-joins Free = false
-joins Comm = false
-joins AssocComm = true
-joins (AssocCommId e) = true
 
 -- a number, or the greatest
 abbrev pub capped : ℕ → ℕ

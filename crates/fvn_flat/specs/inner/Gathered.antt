@@ -4,9 +4,9 @@ use Rattle.fvn_terms.specs.declared.plain.OpId.{OpId}
 use Rattle.fvn_terms.specs.declared.declarations.Declarations.{Declarations}
 use Rattle.fvn_terms.specs.Term.{Term, Terms, var, app, none, more}
 use Rattle.fvn_terms.specs.Signature.{axioms}
+use Rattle.fvn_terms.specs.Equality.{is_sum}
 use Rattle.fvn_forms.specs.Flat.{FlatTerm, fvar, fconstant}
 use Rattle.fvn_forms.specs.Canon.{same_op, canon}
-use Rattle.fvn_flat.specs.Joining.{joins}
 
 module _ (d : Declarations) (f : OpId) where
   abbrev mutual
@@ -14,7 +14,8 @@ module _ (d : Declarations) (f : OpId) where
     pub gathered_of : Term → List FlatTerm
     gathered_of (var x) = fvar x ∷ []
     gathered_of (app g none) = fconstant g ∷ []
-    gathered_of (app g (more t ts)) = if same_op f g && joins (axioms d f) then gathered_of t ++ gathered ts else canon d (app g (more t ts)) ∷ []
+    gathered_of (app g (more t ts)) = if same_op f g && is_sum (axioms d f) then gathered_of t ++ gathered ts
+        else canon d (app g (more t ts)) ∷ []
 
     -- those of each argument in turn
     pub gathered : Terms → List FlatTerm

@@ -15,7 +15,7 @@ use Rattle.fvn_syntax.specs.declared.seen.Kinded.{Kinded}
 use Rattle.fvn_module.specs.declared.equations.Side.{Side}
 use Rattle.fvn_module.specs.declared.sides.Sides.{Sides}
 use Rattle.fvn_module.specs.declared.fault.ModuleFault.{ModuleFault}
-use Rattle.fvn_module.specs.declared.equation.Equation.{Equation}
+use Rattle.fvn_theory.specs.declared.equation.Equation.{Equation}
 use Rattle.fvn_module.specs.declared.fault.Place.TheVariants as place
 use Rattle.fvn_module.specs.declared.fault.ModuleFault.TheVariants.{WrongKind, ExtraVariable, TooMany, NoMemory}
 use Rattle.fvn_module.specs.Equations.{fault_of, AreWrittenAs, IsFaultOf}
@@ -70,7 +70,6 @@ pub record IsJudged (number : ℕ) (left : Kinded) (count : ℕ) (right : Side) 
   pub left_small : count ≤ TEXT_SYMBOLS
   pub right_small : right.count ≤ TEXT_SYMBOLS
   pub brings_none : AllOccur (term left.term) (term right.read.term)
-  pub statement_is : q.statement ≡ number
   pub left_is : q.left ≡ left.term
   pub right_is : q.right ≡ right.read.term
 

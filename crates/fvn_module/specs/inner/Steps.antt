@@ -8,8 +8,8 @@ use Rattle.fvn_base.specs.declared.limits.TheConstants.{EQUATIONS}
 use Rattle.fvn_forms.specs.Good.{IsGood}
 use Rattle.fvn_signature.specs.Collected.{completed}
 use Rattle.fvn_sorts.specs.Faults.{HasNoFault, IsFirstFault as IsFirstSignatureFault}
-use Rattle.fvn_module_statements.specs.declared.statement.Statement.{Statement}
-use Rattle.fvn_module_statements.specs.declared.form.Form.{Form}
+use Rattle.fvn_module_syntax.specs.declared.statement.Statement.{Statement}
+use Rattle.fvn_module_syntax.specs.declared.form.Form.{Form}
 use Rattle.fvn_module_statements.specs.declared.form.FormFault.TheVariants as form
 use Rattle.fvn_module_statements.specs.Forms.{IsFormOf, IsFirstFault as IsFirstFormFault}
 use Rattle.fvn_module_names.specs.declared.fault.NameFault.TheVariants as name
@@ -19,7 +19,7 @@ use Rattle.fvn_module_names.specs.Variables.{no_variables}
 use Rattle.fvn_module_declarations.specs.Module.{names_in, names_alone, collected_in}
 use Rattle.fvn_module_names.specs.Faults.{HasNames, IsFirstFault as IsFirstNameFault}
 use Rattle.fvn_module.specs.declared.signing.Signed.{Signed}
-use Rattle.fvn_module.specs.declared.equation.Equation.{Equation}
+use Rattle.fvn_theory.specs.declared.equation.Equation.{Equation}
 use Rattle.fvn_module.specs.declared.sides.Sides.{Sides}
 use Rattle.fvn_module.specs.declared.fault.Place.TheVariants as place
 use Rattle.fvn_module.specs.declared.fault.ModuleFault.{ModuleFault}

@@ -8,8 +8,8 @@ use Rattle.fvn_signature.specs.declared.collected.Collected.{Collected}
 use Rattle.fvn_signature.specs.Collected.{op_number}
 use Rattle.fvn_syntax.specs.Pieces.{Text}
 use Rattle.fvn_syntax.specs.Texts.{place_or_end, with_text}
-use Rattle.fvn_module_statements.specs.declared.statement.Statement.{Statement}
-use Rattle.fvn_module_statements.specs.declared.statement.Statement.TheVariants.{Sorts, Subsorts, Operator, Operators, Variables, Equation}
+use Rattle.fvn_module_syntax.specs.declared.statement.Statement.{Statement}
+use Rattle.fvn_module_syntax.specs.declared.statement.Statement.TheVariants.{Sorts, Subsorts, Operator, Operators, Variables, Equation}
 use Rattle.fvn_module_declarations.specs.declared.shapes.Shape.{Shape}
 use Rattle.fvn_module_names.specs.Names.{joined, name_text}
 use Rattle.fvn_module_names.specs.Order.{with_new}

@@ -3,11 +3,11 @@ use Rattle.std.specs.Prelude.{◌≡◌, Bool, false, if◌then◌else◌, List,
 use Rattle.std.specs.List.{list_any}
 use Rattle.fvn_base.specs.declared.limits.TheConstants.{ARGUMENTS}
 use Rattle.fvn_terms.specs.declared.declarations.Axioms.{Axioms}
-use Rattle.fvn_module_statements.specs.declared.statement.RawRank.{RawRank}
-use Rattle.fvn_module_statements.specs.declared.statement.Attribute.{Attribute}
-use Rattle.fvn_module_statements.specs.declared.statement.Statement.{Statement}
-use Rattle.fvn_module_statements.specs.declared.statement.Statement.TheVariants.{Sorts, Subsorts, Operator, Operators, Variables, Equation}
-use Rattle.fvn_module_statements.specs.LeftOut.{is_ditto}
+use Rattle.fvn_module_syntax.specs.declared.statement.RawRank.{RawRank}
+use Rattle.fvn_module_syntax.specs.declared.statement.Attribute.{Attribute}
+use Rattle.fvn_module_syntax.specs.declared.statement.Statement.{Statement}
+use Rattle.fvn_module_syntax.specs.declared.statement.Statement.TheVariants.{Sorts, Subsorts, Operator, Operators, Variables, Equation}
+use Rattle.fvn_module_syntax.specs.LeftOut.{is_ditto}
 use Rattle.fvn_module_declarations.specs.Operators.{rank_of, axioms_of}
 use Rattle.fvn_module_names.specs.Faults.{has_unknown_sort}
 use Rattle.fvn_module_declarations.specs.declared.shapes.Shape.{Shape}

@@ -2,7 +2,7 @@
 use Rattle.std.specs.Prelude.{◌≡◌, ℕ, true, false, List, []}
 use Rattle.fvn_syntax.specs.Pieces.{Text}
 use Rattle.fvn_syntax.specs.declared.names.Variables.{Variables}
-use Rattle.fvn_module_statements.specs.declared.statement.Statement.{Statement}
+use Rattle.fvn_module_syntax.specs.declared.statement.Statement.{Statement}
 use Rattle.fvn_module_names.specs.declared.fault.NameFault.{NameFault}
 use Rattle.fvn_module_names.specs.declared.fault.NameFault.TheVariants.{UnknownName, Twice, NoMemory}
 use Rattle.fvn_module_names.specs.Names.{operators_in, constants_in, operators_of, constants_of, with_texts}

@@ -1,8 +1,8 @@
 -- What is made of what was read, and reading as many things as stand one after another.
 use Rattle.std.specs.Prelude.{List, [], ◌∷◌, ◌++◌, Option, Some, None}
 use Rattle.fvn_lex.specs.Cut.{Piece}
-use Rattle.fvn_module_statements.specs.declared.statement.Reading.{Reading}
-use Rattle.fvn_module_statements.specs.declared.statement.Reading.TheVariants.{Read, LeftOut, NoForm}
+use Rattle.fvn_module_statements.specs.declared.outcome.Reading.{Reading}
+use Rattle.fvn_module_statements.specs.declared.outcome.Reading.TheVariants.{Read, LeftOut, NoForm}
 
 -- what f makes of the value, if there is one
 abbrev pub bind : {A B : Type 0} → Option A → (A → Option B) → Option B

@@ -4,7 +4,7 @@ use Rattle.fvn_lex.specs.Cut.{Piece}
 use Rattle.fvn_syntax.specs.Pieces.{Text, is_word, is_name, is_special}
 use Rattle.fvn_syntax.specs.declared.sorts.RawSort.{RawSort}
 use Rattle.fvn_syntax.specs.declared.sorts.RawSort.TheVariants.{Name, Kind}
-use Rattle.fvn_module_statements.specs.declared.statement.RawRank.{RawRank}
+use Rattle.fvn_module_syntax.specs.declared.statement.RawRank.{RawRank}
 use Rattle.fvn_module_statements.specs.inner.Gather.{bind, gather}
 
 -- , WORD

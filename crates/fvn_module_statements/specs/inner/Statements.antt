@@ -5,19 +5,19 @@ use Rattle.std.specs.Str.{bytes_eq}
 use Rattle.fvn_lex.specs.Cut.{Piece}
 use Rattle.fvn_syntax.specs.Pieces.{Text, is_word, is_name}
 use Rattle.fvn_syntax.specs.declared.sorts.RawSort.{RawSort}
-use Rattle.fvn_module_statements.specs.declared.statement.RawRank.{RawRank}
-use Rattle.fvn_module_statements.specs.declared.statement.Attribute.{Attribute}
-use Rattle.fvn_module_statements.specs.declared.statement.OperatorName.{OperatorName}
-use Rattle.fvn_module_statements.specs.declared.statement.Statement.{Statement}
-use Rattle.fvn_module_statements.specs.declared.statement.Statement.TheVariants as statement
-use Rattle.fvn_module_statements.specs.declared.statement.Feature.{Feature}
-use Rattle.fvn_module_statements.specs.declared.statement.Feature.TheVariants as feature
-use Rattle.fvn_module_statements.specs.declared.statement.Reading.{Reading}
-use Rattle.fvn_module_statements.specs.declared.statement.Reading.TheVariants.{Read, LeftOut, NoForm}
+use Rattle.fvn_module_syntax.specs.declared.statement.RawRank.{RawRank}
+use Rattle.fvn_module_syntax.specs.declared.statement.Attribute.{Attribute}
+use Rattle.fvn_module_syntax.specs.declared.statement.OperatorName.{OperatorName}
+use Rattle.fvn_module_syntax.specs.declared.statement.Statement.{Statement}
+use Rattle.fvn_module_syntax.specs.declared.statement.Statement.TheVariants as statement
+use Rattle.fvn_module_syntax.specs.declared.statement.Feature.{Feature}
+use Rattle.fvn_module_syntax.specs.declared.statement.Feature.TheVariants as feature
+use Rattle.fvn_module_statements.specs.declared.outcome.Reading.{Reading}
+use Rattle.fvn_module_statements.specs.declared.outcome.Reading.TheVariants.{Read, LeftOut, NoForm}
 use Rattle.fvn_module_statements.specs.declared.reading.Keyword.{Keyword}
 use Rattle.fvn_module_statements.specs.declared.reading.Keyword.TheVariants.{Sorts, Subsorts, Operator, Operators, Variables, Equation}
-use Rattle.fvn_module_statements.specs.Words.{touch, names_touch}
-use Rattle.fvn_module_statements.specs.LeftOut.{feature_of}
+use Rattle.fvn_module_syntax.specs.Words.{touch, names_touch}
+use Rattle.fvn_module_syntax.specs.LeftOut.{feature_of}
 use Rattle.fvn_module_statements.specs.inner.Gather.{map_reading, gather}
 use Rattle.fvn_module_statements.specs.inner.Sorts.{rank_of}
 use Rattle.fvn_module_statements.specs.inner.Attributes.{is_some, attributes_of}

@@ -7,7 +7,7 @@ use Rattle.fvn_terms.specs.declared.declarations.Declarations.{Declarations}
 use Rattle.fvn_terms.specs.Signature.{kind, axioms}
 use Rattle.fvn_terms.specs.Term.{Term}
 use Rattle.fvn_forms.specs.Canon.{as_constant, canon}
-use Rattle.fvn_terms.specs.Equality.{identity}
+use Rattle.fvn_terms.specs.Equality.{identity, is_sum}
 use Rattle.fvn_forms.specs.LeastSort.{least_sort}
 use Rattle.fvn_forms.specs.Ranks.{result}
 use Rattle.fvn_terms.specs.Plain.{term}
@@ -16,7 +16,7 @@ use Rattle.fvn_syntax.specs.declared.names.Names.{Names}
 use Rattle.fvn_syntax.specs.Raw.{RawTerm, spell, IsWritten}
 use Rattle.fvn_syntax.specs.Resolve.{Resolved, resolve}
 use Rattle.fvn_syntax.specs.Scope.{Scope}
-use Rattle.fvn_syntax.specs.Names.{constant_named, variable_named, op_named, sort_named, is_sum}
+use Rattle.fvn_syntax.specs.Names.{constant_named, variable_named, op_named, sort_named}
 use Rattle.fvn_syntax.specs.Pieces.{Text, is_special, is_colon_name}
 use Rattle.fvn_problems.specs.declared.sorting.Sorted.{Sorted}
 use Rattle.fvn_problems.specs.declared.sorting.Frame.{Frame}

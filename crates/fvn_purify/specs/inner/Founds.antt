@@ -5,8 +5,8 @@ use Rattle.fvn_purify.specs.Parts.{Outline}
 use Rattle.fvn_purify.specs.Cursor.{Cursor, HasSamePending, IsGivenFrom}
 use Rattle.fvn_purify.specs.Weight.{cursor_weight}
 use Rattle.fvn_purify.specs.declared.choosing.Partial.{Partial}
-use Rattle.fvn_purify.specs.declared.splits.Found.{Found}
-use Rattle.fvn_purify.specs.declared.splits.Found.TheVariants.{Nothing, More, Split}
+use Rattle.fvn_purify.specs.declared.cursor.Found.{Found}
+use Rattle.fvn_purify.specs.declared.cursor.Found.TheVariants.{Nothing, More, Split}
 
 -- the cursor with these parts
 abbrev pub cursor : Declarations → Outline → List Partial → Cursor

@@ -13,10 +13,10 @@ use Rattle.fvn_terms.specs.Laws.{RewritingLaws}
 use Rattle.fvn_forms.specs.Flat.{FlatTerm, plain}
 use Rattle.fvn_forms.specs.Good.{IsGood}
 use Rattle.fvn_rewrite_laws.specs.Laws.{SequenceLaws, KindedLaws}
-use Rattle.fvn_cohere.specs.Promises.{equations_of}
+use Rattle.fvn_theory.specs.Equations.{equations_of}
 use Rattle.fvn_rewrite_rules.specs.declared.rule.Rule.{Rule}
 use Rattle.fvn_rewrite_rules.specs.Given.{RuleLists, headed}
-use Rattle.fvn_rewrite.specs.Normalised.{IsReached}
+use Rattle.fvn_rewrite_laws.specs.Normalised.{IsReached}
 use Rattle.fvn_rewrite.specs.declared.making.Made.{Made}
 use Rattle.fvn_rewrite.specs.declared.making.MadeAll.{MadeAll}
 use Rattle.fvn_rewrite.specs.declared.making.Turned.{Turned}
@@ -26,7 +26,7 @@ use Rattle.fvn_rewrite.specs.inner.Trying.{AllSidesFit}
 use Rattle.fvn_rewrite.specs.inner.SortedTerms.{spack, term_of, terms_of, IsSorted, AreSorted}
 
 -- what the search needs of the rules: their instances are steps, and sequences are lawful
-pub record AreLawful (d : Declarations) (lists : RuleLists) : Type 0 where
+pub record AreStepRules (d : Declarations) (lists : RuleLists) : Type 0 where
   pub good : IsGood d
   pub fit : (f : OpId) → AllSidesFit d (headed lists f)
   pub steps : (f : OpId) (rule : Rule) → Contains (headed lists f) rule →

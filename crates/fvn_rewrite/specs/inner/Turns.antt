@@ -5,7 +5,7 @@ use Rattle.fvn_terms.specs.Theory.{Equations}
 use Rattle.fvn_forms.specs.Flat.{FlatTerm}
 use Rattle.fvn_rewrite.specs.declared.normalising.Turn.{Turn}
 use Rattle.fvn_rewrite.specs.declared.normalising.Turn.TheVariants.{Large, Irreducible, Next}
-use Rattle.fvn_rewrite.specs.Normalised.{counted, IsNormalForm}
+use Rattle.fvn_rewrite_laws.specs.Normalised.{counted, IsNormalForm}
 use Rattle.fvn_rewrite.specs.inner.Walking.{IsNext}
 
 -- the form is too large, or irreducible, or one step leads on

@@ -7,7 +7,7 @@ use Rattle.fvn_forms.specs.Flat.{FlatTerm}
 use Rattle.fvn_flat.specs.Forms.{args_of}
 use Rattle.fvn_flat.specs.Fits.{Fits}
 use Rattle.fvn_rewrite_coherence.specs.PlacedSteps.{IsRedex, StepsAtPlace}
-use Rattle.fvn_rewrite.specs.Normalised.{StepsTo}
+use Rattle.fvn_rewrite_laws.specs.Normalised.{StepsTo}
 
 module _ (d : Declarations) (equations : Equations) where
   -- the form is no redex

@@ -3,10 +3,10 @@ use Rattle.std.specs.Prelude.{◌≡◌, ◌≤◌, ◌<◌, ◌+◌, ℕ, List,
 use Rattle.fvn_terms.specs.declared.declarations.Declarations.{Declarations}
 use Rattle.fvn_forms.specs.Flat.{FlatTerm}
 use Rattle.fvn_flat.specs.Rules.{IsRuleFrom}
-use Rattle.fvn_module.specs.declared.equation.Equation.{Equation}
-use Rattle.fvn_cohere.specs.Promises.{sides_of}
+use Rattle.fvn_theory.specs.declared.equation.Equation.{Equation}
+use Rattle.fvn_theory.specs.Equations.{sides_of}
 use Rattle.fvn_rewrite_rules.specs.declared.rule.Rule.{Rule}
-use Rattle.fvn_rewrite_rules.specs.Given.{IsNumberedRule, AreOrdered}
+use Rattle.fvn_rewrite_rules.specs.Given.{HasOldVariables, IsNumberedRule, AreOrdered}
 use Rattle.fvn_rewrite_rules.specs.inner.Making.{StandsFor}
 
 -- all rules of the first count of the equations, in the order of these
@@ -18,6 +18,7 @@ pub record AreRulesUpTo (d : Declarations) (equations : List Equation) (count : 
       before < count → slice_get equations before ≡ Some equation → IsRuleFrom d (sides_of equation) l r →
       (rule : Rule) × (Contains rules rule × ((rule.equation ≡ before + 1) × StandsFor d l r rule))
   pub ordered : AreOrdered rules
+  pub old : (rule : Rule) → Contains rules rule → HasOldVariables rule
 
 -- all rules of the equations, in the order of these
 abbrev pub AreAllRules : Declarations → List Equation → List Rule → Type 0

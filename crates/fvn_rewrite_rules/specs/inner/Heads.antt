@@ -1,5 +1,5 @@
 -- The rules that are needed under a head.
-use Rattle.std.specs.Prelude.{◌≡◌, ◌⊎◌, ◌<◌, List, [], length, AllPairs, Contains, Some, slice_index_or}
+use Rattle.std.specs.Prelude.{◌≡◌, ◌⊎◌, ◌<◌, Bool, true, false, List, [], length, AllPairs, Contains, Some, slice_index_or}
 use Rattle.fvn_terms.specs.declared.plain.OpId.{OpId}
 use Rattle.fvn_terms.specs.declared.declarations.Declarations.{Declarations}
 use Rattle.fvn_flat.specs.Forms.{head_of}
@@ -7,13 +7,24 @@ use Rattle.fvn_rewrite_rules.specs.declared.rule.Rule.{Rule}
 use Rattle.fvn_rewrite_rules.specs.Given.{HasInstance, HaveNoInstances}
 
 module _ (d : Declarations) where
-  -- one substitution makes both sides of the rule those of the other
+  -- a substitution makes the left side of the rule that of the other
   abbrev pub HasAsInstance : Rule → Rule → Type 0
-  HasAsInstance rule other = HasInstance d rule other.left other.right
+  HasAsInstance rule other = HasInstance d rule other.left
 
   -- one of the rules has this one as an instance
   abbrev pub SomeHasInstance : List Rule → Rule → Type 0
   SomeHasInstance rules rule = (general : Rule) × (Contains rules general × HasAsInstance general rule)
+
+  -- Whether the rule serves in place of the other: where it does, it has it as an instance; where it does not though it
+  -- has, each has the other.
+  abbrev pub ServesAs : Rule → Rule → Bool → Type 0
+  ServesAs rule other true = HasAsInstance rule other
+  ServesAs rule other false = HasAsInstance rule other → HasAsInstance other rule
+
+  -- whether one of the rules serves in place of the other
+  abbrev pub SomeServesAs : List Rule → Rule → Bool → Type 0
+  SomeServesAs rules other true = SomeHasInstance rules other
+  SomeServesAs rules other false = (rule : Rule) → Contains rules rule → ServesAs rule other false
 
   -- none of the rules is an instance of another one
   abbrev pub AreApart : List Rule → Type 0

@@ -6,6 +6,7 @@ use Rattle.fvn_terms.specs.declared.declarations.Declarations.{Declarations}
 use Rattle.fvn_terms.specs.Term.{Term, var}
 use Rattle.fvn_terms.specs.Substitution.{Substitution, apply}
 use Rattle.fvn_terms.specs.Signature.{kind, axioms}
+use Rattle.fvn_terms.specs.Equality.{is_sum}
 use Rattle.fvn_forms.specs.Flat.{FlatTerm, fvar, fconstant, plain}
 use Rattle.fvn_forms.specs.Canon.{build, canon, inst}
 use Rattle.fvn_forms.specs.Settled.{Settled}
@@ -13,11 +14,10 @@ use Rattle.fvn_forms.specs.LeastSort.{least_sort}
 use Rattle.fvn_flat.specs.Forms.{head_of}
 use Rattle.fvn_flat.specs.Bindings.{Bindings, value}
 use Rattle.fvn_flat.specs.Rules.{IsIdentityChoice, IsIdentityInstance, IsRuleFrom}
-use Rattle.fvn_flat.specs.Joining.{joins}
 use Rattle.fvn_rewrite_laws.specs.Choices.{identities_below}
 use Rattle.fvn_rewrite_laws.specs.Kinds.{HasOneKind}
 use Rattle.fvn_rewrite_rules.specs.declared.rule.Rule.{Rule}
-use Rattle.fvn_rewrite_rules.specs.Given.{IsRenamedRule, HasInstance}
+use Rattle.fvn_rewrite_rules.specs.Given.{HasOldVariables, IsRenamedRule, HasInstance}
 
 -- x goes to e, and other variables stay
 abbrev pub goes_to : Var → OpId → Bindings
@@ -61,16 +61,16 @@ module _ (d : Declarations) where
   -- the same, where this heads the left side and is associative
   abbrev pub extension_under : Rule → Option OpId → Option Rule
   extension_under rule None = None
-  extension_under rule (Some f) = if joins (axioms d f) then Some (extended rule f) else None
+  extension_under rule (Some f) = if is_sum (axioms d f) then Some (extended rule f) else None
 
   -- the extension of a rule, where an associative operator heads its left side
   abbrev pub extension_of : Rule → Option Rule
   extension_of rule = extension_under rule (head_of rule.left)
 
-  -- the rule stands for l = r: a renaming of it, of which it is an instance, under the same head
+  -- the rule stands for l = r: a renaming of it, of whose left side l is an instance, under the same head
   pub record StandsFor (l r : FlatTerm) (rule : Rule) : Type 0 where
     pub renamed : IsRenamedRule d l r rule
-    pub instance : HasInstance d rule l r
+    pub instance : HasInstance d rule l
     pub head : head_of rule.left ≡ head_of l
 
   module _ (number : ℕ) (equation : Term × Term) where
@@ -93,3 +93,4 @@ module _ (d : Declarations) where
     pub record AreRulesFrom (rules : List Rule) : Type 0 where
       pub sound : (rule : Rule) → Contains rules rule → (rule.equation ≡ number) × IsRuleFrom d equation rule.left rule.right
       pub complete : (l r : FlatTerm) → IsRuleFrom d equation l r → (rule : Rule) × (Contains rules rule × StandsFor l r rule)
+      pub old : (rule : Rule) → Contains rules rule → HasOldVariables rule

@@ -17,7 +17,8 @@ use Rattle.fvn_syntax.specs.declared.reading.Spot.TheVariants.{Wanted, Named, So
 use Rattle.fvn_syntax.specs.declared.reading.Reading.{Reading}
 use Rattle.fvn_syntax.specs.Scope.{Scope}
 use Rattle.fvn_syntax.specs.Pieces.{Text, is_special, is_colon_name, without_last}
-use Rattle.fvn_syntax.specs.Names.{resolve_name, op_named, sort_named, kind_of, if_of_kind, is_sum}
+use Rattle.fvn_terms.specs.Equality.{is_sum}
+use Rattle.fvn_syntax.specs.Names.{resolve_name, op_named, sort_named, kind_of, if_of_kind}
 use Rattle.fvn_syntax.specs.Resolve.{Resolved, bind, checked, the_variable, resolve_meaning, apply}
 use Rattle.fvn_syntax.specs.Readings.{sum_or_most}
 

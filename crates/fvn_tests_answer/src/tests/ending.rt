@@ -6,7 +6,7 @@ ghost use Rattle.fvn_answer.specs.Answers.{FitsEnd};
 use fvn_answer::{End, Line, answer_text};
 use fvn_flat::flatten;
 use fvn_module::Module;
-use fvn_problems::read_query;
+use fvn_problems::read_term;
 use fvn_terms::{NoMemory, OpId};
 use std::alloc::Global;
 
@@ -21,7 +21,7 @@ fn steps_of(alloc: Global, declared: &Module, text: &str) -> Result<Option<End>,
     ensures { IfOk result (λ o. IfSome o (FitsEnd declared.now.signature)) }
 {
     let (n, term) = text.split_once(' ').unwrap_or((text, ""));
-    match read_query(
+    match read_term(
         alloc,
         declared.signature(),
         declared.names(),

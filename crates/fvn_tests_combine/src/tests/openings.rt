@@ -66,12 +66,12 @@ pub fn shown_opened(alloc: Global, sig: &Signature, text: &str) -> Result<String
 }
 
 #[test]
-fn frames_are_opened(rt: HostRuntime) -> Result<(), NoMemory> {
+fn leaves_are_opened(rt: HostRuntime) -> Result<(), NoMemory> {
     assert_table(&rt, rt.alloc(), Asked::Opened, OPERATORS, OPENED)
 }
 
 #[test]
-fn frames_with_elements_are_opened(rt: HostRuntime) -> Result<(), NoMemory> {
+fn leaves_with_elements_are_opened(rt: HostRuntime) -> Result<(), NoMemory> {
     assert_table(
         &rt,
         rt.alloc(),

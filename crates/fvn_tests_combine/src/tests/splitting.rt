@@ -6,7 +6,7 @@ ghost use Rattle.fvn_purify.specs.Parts.{AreClassesOf};
 
 use super::parts::{push_classes, push_split};
 use fvn_flat::Pairs;
-use fvn_purify::{Classes, Splits, purify};
+use fvn_purify::{Classes, purify, splits};
 use fvn_signature::Signature;
 use fvn_terms::NoMemory;
 use fvn_tests_samples::are_sides;
@@ -22,9 +22,9 @@ fn push_splits(
     requires classes { (problem : Problem) ×
         IsProblem sig.now problem × AreClassesOf sig.now problem classes.now }
 {
-    let mut splits = Splits::new(alloc, sig, classes)?;
+    let mut cursor = splits(alloc, sig, classes)?;
     'given: loop {
-        match splits.advance()? {
+        match cursor.advance()? {
             None => return Ok(()),
             Some(split) => push_split(out, &split)?,
         }

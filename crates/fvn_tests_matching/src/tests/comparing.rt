@@ -1,5 +1,5 @@
 //! Compares, prunes and marks the variants of tests.
-use super::variants::{are_all_alike, is_alike, variant_of, variants_of};
+use super::variants::{are_all_alike, is_alike, kept_of, variant_of, variants_of};
 use fvn_cover::{OpenGate, Variant, covers, marks, prune};
 use fvn_signature::Signature;
 use fvn_terms::NoMemory;
@@ -88,6 +88,7 @@ pub fn shown_marked<R: Threads + Sync>(
         if let Some(candidates) = variants_of(alloc, sig, right)? {
             let alike = are_all_alike(kept.as_slice(), candidates.as_slice());
             if alike && 1 <= workers && workers <= 16 {
+                let kept = kept_of(alloc, sig, kept)?;
                 let found = marks(
                     rt,
                     alloc,

@@ -1,14 +1,14 @@
 //! Modules with all that their signatures answer: sorts, results of operators, axioms and equations.
-use fvn_module::{Equation, Module, read_module};
+use fvn_module::{Module, read_module};
 use fvn_signature::Signature;
 use fvn_syntax::Names;
 use fvn_terms::{Args, Axioms, NoMemory, OpId, Plain, SortId, Var};
+use fvn_theory::Equation;
 use std::alloc::Global;
 use std::process::Abort;
 
 // Each module comes with its sorts, each with the sorts above it and its kind; with its operators, each with its axioms
-// and the least sort for each list of sorts and kinds of its arguments; and with its equations, each behind the number
-// of its statement.
+// and the least sort for each list of sorts and kinds of its arguments; and with its equations.
 const WORKED: &str = "fmod FREE is sort S . ops a b : -> S . op p : S S -> S . vars X Y : S . endfm
 S in [S]; a free >S; b free >S; p free S,S>S S,[S]>[S] [S],S>[S] [S],[S]>[S]
 
@@ -19,28 +19,28 @@ fmod SET is sorts Elt Set . subsort Elt < Set . ops a b : -> Elt . op mt : -> Se
 Elt<Set in [Set]; Set in [Set]; a free >Elt; b free >Elt; mt free >Set; _;_ acu mt Elt,Elt>Set Elt,Set>Set Elt,[Set]>[Set] Set,Elt>Set Set,Set>Set Set,[Set]>[Set] [Set],Elt>[Set] [Set],Set>[Set] [Set],[Set]>[Set]
 
 fmod XOR is sorts Nat NatSet . subsort Nat < NatSet . op 0 : -> Nat [ctor] . op s : Nat -> Nat [ctor] . op mt : -> NatSet [ctor] . op _*_ : NatSet NatSet -> NatSet [ctor assoc comm] . vars X Y Z : [NatSet] . eq [idem] : _*_(X,X) = mt [variant] . eq [idem-Coh] : _*_(X,X,Z) = Z [variant] . eq [id] : _*_(X,mt) = X [variant] . endfm
-Nat<NatSet in [NatSet]; NatSet in [NatSet]; 0 free >Nat; s free Nat>Nat NatSet>[NatSet] [NatSet]>[NatSet]; mt free >NatSet; _*_ ac Nat,Nat>NatSet Nat,NatSet>NatSet Nat,[NatSet]>[NatSet] NatSet,Nat>NatSet NatSet,NatSet>NatSet NatSet,[NatSet]>[NatSet] [NatSet],Nat>[NatSet] [NatSet],NatSet>[NatSet] [NatSet],[NatSet]>[NatSet]; 8: _*_(x0:[NatSet],x0:[NatSet]) = mt; 9: _*_(x0:[NatSet],_*_(x0:[NatSet],x1:[NatSet])) = x1:[NatSet]; 10: _*_(x0:[NatSet],mt) = x0:[NatSet]
+Nat<NatSet in [NatSet]; NatSet in [NatSet]; 0 free >Nat; s free Nat>Nat NatSet>[NatSet] [NatSet]>[NatSet]; mt free >NatSet; _*_ ac Nat,Nat>NatSet Nat,NatSet>NatSet Nat,[NatSet]>[NatSet] NatSet,Nat>NatSet NatSet,NatSet>NatSet NatSet,[NatSet]>[NatSet] [NatSet],Nat>[NatSet] [NatSet],NatSet>[NatSet] [NatSet],[NatSet]>[NatSet]; _*_(x0:[NatSet],x0:[NatSet]) = mt; _*_(x0:[NatSet],_*_(x0:[NatSet],x1:[NatSet])) = x1:[NatSet]; _*_(x0:[NatSet],mt) = x0:[NatSet]
 
 fmod XORN is sorts Nat NatSet . subsort Nat < NatSet . op 0 : -> Nat [ctor] . op s : Nat -> Nat [ctor] . op mt : -> NatSet [ctor] . op _*_ : NatSet NatSet -> NatSet [ctor assoc comm] . vars X Y Z : [NatSet] . eq [idem] : _*_(X,X) = mt [variant] . eq [id] : _*_(X,mt) = X [variant] . endfm
-Nat<NatSet in [NatSet]; NatSet in [NatSet]; 0 free >Nat; s free Nat>Nat NatSet>[NatSet] [NatSet]>[NatSet]; mt free >NatSet; _*_ ac Nat,Nat>NatSet Nat,NatSet>NatSet Nat,[NatSet]>[NatSet] NatSet,Nat>NatSet NatSet,NatSet>NatSet NatSet,[NatSet]>[NatSet] [NatSet],Nat>[NatSet] [NatSet],NatSet>[NatSet] [NatSet],[NatSet]>[NatSet]; 8: _*_(x0:[NatSet],x0:[NatSet]) = mt; 9: _*_(x0:[NatSet],mt) = x0:[NatSet]
+Nat<NatSet in [NatSet]; NatSet in [NatSet]; 0 free >Nat; s free Nat>Nat NatSet>[NatSet] [NatSet]>[NatSet]; mt free >NatSet; _*_ ac Nat,Nat>NatSet Nat,NatSet>NatSet Nat,[NatSet]>[NatSet] NatSet,Nat>NatSet NatSet,NatSet>NatSet NatSet,[NatSet]>[NatSet] [NatSet],Nat>[NatSet] [NatSet],NatSet>[NatSet] [NatSet],[NatSet]>[NatSet]; _*_(x0:[NatSet],x0:[NatSet]) = mt; _*_(x0:[NatSet],mt) = x0:[NatSet]
 
 fmod COLLAPSE is sort S . ops a b c d e : -> S . op h : S S -> S [assoc comm id: e] . op f : S S -> S [assoc comm] . var X : S . eq h(X,f(a,b)) = c [variant] . endfm
-S in [S]; a free >S; b free >S; c free >S; d free >S; e free >S; h acu e S,S>S S,[S]>[S] [S],S>[S] [S],[S]>[S]; f ac S,S>S S,[S]>[S] [S],S>[S] [S],[S]>[S]; 6: h(x0:S,f(a,b)) = c
+S in [S]; a free >S; b free >S; c free >S; d free >S; e free >S; h acu e S,S>S S,[S]>[S] [S],S>[S] [S],[S]>[S]; f ac S,S>S S,[S]>[S] [S],S>[S] [S],[S]>[S]; h(x0:S,f(a,b)) = c
 
 fmod BADXOR is sort S . op mt : -> S . op _*_ : S S -> S [assoc comm id: mt] . var X : S . eq _*_(X,X) = mt [variant] . endfm
-S in [S]; mt free >S; _*_ acu mt S,S>S S,[S]>[S] [S],S>[S] [S],[S]>[S]; 5: _*_(x0:S,x0:S) = mt
+S in [S]; mt free >S; _*_ acu mt S,S>S S,[S]>[S] [S],S>[S] [S],[S]>[S]; _*_(x0:S,x0:S) = mt
 
 fmod ENC is sorts Msg Key . op a : -> Msg . op k : -> Key . ops enc dec : Msg Key -> Msg . vars X M : Msg . vars Y K : Key . eq dec(enc(M,K),K) = M [variant] . endfm
-Msg in [Msg]; Key in [Key]; a free >Msg; k free >Key; enc free Msg,Key>Msg Msg,[Key]>[Msg] [Msg],Key>[Msg] [Msg],[Key]>[Msg]; dec free Msg,Key>Msg Msg,[Key]>[Msg] [Msg],Key>[Msg] [Msg],[Key]>[Msg]; 7: dec(enc(x0:Msg,x1:Key),x1:Key) = x0:Msg
+Msg in [Msg]; Key in [Key]; a free >Msg; k free >Key; enc free Msg,Key>Msg Msg,[Key]>[Msg] [Msg],Key>[Msg] [Msg],[Key]>[Msg]; dec free Msg,Key>Msg Msg,[Key]>[Msg] [Msg],Key>[Msg] [Msg],[Key]>[Msg]; dec(enc(x0:Msg,x1:Key),x1:Key) = x0:Msg
 
 fmod PLUS is sort Nat . op 0 : -> Nat . op s : Nat -> Nat . op + : Nat Nat -> Nat . vars X Y : Nat . eq +(0,Y) = Y [variant] . eq +(s(X),Y) = s(+(X,Y)) [variant] . endfm
-Nat in [Nat]; 0 free >Nat; s free Nat>Nat [Nat]>[Nat]; + free Nat,Nat>Nat Nat,[Nat]>[Nat] [Nat],Nat>[Nat] [Nat],[Nat]>[Nat]; 6: +(0,x0:Nat) = x0:Nat; 7: +(s(x0:Nat),x1:Nat) = s(+(x0:Nat,x1:Nat))
+Nat in [Nat]; 0 free >Nat; s free Nat>Nat [Nat]>[Nat]; + free Nat,Nat>Nat Nat,[Nat]>[Nat] [Nat],Nat>[Nat] [Nat],[Nat]>[Nat]; +(0,x0:Nat) = x0:Nat; +(s(x0:Nat),x1:Nat) = s(+(x0:Nat,x1:Nat))
 
 fmod RAISE is sorts A B . subsort A < B . op f : B -> A . op g : B -> B . var X : B . eq f(X) = g(X) [variant] . endfm
-A<B in [B]; B in [B]; f free A>A B>A [B]>[B]; g free A>B B>B [B]>[B]; 6: f(x0:B) = g(x0:B)
+A<B in [B]; B in [B]; f free A>A B>A [B]>[B]; g free A>B B>B [B]>[B]; f(x0:B) = g(x0:B)
 
 fmod LOOP is sort S . op a : -> S . op f : S -> S . var X : S . eq f(X) = f(X) [variant] . endfm
-S in [S]; a free >S; f free S>S [S]>[S]; 5: f(x0:S) = f(x0:S)
+S in [S]; a free >S; f free S>S [S]>[S]; f(x0:S) = f(x0:S)
 
 fmod PARITY is sorts Even Odd Nat . subsorts Even Odd < Nat . op + : Nat Nat -> Nat . op + : Even Even -> Even . op + : Odd Odd -> Even . op + : Even Odd -> Odd . op + : Odd Even -> Odd . endfm
 Even<Nat in [Nat]; Odd<Nat in [Nat]; Nat in [Nat]; + free Even,Even>Even Even,Odd>Odd Even,Nat>Nat Even,[Nat]>[Nat] Odd,Even>Odd Odd,Odd>Even Odd,Nat>Nat Odd,[Nat]>[Nat] Nat,Even>Nat Nat,Odd>Nat Nat,Nat>Nat Nat,[Nat]>[Nat] [Nat],Even>[Nat] [Nat],Odd>[Nat] [Nat],Nat>[Nat] [Nat],[Nat]>[Nat]
@@ -262,7 +262,6 @@ fn push_equation(
     module: &Module,
     equation: &Equation,
 ) -> Result<(), NoMemory> {
-    out.push_str(&format!(in alloc; "{}: ", equation.statement)?)?;
     push_term(alloc, out, module, &equation.left)?;
     out.push_str(" = ")?;
     push_term(alloc, out, module, &equation.right)

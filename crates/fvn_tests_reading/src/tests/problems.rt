@@ -7,7 +7,7 @@ use crate::tests::problems::showing::{
     push_between, push_fault, push_pair, push_term, push_variable, push_variables,
 };
 use fvn_problems::{
-    Bindings, Problem, ProblemFault, Query, read_bindings, read_problem, read_query,
+    Bindings, Problem, ProblemFault, Query, read_bindings, read_problem, read_term,
 };
 use fvn_terms::NoMemory;
 use std::alloc::Global;
@@ -283,7 +283,7 @@ fn told_query(
     bytes: &[u8],
 ) -> Result<String, NoMemory> {
     assert!(rt; are_names(&module.signature, &module.names));
-    match read_query(alloc, &module.signature, &module.names, bytes) {
+    match read_term(alloc, &module.signature, &module.names, bytes) {
         Ok(query) => shown_query(alloc, module, &query),
         Err(fault) => shown_fault(alloc, fault),
     }

@@ -1,7 +1,8 @@
 //! Statements at the edges of their forms.
 use crate::tests::writing::{push_number, push_text};
 use fvn_lex::LexFault;
-use fvn_module_statements::{Feature, Form, FormFault, Mark, RawRank, Statement, read_form};
+use fvn_module_statements::{FormFault, read_form};
+use fvn_module_syntax::{Feature, Form, Mark, RawRank, Statement};
 use fvn_syntax::{Piece, RawSort, Text, cut};
 use fvn_terms::NoMemory;
 use std::alloc::Global;

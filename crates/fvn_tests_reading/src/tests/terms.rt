@@ -5,7 +5,7 @@ ghost use Rattle.fvn_syntax.specs.Raw.{IsTermBefore};
 use crate::tests::writing::{push_number, push_text};
 use fvn_base::{Seq, limits};
 use fvn_syntax::{
-    Kinded, Names, Piece, Scope, Seen, TermFault, Texts, Variables, cut, read_term, skip_term,
+    Kinded, Names, Piece, Scope, Seen, TermFault, Texts, Variables, cut, resolve_term, skip_term,
 };
 use fvn_terms::{Args, Axioms, Declarations, NoMemory, OpDecl, OpId, Plain, Rank, SortId, Var};
 use std::alloc::Global;
@@ -301,7 +301,7 @@ fn shown_term(
         texts: Texts::new(alloc),
         count: 0,
     };
-    match read_term(alloc, limit, scope, seen, row) {
+    match resolve_term(alloc, limit, scope, seen, row) {
         Ok((term, seen)) => shown_read(alloc, &term, &seen),
         Err(fault) => word(alloc, word_of(fault)),
     }

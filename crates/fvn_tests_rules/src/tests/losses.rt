@@ -1,10 +1,14 @@
 //! What becomes of the equations of modules.
+ghost use Rattle.std.specs.Prelude.{All};
+ghost use Rattle.fvn_theory.specs.Equations.{IsReadableEquation};
 ghost use Rattle.fvn_cohere.specs.Promises.{IsNumberIn};
 
 use crate::tests::texts::module_of;
 use fvn_cohere::{Collapse, LeftFault, first_left_fault, instances_fit, left_collapses, sort_loss};
 use fvn_module::{Module, read_module};
+use fvn_signature::Signature;
 use fvn_terms::NoMemory;
+use fvn_theory::Equation;
 use std::alloc::Global;
 use std::process::Abort;
 use std::string::String;
@@ -64,13 +68,19 @@ sorts A B . subsort A < B . op e : -> A . op + : B B -> B [assoc comm id: e] . o
 sorts A B . subsort A < B . op e : -> A . op + : B B -> B [assoc comm id: e] . => B 12 | Ax:B | 0";
 
 // What the left side of an equation becomes.
-fn told(alloc: Global, module: &Module, number: usize) -> Result<&'static str, NoMemory>
-    requires { IsNumberIn module.now number }
+fn told(
+    alloc: Global,
+    sig: &Signature,
+    equations: &[Equation],
+    number: usize,
+) -> Result<&'static str, NoMemory>
+    requires number { IsNumberIn equations.now number }
+    requires readable { All (IsReadableEquation sig.now) equations.now }
 {
-    if !instances_fit(alloc, module, number)? {
+    if !instances_fit(alloc, sig, equations, number)? {
         return Ok("x ");
     }
-    match left_collapses(alloc, module, number)? {
+    match left_collapses(alloc, sig, equations, number)? {
         Some(Collapse::Variable) => Ok("v "),
         Some(Collapse::Identity) => Ok("i "),
         None => Ok("- "),
@@ -89,8 +99,15 @@ fn push_number(
 }
 
 // The first left side that is at fault, and how.
-fn push_fault(text: &mut String, alloc: Global, module: &Module) -> Result<(), NoMemory> {
-    match first_left_fault(alloc, module)? {
+fn push_fault(
+    text: &mut String,
+    alloc: Global,
+    sig: &Signature,
+    equations: &[Equation],
+) -> Result<(), NoMemory>
+    requires { All (IsReadableEquation sig.now) equations.now }
+{
+    match first_left_fault(alloc, sig, equations)? {
         None => push_number(text, alloc, "none ", 0),
         Some(LeftFault::TooManyInstances(number)) => push_number(text, alloc, "many ", number),
         Some(LeftFault::BecomesVariable(number)) => push_number(text, alloc, "variable ", number),
@@ -99,25 +116,46 @@ fn push_fault(text: &mut String, alloc: Global, module: &Module) -> Result<(), N
 }
 
 // The first equation that loses a sort.
-fn push_loss(text: &mut String, alloc: Global, module: &Module) -> Result<(), NoMemory> {
-    let first = sort_loss(alloc, module)?.unwrap_or(0);
+fn push_loss(
+    text: &mut String,
+    alloc: Global,
+    sig: &Signature,
+    equations: &[Equation],
+) -> Result<(), NoMemory>
+    requires { All (IsReadableEquation sig.now) equations.now }
+{
+    let first = sort_loss(alloc, sig, equations)?.unwrap_or(0);
     push_number(text, alloc, "", first)
 }
 
-fn push_told(text: &mut String, alloc: Global, module: &Module) -> Result<(), NoMemory> {
-    for i in 0..module.equations().len() {
-        text.push_str(told(alloc, module, i + 1)?)?;
+fn push_told(
+    text: &mut String,
+    alloc: Global,
+    sig: &Signature,
+    equations: &[Equation],
+) -> Result<(), NoMemory>
+    requires { All (IsReadableEquation sig.now) equations.now }
+{
+    for i in 0..equations.len() {
+        text.push_str(told(alloc, sig, equations, i + 1)?)?;
     }
     Ok(())
 }
 
 // What becomes of all equations.
-fn push_all(text: &mut String, alloc: Global, module: &Module) -> Result<(), NoMemory> {
-    push_told(text, alloc, module)?;
+fn push_all(
+    text: &mut String,
+    alloc: Global,
+    sig: &Signature,
+    equations: &[Equation],
+) -> Result<(), NoMemory>
+    requires { All (IsReadableEquation sig.now) equations.now }
+{
+    push_told(text, alloc, sig, equations)?;
     text.push_str("| ")?;
-    push_loss(text, alloc, module)?;
+    push_loss(text, alloc, sig, equations)?;
     text.push_str(" | ")?;
-    push_fault(text, alloc, module)
+    push_fault(text, alloc, sig, equations)
 }
 
 // What is shown of a module.
@@ -131,19 +169,33 @@ enum Part {
 fn push_part(
     text: &mut String,
     alloc: Global,
+    sig: &Signature,
+    equations: &[Equation],
+    part: Part,
+) -> Result<(), NoMemory>
+    requires { All (IsReadableEquation sig.now) equations.now }
+{
+    match part {
+        Part::All => push_all(text, alloc, sig, equations),
+        Part::Fault => push_fault(text, alloc, sig, equations),
+        Part::Loss => push_loss(text, alloc, sig, equations),
+    }
+}
+
+// The same of a module.
+fn push_part_of(
+    text: &mut String,
+    alloc: Global,
     module: &Module,
     part: Part,
 ) -> Result<(), NoMemory> {
-    match part {
-        Part::All => push_all(text, alloc, module),
-        Part::Fault => push_fault(text, alloc, module),
-        Part::Loss => push_loss(text, alloc, module),
-    }
+    module.recall_readable();
+    push_part(text, alloc, module.signature(), module.equations(), part)
 }
 
 fn push_shown(text: &mut String, alloc: Global, bytes: &[u8], part: Part) -> Result<(), NoMemory> {
     match read_module(alloc, bytes) {
-        Ok(module) => push_part(text, alloc, &module, part),
+        Ok(module) => push_part_of(text, alloc, &module, part),
         Err(_) => push_number(text, alloc, "no module ", 0),
     }
 }

@@ -1,18 +1,18 @@
 //! Normal forms by the rules of modules.
-ghost use Rattle.std.specs.Prelude.{◌<◌, length, IfOk};
+ghost use Rattle.std.specs.Prelude.{◌<◌, length, All, IfOk};
 ghost use Rattle.fvn_flat.specs.Fits.{Fits};
-ghost use Rattle.fvn_cohere.specs.Promises.{equations_of};
-ghost use Rattle.fvn_rewrite_coherence.specs.Admissible.{AreAdmissible};
-ghost use Rattle.fvn_rewrite_rules.specs.Given.{AreRules};
+ghost use Rattle.fvn_theory.specs.Equations.{IsReadableEquation};
+ghost use Rattle.fvn_rewrite.specs.Usable.{AreUsable};
 
 use crate::tests::texts::module_of;
-use fvn_cohere::first_left_fault;
+use fvn_cohere::{first_left_fault, harmless_equations_are_admissible};
 use fvn_flat::{Flat, Normal, flatten};
 use fvn_module::{Module, read_module};
-use fvn_rewrite::{harmless_equations_are_admissible, normal};
+use fvn_rewrite::normal;
 use fvn_rewrite_rules::{Rules, extend};
 use fvn_signature::Signature;
 use fvn_terms::NoMemory;
+use fvn_theory::{Bounds, Equation};
 use std::alloc::Global;
 use std::process::Abort;
 use std::string::String;
@@ -195,14 +195,17 @@ fn row_statements(alloc: Global, row: &Row<'_>) -> Result<String, NoMemory> {
 }
 
 // The flat form of the right side of an equation.
-fn right_side(alloc: Global, declared: &Module, i: usize) -> Result<Flat, NoMemory>
-    requires { i < length declared.now.equations }
-    ensures { IfOk result (Fits declared.now.signature) }
+fn right_side(
+    alloc: Global,
+    sig: &Signature,
+    equations: &[Equation],
+    i: usize,
+) -> Result<Flat, NoMemory>
+    requires within { i < length equations.now }
+    requires readable { All (IsReadableEquation sig.now) equations.now }
+    ensures { IfOk result (Fits sig.now) }
 {
-    declared.recall_readable();
-    let sig = declared.signature();
-    let list = declared.equations();
-    let form = flatten(alloc, sig, &list[i].right)?;
+    let form = flatten(alloc, sig, &equations[i].right)?;
     Ok(form)
 }
 
@@ -221,15 +224,17 @@ fn outcome(
     rules: &Rules,
     from: &Flat,
     to: &Flat,
-    steps: u64,
-    size: u64,
+    bounds: Bounds,
 ) -> Result<&'static str, NoMemory>
     requires term { Fits sig.now from.now }
-    requires rules { AreRules sig.now rules.now }
-    requires admissible { AreAdmissible sig.now (equations_of rules.now.equations) }
+    requires rules { AreUsable sig.now rules.now }
 {
-    let end = normal(alloc, sig, rules, from, steps, size)?;
+    let end = normal(alloc, sig, rules, from, bounds)?;
     Ok(told(&end, to))
+}
+
+fn bounds(steps: u64, size: u64) -> Bounds {
+    Bounds { steps, size }
 }
 
 // The same under both limits, and with one less of each.
@@ -242,52 +247,78 @@ fn outcomes(
     row: &Row<'_>,
 ) -> Result<String, NoMemory>
     requires term { Fits sig.now from.now }
-    requires rules { AreRules sig.now rules.now }
-    requires admissible { AreAdmissible sig.now (equations_of rules.now.equations) }
+    requires rules { AreUsable sig.now rules.now }
 {
     let steps = row.steps;
     let size = row.size;
-    let both = outcome(alloc, sig, rules, from, to, steps, size)?;
-    let fewer = outcome(alloc, sig, rules, from, to, steps.saturating_sub(1), size)?;
-    let smaller = outcome(alloc, sig, rules, from, to, steps, size.saturating_sub(1))?;
+    let both = outcome(alloc, sig, rules, from, to, bounds(steps, size))?;
+    let fewer = outcome(
+        alloc,
+        sig,
+        rules,
+        from,
+        to,
+        bounds(steps.saturating_sub(1), size),
+    )?;
+    let smaller = outcome(
+        alloc,
+        sig,
+        rules,
+        from,
+        to,
+        bounds(steps, size.saturating_sub(1)),
+    )?;
     Ok(format!(in alloc; "{both} {fewer} {smaller}")?)
 }
 
 // The same for the right sides of the last two equations.
 fn outcomes_by(
     alloc: Global,
-    declared: &Module,
+    sig: &Signature,
+    equations: &[Equation],
     rules: &Rules,
     row: &Row<'_>,
 ) -> Result<String, NoMemory>
-    requires rules { AreRules declared.now.signature rules.now }
-    requires admissible { AreAdmissible declared.now.signature (equations_of rules.now.equations) }
+    requires readable { All (IsReadableEquation sig.now) equations.now }
+    requires rules { AreUsable sig.now rules.now }
 {
-    let count = declared.equations().len();
+    let count = equations.len();
     if count < 2 {
         return Ok(String::new(alloc));
     }
-    let from = right_side(alloc, declared, count - 2)?;
-    let to = right_side(alloc, declared, count - 1)?;
-    outcomes(alloc, declared.signature(), rules, &from, &to, row)
+    let from = right_side(alloc, sig, equations, count - 2)?;
+    let to = right_side(alloc, sig, equations, count - 1)?;
+    outcomes(alloc, sig, rules, &from, &to, row)
 }
 
-// The same by the rules of a module none of whose left sides is at fault.
-fn outcomes_in(alloc: Global, declared: &Module, row: &Row<'_>) -> Result<String, NoMemory> {
-    declared.recall_readable();
+// The same by the rules of equations none of whose left sides is at fault.
+fn outcomes_in(
+    alloc: Global,
+    sig: &Signature,
+    equations: &[Equation],
+    row: &Row<'_>,
+) -> Result<String, NoMemory>
+    requires { All (IsReadableEquation sig.now) equations.now }
+{
     harmless_equations_are_admissible();
-    match first_left_fault(alloc, declared)? {
+    match first_left_fault(alloc, sig, equations)? {
         Some(_) => Ok(String::new(alloc)),
         None => {
-            let rules = extend(alloc, declared)?;
-            outcomes_by(alloc, declared, &rules, row)
+            let rules = extend(alloc, sig, equations)?;
+            outcomes_by(alloc, sig, equations, &rules, row)
         }
     }
 }
 
+// The same of a module.
+fn outcomes_in_module(alloc: Global, declared: &Module, row: &Row<'_>) -> Result<String, NoMemory> {
+    declared.recall_readable();
+    outcomes_in(alloc, declared.signature(), declared.equations(), row)
+}
+
 fn outcomes_of(alloc: Global, bytes: &[u8], row: &Row<'_>) -> Result<String, NoMemory> {
     match read_module(alloc, bytes) {
-        Ok(module) => outcomes_in(alloc, &module, row),
+        Ok(module) => outcomes_in_module(alloc, &module, row),
         Err(_) => Ok(String::new(alloc)),
     }
 }

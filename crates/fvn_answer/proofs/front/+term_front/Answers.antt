@@ -1,7 +1,8 @@
 -- The front of an operator over the fronts of its arguments.
 use Rattle.std.proofs.Common.{take, map, sym, ap, ◌∙◌, arith}
 use Rattle.fvn_flat.proofs.Smaller.{argument_is_smaller}
-use Rattle.fvn_answer.specs.Writing.{text_of, written, may_exchange, bytes_of}
+use Rattle.fvn_terms.specs.Equality.{is_commutative}
+use Rattle.fvn_answer.specs.Writing.{text_of, written, bytes_of}
 use Rattle.fvn_answer.proofs.Printing.{argument-printable}
 use Rattle.fvn_answer.proofs.LineFronts.{argument-gathered, argument-passed, application-front}
 use Rattle.fvn_answer.specs.inner.Fronts.{arranged_if}
@@ -24,7 +25,7 @@ loop-u-preserved t c other a =
     let items = c.args-u-items.result.now in
     let i = c.loop-u.u-index in
     let u = c.u-item.result in
-    let exchange = c.may_exchange-exchange.result in
+    let exchange = c.is_commutative-exchange.result in
     let so_far = c.loop-u.invariant other a in
     elim c.if-goes_on.branch [
       | then-goes_on+in_ok-front-in-None+in_ok-least-in-None w ↦ rw (w.texts-is, w.least-is)
@@ -45,10 +46,10 @@ returns-in_ok-front-in-None-2 t c other a =
     let items = c.args-u-items.result.now in
     let i = c.loop-u.u-index in
     let f = c.operator-f.result in
-    let exchange = c.may_exchange-exchange.result in
+    let exchange = c.is_commutative-exchange.result in
     let whole = bytes_of c.loop-u.texts.items in
-    let e = c.may_exchange-exchange.ensures ∙ ap may_exchange c.axioms.ensures in
-    let arranged = ap bytes_of c.as_slice.ensures.value ∙ c.in_ok-arrange-in-None.ensures ∙ ap (λ b. arranged_if b whole) (ap may_exchange c.axioms-in-None.ensures ∙ sym e) in
+    let e = c.is_commutative-exchange.ensures.exact ∙ ap is_commutative c.axioms.ensures in
+    let arranged = ap bytes_of c.as_slice.ensures.value ∙ c.in_ok-arrange-in-None.ensures ∙ ap (λ b. arranged_if b whole) (ap is_commutative c.axioms-in-None.ensures ∙ sym e) in
     application-front d names other c.requires.names f c.args.t.now c.operator-f.ensures c.requires.term c.op_text.result.now c.op_text.ensures exchange e items i c.args-u-items.ensures.exact
     c.loop-u-test.false known c.in_ok-front-in-None-2.front
     (c.in_ok-front-in-None-2.ensures known other whole (map (λ v. text_of (written d names other v)) (take i items)) arranged (c.loop-u.invariant other a))

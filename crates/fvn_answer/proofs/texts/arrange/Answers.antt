@@ -7,4 +7,4 @@ use Rattle.fvn_answer.proofs.texts.arrange.Goals as goal
 pub returns-in_ok-sort : goal.returns-in_ok-sort
 returns-in_ok-sort c =
     sorted_is (λ v. v.items) c.args.texts.now.items c.sort.new.self.items c.in_ok-sort.ensures.permutation c.in_ok-sort.ensures.sorted
-    ∙ sym (arranged-sorted c.args.axioms (sym c.may_exchange.ensures ∙ c.if-may_exchange.true) (bytes_of c.args.texts.now.items))
+    ∙ sym (arranged-sorted c.args.axioms (sym c.is_commutative.ensures.exact ∙ c.if-is_commutative.true) (bytes_of c.args.texts.now.items))

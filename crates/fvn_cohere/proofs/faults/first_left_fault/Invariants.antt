@@ -4,4 +4,4 @@ use Rattle.fvn_cohere.proofs.Harmless.{HarmlessSoFar}
 use Rattle.fvn_cohere.proofs.faults.first_left_fault.Given as goal
 
 abbrev pub invariant-loop-i : goal.invariant-loop-i
-invariant-loop-i l = HarmlessSoFar l.declared.signature (take l.i l.declared.equations)
+invariant-loop-i l = HarmlessSoFar l.sig (take l.i l.equations)

@@ -11,5 +11,5 @@ returns-then-not-fit c = λ e is. (refl, not_fit c.in_ok-fit.fit c.if-not-fit.tr
 
 pub returns : goal.returns
 returns c = λ e is.
-    subst (λ f. MatchOption f (IsHarmless c.args.declared.now.signature (term e.left)) (IsLeftFault c.args.declared.now.signature c.args.number (term e.left))) (sym c.fault_of_collapse.ensures)
-    (collapse_says c.args.declared.now.signature c.args.number (term e.left) c.in_ok-collapse.collapse ((c.in_ok-fit.ensures e is).0 c.if-not-fit.false) (c.in_ok-collapse.ensures e is))
+    subst (λ f. MatchOption f (IsHarmless c.args.sig.now (term e.left)) (IsLeftFault c.args.sig.now c.args.number (term e.left))) (sym c.fault_of_collapse.ensures)
+    (collapse_says c.args.sig.now c.args.number (term e.left) c.in_ok-collapse.collapse ((c.in_ok-fit.ensures e is).0 c.if-not-fit.false) (c.in_ok-collapse.ensures e is))

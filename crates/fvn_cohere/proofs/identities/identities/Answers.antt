@@ -11,8 +11,8 @@ pub loop-op-preserved : goal.loop-op-preserved
 loop-op-preserved c =
     let ops = c.as_slice-op-items.result.now in
     c.in_ok-all.ensures
-    ∙ ap (λ l. with_operator l c.identity_in.result) c.loop-op.invariant
-    ∙ ap (with_operator (fold with_identity_of [] (take c.loop-op.op-index ops))) c.identity_in.ensures
+    ∙ ap (λ l. with_operator l c.identity.result) c.loop-op.invariant
+    ∙ ap (with_operator (fold with_identity_of [] (take c.loop-op.op-index ops))) c.identity.ensures
     ∙ sym (identity-step ops c.loop-op.op-index c.op-item.result c.loop-op-test.true c.op-item.is)
 
 pub returns : goal.returns

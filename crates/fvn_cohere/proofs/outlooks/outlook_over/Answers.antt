@@ -1,7 +1,12 @@
 -- The cases of an operator over arguments.
-use Rattle.std.proofs.Common.{sym, inl, inr}
+use Rattle.std.proofs.Common.{◌≡◌, Option, None, Some, sym, ◌∙◌, inl, inr}
+use Rattle.fvn_terms.specs.declared.plain.OpId.{OpId}
 use Rattle.fvn_cohere.proofs.Foreseen.{none_suits, over_plain, over_joined}
 use Rattle.fvn_cohere.proofs.outlooks.outlook_over.Goals as goal
+
+-- where none is found, there is none
+no_identity : {i : Option OpId} (o : Option OpId) → o ≡ None → o ≡ i → (e : OpId) → i ≡ Some e → ⊥
+no_identity o p q e r = let none : None ≡ Some e = sym p ∙ q ∙ r in cc
 
 pub returns-then-parts-eq0 : goal.returns-then-parts-eq0
 returns-then-parts-eq0 c = λ shapes h args. none_suits c.args.sig.now c.args.f c.args.parts.now c.constant_outlook.result c.if-parts-eq0.true c.constant_outlook.ensures shapes h
@@ -12,7 +17,7 @@ returns-then-parts-ne2 c =
 
 pub returns-in-None : goal.returns-in-None
 returns-in-None c =
-    over_plain c.args.sig.now c.recall_good.ensures c.args.f c.args.parts.now c.low_over-low.result c.high_over-high.result c.low_over-low.ensures c.high_over-high.ensures c.if-parts-eq0.false (inr c.in-None.ensures)
+    over_plain c.args.sig.now c.recall_good.ensures c.args.f c.args.parts.now c.low_over-low.result c.high_over-high.result c.low_over-low.ensures c.high_over-high.ensures c.if-parts-eq0.false (inr (no_identity c.identity.result c.in-None.is c.identity.ensures))
 
 pub returns-in-Some : goal.returns-in-Some
 returns-in-Some c =

@@ -11,29 +11,29 @@ pub returns-in_err-next_unifier-clause-advanced : goal.returns-in_err-next_unifi
 returns-in_err-next_unifier-clause-advanced c =
     let k = c.args.task.now in
     let p = err_from_is_err_and c.from_residual.result c.from_residual.ensures.1 in
-    subst (IsAdvanced (search_by k c.args.tree.now c.args.frame.now c.args.ended.now) (search_by k c.next_unifier.new.tree c.next_unifier.new.frame c.args.ended.now)) (sym (p.1 ∙ ap Err p.2)) (refl, c.in_err-next_unifier.ensures.found)
+    subst (IsAdvanced (search_by k c.args.tree.now c.args.leaf.now c.args.ended.now) (search_by k c.next_unifier.new.tree c.next_unifier.new.leaf c.args.ended.now)) (sym (p.1 ∙ ap Err p.2)) (refl, c.in_err-next_unifier.ensures.found)
 
 pub returns-in_err-end-in-Ends-clause-advanced : goal.returns-in_err-end-in-Ends-clause-advanced
 returns-in_err-end-in-Ends-clause-advanced c =
     let k = c.args.task.now in
     let p = err_from_is_err_and c.from_residual-in_err-end-in-Ends.result c.from_residual-in_err-end-in-Ends.ensures.1 in
-    let h = subst (IsFound k c.args.tree.now c.args.frame.now c.next_unifier.new.tree c.next_unifier.new.frame) c.in-Ends.is c.in_ok-next_unifier.ensures.found in
-    subst (IsAdvanced (search_by k c.args.tree.now c.args.frame.now c.args.ended.now) (search_by k c.next_unifier.new.tree c.next_unifier.new.frame c.args.ended.now)) (sym (p.1 ∙ ap Err p.2)) (refl, h.1)
+    let h = subst (IsFound k c.args.tree.now c.args.leaf.now c.next_unifier.new.tree c.next_unifier.new.leaf) c.in-Ends.is c.in_ok-next_unifier.ensures.found in
+    subst (IsAdvanced (search_by k c.args.tree.now c.args.leaf.now c.args.ended.now) (search_by k c.next_unifier.new.tree c.next_unifier.new.leaf c.args.ended.now)) (sym (p.1 ∙ ap Err p.2)) (refl, h.1)
 
 pub returns-in-Nothing-clause-advanced : goal.returns-in-Nothing-clause-advanced
 returns-in-Nothing-clause-advanced c =
-    let h = subst (IsFound c.args.task.now c.args.tree.now c.args.frame.now c.next_unifier.new.tree c.next_unifier.new.frame) c.in-Nothing.is c.in_ok-next_unifier.ensures.found in
+    let h = subst (IsFound c.args.task.now c.args.tree.now c.args.leaf.now c.next_unifier.new.tree c.next_unifier.new.leaf) c.in-Nothing.is c.in_ok-next_unifier.ensures.found in
     record { none = h.0; none_after = λ u m. h.0 u ((h.1 u).1 m); running = c.requires.running }
 
 pub returns-in-Given-clause-advanced : goal.returns-in-Given-clause-advanced
 returns-in-Given-clause-advanced c =
-    let h = subst (IsFound c.args.task.now c.args.tree.now c.args.frame.now c.next_unifier.new.tree c.next_unifier.new.frame) c.in-Given.is c.in_ok-next_unifier.ensures.found in
+    let h = subst (IsFound c.args.task.now c.args.tree.now c.args.leaf.now c.next_unifier.new.tree c.next_unifier.new.leaf) c.in-Given.is c.in_ok-next_unifier.ensures.found in
     record { given = h.0; covers = h.1; running = c.requires.running }
 
 pub returns-in_ok-end-in-Ends-clause-advanced : goal.returns-in_ok-end-in-Ends-clause-advanced
 returns-in_ok-end-in-Ends-clause-advanced c =
     let k = c.args.task.now in
-    let before = search_by k c.args.tree.now c.args.frame.now c.args.ended.now in
-    let after = search_by k c.next_unifier.new.tree c.next_unifier.new.frame (Some c.in-Ends.cause) in
-    let h = subst (IsFound k c.args.tree.now c.args.frame.now c.next_unifier.new.tree c.next_unifier.new.frame) c.in-Ends.is c.in_ok-next_unifier.ensures.found in
+    let before = search_by k c.args.tree.now c.args.leaf.now c.args.ended.now in
+    let after = search_by k c.next_unifier.new.tree c.next_unifier.new.leaf (Some c.in-Ends.cause) in
+    let h = subst (IsFound k c.args.tree.now c.args.leaf.now c.next_unifier.new.tree c.next_unifier.new.leaf) c.in-Ends.is c.in_ok-next_unifier.ensures.found in
     subst (λ end. IsAdvanced before after (Err end)) (sym c.in_ok-end-in-Ends.ensures) (end_told before after c.in-Ends.cause h.0 refl h.1)

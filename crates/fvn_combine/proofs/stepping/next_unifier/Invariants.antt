@@ -1,4 +1,4 @@
--- The states are closed, the frame is open, and what was ahead is ahead, and no more.
+-- The states are closed, the leaf is open, and what was ahead is ahead, and no more.
 use Rattle.std.proofs.Common.{◌≤◌}
 use Rattle.fvn_combine_nodes.specs.Trees.{AreClosed, weight}
 use Rattle.fvn_combine.specs.Search.{IsOpenedAt}
@@ -9,9 +9,9 @@ use Rattle.fvn_combine.proofs.stepping.next_unifier.Given as goal
 abbrev pub invariant-steps : goal.invariant-steps
 invariant-steps l = record {
   closed : AreClosed l.task.declarations l.task.table l.tree;
-  opened : IsOpenedAt l.task l.frame;
-  same : IsAheadAsBefore l.task l.initial.tree l.initial.frame l.tree l.frame;
-  less : left_by l.task l.tree l.frame ≤ left_by l.task l.initial.tree l.initial.frame;
+  opened : IsOpenedAt l.task l.leaf;
+  same : IsAheadAsBefore l.task l.initial.tree l.initial.leaf l.tree l.leaf;
+  less : left_by l.task l.tree l.leaf ≤ left_by l.task l.initial.tree l.initial.leaf;
 }
 
 abbrev pub decreases-steps : goal.decreases-steps

@@ -1,7 +1,7 @@
 -- What is to come when the last state is asked, passed over or opened.
 use Rattle.std.proofs.Common.{subst, zero-le, Some, None}
 use Rattle.fvn_combine.proofs.Less.{left_falls}
-use Rattle.fvn_combine.proofs.Trees.{after_asking, closed_before, taken_out, taken_falls, after_passing, frame_opened, after_opening}
+use Rattle.fvn_combine.proofs.Trees.{after_asking, closed_before, taken_out, taken_falls, after_passing, leaf_opened, after_opening}
 use Rattle.fvn_combine_nodes.specs.Trees.{IsAsked}
 use Rattle.fvn_combine.specs.Tasks.{Combining}
 use Rattle.fvn_combine.specs.inner.Found.{IsLooked}
@@ -14,7 +14,7 @@ returns-in_ok-ask-in-Open-clause-stepped c = (
   tt,
   after_asking c.args.task.now c.recall.ensures c.unifiers_partition.ensures c.args.tree.now c.ask.new.self
       (subst (λ (k : Combining). IsAsked k.declarations k.table c.args.tree.now c.ask.new.self) c.task.view_is c.in_ok-ask-in-Open.ensures.asked),
-  left_falls c.args.task.now c.args.tree.now c.ask.new.self c.args.frame.now None c.in_ok-ask-in-Open.ensures.falls zero-le,
+  left_falls c.args.task.now c.args.tree.now c.ask.new.self c.args.leaf.now None c.in_ok-ask-in-Open.ensures.falls zero-le,
 )
 
 pub returns-in-Passed-clause-closed : goal.returns-in-Passed-clause-closed
@@ -27,16 +27,16 @@ returns-in-Passed-clause-stepped c =
     let l = subst (IsLooked c.args.task.now c.args.tree.now) c.in-Passed.is c.in_ok-look.ensures in
     let e = taken_out c.args.task.now c.args.tree.now c.take_top-last.new.self Passed l c.take_top-last.result c.take_top-last.ensures.taken in
     let falls = taken_falls c.args.task.now c.args.tree.now c.take_top-last.new.self Passed l c.take_top-last.result c.take_top-last.ensures.taken c.take_top-last.ensures.falls in
-    (falls, tt, after_passing c.args.task.now c.args.tree.now c.take_top-last.new.self l e, left_falls c.args.task.now c.args.tree.now c.take_top-last.new.self c.args.frame.now None falls zero-le)
+    (falls, tt, after_passing c.args.task.now c.args.tree.now c.take_top-last.new.self l e, left_falls c.args.task.now c.args.tree.now c.take_top-last.new.self c.args.leaf.now None falls zero-le)
 
 pub returns-in-Some-clause-closed : goal.returns-in-Some-clause-closed
 returns-in-Some-clause-closed c = closed_before c.args.task.now c.args.tree.now c.take_top.new.self c.in-Some.state c.in-Some.ensures.taken c.requires.closed
 
 pub returns-in-Some-clause-stepped : goal.returns-in-Some-clause-stepped
 returns-in-Some-clause-stepped c =
-    let l = subst (IsLooked c.args.task.now c.args.tree.now) c.in-Framed.is c.in_ok-look.ensures in (
+    let l = subst (IsLooked c.args.task.now c.args.tree.now) c.in-Leaf.is c.in_ok-look.ensures in (
       c.in-Some.ensures.falls,
-      frame_opened c.args.task.now c.args.tree.now c.take_top.new.self c.in-Framed.opened l c.in-Some.state c.in-Some.ensures.taken,
-      after_opening c.args.task.now c.args.tree.now c.take_top.new.self c.in-Framed.opened l c.in-Some.state c.in-Some.ensures.taken,
-      left_falls c.args.task.now c.args.tree.now c.take_top.new.self c.args.frame.now (Some (record { state = c.in-Some.state; opened = c.in-Framed.opened })) c.in-Some.ensures.falls l.looked.2,
+      leaf_opened c.args.task.now c.args.tree.now c.take_top.new.self c.in-Leaf.opened l c.in-Some.state c.in-Some.ensures.taken,
+      after_opening c.args.task.now c.args.tree.now c.take_top.new.self c.in-Leaf.opened l c.in-Some.state c.in-Some.ensures.taken,
+      left_falls c.args.task.now c.args.tree.now c.take_top.new.self c.args.leaf.now (Some (record { state = c.in-Some.state; opened = c.in-Leaf.opened })) c.in-Some.ensures.falls l.looked.2,
     )

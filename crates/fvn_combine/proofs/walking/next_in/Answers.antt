@@ -1,8 +1,8 @@
--- That the frame's state admits a unifier's partition is kept beside.
+-- That the leaf's state admits a unifier's partition is kept beside.
 use Rattle.std.proofs.Common.{sym, subst, Some}
 use Rattle.fvn_combine_nodes.specs.States.{Admits}
 use Rattle.fvn_combine_nodes.specs.Unifiers.{kernel}
-use Rattle.fvn_combine.specs.Frames.{IsCoveredToCome}
+use Rattle.fvn_combine.specs.Leaves.{IsCoveredToCome}
 use Rattle.fvn_combine.specs.Search.{IsCoveredAt}
 use Rattle.fvn_combine.specs.inner.Found.{IsDrawnFrom, LeavesLess}
 use Rattle.fvn_combine.specs.Work.{left_at}
@@ -13,13 +13,13 @@ pub returns-in_ok-drawn-in-Some-clause-drawn : goal.returns-in_ok-drawn-in-Some-
 returns-in_ok-drawn-in-Some-clause-drawn c =
     let k = c.args.task.now in
     let w = c.in-Some.w in
-    let after = c.next_of_frame.new.opened in
-    subst (λ frame. IsDrawnFrom k (IsCoveredAt k frame) (IsCoveredAt k (Some (record { state = w.state; opened = after }))) c.in_ok-drawn-in-Some.drawn) (sym c.in-Some.is)
+    let after = c.next_of_leaf.new.opened in
+    subst (λ leaf. IsDrawnFrom k (IsCoveredAt k leaf) (IsCoveredAt k (Some (record { state = w.state; opened = after }))) c.in_ok-drawn-in-Some.drawn) (sym c.in-Some.is)
     (drawn_beside k (IsCoveredToCome k w.state w.opened) (IsCoveredToCome k w.state after) (λ u. Admits w.state (kernel k.declarations u k.table.nodes)) c.in_ok-drawn-in-Some.drawn c.in_ok-drawn-in-Some.ensures.drawn)
 
 pub returns-in_ok-drawn-in-Some-clause-falls : goal.returns-in_ok-drawn-in-Some-clause-falls
 returns-in_ok-drawn-in-Some-clause-falls c =
     let k = c.args.task.now in
     let w = c.in-Some.w in
-    let after = c.next_of_frame.new.opened in
-    subst (λ frame. LeavesLess (left_at k frame) (left_at k (Some (record { state = w.state; opened = after }))) c.in_ok-drawn-in-Some.drawn) (sym c.in-Some.is) c.in_ok-drawn-in-Some.ensures.falls
+    let after = c.next_of_leaf.new.opened in
+    subst (λ leaf. LeavesLess (left_at k leaf) (left_at k (Some (record { state = w.state; opened = after }))) c.in_ok-drawn-in-Some.drawn) (sym c.in-Some.is) c.in_ok-drawn-in-Some.ensures.falls

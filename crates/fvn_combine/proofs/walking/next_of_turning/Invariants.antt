@@ -2,7 +2,7 @@
 use Rattle.std.proofs.Common.{◌≤◌}
 use Rattle.fvn_terms.specs.Substitution.{Substitution}
 use Rattle.fvn_acunify_product.specs.Wheels.{choices_left}
-use Rattle.fvn_combine.specs.Frames.{IsTurning, IsCoveredUnder}
+use Rattle.fvn_combine.specs.Leaves.{IsTurning, IsCoveredUnder}
 use Rattle.fvn_combine.proofs.walking.next_of_turning.Given as goal
 
 abbrev pub invariant-choices : goal.invariant-choices

@@ -5,12 +5,12 @@ use Rattle.fvn_combine_candidates.proofs.Systems.{make_systems}
 use Rattle.fvn_combine_candidates.proofs.laws.lists_cover.Goals as goal
 
 pub returns : goal.returns
-returns c d good problem is_problem t made table s frame r reading bases are shared are_shared u unifier admits =
+returns c d good problem is_problem t made table s leaf r reading bases are shared are_shared u unifier admits =
     let y = systems_of r bases in
     let systems = make_systems d t (class_of s) r reading bases are in
-    let told = c.readings_tell.ensures d t s frame.closed r reading in
-    let covering = c.frames_cover.ensures d good problem is_problem t made table s frame told y systems u unifier admits in
-    let l = c.covering_choices_are_listed.ensures d problem t made s frame.closed r reading shared are_shared y u covering.0 covering.1 in (
+    let told = c.readings_tell.ensures d t s leaf.closed r reading in
+    let covering = c.leaves_cover.ensures d good problem is_problem t made table s leaf told y systems u unifier admits in
+    let l = c.covering_choices_are_listed.ensures d problem t made s leaf.closed r reading shared are_shared y u covering.0 covering.1 in (
       l.0,
       l.1,
       l.2,

@@ -1,5 +1,5 @@
--- A question, or nearly a frame.
-use Rattle.fvn_combine_leaves.proofs.Framing.{reading_whole, swap_question, first_asked}
+-- A question, or nearly a leaf.
+use Rattle.fvn_combine_leaves.proofs.AskedOfLeaves.{reading_whole, swap_question, first_asked}
 use Rattle.fvn_combine_leaves.proofs.asking.first_question.Goals as goal
 
 pub identity_question-requires-clause-reading : goal.identity_question-requires-clause-reading

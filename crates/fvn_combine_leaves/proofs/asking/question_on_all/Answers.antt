@@ -1,5 +1,5 @@
--- A question, or a frame.
-use Rattle.fvn_combine_leaves.proofs.Framing.{reading_whole, asked_on_all}
+-- A question, or a leaf.
+use Rattle.fvn_combine_leaves.proofs.AskedOfLeaves.{reading_whole, asked_on_all}
 use Rattle.fvn_combine_leaves.proofs.asking.question_on_all.Goals as goal
 
 pub constants_question-requires-clause-reading : goal.constants_question-requires-clause-reading

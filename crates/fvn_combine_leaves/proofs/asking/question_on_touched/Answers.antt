@@ -1,5 +1,5 @@
--- A question, or a frame.
-use Rattle.fvn_combine_leaves.proofs.Framing.{reading_whole, all_wide, asked_on_touched}
+-- A question, or a leaf.
+use Rattle.fvn_combine_leaves.proofs.AskedOfLeaves.{reading_whole, all_wide, asked_on_touched}
 use Rattle.fvn_combine_leaves.proofs.asking.question_on_touched.Goals as goal
 
 pub open_touched-requires-clause-reading : goal.open_touched-requires-clause-reading

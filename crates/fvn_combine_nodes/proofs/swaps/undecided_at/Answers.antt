@@ -29,11 +29,11 @@ returns-then-ne c =
     decided_from c.args.sig.now c.args.table.now c.args.state.now c.requires.closed c.args.i c.args.j c.in-App.f c.in-App-node.g c.in-App.ks c.in-App-node.ls (left_is at) (right_is at)
     (λ e is same a b v w p q. inr (λ o. let z : true ≡ false = sym c.if-ne.true ∙ c.ne.ensures ∙ ap not (eq-eqb c.in-App.f.0 c.in-App-node.g.0 (ap (λ o. o.0) same)) in cc))
 
-pub returns-then-not-is_commutative : goal.returns-then-not-is_commutative
-returns-then-not-is_commutative c =
-    let at = (goal.at.returns-then-not-is_commutative c).In-App-node in
+pub returns-then-not-is_only_commutative : goal.returns-then-not-is_only_commutative
+returns-then-not-is_only_commutative c =
+    let at = (goal.at.returns-then-not-is_only_commutative c).In-App-node in
     decided_from c.args.sig.now c.args.table.now c.args.state.now c.requires.closed c.args.i c.args.j c.in-App.f c.in-App-node.g c.in-App.ks c.in-App-node.ls (left_is at) (right_is at)
-    (λ e is same a b v w p q. inr (λ o. let z : true ≡ false = sym (c.is_commutative.ensures.1 (c.axioms.ensures ∙ is)) ∙ c.if-not-is_commutative.true in cc))
+    (λ e is same a b v w p q. inr (λ o. let z : true ≡ false = sym (c.is_only_commutative.ensures.1 (c.axioms.ensures ∙ is)) ∙ c.if-not-is_only_commutative.true in cc))
 
 pub returns-then-not-is_same : goal.returns-then-not-is_same
 returns-then-not-is_same c =
@@ -68,6 +68,6 @@ returns-else-not-is_same c =
     let f = c.in-App.f in
     let g = c.in-App-node.g in
     let one : f ≡ g = same_op_is f g (not-false (same_op f g) (sym c.ne.ensures ∙ c.if-ne.false)) in
-    let is = sym c.axioms.ensures ∙ c.is_commutative.ensures.0 c.if-not-is_commutative.false in
+    let is = sym c.axioms.ensures ∙ c.is_only_commutative.ensures.0 c.if-not-is_only_commutative.false in
     let e : class_of s c.args.i ≡ class_of s c.args.j = eqb-true (class_of s c.args.i) (class_of s c.args.j) (sym c.is_same.ensures ∙ c.if-not-is_same.false) in
     swap_from d c.args.table.now s c.requires.closed c.args.i c.args.j f g c.in-App.ks c.in-App-node.ls (left_is at) (right_is at) one is e c.open_first.result (first_is (goal.at.returns-else-not-is_same c).After-open_first)

@@ -1,7 +1,7 @@
 -- What a form has without its arguments.
 use Rattle.std.proofs.Common.{length, sym, ap, ◌∙◌}
 use Rattle.fvn_flat.specs.Own.{own}
-use Rattle.fvn_combine_unfolding.specs.inner.Noted.{joins}
+use Rattle.fvn_terms.specs.Equality.{is_sum}
 use Rattle.fvn_combine_unfolding.proofs.Measuring.{own_of_variable, own_of_some}
 use Rattle.fvn_combine_unfolding.proofs.sizes.own_size.Goals as goal
 
@@ -11,6 +11,6 @@ returns-in-None c = own_of_variable c.args.t.now (sym c.head.ensures ∙ c.in-No
 pub returns-in-Some : goal.returns-in-Some
 returns-in-Some c =
     c.own_symbols.ensures
-    ∙ ap (λ j. own j (length c.args-us.result.now)) c.joins.ensures
+    ∙ ap (λ j. own j (length c.args-us.result.now)) (c.is_sum.ensures.exact ∙ ap is_sum c.axioms.ensures)
     ∙ ap (own _) (ap length c.args-us.ensures.exact)
     ∙ own_of_some c.args.sig.now c.args.t.now c.in-Some.f c.requires (sym c.head.ensures ∙ c.in-Some.is)

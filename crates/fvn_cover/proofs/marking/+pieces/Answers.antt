@@ -3,8 +3,9 @@ use Rattle.std.proofs.Common.{◌≡◌, ◌-◌, ◌+◌, ◌/◌, length, refl
 use Rattle.std.proofs.lemmas.Result.{IfOk-at_ok}
 use Rattle.std.proofs.lemmas.Bool.Decides.{nat_tests}
 use Rattle.fvn_cover.specs.Marks.{AreMarks}
-use Rattle.fvn_cover.specs.inner.Pieces.{cut}
-use Rattle.fvn_cover.proofs.PieceFacts.{marks_joined, comparable_back, half_fits, back_range}
+use Rattle.fvn_cover.specs.Pieces.{cut}
+use Rattle.fvn_cover.proofs.PieceFacts.{marks_joined, comparable_back}
+use Rattle.fvn_cover.proofs.Ranges.{half_fits, back_range}
 use Rattle.fvn_cover.proofs.marking.+pieces.Goals as goal
 
 pub halves-returns : goal.halves-returns
@@ -19,13 +20,13 @@ halves-returns g t c =
 pub run-split_at-requires : goal.run-split_at-requires
 run-split_at-requires g t c =
     let w = c.args.work.now in
-    let size : c.start.result - c.start-begin.result ≡ cut w.count w.pieces (c.args.low + (c.args.high - c.args.low) / 2) - cut w.count w.pieces c.args.low = rw (c.start.ensures, c.start-begin.ensures) refl in
-    (half_fits w.count w.pieces c.args.low c.args.high (length c.args.candidates.now) c.requires.range (λ e. grind (arith, nat_tests)) (c.start.result - c.start-begin.result) size).0
+    let size : c.piece_start.result - c.piece_start-begin.result ≡ cut w.count w.pieces (c.args.low + (c.args.high - c.args.low) / 2) - cut w.count w.pieces c.args.low = rw (c.piece_start.ensures, c.piece_start-begin.ensures) refl in
+    (half_fits w.count w.pieces c.args.low c.args.high (length c.args.candidates.now) c.requires.range (λ e. grind (arith, nat_tests)) (c.piece_start.result - c.piece_start-begin.result) size).0
 
 pub run-halves-requires-clause-back : goal.run-halves-requires-clause-back
 run-halves-requires-clause-back g t c κs within =
     let w = c.args.work.now in
-    let size : c.start.result - c.start-begin.result ≡ cut w.count w.pieces (c.args.low + (c.args.high - c.args.low) / 2) - cut w.count w.pieces c.args.low = rw (c.start.ensures, c.start-begin.ensures) refl in (
-      back_range w.count w.pieces c.args.low c.args.high (length c.args.candidates.now) c.requires.range (λ e. grind (arith, nat_tests)) (c.start.result - c.start-begin.result) (length c.split_at.result.1.now) size c.split_at.ensures.back_len,
-      comparable_back w.sig.now w.kept.now c.args.candidates.now (c.start.result - c.start-begin.result) c.split_at.result.1.now c.split_at.ensures.back c.requires.comparable,
+    let size : c.piece_start.result - c.piece_start-begin.result ≡ cut w.count w.pieces (c.args.low + (c.args.high - c.args.low) / 2) - cut w.count w.pieces c.args.low = rw (c.piece_start.ensures, c.piece_start-begin.ensures) refl in (
+      back_range w.count w.pieces c.args.low c.args.high (length c.args.candidates.now) c.requires.range (λ e. grind (arith, nat_tests)) (c.piece_start.result - c.piece_start-begin.result) (length c.split_at.result.1.now) size c.split_at.ensures.back_len,
+      comparable_back w.sig.now w.kept.now c.args.candidates.now (c.piece_start.result - c.piece_start-begin.result) c.split_at.result.1.now c.split_at.ensures.back c.requires.comparable,
     )

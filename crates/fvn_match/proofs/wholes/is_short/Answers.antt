@@ -1,9 +1,7 @@
 -- too few pieces
-use Rattle.std.proofs.Common.{length, arith}
+use Rattle.std.proofs.Common.{length, sym, arith}
 use Rattle.std.proofs.lemmas.Bool.{ltb-true}
-use Rattle.fvn_terms.specs.Signature.{axioms}
 use Rattle.fvn_match.proofs.Runs.{length_references}
-use Rattle.fvn_match.proofs.Rooms.{no_identity}
 use Rattle.fvn_match.proofs.wholes.is_short.Goals as goal
 
 pub total-requires : goal.total-requires
@@ -14,4 +12,4 @@ returns-in-None c = λ yes.
     let few = ltb-true c.total.result (length c.args.goal.now.patterns.now) yes in
     let all = c.total.ensures in
     let long = length_references c.args.goal.now.patterns.now in
-    (no_identity (axioms c.args.sig.now c.args.goal.now.op) c.in-None.ensures, omega (arith, few, all, long))
+    (sym c.in-None.ensures, omega (arith, few, all, long))

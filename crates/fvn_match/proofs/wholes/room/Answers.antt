@@ -2,11 +2,11 @@
 use Rattle.std.proofs.Common.{sym, ap, ◌∙◌, ◌-◌, ◌/◌, length, subst}
 use Rattle.std.specs.Prelude.{sum as std_sum}
 use Rattle.std.specs.List.{AllByRecursion}
-use Rattle.fvn_terms.specs.Signature.{kind, axioms}
+use Rattle.fvn_terms.specs.Signature.{kind}
 use Rattle.fvn_match.specs.inner.Goals.{IsFlatOf}
 use Rattle.fvn_match.specs.inner.Searching.{IsRoom}
 use Rattle.fvn_match.proofs.Runs.{length_references}
-use Rattle.fvn_match.proofs.Rooms.{no_identity, room_of_all, room_beside_others}
+use Rattle.fvn_match.proofs.Rooms.{room_of_all, room_beside_others}
 use Rattle.fvn_match.proofs.wholes.room.Goals as goal
 
 pub is_one_piece-requires : goal.is_one_piece-requires
@@ -29,4 +29,4 @@ pub returns-in-None : goal.returns-in-None
 returns-in-None c =
     subst (λ n. IsRoom c.args.sig.now c.args.goal.now c.args.p.now (n / c.args.k)) (sym (c.saturating_sub.ensures ∙ ap (λ n. n - (length c.args.goal.now.patterns.now - c.args.k)) c.total-all.ensures))
     (subst (λ m. IsRoom c.args.sig.now c.args.goal.now c.args.p.now ((std_sum c.args.goal.now.left.now - (m - c.args.k)) / c.args.k)) (length_references c.args.goal.now.patterns.now)
-    (room_beside_others c.args.sig.now c.args.goal.now c.requires.fits c.args.p.now c.args.k c.requires.group (no_identity (axioms c.args.sig.now c.args.goal.now.op) c.in-None.ensures)))
+    (room_beside_others c.args.sig.now c.args.goal.now c.requires.fits c.args.p.now c.args.k c.requires.group (sym c.in-None.ensures)))

@@ -2,7 +2,7 @@
 use Rattle.std.proofs.Common.{◌≤◌, List, [], length, replicate, None, refl, sym, ap, subst, ◌∙◌}
 use Rattle.std.specs.List.{All}
 use Rattle.fvn_base.specs.declared.limits.TheConstants.{OPERATORS}
-use Rattle.fvn_module_statements.specs.declared.statement.Statement.{Statement}
+use Rattle.fvn_module_syntax.specs.declared.statement.Statement.{Statement}
 use Rattle.fvn_module_names.specs.Order.{with_pairs}
 use Rattle.fvn_module_names.specs.Vocabulary.{Vocabulary}
 use Rattle.fvn_module_declarations.specs.inner.Shapes.{HasRank}

@@ -1,6 +1,6 @@
 -- What holds in the loop.
 use Rattle.std.proofs.Common.{◌≡◌, drop}
-use Rattle.fvn_module_statements.specs.LeftOut.{first_left_out}
+use Rattle.fvn_module_syntax.specs.LeftOut.{first_left_out}
 use Rattle.fvn_module_statements.proofs.attributes.first_left_out.Given as goal
 
 -- what is left decides

@@ -1,6 +1,6 @@
 -- What holds in the loop.
 use Rattle.std.proofs.Common.{◌≡◌, drop}
-use Rattle.fvn_module_statements.specs.LeftOut.{stands}
+use Rattle.fvn_module_syntax.specs.LeftOut.{stands}
 use Rattle.fvn_module_statements.proofs.attributes.stands.Given as goal
 
 -- what is left decides

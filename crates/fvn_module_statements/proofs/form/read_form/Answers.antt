@@ -1,6 +1,6 @@
 -- What is left to prove.
 use Rattle.std.proofs.Common.{◌≡◌, ◌⊎◌, Ok, Err}
-use Rattle.fvn_module_statements.specs.declared.form.Form.{Form}
+use Rattle.fvn_module_syntax.specs.declared.form.Form.{Form}
 use Rattle.fvn_module_statements.specs.declared.form.FormFault.TheVariants.{NoMemory}
 use Rattle.fvn_module_statements.specs.Forms.{IsFormOf, IsFirstFault, HasNoForm}
 use Rattle.fvn_module_statements.specs.inner.Forms.{form_of}

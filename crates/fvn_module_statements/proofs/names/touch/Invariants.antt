@@ -1,6 +1,6 @@
 -- What holds in the loop.
 use Rattle.std.proofs.Common.{◌≡◌, drop}
-use Rattle.fvn_module_statements.specs.Words.{touch, touch_after}
+use Rattle.fvn_module_syntax.specs.Words.{touch, touch_after}
 use Rattle.fvn_module_statements.proofs.names.touch.Given as goal
 
 -- what is left decides

@@ -1,13 +1,13 @@
 -- The laws, and the form itself.
 use Rattle.std.proofs.Common.{refl}
-use Rattle.fvn_cohere.specs.Promises.{equations_of}
+use Rattle.fvn_theory.specs.Equations.{equations_of}
 use Rattle.fvn_rewrite.proofs.Beginning.{lawful, begun_itself}
 use Rattle.fvn_rewrite.proofs.quick.begin.Goals as goal
 
 pub quick-requires-clause-laws : goal.quick-requires-clause-laws
 quick-requires-clause-laws c =
-    lawful c.args.sig.now c.args.rules.now record { rules = c.requires.rules; admissible = c.requires.admissible } c.recall_good.ensures c.recall_completed.ensures c.rules_are_lawful.ensures c.rewriting_is_lawful.ensures c.sequences_are_lawful.ensures
+    lawful c.args.sig.now c.args.rules.now c.requires.rules c.recall_good.ensures c.recall_completed.ensures c.rules_are_lawful.ensures c.rewriting_is_lawful.ensures c.sequences_are_lawful.ensures
     c.kinded_theories_are_lawful.ensures
 
 pub returns : goal.returns
-returns c = begun_itself c.args.sig.now (equations_of c.args.rules.now.equations) c.args.t.now c.args.steps record { form = c.in_ok-form.form; left = c.args.steps } c.requires.term c.in_ok-form.ensures refl
+returns c = begun_itself c.args.sig.now (equations_of c.args.rules.now.equations) c.args.t.now c.args.bounds.steps record { form = c.in_ok-form.form; left = c.args.bounds.steps } c.requires.term c.in_ok-form.ensures refl

@@ -7,7 +7,7 @@ use Rattle.std.proofs.lemmas.Option.{slice_get_read}
 use Rattle.fvn_flat.specs.Fits.{Fits}
 use Rattle.fvn_flat.proofs.Instances.{each_at}
 use Rattle.fvn_flat.proofs.Smaller.{argument_is_smaller}
-use Rattle.fvn_cohere.specs.Promises.{equations_of}
+use Rattle.fvn_theory.specs.Equations.{equations_of}
 use Rattle.fvn_rewrite.specs.inner.Walking.{HasNoRedex}
 use Rattle.fvn_rewrite.proofs.Placed.{headless_has_no_redex, walk_as}
 use Rattle.fvn_rewrite.proofs.walking.+walk.Goals as goal

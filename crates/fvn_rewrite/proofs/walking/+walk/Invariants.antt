@@ -1,7 +1,7 @@
 -- None of the arguments so far has a redex.
 use Rattle.std.proofs.Common.{All, take}
 use Rattle.fvn_flat.specs.Weight.{places}
-use Rattle.fvn_cohere.specs.Promises.{equations_of}
+use Rattle.fvn_theory.specs.Equations.{equations_of}
 use Rattle.fvn_rewrite.specs.inner.Walking.{HasNoRedex}
 use Rattle.fvn_rewrite.proofs.walking.+walk.Given as goal
 

@@ -4,7 +4,7 @@ use Rattle.fvn_terms.specs.Equality.{BEqual}
 use Rattle.fvn_forms.specs.Flat.{plain}
 use Rattle.fvn_flat.specs.Fits.{AllFit, Takes, plain_over}
 use Rattle.fvn_flat.proofs.Fitting.{args_fit}
-use Rattle.fvn_cohere.specs.Promises.{equations_of}
+use Rattle.fvn_theory.specs.Equations.{equations_of}
 use Rattle.fvn_rewrite.proofs.Roots.{have_one_kind}
 use Rattle.fvn_rewrite.proofs.Replacing.{arguments_fit, arguments_taken, whole_steps}
 use Rattle.fvn_rewrite.proofs.walking.with_argument.Goals as goal

@@ -1,7 +1,7 @@
 -- The instances are flat, and with their extensions they are all rules.
 use Rattle.std.proofs.Common.{◌++◌, ap, sym, ◌∙◌, subst}
 use Rattle.std.specs.Prelude.{All, filter_map}
-use Rattle.fvn_cohere.specs.Promises.{sides_of}
+use Rattle.fvn_theory.specs.Equations.{sides_of}
 use Rattle.fvn_rewrite_rules.specs.inner.Making.{IsKindedRule, extension_of, AreRulesFrom}
 use Rattle.fvn_rewrite_rules.proofs.Choosing.{instances_kinded}
 use Rattle.fvn_rewrite_rules.proofs.Standing.{all_rules}

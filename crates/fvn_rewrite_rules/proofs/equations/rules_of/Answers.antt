@@ -2,8 +2,8 @@
 use Rattle.std.proofs.Common.{◌+◌, ◌≡◌, length, sym, ap, ◌∙◌, subst, arith}
 use Rattle.std.specs.Prelude.{slice_get, Some}
 use Rattle.std.proofs.lemmas.Option.{slice_get-get_or}
-use Rattle.fvn_module.specs.declared.equation.Equation.{Equation}
-use Rattle.fvn_module.specs.Readable.{IsReadableEquation}
+use Rattle.fvn_theory.specs.declared.equation.Equation.{Equation}
+use Rattle.fvn_theory.specs.Equations.{IsReadableEquation}
 use Rattle.fvn_rewrite_rules.specs.inner.Collecting.{AreRulesUpTo}
 use Rattle.fvn_rewrite_rules.proofs.Steps.{All-item}
 use Rattle.fvn_rewrite_rules.proofs.Collecting.{none_yet, one_more}

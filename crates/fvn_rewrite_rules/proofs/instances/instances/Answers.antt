@@ -2,7 +2,7 @@
 use Rattle.std.proofs.Common.{List, ◌∙◌, subst}
 use Rattle.std.proofs.lemmas.List.{take_all}
 use Rattle.fvn_terms.specs.declared.plain.Var.{Var}
-use Rattle.fvn_cohere.specs.Promises.{sides_of}
+use Rattle.fvn_theory.specs.Equations.{sides_of}
 use Rattle.fvn_rewrite_rules.specs.inner.Making.{AreInstancesOver}
 use Rattle.fvn_rewrite_rules.proofs.Choosing.{over_kinded, variable_step, all_choices}
 use Rattle.fvn_rewrite_rules.proofs.instances.instances.Goals as goal

@@ -1,6 +1,6 @@
 -- The instances over the variables so far.
 use Rattle.std.proofs.Common.{take}
-use Rattle.fvn_cohere.specs.Promises.{sides_of}
+use Rattle.fvn_theory.specs.Equations.{sides_of}
 use Rattle.fvn_rewrite_rules.specs.inner.Making.{AreInstancesOver}
 use Rattle.fvn_rewrite_rules.proofs.instances.instances.Given as goal
 

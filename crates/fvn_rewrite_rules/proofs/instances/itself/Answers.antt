@@ -1,6 +1,6 @@
 -- The equation as its first instance.
 use Rattle.std.proofs.Common.{List, [], ◌∷◌, ◌++◌, refl, sym, ap, ◌∙◌, subst}
-use Rattle.fvn_cohere.specs.Promises.{sides_of}
+use Rattle.fvn_theory.specs.Equations.{sides_of}
 use Rattle.fvn_rewrite_rules.specs.declared.rule.Rule.{Rule}
 use Rattle.fvn_rewrite_rules.specs.inner.Making.{AreInstancesOver}
 use Rattle.fvn_rewrite_rules.proofs.Choosing.{first_instance}

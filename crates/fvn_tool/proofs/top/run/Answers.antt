@@ -6,4 +6,4 @@ use Rattle.fvn_tool.proofs.top.run.Goals as goal
 pub returns-clause-report : goal.returns-clause-report
 returns-clause-report g c =
     report _ c.conclude.ensures.outcome c.conclude.ensures.read_fault c.conclude.ensures.write_fault c.readers_are_lawful.ensures c.conclude.ensures.usage
-    (λ none. ap g.S.Source.left (c.conclude.ensures.unread none)) (λ silent. ap g.K.Sink.written (c.conclude.ensures.unwritten silent))
+    (λ none. ap g.S.Source.left (c.conclude.ensures.unread none)) (λ silent. ap g.K.Sink.written (c.conclude.ensures.unwritten silent)) c.conclude.ensures.failed_read

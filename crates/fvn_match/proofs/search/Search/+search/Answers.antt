@@ -4,8 +4,9 @@ use Rattle.std.specs.Prelude.{IfOk, ◌*◌, reverse, sum as std_sum}
 use Rattle.std.specs.List.{AllZip, AllByRecursion}
 use Rattle.std.proofs.lemmas.Bool.{false≢true, eqb-true}
 use Rattle.std.proofs.lemmas.List.{take_rest}
-use Rattle.fvn_terms.specs.Signature.{kind, AtOrBelow}
-use Rattle.fvn_terms.specs.Equality.{IsAssociative}
+use Rattle.fvn_terms.specs.Signature.{kind, axioms, AtOrBelow}
+use Rattle.fvn_terms.specs.Equality.{is_sum}
+use Rattle.fvn_terms.proofs.AxiomWords.{sums_associate}
 use Rattle.fvn_forms.specs.InOrder.{InOrder}
 use Rattle.fvn_match.specs.inner.Choices.{IsWithin}
 use Rattle.fvn_match.specs.inner.Summands.{references, IsCounted}
@@ -14,11 +15,12 @@ use Rattle.fvn_match.specs.inner.Goals.{bindings_of, patterns_of, SumsHold, Aske
 use Rattle.fvn_match.specs.inner.Searching.{SearchesGoals, SearchesPair, IsWhole}
 use Rattle.fvn_match.specs.inner.Known.{LeavesOpen}
 use Rattle.fvn_match.specs.declared.goals.Goals.{Done}
+use Rattle.fvn_match.proofs.AxiomTests.{free_at, commutative_at}
 use Rattle.fvn_match.proofs.Advancing.{zeros_within, rises, place_value_bounded, RisesIf}
 use Rattle.fvn_match.proofs.SummandLists.{parts_in_order}
 use Rattle.fvn_match.proofs.Runs.{length_references, references-drop}
 use Rattle.fvn_match.proofs.PairSteps.{zip_parted, variable_is, variable_or_head}
-use Rattle.fvn_match.proofs.PairFinding.{zip_long, to_rest, two_is, one_more_candidate, if_found_bound, refused_sort, found_known, refused_known, found_straight_of, found_across_of, crossing_pairs, found_values, found_no_pairs, found_list, refused_free, refused_commutative, pairs_of_args, as_many_args, found_free, crossing_args, two_of_patterns, two_of_targets, found_commutative}
+use Rattle.fvn_match.proofs.PairFinding.{zip_long, to_rest, two_is, one_more_candidate, if_found_bound, refused_sort, found_known, refused_known, found_straight_of, found_across_of, crossing_pairs, found_values, found_no_pairs, found_list, refused_unheaded, pairs_of_args, as_many_args, found_free, crossing_args, two_of_patterns, two_of_targets, found_commutative}
 use Rattle.fvn_match.proofs.SumFitting.{started_fits, smaller_fits}
 use Rattle.fvn_match.proofs.SumFinding.{IsTried, no_patterns, group_of, group_within, choice_within, as_long, length_quotients, each_itself, refused_short, refused_closed, found_open, open_fits, open_weight, refused_left, found_taken, found_only, found_choices, tried_none, found_choice, tried_one, tried_all}
 use Rattle.fvn_match.proofs.ChoiceFinding.{refused_whole, whole_pair, left_fits, found_whole}
@@ -110,10 +112,48 @@ pair-returns-in-Some t c =
 pub pair-returns-in-None : goal.pair-returns-in-None
 pair-returns-in-None t c = absurd (variable_or_head c.args.p.now (sym c.in_default.ensures) (sym c.in-None.ensures))
 
+pub pair-summed-requires : goal.pair-summed-requires
+pair-summed-requires t c =
+    let sum = sums_associate (axioms c.args.self.now.sig.now c.in-Some-head.f) (ap is_sum (sym c.axioms-axioms.ensures) ∙ sym c.is_sum.ensures.exact ∙ c.if-is_sum.true) in
+    (omega arith, (c.requires.vars, (sym c.in-Some-head.ensures, (sum, (c.requires.pair, c.requires.state)))))
+
+pub pair-returns-then-is_sum : goal.pair-returns-then-is_sum
+pair-returns-then-is_sum t c = c.summed.ensures
+
 pub pair-returns-then-not-is_headed : goal.pair-returns-then-not-is_headed
 pair-returns-then-not-is_headed t c =
-    refused_free c.args.self.now.sig.now c.recall_good.ensures.fits c.in-Some-head.f c.args.p.now c.args.t.now c.requires.pair (sym c.in-Some-head.ensures) (bindings_of c.args.bound.now) c.args.self.now.vars.now
-    (Asked c.args.self.now.sig.now c.args.rest.now c.args.sums.now) (sym c.in-Free.ensures) (λ h. false≢true (sym c.if-not-is_headed.true ∙ c.is_headed.ensures.1 h))
+    refused_unheaded c.args.self.now.sig.now c.recall_good.ensures.fits c.in-Some-head.f c.args.p.now c.args.t.now c.requires.pair (sym c.in-Some-head.ensures) (bindings_of c.args.bound.now) c.args.self.now.vars.now
+    (Asked c.args.self.now.sig.now c.args.rest.now c.args.sums.now) (ap is_sum (sym c.axioms-axioms.ensures) ∙ sym c.is_sum.ensures.exact ∙ c.if-is_sum.false) (λ h. false≢true (sym c.if-not-is_headed.true ∙ c.is_headed.ensures.1 h))
+
+pub pair-either-requires : goal.pair-either-requires
+pair-either-requires t c =
+    let d = c.args.self.now.sig.now in
+    let head = sym c.in-Some-head.ensures in
+    let X = Asked d c.args.rest.now c.args.sums.now in
+    let headed = c.is_headed.ensures.0 c.if-not-is_headed.false in
+    let w = weight_args c.args.p.now c.in-Some-head.f head in
+    let v = ap weight_of c.args-then-is_commutative.ensures.exact in (
+      omega (arith, w, v),
+      (
+        c.requires.vars,
+        (
+          two_of_patterns d c.recall_good.ensures.fits c.in-Some-head.f c.args.p.now c.args.t.now c.requires.pair head (bindings_of c.args.bound.now) c.args.self.now.vars.now X headed c.args-then-is_commutative.result.now c.args-then-is_commutative-2.result.now c.args-then-is_commutative.ensures.exact c.args-then-is_commutative-2.ensures.exact (commutative_at c.args.self.now.sig.now c.in-Some-head.f c.axioms-axioms.result c.axioms-axioms.ensures (sym c.is_sum.ensures.exact ∙ c.if-is_sum.false) (sym c.is_commutative.ensures.exact ∙ c.if-is_commutative.true)),
+          (
+            two_of_targets d c.recall_good.ensures.fits c.in-Some-head.f c.args.p.now c.args.t.now c.requires.pair head (bindings_of c.args.bound.now) c.args.self.now.vars.now X headed c.args-then-is_commutative.result.now c.args-then-is_commutative-2.result.now c.args-then-is_commutative.ensures.exact c.args-then-is_commutative-2.ensures.exact (commutative_at c.args.self.now.sig.now c.in-Some-head.f c.axioms-axioms.result c.axioms-axioms.ensures (sym c.is_sum.ensures.exact ∙ c.if-is_sum.false) (sym c.is_commutative.ensures.exact ∙ c.if-is_commutative.true)),
+            (
+              crossing_args d c.recall_good.ensures.fits c.in-Some-head.f c.args.p.now c.args.t.now c.requires.pair head (bindings_of c.args.bound.now) c.args.self.now.vars.now X headed c.args-then-is_commutative.result.now c.args-then-is_commutative-2.result.now c.args-then-is_commutative.ensures.exact c.args-then-is_commutative-2.ensures.exact (commutative_at c.args.self.now.sig.now c.in-Some-head.f c.axioms-axioms.result c.axioms-axioms.ensures (sym c.is_sum.ensures.exact ∙ c.if-is_sum.false) (sym c.is_commutative.ensures.exact ∙ c.if-is_commutative.true)),
+              c.requires.state,
+            ),
+          ),
+        ),
+      ),
+    )
+
+pub pair-returns-then-is_commutative : goal.pair-returns-then-is_commutative
+pair-returns-then-is_commutative t c =
+    let d = c.args.self.now.sig.now in
+    found_commutative d c.recall_good.ensures.fits c.in-Some-head.f c.args.p.now c.args.t.now c.requires.pair (sym c.in-Some-head.ensures) (bindings_of c.args.bound.now) c.args.self.now.vars.now (Asked d c.args.rest.now c.args.sums.now)
+    (c.is_headed.ensures.0 c.if-not-is_headed.false) c.args-then-is_commutative.result.now c.args-then-is_commutative-2.result.now c.args-then-is_commutative.ensures.exact c.args-then-is_commutative-2.ensures.exact (commutative_at c.args.self.now.sig.now c.in-Some-head.f c.axioms-axioms.result c.axioms-axioms.ensures (sym c.is_sum.ensures.exact ∙ c.if-is_sum.false) (sym c.is_commutative.ensures.exact ∙ c.if-is_commutative.true)) c.either.result c.either.ensures
 
 pub pair-lists-requires : goal.pair-lists-requires
 pair-lists-requires t c =
@@ -122,72 +162,25 @@ pair-lists-requires t c =
     let X = Asked d c.args.rest.now c.args.sums.now in
     let headed = c.is_headed.ensures.0 c.if-not-is_headed.false in
     let w = weight_args c.args.p.now c.in-Some-head.f head in
-    let v = ap weight_of c.args-in-Free.ensures.exact in (
+    let v = ap weight_of c.args-2.ensures.exact in (
       omega (arith, w, v),
       (
         c.requires.vars,
         (
-          as_many_args d c.recall_good.ensures.fits c.in-Some-head.f c.args.p.now c.args.t.now c.requires.pair head (bindings_of c.args.bound.now) c.args.self.now.vars.now X headed c.args-in-Free.result.now c.args-in-Free-2.result.now c.args-in-Free.ensures.exact c.args-in-Free-2.ensures.exact (sym c.in-Free.ensures),
+          as_many_args d c.recall_good.ensures.fits c.in-Some-head.f c.args.p.now c.args.t.now c.requires.pair head (bindings_of c.args.bound.now) c.args.self.now.vars.now X headed c.args-2.result.now c.args-3.result.now c.args-2.ensures.exact c.args-3.ensures.exact (free_at c.args.self.now.sig.now c.in-Some-head.f c.axioms-axioms.result c.axioms-axioms.ensures (sym c.is_sum.ensures.exact ∙ c.if-is_sum.false) (sym c.is_commutative.ensures.exact ∙ c.if-is_commutative.false)),
           (
-            pairs_of_args d c.recall_good.ensures.fits c.in-Some-head.f c.args.p.now c.args.t.now c.requires.pair head (bindings_of c.args.bound.now) c.args.self.now.vars.now X headed c.args-in-Free.result.now c.args-in-Free-2.result.now c.args-in-Free.ensures.exact c.args-in-Free-2.ensures.exact (sym c.in-Free.ensures),
+            pairs_of_args d c.recall_good.ensures.fits c.in-Some-head.f c.args.p.now c.args.t.now c.requires.pair head (bindings_of c.args.bound.now) c.args.self.now.vars.now X headed c.args-2.result.now c.args-3.result.now c.args-2.ensures.exact c.args-3.ensures.exact (free_at c.args.self.now.sig.now c.in-Some-head.f c.axioms-axioms.result c.axioms-axioms.ensures (sym c.is_sum.ensures.exact ∙ c.if-is_sum.false) (sym c.is_commutative.ensures.exact ∙ c.if-is_commutative.false)),
             c.requires.state,
           ),
         ),
       ),
     )
 
-pub pair-returns-else-not-is_headed : goal.pair-returns-else-not-is_headed
-pair-returns-else-not-is_headed t c =
+pub pair-returns : goal.pair-returns
+pair-returns t c =
     let d = c.args.self.now.sig.now in
     found_free d c.recall_good.ensures.fits c.in-Some-head.f c.args.p.now c.args.t.now c.requires.pair (sym c.in-Some-head.ensures) (bindings_of c.args.bound.now) c.args.self.now.vars.now (Asked d c.args.rest.now c.args.sums.now)
-    (c.is_headed.ensures.0 c.if-not-is_headed.false) c.args-in-Free.result.now c.args-in-Free-2.result.now c.args-in-Free.ensures.exact c.args-in-Free-2.ensures.exact (sym c.in-Free.ensures) c.lists.result c.lists.ensures
-
-pub pair-returns-then-not-is_headed-2 : goal.pair-returns-then-not-is_headed-2
-pair-returns-then-not-is_headed-2 t c =
-    refused_commutative c.args.self.now.sig.now c.recall_good.ensures.fits c.in-Some-head.f c.args.p.now c.args.t.now c.requires.pair (sym c.in-Some-head.ensures) (bindings_of c.args.bound.now) c.args.self.now.vars.now
-    (Asked c.args.self.now.sig.now c.args.rest.now c.args.sums.now) (sym c.in-Comm.ensures) (λ h. false≢true (sym c.if-not-is_headed-2.true ∙ c.is_headed-in-Comm.ensures.1 h))
-
-pub pair-either-requires : goal.pair-either-requires
-pair-either-requires t c =
-    let d = c.args.self.now.sig.now in
-    let head = sym c.in-Some-head.ensures in
-    let X = Asked d c.args.rest.now c.args.sums.now in
-    let headed = c.is_headed-in-Comm.ensures.0 c.if-not-is_headed-2.false in
-    let w = weight_args c.args.p.now c.in-Some-head.f head in
-    let v = ap weight_of c.args-in-Comm.ensures.exact in (
-      omega (arith, w, v),
-      (
-        c.requires.vars,
-        (
-          two_of_patterns d c.recall_good.ensures.fits c.in-Some-head.f c.args.p.now c.args.t.now c.requires.pair head (bindings_of c.args.bound.now) c.args.self.now.vars.now X headed c.args-in-Comm.result.now c.args-in-Comm-2.result.now c.args-in-Comm.ensures.exact c.args-in-Comm-2.ensures.exact (sym c.in-Comm.ensures),
-          (
-            two_of_targets d c.recall_good.ensures.fits c.in-Some-head.f c.args.p.now c.args.t.now c.requires.pair head (bindings_of c.args.bound.now) c.args.self.now.vars.now X headed c.args-in-Comm.result.now c.args-in-Comm-2.result.now c.args-in-Comm.ensures.exact c.args-in-Comm-2.ensures.exact (sym c.in-Comm.ensures),
-            (
-              crossing_args d c.recall_good.ensures.fits c.in-Some-head.f c.args.p.now c.args.t.now c.requires.pair head (bindings_of c.args.bound.now) c.args.self.now.vars.now X headed c.args-in-Comm.result.now c.args-in-Comm-2.result.now c.args-in-Comm.ensures.exact c.args-in-Comm-2.ensures.exact (sym c.in-Comm.ensures),
-              c.requires.state,
-            ),
-          ),
-        ),
-      ),
-    )
-
-pub pair-returns-else-not-is_headed-2 : goal.pair-returns-else-not-is_headed-2
-pair-returns-else-not-is_headed-2 t c =
-    let d = c.args.self.now.sig.now in
-    found_commutative d c.recall_good.ensures.fits c.in-Some-head.f c.args.p.now c.args.t.now c.requires.pair (sym c.in-Some-head.ensures) (bindings_of c.args.bound.now) c.args.self.now.vars.now (Asked d c.args.rest.now c.args.sums.now)
-    (c.is_headed-in-Comm.ensures.0 c.if-not-is_headed-2.false) c.args-in-Comm.result.now c.args-in-Comm-2.result.now c.args-in-Comm.ensures.exact c.args-in-Comm-2.ensures.exact (sym c.in-Comm.ensures) c.either.result c.either.ensures
-
-pub pair-summed-requires : goal.pair-summed-requires
-pair-summed-requires t c = (omega arith, (c.requires.vars, (sym c.in-Some-head.ensures, (subst IsAssociative c.in-AssocComm.ensures tt, (c.requires.pair, c.requires.state)))))
-
-pub pair-summed-requires-in-AssocCommId : goal.pair-summed-requires-in-AssocCommId
-pair-summed-requires-in-AssocCommId t c = (omega arith, (c.requires.vars, (sym c.in-Some-head.ensures, (subst IsAssociative c.in-AssocCommId.ensures tt, (c.requires.pair, c.requires.state)))))
-
-pub pair-returns-in-AssocComm : goal.pair-returns-in-AssocComm
-pair-returns-in-AssocComm t c = c.summed.ensures
-
-pub pair-returns-in-AssocCommId : goal.pair-returns-in-AssocCommId
-pair-returns-in-AssocCommId t c = c.summed-in-AssocCommId.ensures
+    (c.is_headed.ensures.0 c.if-not-is_headed.false) c.args-2.result.now c.args-3.result.now c.args-2.ensures.exact c.args-3.ensures.exact (free_at c.args.self.now.sig.now c.in-Some-head.f c.axioms-axioms.result c.axioms-axioms.ensures (sym c.is_sum.ensures.exact ∙ c.if-is_sum.false) (sym c.is_commutative.ensures.exact ∙ c.if-is_commutative.false)) c.lists.result c.lists.ensures
 
 -- a variable
 pub variable-returns-then-not-same : goal.variable-returns-then-not-same

@@ -1,13 +1,13 @@
--- A module none of whose left sides is at fault.
+-- Equations none of whose left sides is at fault.
 use Rattle.std.proofs.Common.{sym, subst}
-use Rattle.fvn_cohere.specs.Promises.{equations_of}
-use Rattle.fvn_rewrite_coherence.specs.Admissible.{AreAdmissible}
+use Rattle.fvn_theory.specs.Equations.{equations_of}
+use Rattle.fvn_rewrite_laws.specs.Admissible.{AreAdmissible}
 use Rattle.fvn_tests_rules.proofs.tests.normal_forms.outcomes_in.Goals as goal
 
-pub outcomes_by-requires : goal.outcomes_by-requires
-outcomes_by-requires c =
-    let m = c.args.declared.now in record {
+pub outcomes_by-requires-clause-rules : goal.outcomes_by-requires-clause-rules
+outcomes_by-requires-clause-rules c =
+    let d = c.args.sig.now in record {
       rules = c.in_ok-rules-in-None.ensures.rules;
-      admissible = subst (λ es. AreAdmissible m.signature (equations_of es)) (sym c.in_ok-rules-in-None.ensures.equations)
-          (c.harmless_equations_are_admissible.ensures m c.recall_readable.ensures (rw c.in-None.is at c.in_ok-first_left_fault.ensures));
+      admissible = subst (λ es. AreAdmissible d (equations_of es)) (sym c.in_ok-rules-in-None.ensures.equations)
+          (c.harmless_equations_are_admissible.ensures d c.args.equations.now c.requires (rw c.in-None.is at c.in_ok-first_left_fault.ensures));
     }

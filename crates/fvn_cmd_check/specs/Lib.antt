@@ -1,0 +1,2 @@
+-- The words of the contracts of this crate.
+pub mod Checks

@@ -1,0 +1,13 @@
+-- An open leaf covers all that its state admits.
+use Rattle.fvn_combine.proofs.Opening.{is_ready, covers_admitted}
+use Rattle.fvn_combine.proofs.looking.look_at_leaf.Goals as goal
+
+pub open-requires-clause-ready : goal.open-requires-clause-ready
+open-requires-clause-ready c = is_ready c.args.task.now c.recall.ensures c.args.state.now c.requires.leaf c.requires.kinds
+
+pub returns : goal.returns
+returns c = (
+  c.in_ok-leaf.ensures.opened,
+  covers_admitted c.args.task.now c.recall.ensures c.args.state.now c.leaves_cover.ensures c.readings_tell.ensures c.bases_make_systems.ensures c.in_ok-leaf.leaf c.in_ok-leaf.ensures.opened c.in_ok-leaf.ensures.all,
+  c.in_ok-leaf.ensures.few,
+)

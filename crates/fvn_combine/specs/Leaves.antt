@@ -1,0 +1,73 @@
+-- A leaf that is open, and its choices that are still to come.
+use Rattle.std.specs.Prelude.{◌≡◌, ◌⊎◌, ℕ, List, length, Option, Some, None}
+use Rattle.fvn_terms.specs.declared.plain.OpId.{OpId}
+use Rattle.fvn_terms.specs.Substitution.{Substitution}
+use Rattle.fvn_lindio.specs.declared.system.Solution.{Solution}
+use Rattle.fvn_flat.specs.Solving.{problem_of}
+use Rattle.fvn_combine_nodes.specs.States.{class_of}
+use Rattle.fvn_combine_nodes.specs.declared.state.State.{State}
+use Rattle.fvn_combine_leaves.specs.Leaves.{IsLeaf}
+use Rattle.fvn_combine_leaves.specs.Readings.{IsReading}
+use Rattle.fvn_combine_leaves.specs.declared.reading.Reading.{Reading}
+use Rattle.fvn_acunify_product.specs.Tags.{PendingTags}
+use Rattle.fvn_acunify_product.specs.Wheels.{PendingChoices}
+use Rattle.fvn_combine_admissible.specs.Listed.{tag_in, systems_of, choice_of}
+use Rattle.fvn_combine_complete.specs.CoveringChoices.{IsCovering}
+use Rattle.fvn_combine_leaves.specs.Bases.{AreBases}
+use Rattle.fvn_combine_candidates.specs.Sharing.{AreSharedClasses}
+use Rattle.fvn_combine_candidates.specs.Tags.{tag_counts, AreTags}
+use Rattle.fvn_combine_candidates.specs.Turning.{AreWheels}
+use Rattle.fvn_combine_triangular.specs.Ready.{IsReady}
+use Rattle.fvn_combine.specs.Tasks.{Combining}
+use Rattle.fvn_combine_candidates.specs.declared.sharing.SharedClass.{SharedClass}
+use Rattle.fvn_combine.specs.declared.opened.Turning.{Turning}
+use Rattle.fvn_combine.specs.declared.opened.Opened.{Opened}
+
+module _ (k : Combining) (s : State) where
+  module _ (r : Reading) (bases : List (List Solution)) where
+    -- tags of the shared classes by some options, with the wheels under them
+    pub record IsTurning (shared : List SharedClass) (v : Turning) : Type 0 where
+      pub options : List ℕ
+      pub are_tags : AreTags shared options v.tags
+      pub are_wheels : AreWheels k.declarations k.table (class_of s) (tag_in v.tags) r.sums bases v.wheels.wheels
+
+    -- the choice of these tags and numbers covers u
+    abbrev pub IsCoveredBy : List (Option OpId) → List ℕ → Substitution → Type 0
+    IsCoveredBy tags numbers u = IsCovering k.declarations (problem_of k.given) k.table s (systems_of r bases) u (choice_of r tags numbers)
+
+    -- numbers that are still to come under the current tags cover u
+    pub record IsCoveredUnder (v : Turning) (u : Substitution) : Type 0 where
+      pub numbers : List ℕ
+      pub pending : PendingChoices v.wheels numbers
+      pub covered : IsCoveredBy v.tags numbers u
+
+  -- numbers under the current tags that are still to come cover u, where there are current tags
+  abbrev pub IsCoveredByCurrent : Reading → List (List Solution) → Option Turning → Substitution → Type 0
+  IsCoveredByCurrent r bases None u = ⊥
+  IsCoveredByCurrent r bases (Some v) u = IsCoveredUnder r bases v u
+
+  -- numbers under the current tags of an open leaf that are still to come cover u
+  abbrev pub IsCoveredNow : Opened → Substitution → Type 0
+  IsCoveredNow o u = IsCoveredByCurrent o.reading o.bases o.turning u
+
+  -- numbers under tags whose options are still to come cover u
+  pub record IsCoveredLater (o : Opened) (u : Substitution) : Type 0 where
+    pub options : List ℕ
+    pub pending : PendingTags o.tags options
+    pub numbers : List ℕ
+    pub as_many : length numbers ≡ length o.reading.sums
+    pub covered : (tags : List (Option OpId)) → AreTags o.shared options tags → IsCoveredBy o.reading o.bases tags numbers u
+
+  -- a choice of the leaf that is still to come covers u
+  abbrev pub IsCoveredToCome : Opened → Substitution → Type 0
+  IsCoveredToCome o u = IsCoveredNow o u ⊎ IsCoveredLater o u
+
+  -- what is read of the leaf, its minimal solutions, its shared classes and their tags, and the wheels under current tags
+  pub record IsOpened (o : Opened) : Type 0 where
+    pub ready : IsReady k.declarations k.given k.first k.table s
+    pub leaf : IsLeaf k.declarations k.table s
+    pub reading : IsReading k.declarations k.table (class_of s) o.reading
+    pub bases : AreBases o.reading.sums o.bases
+    pub shared : AreSharedClasses k.declarations k.table (class_of s) o.shared
+    pub counts : o.tags.counts ≡ tag_counts o.shared
+    pub turning : (v : Turning) → o.turning ≡ Some v → IsTurning o.reading o.bases o.shared v

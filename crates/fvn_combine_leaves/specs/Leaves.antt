@@ -1,0 +1,97 @@
+-- Leaves: states in which nothing is open that decides what classes are bound to.
+use Rattle.std.specs.Prelude.{◌≡◌, ◌≢◌, ◌⊎◌, ℕ, ◌<◌, pos, List, length, slice_get, Option, Some, None, Contains}
+use Rattle.fvn_terms.specs.declared.plain.OpId.{OpId}
+use Rattle.fvn_terms.specs.declared.declarations.Declarations.{Declarations}
+use Rattle.fvn_terms.specs.Signature.{axioms}
+use Rattle.fvn_terms.specs.Equality.{IsAssociative}
+use Rattle.fvn_lindio.specs.declared.system.System.{System}
+use Rattle.fvn_lindio.specs.Systems.{IsMinimal, rows_of}
+use Rattle.fvn_flat.specs.Partitions.{HasNoIdentity}
+use Rattle.fvn_flat.specs.SolvedLists.{component}
+use Rattle.fvn_combine_nodes.specs.Table.{NodeTable, IsOver}
+use Rattle.fvn_combine_nodes.specs.Classes.{IsNodePartition}
+use Rattle.fvn_combine_nodes.specs.States.{IsClosed, IsOpen, class_of}
+use Rattle.fvn_combine_nodes.specs.declared.state.State.{State}
+use Rattle.fvn_combine_systems.specs.NodeSystems.{addends, sums, coefficient, IsNodeColumn, IsNodeSystem}
+
+module _ (d : Declarations) (t : NodeTable) where
+  -- f is associative, and heads a subterm
+  pub record IsSumOperator (f : OpId) : Type 0 where
+    pub associative : IsAssociative (axioms d f)
+    pub sum : ℕ
+    pub listed : Contains (sums t f) sum
+
+  module _ (class : ℕ → ℕ) where
+    -- f has no identity, and heads a member of class k
+    pub record IsSolid (f : OpId) (k : ℕ) : Type 0 where
+      pub member : ℕ
+      pub arguments : List ℕ
+      pub over : IsOver t.nodes member f arguments
+      pub of : class member ≡ k
+      pub no_identity : HasNoIdentity (axioms d f)
+
+    -- some row of f's sum system uses the column of class k
+    pub record Uses (f : OpId) (k : ℕ) : Type 0 where
+      pub associative : IsAssociative (axioms d f)
+      pub column : IsNodeColumn t class f k
+      pub row : ℕ
+      pub listed : Contains (sums t f) row
+      pub other : coefficient class row (addends f (slice_get t.nodes row)) k ≢ pos 0
+
+    -- no operator without an identity heads a member of class k, and two operators use it
+    pub record IsShared (k : ℕ) : Type 0 where
+      pub soft : (f : OpId) → IsSolid f k → ⊥
+      pub first : OpId
+      pub second : OpId
+      pub different : first ≢ second
+      pub uses_first : Uses first k
+      pub uses_second : Uses second k
+
+    -- class k may have to be a single summand in the sums of f
+    pub record MayBeConstant (f : OpId) (k : ℕ) : Type 0 where
+      pub used : Uses f k
+      pub why : ((g : OpId) × (g ≢ f) × IsSolid g k) ⊎ IsShared k
+
+    -- different operators without identities head members of the classes
+    pub record HaveTwoHeads (k l : ℕ) : Type 0 where
+      pub first : OpId
+      pub second : OpId
+      pub different : first ≢ second
+      pub heads_first : IsSolid first k
+      pub heads_second : IsSolid second l
+
+    -- a minimal solution of f's sum system has both classes
+    pub record AreTouched (f : OpId) (k l : ℕ) : Type 0 where
+      pub columns : List ℕ
+      pub system : System
+      pub is : IsNodeSystem t class f columns system
+      pub solution : List ℕ
+      pub minimal : IsMinimal system.columns (rows_of system) solution
+      pub left : 0 < component columns solution k
+      pub right : 0 < component columns solution l
+
+  -- Commutative nodes meet, and it is known which shared classes have identities.
+  pub record IsNearLeaf (s : State) : Type 0 where
+    pub closed : IsClosed d t s
+    pub partition : IsNodePartition d t (class_of s)
+    -- whether a shared class has the identity of an operator that uses it
+    pub identities : (f : OpId) (k : ℕ) → IsShared (class_of s) k → Uses (class_of s) f k → (p : OpId × ℕ) → Contains t.units p → p.0 ≡ f → IsOpen s k p.1 → ⊥
+
+  -- Nothing is open that decides what a class is bound to.
+  pub record IsLeaf (s : State) : Type 0 where
+    pub closed : IsClosed d t s
+    pub partition : IsNodePartition d t (class_of s)
+    -- whether a shared class has the identity of an operator that uses it
+    pub identities : (f : OpId) (k : ℕ) → IsShared (class_of s) k → Uses (class_of s) f k → (p : OpId × ℕ) → Contains t.units p → p.0 ≡ f → IsOpen s k p.1 → ⊥
+    -- whether two classes are one, where both may be constants of an operator and a minimal solution has both
+    pub constants : (f : OpId) (k l : ℕ) → MayBeConstant (class_of s) f k → MayBeConstant (class_of s) f l → AreTouched (class_of s) f k l → HaveTwoHeads (class_of s) k l ⊎ (IsOpen s k l → ⊥)
+
+  -- the question on two nodes is open; where there is none, the state is nearly a leaf
+  abbrev pub IsFirstQuestion : State → Option (ℕ × ℕ) → Type 0
+  IsFirstQuestion s None = IsNearLeaf s
+  IsFirstQuestion s (Some p) = (p.0 < length t.nodes) × (p.1 < length t.nodes) × IsOpen s p.0 p.1
+
+  -- so it is; where there is none, the state is a leaf
+  abbrev pub IsQuestion : State → Option (ℕ × ℕ) → Type 0
+  IsQuestion s None = IsLeaf s
+  IsQuestion s (Some p) = (p.0 < length t.nodes) × (p.1 < length t.nodes) × IsOpen s p.0 p.1

@@ -1,0 +1,2 @@
+-- What is loaded with a module.
+pub mod Loaded

@@ -1,0 +1,1 @@
+"""The bridge from Maude: what `from-maude` is made of."""
