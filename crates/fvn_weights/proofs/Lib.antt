@@ -1,3 +1,4 @@
 mod Linearity
 mod Kept
 mod Falling
+mod Placing

@@ -1,15 +1,24 @@
 //! Numbers of variables, each beside its variable; sums and products that stop at the greatest number.
 ghost use Rattle.std.specs.Prelude.{◌≡◌, IfOk};
+ghost use Rattle.fvn_terms.specs.Substitution.{same_var};
 ghost use Rattle.fvn_weights.specs.inner.Numbers.{found, place, IsMore};
 
 use fvn_terms::{NoMemory, Var};
+
+// Whether two variables are one.
+fn is_same(a: Var, b: Var) -> bool
+    ensures { result ≡ same_var a b }
+{
+    a == b
+}
 
 // Where the variable stands first.
 fn place_of(factors: &[(Var, u64)], x: Var) -> Option<usize>
     ensures { result ≡ place factors.now x }
 {
     for i in 0..factors.len() {
-        if factors[i].0 == x {
+        let here = is_same(factors[i].0, x);
+        if here {
             return Some(i);
         }
     }
