@@ -1,10 +1,11 @@
 -- Where a variable stands in a list, and its number.
 use Rattle.std.proofs.Common.{◌≡◌, ◌<◌, ◌+◌, ℕ, zero, suc, Bool, true, false, List, [], ◌∷◌, Option, Some, None, length, refl, sym, ap, ◌∙◌, arith}
 use mathlib.Core.Bool.{beq}
+use Rattle.fvn_base.proofs.Options.{Some-injective}
 use Rattle.std.specs.Prelude.{◌&&◌, drop, get_or, option_map, if◌then◌else◌}
 use Rattle.fvn_terms.specs.declared.plain.Var.{Var}
 use Rattle.fvn_terms.specs.Substitution.{same_var, same_truth}
-use Rattle.fvn_weights.specs.inner.Numbers.{place}
+use Rattle.fvn_weights.specs.inner.Numbers.{place, found, capped}
 
 same_truths : (c d : Bool) → beq c d ≡ same_truth c d
 same_truths true true = refl
@@ -42,3 +43,37 @@ module _ (x : Var) where
       let on : suc i ≡ i + 1 = omega arith in
       is ∙ ap (option_map (λ n. i + n)) (next_place ps i d h ∙ ap (λ b. if b then Some 0 else option_map suc (place (drop (suc i) ps) x)) e)
       ∙ further i (place (drop (suc i) ps) x) ∙ ap (λ k. option_map (λ n. (i + 1) + n) (place (drop k ps) x)) on
+
+  -- what is placed stands there
+  pub placed_within : (ps : List (Var × ℕ)) (i : ℕ) → place ps x ≡ Some i → i < length ps
+  placed_within [] i e = cc
+  placed_within (p ∷ ps) i e = go (same_var p.0 x) e (placed_within ps) where
+    go : (b : Bool) → (if b then Some 0 else option_map suc (place ps x)) ≡ Some i → ((j : ℕ) → place ps x ≡ Some j → j < length ps) → i < length (p ∷ ps)
+    go true q rest = let zero_is : 0 ≡ i = Some-injective q in omega arith
+    go false q rest = later (place ps x) refl q rest where
+      later : (o : Option ℕ) → place ps x ≡ o → option_map suc o ≡ Some i → ((j : ℕ) → place ps x ≡ Some j → j < length ps) → i < length (p ∷ ps)
+      later None is r h = cc
+      later (Some j) is r h = let next : suc j ≡ i = Some-injective r in let less = h j is in omega arith
+
+  -- its number is the one that is found
+  pub placed_number : (ps : List (Var × ℕ)) (i : ℕ) (d : Var × ℕ) → place ps x ≡ Some i → found ps x ≡ capped (get_or ps i d).1
+  placed_number [] i d e = cc
+  placed_number (p ∷ ps) i d e = go (same_var p.0 x) e (placed_number ps) where
+    go : (b : Bool) → (if b then Some 0 else option_map suc (place ps x)) ≡ Some i → ((j : ℕ) (d : Var × ℕ) → place ps x ≡ Some j → found ps x ≡ capped (get_or ps j d).1) →
+        (if b then capped p.1 else found ps x) ≡ capped (get_or (p ∷ ps) i d).1
+    go true q rest = ap (λ k. capped (get_or (p ∷ ps) k d).1) (Some-injective q)
+    go false q rest = later (place ps x) refl q rest where
+      later : (o : Option ℕ) → place ps x ≡ o → option_map suc o ≡ Some i → ((j : ℕ) (d : Var × ℕ) → place ps x ≡ Some j → found ps x ≡ capped (get_or ps j d).1) → found ps x ≡ capped (get_or (p ∷ ps) i d).1
+      later None is r h = cc
+      later (Some j) is r h = h j d is ∙ ap (λ k. capped (get_or (p ∷ ps) k d).1) (Some-injective r)
+
+  -- what is placed nowhere has no number
+  pub unplaced_number : (ps : List (Var × ℕ)) → place ps x ≡ None → found ps x ≡ 0
+  unplaced_number [] e = refl
+  unplaced_number (p ∷ ps) e = go (same_var p.0 x) e (unplaced_number ps) where
+    go : (b : Bool) → (if b then Some 0 else option_map suc (place ps x)) ≡ None → (place ps x ≡ None → found ps x ≡ 0) → (if b then capped p.1 else found ps x) ≡ 0
+    go true q rest = cc
+    go false q rest = later (place ps x) refl q rest where
+      later : (o : Option ℕ) → place ps x ≡ o → option_map suc o ≡ None → (place ps x ≡ None → found ps x ≡ 0) → found ps x ≡ 0
+      later None is r h = h is
+      later (Some j) is r h = cc
