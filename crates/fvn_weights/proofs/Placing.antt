@@ -5,7 +5,7 @@ use Rattle.fvn_base.proofs.Options.{Some-injective}
 use Rattle.std.specs.Prelude.{◌&&◌, drop, get_or, option_map, if◌then◌else◌}
 use Rattle.fvn_terms.specs.declared.plain.Var.{Var}
 use Rattle.fvn_terms.specs.Substitution.{same_var, same_truth}
-use Rattle.fvn_weights.specs.inner.Numbers.{place, found, capped}
+use Rattle.fvn_weights.specs.inner.Numbers.{place, found}
 
 same_truths : (c d : Bool) → beq c d ≡ same_truth c d
 same_truths true true = refl
@@ -56,22 +56,22 @@ module _ (x : Var) where
       later (Some j) is r h = let next : suc j ≡ i = Some-injective r in let less = h j is in omega arith
 
   -- its number is the one that is found
-  pub placed_number : (ps : List (Var × ℕ)) (i : ℕ) (d : Var × ℕ) → place ps x ≡ Some i → found ps x ≡ capped (get_or ps i d).1
+  pub placed_number : (ps : List (Var × ℕ)) (i : ℕ) (d : Var × ℕ) → place ps x ≡ Some i → found ps x ≡ (get_or ps i d).1
   placed_number [] i d e = cc
   placed_number (p ∷ ps) i d e = go (same_var p.0 x) e (placed_number ps) where
-    go : (b : Bool) → (if b then Some 0 else option_map suc (place ps x)) ≡ Some i → ((j : ℕ) (d : Var × ℕ) → place ps x ≡ Some j → found ps x ≡ capped (get_or ps j d).1) →
-        (if b then capped p.1 else found ps x) ≡ capped (get_or (p ∷ ps) i d).1
-    go true q rest = ap (λ k. capped (get_or (p ∷ ps) k d).1) (Some-injective q)
+    go : (b : Bool) → (if b then Some 0 else option_map suc (place ps x)) ≡ Some i → ((j : ℕ) (d : Var × ℕ) → place ps x ≡ Some j → found ps x ≡ (get_or ps j d).1) →
+        (if b then p.1 else found ps x) ≡ (get_or (p ∷ ps) i d).1
+    go true q rest = ap (λ k. (get_or (p ∷ ps) k d).1) (Some-injective q)
     go false q rest = later (place ps x) refl q rest where
-      later : (o : Option ℕ) → place ps x ≡ o → option_map suc o ≡ Some i → ((j : ℕ) (d : Var × ℕ) → place ps x ≡ Some j → found ps x ≡ capped (get_or ps j d).1) → found ps x ≡ capped (get_or (p ∷ ps) i d).1
+      later : (o : Option ℕ) → place ps x ≡ o → option_map suc o ≡ Some i → ((j : ℕ) (d : Var × ℕ) → place ps x ≡ Some j → found ps x ≡ (get_or ps j d).1) → found ps x ≡ (get_or (p ∷ ps) i d).1
       later None is r h = cc
-      later (Some j) is r h = h j d is ∙ ap (λ k. capped (get_or (p ∷ ps) k d).1) (Some-injective r)
+      later (Some j) is r h = h j d is ∙ ap (λ k. (get_or (p ∷ ps) k d).1) (Some-injective r)
 
   -- what is placed nowhere has no number
   pub unplaced_number : (ps : List (Var × ℕ)) → place ps x ≡ None → found ps x ≡ 0
   unplaced_number [] e = refl
   unplaced_number (p ∷ ps) e = go (same_var p.0 x) e (unplaced_number ps) where
-    go : (b : Bool) → (if b then Some 0 else option_map suc (place ps x)) ≡ None → (place ps x ≡ None → found ps x ≡ 0) → (if b then capped p.1 else found ps x) ≡ 0
+    go : (b : Bool) → (if b then Some 0 else option_map suc (place ps x)) ≡ None → (place ps x ≡ None → found ps x ≡ 0) → (if b then p.1 else found ps x) ≡ 0
     go true q rest = cc
     go false q rest = later (place ps x) refl q rest where
       later : (o : Option ℕ) → place ps x ≡ o → option_map suc o ≡ None → (place ps x ≡ None → found ps x ≡ 0) → found ps x ≡ 0

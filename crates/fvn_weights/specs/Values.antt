@@ -44,13 +44,21 @@ without_constants w = record { constant = λ f. 0; coefficient = w.coefficient }
 abbrev pub factor_of : Linear → Var → Term → ℕ
 factor_of w x = value (without_constants w) (one_at x)
 
+-- f takes its two arguments once each
+abbrev pub HasOnes : Linear → OpId → Type 0
+HasOnes w f = (w.coefficient f 0 ≡ 1) × (w.coefficient f 1 ≡ 1)
+
+-- f takes its two arguments once each and adds nothing, and e adds nothing
+abbrev pub IsNeutral : Linear → OpId → OpId → Type 0
+IsNeutral w f e = (w.coefficient f 0 ≡ 1) × ((w.coefficient f 1 ≡ 1) × ((w.constant f ≡ 0) × (w.constant e ≡ 0)))
+
 -- The coefficients are positive. Where f is commutative, they are equal; where it is associative or has an identity, they
 -- are one; an identity, and what has one, add nothing.
 pub record Fits (d : Declarations) (w : Linear) (f : OpId) : Type 0 where
   pub positive : (i : ℕ) → 1 ≤ w.coefficient f i
   pub alike : IsCommutative (axioms d f) → w.coefficient f 0 ≡ w.coefficient f 1
-  pub ones : IsAssociative (axioms d f) → (w.coefficient f 0 ≡ 1) × (w.coefficient f 1 ≡ 1)
-  pub neutral : (e : OpId) → identity (axioms d f) ≡ Some e → (w.coefficient f 0 ≡ 1) × ((w.coefficient f 1 ≡ 1) × ((w.constant f ≡ 0) × (w.constant e ≡ 0)))
+  pub ones : IsAssociative (axioms d f) → HasOnes w f
+  pub neutral : (e : OpId) → identity (axioms d f) ≡ Some e → IsNeutral w f e
 
 -- the left side has a greater constant than the right one, and no smaller coefficient of any variable
 pub record Falls (w : Linear) (left right : Term) : Type 0 where

@@ -1,11 +1,10 @@
 //! Values of terms as linear forms.
-ghost use Rattle.std.specs.Prelude.{◌≡◌, IfOk};
+ghost use Rattle.std.specs.Prelude.{◌≡◌, IfOk, slice_get};
 ghost use Rattle.fvn_terms.specs.Plain.{term};
 ghost use Rattle.fvn_weights.specs.Weighing.{linear, constant_in, coefficient_in};
 ghost use Rattle.fvn_weights.specs.inner.Forms.{IsAdded, AreAdded, IsFormOf};
-ghost use Rattle.std.specs.Prelude.{slice_get};
 
-use crate::numbers::raised;
+use crate::numbers::{plus, raised, times};
 use crate::weights::Weights;
 use fvn_terms::{Args, NoMemory, OpId, Plain, Var};
 use std::alloc::Global;
@@ -54,9 +53,9 @@ fn add_term(weights: &Weights, t: &Plain, factor: u64, form: Form) -> Result<For
             })
         }
         Plain::App(f, us) => {
-            let more = factor.saturating_mul(constant_at(weights, *f));
+            let own = times(factor, constant_at(weights, *f));
             let begun = Form {
-                constant: form.constant.saturating_add(more),
+                constant: plus(form.constant, own),
                 factors: form.factors,
             };
             let all = add_all(weights, *f, us, factor, begun)?;
@@ -67,14 +66,20 @@ fn add_term(weights: &Weights, t: &Plain, factor: u64, form: Form) -> Result<For
 
 // The form with the arguments of an operator added, so many times what each counts.
 #[cycle(add)]
-fn add_all(weights: &Weights, f: OpId, us: &Args, factor: u64, form: Form) -> Result<Form, NoMemory>
-    ensures { IfOk result (AreAdded (linear weights.now.list) factor f us.now form) }
+fn add_all(
+    weights: &Weights,
+    f: OpId,
+    us: &Args,
+    factor: u64,
+    begun: Form,
+) -> Result<Form, NoMemory>
+    ensures { IfOk result (AreAdded (linear weights.now.list) factor f us.now begun) }
 {
-    let mut form = form;
+    let mut form = begun;
     let mut i: usize = 0;
     for t in &us.items {
-        let times = factor.saturating_mul(coefficient_at(weights, f, i));
-        form = add_term(weights, t, times, form)?;
+        let many = times(factor, coefficient_at(weights, f, i));
+        form = add_term(weights, t, many, form)?;
         i += 1;
     }
     Ok(form)

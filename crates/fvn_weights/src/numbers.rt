@@ -1,9 +1,23 @@
 //! Numbers of variables, each beside its variable; sums and products that stop at the greatest number.
-ghost use Rattle.std.specs.Prelude.{◌≡◌, IfOk};
+ghost use Rattle.std.specs.Prelude.{◌≡◌, ◌<◌, ◌+◌, ◌*◌, IfOk, Some, length, slice_set};
 ghost use Rattle.fvn_terms.specs.Substitution.{same_var};
-ghost use Rattle.fvn_weights.specs.inner.Numbers.{found, place, IsMore};
+ghost use Rattle.fvn_weights.specs.inner.Numbers.{capped, found, place, IsMore};
 
 use fvn_terms::{NoMemory, Var};
+
+/// The sum, or the greatest number.
+pub(crate) fn plus(a: u64, b: u64) -> u64
+    ensures { result ≡ capped (a + b) }
+{
+    a.saturating_add(b)
+}
+
+/// The product, or the greatest number.
+pub(crate) fn times(a: u64, b: u64) -> u64
+    ensures { result ≡ capped (a * b) }
+{
+    a.saturating_mul(b)
+}
 
 // Whether two variables are one.
 fn is_same(a: Var, b: Var) -> bool
@@ -35,6 +49,24 @@ pub(crate) fn number_of(factors: &[(Var, u64)], x: Var) -> u64
     }
 }
 
+// Writes a number into its place.
+fn put(factors: &mut Vec<(Var, u64)>, i: usize, x: Var, number: u64)
+    requires { i < length factors.old.items }
+    ensures { factors.new.items ≡ slice_set factors.old.items i (x, number) }
+{
+    factors[i] = (x, number);
+}
+
+// Raises the number of the variable that stands at a place.
+fn raise_at(factors: &mut Vec<(Var, u64)>, i: usize, x: Var, more: u64)
+    requires { place factors.old.items x ≡ Some i }
+    ensures { IsMore x more factors.old.items factors.new.items }
+{
+    let before = number_of(factors.as_slice(), x);
+    let sum = plus(before, more);
+    put(factors, i, x, sum);
+}
+
 /// The numbers with that of one variable raised.
 pub(crate) fn raised(
     factors: Vec<(Var, u64)>,
@@ -43,16 +75,15 @@ pub(crate) fn raised(
 ) -> Result<Vec<(Var, u64)>, NoMemory>
     ensures { IfOk result (λ after. IsMore x more factors.items after.items) }
 {
-    let mut factors = factors;
-    match place_of(factors.as_slice(), x) {
+    let mut all = factors;
+    match place_of(all.as_slice(), x) {
         Some(i) => {
-            let sum = factors[i].1.saturating_add(more);
-            factors[i] = (x, sum);
-            Ok(factors)
+            raise_at(&mut all, i, x, more);
+            Ok(all)
         }
         None => {
-            factors.push((x, more))?;
-            Ok(factors)
+            all.push((x, more))?;
+            Ok(all)
         }
     }
 }
