@@ -1,5 +1,5 @@
 -- What is promised of weighing: the first operator whose weight does not fit, or the first equation that does not fall.
-use Rattle.std.specs.Prelude.{◌≡◌, ◌≤◌, ◌<◌, ◌⊎◌, ℕ, suc, List, length, slice_get, slice_index_or, Option, Some, None}
+use Rattle.std.specs.Prelude.{◌≡◌, ◌≤◌, ◌<◌, ◌⊎◌, ℕ, suc, List, [], length, slice_get, slice_index_or, Option, Some, None}
 use Rattle.fvn_terms.specs.declared.plain.Var.{Var}
 use Rattle.fvn_terms.specs.declared.plain.OpId.{OpId}
 use Rattle.fvn_terms.specs.declared.declarations.Declarations.{Declarations}
@@ -23,10 +23,14 @@ abbrev pub constant_in : Option Weight → ℕ
 constant_in None = 0
 constant_in (Some w) = w.constant
 
+-- by what it multiplies its arguments; nothing is said where there is none
+abbrev pub coefficients_in : Option Weight → List ℕ
+coefficients_in None = []
+coefficients_in (Some w) = w.coefficients
+
 -- by what it multiplies the argument at a place; by one where it does not say
 abbrev pub coefficient_in : Option Weight → ℕ → ℕ
-coefficient_in None i = 1
-coefficient_in (Some w) i = slice_index_or w.coefficients i 1
+coefficient_in o i = slice_index_or (coefficients_in o) i 1
 
 -- the weights of a list, by the numbers of operators
 abbrev pub linear : List Weight → Linear

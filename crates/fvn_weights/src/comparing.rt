@@ -55,7 +55,8 @@ fn is_over_form(form: &Form) -> bool
     if over {
         return true;
     }
-    let some = has_over(form.factors.as_slice());
+    let factors = form.factors.as_slice();
+    let some = has_over(factors);
     some
 }
 
@@ -97,7 +98,9 @@ fn grows(left: &Form, right: &Form) -> bool
     if !falls {
         return true;
     }
-    let some = grows_somewhere(left.factors.as_slice(), right.factors.as_slice());
+    let first = left.factors.as_slice();
+    let second = right.factors.as_slice();
+    let some = grows_somewhere(first, second);
     some
 }
 

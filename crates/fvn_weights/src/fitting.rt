@@ -7,7 +7,7 @@ ghost use Rattle.fvn_weights.specs.Values.{Fits, HasOnes, IsNeutral};
 ghost use Rattle.fvn_weights.specs.Weighing.{linear, AllFit};
 ghost use Rattle.fvn_weights.specs.inner.Equations.{IsFirstUnfit};
 
-use crate::forms::{coefficient_at, constant_at};
+use crate::forms::{coefficient_at, coefficients_of, constant_at};
 use crate::weights::Weights;
 use fvn_signature::Signature;
 use fvn_terms::OpId;
@@ -36,10 +36,9 @@ fn are_all_positive(numbers: &[u64]) -> bool
 fn is_positive(weights: &Weights, f: OpId) -> bool
     ensures { IsTrue result ↔ ((i : ℕ) → 1 ≤ (linear weights.now.list).coefficient f i) }
 {
-    match weights.list.as_slice().get(usize::from(f.0)) {
-        Some(w) => are_all_positive(w.coefficients.as_slice()),
-        None => true,
-    }
+    let numbers = coefficients_of(weights, f);
+    let positive = are_all_positive(numbers);
+    positive
 }
 
 // Whether the operator counts its two arguments alike.
@@ -47,7 +46,9 @@ fn counts_alike(weights: &Weights, f: OpId) -> bool
     ensures { let w = linear weights.now.list in
         IsTrue result ↔ (w.coefficient f 0 ≡ w.coefficient f 1) }
 {
-    coefficient_at(weights, f, 0) == coefficient_at(weights, f, 1)
+    let first = coefficient_at(weights, f, 0);
+    let second = coefficient_at(weights, f, 1);
+    first == second
 }
 
 // Whether the operator counts its two arguments alike, where it may exchange them.
@@ -55,7 +56,9 @@ fn is_alike(sig: &Signature, weights: &Weights, f: OpId) -> bool
     ensures { let w = linear weights.now.list in
         IsTrue result ↔ (IsCommutative (axioms sig.now f) → w.coefficient f 0 ≡ w.coefficient f 1) }
 {
-    if !sig.axioms(f).is_commutative() {
+    let declared = sig.axioms(f);
+    let commutes = declared.is_commutative();
+    if !commutes {
         return true;
     }
     let alike = counts_alike(weights, f);
@@ -66,7 +69,8 @@ fn is_alike(sig: &Signature, weights: &Weights, f: OpId) -> bool
 fn counts_once(weights: &Weights, f: OpId, i: usize) -> bool
     ensures { IsTrue result ↔ ((linear weights.now.list).coefficient f i ≡ 1) }
 {
-    coefficient_at(weights, f, i) == 1
+    let number = coefficient_at(weights, f, i);
+    number == 1
 }
 
 // Whether the operator counts its two arguments once.
@@ -85,7 +89,9 @@ fn has_ones(weights: &Weights, f: OpId) -> bool
 fn is_plain_sum(sig: &Signature, weights: &Weights, f: OpId) -> bool
     ensures { IsTrue result ↔ (IsAssociative (axioms sig.now f) → HasOnes (linear weights.now.list) f) }
 {
-    if !sig.axioms(f).is_sum() {
+    let declared = sig.axioms(f);
+    let sums = declared.is_sum();
+    if !sums {
         return true;
     }
     let ones = has_ones(weights, f);
@@ -96,7 +102,8 @@ fn is_plain_sum(sig: &Signature, weights: &Weights, f: OpId) -> bool
 fn adds_nothing(weights: &Weights, f: OpId) -> bool
     ensures { IsTrue result ↔ ((linear weights.now.list).constant f ≡ 0) }
 {
-    constant_at(weights, f) == 0
+    let number = constant_at(weights, f);
+    number == 0
 }
 
 // Whether the operator counts its two arguments once and adds nothing, and the constant adds nothing.

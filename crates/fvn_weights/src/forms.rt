@@ -1,7 +1,7 @@
 //! Values of terms as linear forms.
 ghost use Rattle.std.specs.Prelude.{◌≡◌, IfOk, slice_get};
 ghost use Rattle.fvn_terms.specs.Plain.{term};
-ghost use Rattle.fvn_weights.specs.Weighing.{linear, constant_in, coefficient_in};
+ghost use Rattle.fvn_weights.specs.Weighing.{linear, constant_in, coefficients_in, coefficient_in};
 ghost use Rattle.fvn_weights.specs.inner.Forms.{IsAdded, AreAdded, IsFormOf};
 
 use crate::numbers::{plus, raised, times};
@@ -26,15 +26,22 @@ pub(crate) fn constant_at(weights: &Weights, f: OpId) -> u64
     }
 }
 
+/// By what the weight of an operator multiplies its arguments.
+pub(crate) fn coefficients_of(weights: &Weights, f: OpId) -> &[u64]
+    ensures { result.now ≡ coefficients_in (slice_get weights.now.list f.0) }
+{
+    match weights.list.as_slice().get(usize::from(f.0)) {
+        Some(w) => w.coefficients.as_slice(),
+        None => &[],
+    }
+}
+
 /// By what the weight of an operator multiplies the argument at a place.
 pub(crate) fn coefficient_at(weights: &Weights, f: OpId, i: usize) -> u64
     ensures { result ≡ coefficient_in (slice_get weights.now.list f.0) i }
 {
-    match weights.list.as_slice().get(usize::from(f.0)) {
-        Some(w) => match w.coefficients.as_slice().get(i) {
-            Some(c) => *c,
-            None => 1,
-        },
+    match coefficients_of(weights, f).get(i) {
+        Some(c) => *c,
         None => 1,
     }
 }
@@ -53,9 +60,11 @@ fn add_term(weights: &Weights, t: &Plain, factor: u64, form: Form) -> Result<For
             })
         }
         Plain::App(f, us) => {
-            let own = times(factor, constant_at(weights, *f));
+            let adds = constant_at(weights, *f);
+            let own = times(factor, adds);
+            let more = plus(form.constant, own);
             let begun = Form {
-                constant: plus(form.constant, own),
+                constant: more,
                 factors: form.factors,
             };
             let all = add_all(weights, *f, us, factor, begun)?;
@@ -78,7 +87,8 @@ fn add_all(
     let mut form = begun;
     let mut i: usize = 0;
     for t in &us.items {
-        let many = times(factor, coefficient_at(weights, f, i));
+        let count = coefficient_at(weights, f, i);
+        let many = times(factor, count);
         form = add_term(weights, t, many, form)?;
         i += 1;
     }
