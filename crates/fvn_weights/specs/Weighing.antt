@@ -5,7 +5,6 @@ use Rattle.fvn_terms.specs.declared.plain.OpId.{OpId}
 use Rattle.fvn_terms.specs.declared.declarations.Declarations.{Declarations}
 use Rattle.fvn_terms.specs.Term.{Term}
 use Rattle.fvn_terms.specs.Plain.{term}
-use Rattle.fvn_signature.specs.Queries.{arity}
 use Rattle.fvn_theory.specs.declared.equation.Equation.{Equation}
 use Rattle.fvn_weights.specs.declared.weights.Weight.{Weight}
 use Rattle.fvn_weights.specs.declared.fault.WeighFault.{WeighFault}
@@ -13,10 +12,9 @@ use Rattle.fvn_weights.specs.declared.fault.WeighFault.TheVariants.{Shape, TooBi
 use Rattle.fvn_weights.specs.declared.limits.TheConstants.{MOST}
 use Rattle.fvn_weights.specs.Values.{Linear, constant_of, factor_of, Fits}
 
--- a weight for each operator, with a coefficient for each of its arguments
-pub record AreWeightsOf (d : Declarations) (weights : List Weight) : Type 0 where
-  pub count : length weights ≡ length d.ops
-  pub each : (f : OpId) (w : Weight) → slice_get weights f.0 ≡ Some w → length w.coefficients ≡ arity d f
+-- there is a weight for each operator
+abbrev pub AreWeightsOf : Declarations → List Weight → Type 0
+AreWeightsOf d weights = length weights ≡ length d.ops
 
 -- what the weight of an operator adds; nothing where there is none
 abbrev pub constant_in : Option Weight → ℕ

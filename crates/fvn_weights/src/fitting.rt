@@ -1,10 +1,10 @@
 //! Whether the weight of an operator fits its axioms.
-ghost use Rattle.std.specs.Prelude.{◌≡◌, ◌↔◌, ◌≤◌, ℕ, IsTrue, Some, length, nat_eq, slice_index_or, MatchOption};
+ghost use Rattle.std.specs.Prelude.{◌≡◌, ◌↔◌, ◌≤◌, ℕ, IsTrue, Some, nat_eq, slice_index_or, MatchOption};
 ghost use Rattle.fvn_terms.specs.declared.plain.OpId.{OpId};
 ghost use Rattle.fvn_terms.specs.Signature.{axioms};
 ghost use Rattle.fvn_terms.specs.Equality.{identity, IsAssociative, IsCommutative};
 ghost use Rattle.fvn_weights.specs.Values.{Fits, HasOnes, IsNeutral};
-ghost use Rattle.fvn_weights.specs.Weighing.{linear, AllFit};
+ghost use Rattle.fvn_weights.specs.Weighing.{linear, AreWeightsOf, AllFit};
 ghost use Rattle.fvn_weights.specs.inner.Equations.{IsFirstUnfit};
 
 use crate::forms::{coefficient_at, coefficients_of, constant_at};
@@ -158,7 +158,7 @@ pub(crate) fn fits(sig: &Signature, weights: &Weights, f: OpId) -> bool
 
 /// The first operator whose weight does not fit.
 pub(crate) fn unfit(sig: &Signature, weights: &Weights) -> Option<OpId>
-    requires { length weights.now.list ≡ length sig.now.ops }
+    requires { AreWeightsOf sig.now weights.now.list }
     ensures { let w = linear weights.now.list in
         MatchOption result (AllFit sig.now w) (IsFirstUnfit sig.now w) }
 {

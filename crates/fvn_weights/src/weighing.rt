@@ -71,7 +71,7 @@ pub fn weigh(
     equations: &[Equation],
     weights: &Weights,
 ) -> Result<(), WeighFault>
-    requires weights { AreWeightsOf sig.now weights.now.list }
+    requires { AreWeightsOf sig.now weights.now.list }
     ensures ok { OnOk result (AreWeighed sig.now equations.now (linear weights.now.list)) }
     ensures terminates { OnOk result (IsTerminating sig.now (equations_of equations.now)) }
     ensures err { IfErr result (IsWeighFault sig.now equations.now (linear weights.now.list)) }

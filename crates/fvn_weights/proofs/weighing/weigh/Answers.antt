@@ -4,7 +4,7 @@ use Rattle.fvn_weights.proofs.Equations.{weighed_terminates, fault_is}
 use Rattle.fvn_weights.proofs.weighing.weigh.Goals as goal
 
 pub unfit-requires : goal.unfit-requires
-unfit-requires c = c.requires.weights.count
+unfit-requires c = c.requires
 
 pub returns-in-Some-clause-err : goal.returns-in-Some-clause-err
 returns-in-Some-clause-err c = c.in-Some.ensures
