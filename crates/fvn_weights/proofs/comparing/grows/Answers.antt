@@ -1,5 +1,5 @@
 -- The constants, or the numbers of a variable.
-use Rattle.std.proofs.Common.{◌<◌, ◌≡◌, inl, inr, refl, arith}
+use Rattle.std.proofs.Common.{◌<◌, ◌≡◌, inl, inr, refl, arith, true}
 use Rattle.fvn_weights.proofs.FitTests.{contradicts}
 use Rattle.fvn_weights.proofs.FormTests.{not_above, growth_of}
 use Rattle.fvn_weights.proofs.comparing.grows.Goals as goal

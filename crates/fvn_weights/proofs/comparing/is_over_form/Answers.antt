@@ -1,5 +1,5 @@
 -- The constant, or the number of a variable.
-use Rattle.std.proofs.Common.{◌<◌, ◌≡◌, List, ℕ, inl, inr, refl, sym, subst}
+use Rattle.std.proofs.Common.{◌<◌, ◌≡◌, List, ℕ, inl, inr, refl, sym, subst, true}
 use Rattle.fvn_terms.specs.declared.plain.Var.{Var}
 use Rattle.fvn_weights.specs.declared.limits.TheConstants.{MOST}
 use Rattle.fvn_weights.specs.inner.Numbers.{found}

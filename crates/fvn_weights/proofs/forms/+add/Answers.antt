@@ -4,6 +4,7 @@ use Rattle.std.proofs.lemmas.List.{take_all}
 use Rattle.fvn_terms.specs.declared.plain.Plain.{Plain}
 use Rattle.fvn_terms.specs.Term.{Terms}
 use Rattle.fvn_terms.specs.Plain.{term, terms}
+use Rattle.fvn_weights.specs.declared.forms.Form.{Form}
 use Rattle.fvn_weights.specs.Weighing.{linear}
 use Rattle.fvn_weights.specs.inner.Numbers.{capped}
 use Rattle.fvn_weights.specs.inner.Forms.{IsAdded, AreAdded}
@@ -38,14 +39,16 @@ add_all-returns t c =
     subst (λ (ts : Terms). AreAdded w c.args.factor c.args.f ts c.args.begun c.loop-t.form)
     (ap terms (take_all c.loop-t.t-index c.deref-t-items.result.now c.loop-t-test.false) ∙ whole) c.loop-t.invariant.added
 
-pub add_term-returns-in_ok-factors : goal.add_term-returns-in_ok-factors
-add_term-returns-in_ok-factors t c =
-    subst (λ (u : Plain). IsAdded (linear c.args.weights.now.list) c.args.factor (term u) c.args.form _) (sym c.in-Var.is)
-    (variable_added (linear c.args.weights.now.list) c.args.factor c.in-Var.x c.args.form _ refl c.in_ok-factors.ensures)
-
-pub add_term-returns-in_ok-all : goal.add_term-returns-in_ok-all
-add_term-returns-in_ok-all t c =
+pub add_term-returns-in_ok-factors-in-Var : goal.add_term-returns-in_ok-factors-in-Var
+add_term-returns-in_ok-factors-in-Var t c =
     let w = linear c.args.weights.now.list in
-    subst (λ (u : Plain). IsAdded w c.args.factor (term u) c.args.form c.in_ok-all.all) (sym c.in-App.is)
-    (head_added w c.args.factor c.in-App.f c.in-App.us c.args.form _ c.in_ok-all.all
-    (c.plus-more.ensures ∙ ap (λ n. capped (c.args.form.constant + n)) (c.times-own.ensures ∙ ap (λ n. capped (c.args.factor * n)) c.constant_at-adds.ensures)) refl c.in_ok-all.ensures)
+    let after : Form = record { constant = c.args.form.constant; factors = c.in_ok-factors-in-Var.factors } in
+    subst (λ (u : Plain). IsAdded w c.args.factor (term u) c.args.form after) (sym c.in-Var.is)
+    (variable_added w c.args.factor c.in-Var.x c.args.form after refl c.in_ok-factors-in-Var.ensures)
+
+pub add_term-returns-in_ok-all-in-App : goal.add_term-returns-in_ok-all-in-App
+add_term-returns-in_ok-all-in-App t c =
+    let w = linear c.args.weights.now.list in
+    subst (λ (u : Plain). IsAdded w c.args.factor (term u) c.args.form c.in_ok-all-in-App.all) (sym c.in-App.is)
+    (head_added w c.args.factor c.in-App.f c.in-App.us c.args.form _ c.in_ok-all-in-App.all
+    (c.plus-more.ensures ∙ ap (λ n. capped (c.args.form.constant + n)) (c.times-own.ensures ∙ ap (λ n. capped (c.args.factor * n)) c.constant_at-adds.ensures)) refl c.in_ok-all-in-App.ensures)

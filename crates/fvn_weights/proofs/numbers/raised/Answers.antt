@@ -11,8 +11,8 @@ raise_at-requires c = ap (λ (l : List (Var × ℕ)). place l c.args.x) (sym c.a
 pub returns-in-Some : goal.returns-in-Some
 returns-in-Some c = c.raise_at.ensures
 
-pub returns-in_ok-push : goal.returns-in_ok-push
-returns-in_ok-push c =
+pub returns-in_ok-push-in-None : goal.returns-in_ok-push-in-None
+returns-in_ok-push-in-None c =
     let ps : List (Var × ℕ) = c.args.factors.items in
     let nowhere = ap (λ (l : List (Var × ℕ)). place l c.args.x) (sym c.as_slice.ensures.value) ∙ sym c.place_of.ensures ∙ c.in-None.is in
-    subst (λ (l : List (Var × ℕ)). IsMore c.args.x c.args.more ps l) (sym c.in_ok-push.ensures.items) (raised_new c.args.x ps c.args.more nowhere)
+    subst (λ (l : List (Var × ℕ)). IsMore c.args.x c.args.more ps l) (sym c.in_ok-push-in-None.ensures.items) (raised_new c.args.x ps c.args.more nowhere)
