@@ -4,12 +4,12 @@ use Rattle.std.proofs.lemmas.List.{take_more}
 use Rattle.fvn_terms.specs.declared.plain.Var.{Var}
 use Rattle.fvn_terms.specs.declared.plain.OpId.{OpId}
 use Rattle.fvn_terms.specs.declared.plain.Plain.{Plain}
-use Rattle.fvn_terms.specs.Term.{Term, Terms, var, app, none, more, nodes, nodes_all}
+use Rattle.fvn_terms.specs.Term.{Term, Terms, var, app, none, nodes, nodes_all}
 use Rattle.fvn_terms.specs.Plain.{term, terms}
 use Rattle.fvn_weights.specs.declared.forms.Form.{Form}
 use Rattle.fvn_weights.specs.Values.{Linear, value, value_from, constant_of, factor_of, without_constants, one_at}
 use Rattle.fvn_weights.specs.inner.Numbers.{found, capped, IsMore}
-use Rattle.fvn_weights.specs.inner.Forms.{HasMore, IsAdded, AreAdded, IsFormOf}
+use Rattle.fvn_weights.specs.inner.Forms.{IsAdded, AreAdded, IsFormOf}
 use Rattle.fvn_weights.proofs.Capping.{head_more, argument_more}
 
 -- an argument has no more nodes than all

@@ -1,10 +1,9 @@
 -- Equations that fall, one after another, and what follows from weights under which all fall.
-use Rattle.std.proofs.Common.{◌≡◌, ◌≤◌, ◌<◌, ◌+◌, ℕ, zero, suc, List, [], ◌∷◌, map, None, Some, length, get_or, slice_get, Contains, refl, sym, subst, ap, ◌∙◌, inl, inr, arith, below_more}
+use Rattle.std.proofs.Common.{◌≡◌, ◌≤◌, ◌<◌, ◌+◌, ℕ, zero, suc, List, [], ◌∷◌, Some, length, get_or, slice_get, Contains, refl, sym, subst, ap, ◌∙◌, inl, inr, arith, below_more}
 use Rattle.std.proofs.lemmas.Bool.{cases_lt}
 use Rattle.std.proofs.lemmas.Option.{slice_get-get_or}
 use Rattle.fvn_base.proofs.Membership.{contains_cases, contains_none}
 use Rattle.fvn_base.proofs.Options.{Some-injective}
-use Rattle.fvn_terms.specs.declared.plain.OpId.{OpId}
 use Rattle.fvn_terms.specs.declared.declarations.Declarations.{Declarations}
 use Rattle.fvn_terms.specs.Term.{Term}
 use Rattle.fvn_terms.specs.Plain.{term}
@@ -14,7 +13,7 @@ use Rattle.fvn_theory.specs.Equations.{sides_of, equations_of}
 use Rattle.fvn_weights.specs.declared.fault.WeighFault.{WeighFault}
 use Rattle.fvn_weights.specs.declared.fault.WeighFault.TheVariants.{Shape, TooBig, Grows, NoMemory as OutOfMemory}
 use Rattle.fvn_weights.specs.Values.{Linear, Falls, constant_of, factor_of}
-use Rattle.fvn_weights.specs.Weighing.{IsBig, IsGrowing, IsFalling, IsFirstOf, AllFit, AreWeighed, IsWeighFault}
+use Rattle.fvn_weights.specs.Weighing.{IsFalling, AllFit, IsWeighFault}
 use Rattle.fvn_weights.specs.inner.Equations.{IsFaultOf, AllFall, IsEquationFault}
 use Rattle.fvn_weights.proofs.Falling.{fitting_weights_terminate}
 

@@ -11,7 +11,7 @@ use Rattle.fvn_terms.specs.declared.declarations.Declarations.{Declarations}
 use Rattle.fvn_terms.specs.Signature.{axioms, unknown}
 use Rattle.fvn_terms.specs.Equality.{identity, IsAssociative, IsCommutative}
 use Rattle.fvn_weights.specs.declared.weights.Weight.{Weight}
-use Rattle.fvn_weights.specs.Values.{Linear, Fits}
+use Rattle.fvn_weights.specs.Values.{Fits}
 use Rattle.fvn_weights.specs.Weighing.{linear, coefficient_in, AllFit}
 
 -- a test does not say both

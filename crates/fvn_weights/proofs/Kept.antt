@@ -3,7 +3,7 @@ use Rattle.std.proofs.Common.{◌≡◌, ◌+◌, ◌*◌, ℕ, refl, sym, ap, �
 use Rattle.fvn_terms.specs.declared.plain.Var.{Var}
 use Rattle.fvn_terms.specs.declared.plain.OpId.{OpId}
 use Rattle.fvn_terms.specs.declared.declarations.Declarations.{Declarations}
-use Rattle.fvn_terms.specs.Term.{Term, Terms, app, none, more}
+use Rattle.fvn_terms.specs.Term.{Term, Terms}
 use Rattle.fvn_terms.specs.Places.{AtOnePlace, AmongOnePlace, here, inside, first, later, stop, step}
 use Rattle.fvn_terms.specs.Equality.{two, constant, IsAxiom, swap, shift, right_identity, left_identity, IsAxiomEitherWay, BEqual}
 use Rattle.fvn_weights.specs.Values.{Linear, value, value_from, Fits}

@@ -1,5 +1,5 @@
 -- The value of a term is a linear form over its variables.
-use Rattle.std.proofs.Common.{◌≡◌, ◌≤◌, ◌<◌, ◌+◌, ◌*◌, ℕ, refl, sym, ap, ◌∙◌, inl, inr, arith}
+use Rattle.std.proofs.Common.{◌≡◌, ◌+◌, ◌*◌, ℕ, refl, sym, ap, ◌∙◌, inl, inr, arith}
 use Rattle.std.proofs.Math.Nat.{mul-add, mul_assoc, mul_comm}
 use Rattle.fvn_terms.specs.declared.plain.Var.{Var}
 use Rattle.fvn_terms.specs.declared.plain.OpId.{OpId}

@@ -62,8 +62,8 @@ fn raise_at(factors: &mut Vec<(Var, u64)>, i: usize, x: Var, more: u64)
     requires { place factors.old.items x ≡ Some i }
     ensures { IsMore x more factors.old.items factors.new.items }
 {
-    let before = number_of(factors.as_slice(), x);
-    let sum = plus(before, more);
+    let list = factors.as_slice();
+    let sum = plus(list[i].1, more);
     put(factors, i, x, sum);
 }
 

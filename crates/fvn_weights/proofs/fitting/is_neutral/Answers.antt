@@ -1,7 +1,6 @@
 -- What is asked of operators with an identity alone.
 use Rattle.std.proofs.Common.{◌≡◌, None, Some, refl, sym, subst, ◌∙◌}
 use Rattle.fvn_base.proofs.Options.{Some-injective}
-use Rattle.fvn_terms.specs.declared.plain.OpId.{OpId}
 use Rattle.fvn_weights.specs.Values.{IsNeutral}
 use Rattle.fvn_weights.specs.Weighing.{linear}
 use Rattle.fvn_weights.proofs.fitting.is_neutral.Goals as goal

@@ -1,5 +1,5 @@
 -- The coefficients are those of the operator.
-use Rattle.std.proofs.Common.{◌≡◌, ◌≤◌, ◌↔◌, ℕ, List, get_or, subst}
+use Rattle.std.proofs.Common.{◌≤◌, ◌↔◌, ℕ, List, get_or, subst}
 use Rattle.std.specs.Prelude.{IsTrue}
 use Rattle.fvn_weights.proofs.fitting.is_positive.Goals as goal
 

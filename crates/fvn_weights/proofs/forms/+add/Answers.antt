@@ -1,5 +1,5 @@
 -- A variable, a head and one argument more are added.
-use Rattle.std.proofs.Common.{◌≡◌, ◌+◌, ◌*◌, List, take, refl, sym, subst, ap, ◌∙◌, arith}
+use Rattle.std.proofs.Common.{◌≡◌, ◌+◌, ◌*◌, refl, sym, subst, ap, ◌∙◌, arith}
 use Rattle.std.proofs.lemmas.List.{take_all}
 use Rattle.fvn_terms.specs.declared.plain.Plain.{Plain}
 use Rattle.fvn_terms.specs.Term.{Terms}
