@@ -12,6 +12,6 @@ mod weighing;
 mod weights;
 
 pub use fault::WeighFault;
-pub use laws::weights_that_fit_show_termination;
+pub use laws::{numbers_are_compared_up_to, weights_that_fit_show_termination};
 pub use weighing::weigh;
 pub use weights::{Weight, Weights};
