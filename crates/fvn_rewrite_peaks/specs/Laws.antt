@@ -20,11 +20,13 @@ use Rattle.fvn_rewrite_peaks.specs.Peaks.{AreTwoPlaces, StepsJoin, OverlapsJoin}
 
 -- two places of one form are apart, or one stands within the other
 abbrev pub PlacesAreApartOrNested : Type 0
-PlacesAreApartOrNested = (a g b h t u v : FlatTerm) → IsReplaced a g t u → IsReplaced b h t v → AreTwoPlaces a g b h u v
+PlacesAreApartOrNested =
+    (a g b h t u v : FlatTerm) → IsReplaced a g t u → IsReplaced b h t v → AreTwoPlaces a g b h u v
 
 -- terms that are joinable at one place are joinable
 abbrev pub JoinsAreKeptInside : Type 0
-JoinsAreKeptInside = (d : Declarations) (equations : Equations) (t u : Term) → AtOnePlace (AreJoinable d equations) t u →
+JoinsAreKeptInside =
+    (d : Declarations) (equations : Equations) (t u : Term) → AtOnePlace (AreJoinable d equations) t u →
     AreJoinable d equations t u
 
 -- some sequence leads from each value of the first substitution to that of the second
@@ -33,12 +35,14 @@ ValuesLeadOn d equations s c = (x : Var) → (k : ℕ) × TermSequence d equatio
 
 -- then some sequence leads from each instance by the first to that by the second
 abbrev pub ValuesCarryInstances : Type 0
-ValuesCarryInstances = (d : Declarations) (equations : Equations) (s c : Substitution) → ValuesLeadOn d equations s c →
+ValuesCarryInstances =
+    (d : Declarations) (equations : Equations) (s c : Substitution) → ValuesLeadOn d equations s c →
     (t : Term) → (k : ℕ) × TermSequence d equations k (apply s t) (apply c t)
 
 -- where overlaps of the rules of admissible sort-decreasing equations join, any two steps from one term do
 abbrev pub OverlapsDecideSteps : Type 0
-OverlapsDecideSteps = (d : Declarations) → IsGood d → IsCompleted d → (equations : Equations) → AreAdmissible d equations →
+OverlapsDecideSteps =
+    (d : Declarations) → IsGood d → IsCompleted d → (equations : Equations) → AreAdmissible d equations →
     AreSortDecreasing d equations → OverlapsJoin d equations → StepsJoin d equations
 
 -- overlaps join where equations with sides of one kind are confluent
@@ -48,5 +52,6 @@ ConfluentEquationsJoinOverlaps = (d : Declarations) → IsGood d → IsCompleted
 
 -- where any two steps from one term join, equations that terminate are confluent
 abbrev pub TerminationAndJoinsGiveConfluence : Type 0
-TerminationAndJoinsGiveConfluence = (d : Declarations) → FitsKinds d → (equations : Equations) → HaveOneKind d equations →
+TerminationAndJoinsGiveConfluence =
+    (d : Declarations) → FitsKinds d → (equations : Equations) → HaveOneKind d equations →
     IsTerminating d equations → StepsJoin d equations → IsConfluent d equations

@@ -52,8 +52,8 @@ HasOnes w f = (w.coefficient f 0 ≡ 1) × (w.coefficient f 1 ≡ 1)
 abbrev pub IsNeutral : Linear → OpId → OpId → Type 0
 IsNeutral w f e = (w.coefficient f 0 ≡ 1) × ((w.coefficient f 1 ≡ 1) × ((w.constant f ≡ 0) × (w.constant e ≡ 0)))
 
--- The coefficients are positive. Where f is commutative, they are equal; where it is associative or has an identity, they
--- are one; an identity, and what has one, add nothing.
+-- The coefficients are positive. Where f is commutative, they are equal; where it is associative or has an identity,
+-- they are one; an identity, and what has one, add nothing.
 pub record Fits (d : Declarations) (w : Linear) (f : OpId) : Type 0 where
   pub positive : (i : ℕ) → 1 ≤ w.coefficient f i
   pub alike : IsCommutative (axioms d f) → w.coefficient f 0 ≡ w.coefficient f 1

@@ -1,5 +1,6 @@
 -- What is promised of weighing: the first operator whose weight does not fit, or the first equation that does not fall.
-use Rattle.std.specs.Prelude.{◌≡◌, ◌≤◌, ◌<◌, ◌⊎◌, ℕ, suc, List, [], length, slice_get, slice_index_or, Option, Some, None}
+use Rattle.std.specs.Prelude.{◌≡◌, ◌≤◌, ◌<◌, ◌⊎◌, ℕ, suc, Option, Some, None}
+use Rattle.std.specs.Prelude.{List, [], length, slice_get, slice_index_or}
 use Rattle.fvn_terms.specs.declared.plain.Var.{Var}
 use Rattle.fvn_terms.specs.declared.plain.OpId.{OpId}
 use Rattle.fvn_terms.specs.declared.declarations.Declarations.{Declarations}
@@ -32,7 +33,10 @@ coefficient_in o i = slice_index_or (coefficients_in o) i 1
 
 -- the weights of a list, by the numbers of operators
 abbrev pub linear : List Weight → Linear
-linear ws = record { constant = λ f. constant_in (slice_get ws f.0); coefficient = λ f. coefficient_in (slice_get ws f.0) }
+linear ws = record {
+  constant = λ f. constant_in (slice_get ws f.0);
+  coefficient = λ f. coefficient_in (slice_get ws f.0);
+}
 
 -- a number in the value of the term is too large to be compared
 abbrev pub IsOver : Linear → Term → Type 0

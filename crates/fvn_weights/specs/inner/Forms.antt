@@ -22,7 +22,8 @@ module _ (w : Linear) (k : ℕ) where
 
   -- what the arguments of f add is added k times
   abbrev pub AreAdded : OpId → Terms → Form → Form → Type 0
-  AreAdded f ts = HasMore (k * value_from w (λ x. 0) f 0 ts) (λ x. k * value_from (without_constants w) (one_at x) f 0 ts)
+  AreAdded f ts =
+      HasMore (k * value_from w (λ x. 0) f 0 ts) (λ x. k * value_from (without_constants w) (one_at x) f 0 ts)
 
 -- the form has the numbers of the term's value, up to the greatest number
 pub record IsFormOf (w : Linear) (t : Term) (form : Form) : Type 0 where
