@@ -23,7 +23,7 @@ steps_of word = if nat_le 1 (length word) && nat_le (length word) 9 then allowed
 -- the first word is `verify`, and those of the problem and of the bindings are no options
 abbrev pub is_verify : (name problem bindings : List ℕ) → Bool
 is_verify name problem bindings =
-    pointwise nat_eq name (codes "verify") && not (is_option problem) && not (is_option bindings)
+    (pointwise nat_eq name (codes "verify") && not (is_option problem)) && not (is_option bindings)
 
 -- The command that the words are: `check` alone, `unify` and one word more, or `verify` and two; these are no options.
 -- Behind those of `verify`, `--steps` and a number may stand.
