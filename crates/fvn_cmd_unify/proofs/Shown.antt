@@ -141,9 +141,11 @@ module _ (m : Contents) (p : Problem) where
     pub kept : IsHeadlineOfLines (unifiers_of m p) (IsWhole found) shown.answer.lines
     kept = record { denoted = denoted; sound = sound; apart = apart; complete = λ whole trusted. complete whole }
 
+as_twin : (m : Contents) (p : Problem) (s a : Substitution) → Unifies m p a × IsInstanceOf m p a s × IsInstanceOf m p s a → IsTwin m p s a
+as_twin m p s a t = record { unifies = t.0; below = t.1; above = t.2 }
+
 pub shown_lines_keep : LoadedModulesAreGood → ProblemsAreKinded → LinesDenoteUnifiers → ShownLinesKeepThePromise
 shown_lines_keep good kinded denote bytes word m p asked found solution text shown =
     let g = good bytes m asked.module_text in
     let k = kinded m.signature m.names (module-names m g.0) word p asked.problem_text in
-    let twins = λ s is line of r d. let t = denote m p g.1.fits k.1 s is line of r d in record { unifies = t.0; below = t.1; above = t.2 } in
-    kept m p twins found solution text shown
+    kept m p (λ s is line of r d. as_twin m p s (on_variables p.vars r) (denote m p g.1.fits k.1 s is line of r d)) found solution text shown

@@ -16,8 +16,11 @@ use Rattle.fvn_tool.specs.Asked.{Question, summary, unifiers, verdict, Asked, Is
 use Rattle.fvn_tool.specs.Answered.{AnswerTo, status_of, Answers, IsAnswered, IsReply}
 use Rattle.fvn_tool.specs.Outcomes.{usage_line, IsOutcome, no_command, too_long, replied}
 use Rattle.fvn_tool.specs.Claims.{RefusesWords, Asks, AnswersCommand, IsReport}
+use Rattle.fvn_cmd_laws.specs.Laws.{VerdictsAreExact, AnswersAreExact}
 use Rattle.fvn_tool.specs.Laws.{QuestionsAreDetermined}
+use Rattle.fvn_tool.specs.inner.Steps.{IsGivenOutcome}
 use Rattle.fvn_tool.proofs.Grammar.{one_command}
+use Rattle.fvn_tool.proofs.Replying.{given_outcome}
 use Rattle.fvn_tool.proofs.Outcomes.{Leaves-weaker, Leaves-goes, answering_spoken, refusing_spoken, refusing_not_answering, refused_refusing, without_fault}
 
 -- Where the source tells its bytes
@@ -123,19 +126,21 @@ module _ (run : Run) (h : Leaves (IsOutcome run.words run.source) run.status run
           (b.0, b.1.0);
     }
 
-  -- the outcome, what stays the same and the causes of faults are all that there is to prove of a run
-  pub report : QuestionsAreDetermined → (run.status ≡ ReadFault → HasFailed run.source) → (run.status ≡ WriteFault → HasFailed run.sink) →
-      (AreNoCommand run.words → (run.status ≡ Usage) ⊎ (run.status ≡ WriteFault)) →
-      (ReadNothing run.words → run.source.after ≡ run.source.before) → (IsSilent run.status → run.sink.after ≡ run.sink.before) →
-      (run.source.faults_before < run.source.faults_after → run.status ≡ ReadFault) → IsReport run
-  report questions read write always unread unwritten failed = record {
-    outcome = h;
-    unread = unread;
-    unwritten = unwritten;
-    read_fault = read;
-    write_fault = write;
-    failed_read = failed;
-    written = λ no_read no_write. without_fault run.status (λ e. no_read (read e)) (λ e. no_write (write e));
-    usage = refuses_words always;
-    answers = answers questions;
-  }
+-- the outcome that the steps give, what stays the same and the causes of faults are all that there is to prove of a run
+pub report : VerdictsAreExact → AnswersAreExact → QuestionsAreDetermined → (run : Run) → Leaves (IsGivenOutcome run.words run.source) run.status run.sink → (run.status ≡ ReadFault → HasFailed run.source) → (run.status ≡ WriteFault → HasFailed run.sink) →
+    (AreNoCommand run.words → (run.status ≡ Usage) ⊎ (run.status ≡ WriteFault)) →
+    (ReadNothing run.words → run.source.after ≡ run.source.before) → (IsSilent run.status → run.sink.after ≡ run.sink.before) →
+    (run.source.faults_before < run.source.faults_after → run.status ≡ ReadFault) → IsReport run
+report verdicts exact questions run given read write always unread unwritten failed =
+    let h = Leaves-weaker (IsGivenOutcome run.words run.source) (IsOutcome run.words run.source) (given_outcome verdicts exact run.words run.source) run.status run.sink given in
+    record {
+      outcome = h;
+      unread = unread;
+      unwritten = unwritten;
+      read_fault = read;
+      write_fault = write;
+      failed_read = failed;
+      written = λ no_read no_write. without_fault run.status (λ e. no_read (read e)) (λ e. no_write (write e));
+      usage = refuses_words run h always;
+      answers = answers run h questions;
+    }

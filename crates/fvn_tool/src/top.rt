@@ -12,7 +12,7 @@ ghost use Rattle.fvn_tool.specs.inner.Steps.{IsGivenOutcome};
 use crate::laws::questions_are_determined;
 use crate::{answer, words};
 use fvn_base::limits::MODULE_BYTES;
-use fvn_cmd::{Answer, Status, refusals_are_lawful};
+use fvn_cmd::{Answer, Status};
 use fvn_cmd_laws::{answers_are_exact, verdicts_are_exact};
 use fvn_outside::{ReadAll, Sink, Source, WriteFailed, read_all, write_all};
 use fvn_terms::NoMemory;
@@ -104,7 +104,6 @@ pub fn run<S: Source, K: Sink>(
     ensures no_read_fault { NeverFails S.faults → result ≢ Status.ReadFault }
     ensures no_write_fault { NeverFails K.faults → result ≢ Status.WriteFault }
 {
-    refusals_are_lawful();
     verdicts_are_exact();
     answers_are_exact();
     questions_are_determined();
