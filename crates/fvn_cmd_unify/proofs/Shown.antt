@@ -104,7 +104,7 @@ module _ (m : Contents) (p : Problem) where
     given line c = (shown.answer.in_order.exact line).0 c
 
     unifies : (s : Substitution) → Contains found.values s → Unifies m p s
-    unifies s c = All-contains found.values s solution.headline.sound c
+    unifies s c = All-contains (Unifies m p) found.values s solution.headline.sound c
 
     -- what it denotes is the twin of that value
     twin : (s : Substitution) → Contains found.values s → (line : Text) → IsLineOf m p s line → (a : Substitution) → DenotesOnVariables m p line a → IsTwin s a
