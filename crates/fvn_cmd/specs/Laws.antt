@@ -1,5 +1,5 @@
 -- What holds of all that is read, and of all refusals.
-use Rattle.std.specs.Prelude.{◌≡◌, ℕ, List}
+use Rattle.std.specs.Prelude.{ℕ, List}
 use Rattle.fvn_module.specs.Contents.{Contents}
 use Rattle.fvn_module_loading.specs.Loading.{IsLoaded, AreNotLoaded}
 use Rattle.fvn_module_loading.specs.Laws.{LoadedModulesAreDetermined, LoadFaultsAreDetermined, FaultyTextsAreNotLoaded, LossesAreDetermined}
