@@ -1,5 +1,5 @@
 -- What answers say, and that a run has one outcome, but for answers to one question that agree.
-use Rattle.std.proofs.Common.{◌⊎◌, ℕ, List, Some, sym, ◌∙◌, subst, inl, inr}
+use Rattle.std.proofs.Common.{◌⊎◌, ℕ, List, sym, ◌∙◌, subst, inl, inr}
 use Rattle.fvn_module.specs.Contents.{Contents}
 use Rattle.fvn_problems.specs.declared.problem.Problem.{Problem}
 use Rattle.fvn_problems.specs.declared.bindings.Bindings.{Bindings}
@@ -12,7 +12,7 @@ use Rattle.fvn_cmd_laws.specs.Laws.{SortsAreToldOnce, VerdictsAreExact, AnswersA
 use Rattle.fvn_tool.specs.Words.{Command, IsCommand}
 use Rattle.fvn_tool.specs.Asked.{Question, summary, unifiers, verdict, Asked}
 use Rattle.fvn_tool.specs.Answered.{Answers, IsReply}
-use Rattle.fvn_tool.specs.Outcomes.{IsOutcome, no_command, too_long, replied}
+use Rattle.fvn_tool.specs.Outcomes.{no_command, too_long, replied}
 use Rattle.fvn_tool.specs.Laws.{QuestionsAreDetermined, SaysExactly, AnswersSayExactly, AgreeOn, AgreeAsAnswers, OutcomesAreDetermined}
 use Rattle.fvn_tool.proofs.Claims.{came, outcome_usage}
 

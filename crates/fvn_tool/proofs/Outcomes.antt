@@ -11,7 +11,7 @@ use Rattle.fvn_cmd.specs.Refusing.{IsRefusal}
 use Rattle.fvn_cmd_laws.proofs.Verified.{verdict_answering}
 use Rattle.fvn_cmd_laws.proofs.Unified.{end_answering}
 use Rattle.fvn_tool.specs.Words.{Command, check, unify, verify}
-use Rattle.fvn_tool.specs.Runs.{Outside, Leaves, WritesWhole}
+use Rattle.fvn_tool.specs.Runs.{Outside, Leaves}
 use Rattle.fvn_tool.specs.Asked.{too_long_line, IsRefused}
 use Rattle.fvn_tool.specs.Outcomes.{usage_line}
 use Rattle.fvn_tool.specs.inner.Reading.{command_of}

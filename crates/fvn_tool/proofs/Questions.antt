@@ -10,8 +10,8 @@ use Rattle.fvn_cmd.specs.Refusing.{IsRefusal, IsFirstRefusal, IsFirstWordRefusal
 use Rattle.fvn_cmd.specs.Laws.{ReadersAreLawful, RefusalsAreLawful}
 use Rattle.fvn_module_loading.specs.Loading.{IsLoaded, AreNotLoaded}
 use Rattle.fvn_tool.specs.Words.{Command, check, unify, verify}
-use Rattle.fvn_tool.specs.Asked.{Question, summary, unifiers, verdict, Asked, words_of, IsQuestion, IsShort, IsAsked, IsRefused}
-use Rattle.fvn_tool.specs.Laws.{QuestionsAreDetermined, IsRefusedRightly, RefusalsAreRight}
+use Rattle.fvn_tool.specs.Asked.{Question, unifiers, verdict, Asked, words_of, IsQuestion, IsShort, IsAsked, IsRefused}
+use Rattle.fvn_tool.specs.Laws.{QuestionsAreDetermined, RefusalsAreRight}
 
 -- the words of what is asked are what they should be
 stand : (m : Contents) (c : Command) (q : Question) → IsQuestion m c q → AllStand m (words_of c)
