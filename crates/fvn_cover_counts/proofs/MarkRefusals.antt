@@ -72,14 +72,14 @@ module _ (out : Unkept) (m n : Marks) where
 
   -- marks without other operators allow all
   pub others_allow : (r : Bool) → r ≡ false → IsTrue r ↔ ((m.out ≡ out) × (n.out ≡ out)) → MarksAllow out m n
-  others_allow r no k e f = absurd (false≢true (sym no ∙ k.1 (e, f)))
+  others_allow r refused k e f = absurd (false≢true (sym refused ∙ k.1 (e, f)))
 
   -- else the words decide
   pub words_decide : (r : Bool) → IsTrue r ↔ (IsWithin m.up n.up × IsWithin n.down m.down) → (m.out ≡ out) × (n.out ≡ out) → IsTrue r ↔ MarksAllow out m n
   words_decide r k e = (λ t. λ f g. k.0 t, λ h. k.1 (h e.0 e.1))
 
   pub words_refuse : (r : Bool) → IsTrue r ↔ (IsWithin m.up n.up × IsWithin n.down m.down) → (m.out ≡ out) × (n.out ≡ out) → r ≡ false → NeverMatchMarked out m n
-  words_refuse r k e no d ts us unkept a c s matcher = false≢true (sym no ∙ k.1 (matched_within d ts us unkept a c e.0 e.1 s matcher.1))
+  words_refuse r k e refused d ts us unkept a c s matcher = false≢true (sym refused ∙ k.1 (matched_within d ts us unkept a c e.0 e.1 s matcher.1))
 
 -- two words of operators
 pub same_unkept : (a b : Unkept) → IsTrue (nat_eq a.bits b.bits) ↔ (a ≡ b)
