@@ -1,23 +1,20 @@
 -- Words that are made of a profile are marks of its forms.
-use Rattle.std.proofs.Common.{◌≡◌, ◌≢◌, ℕ, zero, suc, ◌+◌, ◌*◌, ◌%◌, ◌<◌, ◌≤◌, min, max, true, List, [], ◌∷◌, ◌++◌, length, map, replicate, get_or, Option, Some, None, refl, sym, ap, subst, ◌∙◌, ◌⊎◌, ◌↔◌, inl, inr, arith}
+use Rattle.std.proofs.Common.{◌≡◌, ◌≢◌, ℕ, zero, suc, ◌+◌, ◌*◌, ◌%◌, ◌<◌, ◌≤◌, min, max, List, [], ◌∷◌, ◌++◌, length, replicate, Option, Some, None, refl, sym, ap, subst, ◌∙◌, ◌⊎◌, ◌↔◌, inl, inr, arith}
 use Rattle.std.specs.Prelude.{Contains}
 use Rattle.std.proofs.Math.ListN.{get_or-eq_default}
 use Rattle.std.proofs.lemmas.List.{length-map}
 use Rattle.std.proofs.lemmas.List.Elements.{Contains-append_left, Contains-append_right, Contains-append_cases}
-use Rattle.fvn_base.proofs.Membership.{contains_here, contains_later, contains_cases, contains_none}
-use Rattle.fvn_terms.specs.declared.plain.Var.{Var}
+use Rattle.fvn_base.proofs.Membership.{contains_here, contains_cases, contains_none}
 use Rattle.fvn_terms.specs.declared.plain.OpId.{OpId}
 use Rattle.fvn_terms.specs.declared.declarations.Declarations.{Declarations}
-use Rattle.fvn_terms.specs.Signature.{unknown, declared, axioms}
+use Rattle.fvn_terms.specs.Signature.{unknown, axioms}
 use Rattle.fvn_terms.specs.Equality.{identity}
 use Rattle.fvn_forms.specs.Flat.{FlatTerm, plain}
 use Rattle.fvn_signature.specs.inner.Words.{Has}
 use Rattle.fvn_cover_counts.specs.declared.symbols.Symbol.{Symbol}
 use Rattle.fvn_cover_counts.specs.declared.symbols.Symbol.TheVariants.{Variable, Operator}
-use Rattle.fvn_cover_counts.specs.declared.rows.Row.{Row}
 use Rattle.fvn_cover_counts.specs.declared.profile.Profile.{Profile}
 use Rattle.fvn_cover_counts.specs.declared.marks.Unkept.{Unkept}
-use Rattle.fvn_cover_counts.specs.declared.marks.Marks.{Marks}
 use Rattle.fvn_cover_counts.specs.Weights.{times}
 use Rattle.fvn_cover_counts.specs.Places.{column, places_from, places}
 use Rattle.fvn_cover_counts.specs.Profiles.{IsProfile, AreAtMost}

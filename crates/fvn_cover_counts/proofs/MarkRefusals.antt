@@ -1,6 +1,6 @@
 -- Where forms are matched, their marks allow it.
-use Rattle.std.proofs.Common.{◌≡◌, ◌≢◌, ℕ, ◌<◌, Bool, true, false, nat_eq, List, [], ◌∷◌, length, map, refl, sym, ap, subst, ◌∙◌, ◌⊎◌, ◌↔◌, inl, inr, arith}
-use Rattle.std.specs.Prelude.{Contains, IsTrue}
+use Rattle.std.proofs.Common.{◌≡◌, ℕ, ◌<◌, Bool, false, nat_eq, List, [], ◌∷◌, length, map, refl, sym, ap, subst, ◌∙◌, ◌↔◌, inl, inr, arith}
+use Rattle.std.specs.Prelude.{IsTrue}
 use Rattle.std.specs.List.{AllZip}
 use Rattle.std.proofs.lemmas.Bool.{eqb-true, eq-eqb, false≢true}
 use Rattle.fvn_terms.specs.declared.plain.OpId.{OpId}
@@ -12,7 +12,7 @@ use Rattle.fvn_cover_counts.specs.declared.symbols.Symbol.TheVariants.{Variable,
 use Rattle.fvn_cover_counts.specs.declared.marks.Unkept.{Unkept}
 use Rattle.fvn_cover_counts.specs.declared.marks.Marks.{Marks}
 use Rattle.fvn_cover_counts.specs.Weights.{IsKept}
-use Rattle.fvn_cover_counts.specs.Places.{column, places}
+use Rattle.fvn_cover_counts.specs.Places.{column}
 use Rattle.fvn_cover_counts.specs.Profiles.{CountsAllow}
 use Rattle.fvn_cover_counts.specs.Marks.{AreUnkept, KeepsOperator, HasVariableAlone, AreMarks, IsWithin, MarksAllow, NeverMatchMarked}
 use Rattle.fvn_cover_counts.specs.inner.Bits.{operator_bit}

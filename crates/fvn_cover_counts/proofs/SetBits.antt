@@ -1,6 +1,6 @@
 -- Which bits are set in the words that are made of rows and operators.
-use Rattle.std.proofs.Common.{◌≡◌, ◌≢◌, ℕ, zero, suc, ◌+◌, ◌%◌, ◌<◌, ◌≤◌, Bool, true, false, nat_eq, ◌||◌, if◌then◌else◌, List, [], ◌∷◌, length, get_or, Option, Some, None, refl, sym, ap, subst, ◌∙◌, ◌⊎◌, ◌↔◌, inl, inr, arith}
-use Rattle.std.specs.Prelude.{Contains, IsTrue}
+use Rattle.std.proofs.Common.{◌≡◌, ℕ, zero, suc, ◌+◌, ◌%◌, ◌<◌, Bool, true, false, nat_eq, ◌||◌, if◌then◌else◌, List, [], ◌∷◌, length, get_or, Option, Some, None, refl, sym, ap, subst, ◌∙◌, ◌⊎◌, ◌↔◌, inl, inr, arith}
+use Rattle.std.specs.Prelude.{Contains}
 use Rattle.std.proofs.lemmas.Bool.{eqb-true, eq-eqb, false≢true}
 use Rattle.fvn_base.proofs.Membership.{contains_here, contains_later, contains_cases, contains_none}
 use Rattle.fvn_terms.specs.declared.plain.OpId.{OpId}
@@ -11,7 +11,7 @@ use Rattle.fvn_signature.specs.inner.Words.{Has}
 use Rattle.fvn_cover_counts.specs.declared.symbols.Symbol.{Symbol}
 use Rattle.fvn_cover_counts.specs.declared.symbols.Symbol.TheVariants.{Variable, Operator}
 use Rattle.fvn_cover_counts.specs.declared.rows.Row.{Row}
-use Rattle.fvn_cover_counts.specs.inner.Bits.{operator_bit, has_operator, place_bit, pair_bit, with_bit, with_places, with_symbol_places, with_operators, are_among, with_pair, with_pairs, with_first_pairs, with_symbol_pairs, with_variables, with_identity, with_identities}
+use Rattle.fvn_cover_counts.specs.inner.Bits.{operator_bit, has_operator, place_bit, pair_bit, with_bit, with_places, with_symbol_places, with_operators, are_among, with_pair, with_pairs, with_symbol_pairs, with_variables, with_identity, with_identities}
 use Rattle.fvn_cover_counts.proofs.WordBits.{Among, has_with_bit, gained_none, gained_more}
 
 -- the operator at some of the places falls on the bit

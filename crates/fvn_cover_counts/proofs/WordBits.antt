@@ -1,5 +1,5 @@
 -- Bits of words: which are set in a word that gains some, and which words lie within others.
-use Rattle.std.proofs.Common.{◌≡◌, ◌≢◌, ℕ, zero, suc, ◌+◌, ◌^◌, ◌<◌, min, max, bit_or, Bool, true, false, nat_eq, List, [], ◌∷◌, refl, sym, subst, ◌∙◌, ◌⊎◌, ◌↔◌, inl, inr, arith}
+use Rattle.std.proofs.Common.{◌≡◌, ℕ, zero, suc, ◌^◌, ◌<◌, min, max, bit_or, nat_eq, List, [], ◌∷◌, refl, sym, subst, ◌∙◌, ◌⊎◌, ◌↔◌, inl, inr, arith}
 use Rattle.std.specs.Prelude.{bit_and, Contains, IsTrue}
 use Rattle.std.specs.Int.{bit_at}
 use Rattle.std.proofs.lemmas.Bool.{cases_eq, eqb-true, eq-eqb}

@@ -1,7 +1,6 @@
 -- terms and values were counted
 use Rattle.std.proofs.Common.{◌≡◌, ◌+◌, ◌++◌, length, ap, arith}
 use Rattle.std.proofs.lemmas.List.{length-append}
-use Rattle.fvn_cover_counts.specs.Profiles.{IsProfile}
 use Rattle.fvn_cover.specs.Covering.{values_of}
 use Rattle.fvn_cover.proofs.keeping.marks.Goals as goal
 

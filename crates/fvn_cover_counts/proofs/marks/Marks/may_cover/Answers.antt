@@ -1,5 +1,5 @@
 -- other operators, or the words decide
-use Rattle.std.proofs.Common.{true, false, refl}
+use Rattle.std.proofs.Common.{refl}
 use Rattle.fvn_cover_counts.proofs.MarkRefusals.{others_allow, words_decide, words_refuse}
 use Rattle.fvn_cover_counts.proofs.marks.Marks.may_cover.Goals as goal
 
