@@ -1,6 +1,7 @@
 -- what was found says whether there is a covering
 use Rattle.std.proofs.Common.{◌≡◌, ◌++◌}
 use Rattle.fvn_cover_counts.specs.Profiles.{IsProfile}
+use Rattle.fvn_cover_counts.specs.Marks.{AreMarks}
 use Rattle.fvn_cover.specs.Covering.{values_of}
 use Rattle.fvn_cover.proofs.CoverFacts.{length_values, values_fit, both_fit, found_covers, refused}
 use Rattle.fvn_cover.proofs.covering.Shown.is_covering.Goals as goal
@@ -10,9 +11,18 @@ returns-then-not-may_cover c =
     let d = c.args.sig.now in
     let a = c.args.self.now in
     let b = c.args.other.now in
+    let p : AreMarks (a.terms ++ values_of a) c.self.inside.marks = rw c.self.view_is at c.self.invariant.2 in
+    let q : AreMarks (b.terms ++ values_of b) c.other.inside.marks = rw c.other.view_is at c.other.invariant.2 in
+    refused d a b c.requires.alike (c.may_cover.ensures.none c.if-not-may_cover.true d (a.terms ++ values_of a) (b.terms ++ values_of b) c.requires.out p q)
+
+pub returns-then-not-may_cover-2 : goal.returns-then-not-may_cover-2
+returns-then-not-may_cover-2 c =
+    let d = c.args.sig.now in
+    let a = c.args.self.now in
+    let b = c.args.other.now in
     let p : IsProfile (a.terms ++ values_of a) c.self.inside.profile.now = rw c.self.view_is at c.self.invariant.1 in
     let q : IsProfile (b.terms ++ values_of b) c.other.inside.profile.now = rw c.other.view_is at c.other.invariant.1 in
-    refused d a b c.requires.alike (c.may_cover.ensures.none c.if-not-may_cover.true (a.terms ++ values_of a) (b.terms ++ values_of b) p q)
+    refused d a b c.requires.alike (c.may_cover-2.ensures.none c.if-not-may_cover-2.true (a.terms ++ values_of a) (b.terms ++ values_of b) p q)
 
 pub matches_both-requires-clause-patterns : goal.matches_both-requires-clause-patterns
 matches_both-requires-clause-patterns c =
