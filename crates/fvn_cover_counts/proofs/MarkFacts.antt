@@ -10,7 +10,6 @@ use Rattle.fvn_terms.specs.declared.declarations.Declarations.{Declarations}
 use Rattle.fvn_terms.specs.Signature.{unknown, axioms}
 use Rattle.fvn_terms.specs.Equality.{identity}
 use Rattle.fvn_forms.specs.Flat.{FlatTerm, plain}
-use Rattle.fvn_signature.specs.inner.Words.{Has}
 use Rattle.fvn_cover_counts.specs.declared.symbols.Symbol.{Symbol}
 use Rattle.fvn_cover_counts.specs.declared.symbols.Symbol.TheVariants.{Variable, Operator}
 use Rattle.fvn_cover_counts.specs.declared.profile.Profile.{Profile}
@@ -18,7 +17,7 @@ use Rattle.fvn_cover_counts.specs.declared.marks.Unkept.{Unkept}
 use Rattle.fvn_cover_counts.specs.Weights.{times}
 use Rattle.fvn_cover_counts.specs.Places.{column, places_from, places}
 use Rattle.fvn_cover_counts.specs.Profiles.{IsProfile, AreAtMost}
-use Rattle.fvn_cover_counts.specs.Marks.{IsUnkeptBit, AreUnkept, KeepsOperator, HasVariableAlone, AreMarks}
+use Rattle.fvn_cover_counts.specs.Marks.{Has, IsUnkeptBit, AreUnkept, KeepsOperator, HasVariableAlone, AreMarks}
 use Rattle.fvn_cover_counts.specs.inner.Bits.{operator_bit, pair_bit, with_operators, with_variables, with_identities}
 use Rattle.fvn_cover_counts.proofs.Parts.{at_most_or_more}
 use Rattle.fvn_cover_counts.proofs.WordBits.{Among, has_none}

@@ -7,14 +7,13 @@ use Rattle.fvn_terms.specs.declared.plain.OpId.{OpId}
 use Rattle.fvn_terms.specs.declared.declarations.Declarations.{Declarations}
 use Rattle.fvn_terms.specs.Substitution.{Substitution}
 use Rattle.fvn_forms.specs.Flat.{FlatTerm, plain}
-use Rattle.fvn_signature.specs.inner.Words.{Has}
 use Rattle.fvn_cover_counts.specs.declared.symbols.Symbol.TheVariants.{Variable, Operator}
 use Rattle.fvn_cover_counts.specs.declared.marks.Unkept.{Unkept}
 use Rattle.fvn_cover_counts.specs.declared.marks.Marks.{Marks}
 use Rattle.fvn_cover_counts.specs.Weights.{IsKept}
 use Rattle.fvn_cover_counts.specs.Places.{column}
 use Rattle.fvn_cover_counts.specs.Profiles.{CountsAllow}
-use Rattle.fvn_cover_counts.specs.Marks.{AreUnkept, KeepsOperator, HasVariableAlone, AreMarks, IsWithin, MarksAllow, NeverMatchMarked}
+use Rattle.fvn_cover_counts.specs.Marks.{Has, AreUnkept, KeepsOperator, HasVariableAlone, AreMarks, IsWithin, MarksAllow, NeverMatchMarked}
 use Rattle.fvn_cover_counts.specs.inner.Bits.{operator_bit}
 use Rattle.fvn_cover_counts.proofs.Occurring.{occurs_places, places_occur}
 use Rattle.fvn_cover_counts.proofs.Refusals.{Makes, matched_allow}

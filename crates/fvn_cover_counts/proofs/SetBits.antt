@@ -7,10 +7,10 @@ use Rattle.fvn_terms.specs.declared.plain.OpId.{OpId}
 use Rattle.fvn_terms.specs.declared.declarations.OpDecl.{OpDecl}
 use Rattle.fvn_terms.specs.Signature.{unknown}
 use Rattle.fvn_terms.specs.Equality.{identity}
-use Rattle.fvn_signature.specs.inner.Words.{Has}
 use Rattle.fvn_cover_counts.specs.declared.symbols.Symbol.{Symbol}
 use Rattle.fvn_cover_counts.specs.declared.symbols.Symbol.TheVariants.{Variable, Operator}
 use Rattle.fvn_cover_counts.specs.declared.rows.Row.{Row}
+use Rattle.fvn_cover_counts.specs.Marks.{Has}
 use Rattle.fvn_cover_counts.specs.inner.Bits.{operator_bit, has_operator, place_bit, pair_bit, with_bit, with_places, with_symbol_places, with_operators, are_among, with_pair, with_pairs, with_symbol_pairs, with_variables, with_identity, with_identities}
 use Rattle.fvn_cover_counts.proofs.WordBits.{Among, has_with_bit, gained_none, gained_more}
 

@@ -5,8 +5,7 @@ use Rattle.std.specs.Int.{bit_at}
 use Rattle.std.proofs.lemmas.Bool.{cases_eq, eqb-true, eq-eqb}
 use Rattle.std.proofs.lemmas.Nat.Bits.{bit_at_and, bit_at_or, bit_at-lt, bit_at-zero, bit_at-pow_same, bit_at-pow_other, same_from_bits}
 use Rattle.fvn_base.proofs.Membership.{contains_here, contains_later, contains_cases, contains_none}
-use Rattle.fvn_signature.specs.inner.Words.{Has}
-use Rattle.fvn_cover_counts.specs.Marks.{IsWithin}
+use Rattle.fvn_cover_counts.specs.Marks.{Has, IsWithin}
 use Rattle.fvn_cover_counts.specs.inner.Bits.{with_bit}
 
 max_one : (x y : ℕ) → x < 2 → y ≡ 1 → max x y ≡ 1

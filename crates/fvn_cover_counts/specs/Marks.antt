@@ -1,5 +1,6 @@
 -- Marks of a list of flat forms: words of facts, by which most coverings are refused before anything is compared.
 use Rattle.std.specs.Prelude.{◌≡◌, ◌≢◌, ◌⊎◌, ◌↔◌, ◌<◌, ℕ, List, [], length, Contains, Some}
+use Rattle.std.specs.Int.{bit_at}
 use Rattle.fvn_terms.specs.declared.plain.Var.{Var}
 use Rattle.fvn_terms.specs.declared.plain.OpId.{OpId}
 use Rattle.fvn_terms.specs.declared.declarations.Declarations.{Declarations}
@@ -7,12 +8,15 @@ use Rattle.fvn_terms.specs.Signature.{axioms}
 use Rattle.fvn_terms.specs.Equality.{identity}
 use Rattle.fvn_forms.specs.Flat.{FlatTerm}
 use Rattle.fvn_match.specs.Matching.{HasNoMatcher}
-use Rattle.fvn_signature.specs.inner.Words.{Has}
 use Rattle.fvn_cover_counts.specs.declared.symbols.Symbol.TheVariants.{Variable, Operator}
 use Rattle.fvn_cover_counts.specs.declared.marks.Unkept.{Unkept}
 use Rattle.fvn_cover_counts.specs.declared.marks.Marks.{Marks}
 use Rattle.fvn_cover_counts.specs.Places.{places}
 use Rattle.fvn_cover_counts.specs.inner.Bits.{operator_bit, place_bit, pair_bit}
+
+-- the word has the bit
+abbrev pub Has : ℕ → ℕ → Type 0
+Has word b = bit_at word b ≡ 1
 
 -- an operator that has an identity, or that identity, falls on the bit
 pub record IsUnkeptBit (d : Declarations) (b : ℕ) : Type 0 where
