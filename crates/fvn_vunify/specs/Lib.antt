@@ -1,0 +1,7 @@
+-- What contracts of unifiers in a theory speak of.
+pub mod Sides
+pub mod Solutions
+pub mod Causes
+pub mod Solved
+pub mod Laws
+pub mod inner

@@ -1,0 +1,26 @@
+//! Laws of unifiers in a theory, each the contract of a function that does nothing.
+ghost use Rattle.fvn_vunify.specs.Laws.{
+  CompleteIrreducibleUnifiersAreShortest,
+  TheoryUnifiersHaveIrreducibleValues,
+};
+
+use fvn_rewrite_normal_forms::normal_forms_are_lawful;
+use fvn_terms::{instances_are_transitive, rewriting_is_lawful, theory_equality_is_lawful};
+
+/// Where admissible equations terminate and lose no sort, every unifier in the theory is there an instance of one with
+/// irreducible values.
+pub fn theory_unifiers_have_irreducible_values()
+    ensures { TheoryUnifiersHaveIrreducibleValues }
+{
+    normal_forms_are_lawful();
+    rewriting_is_lawful();
+    theory_equality_is_lawful();
+    instances_are_transitive();
+}
+
+/// A complete list of unifiers with irreducible values of which none is an instance of another is a shortest one.
+pub fn complete_irreducible_unifiers_are_shortest()
+    ensures { CompleteIrreducibleUnifiersAreShortest }
+{
+    instances_are_transitive();
+}

@@ -1,0 +1,18 @@
+//! Unifiers in the theory of equations, from an exploration of the variants of a problem's sides.
+#![tactic(auto)]
+
+mod attempts;
+mod ends;
+mod laws;
+mod names;
+mod pairs;
+mod solved;
+mod solving;
+mod testing;
+mod unify;
+
+pub use laws::{
+    complete_irreducible_unifiers_are_shortest, theory_unifiers_have_irreducible_values,
+};
+pub use solved::SolvedModulo;
+pub use unify::variant_unify;
