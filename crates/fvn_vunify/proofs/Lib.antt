@@ -1,0 +1,8 @@
+-- Lemmas of unifiers in a theory.
+mod IrreducibleValues
+mod TwoByTwo
+mod Known
+mod Above
+mod Pruned
+mod Sound
+mod Answered
