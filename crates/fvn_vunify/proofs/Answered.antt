@@ -74,10 +74,10 @@ module _ (g : Setting) (drawn : Problem → Substitution → Type 0) (fits : Fit
     (law : CoveringOfUnifiersIsInstance) (chain : InstancesAreTransitive) (none_fixed : g.fixed ≡ []) (x : Explored)
     (found kept : List Variant) (stop : ExpandEnd) (attempts : AreAttempts g drawn (first_variables x.variants) x.variants found stop)
     (pruned : IsPruned g.declarations found kept) (pairs : FlatPairs) (limits : Limits) (explored : IsExploredFor g drawn pairs limits x) where
-  vars : List Var
+  abbrev vars : List Var
   vars = first_variables x.variants
 
-  problem_vars : List Var
+  abbrev problem_vars : List Var
   problem_vars = variables_of (plain_pairs pairs)
 
   found_one : (v : Variant) → Contains x.variants v → IsFound g (sides_of pairs) v
@@ -135,7 +135,7 @@ module _ (g : Setting) (drawn : Problem → Substitution → Type 0) (fits : Fit
   -- a unifier whose sides have bounded sequences is an instance of a given one, where what covers its normal forms is solved wholly
   module _ (confluent : IsConfluent g.declarations g.equations) (s : Substitution) (h : IsIrreducibleUnifier g (plain_pairs pairs) s) (most : ℕ)
       (bound : (k : ℕ) (us : List Term) → ListSequence g.declarations g.equations k (map (apply s) (plain_sides pairs)) us → k ≤ most) where
-    forms : List Term
+    abbrev forms : List Term
     forms = (sides_normal g fits known explored.exploration.lawful pairs explored.kinds s h most bound).forms
 
     instance_of_some : IsCovered g x.variants forms s → ((v : Variant) → Contains x.variants v → AreWholeFor g vars v found) →

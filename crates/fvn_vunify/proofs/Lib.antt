@@ -6,3 +6,8 @@ mod Above
 mod Pruned
 mod Sound
 mod Answered
+mod NewNames
+mod Posing
+mod Joined
+mod Tested
+mod Attempted

@@ -32,7 +32,7 @@ use Rattle.fvn_vunify.proofs.TwoByTwo.{plain_sides, side_has_variable, unifies_i
 module _ (g : Setting) (known : AreKnown g.declarations g.equations) (none_fixed : g.fixed ≡ []) (pairs : FlatPairs) (vars : List Var)
     (from_problem : (x : Var) → Contains (variables_of (plain_pairs pairs)) x → Contains vars x)
     (v u : Variant) (found : IsFound g (sides_of pairs) v) (c : IsCandidate g vars v u) where
-  before : Substitution
+  abbrev before : Substitution
   before = substitution v.subst
 
   equal_sort : (t t' : Term) (x : Var) → BEqual g.declarations t t' → HasSort g.declarations t' x.sort → HasSort g.declarations t x.sort
