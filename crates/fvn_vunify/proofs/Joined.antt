@@ -180,7 +180,7 @@ module _ (g : Setting) (good : IsGood g.declarations) (vars : List Var) (v : Var
 
         unfolding choose, after
         after_new : (z : Var) → next ≤ z.name → after z ≡ i.after z
-        after_new z l = ap (λ b. choose b z) (le-ltb next z.name l)
+        after_new z l = ap (λ b. choose b z) (le-ltb z.name next l)
 
         abbrev vars_of_problem : List Var
         vars_of_problem = variables_of (problem_of given)

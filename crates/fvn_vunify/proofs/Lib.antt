@@ -11,3 +11,5 @@ mod Posing
 mod Joined
 mod Tested
 mod Attempted
+mod Passing
+mod Asking

@@ -19,13 +19,12 @@ use Rattle.fvn_cover.specs.Covering.{values_of}
 use Rattle.fvn_vunify.specs.inner.Names.{variables_of_values, AreFreshNames}
 
 -- one more value's variables
-pub values_step : (v : Variant) (i : ℕ) (x : Var) (now next : List Var) → i < length v.vars → x ≡ get_or v.vars i x →
-    next ≡ with_variables (value v.subst x) now → now ≡ with_all_variables (fpack (take i (values_of v))) [] → next ≡ with_all_variables (fpack (take (i + 1) (values_of v))) []
-values_step v i x now next l is e h =
-    let t = value v.subst x in
+pub values_step : (v : Variant) (i : ℕ) (e : Var) (now next : List Var) → i < length v.vars →
+    next ≡ with_variables (value v.subst (get_or v.vars i e)) now → now ≡ with_all_variables (fpack (take i (values_of v))) [] → next ≡ with_all_variables (fpack (take (i + 1) (values_of v))) []
+values_step v i e now next l is h =
+    let t = value v.subst (get_or v.vars i e) in
     let n : i < length (values_of v) = omega (arith, l, length-map v.vars (value v.subst)) in
-    let at : t ≡ get_or (values_of v) i t = ap (value v.subst) is ∙ sym (get_or-map (value v.subst) v.vars i x t l) in
-    e ∙ ap (with_variables t) h ∙ sym (with_all-step (values_of v) i t [] n at)
+    is ∙ ap (with_variables t) h ∙ sym (with_all-step (values_of v) i t [] n (sym (get_or-map (value v.subst) v.vars i e t l)))
 
 pub values_whole : (v : Variant) (i : ℕ) (now : List Var) → length v.vars ≤ i → now ≡ with_all_variables (fpack (take i (values_of v))) [] → now ≡ variables_of_values v
 values_whole v i now l h =

@@ -1,6 +1,7 @@
 -- The sides of pairs, and what they are brought to, two by two.
-use Rattle.std.proofs.Common.{◌≡◌, ◌⊎◌, ◌+◌, ℕ, zero, suc, List, [], ◌∷◌, ◌++◌, map, refl, sym, ap, ◌∙◌, subst, inl, inr, arith}
+use Rattle.std.proofs.Common.{◌≡◌, ◌<◌, ◌≤◌, ◌⊎◌, ◌+◌, ℕ, zero, suc, List, [], ◌∷◌, ◌++◌, map, length, get_or, drop, refl, sym, ap, ◌∙◌, subst, inl, inr, arith}
 use Rattle.std.specs.List.{All, AllZip, Any, Contains}
+use Rattle.std.proofs.lemmas.List.{append-nil, append_assoc, length-drop, drop_more}
 use Rattle.std.proofs.lemmas.List.Elements.{All-nil, All-cons, All-head, All-tail}
 use Rattle.std.proofs.lemmas.List.Elements.{Contains-append_left, Contains-append_right, Contains-append_cases}
 use Rattle.fvn_base.proofs.Membership.{contains_none}
@@ -65,6 +66,33 @@ pub two_by_two-map : (f : FlatTerm → FlatTerm) (ts : List FlatTerm) → two_by
 two_by_two-map f [] = refl
 two_by_two-map f (t ∷ []) = refl
 two_by_two-map f (t ∷ u ∷ ts) = ap (λ l. (f t, f u) ∷ l) (two_by_two-map f ts)
+
+-- the next two of what is left
+two_left : (f : FlatTerm → FlatTerm) (ts : List FlatTerm) (i : ℕ) (a b : FlatTerm) → i + 1 < length ts →
+    two_by_two (map f (drop i ts)) ≡ (f (get_or ts i a), f (get_or ts (i + 1) b)) ∷ two_by_two (map f (drop (i + 2) ts))
+two_left f ts i a b l =
+    let further : i + 1 + 1 ≡ i + 2 = omega arith in
+    ap (λ l. two_by_two (map f l))
+    (drop_more ts i a (omega (arith, l)) ∙ ap (λ l. get_or ts i a ∷ l) (drop_more ts (i + 1) b l) ∙ ap (λ n. get_or ts i a ∷ get_or ts (i + 1) b ∷ drop n ts) further)
+
+pub pairs_step : (f : FlatTerm → FlatTerm) (ts : List FlatTerm) (i : ℕ) (a b : FlatTerm) (now next : FlatPairs) → i + 1 < length ts → a ≡ get_or ts i a → b ≡ get_or ts (i + 1) b →
+    next ≡ now ++ (f a, f b) ∷ [] → now ++ two_by_two (map f (drop i ts)) ≡ two_by_two (map f ts) → next ++ two_by_two (map f (drop (i + 2) ts)) ≡ two_by_two (map f ts)
+pairs_step f ts i a b now next l is_a is_b e h =
+    let rest = two_by_two (map f (drop (i + 2) ts)) in
+    let left : two_by_two (map f (drop i ts)) ≡ (f a, f b) ∷ rest =
+    two_left f ts i a b l ∙ ap (λ t. (f t, f (get_or ts (i + 1) b)) ∷ rest) (sym is_a) ∙ ap (λ t. (f a, f t) ∷ rest) (sym is_b) in
+    ap (λ ps. ps ++ rest) e ∙ append_assoc now ((f a, f b) ∷ []) rest ∙ ap (λ ps. now ++ ps) (sym left) ∙ h
+
+-- one that is left has no other
+pub pairs_whole : (f : FlatTerm → FlatTerm) (ts : List FlatTerm) (i : ℕ) (now : FlatPairs) → length ts ≤ i + 1 →
+    now ++ two_by_two (map f (drop i ts)) ≡ two_by_two (map f ts) → now ≡ two_by_two (map f ts)
+pairs_whole f ts i now l h =
+    sym (append-nil now) ∙ ap (λ ps. now ++ ps) (sym (go (drop i ts) (let e = length-drop i ts in omega (arith, e, l)))) ∙ h
+  where
+    go : (left : List FlatTerm) → length left ≤ 1 → two_by_two (map f left) ≡ []
+    go [] n = refl
+    go (t ∷ []) n = refl
+    go (t ∷ u ∷ us) n = absurd (omega (arith, n))
 
 module _ (d : Declarations) (equations : Equations) where
   abbrev UnifiesIn : Substitution → Term × Term → Type 0
