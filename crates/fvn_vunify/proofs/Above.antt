@@ -17,7 +17,7 @@ use Rattle.fvn_rewrite_normal_forms.proofs.Normalising.{normal_forms_within}
 use Rattle.fvn_cover.specs.declared.variant.Variant.{Variant}
 use Rattle.fvn_exploring.specs.Setting.{Setting, AreLawfulIn}
 use Rattle.fvn_exploring.specs.Explorations.{IsVariantOf, IsCovered}
-use Rattle.fvn_vunify.specs.Sides.{sides_of, problem_over}
+use Rattle.fvn_vunify.specs.Sides.{sides_in_turn, problem_over}
 use Rattle.fvn_vunify.specs.Solutions.{IsIrreducibleUnifier}
 use Rattle.fvn_vunify.specs.inner.Attempts.{AreWholeFor}
 use Rattle.fvn_vunify.proofs.Known.{AreKnown, lists_decided}
@@ -34,7 +34,7 @@ module _ (g : Setting) (fits : FitsKinds g.declarations) (known : AreKnown g.dec
 
   module _ (normal : HaveNormalForms g.declarations g.equations (map (apply s) (plain_sides pairs))) where
     -- these are a variant
-    pub normal_variant : IsVariantOf g (sides_of pairs) normal.forms s
+    pub normal_variant : IsVariantOf g (sides_in_turn pairs) normal.forms s
     normal_variant = record {
       well_sorted = h.kept.unifier.0;
       values = λ x o. h.values x (side_has_variable pairs x o);

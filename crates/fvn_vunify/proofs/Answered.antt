@@ -30,7 +30,7 @@ use Rattle.fvn_exploring.specs.Setting.{Setting}
 use Rattle.fvn_exploring.specs.Ends.{explore_end}
 use Rattle.fvn_exploring.specs.LevelRuns.{AreVariablesOf}
 use Rattle.fvn_exploring.specs.Explorations.{IsFound, IsCovered}
-use Rattle.fvn_vunify.specs.Sides.{sides_of}
+use Rattle.fvn_vunify.specs.Sides.{sides_in_turn}
 use Rattle.fvn_vunify.specs.Solutions.{IsIrreducibleUnifier, IsInstanceOfSome}
 use Rattle.fvn_vunify.specs.Causes.{IsPairsCause, MeetsBound}
 use Rattle.fvn_vunify.specs.Solved.{IsExploredFor, HasSmallValues, StopsAtPairs, IsWithinExplored, IsSolvedModulo}
@@ -66,7 +66,7 @@ end_complete (BasisThere f system) stop e = cc
 end_complete (UnifiersThere given list) stop e = cc
 
 -- what holds of the variables of each variant holds of those of the first
-first_of : (P : List Var → Type 0) (variants : List Variant) → All (λ v. P v.vars) variants → (v : Variant) → Contains variants v → P (first_variables variants)
+pub first_of : (P : List Var → Type 0) (variants : List Variant) → All (λ v. P v.vars) variants → (v : Variant) → Contains variants v → P (first_variables variants)
 first_of P [] h v m = absurd (contains_none v m)
 first_of P (w ∷ variants) h v m = All-head (λ v. P v.vars) w variants h
 
@@ -80,12 +80,12 @@ module _ (g : Setting) (drawn : Problem → Substitution → Type 0) (fits : Fit
   abbrev problem_vars : List Var
   problem_vars = variables_of (plain_pairs pairs)
 
-  found_one : (v : Variant) → Contains x.variants v → IsFound g (sides_of pairs) v
-  found_one v m = All-contains (IsFound g (sides_of pairs)) x.variants v explored.exploration.found m
+  found_one : (v : Variant) → Contains x.variants v → IsFound g (sides_in_turn pairs) v
+  found_one v m = All-contains (IsFound g (sides_in_turn pairs)) x.variants v explored.exploration.found m
 
   -- the variables are those of the problem, where there is some variant
-  vars_known : (v : Variant) → Contains x.variants v → AreVariablesOf (sides_of pairs) vars
-  vars_known v m = first_of (AreVariablesOf (sides_of pairs)) x.variants (λ k e l. (explored.exploration.found k e l).vars) v m
+  vars_known : (v : Variant) → Contains x.variants v → AreVariablesOf (sides_in_turn pairs) vars
+  vars_known v m = first_of (AreVariablesOf (sides_in_turn pairs)) x.variants (λ k e l. (explored.exploration.found k e l).vars) v m
 
   to_problem : (v : Variant) → Contains x.variants v → (y : Var) → Contains vars y → Contains problem_vars y
   to_problem v m y n = side_has_variable pairs y (((vars_known v m).all y).0 n)

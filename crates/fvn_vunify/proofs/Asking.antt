@@ -18,7 +18,7 @@ use Rattle.fvn_exploring.specs.declared.ends.ExpandEnd.{ExpandEnd}
 use Rattle.fvn_exploring.specs.Setting.{Setting}
 use Rattle.fvn_exploring.specs.LevelRuns.{AreVariablesOf}
 use Rattle.fvn_exploring.specs.Explorations.{IsFound}
-use Rattle.fvn_vunify.specs.Sides.{sides_of}
+use Rattle.fvn_vunify.specs.Sides.{sides_in_turn}
 use Rattle.fvn_vunify.specs.Solved.{IsOfSomePairs}
 use Rattle.fvn_vunify.specs.inner.Attempts.{candidate_of, first_variables, IsSolvable, IsCandidate, AreAttempts}
 use Rattle.fvn_vunify.proofs.Known.{AreKnown}
@@ -29,11 +29,11 @@ module _ (g : Setting) (drawn : Problem → Substitution → Type 0) (x : Explor
   abbrev vars : List Var
   vars = first_variables x.variants
 
-  found_at : (v : Variant) → Contains x.variants v → IsFound g (sides_of some.pairs) v
-  found_at v m = All-contains (IsFound g (sides_of some.pairs)) x.variants v some.explored.exploration.found m
+  found_at : (v : Variant) → Contains x.variants v → IsFound g (sides_in_turn some.pairs) v
+  found_at v m = All-contains (IsFound g (sides_in_turn some.pairs)) x.variants v some.explored.exploration.found m
 
-  vars_are : (v : Variant) → Contains x.variants v → AreVariablesOf (sides_of some.pairs) vars
-  vars_are v m = first_of (AreVariablesOf (sides_of some.pairs)) x.variants (λ k e l. (some.explored.exploration.found k e l).vars) v m
+  vars_are : (v : Variant) → Contains x.variants v → AreVariablesOf (sides_in_turn some.pairs) vars
+  vars_are v m = first_of (AreVariablesOf (sides_in_turn some.pairs)) x.variants (λ k e l. (some.explored.exploration.found k e l).vars) v m
 
   sorts_are : (v : Variant) → Contains x.variants v → All (λ y. IsSort g.declarations y.sort) vars
   sorts_are v m = first_of (All (λ (y : Var). IsSort g.declarations y.sort)) x.variants (λ k e l. (some.explored.exploration.found k e l).member.flat.vars) v m

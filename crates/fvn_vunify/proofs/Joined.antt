@@ -163,8 +163,8 @@ module _ (g : Setting) (good : IsGood g.declarations) (vars : List Var) (v : Var
         pub after : Substitution
         after z = choose (nat_lt z.name next) z
 
-        unfolding choose, after
         pub after_sorted : IsWellSorted g.declarations after
+        unfolding choose, after
         after_sorted = (λ z k. kinds (nat_lt z.name next) z k, λ z. sorts (nat_lt z.name next) z) where
           kinds : (b : Bool) (z : Var) → IsSort g.declarations z.sort → HasKind g.declarations (choose b z) (kind g.declarations z.sort)
           kinds true z k = (back_sorted c sorted).0 z k
@@ -174,12 +174,12 @@ module _ (g : Setting) (good : IsGood g.declarations) (vars : List Var) (v : Var
           sorts true z = (back_sorted c sorted).1 z
           sorts false z = i.well_sorted.1 z
 
-        unfolding choose, after
         after_old : (z : Var) → z.name < next → after z ≡ back c z
+        unfolding choose, after
         after_old z l = ap (λ b. choose b z) (lt-ltb z.name next l)
 
-        unfolding choose, after
         after_new : (z : Var) → next ≤ z.name → after z ≡ i.after z
+        unfolding choose, after
         after_new z l = ap (λ b. choose b z) (le-ltb z.name next l)
 
         abbrev vars_of_problem : List Var

@@ -53,21 +53,22 @@ pub new_name : ℕ → List Var → Renaming
 new_name n [] x = x
 new_name n (y ∷ vars) x = if same_var y x then fresh_for n y else new_name (n + 1) vars x
 
-unfolding new_name
 pub value_is_named : (n : ℕ) (vars : List Var) (x : Var) → value (renaming n vars) x ≡ fvar (new_name n vars x)
-value_is_named n [] x = refl
-value_is_named n (y ∷ vars) x = go (same_var y x) where
-  go : (b : Bool) → form_or x (if b then Some (fvar (fresh_for n y)) else bound (renaming (n + 1) vars) x) ≡ fvar (if b then fresh_for n y else new_name (n + 1) vars x)
-  go true = refl
-  go false = value_is_named (n + 1) vars x
-
 unfolding new_name
+value_is_named n [] x = refl
+value_is_named n (y ∷ vars) x = go (same_var y x) (value_is_named (n + 1) vars x) where
+  go : (b : Bool) → value (renaming (n + 1) vars) x ≡ fvar (new_name (n + 1) vars x) →
+      form_or x (if b then Some (fvar (fresh_for n y)) else bound (renaming (n + 1) vars) x) ≡ fvar (if b then fresh_for n y else new_name (n + 1) vars x)
+  go true later = refl
+  go false later = later
+
 pub new_name_sort : (n : ℕ) (vars : List Var) (x : Var) → (new_name n vars x).sort ≡ x.sort
+unfolding new_name
 new_name_sort n [] x = refl
-new_name_sort n (y ∷ vars) x = go (same_var y x) refl where
-  go : (b : Bool) → same_var y x ≡ b → (if b then fresh_for n y else new_name (n + 1) vars x).sort ≡ x.sort
-  go true e = ap (λ (z : Var). z.sort) (same_var_is y x e)
-  go false e = new_name_sort (n + 1) vars x
+new_name_sort n (y ∷ vars) x = go (same_var y x) refl (new_name_sort (n + 1) vars x) where
+  go : (b : Bool) → same_var y x ≡ b → (new_name (n + 1) vars x).sort ≡ x.sort → (if b then fresh_for n y else new_name (n + 1) vars x).sort ≡ x.sort
+  go true e later = ap (λ (z : Var). z.sort) (same_var_is y x e)
+  go false e later = later
 
 -- the variable that a form is, or another
 abbrev variable_in : Var → FlatTerm → Var
@@ -78,12 +79,12 @@ module _ (v : Variant) (names : Bindings) (next : ℕ) (fresh : AreFreshNames v 
   pub name_of : Renaming
   name_of = new_name 0 fresh.vars
 
-  unfolding name_of
   pub named : (x : Var) → value names x ≡ fvar (name_of x)
+  unfolding name_of
   named x = ap (λ s. value s x) fresh.named ∙ value_is_named 0 fresh.vars x
 
-  unfolding name_of
   pub name_sort : (x : Var) → (name_of x).sort ≡ x.sort
+  unfolding name_of
   name_sort x = new_name_sort 0 fresh.vars x
 
   pub name_one_to_one : (x y : Var) → Contains fresh.vars x → Contains fresh.vars y → name_of x ≡ name_of y → x ≡ y
@@ -99,19 +100,20 @@ module _ (v : Variant) (names : Bindings) (next : ℕ) (fresh : AreFreshNames v 
   pub back_from : Renaming
   back_from z = unwrap_or (find (λ y. same_var (name_of y) z) fresh.vars) z
 
-  unfolding back_from
   pub back_name : (y : Var) → Contains fresh.vars y → back_from (name_of y) ≡ y
+  unfolding back_from
   back_name y m =
       let w = find_or (λ x. same_var (name_of x) (name_of y)) fresh.vars y (name_of y) m (same_var_itself (name_of y)) in
       name_one_to_one (back_from (name_of y)) y w.0 m (same_var_is (name_of (back_from (name_of y))) (name_of y) w.1)
 
   found_sort : (l : List Var) (z : Var) → (unwrap_or (find (λ y. same_var (name_of y) z) l) z).sort ≡ z.sort
   found_sort [] z = refl
-  found_sort (y ∷ l) z = go (same_var (name_of y) z) refl where
-    go : (b : Bool) → same_var (name_of y) z ≡ b → (unwrap_or (cond b (Some y) (find (λ x. same_var (name_of x) z) l)) z).sort ≡ z.sort
-    go true e = sym (name_sort y) ∙ ap (λ (x : Var). x.sort) (same_var_is (name_of y) z e)
-    go false e = found_sort l z
+  found_sort (y ∷ l) z = go (same_var (name_of y) z) refl (found_sort l z) where
+    go : (b : Bool) → same_var (name_of y) z ≡ b → (unwrap_or (find (λ x. same_var (name_of x) z) l) z).sort ≡ z.sort →
+        (unwrap_or (cond b (Some y) (find (λ x. same_var (name_of x) z) l)) z).sort ≡ z.sort
+    go true e later = sym (name_sort y) ∙ ap (λ (x : Var). x.sort) (same_var_is (name_of y) z e)
+    go false e later = later
 
-  unfolding back_from
   pub back_sort : (z : Var) → (back_from z).sort ≡ z.sort
+  unfolding back_from
   back_sort z = found_sort fresh.vars z

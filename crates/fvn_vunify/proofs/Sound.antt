@@ -21,7 +21,7 @@ use Rattle.fvn_cover.specs.declared.variant.Variant.{Variant}
 use Rattle.fvn_exploring.specs.Setting.{Setting}
 use Rattle.fvn_exploring.specs.Explorations.{IsFound}
 use Rattle.std.proofs.lemmas.Bool.{true≢false}
-use Rattle.fvn_vunify.specs.Sides.{sides_of}
+use Rattle.fvn_vunify.specs.Sides.{sides_in_turn}
 use Rattle.fvn_vunify.specs.Solutions.{IsIrreducibleUnifier}
 use Rattle.fvn_vunify.specs.Solved.{HasSmallValues}
 use Rattle.fvn_vunify.specs.inner.Attempts.{IsCandidate}
@@ -31,7 +31,7 @@ use Rattle.fvn_vunify.proofs.TwoByTwo.{plain_sides, side_has_variable, unifies_i
 
 module _ (g : Setting) (known : AreKnown g.declarations g.equations) (none_fixed : g.fixed ≡ []) (pairs : FlatPairs) (vars : List Var)
     (from_problem : (x : Var) → Contains (variables_of (plain_pairs pairs)) x → Contains vars x)
-    (v u : Variant) (found : IsFound g (sides_of pairs) v) (c : IsCandidate g vars v u) where
+    (v u : Variant) (found : IsFound g (sides_in_turn pairs) v) (c : IsCandidate g vars v u) where
   abbrev before : Substitution
   before = substitution v.subst
 

@@ -1,6 +1,7 @@
 -- Lists of tested instances with one more.
-use Rattle.std.proofs.Common.{◌≡◌, ◌≢◌, ◌⊎◌, ℕ, List, [], ◌∷◌, ◌++◌, refl, sym, ap, ◌∙◌, subst, inl, inr}
+use Rattle.std.proofs.Common.{◌≡◌, ◌≢◌, ◌<◌, ◌+◌, ◌⊎◌, ℕ, List, [], ◌∷◌, ◌++◌, length, take, get_or, refl, sym, ap, ◌∙◌, subst, inl, inr}
 use Rattle.std.specs.Prelude.{All, Any, Contains}
+use Rattle.std.proofs.lemmas.List.{take_more}
 use Rattle.std.proofs.lemmas.List.Elements.{All-nil, All-push, All-append, All-weaker, Contains-push_cases, Contains-append_left, Contains-append_right}
 use Rattle.std.proofs.lemmas.List.Quantifiers.{Any-push}
 use Rattle.fvn_base.proofs.Membership.{contains_none}
@@ -36,6 +37,10 @@ both_whole end later e = elim (first_cases end later) as (λ _. (end ≡ Whole) 
   | inl p ↦ (p.0, sym p.1 ∙ e)
   | inr p ↦ absurd (p.0 (sym p.1 ∙ e))
 ]
+
+-- one more member of a list
+pub take_next : {A : Type 0} (xs : List A) (i : ℕ) (x : A) → i < length xs → x ≡ get_or xs i x → take (i + 1) xs ≡ take i xs ++ x ∷ []
+take_next xs i x l is = take_more xs i x l ∙ ap (λ y. take i xs ++ y ∷ []) (sym is)
 
 module _ {A : Type 0} (P : A → Type 0) where
   any_more : (xs : List A) (x : A) → Any P xs → Any P (xs ++ x ∷ [])

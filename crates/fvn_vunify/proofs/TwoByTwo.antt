@@ -27,12 +27,12 @@ use Rattle.fvn_flat.proofs.VariableLists.{variables_list, variables_occur}
 use Rattle.fvn_rewrite_laws.specs.Lists.{EachHasSequence}
 use Rattle.fvn_rewrite_laws.specs.Laws.{KindedLaws}
 use Rattle.fvn_rewrite_laws.proofs.Agreement.{equal_by_agreement}
-use Rattle.fvn_vunify.specs.Sides.{sides_of, two_by_two, problem_over}
+use Rattle.fvn_vunify.specs.Sides.{sides_in_turn, two_by_two, problem_over}
 use Rattle.fvn_vunify.proofs.IrreducibleValues.{OfOneKind}
 
 -- the sides of the pairs as plain terms
 abbrev pub plain_sides : FlatPairs → List Term
-plain_sides pairs = map plain (sides_of pairs)
+plain_sides pairs = map plain (sides_in_turn pairs)
 
 -- the variables of a problem are those of its sides
 pub variable_of_sides : (pairs : FlatPairs) (x : Var) → Contains (variables_of (plain_pairs pairs)) x → OccursInSome x (plain_sides pairs)

@@ -6,9 +6,9 @@ use Rattle.fvn_flat.specs.Problems.{plain_pairs}
 use Rattle.fvn_flat.specs.Solving.{FlatPairs}
 
 -- the left and the right side of each pair in turn
-abbrev pub sides_of : FlatPairs → List FlatTerm
-sides_of [] = []
-sides_of (p ∷ pairs) = p.0 ∷ p.1 ∷ sides_of pairs
+abbrev pub sides_in_turn : FlatPairs → List FlatTerm
+sides_in_turn [] = []
+sides_in_turn (p ∷ pairs) = p.0 ∷ p.1 ∷ sides_in_turn pairs
 
 -- the forms two by two; a last one without another is left out
 abbrev pub two_by_two : List FlatTerm → FlatPairs

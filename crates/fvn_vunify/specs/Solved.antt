@@ -20,7 +20,7 @@ use Rattle.fvn_exploring.specs.Setting.{Setting}
 use Rattle.fvn_exploring.specs.Ends.{explore_end}
 use Rattle.fvn_exploring.specs.Explorations.{IsExploration, IsStartWithin, ReachesPast}
 use Rattle.fvn_vunify.specs.declared.solved.SolvedModulo.{SolvedModulo}
-use Rattle.fvn_vunify.specs.Sides.{sides_of}
+use Rattle.fvn_vunify.specs.Sides.{sides_in_turn}
 use Rattle.fvn_vunify.specs.Solutions.{IsIrreducibleUnifier, IsInstanceOfSome, AreAllIrreducibleUnifiers}
 use Rattle.fvn_vunify.specs.Causes.{IsPairsCause, MeetsBound}
 
@@ -38,7 +38,7 @@ DrawsWithin drawn may = (problem : Problem) (s : Substitution) → drawn problem
 pub record IsExploredFor (g : Setting) (drawn : Problem → Substitution → Type 0) (pairs : FlatPairs)
     (limits : Limits) (x : Explored) : Type 0 where
   pub kinds : IsProblem g.declarations (plain_pairs pairs)
-  pub exploration : IsExploration g drawn (sides_of pairs) limits x
+  pub exploration : IsExploration g drawn (sides_in_turn pairs) limits x
 
 -- the sides of some pairs were explored, within some limits
 pub record IsOfSomePairs (g : Setting) (drawn : Problem → Substitution → Type 0) (x : Explored) : Type 0 where
@@ -62,8 +62,8 @@ module _ (g : Setting) (drawn : Problem → Substitution → Type 0) (pairs : Fl
     -- s is within so many steps, which the exploration covers
     pub record IsWithinExplored (s : Substitution) : Type 0 where
       pub most : ℕ
-      pub reaches : ReachesPast g drawn (sides_of pairs) limits x most
-      pub within : IsStartWithin g (sides_of pairs) most s
+      pub reaches : ReachesPast g drawn (sides_in_turn pairs) limits x most
+      pub within : IsStartWithin g (sides_in_turn pairs) most s
 
     -- what is promised of the answer for an exploration of the sides of the pairs
     pub record IsSolvedModulo (r : SolvedModulo) : Type 0 where
