@@ -13,3 +13,4 @@ mod Tested
 mod Attempted
 mod Passing
 mod Asking
+mod Flattened

@@ -1,5 +1,5 @@
 -- Laws of unifiers in a theory.
-use Rattle.std.specs.Prelude.{ℕ, List}
+use Rattle.std.specs.Prelude.{◌↔◌, ℕ, List}
 use Rattle.fvn_terms.specs.Substitution.{Substitution}
 use Rattle.fvn_terms.specs.Term.{Term}
 use Rattle.fvn_terms.specs.Unifiers.{Problem, IsInstance}
@@ -7,9 +7,10 @@ use Rattle.fvn_terms.specs.Theory.{IsTheoryInstance}
 use Rattle.fvn_terms.specs.Rewriting.{IsTerminating}
 use Rattle.fvn_terms.specs.Variants.{IsWithin}
 use Rattle.fvn_terms.specs.CompleteSets.{IsApart, IsShortest}
+use Rattle.fvn_forms.specs.FitsKinds.{FitsKinds}
 use Rattle.fvn_forms.specs.Good.{IsGood}
 use Rattle.fvn_signature.specs.Queries.{IsCompleted}
-use Rattle.fvn_flat.specs.Problems.{variables_of, IsProblem}
+use Rattle.fvn_flat.specs.Problems.{variables_of, plain_pairs, flat_pairs, IsProblem}
 use Rattle.fvn_rewrite_laws.specs.Losses.{AreSortDecreasing}
 use Rattle.fvn_rewrite_laws.specs.Admissible.{AreAdmissible}
 use Rattle.fvn_exploring.specs.Setting.{Setting}
@@ -50,3 +51,18 @@ abbrev pub CompleteIrreducibleUnifiersAreShortest : Type 0
 CompleteIrreducibleUnifiersAreShortest = (g : Setting) (problem : Problem) (set : List Substitution)
     → AreAllIrreducibleUnifiers g problem set → IsApart (IsInstance g.declarations (variables_of problem)) set
     → IsShortest (IsIrreducibleUnifier g problem) (IsInstance g.declarations (variables_of problem)) set
+
+-- the same substitutions solve both problems in the theory, and the same are instances
+pub record HaveOneTheoryAnswer (g : Setting) (problem other : Problem) : Type 0 where
+  pub kept : (s : Substitution) → IsKeptUnifier g problem s ↔ IsKeptUnifier g other s
+  pub irreducible : (s : Substitution) → IsIrreducibleUnifier g problem s ↔ IsIrreducibleUnifier g other s
+  pub instances : (a b : Substitution) → IsInstance g.declarations (variables_of problem) a b
+      ↔ IsInstance g.declarations (variables_of other) a b
+  pub theory_instances : (a b : Substitution) → IsTheoryInstance g.declarations g.equations (variables_of problem) a b
+      ↔ IsTheoryInstance g.declarations g.equations (variables_of other) a b
+
+-- flattened pairs have the unifiers in the theory of the plain pairs
+abbrev pub FlattenedPairsHaveOneTheoryAnswer : Type 0
+FlattenedPairsHaveOneTheoryAnswer = (g : Setting) → FitsKinds g.declarations
+    → (problem : Problem) → IsProblem g.declarations problem
+    → HaveOneTheoryAnswer g problem (plain_pairs (flat_pairs g.declarations problem))

@@ -12,7 +12,8 @@ mod testing;
 mod unify;
 
 pub use laws::{
-    complete_irreducible_unifiers_are_shortest, theory_unifiers_have_irreducible_values,
+    complete_irreducible_unifiers_are_shortest, flattened_pairs_have_one_theory_answer,
+    theory_unifiers_have_irreducible_values,
 };
 pub use solved::SolvedModulo;
 pub use unify::variant_unify;
