@@ -1,12 +1,11 @@
 -- A term is irreducible where it is its own normal form.
-use Rattle.std.proofs.Common.{◌≡◌, ◌<◌, ◌-◌, ◌^◌, ℕ, min, sym, ap, ◌∙◌, subst, arith}
-use Rattle.std.proofs.Math.Nat.{min-le_left}
+use Rattle.std.proofs.Common.{◌≡◌, ◌<◌, sym, ◌∙◌, subst, arith}
 use Rattle.fvn_terms.specs.Rewriting.{IsIrreducible}
 use Rattle.fvn_terms.specs.Laws.{RewritingLaws}
-use Rattle.fvn_forms.specs.Flat.{FlatTerm, plain, symbols}
+use Rattle.fvn_forms.specs.Flat.{FlatTerm, plain}
 use Rattle.fvn_forms.proofs.Eval.{canon_respects, canon_plain}
 use Rattle.fvn_flat.specs.Fits.{Fits}
-use Rattle.fvn_rewrite_laws.specs.Normalised.{IsForm, IsUnfinished as IsUnfinishedFrom, IsTooLarge}
+use Rattle.fvn_rewrite_laws.specs.Normalised.{counted, IsForm, IsUnfinished as IsUnfinishedFrom, IsTooLarge}
 use Rattle.fvn_exploring.specs.Setting.{Setting}
 use Rattle.fvn_vunify.specs.inner.Tests.{IsPassed, IsUnfinished, GrowsTo}
 
@@ -26,6 +25,4 @@ module _ (g : Setting) (t form : FlatTerm) where
   unfinished start h = record { is = h.is; reached = h.reached; reducible = h.reducible }
 
   pub grows : IsTooLarge g.declarations g.equations t g.bounds form → GrowsTo g t form
-  grows h =
-      let m = min-le_left (symbols form) (2 ^ 64 - 1) in
-      record { steps = h.reached.count; reached = h.reached.reached; large = omega (arith, h.large, m) }
+  grows h = let l : g.bounds.size < counted form = h.large in record { steps = h.reached.count; reached = h.reached.reached; large = omega (arith, l) }

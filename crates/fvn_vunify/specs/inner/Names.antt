@@ -2,8 +2,9 @@
 use Rattle.std.specs.Prelude.{◌≡◌, ◌≤◌, ℕ, List, [], Contains}
 use Rattle.fvn_base.specs.declared.limits.TheConstants.{FIRST_FRESH}
 use Rattle.fvn_terms.specs.declared.plain.Var.{Var}
+use Rattle.fvn_terms.specs.declared.declarations.Declarations.{Declarations}
 use Rattle.fvn_forms.specs.Flat.{fpack}
-use Rattle.fvn_flat.specs.Bindings.{Bindings, value}
+use Rattle.fvn_flat.specs.Bindings.{Bindings, value, BindingsFit}
 use Rattle.fvn_flat.specs.Drawn.{OccursInValues}
 use Rattle.fvn_flat.specs.Solving.{substitution}
 use Rattle.fvn_flat.specs.Variables.{with_all_variables, renaming, RenamesApart}
@@ -21,3 +22,4 @@ pub record AreFreshNames (v : Variant) (names : Bindings) (next : ℕ) : Type 0 
   pub apart : RenamesApart (Contains vars) 0 next (value names)
   pub held : (x : Var) → OccursInValues v.vars (substitution v.subst) x → Contains vars x
   pub small : next ≤ FIRST_FRESH
+  pub fits : (d : Declarations) → BindingsFit d names
