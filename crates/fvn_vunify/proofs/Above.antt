@@ -53,9 +53,9 @@ module _ (g : Setting) (fits : FitsKinds g.declarations) (known : AreKnown g.dec
       unified = (
         cover.well_sorted,
         normal_forms_unified g.declarations g.equations known.kinded s h.kept.unifier.0.0 confluent cover.by pairs normal.forms v.terms normal.steps kinds h.kept.unifier.1
-        ((known.lists.members normal.steps (map (apply s) (plain_sides pairs)) normal.forms).0 normal.reached)
-        ((known.rewriting.lists normal.forms).0 normal.irreducible)
-        cover.same_terms,
+            ((known.lists.members normal.steps (map (apply s) (plain_sides pairs)) normal.forms).0 normal.reached)
+            ((known.rewriting.lists normal.forms).0 normal.irreducible)
+            cover.same_terms,
       )
 
       values_irreducible : (x : Var) → Contains vars x → IsIrreducible g.declarations g.equations (apply cover.by (substitution v.subst x))
@@ -64,9 +64,14 @@ module _ (g : Setting) (fits : FitsKinds g.declarations) (known : AreKnown g.dec
 
       pub found_above : (found : List Variant) → AreWholeFor g vars v found → Any (λ u. IsInstance g.declarations (variables_of (plain_pairs pairs)) s (substitution u.subst)) found
       found_above found whole =
-          let w = whole cover.by unified values_irreducible in
-          (w.0, w.1, w.2, w.3, record {
-            after = w.4.after;
-            well_sorted = w.4.well_sorted;
-            equal = λ x m. let n = from_problem x m in BEqual-trans g.declarations (cover.same_values x (to_variant x n)) (w.4.equal x n);
-          })
+          let w = whole cover.by unified values_irreducible in (
+            w.0,
+            w.1,
+            w.2,
+            w.3,
+            record {
+              after = w.4.after;
+              well_sorted = w.4.well_sorted;
+              equal = λ x m. let n = from_problem x m in BEqual-trans g.declarations (cover.same_values x (to_variant x n)) (w.4.equal x n);
+            },
+          )

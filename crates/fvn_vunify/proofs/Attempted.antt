@@ -221,17 +221,26 @@ module _ (g : Setting) (drawn : Problem → Substitution → Type 0) (good : IsG
 
           below_found : Any (λ u. IsInstance g.declarations vars (followed_by (substitution v.subst) c) (substitution u.subst)) found
           below_found =
-              let w = tested.whole none_stopped s m value_irreducible in
-              (w.0, w.1, w.2, w.3, record { after = later; well_sorted = is_sorted; equal = λ x n.
-                  let at : substitution (composed g.declarations first s) x ≡ substitution (w.1).subst x =
-                  ap (λ o. plain (form_or x o)) (sym (w.4.joined.kept x n)) ∙ ap (λ (u : Variant). substitution u.subst x) (sym w.4.is) in
-                  subst (λ t. BEqual g.declarations (apply c (substitution v.subst x)) (apply later t)) at (above x n) })
+              let w = tested.whole none_stopped s m value_irreducible in (
+                w.0,
+                w.1,
+                w.2,
+                w.3,
+                record {
+                  after = later;
+                  well_sorted = is_sorted;
+                  equal = λ x n.
+                      let at : substitution (composed g.declarations first s) x ≡ substitution (w.1).subst x =
+                      ap (λ o. plain (form_or x o)) (sym (w.4.joined.kept x n)) ∙ ap (λ (u : Variant). substitution u.subst x) (sym w.4.is) in
+                      subst (λ t. BEqual g.declarations (apply c (substitution v.subst x)) (apply later t)) at (above x n);
+                },
+              )
 
         whole_one : Any (λ u. IsInstance g.declarations vars (followed_by (substitution v.subst) c) (substitution u.subst)) found
         whole_one =
             let b = back g good vars v solvable names next fresh c in
             let w = any_contains (IsInstance g.declarations (variables_of (problem_of given)) b) (map substitution solved.unifiers)
-                ((complete all).complete b (back_unifies g good vars v solvable names next fresh given is c unifies)) in
+            ((complete all).complete b (back_unifies g good vars v solvable names next fresh given is c unifies)) in
             let s = map_contains substitution solved.unifiers w.0 w.1.0 in
             below_found s.0 s.1.0 (subst (IsInstance g.declarations (variables_of (problem_of given)) b) (sym s.1.1) w.1.1)
 

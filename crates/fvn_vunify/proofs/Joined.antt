@@ -132,11 +132,10 @@ module _ (g : Setting) (good : IsGood g.declarations) (vars : List Var) (v : Var
     pub back_unifies : (c : Substitution) → IsUnifier g.declarations (problem_over v.terms) c → IsUnifier g.declarations (problem_of given) (back c)
     back_unifies c h =
         let same : (x : Var) (t : FlatTerm) → Contains v.terms t → Occurs x (plain t) → c x ≡ seen (back c) x =
-        λ x t m o. sym (back_at c x (held g good vars v solvable names next fresh x (inl (m.0, t, m.1, m.2, o)))) in
-        (
+        λ x t m o. sym (back_at c x (held g good vars v solvable names next fresh x (inl (m.0, t, m.1, m.2, o)))) in (
           back_sorted c h.0,
           subst (λ p. Solves (BEqual g.declarations) p (back c)) (sym problem_is)
-          (unseen_unifies_all (back c) (back_sorted c h.0).0 v.terms solvable.flat.terms (agreeing c (seen (back c)) v.terms same h.1)),
+              (unseen_unifies_all (back c) (back_sorted c h.0).0 v.terms solvable.flat.terms (agreeing c (seen (back c)) v.terms same h.1)),
         )
 
     -- what the variant's substitution with new names and then a unifier of the solver make
@@ -164,7 +163,7 @@ module _ (g : Setting) (good : IsGood g.declarations) (vars : List Var) (v : Var
         after z = choose (nat_lt z.name next) z
 
         pub after_sorted : IsWellSorted g.declarations after
-        unfolding choose, after
+        unfolding choose after
         after_sorted = (λ z k. kinds (nat_lt z.name next) z k, λ z. sorts (nat_lt z.name next) z) where
           kinds : (b : Bool) (z : Var) → IsSort g.declarations z.sort → HasKind g.declarations (choose b z) (kind g.declarations z.sort)
           kinds true z k = (back_sorted c sorted).0 z k
@@ -175,11 +174,11 @@ module _ (g : Setting) (good : IsGood g.declarations) (vars : List Var) (v : Var
           sorts false z = i.well_sorted.1 z
 
         after_old : (z : Var) → z.name < next → after z ≡ back c z
-        unfolding choose, after
+        unfolding choose after
         after_old z l = ap (λ b. choose b z) (lt-ltb z.name next l)
 
         after_new : (z : Var) → next ≤ z.name → after z ≡ i.after z
-        unfolding choose, after
+        unfolding choose after
         after_new z l = ap (λ b. choose b z) (le-ltb z.name next l)
 
         abbrev vars_of_problem : List Var

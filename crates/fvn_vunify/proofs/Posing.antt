@@ -37,19 +37,20 @@ use Rattle.fvn_vunify.specs.inner.Attempts.{IsSolvable}
 use Rattle.fvn_vunify.proofs.IrreducibleValues.{OfOneKind}
 use Rattle.fvn_vunify.proofs.NewNames.{name_of, named, name_sort, name_one_to_one, name_is_fresh}
 
+-- the variable stands in one of the forms
+abbrev pub HasIn : Var → List FlatTerm → Type 0
+HasIn x l = (t : FlatTerm) × (Contains l t × Occurs x (plain t))
+
 -- a variable of forms two by two stands in one of them
-pub occurs_over : (ts : List FlatTerm) (x : Var) → Contains (variables_of (problem_over ts)) x → (t : FlatTerm) × (Contains ts t × Occurs x (plain t))
+pub occurs_over : (ts : List FlatTerm) (x : Var) → Contains (variables_of (problem_over ts)) x → HasIn x ts
 occurs_over [] x m = absurd (contains_none x m)
 occurs_over (t ∷ []) x m = absurd (contains_none x m)
 occurs_over (t ∷ u ∷ ts) x m = go (Contains-append_cases (variables (plain t) ++ variables (plain u)) (variables_of (problem_over ts)) x m) (occurs_over ts x) where
-  abbrev Found : List FlatTerm → Type 0
-  Found l = (w : FlatTerm) × (Contains l w × Occurs x (plain w))
-
-  side : Contains (variables (plain t)) x ⊎ Contains (variables (plain u)) x → Found (t ∷ u ∷ ts)
+  side : Contains (variables (plain t)) x ⊎ Contains (variables (plain u)) x → HasIn x (t ∷ u ∷ ts)
   side (inl a) = (t, (contains_here t (u ∷ ts), variables_occur x (plain t) a))
   side (inr b) = (u, (contains_later t (u ∷ ts) u (contains_here u ts), variables_occur x (plain u) b))
 
-  go : Contains (variables (plain t) ++ variables (plain u)) x ⊎ Contains (variables_of (problem_over ts)) x → (Contains (variables_of (problem_over ts)) x → Found ts) → Found (t ∷ u ∷ ts)
+  go : Contains (variables (plain t) ++ variables (plain u)) x ⊎ Contains (variables_of (problem_over ts)) x → (Contains (variables_of (problem_over ts)) x → HasIn x ts) → HasIn x (t ∷ u ∷ ts)
   go (inl pair) later = side (Contains-append_cases (variables (plain t)) (variables (plain u)) x pair)
   go (inr rest) later = let w = later rest in (w.0, (contains_later t (u ∷ ts) w.0 (contains_later u ts w.0 w.1.0), w.1.1))
 
@@ -105,11 +106,10 @@ module _ (g : Setting) (good : IsGood g.declarations) (vars : List Var) (v : Var
   renamed_problem_kinds (t ∷ []) h = All-nil (OfOneKind d)
   renamed_problem_kinds (t ∷ u ∷ ts) h =
       let k = All-head (OfOneKind d) (plain t, plain u) (problem_over ts) h in
-      All-cons (OfOneKind d) (plain (renamed_form d to t), plain (renamed_form d to u)) (problem_over (map (renamed_form d to) ts))
-      (
-      k.0,
-      canon_of_kind d good.fits (renamed to (plain t)) k.0 (renamed_kind (plain t) k.0 k.1),
-      canon_of_kind d good.fits (renamed to (plain u)) k.0 (renamed_kind (plain u) k.0 k.2),
+      All-cons (OfOneKind d) (plain (renamed_form d to t), plain (renamed_form d to u)) (problem_over (map (renamed_form d to) ts)) (
+        k.0,
+        canon_of_kind d good.fits (renamed to (plain t)) k.0 (renamed_kind (plain t) k.0 k.1),
+        canon_of_kind d good.fits (renamed to (plain u)) k.0 (renamed_kind (plain u) k.0 k.2),
       )
       (renamed_problem_kinds ts (All-tail (OfOneKind d) (plain t, plain u) (problem_over ts) h))
 

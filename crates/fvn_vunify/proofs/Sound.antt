@@ -58,8 +58,8 @@ module _ (g : Setting) (known : AreKnown g.declarations g.equations) (none_fixed
       unifier = (
         candidate_sorted,
         unifies_in_theory g.declarations g.equations known.theory before c.unifier (substitution c.by) c.unifies.0 pairs v.terms
-        (known.rewriting.variants g.fixed (plain_sides pairs) (map plain v.terms) before found.variant) c.unifies.1
-        (λ x o. c.same x (from_problem x (side_has_variable pairs x o))),
+            (known.rewriting.variants g.fixed (plain_sides pairs) (map plain v.terms) before found.variant) c.unifies.1
+            (λ x o. c.same x (from_problem x (side_has_variable pairs x o))),
       );
       stay = subst (All Stays) (sym none_fixed) (All-nil Stays);
     };

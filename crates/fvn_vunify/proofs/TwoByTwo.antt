@@ -147,11 +147,10 @@ module _ (d : Declarations) (equations : Equations) where
     kinds_reached (p ∷ pairs) (t ∷ u ∷ ts) k h q =
         let one = All-head (OfOneKind d) (plain p.0, plain p.1) (plain_pairs pairs) h in
         let rest = q.3.1 in
-        All-cons (OfOneKind d) (plain t, plain u) (problem_over ts)
-        (
-        one.0,
-        kinded.sequences q.0 (apply s (plain p.0)) (plain t) q.3.0 one.0 (HasKind-apply d s keeps (plain p.0) one.0 one.1),
-        kinded.sequences rest.0 (apply s (plain p.1)) (plain u) rest.3.0 one.0 (HasKind-apply d s keeps (plain p.1) one.0 one.2),
+        All-cons (OfOneKind d) (plain t, plain u) (problem_over ts) (
+          one.0,
+          kinded.sequences q.0 (apply s (plain p.0)) (plain t) q.3.0 one.0 (HasKind-apply d s keeps (plain p.0) one.0 one.1),
+          kinded.sequences rest.0 (apply s (plain p.1)) (plain u) rest.3.0 one.0 (HasKind-apply d s keeps (plain p.1) one.0 one.2),
         )
         (kinds_reached pairs ts rest.1 (All-tail (OfOneKind d) (plain p.0, plain p.1) (plain_pairs pairs) h) rest.3.1)
 
@@ -181,9 +180,9 @@ module _ (d : Declarations) (equations : Equations) where
           let rest = q.3.1 in
           let later = All-tail (IsIrreducible d equations) u (v ∷ us) n in
           let same = kinded.one_normal_form confluent (apply s (plain p.0)) (apply s (plain p.1)) u v q.0 rest.0
-              (one.0, HasKind-apply d s keeps (plain p.0) one.0 one.1)
-              (All-head (UnifiesIn s) (plain p.0, plain p.1) (plain_pairs pairs) e) q.3.0 rest.3.0
-              (All-head (IsIrreducible d equations) u (v ∷ us) n) (All-head (IsIrreducible d equations) v us later)
+          (one.0, HasKind-apply d s keeps (plain p.0) one.0 one.1)
+          (All-head (UnifiesIn s) (plain p.0, plain p.1) (plain_pairs pairs) e) q.3.0 rest.3.0
+          (All-head (IsIrreducible d equations) u (v ∷ us) n) (All-head (IsIrreducible d equations) v us later)
           in
           All-cons (Unifies c) (plain t, plain w) (problem_over ts)
           (BEqual-trans d (BEqual-sym d z.0) (BEqual-trans d same z.1.0))

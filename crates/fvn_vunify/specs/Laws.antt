@@ -35,7 +35,7 @@ pub record TheoryUnifierLaws (g : Setting) (problem : Problem) : Type 0 where
   -- and the same of those whose instances of some terms are bounded
   pub within : (list : List Substitution) (most : ℕ) (ts : List Term)
       → ((c : Substitution) → IsIrreducibleUnifier g problem c → IsWithin g.declarations g.equations most ts c
-          → IsInstanceOfSome g problem list c)
+      → IsInstanceOfSome g problem list c)
       → (s : Substitution) → IsKeptUnifier g problem s → IsWithin g.declarations g.equations most ts s
       → IsTheoryInstanceOfSome g problem list s
 

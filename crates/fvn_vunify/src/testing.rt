@@ -41,12 +41,7 @@ fn test_term<E: Expander>(alloc: Global, expander: &E, t: &Flat) -> Result<Test,
 }
 
 // Whether what a substitution makes of a variable is irreducible.
-fn test_value<E: Expander>(
-    alloc: Global,
-    expander: &E,
-    s: &Subst,
-    x: Var,
-) -> Result<Test, NoMemory>
+fn test_value<E: Expander>(alloc: Global, expander: &E, s: &Subst, x: Var) -> Result<Test, NoMemory>
     requires values { BindingsFit (E.setting expander.now).declarations s.now }
     requires sort { IsSort (E.setting expander.now).declarations x.sort }
     ensures { IfOk result (IsTestOf (E.setting expander.now) (value s.now x)) }

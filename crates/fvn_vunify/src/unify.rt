@@ -11,9 +11,13 @@ use fvn_base::Seq;
 use fvn_cover::{Variant, covering_of_unifiers_is_instance, prune};
 use fvn_exploring::{ExpandEnd, Expander, Explored};
 use fvn_flat::{AxiomSolver, Subst};
-use fvn_rewrite_laws::{agreement_is_lawful, kinded_theories_are_lawful, lists_are_lawful, sequences_are_lawful};
+use fvn_rewrite_laws::{
+    agreement_is_lawful, kinded_theories_are_lawful, lists_are_lawful, sequences_are_lawful,
+};
 use fvn_signature::Signature;
-use fvn_terms::{NoMemory, Var, instances_are_transitive, rewriting_is_lawful, theory_equality_is_lawful};
+use fvn_terms::{
+    NoMemory, Var, instances_are_transitive, rewriting_is_lawful, theory_equality_is_lawful,
+};
 use std::alloc::Global;
 
 // The variables of the first variant.

@@ -63,7 +63,7 @@ module _ (g : Setting) (vars : List Var) where
     pub passed : (u : Variant) → Contains found u → Any (λ s. IsTestedAs first s u) list
     pub whole : end ≡ Whole → (s : Bindings) → Contains list s
         → ((x : Var) → Contains vars x
-            → IsIrreducible g.declarations g.equations (substitution (composed g.declarations first s) x))
+        → IsIrreducible g.declarations g.equations (substitution (composed g.declarations first s) x))
         → Any (IsTestedAs first s) found
     pub stop : end ≢ Whole → Any (λ s. IsStopBetween first s end) list
 
@@ -88,7 +88,7 @@ module _ (g : Setting) (vars : List Var) where
   AreWholeFor v found =
       (c : Substitution) → IsUnifier g.declarations (problem_over v.terms) c
       → ((x : Var) → Contains vars x
-          → IsIrreducible g.declarations g.equations (apply c (substitution v.subst x)))
+      → IsIrreducible g.declarations g.equations (apply c (substitution v.subst x)))
       → Any (IsAbove v c) found
 
 module _ (g : Setting) (drawn : Problem → Substitution → Type 0) (vars : List Var) where
