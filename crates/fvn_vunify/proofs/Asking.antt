@@ -53,6 +53,11 @@ module _ (g : Setting) (drawn : Problem → Substitution → Type 0) (x : Explor
           same_vars = λ y. (λ n. (f.vars.all y).1 ((k.all y).0 n), λ n. (k.all y).1 ((f.vars.all y).0 n));
         }
 
+  pub solvable_at : AreKnown g.declarations g.equations → (variants : List Variant) (vs : List Var) → variants ≡ x.variants → vs ≡ first_variables variants → All (IsSolvable g vs) variants
+  solvable_at known variants vs is vs_are =
+      let at : vs ≡ vars = vs_are ∙ ap first_variables is in
+      subst (λ l. All (IsSolvable g l) variants) (sym at) (subst (All (IsSolvable g vars)) (sym is) (all_solvable known))
+
   module _ (found : List Variant) (end : ExpandEnd) (attempts : AreAttempts g drawn vars x.variants found end) where
     record HasMaking (u : Variant) : Type 0 where
       pub by : Bindings

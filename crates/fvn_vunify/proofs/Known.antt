@@ -8,8 +8,10 @@ use Rattle.fvn_terms.specs.Signature.{IsTerm}
 use Rattle.fvn_terms.specs.Places.{stop}
 use Rattle.fvn_terms.specs.Theory.{Equations}
 use Rattle.fvn_terms.specs.Rewriting.{ListRewrites, IsReducible, IsIrreducible, IsIrreducibleList}
-use Rattle.fvn_terms.specs.Laws.{RewritingLaws, TheoryLaws}
-use Rattle.fvn_rewrite_laws.specs.Laws.{SequenceLaws, ListLaws, KindedLaws}
+use Rattle.fvn_terms.specs.Laws.{RewritingLaws, TheoryLaws, RewritingIsLawful, TheoryEqualityIsLawful}
+use Rattle.fvn_forms.specs.FitsKinds.{FitsKinds}
+use Rattle.fvn_rewrite_laws.specs.Kinds.{HaveOneKind}
+use Rattle.fvn_rewrite_laws.specs.Laws.{SequenceLaws, ListLaws, KindedLaws, SequencesAreLawful, ListsAreLawful, KindedTheoriesAreLawful}
 use Rattle.fvn_rewrite_laws.proofs.Lists.{each_equal_itself}
 
 -- the laws of rewriting, of the theory, of sequences, of lists and of kinds
@@ -19,6 +21,16 @@ pub record AreKnown (d : Declarations) (equations : Equations) : Type 0 where
   pub sequences : SequenceLaws d equations
   pub lists : ListLaws d equations
   pub kinded : KindedLaws d equations
+
+pub known_of : RewritingIsLawful → TheoryEqualityIsLawful → SequencesAreLawful → ListsAreLawful → KindedTheoriesAreLawful →
+    (d : Declarations) → FitsKinds d → (equations : Equations) → HaveOneKind d equations → AreKnown d equations
+known_of rewriting theory sequences lists kinded d fits equations kinds = record {
+  rewriting = rewriting d equations;
+  theory = theory d equations;
+  sequences = sequences d equations;
+  lists = lists d equations;
+  kinded = kinded d fits equations kinds;
+}
 
 module _ (d : Declarations) (equations : Equations) (laws : RewritingLaws d equations)
     (decided : (t : Term) → IsTerm d t → IsReducible d equations t ⊎ IsIrreducible d equations t) where
