@@ -1,10 +1,14 @@
 -- One more unifier.
-use Rattle.std.proofs.Common.{sym, subst, [], ◌∷◌, ◌++◌, take}
+use Rattle.std.proofs.Common.{sym, ap, ◌∙◌, subst, [], ◌∷◌, ◌++◌, take}
 use Rattle.std.specs.Prelude.{All}
 use Rattle.std.proofs.lemmas.List.{take_all}
-use Rattle.fvn_flat.specs.Bindings.{Bindings, BindingsFit}
+use Rattle.fvn_terms.specs.declared.plain.Var.{Var}
+use Rattle.fvn_terms.specs.Signature.{IsSort}
+use Rattle.fvn_flat.specs.Bindings.{Bindings, BindingsFit, IsRestriction, composed}
 use Rattle.fvn_exploring.specs.declared.ends.ExpandEnd.TheVariants.{Whole}
-use Rattle.fvn_vunify.specs.inner.Attempts.{AreTested}
+use Rattle.fvn_vunify.specs.inner.Tests.{AreTestsOf}
+use Rattle.fvn_vunify.specs.inner.Ends.{first_end}
+use Rattle.fvn_vunify.specs.inner.Attempts.{candidate_of, AreTested}
 use Rattle.fvn_vunify.proofs.Tested.{take_next, tested_none, tested_passed, tested_reducible, tested_stopped}
 use Rattle.fvn_vunify.proofs.attempts.tested.Goals as goal
 
@@ -15,6 +19,12 @@ loop-s-init g c =
 
 pub joined-requires-clause-then : goal.joined-requires-clause-then
 joined-requires-clause-then g c = subst (BindingsFit c.args.sig.now) (sym c.s-item.is) (c.requires.unifiers c.loop-s.s-index c.s-item.result c.loop-s-test.true)
+
+pub test_values-requires-clause-values : goal.test_values-requires-clause-values
+test_values-requires-clause-values g c = subst (λ d. BindingsFit d c.in_ok-subst.subst) c.requires.sig c.in_ok-subst.ensures.fits
+
+pub test_values-requires-clause-sorts : goal.test_values-requires-clause-sorts
+test_values-requires-clause-sorts g c = subst (λ d. All (λ (x : Var). IsSort d x.sort) c.args.vars.now) c.requires.sig c.requires.sorts
 
 pub returns : goal.returns
 returns g c =
