@@ -74,7 +74,7 @@ module _ (g : Setting) (good : IsGood g.declarations) (vars : List Var) (v : Var
   seen_unifies_all s keeps (t ∷ []) fit h = All-nil (Unifies (seen s))
   seen_unifies_all s keeps (t ∷ u ∷ ts) fit h =
       let rest = problem_over (map (renamed_form g.declarations to) ts) in
-      let first = (plain (renamed_form g.declarations to t), plain (renamed_form g.declarations to u)) in
+      let first : Term × Term = (plain (renamed_form g.declarations to t), plain (renamed_form g.declarations to u)) in
       All-cons (Unifies (seen s)) (plain t, plain u) (problem_over ts)
       (BEqual-trans g.declarations (BEqual-sym g.declarations (seen_on_form s keeps t fit.0.kinded))
       (BEqual-trans g.declarations (All-head (Unifies s) first rest h) (seen_on_form s keeps u fit.1.0.kinded)))

@@ -65,6 +65,6 @@ returns g c =
     let unifiers_are : c.from_vec.result ≡ map (λ (u : Variant). u.subst) kept = c.from_vec.ensures ∙ c.in_ok-unifiers.ensures in
     let end_is : c.end_after-end.result ≡ end_after x.end c.in_ok-attempt.attempt.end = c.end_after-end.ensures ∙ ap (λ e. end_after e c.in_ok-attempt.attempt.end) c.into_end.ensures in
     λ pairs limits ex.
-        subst (λ (us : List Bindings). IsSolvedModulo s may pairs limits x (record { unifiers = us; end = c.end_after-end.result })) (sym unifiers_are)
-        (subst (λ (e : ExploreEnd). IsSolvedModulo s may pairs limits x (record { unifiers = map (λ (u : Variant). u.subst) kept; end = e })) (sym end_is)
-        (answered s may good.fits known c.covering_of_unifiers_is_instance.ensures c.instances_are_transitive.ensures c.requires.fixed x found kept c.in_ok-attempt.attempt.end attempts pruned pairs limits ex))
+    subst (λ (us : List Bindings). IsSolvedModulo s may pairs limits x (record { unifiers = us; end = c.end_after-end.result })) (sym unifiers_are)
+    (subst (λ (e : ExploreEnd). IsSolvedModulo s may pairs limits x (record { unifiers = map (λ (u : Variant). u.subst) kept; end = e })) (sym end_is)
+    (answered s may good.fits known c.covering_of_unifiers_is_instance.ensures c.instances_are_transitive.ensures c.requires.fixed x found kept c.in_ok-attempt.attempt.end attempts pruned pairs limits ex))
