@@ -25,8 +25,8 @@ pub record IsPairsProblem (g : Setting) (v : Variant) (given : Pairs) : Type 0 w
   pub renamed_before : IsRenamed g.declarations v.vars (narrowed v) from
   pub is : given.pairs ≡ two_by_two from.terms
 
--- On the variant's variables s is what the variant makes of them, its variables perhaps renamed, and then a unifier that
--- is drawn for its terms two by two; this moves the variables of these terms alone, to terms over new ones.
+-- On the variant's variables s is what the variant makes of them, its variables perhaps renamed, and then a unifier
+-- that is drawn for its terms two by two; this moves the variables of these terms alone, to terms over new ones.
 pub record IsDrawnSolution (g : Setting) (drawn : Problem → Substitution → Type 0) (v : Variant)
     (s : Substitution) : Type 0 where
   pub from : Narrowed

@@ -17,7 +17,8 @@ use Rattle.fvn_exploring.specs.Setting.{Setting}
 use Rattle.fvn_vunify.specs.Solutions.{IsKeptUnifier, IsIrreducibleUnifier}
 use Rattle.fvn_vunify.specs.Solutions.{IsInstanceOfSome, IsTheoryInstanceOfSome, AreAllIrreducibleUnifiers}
 
--- c is an irreducible unifier of which s is an instance in the theory, and its instances have no longer sequences than those of s
+-- c is an irreducible unifier of which s is an instance in the theory; its instances have no longer sequences than
+-- those of s
 pub record IsIrreducibleFor (g : Setting) (problem : Problem) (s c : Substitution) : Type 0 where
   pub irreducible : IsIrreducibleUnifier g problem c
   pub instance : IsTheoryInstance g.declarations g.equations (variables_of problem) s c

@@ -74,9 +74,10 @@ module _ (g : Setting) (drawn : Problem → Substitution → Type 0) (pairs : Fl
       pub small : All (HasSmallValues g (plain_pairs pairs)) r.unifiers
       -- none is an instance of another modulo the axioms
       pub apart : IsApartFor g.declarations (plain_pairs pairs) (map substitution r.unifiers)
-      -- At Complete each such unifier is an instance of one of them; else, where the pairs of no variant meet a bound, those
-      -- that are within so many steps as the exploration covers.
-      pub complete : r.end ≡ Complete → IsTerminating g.declarations g.equations → IsConfluent g.declarations g.equations
+      -- At Complete each such unifier is an instance of one of them; else, where the pairs of no variant meet a bound,
+      -- those that are within so many steps as the exploration covers.
+      pub complete : r.end ≡ Complete
+          → IsTerminating g.declarations g.equations → IsConfluent g.declarations g.equations
           → AreAllIrreducibleUnifiers g (plain_pairs pairs) (map substitution r.unifiers)
       pub within : IsConfluent g.declarations g.equations → All (λ v. MeetsBound g drawn v → ⊥) x.variants
           → (s : Substitution) → IsIrreducibleUnifier g (plain_pairs pairs) s → IsWithinExplored s
@@ -88,4 +89,5 @@ module _ (g : Setting) (drawn : Problem → Substitution → Type 0) (pairs : Fl
 -- for all pairs whose sides may have been explored so
 abbrev pub IsSolvedFor : Setting → (Problem → Substitution → Type 0) → Explored → SolvedModulo → Type 0
 IsSolvedFor g drawn x r =
-    (pairs : FlatPairs) (limits : Limits) → IsExploredFor g drawn pairs limits x → IsSolvedModulo g drawn pairs limits x r
+    (pairs : FlatPairs) (limits : Limits) → IsExploredFor g drawn pairs limits x
+    → IsSolvedModulo g drawn pairs limits x r

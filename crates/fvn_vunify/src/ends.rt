@@ -1,6 +1,7 @@
 //! How searches end, and which end comes first.
 ghost use Rattle.std.specs.Prelude.{◌≡◌};
-ghost use Rattle.fvn_vunify.specs.inner.Ends.{is_whole, is_complete, first_end, end_of_pairs, end_after};
+ghost use Rattle.fvn_vunify.specs.inner.Ends.{is_whole, is_complete, first_end};
+ghost use Rattle.fvn_vunify.specs.inner.Ends.{end_of_pairs, end_after};
 
 use fvn_base::Seq;
 use fvn_exploring::{ExpandEnd, ExploreEnd};

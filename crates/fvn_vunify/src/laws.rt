@@ -9,8 +9,8 @@ use fvn_flat::flattened_pairs_have_one_answer;
 use fvn_rewrite_normal_forms::normal_forms_are_lawful;
 use fvn_terms::{instances_are_transitive, rewriting_is_lawful, theory_equality_is_lawful};
 
-/// Where admissible equations terminate and lose no sort, every unifier in the theory is there an instance of one with
-/// irreducible values.
+/// Where admissible equations terminate and lose no sort, every unifier in the theory is there an
+/// instance of one with irreducible values.
 pub fn theory_unifiers_have_irreducible_values()
     ensures { TheoryUnifiersHaveIrreducibleValues }
 {
@@ -20,7 +20,8 @@ pub fn theory_unifiers_have_irreducible_values()
     instances_are_transitive();
 }
 
-/// A complete list of unifiers with irreducible values of which none is an instance of another is a shortest one.
+/// A complete list of unifiers with irreducible values is a shortest one, where none is an instance
+/// of another.
 pub fn complete_irreducible_unifiers_are_shortest()
     ensures { CompleteIrreducibleUnifiersAreShortest }
 {

@@ -37,7 +37,7 @@ fn variables_of_values(alloc: Global, v: &Variant) -> Result<Vec<Var>, NoMemory>
     Ok(vars)
 }
 
-// Fresh variables for all variables of a variant, and the next number; none where there are too many.
+// Fresh variables for all variables of a variant, and the next number; no memory for too many.
 pub(crate) fn fresh_names(alloc: Global, v: &Variant) -> Result<(Subst, u32), NoMemory>
     ensures { IfOk result (λ r. AreFreshNames v.now r.0 r.1) }
 {

@@ -70,8 +70,8 @@ fn unifiers_of(alloc: Global, list: Vec<Variant>) -> Result<Vec<Subst>, NoMemory
 
 /// Unifiers in the theory of the expander's equations, from an exploration of the sides of pairs.
 ///
-/// The pairs of each variant are solved modulo the axioms. What this makes of the problem's variables is kept where it is
-/// irreducible, and no instance of another is given.
+/// The pairs of each variant are solved modulo the axioms. What this makes of the problem's variables
+/// is kept where it is irreducible, and no instance of another is given.
 pub fn variant_unify<E: Expander, A: AxiomSolver>(
     alloc: Global,
     sig: &Signature,
@@ -87,7 +87,8 @@ pub fn variant_unify<E: Expander, A: AxiomSolver>(
         (A.most_unifiers solver.now) (A.most_symbols solver.now) }
     requires draws { DrawsWithin (A.drawn solver.now) (E.drawn expander.now) }
 
-    // What was explored are the sides of some pairs; the answer is one for all pairs whose sides may have been explored so.
+    // What was explored are the sides of some pairs; the answer is one for all pairs whose sides may
+    // have been explored so.
     requires explored { IsOfSomePairs (E.setting expander.now) (E.drawn expander.now) explored }
     ensures solved { IfOk result
         (IsSolvedFor (E.setting expander.now) (E.drawn expander.now) explored) }

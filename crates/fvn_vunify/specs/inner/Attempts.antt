@@ -57,7 +57,8 @@ module _ (g : Setting) (vars : List Var) where
     pub listed : Contains vars variable
     pub stop : IsStopOf g (value by variable) end
 
-  -- each that is found passed; at Whole those of all unifiers are found that give irreducible values; else a test stopped
+  -- each that is found passed; at Whole those of all unifiers are found that give irreducible values; else a test
+  -- stopped
   pub record AreTested (first : Bindings) (list : List Bindings) (found : List Variant)
       (end : ExpandEnd) : Type 0 where
     pub passed : (u : Variant) → Contains found u → Any (λ s. IsTestedAs first s u) list
