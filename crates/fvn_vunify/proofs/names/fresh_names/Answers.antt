@@ -16,6 +16,6 @@ returns c = record {
   named = c.in_ok-names.ensures.named;
   apart = c.in_ok-names.ensures.apart;
   held = λ x o. subst (λ l. Contains l x) (sym (c.as_slice.ensures.value ∙ c.in_ok-vars.ensures)) (values_held c.args.v.now x o);
-  small = let n = ap length c.as_slice.ensures.value in omega arith;
+  small = let n = ap length c.as_slice.ensures.value in omega (arith, n, c.in_ok-names.ensures.next, c.len.ensures);
   fits = c.in_ok-names.ensures.fits;
 }
