@@ -1,5 +1,6 @@
 -- Lemmas of unifiers in a theory.
 mod IrreducibleValues
+mod InTurn
 mod TwoByTwo
 mod Known
 mod Above

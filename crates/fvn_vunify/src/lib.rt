@@ -6,6 +6,7 @@ mod ends;
 mod laws;
 mod names;
 mod pairs;
+mod sides;
 mod solved;
 mod solving;
 mod testing;
@@ -15,5 +16,6 @@ pub use laws::{
     complete_irreducible_unifiers_are_shortest, flattened_pairs_have_one_theory_answer,
     theory_unifiers_have_irreducible_values,
 };
+pub use sides::sides_of;
 pub use solved::SolvedModulo;
 pub use unify::variant_unify;
