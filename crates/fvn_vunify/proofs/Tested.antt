@@ -60,6 +60,12 @@ module _ (g : Setting) (vars : List Var) (first : Bindings) where
     stop = λ n. absurd (n refl);
   }
 
+  -- the same lists and end
+  pub tested_as : {list other : List Bindings} {found kept : List Variant} {end last : ExpandEnd} → other ≡ list → kept ≡ found → last ≡ end →
+      AreTested g vars first list found end → AreTested g vars first other kept last
+  tested_as {list} {other} {found} {kept} {end} {last} a b c h =
+      subst (λ l. AreTested g vars first l kept last) (sym a) (subst (λ l. AreTested g vars first list l last) (sym b) (subst (AreTested g vars first list found) (sym c) h))
+
   module _ (list : List Bindings) (found : List Variant) (end : ExpandEnd) (tested : AreTested g vars first list found end)
       (s by : Bindings) (joined : IsJoined g vars first s by) (fits : BindingsFit g.declarations by) where
     old_passed : (u : Variant) → Contains found u → Any (λ s. IsTestedAs g vars first s u) (list ++ s ∷ [])

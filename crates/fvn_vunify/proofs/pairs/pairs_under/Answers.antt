@@ -20,7 +20,7 @@ loop-i-preserved c =
     let b = c.index-terms-i-in-loop-i.result in
     record {
       within = omega (arith, c.loop-i-test.true);
-      whole = pairs_step f c.args.terms.now c.loop-i.i a b c.loop-i.pairs.items c.push.new.pairs.items (omega (arith, c.loop-i-test.true)) c.index-terms-i.is c.index-terms-i-in-loop-i.is
+      whole = pairs_step f c.args.terms.now c.loop-i.i a b c.loop-i.pairs.items c.push.new.self.items (omega (arith, c.loop-i-test.true)) c.index-terms-i.is c.index-terms-i-in-loop-i.is
           (c.in_ok-push.ensures.items ∙ ap (λ t. c.loop-i.pairs.items ++ (t, c.in_ok-right.right) ∷ []) c.in_ok-left.ensures.exact ∙ ap (λ t. c.loop-i.pairs.items ++ (f a, t) ∷ []) c.in_ok-right.ensures.exact)
           c.loop-i.invariant.whole;
     }
