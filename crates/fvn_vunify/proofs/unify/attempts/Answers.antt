@@ -10,10 +10,10 @@ pub loop-v-init : goal.loop-v-init
 loop-v-init g c =
     let s = g.E.Expander.setting c.args.expander.now in
     let drawn = g.E.Expander.drawn c.args.expander.now in
-    subst (λ l. AreAttempts s drawn c.args.vars.now [] l Whole) (sym c.new.ensures.items) (attempts_none s drawn c.args.vars.now)
+    subst (λ l. AreAttempts s drawn c.args.vars.now [] l Whole) (sym c.new-found.ensures.items) (attempts_none s drawn c.args.vars.now)
 
 pub solve_variant-requires-clause-solvable : goal.solve_variant-requires-clause-solvable
-solve_variant-requires-clause-solvable g c =
+solve_variant-requires-clause-solvable g c = λ κs w.
     subst (IsSolvable (g.E.Expander.setting c.args.expander.now) c.args.vars.now) (sym c.v-item.is) (c.requires.solvable c.loop-v.v-index c.v-item.result c.loop-v-test.true)
 
 pub loop-v-preserved : goal.loop-v-preserved
