@@ -4,7 +4,7 @@ use Rattle.std.specs.Prelude.{All}
 use Rattle.std.proofs.lemmas.List.{take_all}
 use Rattle.fvn_terms.specs.declared.plain.Var.{Var}
 use Rattle.fvn_terms.specs.Signature.{IsSort}
-use Rattle.fvn_flat.specs.Bindings.{Bindings, BindingsFit, IsRestriction, composed}
+use Rattle.fvn_flat.specs.Bindings.{BindingsFit, IsRestriction, composed}
 use Rattle.fvn_cover.specs.declared.variant.Variant.{Variant}
 use Rattle.fvn_exploring.specs.declared.ends.ExpandEnd.TheVariants.{Whole}
 use Rattle.fvn_vunify.specs.inner.Tests.{AreTestsOf}

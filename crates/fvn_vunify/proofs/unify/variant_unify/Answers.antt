@@ -4,13 +4,13 @@ use Rattle.std.specs.Prelude.{List, All}
 use Rattle.fvn_flat.specs.Bindings.{Bindings}
 use Rattle.fvn_forms.specs.Good.{IsGood}
 use Rattle.fvn_cover.specs.declared.variant.Variant.{Variant}
-use Rattle.fvn_cover.specs.Covering.{AreAlike, IsFlatVariant}
+use Rattle.fvn_cover.specs.Covering.{IsFlatVariant}
 use Rattle.fvn_cover.specs.Pruning.{IsPruned}
 use Rattle.fvn_exploring.specs.declared.ends.ExploreEnd.{ExploreEnd}
 use Rattle.fvn_vunify.specs.Solved.{IsSolvedModulo}
 use Rattle.fvn_vunify.specs.inner.Ends.{end_after}
 use Rattle.fvn_vunify.specs.inner.Attempts.{first_variables, AreAttempts}
-use Rattle.fvn_vunify.proofs.Known.{AreKnown, known_of}
+use Rattle.fvn_vunify.proofs.Known.{known_of}
 use Rattle.fvn_vunify.proofs.Asking.{solvable_at, all_flat, all_alike}
 use Rattle.fvn_vunify.proofs.Answered.{answered}
 use Rattle.fvn_vunify.proofs.unify.variant_unify.Goals as goal
