@@ -42,6 +42,19 @@ replaced_at (i ∷ path) (fapp f joined ts) at given h =
     let a = among_arguments at given h.0 r.0 r.1 ts i h.1 in
     (fapp f joined a.0, inside a.1)
 
+-- where a path leads, a form is replaced by what is put there
+put_among_replaces : (i : ℕ) (path : List ℕ) (ts : FlatTerms) (at given u : FlatTerm) → slice_get (funpack ts) i ≡ Some u → IsReplaced at given u (put_along path u given) → IsReplacedAmong at given ts (put_among i path ts given)
+put_among_replaces i path fnone at given u e r = cc
+put_among_replaces zero path (fmore t ts) at given u e r =
+    let same : u ≡ t = sym (same_item t u e) in
+    first (subst (λ z. IsReplaced at given z (put_along path z given)) same r)
+put_among_replaces (suc i) path (fmore t ts) at given u e r = later (put_among_replaces i path ts at given u e r)
+
+pub put_replaces : (path : List ℕ) (t at given : FlatTerm) → LeadsTo path t at → IsReplaced at given t (put_along path t given)
+put_replaces [] t at given h = subst (λ z. IsReplaced at given z given) (sym h) here
+put_replaces (i ∷ path) (fvar x) at given h = let e = h.1 in cc
+put_replaces (i ∷ path) (fapp f joined ts) at given h = inside (put_among_replaces i path ts at given h.0 h.1 (put_replaces path h.0 at given h.2))
+
 -- a path of a form, through arguments of which the first has a number, along which v makes them the others
 record IsThrough (first_number : ℕ) (u v : FlatTerm) (ts us : FlatTerms) : Type 0 where
   place : ℕ
