@@ -40,6 +40,7 @@ pub record IsRenewed (d : Declarations) (next : ℕ) (rule new : Rule) : Type 0 
   pub right : new.right ≡ renamed_form d by rule.right
   pub equation : new.equation ≡ rule.equation
   pub numbers : (y : Var) → OccursInRule new y → IsNumberedUpTo next y
+  pub positive : 1 ≤ next
   pub small : next ≤ FIRST_FRESH
 
 -- an outer rule, the path to a part of its left side, the part, and an inner rule
