@@ -182,7 +182,9 @@ fn first_fault<A: AxiomSolver>(
 /// Why it is not shown that the equations are confluent where they terminate; nothing where it is shown.
 ///
 /// First it is told which equation loses a sort. Then each rule's left side is unified with each part of each rule's
-/// left side, a rule with itself too, and both results are brought to normal form.
+/// left side that has its head, with the whole of it too, and a rule with itself too; and what both rules make of it is
+/// brought to normal form. All rules are taken, and not only those that are needed under a head: a rule whose left side
+/// is an instance of another's may have a right side that is none.
 pub fn critical_fault<A: AxiomSolver>(
     alloc: Global,
     sig: &Signature,
