@@ -1,11 +1,10 @@
 //! The test of all overlaps.
-ghost use Rattle.std.specs.Prelude.{◌≡◌, ◌∷◌, [], All, Contains, IfOk};
+ghost use Rattle.std.specs.Prelude.{◌≡◌, All, Contains, IfOk};
 ghost use Rattle.fvn_places.specs.Paths.{paths};
 ghost use Rattle.fvn_theory.specs.Equations.{IsReadableEquation};
-ghost use Rattle.fvn_rewrite.specs.Usable.{AreUsable, equations_by};
-ghost use Rattle.fvn_critical_pairs.specs.Overlaps.{IsJoined};
+ghost use Rattle.fvn_rewrite.specs.Usable.{AreUsable};
 ghost use Rattle.fvn_critical.specs.Faults.{rewriting_of, IsAnswer, TellsFirstLoss, IsOnlyLimited};
-ghost use Rattle.fvn_critical.specs.inner.Testing.{HeadsAs, IsNewRule, IsPartAt, TestedAs, JoinAt, JoinAlong, AreJoined};
+ghost use Rattle.fvn_critical.specs.inner.Testing.{HeadsAs, IsNewRule, IsPartAt, TestedAs, Each, JoinWith, JoinAt, IsJoinedBy};
 
 use crate::fault::CriticalFault;
 use crate::overlapping::overlap_fault;
@@ -55,7 +54,7 @@ fn fault_with<A: AxiomSolver>(
     requires inner { Contains tester.now.rewriter.rules.rules inner.now }
     ensures { IfOk result (TestedAs tester.now.rewriter (A.drawn tester.now.solver.now)
         (A.most_unifiers tester.now.solver.now)
-        (JoinAt tester.now.rewriter new.now.rule part.now.path.now (inner.now ∷ []))) }
+        (JoinWith tester.now.rewriter new.now.rule part.now.path.now inner.now)) }
 {
     if !heads(part.head, &inner.left) {
         return Ok(None);
@@ -84,7 +83,7 @@ fn fault_by<A: AxiomSolver>(
     requires inner { rules.now ≡ tester.now.rewriter.rules.rules }
     ensures { IfOk result (TestedAs tester.now.rewriter (A.drawn tester.now.solver.now)
         (A.most_unifiers tester.now.solver.now)
-        (JoinAt tester.now.rewriter new.now.rule part.now.path.now rules.now)) }
+        (Each (JoinWith tester.now.rewriter new.now.rule part.now.path.now) rules.now)) }
 {
     for inner in rules {
         let fault = fault_with(tester, alloc, new, part, inner)?;
@@ -106,7 +105,7 @@ fn fault_at<A: AxiomSolver>(
     requires path { Contains (paths new.now.rule.left) path.now }
     ensures { IfOk result (TestedAs tester.now.rewriter (A.drawn tester.now.solver.now)
         (A.most_unifiers tester.now.solver.now)
-        (JoinAlong tester.now.rewriter new.now.rule (path.now ∷ []))) }
+        (JoinAt tester.now.rewriter new.now.rule path.now)) }
 {
     let Some(at) = form_at(&new.rule.left, path) else {
         return Ok(None);
@@ -130,7 +129,7 @@ fn fault_along<A: AxiomSolver>(
     requires list { list.now ≡ paths new.now.rule.left }
     ensures { IfOk result (TestedAs tester.now.rewriter (A.drawn tester.now.solver.now)
         (A.most_unifiers tester.now.solver.now)
-        (JoinAlong tester.now.rewriter new.now.rule list.now)) }
+        (Each (JoinAt tester.now.rewriter new.now.rule) list.now)) }
 {
     for path in list {
         let fault = fault_at(tester, alloc, new, path.as_slice())?;
@@ -150,8 +149,7 @@ fn fault_of<A: AxiomSolver>(
     requires { Contains tester.now.rewriter.rules.rules rule.now }
     ensures { IfOk result (TestedAs tester.now.rewriter (A.drawn tester.now.solver.now)
         (A.most_unifiers tester.now.solver.now)
-        (IsJoined tester.now.rewriter.signature (equations_by tester.now.rewriter)
-        tester.now.rewriter.rules rule.now)) }
+        (IsJoinedBy tester.now.rewriter rule.now)) }
 {
     tester.rewriter.recall();
     rules_are_lawful();
@@ -168,7 +166,7 @@ fn first_fault<A: AxiomSolver>(
 ) -> Result<Option<CriticalFault>, NoMemory>
     ensures { IfOk result (TestedAs tester.now.rewriter (A.drawn tester.now.solver.now)
         (A.most_unifiers tester.now.solver.now)
-        (AreJoined tester.now.rewriter tester.now.rewriter.rules.rules)) }
+        (Each (IsJoinedBy tester.now.rewriter) tester.now.rewriter.rules.rules)) }
 {
     for rule in tester.rewriter.rules().rules() {
         let fault = fault_of(tester, alloc, rule)?;

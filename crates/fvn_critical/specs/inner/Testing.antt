@@ -56,18 +56,22 @@ module _ (r : Rewriting) (drawn : Problem → Substitution → Type 0) (unifiers
 abbrev pub AllJoin : Rewriting → Overlap → List Bindings → Type 0
 AllJoin r o list = All (λ s. JoinsUnder r.signature (equations_by r) o (substitution s)) list
 
--- the overlaps of the outer rule at the path with these rules join
-abbrev pub JoinAt : Rewriting → Rule → List ℕ → List Rule → Type 0
-JoinAt r outer path inners =
-    (o : Overlap) → o.outer ≡ outer → o.path ≡ path → Contains inners o.inner → IsOverlapWith r.rules o →
+-- each member is so
+abbrev pub Each : {A : Type 0} → (A → Type 0) → List A → Type 0
+Each {A} P list = (x : A) → Contains list x → P x
+
+-- the overlaps of the outer rule at the path with this rule join
+abbrev pub JoinWith : Rewriting → Rule → List ℕ → Rule → Type 0
+JoinWith r outer path inner =
+    (o : Overlap) → o.outer ≡ outer → o.path ≡ path → o.inner ≡ inner → IsOverlapWith r.rules o →
     Joins r.signature (equations_by r) o
 
--- the overlaps of the outer rule at one of these paths join
-abbrev pub JoinAlong : Rewriting → Rule → List (List ℕ) → Type 0
-JoinAlong r outer list =
-    (o : Overlap) → o.outer ≡ outer → Contains list o.path → IsOverlapWith r.rules o →
+-- the overlaps of the outer rule at the path join
+abbrev pub JoinAt : Rewriting → Rule → List ℕ → Type 0
+JoinAt r outer path =
+    (o : Overlap) → o.outer ≡ outer → o.path ≡ path → IsOverlapWith r.rules o →
     Joins r.signature (equations_by r) o
 
--- each of these rules is joined
-abbrev pub AreJoined : Rewriting → List Rule → Type 0
-AreJoined r rules = (rule : Rule) → Contains rules rule → IsJoined r.signature (equations_by r) r.rules rule
+-- all overlaps of the rule join
+abbrev pub IsJoinedBy : Rewriting → Rule → Type 0
+IsJoinedBy r = IsJoined r.signature (equations_by r) r.rules
