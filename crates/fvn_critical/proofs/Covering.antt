@@ -9,11 +9,11 @@ use Rattle.fvn_terms.specs.Substitution.{Substitution}
 use Rattle.fvn_terms.specs.Unifiers.{Problem}
 use Rattle.fvn_forms.specs.Flat.{FlatTerm}
 use Rattle.fvn_flat.specs.Forms.{head_of}
-use Rattle.fvn_rewrite.specs.Usable.{Rewriting}
+use Rattle.fvn_rewrite.specs.Usable.{Rewriting, equations_by}
 use Rattle.fvn_rewrite_rules.specs.declared.rule.Rule.{Rule}
 use Rattle.fvn_places.specs.Paths.{LeadsTo}
 use Rattle.fvn_places.proofs.PathFacts.{leads_once}
-use Rattle.fvn_critical_pairs.specs.Overlaps.{Overlap, IsOverlapWith}
+use Rattle.fvn_critical_pairs.specs.Overlaps.{Overlap, IsOverlapWith, Joins}
 use Rattle.fvn_critical.specs.declared.fault.CriticalFault.{CriticalFault}
 use Rattle.fvn_critical.specs.Faults.{IsCriticalFault}
 use Rattle.fvn_critical.specs.inner.Testing.{TestedAs, Each, JoinWith, JoinAt}
@@ -83,6 +83,13 @@ module _ (r : Rewriting) (outer : Rule) (path : List ℕ) where
     pub other_head : (inner : Rule) → (head_of inner.left ≡ Some head → ⊥) → JoinWith r outer path inner
     other_head inner n o same there this h =
         absurd (n (subst (λ (z : Rule). head_of z.left ≡ Some head) this (subst (λ f. head_of o.inner.left ≡ Some f) (operator_is o same there h) h.heads_inner)))
+
+    -- the overlap that is tested is each one there with this rule
+    pub with_this : (inner : Rule) → Joins r.signature (equations_by r) record { outer = outer; path = path; at = at; inner = inner } → JoinWith r outer path inner
+    with_this inner j o same there this h =
+        let is : o.at ≡ at = leads_once path outer.left o.at at (leads_there o same there h) leads in
+        let whole : record { outer = outer; path = path; at = at; inner = inner } ≡ o = λ i. record { outer = same (~ i); path = there (~ i); at = is (~ i); inner = this (~ i) } in
+        subst (Joins r.signature (equations_by r)) whole j
 
   pub with_all : Each (JoinWith r outer path) r.rules.rules → JoinAt r outer path
   with_all h o same there k = h o.inner k.given o same there refl k

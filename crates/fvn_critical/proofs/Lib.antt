@@ -6,3 +6,4 @@ mod Trying
 mod Posing
 mod Joining
 mod Covering
+mod Answering
