@@ -1,8 +1,8 @@
 -- What is tested, one after another.
 use Rattle.std.proofs.Common.{◌≡◌, ◌⊎◌, ◌+◌, ◌≤◌, ◌<◌, ℕ, List, [], ◌∷◌, ◌++◌, take, length, get_or, Some, None, inl, inr, refl, sym, ap, ◌∙◌, subst}
-use Rattle.std.specs.Prelude.{Option, Contains}
+use Rattle.std.specs.Prelude.{Option, All, Contains}
 use Rattle.std.proofs.lemmas.List.{take_more, take_all}
-use Rattle.std.proofs.lemmas.List.Elements.{Contains-append_cases}
+use Rattle.std.proofs.lemmas.List.Elements.{All-nil, All-cons, All-append, Contains-append_cases}
 use Rattle.fvn_base.proofs.Membership.{contains_cases, contains_none}
 use Rattle.fvn_terms.specs.declared.plain.OpId.{OpId}
 use Rattle.fvn_terms.specs.Substitution.{Substitution}
@@ -38,6 +38,12 @@ module _ {A : Type 0} (P : A → Type 0) where
 
   pub each_all : (l : List A) (i : ℕ) → length l ≤ i → Each P (take i l) → Each P l
   each_all l i end h = subst (Each P) (take_all i l end) h
+
+  pub all_more : (l : List A) (i : ℕ) (x : A) → i < length l → x ≡ get_or l i x → All P (take i l) → P x → All P (take (i + 1) l)
+  all_more l i x within is before here = subst (All P) (sym (take_more l i x within ∙ ap (λ z. take i l ++ z ∷ []) (sym is))) (All-append P (take i l) (x ∷ []) before (All-cons P x [] here (All-nil P)))
+
+  pub all_at_end : (l : List A) (i : ℕ) → length l ≤ i → All P (take i l) → All P l
+  all_at_end l i end h = subst (All P) (take_all i l end) h
 
 module _ (r : Rewriting) (drawn : Problem → Substitution → Type 0) (unifiers : ℕ) where
   -- no fault, or one

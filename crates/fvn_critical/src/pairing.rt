@@ -12,9 +12,9 @@ use crate::fault::CriticalFault;
 use crate::tester::Tester;
 use fvn_critical_pairs::overlaps_are_steps;
 use fvn_flat::{AxiomSolver, Flat, Normal, SizeCause, Subst};
-use fvn_rewrite_laws::{kinded_theories_are_lawful, rules_are_lawful};
+use fvn_rewrite_laws::{rules_are_lawful, sequences_are_lawful};
 use fvn_rewrite_rules::Rule;
-use fvn_terms::{NoMemory, rewriting_is_lawful};
+use fvn_terms::NoMemory;
 use std::alloc::Global;
 
 // An overlap, and the number after the last one of the outer rule's variables.
@@ -48,6 +48,7 @@ fn tried<A: AxiomSolver>(
 {
     tester.rewriter.recall();
     rules_are_lawful();
+    sequences_are_lawful();
     overlaps_are_steps();
     let sig = tester.rewriter.signature();
     let first = s.apply(alloc, sig, &meeting.outer.right)?;
