@@ -19,10 +19,12 @@ pub(crate) struct Numbers {
 fn compared(numbers: Numbers, left: Flat, right: Flat) -> Option<CriticalFault>
     ensures { ComparedAs numbers.outer numbers.inner left right result }
 {
-    if left.same(&right) {
+    let same = left.same(&right);
+    if same {
         return None;
     }
-    if numbers.outer <= numbers.inner {
+    let ordered = numbers.outer <= numbers.inner;
+    if ordered {
         Some(CriticalFault::Apart(numbers.outer, numbers.inner, left, right))
     } else {
         Some(CriticalFault::Apart(numbers.inner, numbers.outer, right, left))
