@@ -124,23 +124,23 @@ module _ (d : Declarations) (equations : Equations) (laws : RewritingLaws d equa
         stands : (left : FlatTerm) × (right : FlatTerm) × StandForRule d equations left right redex.left redex.right × JoinsAtParts d equations left right
         stands = joins redex.left redex.right redex.rule
 
-        made : IsInstanceOfForms d equations stands.0 stands.1 redex.left redex.right redex.by
-        made = stands.2.instances redex.by redex.well_sorted
+        stood : IsInstanceOfForms d equations stands.0 stands.1 redex.left redex.right redex.by
+        stood = stands.2.instances redex.by redex.well_sorted
 
         at_form : Rewrites d equations (plain a) (plain k)
         at_form = coherence.steps a (plain k) (record { at = b; given = h; redex = other; replaced = k; replaces = p; makes = stop })
 
-        at_left : Rewrites d equations (apply made.by (plain stands.0)) (plain k)
-        at_left = laws.modulo (plain a) (apply made.by (plain stands.0)) (plain k) (plain k) (BEqual-trans d redex.matches (BEqual-sym d made.left_is)) at_form stop
+        at_left : Rewrites d equations (apply stood.by (plain stands.0)) (plain k)
+        at_left = laws.modulo (plain a) (apply stood.by (plain stands.0)) (plain k) (plain k) (BEqual-trans d redex.matches (BEqual-sym d stood.left_is)) at_form stop
 
-        from : AreJoinable d equations (apply made.by (plain stands.1)) (plain k) → AreJoinable d equations (plain g) (plain k)
-        from = joins_modulo d equations sequences (apply made.by (plain stands.1)) (plain k) (plain g) (plain k) (BEqual-trans d made.right_is redex.gives) stop
+        from : AreJoinable d equations (apply stood.by (plain stands.1)) (plain k) → AreJoinable d equations (plain g) (plain k)
+        from = joins_modulo d equations sequences (apply stood.by (plain stands.1)) (plain k) (plain g) (plain k) (BEqual-trans d stood.right_is redex.gives) stop
 
         inner : AreJoinable d equations (plain g) (plain k)
-        inner = go ((instances stands.0 stands.2.fits made.by made.well_sorted).placed (plain k) at_left) where
-          go : StepsAtPart d equations made.by stands.0 (plain k) ⊎ StepsInValue d equations made.by stands.0 (plain k) → AreJoinable d equations (plain g) (plain k)
-          go (inl part) = from (stands.3 made.by made.well_sorted (plain k) part)
-          go (inr value) = from (value_joins stands.0 stands.1 stands.2.brings_none stands.2.steps made.by made.well_sorted (plain k) value)
+        inner = go ((instances stands.0 stands.2.fits stood.by stood.well_sorted).placed (plain k) at_left) where
+          go : StepsAtPart d equations stood.by stands.0 (plain k) ⊎ StepsInValue d equations stood.by stands.0 (plain k) → AreJoinable d equations (plain g) (plain k)
+          go (inl part) = from (stands.3 stood.by stood.well_sorted (plain k) part)
+          go (inr value) = from (value_joins stands.0 stands.1 stands.2.brings_none stands.2.steps stood.by stood.well_sorted (plain k) value)
 
       places_join : (a g b h t w : FlatTerm) → IsRedex d equations a (plain g) → IsRedex d equations b (plain h) → AreTwoPlaces a g b h t w → AreJoinable d equations (plain t) (plain w)
       places_join a g b h t w first second (apart {w = x} p q) = record {
