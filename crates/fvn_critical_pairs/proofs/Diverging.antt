@@ -1,5 +1,5 @@
 -- Terms that diverge are no two forms of one term of confluent equations.
-use Rattle.std.proofs.Common.{◌≡◌, ℕ, suc, List}
+use Rattle.std.proofs.Common.{ℕ, suc, List}
 use Rattle.fvn_terms.specs.declared.declarations.Declarations.{Declarations}
 use Rattle.fvn_terms.specs.Term.{Term}
 use Rattle.fvn_terms.specs.Rewriting.{TermSequence, IsConfluent}

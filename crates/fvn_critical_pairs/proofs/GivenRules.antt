@@ -1,6 +1,6 @@
 -- Given rules: they are rules of the equations, fit, and have old variables.
-use Rattle.std.proofs.Common.{◌≡◌, ◌≤◌, ℕ, true, false, List, [], ◌∷◌, Some, inl, inr, sym, ap, ◌∙◌, subst, arith}
-use Rattle.std.specs.Prelude.{◌⊎◌, Contains, slice_get}
+use Rattle.std.proofs.Common.{◌≡◌, ◌≤◌, ℕ, true, false, List, [], ◌∷◌, Some, inl, inr, sym, ◌∙◌, subst, arith}
+use Rattle.std.specs.Prelude.{Contains}
 use Rattle.std.proofs.lemmas.List.Elements.{All-contains, All-from_recursion}
 use Rattle.fvn_terms.specs.declared.plain.Var.{Var}
 use Rattle.fvn_terms.specs.declared.plain.OpId.{OpId}
@@ -26,7 +26,6 @@ use Rattle.fvn_flat.proofs.Occurrences.{occurs_in_app}
 use Rattle.fvn_terms.specs.Substitution.{OccursAmong}
 use Rattle.fvn_rewrite_laws.specs.Kinds.{HasOneKind}
 use Rattle.fvn_rewrite_laws.specs.Laws.{RuleLaws}
-use Rattle.fvn_theory.specs.declared.equation.Equation.{Equation}
 use Rattle.fvn_theory.specs.Equations.{sides_of, equations_of}
 use Rattle.fvn_rewrite_rules.specs.declared.rule.Rule.{Rule}
 use Rattle.fvn_rewrite_rules.specs.Given.{RuleLists, HasOldVariables, IsNumberedRule, IsRenamedRule}

@@ -64,8 +64,10 @@ module _ (d : Declarations) where
       identity_back f (fvar x) h i = let e : None ≡ Some i.0 = i.2 in cc
       identity_back f (fapp g true fnone) h i = let m : 2 ≤ 0 = h.0.two_or_more in absurd (omega arith)
       identity_back f (fapp g true (fmore t ts)) h i =
-          let s = sum_instance g t ts h in
-          let e : None ≡ Some i.0 = sym (ap as_constant s.1) ∙ i.2 in cc
+          let few = enough_parts g (fmore t ts) h.1 h.0.pieces in
+          let two = h.0.two_or_more in
+          let s = sum_head g (all_parts d g (eval_all d v (plain_all (fmore t ts)))) (omega arith) in
+          let e : None ≡ Some i.0 = sym (ap as_constant (eval_nest d v settled g h.0.associative (plain t) (plain_all ts) ∙ s.1)) ∙ i.2 in cc
       identity_back f (fapp g false fnone) h i = i
       identity_back f (fapp g false (fmore t ts)) h i =
           let e : None ≡ Some i.0 = sym (build_unjoined_some d g (unjoined_free (axioms d g) t (funpack ts) h.0) (inst d v t) (eval_all d v (plain_all ts))) ∙ i.2 in cc
@@ -78,14 +80,14 @@ module _ (d : Declarations) where
           let both = length-append (parts d g (inst d v t)) (all_parts d g (eval_all d v (plain_all ts))) in
           omega arith
 
-      -- a renamed sum is one
-      sum_instance : (g : OpId) (t : FlatTerm) (ts : FlatTerms) → Settled d (fapp g true (fmore t ts)) → (us : FlatTerms) × (inst d v (fapp g true (fmore t ts)) ≡ fapp g true us)
-      sum_instance g t ts h =
-          let few = enough_parts g (fmore t ts) h.1 h.0.pieces in
-          let two = h.0.two_or_more in
-          let all = all_parts d g (eval_all d v (plain_all (fmore t ts))) in
-          let s = sum_head g all (omega arith) in
-          (s.0, eval_nest d v settled g h.0.associative (plain t) (plain_all ts) ∙ s.1)
+    -- a renamed sum is one
+    sum_instance : (g : OpId) (t : FlatTerm) (ts : FlatTerms) → Settled d (fapp g true (fmore t ts)) → (us : FlatTerms) × (inst d v (fapp g true (fmore t ts)) ≡ fapp g true us)
+    sum_instance g t ts h =
+        let few = enough_parts g (fmore t ts) h.1 h.0.pieces in
+        let two = h.0.two_or_more in
+        let all = all_parts d g (eval_all d v (plain_all (fmore t ts))) in
+        let s = sum_head g all (omega arith) in
+        (s.0, eval_nest d v settled g h.0.associative (plain t) (plain_all ts) ∙ s.1)
 
     instance_head : (f : OpId) (t : FlatTerm) → Settled d t → head_of t ≡ Some f → head_of (inst d v t) ≡ Some f
     instance_head f (fvar x) h e = cc

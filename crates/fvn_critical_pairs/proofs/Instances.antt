@@ -1,6 +1,6 @@
 -- Instances of rules are instances of the rules with renamed variables.
 use Rattle.std.proofs.Common.{◌≡◌, ◌⊎◌, zero, suc, [], ◌∷◌, inl, inr, sym, ap, ◌∙◌, subst, arith}
-use Rattle.std.specs.Prelude.{Any, Contains}
+use Rattle.std.specs.Prelude.{Any}
 use Rattle.fvn_base.proofs.Membership.{contains_none}
 use Rattle.fvn_terms.specs.declared.plain.Var.{Var}
 use Rattle.fvn_terms.specs.declared.declarations.Declarations.{Declarations}
@@ -38,8 +38,8 @@ module _ (d : Declarations) (equations : Equations) (good : IsGood d) (same : Re
       }
     where
       in_list : (x : Var) → Any (λ t. Occurs x (plain t)) (l ∷ r ∷ []) → Occurs x (plain l) ⊎ Occurs x (plain r)
-      in_list x (zero, t, n, e, o) = inl (subst (λ z. Occurs x (plain z)) e o)
-      in_list x (suc zero, t, n, e, o) = inr (subst (λ z. Occurs x (plain z)) e o)
+      in_list x (zero, t, n, e, o) = inl (subst (λ z. Occurs x (plain z)) (sym e) o)
+      in_list x (suc zero, t, n, e, o) = inr (subst (λ z. Occurs x (plain z)) (sym e) o)
       in_list x (suc (suc k), t, n, e, o) = absurd (omega (arith, n))
 
       on_side : (x : Var) → OccursIn d [] (both l r) x → Occurs x (plain l) ⊎ Occurs x (plain r)

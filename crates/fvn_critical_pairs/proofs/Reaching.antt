@@ -33,7 +33,7 @@ use Rattle.fvn_critical_pairs.proofs.GivenRules.{numbered}
 use Rattle.fvn_critical_pairs.proofs.RenewedRules.{new_left_fits, new_steps}
 
 module _ (d : Declarations) (lists : RuleLists) (used : AreUsed d (equations_of lists.equations) lists) (rewriting : RewritingIsLawful) (rules : RulesAreLawful) (instances : InstancesStepAtParts) where
-  all_kinds : HaveOneKind d (equations_of lists.equations)
+  pub all_kinds : HaveOneKind d (equations_of lists.equations)
   all_kinds sides i = (used.admissible sides i).kinded.kinds
 
   abbrev all_rules : RuleLaws d (equations_of lists.equations)

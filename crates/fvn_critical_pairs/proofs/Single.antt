@@ -1,5 +1,5 @@
 -- One equation of several.
-use Rattle.std.proofs.Common.{◌≡◌, ℕ, ◌<◌, List, [], ◌∷◌, length, Some, inl, inr, refl, sym, subst}
+use Rattle.std.proofs.Common.{◌≡◌, ℕ, List, [], ◌∷◌, length, Some, inl, inr, refl, sym, subst}
 use Rattle.std.specs.Prelude.{◌⊎◌, Contains, slice_get}
 use Rattle.std.proofs.lemmas.Option.{slice_get_within, slice_get_read, get_or_from_slice_get}
 use Rattle.fvn_base.proofs.Membership.{contains_cases, contains_none, contains_map, map_contains}
@@ -15,7 +15,7 @@ pub item_in : {A : Type 0} (l : List A) (i : ℕ) (a : A) → slice_get l i ≡ 
 item_in l i a e = (i, slice_get_within l i a e, get_or_from_slice_get l i a a e)
 
 pub item_at : {A : Type 0} (l : List A) (a : A) → (c : Contains l a) → slice_get l c.0 ≡ Some a
-item_at l a c = slice_get_read l (length l) c.0 a refl c.1 c.2
+item_at l a c = slice_get_read l (length l) c.0 a refl c.1 (sym c.2)
 
 -- the equation at a place is one of them
 pub sides_listed : (equations : List Equation) (i : ℕ) (e : Equation) → slice_get equations i ≡ Some e → Contains (equations_of equations) (sides_of e)

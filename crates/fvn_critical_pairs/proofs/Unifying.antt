@@ -1,6 +1,6 @@
 -- Where both results join under each unifier, they join wherever the overlap is met.
-use Rattle.std.proofs.Common.{◌≡◌, ◌⊎◌, ◌≤◌, ◌<◌, ℕ, true, false, List, [], ◌∷◌, inl, inr, subst, arith}
-use Rattle.std.specs.Prelude.{All, Any, Contains}
+use Rattle.std.proofs.Common.{◌≡◌, ◌⊎◌, ℕ, false, List, inl, subst, arith}
+use Rattle.std.specs.Prelude.{All}
 use Rattle.std.proofs.lemmas.List.Elements.{All-contains}
 use Rattle.fvn_terms.specs.declared.plain.Var.{Var}
 use Rattle.fvn_terms.specs.declared.declarations.Declarations.{Declarations}
@@ -8,17 +8,17 @@ use Rattle.fvn_terms.specs.Term.{Term}
 use Rattle.fvn_terms.specs.Substitution.{Substitution, apply, followed_by, Occurs}
 use Rattle.fvn_terms.specs.Sorts.{IsWellSorted}
 use Rattle.fvn_terms.specs.Theory.{Equations}
-use Rattle.fvn_terms.specs.Rewriting.{TermSequence, AreJoinable}
+use Rattle.fvn_terms.specs.Rewriting.{AreJoinable}
 use Rattle.fvn_terms.specs.Laws.{RewritingLaws}
 use Rattle.fvn_terms.proofs.Substitutions.{apply-apply}
 use Rattle.fvn_terms.proofs.Equal.{BEqual-apply, BEqual-sym}
-use Rattle.fvn_forms.specs.Flat.{FlatTerm, plain}
+use Rattle.fvn_forms.specs.Flat.{plain}
 use Rattle.fvn_flat.specs.OneAnswer.{IsCompleteFor}
 use Rattle.fvn_theory.specs.Equations.{equations_of}
 use Rattle.fvn_rewrite_laws.specs.Laws.{RuleLaws}
 use Rattle.fvn_rewrite_rules.specs.Given.{RuleLists}
 use Rattle.fvn_places.proofs.PathFacts.{stands_at}
-use Rattle.fvn_lifting.specs.Meetings.{IsNew, ShareNone, IsOverNew, Meet, ComeFrom}
+use Rattle.fvn_lifting.specs.Meetings.{IsNew, ShareNone, IsOverNew, ComeFrom}
 use Rattle.fvn_lifting.specs.Laws.{AreUsed, MeetingsComeFromUnifiers}
 use Rattle.fvn_critical_pairs.specs.Overlaps.{Overlap, inner_result, overlap_problem, IsNumberedUpTo, IsOverlap, JoinsUnder, JoinsWhere, Joins}
 use Rattle.fvn_critical_pairs.proofs.GivenRules.{occurs_in_part, old}

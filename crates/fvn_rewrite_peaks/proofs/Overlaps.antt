@@ -1,12 +1,12 @@
 -- Two steps from one term: at places apart, within the value of a variable, or at an overlap of rules.
-use Rattle.std.proofs.Common.{◌≡◌, ◌⊎◌, inl, inr, ℕ, ◌+◌, refl, sym, ap, ◌∙◌, subst}
+use Rattle.std.proofs.Common.{◌≡◌, ◌⊎◌, inl, inr, ℕ, ◌+◌, refl, sym, ◌∙◌, subst}
 use Rattle.fvn_terms.specs.declared.plain.Var.{Var}
 use Rattle.fvn_terms.specs.declared.plain.SortId.{SortId}
 use Rattle.fvn_terms.specs.declared.declarations.Declarations.{Declarations}
 use Rattle.fvn_terms.specs.Term.{Term}
 use Rattle.fvn_terms.specs.Substitution.{Substitution, apply, Occurs}
 use Rattle.fvn_terms.specs.Signature.{kind, IsSort, HasKind, IsTerm}
-use Rattle.fvn_terms.specs.Places.{AtOnePlace, stop}
+use Rattle.fvn_terms.specs.Places.{stop}
 use Rattle.fvn_terms.specs.Equality.{BEqual}
 use Rattle.fvn_terms.specs.Sorts.{HasSort, IsWellSorted}
 use Rattle.fvn_terms.specs.Theory.{Equations}
@@ -16,10 +16,9 @@ use Rattle.fvn_terms.proofs.Equal.{BEqual-sym, BEqual-trans}
 use Rattle.fvn_forms.specs.Flat.{FlatTerm, fvar, plain}
 use Rattle.fvn_flat.specs.Fits.{Fits}
 use Rattle.fvn_flat.specs.FlatPlaces.{IsReplaced}
-use Rattle.fvn_flat.specs.Rules.{IsRuleOf}
 use Rattle.fvn_rewrite_laws.specs.Agreement.{AgreeOn}
 use Rattle.fvn_rewrite_laws.specs.Laws.{SequenceLaws, AgreementLaws, KindedLaws}
-use Rattle.fvn_rewrite_coherence.specs.PlacedSteps.{IsRedex, StepsAtPlace}
+use Rattle.fvn_rewrite_coherence.specs.PlacedSteps.{IsRedex}
 use Rattle.fvn_rewrite_coherence.specs.InstanceSteps.{StepsAtPart, StepsInValue}
 use Rattle.fvn_rewrite_coherence.specs.Laws.{CoherenceLaws, InstanceLaws}
 use Rattle.fvn_rewrite_peaks.specs.Peaks.{AreTwoPlaces, apart, within_first, within_second, StepsJoin, JoinsAtParts, IsInstanceOfForms, StandForRule, StandInsJoin}

@@ -1,6 +1,5 @@
 -- Rules stand for themselves.
-use Rattle.std.proofs.Common.{◌≡◌, inl, inr, sym, subst}
-use Rattle.fvn_terms.specs.declared.plain.Var.{Var}
+use Rattle.std.proofs.Common.{inl, inr, sym, subst}
 use Rattle.fvn_terms.specs.declared.declarations.Declarations.{Declarations}
 use Rattle.fvn_terms.specs.Term.{Term, var}
 use Rattle.fvn_terms.specs.Substitution.{apply}
