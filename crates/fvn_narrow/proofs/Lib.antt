@@ -1,0 +1,1 @@
+-- Lemmas on the turns of an expansion.

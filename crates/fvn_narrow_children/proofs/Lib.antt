@@ -1,0 +1,1 @@
+-- Lemmas on paths, clashes, renamed variants and children.
