@@ -2,14 +2,12 @@
 use Rattle.std.specs.Prelude.{◌≡◌, ℕ, List, Some, slice_get}
 use Rattle.fvn_terms.specs.declared.declarations.Declarations.{Declarations}
 use Rattle.fvn_terms.specs.Substitution.{Substitution, apply}
-use Rattle.fvn_terms.specs.Equality.{BEqual}
-use Rattle.fvn_terms.specs.Sorts.{IsWellSorted}
 use Rattle.fvn_forms.specs.Flat.{FlatTerm, plain}
+use Rattle.fvn_forms.specs.Canon.{canon}
 
--- no well-sorted instance of the first is equal modulo the axioms to one of the second
+-- no instance of the first has the flat form of one of the second
 abbrev pub NeverMeet : Declarations → FlatTerm → FlatTerm → Type 0
-NeverMeet d t u = (s c : Substitution) → IsWellSorted d s → IsWellSorted d c →
-    BEqual d (apply s (plain t)) (apply c (plain u)) → ⊥
+NeverMeet d t u = (s c : Substitution) → canon d (apply s (plain t)) ≡ canon d (apply c (plain u)) → ⊥
 
 -- so it is with two forms that stand side by side
 pub record SomeNeverMeet (d : Declarations) (ts us : List FlatTerm) : Type 0 where

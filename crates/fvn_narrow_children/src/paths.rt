@@ -13,10 +13,11 @@ pub fn form_at<'a>(t: &'a Flat, path: &[usize]) -> Option<&'a Flat>
 {
     let mut at = t;
     for i in path {
-        match at.args().get(*i) {
-            Some(u) => at = u,
-            None => return None,
+        let ts = at.args();
+        if *i >= ts.len() {
+            return None;
         }
+        at = &ts[*i];
     }
     Some(at)
 }

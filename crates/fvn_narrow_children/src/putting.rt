@@ -1,9 +1,10 @@
 //! Forms with another form in the place of one within.
 ghost use Rattle.std.specs.Prelude.{◌≡◌, ◌<◌, ◌+◌, ◌++◌, ◌∷◌, take, drop, length, Some, IfOk};
+ghost use Rattle.fvn_forms.specs.Canon.{build};
 ghost use Rattle.fvn_flat.specs.Forms.{head_of, args_of};
 ghost use Rattle.fvn_flat.specs.Fits.{Fits};
 ghost use Rattle.fvn_narrow_children.specs.Putting.{CanPut, PutAs};
-ghost use Rattle.fvn_narrow_children.specs.inner.Arguments.{MayStandFor, IsWithArgument};
+ghost use Rattle.fvn_narrow_children.specs.inner.Arguments.{MayStandFor};
 
 use fvn_flat::Flat;
 use fvn_signature::Signature;
@@ -20,7 +21,6 @@ fn add_copies(alloc: Global, copies: Vec<Flat>, ts: &[Flat]) -> Result<Vec<Flat>
     }
     Ok(all)
 }
-
 
 /// The forms with another one at this place.
 pub fn with_one_replaced(
@@ -50,7 +50,8 @@ fn with_argument(
     requires term { Fits sig.now t.now }
     requires head { head_of t.now ≡ Some f }
     requires argument { MayStandFor sig.now t.now place u }
-    ensures { IfOk result (IsWithArgument sig.now t.now place u) }
+    ensures { IfOk result (λ whole.
+        whole ≡ build sig.now f (take place (args_of t.now) ++ u ∷ drop (place + 1) (args_of t.now))) }
 {
     sig.recall_good();
     let args = with_one_replaced(alloc, t.args(), place, u)?;
@@ -70,18 +71,17 @@ pub fn put(
     requires given { CanPut sig.now path.now t.now given.now }
     ensures { IfOk result (PutAs sig.now path.now t.now given.now) }
 {
-    if path.is_empty() {
+    let Some((i, rest)) = path.split_first() else {
         let whole = given.copy(alloc)?;
         return Ok(whole);
-    }
+    };
     let Some(f) = t.head() else {
         let whole = t.copy(alloc)?;
         return Ok(whole);
     };
     sig.recall_good();
     let ts = t.args();
-    let i = path[0];
-    let u = put(alloc, sig, &ts[i], &path[1..], given)?;
-    let whole = with_argument(alloc, sig, f, t, i, u)?;
+    let u = put(alloc, sig, &ts[*i], rest, given)?;
+    let whole = with_argument(alloc, sig, f, t, *i, u)?;
     Ok(whole)
 }
