@@ -8,6 +8,7 @@ ghost use Rattle.fvn_narrow.specs.inner.Turns.{IsReady, IsPartAt, IsAtPart, IsAl
 ghost use Rattle.fvn_narrow.specs.inner.Joining.{AreJoined};
 
 use crate::narrower::Narrower;
+use crate::posing::is_whole;
 use crate::stepping::{Part, by_rule};
 use fvn_base::Seq;
 use fvn_cover::Variant;
@@ -53,14 +54,11 @@ fn by_rules<A: AxiomSolver>(
         let next = by_rule(narrower, alloc, start, part, rule)?;
         let (all, end) = with_more(children, next)?;
         children = all;
-        match end {
-            ExpandEnd::Whole => {}
-            end => {
-                return Ok(Expansion {
-                    children: Seq::from_vec(children),
-                    end,
-                });
-            }
+        if !is_whole(&end) {
+            return Ok(Expansion {
+                children: Seq::from_vec(children),
+                end,
+            });
         }
     }
     Ok(Expansion {
@@ -112,14 +110,11 @@ fn in_member<A: AxiomSolver>(
         let next = at_path(narrower, alloc, start, member, path.as_slice())?;
         let (all, end) = with_more(children, next)?;
         children = all;
-        match end {
-            ExpandEnd::Whole => {}
-            end => {
-                return Ok(Expansion {
-                    children: Seq::from_vec(children),
-                    end,
-                });
-            }
+        if !is_whole(&end) {
+            return Ok(Expansion {
+                children: Seq::from_vec(children),
+                end,
+            });
         }
     }
     Ok(Expansion {
@@ -143,14 +138,11 @@ fn in_members<A: AxiomSolver>(
         let next = in_member(narrower, alloc, start, member)?;
         let (all, end) = with_more(children, next)?;
         children = all;
-        match end {
-            ExpandEnd::Whole => {}
-            end => {
-                return Ok(Expansion {
-                    children: Seq::from_vec(children),
-                    end,
-                });
-            }
+        if !is_whole(&end) {
+            return Ok(Expansion {
+                children: Seq::from_vec(children),
+                end,
+            });
         }
     }
     Ok(Expansion {

@@ -1,5 +1,6 @@
 //! The problem of a part and a left side, and the end that its answer leads to.
-ghost use Rattle.std.specs.Prelude.{◌≡◌, ◌∷◌, [], IfOk};
+ghost use Rattle.std.specs.Prelude.{◌≡◌, ◌↔◌, ◌∷◌, [], IsTrue, IfOk};
+ghost use Rattle.fvn_exploring.specs.declared.ends.ExpandEnd.TheVariants.{Whole};
 ghost use Rattle.fvn_narrow.specs.inner.Ends.{AreEnded, solver_end};
 
 use fvn_base::Seq;
@@ -38,19 +39,29 @@ fn end_of(given: Pairs, solved: Solved) -> ExpandEnd
     }
 }
 
+// Whether it is the end of what did not stop.
+pub(crate) fn is_whole(end: &ExpandEnd) -> bool
+    ensures { IsTrue result ↔ (end.now ≡ Whole) }
+{
+    match end {
+        ExpandEnd::Whole => true,
+        ExpandEnd::Steps(_, _) => false,
+        ExpandEnd::Size(_) => false,
+        ExpandEnd::Basis(_, _) => false,
+        ExpandEnd::Unifiers(_, _) => false,
+    }
+}
+
 // The children with the end at which they stopped, or else that to which the answer leads.
 pub(crate) fn ended(given: Pairs, solved: Solved, grown: Expansion) -> Expansion
     ensures { AreEnded given solved grown result }
 {
     let (children, end) = grown.into_parts();
-    match end {
-        ExpandEnd::Whole => Expansion {
+    if is_whole(&end) {
+        return Expansion {
             children,
             end: end_of(given, solved),
-        },
-        other => Expansion {
-            children,
-            end: other,
-        },
+        };
     }
+    Expansion { children, end }
 }

@@ -145,10 +145,11 @@ module _ (d : Declarations) (good : IsGood d) (v w : Variant) (flat : IsFlatVari
       vars = r.vars;
       by = by;
       renames = record { one_to_one = λ x y i j e. apart x y (named x i) (named y j) e; sorts = λ x i. name_sort 1 names x };
+      keeps_sorts = name_sort 1 names;
       terms = terms_are;
       values = values_equal;
       back = back_from by names;
-      sorts = back_sort by (name_sort 1 names) names;
+      back_keeps_sorts = back_sort by (name_sort 1 names) names;
       taken_back = λ x i. back_again by names apart x (named x i);
       flat = record {
         terms = subst (AllFit d) (sym r.terms) (all_instances_fit d good new_values (inst_fits d new_values good fits) v.terms flat.terms);

@@ -1,6 +1,6 @@
 -- Values under a substitution, and which of them are reducible.
 use Rattle.std.proofs.Common.{◌≡◌, ◌<◌, ◌-◌, ◌^◌, ℕ, Bool, true, false, List, None, Some, refl, sym, ap, ◌∙◌, subst, arith}
-use Rattle.std.specs.Prelude.{Contains, Option, is_some, min}
+use Rattle.std.specs.Prelude.{Contains, Option, is_some, min, IfSome}
 use Rattle.fvn_terms.specs.declared.plain.Var.{Var}
 use Rattle.fvn_terms.specs.declared.declarations.Declarations.{Declarations}
 use Rattle.fvn_terms.specs.Term.{Term, var}
@@ -36,9 +36,9 @@ large_value_is vars s size counted x t u listed is copy count large = record {
 
 module _ (d : Declarations) (equations : Equations) where
   -- whether a step was found tells whether the form is reducible
-  pub reducible_as : (t : FlatTerm) (o : Option FlatTerm) → ((u : FlatTerm) → o ≡ Some u → StepsTo d equations t u) → (o ≡ None → IsNormalForm d equations t) → ReducibleAs d equations (plain t) (is_some o)
+  pub reducible_as : (t : FlatTerm) (o : Option FlatTerm) → IfSome o (StepsTo d equations t) → (o ≡ None → IsNormalForm d equations t) → ReducibleAs d equations (plain t) (is_some o)
   reducible_as t None some none = none refl
-  reducible_as t (Some u) some none = (plain u, some u refl)
+  reducible_as t (Some u) some none = (plain u, some)
 
   pub bound_reducible_as : (s : Bindings) (x : Var) (t : FlatTerm) (b : Bool) → bound s x ≡ Some t → ReducibleAs d equations (plain t) b → ReducibleAs d equations (substitution s x) b
   bound_reducible_as s x t b is h = subst (λ o. ReducibleAs d equations (plain (form_or x o)) b) (sym is) h

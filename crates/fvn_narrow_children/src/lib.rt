@@ -15,4 +15,4 @@ pub use growing::{grown, no_children};
 pub use paths::{form_at, paths};
 pub use putting::{put, with_one_replaced};
 pub use starts::{Start, start_of};
-pub use values::{some_reducible, some_value_reducible};
+pub use values::some_reducible;

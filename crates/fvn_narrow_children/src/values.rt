@@ -1,9 +1,10 @@
 //! What becomes of a variant's terms and values under a substitution, and whether a value is reducible.
-ghost use Rattle.std.specs.Prelude.{◌≡◌, ◌×◌, map, All, IsTrue, IfOk, IfSome};
+ghost use Rattle.std.specs.Prelude.{◌≡◌, map, All, IsTrue, IfOk, IfSome};
 ghost use Rattle.fvn_terms.specs.Signature.{IsSort};
+ghost use Rattle.fvn_forms.specs.Flat.{plain};
 ghost use Rattle.fvn_forms.specs.Canon.{inst};
 ghost use Rattle.fvn_flat.specs.Bindings.{value, BindingsFit};
-ghost use Rattle.fvn_flat.specs.Fits.{AllFit};
+ghost use Rattle.fvn_flat.specs.Fits.{Fits, AllFit};
 ghost use Rattle.fvn_flat.specs.Solving.{substitution};
 ghost use Rattle.fvn_rewrite.specs.Usable.{equations_by};
 ghost use Rattle.fvn_narrow_children.specs.Values.{AreValuesUnder, IsLargeValue, ReducibleAs, AreIrreducible, AreReducibleAs};
@@ -74,6 +75,16 @@ pub(crate) fn large_value(
     Ok(None)
 }
 
+// Whether a step leads on from the form.
+fn steps_on(rewriter: &Rewriter<'_>, t: &Flat) -> Result<bool, NoMemory>
+    requires { Fits rewriter.now.signature t.now }
+    ensures { IfOk result
+        (ReducibleAs rewriter.now.signature (equations_by rewriter.now) (plain t.now)) }
+{
+    let found = rewriter.step(t)?;
+    Ok(found.is_some())
+}
+
 // Whether the value of the variable is reducible.
 fn is_reducible(rewriter: &Rewriter<'_>, s: &Subst, x: Var) -> Result<bool, NoMemory>
     requires sort { IsSort rewriter.now.signature x.sort }
@@ -85,8 +96,8 @@ fn is_reducible(rewriter: &Rewriter<'_>, s: &Subst, x: Var) -> Result<bool, NoMe
     rules_are_coherent();
     match s.get(x) {
         Some(t) => {
-            let found = rewriter.step(t)?;
-            Ok(found.is_some())
+            let is = steps_on(rewriter, t)?;
+            Ok(is)
         }
         None => Ok(false),
     }
