@@ -42,6 +42,7 @@ module _ (d : Declarations) (fits : FitsKinds d) where
   pub put_here : (t at given : FlatTerm) → t ≡ at → Fits d given → KeepsKindsOf d at given → IsPut d at t given given
   put_here t at given e h keeps = record {
     replaced = given;
+    kinded = h.kinded;
     replaces = subst (λ z. IsReplaced at given z given) (sym e) here;
     is = sym (canon_plain d given h.flat);
     fits = h;
@@ -61,6 +62,7 @@ module _ (d : Declarations) (fits : FitsKinds d) where
         let is_whole : whole ≡ canon d (plain (fapp f joined us)) = built ∙ sym (canon_replaced d f before p.replaced u after settled.0 settled.1 (sym p.is) joined ts h.flat) in
         let kept : KeepsKindsOf d (fapp f joined ts) (fapp f joined us) = replaced_keeps d at given (fapp f joined ts) (fapp f joined us) keeps (inside among) in record {
           replaced = fapp f joined us;
+          kinded = (h.kinded.0, kept h.kinded.0 h.kinded.1);
           replaces = inside among;
           is = is_whole;
           fits = subst (Fits d) (sym is_whole) (canon_fits d fits (plain (fapp f joined us)) (h.kinded.0, kept h.kinded.0 h.kinded.1));

@@ -183,3 +183,16 @@ leads_nowhere path i n at ts within args outside x h =
 
 pub leads_here : (path : List ℕ) (i : ℕ) (at : FlatTerm) → length path ≤ i → LeadsTo (drop i path) at at
 leads_here path i at end = subst (λ p. LeadsTo p at at) (sym (drop_all i path end)) refl
+
+-- a form stands where a path leads to it
+stands_among : (at u : FlatTerm) → IsReplaced at at u u → (ts : FlatTerms) (i : ℕ) → slice_get (funpack ts) i ≡ Some u → IsReplacedAmong at at ts ts
+stands_among at u r fnone i e = cc
+stands_among at u r (fmore t ts) zero e =
+    let same : t ≡ u = same_item t u e in
+    subst (λ z. IsReplacedAmong at at (fmore z ts) (fmore z ts)) (sym same) (first r)
+stands_among at u r (fmore t ts) (suc i) e = later (stands_among at u r ts i e)
+
+pub stands_at : (path : List ℕ) (t at : FlatTerm) → LeadsTo path t at → IsReplaced at at t t
+stands_at [] t at h = subst (λ z. IsReplaced at at z z) (sym h) here
+stands_at (i ∷ path) (fvar x) at h = let e = h.1 in cc
+stands_at (i ∷ path) (fapp f joined ts) at h = inside (stands_among at h.0 (stands_at path h.0 at h.2) ts i h.1)

@@ -2,8 +2,7 @@
 use Rattle.std.specs.Prelude.{◌≡◌, List, ℕ}
 use Rattle.fvn_terms.specs.declared.plain.SortId.{SortId}
 use Rattle.fvn_terms.specs.declared.declarations.Declarations.{Declarations}
-use Rattle.fvn_terms.specs.Term.{Term}
-use Rattle.fvn_terms.specs.Signature.{HasKind}
+use Rattle.fvn_terms.specs.Signature.{HasKind, IsTerm}
 use Rattle.fvn_forms.specs.Flat.{FlatTerm, plain}
 use Rattle.fvn_forms.specs.Canon.{canon}
 use Rattle.fvn_flat.specs.FlatPlaces.{IsReplaced}
@@ -26,6 +25,7 @@ module _ (d : Declarations) where
   pub record IsPut (at t given u : FlatTerm) : Type 0 where
     pub replaced : FlatTerm
     pub replaces : IsReplaced at given t replaced
+    pub kinded : IsTerm d (plain replaced)
     pub is : u ≡ canon d (plain replaced)
     pub fits : Fits d u
     pub keeps : KeepsKindsOf t u
