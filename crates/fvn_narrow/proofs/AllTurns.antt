@@ -40,8 +40,7 @@ member_at [] t after = refl
 member_at (u ∷ before) t after = member_at before t after
 
 module _ (r : Rewriting) (good : IsGood r.signature) (completed : IsCompleted r.signature) (usable : AreUsable r.signature r.rules) (rewriting : RewritingLaws r.signature (equations_by r)) (parts : InstancesStepAtParts)
-    (unifiers : ℕ) (drawn : Problem → Substitution → Type 0) (v : Variant) (next : ℕ) (ready : IsReady r v next)
-where
+    (unifiers : ℕ) (drawn : Problem → Substitution → Type 0) (v : Variant) (next : ℕ) (ready : IsReady r v next) where
   abbrev d : Declarations
   d = r.signature
 

@@ -3,7 +3,7 @@ use Rattle.std.proofs.Common.{◌≡◌, ◌≤◌, ◌<◌, ◌+◌, ℕ, suc, 
 use Rattle.std.specs.Prelude.{◌⊎◌, Option, All, Any, Contains, slice_get}
 use Rattle.std.specs.List.{AllZip}
 use Rattle.std.proofs.lemmas.List.{length-append, length-map}
-use Rattle.std.proofs.lemmas.List.Elements.{All-nil, All-contains, All-from_recursion, length_all_zip, Contains-append_left, Contains-append_right, Contains-append_cases}
+use Rattle.std.proofs.lemmas.List.Elements.{All-nil, All-head, All-contains, All-from_recursion, length_all_zip, Contains-append_left, Contains-append_right, Contains-append_cases}
 use Rattle.std.proofs.lemmas.Option.{slice_get_within, get_or_from_slice_get}
 use Rattle.fvn_base.specs.declared.limits.TheConstants.{NEXT_FRESH, EXPANDED_FRESH}
 use Rattle.fvn_base.proofs.Membership.{contains_here, contains_later, contains_cases, contains_none, map_contains}
@@ -42,7 +42,7 @@ use Rattle.fvn_narrow.proofs.Turning.{problem_at, IsFitTurn, IsGivenIn}
 use Rattle.fvn_narrow.proofs.Steps.{successor, is_put, step_from, unbound_stays}
 use Rattle.fvn_narrow.proofs.Occurring.{occurs_replaced, occurs_at, occurs_in_inst, inst_has}
 
-item_listed : (l : List FlatTerm) (i : ℕ) (a : FlatTerm) → slice_get l i ≡ Some a → Contains l a
+pub item_listed : (l : List FlatTerm) (i : ℕ) (a : FlatTerm) → slice_get l i ≡ Some a → Contains l a
 item_listed l i a e = (i, slice_get_within l i a e, get_or_from_slice_get l i a a e)
 
 -- what stands around the new member stood there before
@@ -65,7 +65,7 @@ same_length : (before : List FlatTerm) (a b : FlatTerm) (after : List FlatTerm) 
 same_length [] a b after = refl
 same_length (x ∷ before) a b after = ap suc (same_length before a b after)
 
-fits_at : {d : Declarations} (l : List FlatTerm) (t : FlatTerm) → AllFit d l → Contains l t → Fits d t
+pub fits_at : {d : Declarations} (l : List FlatTerm) (t : FlatTerm) → AllFit d l → Contains l t → Fits d t
 fits_at {d} l t h c = All-contains (Fits d) l t (All-from_recursion (Fits d) l h) c
 
 module _ (r : Rewriting) where
@@ -109,8 +109,7 @@ module _ (r : Rewriting) where
 module _ (r : Rewriting) (good : IsGood r.signature) (brings_none : BringsNoVariable (equations_by r)) (rewriting : RewritingLaws r.signature (equations_by r)) (lists : ListLaws r.signature (equations_by r)) (rules : RuleLaws r.signature (equations_by r))
     (unifiers : ℕ) (drawn : Problem → Substitution → Type 0) (v : Variant) (next : ℕ) (ready : IsReady r v next) (at : FlatTerm) (turn : Turn) (t : IsFitTurn r v at turn)
     (members : List FlatTerm) (m : AreMembers r.signature v.terms turn.member turn.path turn.rule.right members) (s : Bindings) (u : IsGivenIn r drawn next (problem_at at turn.rule.left) s)
-    (c : Variant) (grown : IsGrown r v members s c)
-where
+    (c : Variant) (grown : IsGrown r v members s c) where
   abbrev g : Setting
   g = narrowing_setting r unifiers
 
@@ -154,8 +153,7 @@ where
   -- what a variable of a term becomes stands in a value
   in_some_value : (z y : Var) → Any (λ w. Occurs z (plain w)) v.terms → Occurs y (substitution s z) → (x : Var) × Contains c.vars x × Occurs y (substitution c.subst x)
   in_some_value z y i o =
-      let h = ready.holds z i in
-      (
+      let h = ready.holds z i in (
         h.0,
         subst (λ l. Contains l h.0) (sym grown.vars) h.1,
         subst (Occurs y) (sym (value_is h.0 h.1)) (inst_has r.signature good s u.fits (value v.subst h.0) y z (value_of_kind h.0 h.1) h.2 o),
@@ -171,7 +169,7 @@ where
       in_some_value there.0 y (term_listed.0, m.term, term_listed.1, term_listed.2, within) there.1.1
     where
       unified : BEqual r.signature (apply (substitution s) (plain at)) (apply (substitution s) (plain turn.rule.left))
-      unified = u.unifies.1.0
+      unified = All-head (λ (p : Term × Term). BEqual r.signature (apply (substitution s) p.0) (apply (substitution s) p.1)) (plain at, plain turn.rule.left) [] u.unifies.1
 
   holds : HoldsVariables c
   holds y i =
@@ -226,14 +224,19 @@ where
       ∙ sym (length-map (inst r.signature (value s)) members)
       ∙ length_all_zip (IsFormOf r) (map (inst r.signature (value s)) members) c.terms grown.terms
 
+  -- one sequence leads from what the unifier makes of the members to the child's terms
+  pub all_reached : (k : ℕ) × ListSequence r.signature (equations_by r) k (map plain (map (inst r.signature (value s)) members)) (map plain c.terms)
+  all_reached =
+      let e = each_reached r (map (inst r.signature (value s)) members) c.terms grown.terms in
+      (e.0, (lists.members e.0 (map plain (map (inst r.signature (value s)) members)) (map plain c.terms)).1 e.1)
+
   pub is_step_child : IsStepChild g drawn v c
-  is_step_child =
-      let e = each_reached r (map (inst r.signature (value s)) members) c.terms grown.terms in record {
-        successor = successor r good drawn v next ready at turn t members m s u;
-        step = step_from r good drawn v next ready at turn t members m s u;
-        steps = e.0;
-        reached = (lists.members e.0 (map plain (map (inst r.signature (value s)) members)) (map plain c.terms)).1 e.1;
-        same = λ x i. subst (BEqual r.signature (substitution c.subst x)) (value_is x i) (BEqual-refl r.signature (substitution c.subst x));
-        alike = record { vars = sym grown.vars; terms = same_terms };
-        member = is_member;
-      }
+  is_step_child = record {
+    successor = successor r good drawn v next ready at turn t members m s u;
+    step = step_from r good drawn v next ready at turn t members m s u;
+    steps = all_reached.0;
+    reached = all_reached.1;
+    same = λ x i. subst (BEqual r.signature (substitution c.subst x)) (value_is x i) (BEqual-refl r.signature (substitution c.subst x));
+    alike = record { vars = sym grown.vars; terms = same_terms };
+    member = is_member;
+  }

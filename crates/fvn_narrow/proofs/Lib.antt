@@ -1,8 +1,12 @@
 -- Lemmas on the turns of an expansion.
 mod Turning
+mod Numbers
+mod Joint
 mod Steps
-mod Joined
-mod Backwards
-mod AllTurns
 mod Occurring
 mod Children
+mod Lifting
+mod RuleTurn
+mod Joined
+mod AllTurns
+mod Backwards

@@ -21,10 +21,7 @@ use fvn_terms::NoMemory;
 use std::alloc::Global;
 
 // The children so far with those of one more expansion, and its end.
-fn with_more(
-    children: Vec<Variant>,
-    next: Expansion,
-) -> Result<(Vec<Variant>, ExpandEnd), NoMemory>
+fn with_more(children: Vec<Variant>, next: Expansion) -> Result<(Vec<Variant>, ExpandEnd), NoMemory>
     ensures { IfOk result (λ r. AreJoined children.items next r.0.items r.1) }
 {
     let (more, end) = next.into_parts();
@@ -88,7 +85,13 @@ fn at_path<A: AxiomSolver>(
         return Ok(no_children(alloc));
     };
     let part = Part { member, path, at };
-    let e = by_rules(narrower, alloc, start, &part, narrower.rewriter.rules().headed(f))?;
+    let e = by_rules(
+        narrower,
+        alloc,
+        start,
+        &part,
+        narrower.rewriter.rules().headed(f),
+    )?;
     Ok(e)
 }
 

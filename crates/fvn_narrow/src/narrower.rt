@@ -56,12 +56,7 @@ impl<A: AxiomSolver> Expander for Narrower<'_, A> {
     ghost drawn = { λ n. A.drawn n.solver.now };
 
     // New variables are numbered anew for each variant, so that the number does not matter.
-    fn expand(
-        &self,
-        alloc: Global,
-        v: &Variant,
-        _first_fresh: u32,
-    ) -> Result<Expansion, NoMemory> {
+    fn expand(&self, alloc: Global, v: &Variant, _first_fresh: u32) -> Result<Expansion, NoMemory> {
         let e = expansion(self, alloc, v)?;
         Ok(e)
     }

@@ -97,6 +97,13 @@ pub(crate) fn by_rule<A: AxiomSolver>(
     }
     let given = problem(alloc, part.at, &rule.left)?;
     let solved = narrower.solver.solve(alloc, &given, start.next)?;
-    let grown = children(narrower, alloc, start, part, rule, solved.unifiers.as_slice())?;
+    let grown = children(
+        narrower,
+        alloc,
+        start,
+        part,
+        rule,
+        solved.unifiers.as_slice(),
+    )?;
     Ok(ended(given, solved, grown))
 }

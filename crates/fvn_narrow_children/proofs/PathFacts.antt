@@ -62,8 +62,7 @@ mutual
   path_to {u} n here = ([], itself u n, refl)
   path_to {u} n (inside {f} {joined} {ts} r) =
       let p = path_through n 0 r in
-      let place : p.number ≡ p.place = let e = p.number_is in omega arith in
-      (
+      let place : p.number ≡ p.place = let e = p.number_is in omega arith in (
         p.number ∷ p.path,
         contains_later [] (paths_from 0 ts) (p.number ∷ p.path) p.listed,
         (p.member, ap (slice_get (funpack ts)) place ∙ p.is, p.leads),
@@ -163,13 +162,12 @@ after_nothing t all e = e ∙ same (paths t)
 -- a path leads on through the argument that it takes
 pub leads_on : (path : List ℕ) (i n : ℕ) (at u : FlatTerm) (ts : List FlatTerm) → i < length path → ts ≡ args_of at → get_or path i n < length ts → u ≡ get_or ts (get_or path i n) u →
     (x : FlatTerm) → LeadsTo (drop i path) at x ↔ LeadsTo (drop (i + 1) path) u x
-leads_on path i n at u ts within args inside is x =
+leads_on path i n at u ts within args below is x =
     let split = drop_more path i n within in
-    let taken : slice_get (args_of at) (get_or path i n) ≡ Some u = subst (λ l. slice_get l (get_or path i n) ≡ Some u) args (slice_get_read ts (length ts) (get_or path i n) u refl inside is) in
-    (
+    let taken : slice_get (args_of at) (get_or path i n) ≡ Some u = subst (λ l. slice_get l (get_or path i n) ≡ Some u) args (slice_get_read ts (length ts) (get_or path i n) u refl below is) in (
       λ h.
-      let k = subst (λ p. LeadsTo p at x) split h in
-      subst (λ z. LeadsTo (drop (i + 1) path) z x) (same_item k.0 u (sym k.1 ∙ taken)) k.2,
+          let k = subst (λ p. LeadsTo p at x) split h in
+          subst (λ z. LeadsTo (drop (i + 1) path) z x) (same_item k.0 u (sym k.1 ∙ taken)) k.2,
       λ h. subst (λ p. LeadsTo p at x) (sym split) (u, taken, h),
     )
 
@@ -177,7 +175,7 @@ leads_on path i n at u ts within args inside is x =
 pub leads_nowhere : (path : List ℕ) (i n : ℕ) (at : FlatTerm) (ts : List FlatTerm) → i < length path → ts ≡ args_of at → length ts ≤ get_or path i n → (x : FlatTerm) → LeadsTo (drop i path) at x → ⊥
 leads_nowhere path i n at ts within args outside x h =
     let k = subst (λ p. LeadsTo p at x) (drop_more path i n within) h in
-    let inside = slice_get_within (args_of at) (get_or path i n) k.0 k.1 in
+    let below = slice_get_within (args_of at) (get_or path i n) k.0 k.1 in
     let long = ap length args in
     absurd (omega arith)
 

@@ -9,7 +9,7 @@ ghost use Rattle.fvn_narrow_children.specs.Values.{AreValuesUnder, AreIrreducibl
 ghost use Rattle.fvn_narrow_children.specs.Growing.{AreGrown};
 ghost use Rattle.fvn_narrow_children.specs.inner.Outcomes.{OutcomeAs};
 
-use crate::resting::{Rested, rested};
+use crate::resting::{Rested, rest_all};
 use crate::values::{large_value, some_reducible, values_under};
 use fvn_base::Seq;
 use fvn_cover::Variant;
@@ -55,7 +55,7 @@ fn with_terms(
     ensures { IfOk result (OutcomeAs rewriter.now v.now members.now s.now) }
 {
     let vars = Seq::from_slice(alloc, v.vars.as_slice())?;
-    let forms = rested(alloc, rewriter, s, members)?;
+    let forms = rest_all(alloc, rewriter, s, members)?;
     match forms {
         Rested::Forms(terms) => Ok(Outcome::Child(Variant { terms, subst, vars })),
         Rested::Stopped(end) => Ok(Outcome::Stopped(end)),
@@ -63,7 +63,7 @@ fn with_terms(
 }
 
 // What one unifier makes of a variant: first its values are tested, and only then its terms brought to normal form.
-fn outcome(
+fn tried(
     alloc: Global,
     rewriter: &Rewriter<'_>,
     size: u64,
@@ -114,7 +114,7 @@ pub fn grown(
 {
     let mut children = Vec::new(alloc);
     for s in unifiers {
-        let next = outcome(alloc, rewriter, size, v, members, s)?;
+        let next = tried(alloc, rewriter, size, v, members, s)?;
         match next {
             Outcome::Child(c) => children.push(c)?,
             Outcome::Lost => {}

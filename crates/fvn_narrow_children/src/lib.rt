@@ -4,7 +4,7 @@
 
 mod clashes;
 mod growing;
-mod paths;
+mod leading;
 mod putting;
 mod resting;
 mod starts;
@@ -12,7 +12,7 @@ mod values;
 
 pub use clashes::clash;
 pub use growing::{grown, no_children};
-pub use paths::{form_at, paths};
+pub use leading::{form_at, paths};
 pub use putting::{put, with_one_replaced};
 pub use starts::{Start, start_of};
 pub use values::some_reducible;

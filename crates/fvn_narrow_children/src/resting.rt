@@ -20,7 +20,7 @@ pub(crate) enum Rested {
 }
 
 // The normal forms of the instances.
-pub(crate) fn rested(
+pub(crate) fn rest_all(
     alloc: Global,
     rewriter: &Rewriter<'_>,
     s: &Subst,

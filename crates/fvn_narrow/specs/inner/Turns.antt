@@ -94,8 +94,8 @@ module _ (r : Rewriting) (v : Variant) where
   abbrev pub AreGrownAt : Turn → List Bindings → Expansion → Type 0
   AreGrownAt turn unifiers e = ((unifiers ≡ []) × (e.children ≡ []) × (e.end ≡ Whole))
       ⊎ ((members : List FlatTerm)
-        × AreMembers r.signature v.terms turn.member turn.path turn.rule.right members
-        × AreGrown r v members unifiers e)
+      × AreMembers r.signature v.terms turn.member turn.path turn.rule.right members
+      × AreGrown r v members unifiers e)
 
 -- a successor by one step from the variant as it is, brought to normal form
 pub record IsStepChild (g : Setting) (drawn : Problem → Substitution → Type 0) (v c : Variant) : Type 0 where

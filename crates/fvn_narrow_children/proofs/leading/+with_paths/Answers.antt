@@ -2,7 +2,7 @@
 use Rattle.std.proofs.Common.{◌<◌, length, sym, ◌∙◌, arith}
 use Rattle.fvn_flat.proofs.Smaller.{argument_is_smaller}
 use Rattle.fvn_narrow_children.proofs.PathFacts.{paths-begin, paths-step, paths-end, no_paths}
-use Rattle.fvn_narrow_children.proofs.paths.+with_paths.Goals as goal
+use Rattle.fvn_narrow_children.proofs.leading.+with_paths.Goals as goal
 
 pub with_paths-requires : goal.with_paths-requires
 with_paths-requires t c =

@@ -5,7 +5,7 @@ use Rattle.std.proofs.lemmas.List.{take_all}
 use Rattle.fvn_flat.specs.Fits.{Fits}
 use Rattle.fvn_flat.proofs.Instances.{each_at}
 use Rattle.fvn_narrow_children.proofs.RestFacts.{form_of, unrested, overlarge, one_more_form, all_forms, told_at}
-use Rattle.fvn_narrow_children.proofs.resting.rested.Goals as goal
+use Rattle.fvn_narrow_children.proofs.resting.rest_all.Goals as goal
 
 pub apply-requires : goal.apply-requires
 apply-requires c = record {
