@@ -108,8 +108,7 @@ module _ (r : Rewriting) where
 
 module _ (r : Rewriting) (good : IsGood r.signature) (brings_none : BringsNoVariable (equations_by r)) (rewriting : RewritingLaws r.signature (equations_by r)) (lists : ListLaws r.signature (equations_by r)) (rules : RuleLaws r.signature (equations_by r))
     (unifiers : ℕ) (drawn : Problem → Substitution → Type 0) (v : Variant) (next : ℕ) (ready : IsReady r v next) (at : FlatTerm) (turn : Turn) (t : IsFitTurn r v at turn)
-    (members : List FlatTerm) (m : AreMembers r.signature v.terms turn.member turn.path turn.rule.right members) (s : Bindings) (u : IsGivenIn r drawn next (problem_at at turn.rule.left) s)
-    (c : Variant) (grown : IsGrown r v members s c) where
+    (members : List FlatTerm) (m : AreMembers r.signature v.terms turn.member turn.path turn.rule.right members) (s : Bindings) (u : IsGivenIn r drawn next (problem_at at turn.rule.left) s) where
   abbrev g : Setting
   g = narrowing_setting r unifiers
 
@@ -138,105 +137,106 @@ module _ (r : Rewriting) (good : IsGood r.signature) (brings_none : BringsNoVari
         | inr p ↦ inr p
       ]
 
-  member_fits : (w : FlatTerm) → Contains members w → Fits r.signature w
+  pub member_fits : (w : FlatTerm) → Contains members w → Fits r.signature w
   member_fits w i = elim (around_new v.terms turn.member m.term m.new w m.is (subst (λ l. Contains l w) m.all_are i)) [
     | inl k ↦ fits_at v.terms w ready.flat.terms k
     | inr e ↦ subst (Fits r.signature) (sym e) put.fits
   ]
 
-  value_is : (x : Var) → Contains v.vars x → substitution c.subst x ≡ plain (inst r.signature (value s) (value v.subst x))
-  value_is x i = ap plain (grown.values.values x i)
+  module _ (c : Variant) (grown : IsGrown r v members s c) where
+    value_is : (x : Var) → Contains v.vars x → substitution c.subst x ≡ plain (inst r.signature (value s) (value v.subst x))
+    value_is x i = ap plain (grown.values.values x i)
 
-  value_of_kind : (x : Var) → Contains v.vars x → IsTerm r.signature (substitution v.subst x)
-  value_of_kind x i = (kind r.signature x.sort, ready.flat.values.keeps_kinds x (All-contains (λ (y : Var). IsSort r.signature y.sort) v.vars x ready.flat.vars i))
+    value_of_kind : (x : Var) → Contains v.vars x → IsTerm r.signature (substitution v.subst x)
+    value_of_kind x i = (kind r.signature x.sort, ready.flat.values.keeps_kinds x (All-contains (λ (y : Var). IsSort r.signature y.sort) v.vars x ready.flat.vars i))
 
-  -- what a variable of a term becomes stands in a value
-  in_some_value : (z y : Var) → Any (λ w. Occurs z (plain w)) v.terms → Occurs y (substitution s z) → (x : Var) × Contains c.vars x × Occurs y (substitution c.subst x)
-  in_some_value z y i o =
-      let h = ready.holds z i in (
-        h.0,
-        subst (λ l. Contains l h.0) (sym grown.vars) h.1,
-        subst (Occurs y) (sym (value_is h.0 h.1)) (inst_has r.signature good s u.fits (value v.subst h.0) y z (value_of_kind h.0 h.1) h.2 o),
-      )
+    -- what a variable of a term becomes stands in a value
+    in_some_value : (z y : Var) → Any (λ w. Occurs z (plain w)) v.terms → Occurs y (substitution s z) → (x : Var) × Contains c.vars x × Occurs y (substitution c.subst x)
+    in_some_value z y i o =
+        let h = ready.holds z i in (
+          h.0,
+          subst (λ l. Contains l h.0) (sym grown.vars) h.1,
+          subst (Occurs y) (sym (value_is h.0 h.1)) (inst_has r.signature good s u.fits (value v.subst h.0) y z (value_of_kind h.0 h.1) h.2 o),
+        )
 
-  -- also of one of the rule's right side
-  of_right : (z y : Var) → Occurs z (plain turn.rule.right) → Occurs y (substitution s z) → (x : Var) × Contains c.vars x × Occurs y (substitution c.subst x)
-  of_right z y i o =
-      let in_left = rules.variables brings_none turn.rule.left turn.rule.right t.rule z i in
-      let whole = occurs_instance y (substitution s) (plain turn.rule.left) z in_left o in
-      let there = occurs_value y (substitution s) (plain at) (BEqual-occurs y r.signature (apply (substitution s) (plain at)) (apply (substitution s) (plain turn.rule.left)) unified whole) in
-      let within = occurs_at there.0 at turn.rule.right put.replaces there.1.0 in
-      in_some_value there.0 y (term_listed.0, m.term, term_listed.1, term_listed.2, within) there.1.1
-    where
-      unified : BEqual r.signature (apply (substitution s) (plain at)) (apply (substitution s) (plain turn.rule.left))
-      unified = All-head (λ (p : Term × Term). BEqual r.signature (apply (substitution s) p.0) (apply (substitution s) p.1)) (plain at, plain turn.rule.left) [] u.unifies.1
+    -- also of one of the rule's right side
+    of_right : (z y : Var) → Occurs z (plain turn.rule.right) → Occurs y (substitution s z) → (x : Var) × Contains c.vars x × Occurs y (substitution c.subst x)
+    of_right z y i o =
+        let in_left = rules.variables brings_none turn.rule.left turn.rule.right t.rule z i in
+        let whole = occurs_instance y (substitution s) (plain turn.rule.left) z in_left o in
+        let there = occurs_value y (substitution s) (plain at) (BEqual-occurs y r.signature (apply (substitution s) (plain at)) (apply (substitution s) (plain turn.rule.left)) unified whole) in
+        let within = occurs_at there.0 at turn.rule.right put.replaces there.1.0 in
+        in_some_value there.0 y (term_listed.0, m.term, term_listed.1, term_listed.2, within) there.1.1
+      where
+        unified : BEqual r.signature (apply (substitution s) (plain at)) (apply (substitution s) (plain turn.rule.left))
+        unified = All-head (λ (p : Term × Term). BEqual r.signature (apply (substitution s) p.0) (apply (substitution s) p.1)) (plain at, plain turn.rule.left) [] u.unifies.1
 
-  holds : HoldsVariables c
-  holds y i =
-      let f = form_from r (map (inst r.signature (value s)) members) c.terms grown.terms i.1 (i.0, i.2, i.3) in
-      let before = rewriting.variables brings_none y f.2.count (plain f.0) (plain i.1) f.2.reached.sequence i.4 in
-      let raw = map_contains (inst r.signature (value s)) members f.0 f.1 in
-      let z = occurs_in_inst r.signature good s u.fits raw.0 y (member_fits raw.0 raw.1.0).kinded (subst (λ w. Occurs y (plain w)) (sym raw.1.1) before) in
-      elim (in_member raw.0 raw.1.0 z.0 z.1) [ inl k ↦ in_some_value z.0 y k z.2 | inr k ↦ of_right z.0 y k z.2 ]
+    holds : HoldsVariables c
+    holds y i =
+        let f = form_from r (map (inst r.signature (value s)) members) c.terms grown.terms i.1 (i.0, i.2, i.3) in
+        let before = rewriting.variables brings_none y f.2.count (plain f.0) (plain i.1) f.2.reached.sequence i.4 in
+        let raw = map_contains (inst r.signature (value s)) members f.0 f.1 in
+        let z = occurs_in_inst r.signature good s u.fits raw.0 y (member_fits raw.0 raw.1.0).kinded (subst (λ w. Occurs y (plain w)) (sym raw.1.1) before) in
+        elim (in_member raw.0 raw.1.0 z.0 z.1) [ inl k ↦ in_some_value z.0 y k z.2 | inr k ↦ of_right z.0 y k z.2 ]
 
-  number_of_value : (x y : Var) → Contains v.vars x → Occurs y (substitution c.subst x) → y.name < EXPANDED_FRESH
-  number_of_value x y i o =
-      let z = occurs_in_inst r.signature good s u.fits (value v.subst x) y (value_of_kind x i) (subst (Occurs y) (value_is x i) o) in
-      go z.0 z.1 z.2 (bound s z.0) refl
-    where
-      go : (z : Var) → Occurs z (substitution v.subst x) → Occurs y (substitution s z) → (b : Option FlatTerm) → bound s z ≡ b → y.name < EXPANDED_FRESH
-      go z old new None e =
-          let same : y ≡ z = subst (Occurs y) (ap (λ b. plain (form_or z b)) e) new in
-          let n = ready.numbers z (inr (x, i, old)) in
-          let high = subst (λ (w : Var). w.name < next) (sym same) n.high in
-          let small = ready.small in
-          omega arith
-      go z old new (Some w) e =
-          let n = u.numbered z y ((u.binds z).1 (w, e)) new in
-          let high = n.2 in
-          let low = u.bounded in
-          omega arith
+    number_of_value : (x y : Var) → Contains v.vars x → Occurs y (substitution c.subst x) → y.name < EXPANDED_FRESH
+    number_of_value x y i o =
+        let z = occurs_in_inst r.signature good s u.fits (value v.subst x) y (value_of_kind x i) (subst (Occurs y) (value_is x i) o) in
+        go z.0 z.1 z.2 (bound s z.0) refl
+      where
+        go : (z : Var) → Occurs z (substitution v.subst x) → Occurs y (substitution s z) → (b : Option FlatTerm) → bound s z ≡ b → y.name < EXPANDED_FRESH
+        go z old new None e =
+            let same : y ≡ z = subst (Occurs y) (ap (λ b. plain (form_or z b)) e) new in
+            let n = ready.numbers z (inr (x, i, old)) in
+            let high = subst (λ (w : Var). w.name < next) (sym same) n.high in
+            let small = ready.small in
+            omega arith
+        go z old new (Some w) e =
+            let n = u.numbered z y ((u.binds z).1 (w, e)) new in
+            let high = n.2 in
+            let low = u.bounded in
+            omega arith
 
-  number_below : (y : Var) → Any (λ w. Occurs y (plain w)) c.terms ⊎ ((x : Var) × Contains c.vars x × Occurs y (substitution c.subst x)) → y.name < EXPANDED_FRESH
-  number_below y (inl i) = let h = holds y i in number_of_value h.0 y (subst (λ l. Contains l h.0) grown.vars h.1) h.2
-  number_below y (inr h) = number_of_value h.0 y (subst (λ l. Contains l h.0) grown.vars h.1) h.2
+    number_below : (y : Var) → Any (λ w. Occurs y (plain w)) c.terms ⊎ ((x : Var) × Contains c.vars x × Occurs y (substitution c.subst x)) → y.name < EXPANDED_FRESH
+    number_below y (inl i) = let h = holds y i in number_of_value h.0 y (subst (λ l. Contains l h.0) grown.vars h.1) h.2
+    number_below y (inr h) = number_of_value h.0 y (subst (λ l. Contains l h.0) grown.vars h.1) h.2
 
-  is_member : IsMember g c
-  is_member = record {
-    flat = record {
-      terms = forms_fit r (map (inst r.signature (value s)) members) c.terms grown.terms;
-      values = grown.values.fits;
-      vars = subst (All (λ (x : Var). IsSort r.signature x.sort)) (sym grown.vars) ready.flat.vars;
-    };
-    holds = holds;
-    others = λ x n. ap (λ o. plain (form_or x o)) (grown.values.others x (λ i. n (subst (λ l. Contains l x) (sym grown.vars) i)));
-    numbers = λ y i f. number_below y i;
-    terms = (rewriting.lists (map plain c.terms)).1 (forms_irreducible r (map (inst r.signature (value s)) members) c.terms grown.terms);
-    values = λ x i. All-contains (λ y. IsIrreducible r.signature (equations_by r) (substitution c.subst y)) v.vars x grown.irreducible (subst (λ l. Contains l x) grown.vars i);
-    stay = All-nil (λ w. IsIrreducible r.signature (equations_by r) (apply (substitution c.subst) w));
-  }
+    is_member : IsMember g c
+    is_member = record {
+      flat = record {
+        terms = forms_fit r (map (inst r.signature (value s)) members) c.terms grown.terms;
+        values = grown.values.fits;
+        vars = subst (All (λ (x : Var). IsSort r.signature x.sort)) (sym grown.vars) ready.flat.vars;
+      };
+      holds = holds;
+      others = λ x n. ap (λ o. plain (form_or x o)) (grown.values.others x (λ i. n (subst (λ l. Contains l x) (sym grown.vars) i)));
+      numbers = λ y i f. number_below y i;
+      terms = (rewriting.lists (map plain c.terms)).1 (forms_irreducible r (map (inst r.signature (value s)) members) c.terms grown.terms);
+      values = λ x i. All-contains (λ y. IsIrreducible r.signature (equations_by r) (substitution c.subst y)) v.vars x grown.irreducible (subst (λ l. Contains l x) grown.vars i);
+      stay = All-nil (λ w. IsIrreducible r.signature (equations_by r) (apply (substitution c.subst) w));
+    }
 
-  same_terms : length v.terms ≡ length c.terms
-  same_terms =
-      ap length (split_at v.terms turn.member m.term m.is)
-      ∙ same_length (take turn.member v.terms) m.term m.new (drop (turn.member + 1) v.terms)
-      ∙ ap length (sym m.all_are)
-      ∙ sym (length-map (inst r.signature (value s)) members)
-      ∙ length_all_zip (IsFormOf r) (map (inst r.signature (value s)) members) c.terms grown.terms
+    same_terms : length v.terms ≡ length c.terms
+    same_terms =
+        ap length (split_at v.terms turn.member m.term m.is)
+        ∙ same_length (take turn.member v.terms) m.term m.new (drop (turn.member + 1) v.terms)
+        ∙ ap length (sym m.all_are)
+        ∙ sym (length-map (inst r.signature (value s)) members)
+        ∙ length_all_zip (IsFormOf r) (map (inst r.signature (value s)) members) c.terms grown.terms
 
-  -- one sequence leads from what the unifier makes of the members to the child's terms
-  pub all_reached : (k : ℕ) × ListSequence r.signature (equations_by r) k (map plain (map (inst r.signature (value s)) members)) (map plain c.terms)
-  all_reached =
-      let e = each_reached r (map (inst r.signature (value s)) members) c.terms grown.terms in
-      (e.0, (lists.members e.0 (map plain (map (inst r.signature (value s)) members)) (map plain c.terms)).1 e.1)
+    -- one sequence leads from what the unifier makes of the members to the child's terms
+    pub all_reached : (k : ℕ) × ListSequence r.signature (equations_by r) k (map plain (map (inst r.signature (value s)) members)) (map plain c.terms)
+    all_reached =
+        let e = each_reached r (map (inst r.signature (value s)) members) c.terms grown.terms in
+        (e.0, (lists.members e.0 (map plain (map (inst r.signature (value s)) members)) (map plain c.terms)).1 e.1)
 
-  pub is_step_child : IsStepChild g drawn v c
-  is_step_child = record {
-    successor = successor r good drawn v next ready at turn t members m s u;
-    step = step_from r good drawn v next ready at turn t members m s u;
-    steps = all_reached.0;
-    reached = all_reached.1;
-    same = λ x i. subst (BEqual r.signature (substitution c.subst x)) (value_is x i) (BEqual-refl r.signature (substitution c.subst x));
-    alike = record { vars = sym grown.vars; terms = same_terms };
-    member = is_member;
-  }
+    pub is_step_child : IsStepChild g drawn v c
+    is_step_child = record {
+      successor = successor r good drawn v next ready at turn t members m s u;
+      step = step_from r good drawn v next ready at turn t members m s u;
+      steps = all_reached.0;
+      reached = all_reached.1;
+      same = λ x i. subst (BEqual r.signature (substitution c.subst x)) (value_is x i) (BEqual-refl r.signature (substitution c.subst x));
+      alike = record { vars = sym grown.vars; terms = same_terms };
+      member = is_member;
+    }

@@ -1,6 +1,6 @@
 -- What was found in some turns and what was found in others is what was found in all of them.
 use Rattle.std.proofs.Common.{◌≡◌, ◌≤◌, ◌<◌, ◌+◌, ℕ, zero, suc, List, [], ◌∷◌, ◌++◌, take, length, get_or, refl, sym, ap, ◌∙◌, subst, inl, inr, arith}
-use Rattle.std.specs.Prelude.{◌⊎◌, All, Contains}
+use Rattle.std.specs.Prelude.{◌⊎◌, All, Any, Contains}
 use Rattle.std.proofs.lemmas.List.{take_more, take_all}
 use Rattle.std.proofs.lemmas.List.Elements.{All-nil, All-append, Contains-append_left, Contains-append_right, Contains-append_cases}
 use Rattle.fvn_base.proofs.Membership.{contains_here, contains_none, contains_cases}
@@ -15,22 +15,29 @@ use Rattle.fvn_exploring.specs.declared.ends.ExpandEnd.TheVariants.{Whole}
 use Rattle.fvn_exploring.specs.declared.ends.Expansion.{Expansion}
 use Rattle.fvn_narrow.specs.Settings.{narrowing_setting}
 use Rattle.fvn_narrow.specs.inner.Joining.{AreJoined}
-use Rattle.fvn_narrow.specs.inner.Turns.{Turn, IsStepChild, IsOfStep, EndsAs, LiftsAt, AreFound, IsAtPart, IsThrough, IsAmongFirst}
+use Rattle.fvn_narrow.specs.inner.Turns.{Turn, IsStepChild, IsOfStep, EndsAs, LiftsInTurn, AreFound, IsAtPart, IsThrough, IsAmongFirst}
+
+-- some of a list is some of a longer one
+any_left : {A : Type 0} {P : A → Type 0} (xs ys : List A) → Any P xs → Any P (xs ++ ys)
+any_left xs ys h = let c = Contains-append_left xs ys h.1 (h.0, h.2, h.3) in (c.0, h.1, c.1, c.2, h.4)
+
+any_right : {A : Type 0} {P : A → Type 0} (xs ys : List A) → Any P ys → Any P (xs ++ ys)
+any_right xs ys h = let c = Contains-append_right xs ys h.1 (h.0, h.2, h.3) in (c.0, h.1, c.1, c.2, h.4)
 
 module _ (r : Rewriting) (unifiers : ℕ) (drawn : Problem → Substitution → Type 0) (v : Variant) where
   -- what was found in the turns that are covered, where none of them stopped
   pub record AreSoFar (Covered : Turn → Type 0) (children : List Variant) : Type 0 where
     pub children_are : All (IsStepChild (narrowing_setting r unifiers) drawn v) children
-    pub lift : (turn : Turn) → Covered turn → LiftsAt r unifiers drawn v turn (Contains children)
+    pub lift : (turn : Turn) → Covered turn → LiftsInTurn r unifiers drawn v turn children
 
   pub none_so_far : (Covered : Turn → Type 0) → ((turn : Turn) → Covered turn → ⊥) → AreSoFar Covered []
   none_so_far Covered none = record { children_are = All-nil (IsStepChild (narrowing_setting r unifiers) drawn v); lift = λ turn c. absurd (none turn c) }
 
-  lifts_left : (before more : List Variant) (turn : Turn) → LiftsAt r unifiers drawn v turn (Contains before) → LiftsAt r unifiers drawn v turn (Contains (before ++ more))
-  lifts_left before more turn h s keeps met = let l = h s keeps met in (l.0, Contains-append_left before more l.0 l.1, l.2)
+  lifts_left : (before more : List Variant) (turn : Turn) → LiftsInTurn r unifiers drawn v turn before → LiftsInTurn r unifiers drawn v turn (before ++ more)
+  lifts_left before more turn h at is s c keeps meet = any_left before more (h at is s c keeps meet)
 
-  lifts_right : (before more : List Variant) (turn : Turn) → LiftsAt r unifiers drawn v turn (Contains more) → LiftsAt r unifiers drawn v turn (Contains (before ++ more))
-  lifts_right before more turn h s keeps met = let l = h s keeps met in (l.0, Contains-append_right before more l.0 l.1, l.2)
+  lifts_right : (before more : List Variant) (turn : Turn) → LiftsInTurn r unifiers drawn v turn more → LiftsInTurn r unifiers drawn v turn (before ++ more)
+  lifts_right before more turn h at is s c keeps meet = any_right before more (h at is s c keeps meet)
 
   module _ (Covered Now : Turn → Type 0) (before : List Variant) (next : Expansion) (all : List Variant) (end : ExpandEnd) (so_far : AreSoFar Covered before) (found : AreFound r unifiers drawn v Now next) (j : AreJoined before next all end) where
     all_children : All (IsStepChild (narrowing_setting r unifiers) drawn v) all
@@ -40,12 +47,12 @@ module _ (r : Rewriting) (unifiers : ℕ) (drawn : Problem → Substitution → 
     pub joined : (Both : Turn → Type 0) → ((turn : Turn) → Both turn → Covered turn ⊎ Now turn) → end ≡ Whole → AreSoFar Both all
     joined Both either whole = record { children_are = all_children; lift = lift }
       where
-        lifts : (turn : Turn) → Covered turn ⊎ Now turn → LiftsAt r unifiers drawn v turn (Contains (before ++ next.children))
+        lifts : (turn : Turn) → Covered turn ⊎ Now turn → LiftsInTurn r unifiers drawn v turn (before ++ next.children)
         lifts turn (inl c) = lifts_left before next.children turn (so_far.lift turn c)
         lifts turn (inr c) = lifts_right before next.children turn (found.whole (sym j.end_is ∙ whole) turn c)
 
-        lift : (turn : Turn) → Both turn → LiftsAt r unifiers drawn v turn (Contains all)
-        lift turn c = subst (λ l. LiftsAt r unifiers drawn v turn (Contains l)) (sym j.children) (lifts turn (either turn c))
+        lift : (turn : Turn) → Both turn → LiftsInTurn r unifiers drawn v turn all
+        lift turn c = subst (LiftsInTurn r unifiers drawn v turn) (sym j.children) (lifts turn (either turn c))
 
     -- where they stopped
     pub stopped : (Both : Turn → Type 0) → (end ≡ Whole → ⊥) → AreFound r unifiers drawn v Both record { children = all; end = end }
@@ -60,7 +67,7 @@ module _ (r : Rewriting) (unifiers : ℕ) (drawn : Problem → Substitution → 
   all_found Covered Both children covers so_far = record { children = so_far.children_are; whole = λ e turn c. so_far.lift turn (covers turn c); cause = tt }
 
   -- no turn, or only such as meet no instance
-  pub nothing_found : (Covered : Turn → Type 0) (e : Expansion) → e.children ≡ [] → e.end ≡ Whole → ((turn : Turn) → Covered turn → LiftsAt r unifiers drawn v turn (Contains e.children)) → AreFound r unifiers drawn v Covered e
+  pub nothing_found : (Covered : Turn → Type 0) (e : Expansion) → e.children ≡ [] → e.end ≡ Whole → ((turn : Turn) → Covered turn → LiftsInTurn r unifiers drawn v turn e.children) → AreFound r unifiers drawn v Covered e
   nothing_found Covered e none whole lift = record {
     children = subst (All (IsStepChild (narrowing_setting r unifiers) drawn v)) (sym none) (All-nil (IsStepChild (narrowing_setting r unifiers) drawn v));
     whole = λ q turn c. lift turn c;

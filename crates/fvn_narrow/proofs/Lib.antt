@@ -1,12 +1,10 @@
 -- Lemmas on the turns of an expansion.
 mod Turning
-mod Numbers
-mod Joint
+mod Once
 mod Steps
 mod Occurring
 mod Children
-mod Lifting
 mod RuleTurn
+mod Found
 mod Joined
-mod AllTurns
 mod Backwards

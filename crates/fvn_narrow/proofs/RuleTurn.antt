@@ -1,56 +1,47 @@
 -- What is found by one rule at one part.
-use Rattle.std.proofs.Common.{◌≡◌, ◌≤◌, ◌<◌, ℕ, true, false, List, [], ◌∷◌, ◌++◌, map, length, None, Some, refl, sym, ap, ◌∙◌, subst, inl, inr, arith}
-use Rattle.std.specs.Prelude.{◌⊎◌, Option, All, Any, Contains}
-use Rattle.std.proofs.lemmas.List.Elements.{All-nil, All-contains, All-weaker}
+use Rattle.std.proofs.Common.{◌≡◌, ◌≤◌, ℕ, List, [], ◌∷◌, map, sym, ap, subst, inl, inr, arith}
+use Rattle.std.specs.Prelude.{◌⊎◌, All, Any, Contains}
+use Rattle.std.proofs.lemmas.List.Elements.{All-nil, All-contains, All-weaker, All-contains_itself}
 use Rattle.fvn_base.specs.declared.limits.TheConstants.{NEXT_FRESH}
-use Rattle.fvn_base.proofs.Membership.{contains_none, contains_cases, map_contains}
+use Rattle.fvn_base.proofs.Membership.{map_contains}
 use Rattle.fvn_terms.specs.declared.plain.Var.{Var}
 use Rattle.fvn_terms.specs.declared.declarations.Declarations.{Declarations}
 use Rattle.fvn_terms.specs.Theory.{Equations}
-use Rattle.fvn_terms.specs.Term.{Term, var}
-use Rattle.fvn_terms.specs.Substitution.{Substitution, apply, followed_by, Occurs}
+use Rattle.fvn_terms.specs.Substitution.{Substitution, Occurs}
 use Rattle.fvn_terms.specs.Equality.{BEqual}
-use Rattle.fvn_terms.specs.Sorts.{IsWellSorted}
 use Rattle.fvn_terms.specs.Unifiers.{Problem, IsUnifier}
-use Rattle.fvn_terms.specs.Signature.{kind, IsSort}
-use Rattle.fvn_terms.proofs.Substitutions.{apply-apply}
-use Rattle.fvn_terms.proofs.Equal.{BEqual-trans, BEqual-apply}
-use Rattle.fvn_terms.specs.Rewriting.{IsIrreducible, BringsNoVariable}
+use Rattle.fvn_terms.specs.Rewriting.{BringsNoVariable}
 use Rattle.fvn_terms.specs.Laws.{RewritingLaws}
 use Rattle.fvn_forms.specs.Flat.{FlatTerm, plain}
-use Rattle.fvn_forms.specs.Canon.{canon, inst}
 use Rattle.fvn_forms.specs.Good.{IsGood}
 use Rattle.fvn_signature.specs.Queries.{IsCompleted}
-use Rattle.fvn_flat.specs.Bindings.{Bindings, bound, form_or, value, BindsOnce, BindingsFit}
+use Rattle.fvn_flat.specs.Bindings.{Bindings, BindsOnce, BindingsFit}
 use Rattle.fvn_flat.specs.OneAnswer.{IsCompleteFor}
-use Rattle.fvn_flat.specs.Problems.{variables_of, plain_pairs}
-use Rattle.fvn_flat.specs.Solving.{substitution, problem_of, Binds, IsNumbered, AreUnifiers, AreDrawn, AreBindings, AreNumbered, AreApart, AreComplete, HasCause}
-use Rattle.fvn_flat.specs.Successors.{OccursIn}
-use Rattle.fvn_flat.proofs.Instances.{inst_equal}
+use Rattle.fvn_flat.specs.Problems.{plain_pairs}
+use Rattle.fvn_flat.specs.Solving.{substitution, problem_of, Binds, IsNumbered, AreUnifiers, AreDrawn, AreBindings, AreNumbered, AreApart, AreComplete}
+use Rattle.fvn_flat.specs.Successors.{OccursIn, Narrowed, IsStepFrom}
 use Rattle.fvn_flat.specs.declared.solver.Pairs.{Pairs}
 use Rattle.fvn_flat.specs.declared.solver.Solved.{Solved}
-use Rattle.fvn_flat.specs.declared.solver.SolveEnd.{SolveEnd}
 use Rattle.fvn_flat.specs.declared.solver.SolveEnd.TheVariants.{Complete}
 use Rattle.fvn_cover.specs.declared.variant.Variant.{Variant}
-use Rattle.fvn_rewrite_laws.specs.Laws.{SequenceLaws, ListLaws, RuleLaws, AgreementLaws}
-use Rattle.fvn_rewrite_coherence.specs.Laws.{InstancesStepAtParts}
+use Rattle.fvn_rewrite_laws.specs.Laws.{ListLaws, RuleLaws}
 use Rattle.fvn_rewrite.specs.Usable.{Rewriting, AreUsable, equations_by}
 use Rattle.fvn_exploring.specs.Setting.{Setting}
 use Rattle.fvn_exploring.specs.Children.{narrowed}
-use Rattle.fvn_exploring.specs.Liftings.{value_under, IsLifted, KeepsIrreducible}
-use Rattle.fvn_exploring.specs.declared.ends.Expansion.{Expansion}
-use Rattle.fvn_exploring.specs.declared.ends.ExpandEnd.TheVariants.{Whole}
 use Rattle.fvn_narrow_children.specs.Starts.{IsNumberedUpTo}
-use Rattle.fvn_narrow_children.specs.Growing.{IsGrown, IsLost, IsDealtWith, AreGrown}
+use Rattle.fvn_narrow_children.specs.Growing.{IsGrown, IsDealtWith}
 use Rattle.fvn_narrow_children.proofs.PathFacts.{stands_at}
 use Rattle.fvn_narrow.specs.Settings.{narrowing_setting}
-use Rattle.fvn_narrow.specs.inner.Turns.{Turn, IsReady, AreMembers, IsMetBy, LiftsAt}
+use Rattle.fvn_narrow.specs.inner.Turns.{Turn, IsReady, AreMembers}
 use Rattle.fvn_narrow.proofs.Turning.{problem_at, IsFitTurn, IsGivenIn}
-use Rattle.fvn_narrow.proofs.Numbers.{is_from, from_true, numbered_mine, numbered_not_new, old_not_mine}
-use Rattle.fvn_narrow.proofs.Joint.{IsJoint, joint_instance}
 use Rattle.fvn_narrow.proofs.Occurring.{occurs_at}
-use Rattle.fvn_narrow.proofs.Children.{item_listed}
-use Rattle.fvn_narrow.proofs.Lifting.{lifted}
+use Rattle.fvn_narrow.proofs.Children.{item_listed, all_reached}
+use Rattle.fvn_lifting.specs.Meetings.{IsNew, ShareNone, IsOverNew}
+use Rattle.fvn_lifting.specs.Lifted.{LiftsAt, IsBroughtTo, HasReducible, IsTurned}
+use Rattle.fvn_lifting.specs.Laws.{SuccessorsAreSteps, TurnsLift}
+use Rattle.fvn_lifting.proofs.Stepping.{any_step}
+use Rattle.fvn_terms.proofs.Equal.{BEqual-refl}
+use Rattle.fvn_narrow.proofs.Steps.{successor, step_from, unbound_stays, old_is_not_new}
 
 -- what a solver promises, and that its problem is that of the part and the left side
 pub record IsAnswered (r : Rewriting) (drawn : Problem → Substitution → Type 0) (next : ℕ) (at left : FlatTerm) (given : Pairs) (solved : Solved) : Type 0 where
@@ -84,13 +75,10 @@ module _ (r : Rewriting) (drawn : Problem → Substitution → Type 0) (next : �
   pub complete_for : solved.end ≡ Complete → IsCompleteFor r.signature (problem_at at left) (map substitution solved.unifiers)
   complete_for e = subst (λ p. IsCompleteFor r.signature p (map substitution solved.unifiers)) problem_is (a.complete e)
 
-module _ (r : Rewriting) (good : IsGood r.signature) (completed : IsCompleted r.signature) (usable : AreUsable r.signature r.rules) (brings_none : BringsNoVariable (equations_by r))
-    (rewriting : RewritingLaws r.signature (equations_by r)) (sequences : SequenceLaws r.signature (equations_by r)) (lists : ListLaws r.signature (equations_by r)) (rules : RuleLaws r.signature (equations_by r))
-    (agreement : AgreementLaws r.signature (equations_by r)) (parts : InstancesStepAtParts)
+module _ (r : Rewriting) (good : IsGood r.signature) (completed : IsCompleted r.signature) (usable : AreUsable r.signature r.rules) (brings_none : BringsNoVariable (equations_by r)) (rewriting : RewritingLaws r.signature (equations_by r))
+    (lists : ListLaws r.signature (equations_by r)) (rules : RuleLaws r.signature (equations_by r)) (steps : SuccessorsAreSteps) (turns : TurnsLift)
     (unifiers : ℕ) (drawn : Problem → Substitution → Type 0) (v : Variant) (next : ℕ) (ready : IsReady r v next) (at : FlatTerm) (turn : Turn) (t : IsFitTurn r v at turn)
-    (members : List FlatTerm) (m : AreMembers r.signature v.terms turn.member turn.path turn.rule.right members)
-    (given : Pairs) (solved : Solved) (a : IsAnswered r drawn next at turn.rule.left given solved) (end : solved.end ≡ Complete)
-    (children : List Variant) (dealt : All (λ s. IsDealtWith r v members s children) solved.unifiers) where
+    (given : Pairs) (solved : Solved) (a : IsAnswered r drawn next at turn.rule.left given solved) where
   abbrev d : Declarations
   d = r.signature
 
@@ -103,67 +91,75 @@ module _ (r : Rewriting) (good : IsGood r.signature) (completed : IsCompleted r.
   abbrev left : FlatTerm
   left = turn.rule.left
 
-  abbrev vars : List Var
-  vars = variables_of (problem_at at left)
+  abbrev problem : Problem
+  problem = problem_at at left
 
-  at_numbered : (x : Var) → Occurs x (plain at) → IsNumberedUpTo next x
-  at_numbered x o = ready.numbers x (inl (in_terms x o))
-    where
-      in_terms : (x : Var) → Occurs x (plain at) → Any (λ w. Occurs x (plain w)) v.terms
-      in_terms x o = let i = item_listed v.terms turn.member t.turn_is.term t.turn_is.is in (i.0, t.turn_is.term, i.1, i.2, occurs_at x at at (stands_at turn.path t.turn_is.term at t.turn_is.leads) o)
+  pub at_numbered : (x : Var) → Occurs x (plain at) → IsNumberedUpTo next x
+  at_numbered x o =
+      let i = item_listed v.terms turn.member t.turn_is.term t.turn_is.is in
+      ready.numbers x (inl (i.0, t.turn_is.term, i.1, i.2, occurs_at x at at (stands_at turn.path t.turn_is.term at t.turn_is.leads) o))
 
-  -- what is bound is a variable of the problem, and other variables stay
-  decided : (s : Bindings) → Binds (problem_at at left) s → (x : Var) → Contains vars x ⊎ (substitution s x ≡ var x)
-  decided s binds x = go (bound s x) refl
-    where
-      go : (o : Option FlatTerm) → bound s x ≡ o → Contains vars x ⊎ (plain (form_or x (bound s x)) ≡ var x)
-      go None e = inr (ap (λ o. plain (form_or x o)) e)
-      go (Some w) e = inl ((binds x).1 (w, e))
+  share_none : ShareNone (plain at) (plain left)
+  share_none x o i = old_is_not_new x next (t.old x (inl i)) (at_numbered x o)
 
-  module _ (whole : Substitution) (keeps : KeepsIrreducible g v whole) (by : Substitution) (by_sorted : IsWellSorted d by) (matches : BEqual d (apply whole (plain at)) (apply by (plain left))) where
-    joint : (u : Substitution) × Contains (map substitution solved.unifiers) u × _
-    joint =
-        joint_instance d (plain at) (plain left) (map substitution solved.unifiers) (complete_for r drawn next at left given solved a end) (is_from 1) (is_from next)
-        (λ x o. numbered_mine next x (at_numbered x o)) (λ x o. old_not_mine x (t.old x (inl o))) whole by keeps.well_sorted by_sorted matches fresh
+  apart : (x : Var) → OccursIn d v.vars (narrowed v) x → (Occurs x (plain left) → ⊥) × (IsNew next x → ⊥)
+  apart x i = (λ o. old_is_not_new x next (t.old x (inl o)) (ready.numbers x i), λ n. let high = (ready.numbers x i).high in let low = n.1 in absurd (omega arith))
+
+  over_new : (u : Substitution) → Contains (map substitution solved.unifiers) u → IsOverNew next problem u
+  over_new u i =
+      let p = map_contains substitution solved.unifiers u i in
+      let s = given_in r drawn next at left given solved a p.0 p.1.0 in
+      subst (IsOverNew next problem) p.1.1 record {
+        others_stay = λ x n. unbound_stays problem p.0 s.binds x n;
+        new = λ y o. let n = s.numbered o.0 y o.1 o.2 in (n.0, n.1);
+      }
+
+  module _ (members : List FlatTerm) (m : AreMembers d v.terms turn.member turn.path turn.rule.right members) (children : List Variant) where
+    turned_by : (s : Bindings) → Contains solved.unifiers s → IsDealtWith r v members s children → IsTurned g v.vars (narrowed v) children (substitution s)
+    turned_by s i dealt = record {
+      to = successor r good drawn v next ready at turn t members m s u;
+      step = steps d good completed equations usable.admissible v.vars (narrowed v) (successor r good drawn v next ready at turn t members m s u) ready.flat.terms (any_step d v.vars equations drawn (narrowed v) (successor r good drawn v next ready at turn t members m s u) made);
+      taken = taken dealt;
+    }
       where
-        fresh : (u : Substitution) → Contains (map substitution solved.unifiers) u → (x y : Var) → Contains vars x → Occurs y (u x) → is_from next y ≡ true
-        fresh u i x y k o =
+        u : IsGivenIn r drawn next problem s
+        u = given_in r drawn next at left given solved a s i
+
+        made : IsStepFrom d v.vars equations drawn (narrowed v) (successor r good drawn v next ready at turn t members m s u)
+        made = step_from r good drawn v next ready at turn t members m s u
+
+        to : Narrowed
+        to = successor r good drawn v next ready at turn t members m s u
+
+        brought : (c : Variant) → IsGrown r v members s c → IsBroughtTo g v.vars (successor r good drawn v next ready at turn t members m s u) c
+        brought c grown =
+            let e = all_reached r good brings_none rewriting lists rules unifiers drawn v next ready at turn t members m s u c grown in record {
+              steps = e.0;
+              reached = e.1;
+              same = λ x k. subst (BEqual d (substitution c.subst x)) (ap plain (grown.values.values x k)) (BEqual-refl d (substitution c.subst x));
+            }
+
+        taken : IsDealtWith r v members s children → Any (IsBroughtTo g v.vars (successor r good drawn v next ready at turn t members m s u)) children ⊎ HasReducible g v.vars (successor r good drawn v next ready at turn t members m s u)
+        taken (inl w) = inl (w.1.0, w.0, w.1.1, w.1.2, brought w.0 w.2)
+        taken (inr l) = inr (inl (l.listed.0, l.variable, l.listed.1, l.listed.2, l.reducible))
+
+    -- where all unifiers were dealt with, and they are complete
+    pub lifts_here : solved.end ≡ Complete → All (λ s. IsDealtWith r v members s children) solved.unifiers → LiftsAt g v.vars (narrowed v) at left children
+    lifts_here end dealt =
+        turns g v.vars (All-nil (λ w. (y : Var) → Occurs y w → Contains v.vars y)) (narrowed v) at left next share_none apart (map substitution solved.unifiers) (complete_for r drawn next at left given solved a end)
+        (All-weaker (Contains (map substitution solved.unifiers)) (IsOverNew next problem) over_new (map substitution solved.unifiers) (All-contains_itself (map substitution solved.unifiers)))
+        children
+        (All-weaker (Contains (map substitution solved.unifiers)) (IsTurned g v.vars (narrowed v) children) turned (map substitution solved.unifiers) (All-contains_itself (map substitution solved.unifiers)))
+      where
+        turned : (u : Substitution) → Contains (map substitution solved.unifiers) u → IsTurned g v.vars (narrowed v) children u
+        turned u i =
             let p = map_contains substitution solved.unifiers u i in
-            let n = (given_in r drawn next at left given solved a p.0 p.1.0).numbered x y k (subst (λ w. Occurs y (w x)) (sym p.1.1) o) in
-            from_true next y n.0 n.1
+            subst (IsTurned g v.vars (narrowed v) children) p.1.1 (turned_by p.0 p.1.0 (All-contains (λ s. IsDealtWith r v members s children) solved.unifiers p.0 dealt p.1.0))
 
-    one : (s : Bindings) × (Contains solved.unifiers s × (substitution s ≡ joint.0))
-    one = map_contains substitution solved.unifiers joint.0 joint.1
-
-    abbrev s : Bindings
-    s = one.0
-
-    u : IsGivenIn r drawn next (problem_at at left) s
-    u = given_in r drawn next at left given solved a s one.1.0
-
-    kept : (x : Var) → OccursIn d v.vars (narrowed v) x → BEqual d (whole x) (apply joint.2.by (substitution s x))
-    kept x i =
-        let n = ready.numbers x i in
-        subst (λ w. BEqual d (whole x) (apply joint.2.by (w x))) (sym one.1.1)
-        (joint.2.kept x (numbered_mine next x n) (numbered_not_new next x n) (subst (λ w. Contains vars x ⊎ (w x ≡ var x)) one.1.1 (decided s u.binds x)))
-
-    -- no value was reducible
-    not_lost : IsLost r v members s → ⊥
-    not_lost l =
-        let x = l.variable in
-        let w = substitution v.subst x in
-        let under = inst d (value s) (value v.subst x) in
-        let equal = agreement.terms whole (followed_by (substitution s) joint.2.by) w (λ y o. kept y (inr (x, l.listed, o))) in
-        let flat : BEqual d (apply (followed_by (substitution s) joint.2.by) w) (apply joint.2.by (plain under)) =
-        subst (λ q. BEqual d q (apply joint.2.by (plain under))) (apply-apply (substitution s) joint.2.by w)
-        (BEqual-apply d joint.2.by joint.2.well_sorted.0 (inst_equal d (value s) good u.fits (value v.subst x) (kind d x.sort, ready.flat.values.keeps_kinds x (All-contains (λ (y : Var). IsSort d y.sort) v.vars x ready.flat.vars l.listed)))) in
-        let after : IsIrreducible d equations (apply joint.2.by (plain under)) = sequences.irreducible (apply whole w) (apply joint.2.by (plain under)) (BEqual-trans d equal flat) (keeps.values x l.listed) in
-        sequences.instances joint.2.by joint.2.well_sorted (plain under) after l.reducible.0 l.reducible.1
-
-    pub lifts_here : (c : Variant) × Contains children c × IsLifted g v whole c
-    lifts_here = go (All-contains (λ s. IsDealtWith r v members s children) solved.unifiers s dealt one.1.0)
-      where
-        go : IsDealtWith r v members s children → (c : Variant) × Contains children c × IsLifted g v whole c
-        go (inl w) =
-            (w.0, w.1, lifted r good completed usable brings_none rewriting lists rules agreement parts unifiers drawn v next ready at turn t members m s u w.0 w.2 whole joint.2.by joint.2.well_sorted kept)
-        go (inr l) = absurd (not_lost l)
+  -- without a unifier nothing meets
+  pub nothing_meets : solved.end ≡ Complete → solved.unifiers ≡ [] → (children : List Variant) → LiftsAt g v.vars (narrowed v) at left children
+  nothing_meets end none children =
+      turns g v.vars (All-nil (λ w. (y : Var) → Occurs y w → Contains v.vars y)) (narrowed v) at left next share_none apart (map substitution solved.unifiers) (complete_for r drawn next at left given solved a end)
+      (All-weaker (Contains (map substitution solved.unifiers)) (IsOverNew next problem) over_new (map substitution solved.unifiers) (All-contains_itself (map substitution solved.unifiers)))
+      children
+      (subst (λ l. All (IsTurned g v.vars (narrowed v) children) (map substitution l)) (sym none) (All-nil (IsTurned g v.vars (narrowed v) children)))

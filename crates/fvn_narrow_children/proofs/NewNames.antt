@@ -1,11 +1,11 @@
--- New variables for those of a list, and back.
+-- New variables for those of a list.
 use Rattle.std.proofs.Common.{◌≡◌, ℕ, ◌+◌, ◌≤◌, ◌<◌, Bool, true, false, List, [], ◌∷◌, Some, None, refl, sym, ap, ◌∙◌, subst, inl, inr}
 use Rattle.std.specs.Prelude.{◌||◌, ◌⊎◌, if◌then◌else◌, Contains}
 use Rattle.std.proofs.lemmas.Bool.{or_parts}
 use Rattle.fvn_base.proofs.Membership.{contains_here, contains_later, contains_cases, contains_none}
 use Rattle.fvn_terms.specs.declared.plain.Var.{Var}
 use Rattle.fvn_terms.specs.Substitution.{same_var, Occurs}
-use Rattle.fvn_terms.proofs.Variables.{same_var_is, same_var_itself}
+use Rattle.fvn_terms.proofs.Variables.{same_var_is}
 use Rattle.fvn_forms.specs.Flat.{FlatTerm, fvar, plain}
 use Rattle.fvn_flat.specs.Bindings.{Bindings, bound, form_or, value}
 use Rattle.fvn_flat.specs.Variables.{listed, with_variables, fresh_for, renaming}
@@ -36,33 +36,6 @@ name_sort n (z ∷ names) x = go (same_var z x) refl (name_sort (n + 1) names x)
     go : (b : Bool) → same_var z x ≡ b → (name_for (n + 1) names x).sort ≡ x.sort → (name_for n (z ∷ names) x).sort ≡ x.sort
     go true e rest = ap (λ b. (if b then fresh_for n z else name_for (n + 1) names x).sort) e ∙ ap (λ (y : Var). y.sort) (same_var_is z x e)
     go false e rest = ap (λ b. (if b then fresh_for n z else name_for (n + 1) names x).sort) e ∙ rest
-
--- the first of the variables that goes to y
-abbrev pub back_from : (Var → Var) → List Var → Var → Var
-back_from by [] y = y
-back_from by (x ∷ names) y = if same_var (by x) y then x else back_from by names y
-
-pub back_sort : (by : Var → Var) → ((x : Var) → (by x).sort ≡ x.sort) → (names : List Var) (y : Var) → (back_from by names y).sort ≡ y.sort
-back_sort by sorts [] y = refl
-back_sort by sorts (x ∷ names) y = go (same_var (by x) y) refl (back_sort by sorts names y)
-  where
-    go : (b : Bool) → same_var (by x) y ≡ b → (back_from by names y).sort ≡ y.sort → (back_from by (x ∷ names) y).sort ≡ y.sort
-    go true e rest = ap (λ b. (if b then x else back_from by names y).sort) e ∙ sym (sorts x) ∙ ap (λ (z : Var). z.sort) (same_var_is (by x) y e)
-    go false e rest = ap (λ b. (if b then x else back_from by names y).sort) e ∙ rest
-
-pub back_again : (by : Var → Var) (names : List Var) → ((x y : Var) → Contains names x → Contains names y → by x ≡ by y → x ≡ y) → (x : Var) → Contains names x → back_from by names (by x) ≡ x
-back_again by [] apart x c = absurd (contains_none x c)
-back_again by (z ∷ names) apart x c = go (same_var (by z) (by x)) refl
-  where
-    go : (b : Bool) → same_var (by z) (by x) ≡ b → back_from by (z ∷ names) (by x) ≡ x
-    go true e = ap (λ b. if b then z else back_from by names (by x)) e ∙ apart z x (contains_here z names) c (same_var_is (by z) (by x) e)
-    go false e =
-        ap (λ b. if b then z else back_from by names (by x)) e
-        ∙ back_again by names (λ a b i j. apart a b (contains_later z names a i) (contains_later z names b j)) x (other (contains_cases z names x c))
-      where
-        other : (z ≡ x) ⊎ Contains names x → Contains names x
-        other (inl q) = let clash : true ≡ false = sym (same_var_itself (by z)) ∙ ap (λ y. same_var (by z) (by y)) q ∙ e in cc
-        other (inr i) = i
 
 pub listed_contains : (vars : List Var) (x : Var) → listed vars x ≡ true → Contains vars x
 listed_contains [] x e = cc

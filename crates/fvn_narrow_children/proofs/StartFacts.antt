@@ -28,7 +28,7 @@ use Rattle.fvn_cover.specs.Covering.{IsFlatVariant}
 use Rattle.fvn_exploring.specs.Children.{narrowed, HoldsVariables}
 use Rattle.fvn_narrow_children.specs.Starts.{IsNumberedUpTo, IsStartOf}
 use Rattle.fvn_narrow_children.specs.inner.Renaming.{value_variables, IsRenamedBy}
-use Rattle.fvn_narrow_children.proofs.NewNames.{name_for, renamed_value, name_sort, back_from, back_sort, back_again, listed_contains, occurring_in_values}
+use Rattle.fvn_narrow_children.proofs.NewNames.{name_for, renamed_value, name_sort, listed_contains, occurring_in_values}
 
 all_instances_fit : (d : Declarations) → IsGood d → (s : Var → FlatTerm) → ((t : FlatTerm) → Fits d t → Fits d (inst d s t)) → (l : List FlatTerm) → AllFit d l → AllFit d (map (inst d s) l)
 all_instances_fit d good s fits [] h = tt
@@ -145,12 +145,8 @@ module _ (d : Declarations) (good : IsGood d) (v w : Variant) (flat : IsFlatVari
       vars = r.vars;
       by = by;
       renames = record { one_to_one = λ x y i j e. apart x y (named x i) (named y j) e; sorts = λ x i. name_sort 1 names x };
-      keeps_sorts = name_sort 1 names;
       terms = terms_are;
       values = values_equal;
-      back = back_from by names;
-      back_keeps_sorts = back_sort by (name_sort 1 names) names;
-      taken_back = λ x i. back_again by names apart x (named x i);
       flat = record {
         terms = subst (AllFit d) (sym r.terms) (all_instances_fit d good new_values (inst_fits d new_values good fits) v.terms flat.terms);
         values = r.values.fits;

@@ -23,13 +23,8 @@ pub record IsStartOf (d : Declarations) (next : ℕ) (v start : Variant) : Type 
   pub vars : start.vars ≡ v.vars
   pub by : Renaming
   pub renames : IsRenaming (OccursIn d v.vars (narrowed v)) by
-  pub keeps_sorts : (x : Var) → (by x).sort ≡ x.sort
   pub terms : start.terms ≡ map (renamed_form d by) v.terms
   pub values : (x : Var) → Contains v.vars x → BEqual d (substitution start.subst x) (renamed by (substitution v.subst x))
-  -- and back
-  pub back : Renaming
-  pub back_keeps_sorts : (y : Var) → (back y).sort ≡ y.sort
-  pub taken_back : (x : Var) → OccursIn d v.vars (narrowed v) x → back (by x) ≡ x
   -- it is flat, binds no others, and its terms have no variables but its values'
   pub flat : IsFlatVariant d start
   pub others : (x : Var) → (Contains v.vars x → ⊥) → substitution start.subst x ≡ var x

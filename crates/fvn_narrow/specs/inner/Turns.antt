@@ -7,7 +7,6 @@ use Rattle.fvn_terms.specs.declared.declarations.Declarations.{Declarations}
 use Rattle.fvn_terms.specs.Term.{var}
 use Rattle.fvn_terms.specs.Substitution.{Substitution, apply}
 use Rattle.fvn_terms.specs.Equality.{BEqual}
-use Rattle.fvn_terms.specs.Sorts.{IsWellSorted}
 use Rattle.fvn_terms.specs.Unifiers.{Problem}
 use Rattle.fvn_terms.specs.Rewriting.{ListSequence}
 use Rattle.fvn_forms.specs.Flat.{FlatTerm, plain}
@@ -24,11 +23,11 @@ use Rattle.fvn_cover.specs.declared.variant.Variant.{Variant}
 use Rattle.fvn_cover.specs.Covering.{AreAlike, IsFlatVariant}
 use Rattle.fvn_exploring.specs.Setting.{Setting}
 use Rattle.fvn_exploring.specs.Children.{narrowed, HoldsVariables, IsMember}
-use Rattle.fvn_exploring.specs.Liftings.{KeepsIrreducible, IsLifted}
 use Rattle.fvn_exploring.specs.Causes.{IsStepsCause, IsSizeCause, IsSystemCause, IsUnifiersCause, IsRuleProblem}
 use Rattle.fvn_exploring.specs.declared.ends.ExpandEnd.{ExpandEnd}
 use Rattle.fvn_exploring.specs.declared.ends.ExpandEnd.TheVariants.{Whole, Steps, Size, Basis, Unifiers}
 use Rattle.fvn_exploring.specs.declared.ends.Expansion.{Expansion}
+use Rattle.fvn_lifting.specs.Lifted.{LiftsAt}
 use Rattle.fvn_narrow_children.specs.Paths.{LeadsTo}
 use Rattle.fvn_narrow_children.specs.Putting.{CanPut, PutAs}
 use Rattle.fvn_narrow_children.specs.Starts.{IsNumberedUpTo}
@@ -127,23 +126,15 @@ module _ (r : Rewriting) (unifiers : ℕ) (drawn : Problem → Substitution → 
   abbrev setting : Setting
   setting = narrowing_setting r unifiers
 
-  -- an instance of the variant is, at the turn's part, one of the rule's left side
-  pub record IsMetBy (turn : Turn) (s : Substitution) : Type 0 where
-    pub at : FlatTerm
-    pub turn_is : IsTurnAt r v at turn
-    pub by : Substitution
-    pub well_sorted : IsWellSorted r.signature by
-    pub matches : BEqual r.signature (apply s (plain at)) (apply by (plain turn.rule.left))
-
-  -- each such instance with irreducible values lifts into one of these
-  abbrev pub LiftsAt : Turn → (Variant → Type 0) → Type 0
-  LiftsAt turn Into = (s : Substitution) → KeepsIrreducible setting v s → IsMetBy turn s
-      → (c : Variant) × Into c × IsLifted setting v s c
+  -- each instance that meets the turn's rule at its part lifts into one of these
+  abbrev pub LiftsInTurn : Turn → List Variant → Type 0
+  LiftsInTurn turn children =
+      (at : FlatTerm) → IsTurnAt r v at turn → LiftsAt setting v.vars (narrowed v) at turn.rule.left children
 
   -- what is found in the turns that are covered
   pub record AreFound (Covered : Turn → Type 0) (e : Expansion) : Type 0 where
     pub children : All (IsStepChild setting drawn v) e.children
-    pub whole : e.end ≡ Whole → (turn : Turn) → Covered turn → LiftsAt turn (Contains e.children)
+    pub whole : e.end ≡ Whole → (turn : Turn) → Covered turn → LiftsInTurn turn e.children
     pub cause : EndsAs setting drawn (IsRuleProblem setting v.terms) (IsOfStep setting drawn v) e.end
 
 -- the turns at one part by one of these rules
