@@ -1,6 +1,7 @@
 -- Lemmas on the turns of an expansion.
 mod Turning
 mod Once
+mod Fit
 mod Steps
 mod Occurring
 mod Children
@@ -8,3 +9,4 @@ mod RuleTurn
 mod Found
 mod Joined
 mod Backwards
+mod Expanded

@@ -1,10 +1,8 @@
 //! All children of a variant: every part of its terms, with every rule that is needed there.
 ghost use Rattle.std.specs.Prelude.{◌<◌, length, IfOk};
-ghost use Rattle.fvn_cover.specs.Covering.{IsFlatVariant};
-ghost use Rattle.fvn_exploring.specs.Children.{HoldsVariables};
 ghost use Rattle.fvn_exploring.specs.Expansions.{IsExpansionOf};
 ghost use Rattle.fvn_narrow.specs.Settings.{narrowing_setting};
-ghost use Rattle.fvn_narrow.specs.inner.Turns.{IsReady, IsPartAt, IsAtPart, IsAlong, IsInMember, IsAny, AreFound};
+ghost use Rattle.fvn_narrow.specs.inner.Turns.{IsReady, IsPartAt, IsAtPart, IsAlong, IsInMember, IsAny, MayBeExpanded, AreFound};
 ghost use Rattle.fvn_narrow.specs.inner.Joining.{AreJoined};
 
 use crate::narrower::Narrower;
@@ -14,8 +12,10 @@ use fvn_base::Seq;
 use fvn_cover::Variant;
 use fvn_exploring::{ExpandEnd, Expansion};
 use fvn_flat::{AxiomSolver, Subst};
+use fvn_lifting::{renamed_forms_have_the_same_instances, whole_expansions_lift};
 use fvn_narrow_children::{Start, form_at, no_children, paths, some_reducible, start_of};
 use fvn_rewrite_coherence::rules_are_coherent;
+use fvn_rewrite_laws::sequences_are_lawful;
 use fvn_rewrite_rules::Rule;
 use fvn_terms::NoMemory;
 use std::alloc::Global;
@@ -161,14 +161,16 @@ pub(crate) fn expansion<A: AxiomSolver>(
     alloc: Global,
     v: &Variant,
 ) -> Result<Expansion, NoMemory>
-    requires flat { IsFlatVariant narrower.now.rewriter.signature v.now }
-    requires holds { HoldsVariables v.now }
+    requires { MayBeExpanded narrower.now.rewriter (A.most_unifiers narrower.now.solver.now) v.now }
     ensures { IfOk result (IsExpansionOf
         (narrowing_setting narrower.now.rewriter (A.most_unifiers narrower.now.solver.now))
         (A.drawn narrower.now.solver.now) v.now) }
 {
     narrower.rewriter.recall();
     rules_are_coherent();
+    sequences_are_lawful();
+    renamed_forms_have_the_same_instances();
+    whole_expansions_lift();
     let start = start_of(alloc, narrower.rewriter.signature(), v)?;
     let vars = start.variant.vars.as_slice();
     let none = Subst::empty(alloc);

@@ -8,9 +8,9 @@ use crate::narrower::Narrower;
 use crate::posing::{ended, problem};
 use fvn_exploring::Expansion;
 use fvn_flat::{AxiomSolver, Flat, Subst};
+use fvn_lifting::{successors_are_steps, turns_lift};
 use fvn_narrow_children::{Start, clash, grown, no_children, put, with_one_replaced};
-use fvn_rewrite_coherence::rules_are_coherent;
-use fvn_rewrite_laws::rules_are_lawful;
+use fvn_rewrite_laws::{lists_are_lawful, rules_are_lawful};
 use fvn_rewrite_rules::Rule;
 use fvn_signature::Signature;
 use fvn_terms::{NoMemory, rewriting_is_lawful};
@@ -91,6 +91,11 @@ pub(crate) fn by_rule<A: AxiomSolver>(
         (IsAtPart part.now.member part.now.path.now (rule.now ∷ []))) }
 {
     narrower.rewriter.recall();
+    rewriting_is_lawful();
+    lists_are_lawful();
+    rules_are_lawful();
+    successors_are_steps();
+    turns_lift();
     let clashing = clash(narrower.rewriter.signature(), part.at, &rule.left);
     if clashing {
         return Ok(no_children(alloc));
