@@ -138,6 +138,20 @@ impl Drop for Explored {
     }
 }
 
+impl Explored {
+    /// The end alone.
+    pub fn into_end(self) -> ExploreEnd
+        ensures { result ≡ self.end }
+    {
+        let Explored {
+            kept: _,
+            variants: _,
+            end,
+        } = self;
+        end
+    }
+}
+
 fn shared<T: Send + Sync>(_value: &T) {}
 
 /// Expansions may be sent to and shared between threads.

@@ -1,14 +1,12 @@
 -- Where all turns lift, each reducible instance with irreducible values lifts.
-use Rattle.std.proofs.Common.{◌≡◌, ◌⊎◌, ◌<◌, ℕ, zero, suc, List, [], ◌∷◌, length, get_or, map, refl, sym, subst, inl, inr, arith}
-use Rattle.std.specs.List.{AllZip, All, Any, Contains}
+use Rattle.std.proofs.Common.{◌≡◌, ◌⊎◌, ◌<◌, ℕ, zero, suc, List, [], ◌∷◌, length, get_or, refl, sym, subst, inl, inr, arith}
+use Rattle.std.specs.List.{Any, Contains}
 use Rattle.fvn_terms.specs.declared.plain.Var.{Var}
-use Rattle.fvn_terms.specs.declared.declarations.Declarations.{Declarations}
 use Rattle.fvn_terms.specs.Term.{Term, var}
 use Rattle.fvn_terms.specs.Substitution.{Substitution, apply, followed_by, Occurs}
 use Rattle.fvn_terms.specs.Signature.{kind, IsSort, IsTerm}
 use Rattle.fvn_terms.specs.Places.{stop}
 use Rattle.fvn_terms.specs.Equality.{BEqual}
-use Rattle.fvn_terms.specs.Sorts.{IsWellSorted}
 use Rattle.fvn_terms.specs.Rewriting.{IsIrreducible, ListRewrites, ListSequence}
 use Rattle.fvn_terms.specs.Laws.{RewritingLaws}
 use Rattle.fvn_terms.proofs.Substitutions.{apply-apply}
@@ -16,7 +14,7 @@ use Rattle.fvn_terms.proofs.Equal.{BEqual-sym, BEqual-trans}
 use Rattle.fvn_forms.specs.Flat.{FlatTerm, plain}
 use Rattle.fvn_flat.specs.Fits.{AllFit}
 use Rattle.fvn_flat.specs.Solving.{substitution}
-use Rattle.fvn_flat.specs.Successors.{Narrowed, OccursIn, IsRenamed}
+use Rattle.fvn_flat.specs.Successors.{Narrowed, OccursIn}
 use Rattle.fvn_cover.specs.declared.variant.Variant.{Variant}
 use Rattle.fvn_rewrite_laws.proofs.Agreement.{equal_by_agreement}
 use Rattle.fvn_rewrite_laws.proofs.Choosing.{occurring_sort}
@@ -25,9 +23,9 @@ use Rattle.fvn_rewrite_coherence.specs.Laws.{CoherenceLaws}
 use Rattle.fvn_rewrite_rules.specs.declared.rule.Rule.{Rule}
 use Rattle.fvn_rewrite_rules.specs.Given.{RuleLists}
 use Rattle.fvn_exploring.specs.Setting.{Setting}
-use Rattle.fvn_exploring.specs.Children.{HoldsVariables, narrowed}
+use Rattle.fvn_exploring.specs.Children.{narrowed}
 use Rattle.fvn_exploring.specs.Expansions.{IsExpandable}
-use Rattle.fvn_exploring.specs.Liftings.{instance_of, value_under, IsLifted, KeepsIrreducible, LiftsInto}
+use Rattle.fvn_exploring.specs.Liftings.{instance_of, value_under, IsLifted, KeepsIrreducible}
 use Rattle.fvn_lifting.specs.Turns.{IsTurn, MeetsRule}
 use Rattle.fvn_lifting.specs.Lifted.{instances, HaveOneInstance, KeepsIrreducibleFrom, IsLiftedFrom, LiftsAt}
 

@@ -1,5 +1,5 @@
 -- A reducible instance with irreducible values meets a needed rule at a place of a form.
-use Rattle.std.proofs.Common.{◌≡◌, ◌∙◌, List, [], ◌∷◌, map, Some, ap, sym, subst, inl, inr}
+use Rattle.std.proofs.Common.{◌≡◌, ◌∙◌, List, [], ◌∷◌, map, Some, ap, subst, inl, inr}
 use Rattle.std.specs.List.{Any, Contains}
 use Rattle.fvn_base.proofs.Membership.{contains_here, contains_later}
 use Rattle.fvn_terms.specs.declared.plain.Var.{Var}

@@ -1,5 +1,5 @@
 -- A step of some summands of a sum is a step of the sum.
-use Rattle.std.proofs.Common.{◌≡◌, ◌≤◌, ◌+◌, ◌∙◌, true, List, [], ◌∷◌, ◌++◌, length, refl, ap, sym, subst, arith}
+use Rattle.std.proofs.Common.{◌≡◌, ◌≤◌, ◌+◌, ◌∙◌, true, List, [], ◌∷◌, length, refl, ap, sym, subst, arith}
 use Rattle.std.specs.List.{AllByRecursion, Contains}
 use Rattle.std.proofs.lemmas.List.{append-nil}
 use Rattle.fvn_terms.specs.declared.plain.OpId.{OpId}
@@ -17,12 +17,12 @@ use Rattle.fvn_terms.specs.Rewriting.{Rewrites}
 use Rattle.fvn_terms.specs.Laws.{RewritingLaws}
 use Rattle.fvn_terms.proofs.Equal.{BEqual-apply}
 use Rattle.fvn_forms.specs.Flat.{FlatTerm, FlatTerms, fapp, fnone, fmore, fpack, funpack, nest, fvar, plain, plain_all}
-use Rattle.fvn_forms.specs.InOrder.{sort, count, SameCounts}
+use Rattle.fvn_forms.specs.InOrder.{count}
 use Rattle.fvn_forms.specs.Canon.{parts, all_parts, sum, build, canon}
 use Rattle.fvn_forms.specs.Settled.{IsPiece, IsJoined, Settled, SettledAll}
 use Rattle.fvn_forms.specs.Good.{IsGood}
 use Rattle.fvn_forms.proofs.InOrder.{count_append, count_sort}
-use Rattle.fvn_forms.proofs.Sums.{fpack-funpack, funpack-fpack, SettledAll-fpack, SettledAll-funpack, parts_sum, sum_same_counts, sum_in_order, sum_parts, all_parts-pieces}
+use Rattle.fvn_forms.proofs.Sums.{fpack-funpack, SettledAll-fpack, SettledAll-funpack, parts_sum, sum_same_counts, sum_in_order, sum_parts, all_parts-pieces}
 use Rattle.fvn_forms.proofs.Build.{sum_settled, build_settled, build_sum, count_parts_build}
 use Rattle.fvn_forms.proofs.Eval.{fvar_settled, canon_settled, eval_nest, canon_plain, canon_plain_all}
 use Rattle.fvn_forms.proofs.KindsOfSums.{nest_parts_of_kind, two_of_kind, sum_of_forms_of_kind}

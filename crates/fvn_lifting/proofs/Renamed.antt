@@ -41,5 +41,8 @@ module _ (d : Declarations) (Among : Var â†’ Type 0) (among_or_not : (x : Var) â
     pub renamed_form_equal : BEqual d (renamed by (plain t)) (plain (renamed_form d by t))
     renamed_form_equal = to_canon d good.fits (renamed by (plain t)) k renamed_kind
 
+    pub renamed_form_kind : HasKind d (plain (renamed_form d by t)) k
+    renamed_form_kind = canon_of_kind d good.fits (renamed by (plain t)) k renamed_kind
+
     pub renamed_form_fits : Fits d (renamed_form d by t)
-    renamed_form_fits = record { flat = canon_settled d (renamed by (plain t)); kinded = (k, canon_of_kind d good.fits (renamed by (plain t)) k renamed_kind) }
+    renamed_form_fits = record { flat = canon_settled d (renamed by (plain t)); kinded = (k, renamed_form_kind) }

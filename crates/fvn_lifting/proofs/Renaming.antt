@@ -16,12 +16,12 @@ use Rattle.fvn_terms.proofs.Equal.{BEqual-apply, BEqual-sym}
 use Rattle.fvn_forms.specs.Flat.{FlatTerm, plain}
 use Rattle.fvn_forms.specs.Good.{IsGood}
 use Rattle.fvn_flat.specs.Problems.{variables}
-use Rattle.fvn_flat.specs.Drawn.{Renaming, renamed, OccursInValues}
+use Rattle.fvn_flat.specs.Drawn.{renamed, OccursInValues}
 use Rattle.fvn_flat.specs.Fits.{AllFit}
 use Rattle.fvn_flat.specs.Successors.{Narrowed, OccursIn, IsRenamed, renamed_form}
 use Rattle.fvn_flat.proofs.Binding.{same_var_is, same_var_itself}
 use Rattle.fvn_flat.proofs.VariableLists.{variables_list, variables_occur}
-use Rattle.fvn_lifting.specs.Lifted.{instances, HaveOneInstance}
+use Rattle.fvn_lifting.specs.Lifted.{HaveOneInstance}
 use Rattle.fvn_lifting.proofs.Chosen.{StandsFor, stands_at, sorted_each, variable_stands}
 use Rattle.fvn_lifting.proofs.Renamed.{renamed_form_equal, renamed_form_fits}
 
@@ -42,30 +42,30 @@ listed_form (t ∷ ts) x (suc k, u, l, e, o) = Contains-append_right (variables 
 
 form_listed : (ts : List FlatTerm) (x : Var) → Contains (of_forms ts) x → Any (λ t. Occurs x (plain t)) ts
 form_listed [] x h = absurd (contains_none x h)
-form_listed (t ∷ ts) x h = go (Contains-append_cases (variables (plain t)) (of_forms ts) x h) where
+form_listed (t ∷ ts) x h = go (Contains-append_cases (variables (plain t)) (of_forms ts) x h) (form_listed ts x) where
   later : Any (λ t. Occurs x (plain t)) ts → Any (λ t. Occurs x (plain t)) (t ∷ ts)
   later (k, u, l, e, o) = (suc k, u, omega (arith, l), e, o)
 
-  go : Contains (variables (plain t)) x ⊎ Contains (of_forms ts) x → Any (λ t. Occurs x (plain t)) (t ∷ ts)
-  go (inl c) = (zero, t, omega arith, refl, variables_occur x (plain t) c)
-  go (inr c) = later (form_listed ts x c)
+  go : Contains (variables (plain t)) x ⊎ Contains (of_forms ts) x → (Contains (of_forms ts) x → Any (λ t. Occurs x (plain t)) ts) → Any (λ t. Occurs x (plain t)) (t ∷ ts)
+  go (inl c) rest = (zero, t, omega arith, refl, variables_occur x (plain t) c)
+  go (inr c) rest = later (rest c)
 
 listed_value : (values : Substitution) (xs : List Var) (y x : Var) → Contains xs y → Occurs x (values y) → Contains (of_values values xs) x
 listed_value values [] y x h o = absurd (contains_none y h)
-listed_value values (z ∷ xs) y x h o = go (contains_cases z xs y h) where
-  go : (z ≡ y) ⊎ Contains xs y → Contains (of_values values (z ∷ xs)) x
-  go (inl e) = Contains-append_left (variables (values z)) (of_values values xs) x (variables_list x (values z) (subst (λ a. Occurs x (values a)) (sym e) o))
-  go (inr c) = Contains-append_right (variables (values z)) (of_values values xs) x (listed_value values xs y x c o)
+listed_value values (z ∷ xs) y x h o = go (contains_cases z xs y h) (λ c. listed_value values xs y x c o) where
+  go : (z ≡ y) ⊎ Contains xs y → (Contains xs y → Contains (of_values values xs) x) → Contains (of_values values (z ∷ xs)) x
+  go (inl e) rest = Contains-append_left (variables (values z)) (of_values values xs) x (variables_list x (values z) (subst (λ a. Occurs x (values a)) (sym e) o))
+  go (inr c) rest = Contains-append_right (variables (values z)) (of_values values xs) x (rest c)
 
 value_listed : (values : Substitution) (xs : List Var) (x : Var) → Contains (of_values values xs) x → OccursInValues xs values x
 value_listed values [] x h = absurd (contains_none x h)
-value_listed values (z ∷ xs) x h = go (Contains-append_cases (variables (values z)) (of_values values xs) x h) where
+value_listed values (z ∷ xs) x h = go (Contains-append_cases (variables (values z)) (of_values values xs) x h) (value_listed values xs x) where
   later : OccursInValues xs values x → OccursInValues (z ∷ xs) values x
   later (y, c, o) = (y, contains_later z xs y c, o)
 
-  go : Contains (variables (values z)) x ⊎ Contains (of_values values xs) x → OccursInValues (z ∷ xs) values x
-  go (inl c) = (z, contains_here z xs, variables_occur x (values z) c)
-  go (inr c) = later (value_listed values xs x c)
+  go : Contains (variables (values z)) x ⊎ Contains (of_values values xs) x → (Contains (of_values values xs) x → OccursInValues xs values x) → OccursInValues (z ∷ xs) values x
+  go (inl c) rest = (z, contains_here z xs, variables_occur x (values z) c)
+  go (inr c) rest = later (rest c)
 
 module _ (d : Declarations) (vars : List Var) (v : Narrowed) where
   -- all variables that occur
@@ -96,10 +96,10 @@ module _ (d : Declarations) (good : IsGood d) (vars : List Var) (v w : Narrowed)
   Among = OccursIn d vars v
 
   -- what was renamed to this variable
-  abbrev HasOrigin : Var → Type 0
+  abbrev pub HasOrigin : Var → Type 0
   HasOrigin y = (x : Var) × (Contains (occurring d vars v) x × (is.by x ≡ y))
 
-  origin_or_none : (y : Var) → HasOrigin y ⊎ ((x : Var) → Contains (occurring d vars v) x → is.by x ≡ y → ⊥)
+  pub origin_or_none : (y : Var) → HasOrigin y ⊎ ((x : Var) → Contains (occurring d vars v) x → is.by x ≡ y → ⊥)
   origin_or_none y = some_or_none (λ x. is.by x ≡ y) (λ x. is_or_not d vars v y (is.by x)) (occurring d vars v)
 
   -- the renamed forms fit
@@ -114,7 +114,7 @@ module _ (d : Declarations) (good : IsGood d) (vars : List Var) (v w : Narrowed)
 
   module _ (s : Substitution) (sorted : IsWellSorted d s) where
     -- the value of the variable that was renamed to this one
-    taken : (y : Var) → HasOrigin y ⊎ ((x : Var) → Contains (occurring d vars v) x → is.by x ≡ y → ⊥) → Term
+    abbrev pub taken : (y : Var) → HasOrigin y ⊎ ((x : Var) → Contains (occurring d vars v) x → is.by x ≡ y → ⊥) → Term
     taken y (inl o) = s o.0
     taken y (inr n) = var y
 

@@ -1,6 +1,6 @@
 -- A narrowing step is a step of the instance by its unifier.
-use Rattle.std.proofs.Common.{◌≡◌, ◌⊎◌, ◌∙◌, List, [], ◌∷◌, ◌++◌, map, None, Some, refl, ap, sym, subst, inl, inr}
-use Rattle.std.specs.List.{AllZip, All, Contains}
+use Rattle.std.proofs.Common.{◌≡◌, ◌⊎◌, ◌∙◌, List, [], ◌∷◌, ◌++◌, map, None, Some, ap, sym, subst, inl, inr}
+use Rattle.std.specs.List.{AllZip, All}
 use Rattle.std.proofs.lemmas.List.Elements.{All-head}
 use Rattle.fvn_base.specs.Decided.{Decided}
 use Rattle.fvn_terms.specs.declared.plain.Var.{Var}
@@ -33,10 +33,10 @@ use Rattle.fvn_flat.specs.Rules.{IsRuleOf}
 use Rattle.fvn_flat.specs.Successors.{Narrowed, IsRenaming, renamed_form, IsStepFrom}
 use Rattle.fvn_rewrite_laws.specs.Laws.{KindedLaws, RuleLaws}
 use Rattle.fvn_rewrite_coherence.specs.Laws.{InstanceLaws}
-use Rattle.fvn_lifting.specs.Lifted.{instances, may_be_any, IsStepUnder}
+use Rattle.fvn_lifting.specs.Lifted.{may_be_any, IsStepUnder}
 use Rattle.fvn_lifting.proofs.Chosen.{occurs_or_not, either_or}
 use Rattle.fvn_lifting.proofs.Parts.{place_fits, part_kind, whole_steps as whole_part_steps}
-use Rattle.fvn_lifting.proofs.Renamed.{renaming_among, renaming_among_sorted, renaming_among_is, renamed_form_equal, renamed_form_fits}
+use Rattle.fvn_lifting.proofs.Renamed.{renaming_among, renaming_among_sorted, renaming_among_is, renamed_form_equal, renamed_form_kind}
 
 -- a step with what some solver draws, as one for which any substitution may be drawn
 pub any_step : (d : Declarations) (vars : List Var) (equations : Equations) (drawn : Problem → Substitution → Type 0) (v w : Narrowed) → IsStepFrom d vars equations drawn v w → IsStepFrom d vars equations may_be_any v w
@@ -101,7 +101,7 @@ module _ (d : Declarations) (good : IsGood d) (equations : Equations) (rewriting
         (BEqual-apply d u sorted.0 (renamed_form_equal d (AmongRule l r) among_or_not by renames good t k h within))
 
     renamed_side_kind : (t : FlatTerm) (k : SortId) → HasKind d (plain t) k → ((x : Var) → Occurs x (plain t) → AmongRule l r x) → HasKind d (plain (renamed_form d by t)) k
-    renamed_side_kind t k h within = (renamed_form_fits d (AmongRule l r) among_or_not by renames good t k h within).kinded.1
+    renamed_side_kind t k h within = renamed_form_kind d (AmongRule l r) among_or_not by renames good t k h within
 
     -- what the instance of the renamed left side is equal to steps to that of the renamed right side
     pub renamed_rule_steps : (a : Term) → BEqual d (apply u (plain (renamed_form d by l))) a → Rewrites d equations a (apply u (plain (renamed_form d by r)))

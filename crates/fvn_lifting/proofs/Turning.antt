@@ -1,8 +1,7 @@
 -- At a turn whose unifiers all became children or gave reducible values, each instance that meets the rule lifts.
-use Rattle.std.proofs.Common.{◌≡◌, ◌⊎◌, ◌∙◌, ℕ, suc, List, [], ◌∷◌, map, sym, subst, inl, inr, arith}
+use Rattle.std.proofs.Common.{◌⊎◌, ℕ, suc, List, [], ◌∷◌, map, sym, subst, inl, inr, arith}
 use Rattle.std.specs.List.{AllZip, All, Any, Contains}
 use Rattle.fvn_terms.specs.declared.plain.Var.{Var}
-use Rattle.fvn_terms.specs.declared.declarations.Declarations.{Declarations}
 use Rattle.fvn_terms.specs.Term.{Term}
 use Rattle.fvn_terms.specs.Substitution.{Substitution, apply, followed_by, Occurs}
 use Rattle.fvn_terms.specs.Places.{stop}
@@ -13,13 +12,12 @@ use Rattle.fvn_terms.specs.Laws.{RewritingLaws}
 use Rattle.fvn_terms.proofs.Substitutions.{apply-apply}
 use Rattle.fvn_terms.proofs.Equal.{BEqual-apply, BEqual-sym, BEqual-trans}
 use Rattle.fvn_forms.specs.Flat.{FlatTerm, plain}
-use Rattle.fvn_flat.specs.Solving.{substitution}
 use Rattle.fvn_flat.specs.Successors.{Narrowed, OccursIn}
 use Rattle.fvn_cover.specs.declared.variant.Variant.{Variant}
 use Rattle.fvn_rewrite_laws.proofs.Agreement.{equal_by_agreement}
 use Rattle.fvn_rewrite_laws.proofs.Lists.{each_equal_itself, list_before, list_instance}
 use Rattle.fvn_exploring.specs.Setting.{Setting}
-use Rattle.fvn_exploring.specs.Liftings.{instance_of, value_under}
+use Rattle.fvn_exploring.specs.Liftings.{instance_of}
 use Rattle.fvn_lifting.specs.Meetings.{IsNew, ComeFrom}
 use Rattle.fvn_lifting.specs.Laws.{AreFixedOver}
 use Rattle.fvn_lifting.specs.Lifted.{instances, IsStepUnder, KeepsIrreducibleFrom, IsLiftedFrom, IsBroughtTo, HasReducible, IsTurned}
@@ -59,9 +57,11 @@ module _ (g : Setting) (vars : List Var) (fixed : AreFixedOver g vars) (from : N
         steps = brought.steps;
         sequence = (
           followed_step.0,
-          (followed_step.1.0,
-          list_before g.declarations g.equations rewriting brought.steps (map (apply by) (map plain to.terms)) followed_step.0 (instance_of by c) followed_step.1.1
-          (list_instance g.declarations g.equations rewriting by sorted brought.steps (map plain to.terms) (map plain c.terms) brought.reached)),
+          (
+            followed_step.1.0,
+            list_before g.declarations g.equations rewriting brought.steps (map (apply by) (map plain to.terms)) followed_step.0 (instance_of by c) followed_step.1.1
+                (list_instance g.declarations g.equations rewriting by sorted brought.steps (map plain to.terms) (map plain c.terms) brought.reached),
+          ),
         );
         same = λ x h. BEqual-trans g.declarations (followed_value x h) (BEqual-apply g.declarations by sorted.0 (BEqual-sym g.declarations (brought.same x h)));
       }

@@ -26,7 +26,7 @@ use Rattle.fvn_exploring.specs.Liftings.{LiftsInto}
 use Rattle.fvn_exploring.specs.Expansions.{IsExpandable}
 use Rattle.fvn_lifting.specs.Meetings.{IsNew, ShareNone, IsOverNew, Meet, ComeFrom}
 use Rattle.fvn_lifting.specs.Turns.{IsTurn, MeetsRule}
-use Rattle.fvn_lifting.specs.Lifted.{instances, may_be_any, HaveOneInstance, IsStepUnder, LiftsAt, IsTurned}
+use Rattle.fvn_lifting.specs.Lifted.{may_be_any, HaveOneInstance, IsStepUnder, LiftsAt, IsTurned}
 
 -- Where s and c make two terms without common variables meet, both come from one member of any complete list of
 -- unifiers over new variables.

@@ -1,5 +1,6 @@
 //! Laws of lifting, each the contract of a function that does nothing.
-ghost use Rattle.fvn_lifting.specs.Laws.{MeetingsComeFromUnifiers, InstancesMeetRules, SuccessorsAreSteps, RenamedFormsHaveTheSameInstances, TurnsLift, WholeExpansionsLift};
+ghost use Rattle.fvn_lifting.specs.Laws.{MeetingsComeFromUnifiers, InstancesMeetRules, SuccessorsAreSteps};
+ghost use Rattle.fvn_lifting.specs.Laws.{RenamedFormsHaveTheSameInstances, TurnsLift, WholeExpansionsLift};
 
 use fvn_rewrite_coherence::{instances_step_at_parts, rules_are_coherent};
 use fvn_rewrite_laws::{kinded_theories_are_lawful, rules_are_lawful};
@@ -33,8 +34,8 @@ pub fn renamed_forms_have_the_same_instances()
     ensures { RenamedFormsHaveTheSameInstances }
 {}
 
-/// Where each unifier at a place gave a child or a reducible value, each instance that meets the rule there lifts into a
-/// child.
+/// Where each unifier at a place gave a child or something reducible, each instance that meets the rule there lifts
+/// into a child.
 pub fn turns_lift()
     ensures { TurnsLift }
 {
@@ -42,7 +43,8 @@ pub fn turns_lift()
     meetings_come_from_unifiers();
 }
 
-/// Where this is so at all places, for all needed rules, each reducible instance with irreducible values lifts into a child.
+/// Where this is so at all places, for all needed rules, each reducible instance with irreducible values lifts into a
+/// child.
 pub fn whole_expansions_lift()
     ensures { WholeExpansionsLift }
 {

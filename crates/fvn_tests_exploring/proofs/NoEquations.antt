@@ -1,5 +1,5 @@
 -- Without equations no step leads on.
-use Rattle.std.proofs.Common.{◌≤◌, zero-le, List, [], ◌∷◌, inl, inr}
+use Rattle.std.proofs.Common.{◌≡◌, ℕ, ◌≤◌, ◌<◌, zero-le, List, [], ◌∷◌, sym, subst, inl, inr}
 use Rattle.fvn_base.proofs.Membership.{contains_none}
 use Rattle.fvn_terms.specs.declared.declarations.Declarations.{Declarations}
 use Rattle.fvn_terms.specs.Term.{Term, var}
@@ -7,11 +7,11 @@ use Rattle.fvn_terms.specs.Places.{stop}
 use Rattle.fvn_terms.specs.Theory.{Equations, IsRule}
 use Rattle.fvn_terms.specs.Rewriting.{Rewrites, ListRewrites}
 use Rattle.fvn_terms.proofs.Steps.{nowhere}
-use Rattle.fvn_forms.specs.Flat.{FlatTerm}
+use Rattle.fvn_forms.specs.Flat.{FlatTerm, plain}
 use Rattle.fvn_theory.specs.declared.bounds.Bounds.{Bounds}
 use Rattle.fvn_flat.specs.Fits.{Fits}
 use Rattle.fvn_rewrite_laws.specs.Lawful.{AreLawful}
-use Rattle.fvn_rewrite_laws.specs.Normalised.{counted, IsForm, IsReachedWithin}
+use Rattle.fvn_rewrite_laws.specs.Normalised.{counted, IsReachedWithin, IsForm, IsTooLarge}
 
 -- no equations
 abbrev nothing : Equations
@@ -38,10 +38,14 @@ module _ (d : Declarations) where
     decided = λ t i. inr (no_step t);
   }
 
-  -- a form is reached from itself
-  pub reached_itself : (bounds : Bounds) (t : FlatTerm) → Fits d t → IsReachedWithin d nothing t bounds t
-  reached_itself bounds t fits = record { count = 0; within = zero-le; reached = record { sequence = stop; fits = fits } }
+  -- a form is reached from itself alone
+  module _ (bounds : Bounds) (t u : FlatTerm) (fits : Fits d t) (is : u ≡ t) (n : ℕ) (counts : n ≡ counted u) where
+    reached_itself : IsReachedWithin d nothing t bounds u
+    reached_itself = subst (IsReachedWithin d nothing t bounds) (sym is) record { count = 0; within = zero-le; reached = record { sequence = stop; fits = fits } }
 
-  -- and is a normal form
-  pub is_form : (bounds : Bounds) (t : FlatTerm) → Fits d t → counted t ≤ bounds.size → IsForm d nothing t bounds t
-  is_form bounds t fits small = record { reached = reached_itself bounds t fits; irreducible = no_step _; small = small }
+    -- it is its own normal form where it is not too large
+    pub is_form : n ≤ bounds.size → IsForm d nothing t bounds u
+    is_form h = record { reached = reached_itself; irreducible = no_step (plain u); small = subst (λ m. m ≤ bounds.size) counts h }
+
+    pub is_too_large : bounds.size < n → IsTooLarge d nothing t bounds u
+    is_too_large h = record { reached = reached_itself; large = subst (λ m. bounds.size < m) counts h }

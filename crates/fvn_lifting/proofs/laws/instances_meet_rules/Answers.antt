@@ -1,12 +1,9 @@
 -- The law, by its lemma.
-use Rattle.std.proofs.Common.{List, map, sym, subst}
-use Rattle.std.specs.List.{Any}
-use Rattle.fvn_terms.specs.declared.plain.Var.{Var}
-use Rattle.fvn_terms.specs.Term.{Term}
-use Rattle.fvn_terms.specs.Substitution.{apply, Occurs}
+use Rattle.std.proofs.Common.{map, sym, subst}
+use Rattle.fvn_terms.specs.Substitution.{apply}
 use Rattle.fvn_terms.specs.Theory.{Equations}
 use Rattle.fvn_terms.specs.Rewriting.{IsIrreducible, ListRewrites}
-use Rattle.fvn_forms.specs.Flat.{FlatTerm, plain}
+use Rattle.fvn_forms.specs.Flat.{plain}
 use Rattle.fvn_rewrite_laws.specs.Admissible.{AreAdmissible}
 use Rattle.fvn_lifting.proofs.Meeting.{meets_rule}
 use Rattle.fvn_lifting.proofs.laws.instances_meet_rules.Goals as goal
