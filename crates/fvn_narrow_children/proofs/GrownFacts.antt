@@ -1,23 +1,68 @@
 -- What the unifiers so far made of a variant.
-use Rattle.std.proofs.Common.{◌≡◌, ◌⊎◌, List, [], ◌∷◌, ◌++◌, map, All, refl, sym, subst, inl, inr}
-use Rattle.std.specs.Prelude.{Contains}
-use Rattle.std.proofs.lemmas.List.Elements.{All-weaker, Contains-append_left, Contains-append_right}
+use Rattle.std.proofs.Common.{◌≡◌, ◌≤◌, ◌<◌, ◌+◌, ℕ, List, [], ◌∷◌, ◌++◌, take, length, get_or, refl, sym, ap, ◌∙◌, subst, inl, inr}
+use Rattle.std.specs.Prelude.{◌⊎◌, All, Contains}
+use Rattle.std.proofs.lemmas.List.{take_all}
+use Rattle.std.proofs.lemmas.List.Elements.{All-nil, All-weaker, All-push, All-more, Contains-get_or, Contains-append_left, Contains-append_right}
 use Rattle.fvn_base.proofs.Membership.{contains_here}
 use Rattle.fvn_forms.specs.Flat.{FlatTerm}
 use Rattle.fvn_flat.specs.Bindings.{Bindings}
 use Rattle.fvn_rewrite.specs.Usable.{Rewriting}
 use Rattle.fvn_cover.specs.declared.variant.Variant.{Variant}
-use Rattle.fvn_narrow_children.specs.Growing.{IsGrown, IsLost, IsDealtWith}
+use Rattle.fvn_exploring.specs.declared.ends.ExpandEnd.{ExpandEnd}
+use Rattle.fvn_exploring.specs.declared.ends.ExpandEnd.TheVariants.{Whole}
+use Rattle.fvn_narrow_children.specs.Growing.{IsRaw, IsGrown, IsLost, IsDealtWith, StopsAt, AreGrown}
 
-module _ (r : Rewriting) (v : Variant) (members : List FlatTerm) where
-  -- more children take nothing away
-  pub dealt_with_more : (children more : List Variant) (s : Bindings) → IsDealtWith r v members s children → IsDealtWith r v members s (children ++ more)
-  dealt_with_more children more s (inl g) = inl (g.0, Contains-append_left children more g.0 g.1, g.2)
-  dealt_with_more children more s (inr l) = inr l
+module _ (r : Rewriting) (v : Variant) (members : List FlatTerm) (unifiers : List Bindings) where
+  -- a child of one of the unifiers
+  abbrev IsMade : Variant → Type 0
+  IsMade c = (s : Bindings) × Contains unifiers s × IsGrown r v members s c
 
-  pub all_dealt_with_more : (children more : List Variant) (unifiers : List Bindings) → All (λ s. IsDealtWith r v members s children) unifiers → All (λ s. IsDealtWith r v members s (children ++ more)) unifiers
-  all_dealt_with_more children more unifiers h = All-weaker (λ s. IsDealtWith r v members s children) (λ s. IsDealtWith r v members s (children ++ more)) (dealt_with_more children more) unifiers h
+  -- the children so far, where so many unifiers were dealt with
+  pub record AreGrownSoFar (i : ℕ) (children : List Variant) : Type 0 where
+    pub made : All IsMade children
+    pub dealt_with : All (λ s. IsDealtWith r v members s children) (take i unifiers)
 
-  -- the last child
-  pub dealt_with_last : (children : List Variant) (c : Variant) (s : Bindings) → IsGrown r v members s c → IsDealtWith r v members s (children ++ c ∷ [])
-  dealt_with_last children c s g = inl (c, Contains-append_right children (c ∷ []) c (contains_here c []), g)
+  more_children : (children more : List Variant) (s : Bindings) → IsDealtWith r v members s children → IsDealtWith r v members s (children ++ more)
+  more_children children more s (inl g) = inl (g.0, Contains-append_left children more g.0 g.1, g.2)
+  more_children children more s (inr l) = inr l
+
+  pub grown_begin : AreGrownSoFar 0 []
+  grown_begin = record { made = All-nil IsMade; dealt_with = All-nil (λ s. IsDealtWith r v members s []) }
+
+  module _ (i : ℕ) (children : List Variant) (so_far : AreGrownSoFar i children) where
+    -- one more unifier
+    module _ (s : Bindings) (within : i < length unifiers) (is : s ≡ get_or unifiers i s) where
+      listed : Contains unifiers s
+      listed = subst (Contains unifiers) (sym is) (Contains-get_or unifiers i s within)
+
+      one_more : (next : List Variant) → All (λ c. IsDealtWith r v members c next) (take i unifiers) → IsDealtWith r v members s next → All (λ c. IsDealtWith r v members c next) (take (i + 1) unifiers)
+      one_more next before now = All-more (λ c. IsDealtWith r v members c next) unifiers i s within before (subst (λ c. IsDealtWith r v members c next) is now)
+
+      pub grown_child : (c : Variant) (next : List Variant) → next ≡ children ++ c ∷ [] → IsGrown r v members s c → AreGrownSoFar (i + 1) next
+      grown_child c next e g =
+          let all = children ++ c ∷ [] in
+          subst (AreGrownSoFar (i + 1)) (sym e) record {
+            made = All-push IsMade children c so_far.made (s, listed, g);
+            dealt_with = one_more all
+                (All-weaker (λ s. IsDealtWith r v members s children) (λ s. IsDealtWith r v members s all) (more_children children (c ∷ [])) (take i unifiers) so_far.dealt_with)
+                (inl (c, Contains-append_right children (c ∷ []) c (contains_here c []), g));
+          }
+
+      pub grown_lost : IsLost r v members s → AreGrownSoFar (i + 1) children
+      grown_lost l = record { made = so_far.made; dealt_with = one_more children so_far.dealt_with (inr l) }
+
+      -- an end
+      pub grown_stopped : (end : ExpandEnd) → StopsAt r (IsRaw r v members s) end → (end ≡ Whole → ⊥) → AreGrown r v members unifiers record { children = children; end = end }
+      grown_stopped end h other = record { children = so_far.made; whole = λ e. absurd (other e); cause = inr (s, listed, h) }
+
+    -- all unifiers
+    pub grown_whole : length unifiers ≤ i → AreGrown r v members unifiers record { children = children; end = Whole }
+    grown_whole end = record {
+      children = so_far.made;
+      whole = λ e. subst (All (λ s. IsDealtWith r v members s children)) (take_all i unifiers end) so_far.dealt_with;
+      cause = inl refl;
+    }
+
+-- what stops is no whole end
+pub stops_not_whole : (r : Rewriting) (Told : FlatTerm → Type 0) (end : ExpandEnd) → StopsAt r Told end → end ≡ Whole → ⊥
+stops_not_whole r Told end h e = subst (StopsAt r Told) e h

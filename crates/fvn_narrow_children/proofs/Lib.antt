@@ -8,4 +8,5 @@ mod NewNames
 mod StartFacts
 pub mod ValueFacts
 mod RestFacts
+mod TriedFacts
 mod GrownFacts

@@ -1,29 +1,37 @@
 -- One more normal form, or an end.
 use Rattle.std.proofs.Common.{◌≡◌, sym, ◌∙◌, subst}
 use Rattle.std.specs.Prelude.{Contains}
-use Rattle.std.proofs.lemmas.List.{take_all}
+use Rattle.fvn_forms.specs.Canon.{inst}
+use Rattle.fvn_flat.specs.Bindings.{value}
 use Rattle.fvn_flat.specs.Fits.{Fits}
 use Rattle.fvn_flat.proofs.Instances.{each_at}
+use Rattle.fvn_rewrite_laws.specs.Normalised.{IsForm, IsUnfinished, IsTooLarge}
+use Rattle.fvn_rewrite.specs.Usable.{equations_by}
 use Rattle.fvn_narrow_children.proofs.RestFacts.{form_of, unrested, overlarge, one_more_form, all_forms, told_at}
 use Rattle.fvn_narrow_children.proofs.resting.rest_all.Goals as goal
 
-pub apply-requires : goal.apply-requires
-apply-requires c = record {
-  subst = subst (λ d. d) (sym c.signature.ensures) c.requires.subst;
-  term = each_at (Fits c.args.rewriter.now.signature) c.args.ts.now c.requires.terms c.loop-t.t-index c.t-item.result c.loop-t-test.true c.t-item.is;
-}
-
-pub normal-requires : goal.normal-requires
-normal-requires c = c.in_ok-u.ensures.fits
-
 pub loop-t-preserved : goal.loop-t-preserved
-loop-t-preserved c = ?
+loop-t-preserved c =
+    let r = c.args.rewriter.now in
+    let g = inst r.signature (value c.args.s.now) in
+    let u = c.in_ok-u.u in
+    let form = form_of r u c.in-Form.form (rw c.in-Form.is at c.in_ok-normal.ensures) in
+    rw c.in_ok-push.ensures.items
+    (one_more_form r g c.args.ts.now c.loop-t.forms.items c.loop-t.t-index c.t-item.result c.in-Form.form c.loop-t-test.true c.t-item.is c.loop-t.invariant (rw c.in_ok-u.ensures.exact at form))
 
 pub returns-in-Steps : goal.returns-in-Steps
-returns-in-Steps c = ?
+returns-in-Steps c =
+    let r = c.args.rewriter.now in
+    let g = inst r.signature (value c.args.s.now) in
+    unrested r _ c.in_ok-u.u c.in-Steps.start c.in-Steps.end (told_at g c.args.ts.now c.loop-t.t-index c.t-item.result c.in_ok-u.u c.loop-t-test.true c.t-item.is c.in_ok-u.ensures.exact) (rw c.in-Steps.is at c.in_ok-normal.ensures)
 
 pub returns-in-Size : goal.returns-in-Size
-returns-in-Size c = ?
+returns-in-Size c =
+    let r = c.args.rewriter.now in
+    let g = inst r.signature (value c.args.s.now) in
+    overlarge r _ c.in_ok-u.u c.in-Size.large (told_at g c.args.ts.now c.loop-t.t-index c.t-item.result c.in_ok-u.u c.loop-t-test.true c.t-item.is c.in_ok-u.ensures.exact) (rw c.in-Size.is at c.in_ok-normal.ensures)
 
 pub returns : goal.returns
-returns c = ?
+returns c =
+    let r = c.args.rewriter.now in
+    rw c.from_vec.ensures (all_forms r (inst r.signature (value c.args.s.now)) c.args.ts.now c.loop-t.forms.items c.loop-t.t-index c.loop-t-test.false c.loop-t.invariant)
