@@ -1,8 +1,8 @@
 -- A form with another one in place of an argument, or within it.
-use Rattle.std.proofs.Common.{◌≡◌, ℕ, ◌+◌, ◌<◌, List, [], ◌∷◌, ◌++◌, take, drop, length, Some, refl, sym, ap, ◌∙◌, subst}
+use Rattle.std.proofs.Common.{◌≡◌, ℕ, ◌+◌, ◌<◌, List, [], ◌∷◌, ◌++◌, take, drop, length, get_or, Some, refl, sym, ap, ◌∙◌, subst}
 use Rattle.std.specs.Prelude.{slice_get}
 use Rattle.std.specs.List.{AllByRecursion}
-use Rattle.std.proofs.lemmas.Option.{slice_get_within}
+use Rattle.std.proofs.lemmas.Option.{slice_get_within, get_or_from_slice_get}
 use Rattle.fvn_terms.specs.declared.plain.OpId.{OpId}
 use Rattle.fvn_terms.specs.declared.plain.SortId.{SortId}
 use Rattle.fvn_terms.specs.declared.declarations.Declarations.{Declarations}
@@ -78,7 +78,7 @@ module _ (d : Declarations) (fits : FitsKinds d) where
 -- along a path
 module _ (d : Declarations) (path : List ℕ) (t given : FlatTerm) (can : CanPut d path t given) where
   module _ (i : ℕ) (rest : List ℕ) (e : path ≡ i ∷ rest) where
-    leads_further : LeadsTo (i ∷ rest) t can.at
+    pub leads_further : LeadsTo (i ∷ rest) t can.at
     leads_further = subst (λ p. LeadsTo p t can.at) e can.leads
 
     pub next_argument : slice_get (args_of t) i ≡ Some leads_further.0
@@ -86,3 +86,26 @@ module _ (d : Declarations) (path : List ℕ) (t given : FlatTerm) (can : CanPut
 
     pub can_put_further : CanPut d rest leads_further.0 given
     can_put_further = record { at = can.at; leads = leads_further.2; fits = can.fits; keeps = can.keeps }
+
+    pub argument_is : (ts : List FlatTerm) (u : FlatTerm) → ts ≡ args_of t → u ≡ get_or ts i u → u ≡ leads_further.0
+    argument_is ts u e is = is ∙ get_or_from_slice_get ts i leads_further.0 u (subst (λ l. slice_get l i ≡ Some leads_further.0) (sym e) leads_further.1)
+
+    pub is_within : (ts : List FlatTerm) → ts ≡ args_of t → i < length ts
+    is_within ts e = subst (λ l. i < length l) (sym e) (slice_get_within (args_of t) i leads_further.0 leads_further.1)
+
+    -- what is put into the argument is put into the form
+    pub put_further : FitsKinds d → Fits d t → (f : OpId) → head_of t ≡ Some f → (u whole : FlatTerm) → PutAs d rest leads_further.0 given u →
+        whole ≡ build d f (take i (args_of t) ++ u ∷ drop (i + 1) (args_of t)) → PutAs d path t given whole
+    put_further fits h f head u whole below built at leads =
+        let same : can.at ≡ at = leads_once path t can.at at can.leads leads in
+        subst (λ w. IsPut d w t given whole) same (put_within d fits can.at given leads_further.0 u whole i (below can.at leads_further.2) can.keeps t f head h leads_further.1 built)
+
+    -- what comes in place of the argument
+    pub may_stand : (u : FlatTerm) → PutAs d rest leads_further.0 given u → MayStandFor d t i u
+    may_stand u below =
+        let p = below can.at leads_further.2 in
+        record { argument = leads_further.0; is = leads_further.1; fits = p.fits; keeps = p.keeps }
+
+  -- a path without a step
+  pub put_nowhere : FitsKinds d → path ≡ [] → PutAs d path t given given
+  put_nowhere fits e at leads = put_here d fits t at given (subst (λ p. LeadsTo p t at) e leads) can.fits (subst (λ w. KeepsKindsOf d w given) (leads_once path t can.at at can.leads leads) can.keeps)

@@ -1,9 +1,10 @@
 -- An operator without identity heads each instance of what it heads; one without axioms keeps its arguments apart.
 use Rattle.std.proofs.Common.{◌≡◌, ℕ, zero, suc, ◌+◌, ◌<◌, ◌≤◌, true, false, List, [], ◌∷◌, ◌++◌, map, length, get_or, None, Some, refl, sym, ap, ◌∙◌, subst, arith}
-use Rattle.std.specs.Prelude.{slice_get}
+use Rattle.std.specs.Prelude.{Bool, not, slice_get}
 use Rattle.std.specs.List.{AllByRecursion}
 use Rattle.std.proofs.lemmas.List.{length-append}
 use Rattle.std.proofs.lemmas.Option.{slice_get_read}
+use Rattle.fvn_terms.specs.declared.plain.Var.{Var}
 use Rattle.fvn_terms.specs.declared.plain.OpId.{OpId}
 use Rattle.fvn_terms.specs.declared.declarations.Axioms.{Axioms}
 use Rattle.fvn_terms.specs.declared.declarations.Axioms.TheVariants.{Free, Comm, AssocComm, AssocCommId}
@@ -14,10 +15,10 @@ use Rattle.fvn_terms.specs.Substitution.{Substitution, apply, apply_all}
 use Rattle.fvn_terms.specs.Equality.{IsAssociative, identity}
 use Rattle.fvn_forms.specs.Flat.{FlatTerm, FlatTerms, fvar, fapp, fnone, fmore, fpack, funpack, plain, plain_all}
 use Rattle.fvn_forms.specs.InOrder.{sort}
-use Rattle.fvn_forms.specs.Canon.{parts, all_parts, joined, sum, built, build, eval_all, canon, inst}
+use Rattle.fvn_forms.specs.Canon.{same_op, parts, all_parts, joined, sum, built, build, eval_all, canon, inst}
 use Rattle.fvn_forms.specs.Settled.{FitsUnjoined, Settled, SettledValues}
 use Rattle.fvn_forms.proofs.InOrder.{length_sort}
-use Rattle.fvn_forms.proofs.Sums.{funpack-fpack}
+use Rattle.fvn_forms.proofs.Sums.{funpack-fpack, same_op_itself, same_op_is}
 use Rattle.fvn_forms.proofs.Build.{parts_none}
 use Rattle.fvn_forms.proofs.Eval.{fvar_settled, canon_settled, eval_all_settled, eval_apply, eval_nest}
 use Rattle.fvn_flat.specs.Forms.{head_of, args_of}
@@ -75,7 +76,7 @@ module _ (d : Declarations) where
     head_kept f no_identity (fapp g false fnone) h e = e
     head_kept f no_identity (fapp g false (fmore t ts)) h e = unjoined_head g (axioms d g) t _ (funpack ts) _ h.0 ∙ e
 
-  abbrev values : Substitution → _
+  abbrev values : Substitution → Var → FlatTerm
   values s x = canon d (s x)
 
   instance_head : (f : OpId) → identity (axioms d f) ≡ None → (t : FlatTerm) → Settled d t → head_of t ≡ Some f → (s : Substitution) → head_of (canon d (apply s (plain t))) ≡ Some f
@@ -125,3 +126,14 @@ module _ (d : Declarations) where
     in_second = slice_get_read us (length us) i u refl in_us is_u;
     never = never;
   }
+
+-- what a comparison of two operators tells
+pub heads_differ : (f g : OpId) (b : Bool) → b ≡ not (same_op f g) → b ≡ true → f ≡ g → ⊥
+heads_differ f g b e h q = let clash : true ≡ false = sym h ∙ e ∙ ap (λ o. not (same_op f o)) (sym q) ∙ ap not (same_op_itself f) in cc
+
+pub heads_same : (f g : OpId) (b : Bool) → b ≡ not (same_op f g) → b ≡ false → f ≡ g
+heads_same f g b e h = go (same_op f g) refl
+  where
+    go : (x : Bool) → same_op f g ≡ x → f ≡ g
+    go true q = same_op_is f g q
+    go false q = let clash : true ≡ false = sym (ap not q) ∙ sym e ∙ h in cc

@@ -1,5 +1,5 @@
 //! Forms with another form in the place of one within.
-ghost use Rattle.std.specs.Prelude.{◌≡◌, ◌<◌, ◌+◌, ◌++◌, ◌∷◌, take, drop, length, Some, IfOk};
+ghost use Rattle.std.specs.Prelude.{◌≡◌, ◌<◌, ◌+◌, ◌++◌, ◌∷◌, [], take, drop, length, Some, MatchOption, IfOk};
 ghost use Rattle.fvn_forms.specs.Canon.{build};
 ghost use Rattle.fvn_flat.specs.Forms.{head_of, args_of};
 ghost use Rattle.fvn_flat.specs.Fits.{Fits};
@@ -59,6 +59,16 @@ fn with_argument(
     Ok(whole)
 }
 
+// The first argument that the path takes, and the rest of the path.
+fn first_step(path: &[usize]) -> Option<(usize, &[usize])>
+    ensures { MatchOption result (path.now ≡ []) (λ p. path.now ≡ p.0 ∷ p.1.now) }
+{
+    match path.split_first() {
+        Some((i, rest)) => Some((*i, rest)),
+        None => None,
+    }
+}
+
 /// The form with another one in the place of that to which the path leads, flat again.
 pub fn put(
     alloc: Global,
@@ -71,7 +81,8 @@ pub fn put(
     requires given { CanPut sig.now path.now t.now given.now }
     ensures { IfOk result (PutAs sig.now path.now t.now given.now) }
 {
-    let Some((i, rest)) = path.split_first() else {
+    sig.recall_good();
+    let Some((i, rest)) = first_step(path) else {
         let whole = given.copy(alloc)?;
         return Ok(whole);
     };
@@ -79,9 +90,8 @@ pub fn put(
         let whole = t.copy(alloc)?;
         return Ok(whole);
     };
-    sig.recall_good();
     let ts = t.args();
-    let u = put(alloc, sig, &ts[*i], rest, given)?;
-    let whole = with_argument(alloc, sig, f, t, *i, u)?;
+    let u = put(alloc, sig, &ts[i], rest, given)?;
+    let whole = with_argument(alloc, sig, f, t, i, u)?;
     Ok(whole)
 }

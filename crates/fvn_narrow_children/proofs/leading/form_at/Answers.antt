@@ -12,7 +12,7 @@ loop-i-preserved c x =
     )
 
 pub returns-then-i-ts : goal.returns-then-i-ts
-returns-then-i-ts c x h = leads_nowhere c.args.path.now c.loop-i.i-index _ c.loop-i.at.now c.args-ts.result.now c.loop-i-test.true c.args-ts.ensures.exact (omega (arith, c.if-i-ts.true)) x ((c.loop-i.invariant x).0 h)
+returns-then-i-ts c x h = leads_nowhere c.args.path.now c.loop-i.i-index 0 c.loop-i.at.now c.args-ts.result.now c.loop-i-test.true c.args-ts.ensures.exact (omega (arith, c.if-i-ts.true)) x ((c.loop-i.invariant x).0 h)
 
 pub returns : goal.returns
 returns c = (c.loop-i.invariant c.loop-i.at.now).1 (leads_here c.args.path.now c.loop-i.i-index c.loop-i.at.now (omega arith))

@@ -7,8 +7,8 @@ use Rattle.fvn_narrow_children.proofs.values.is_reducible.Goals as goal
 pub steps_on-requires : goal.steps_on-requires
 steps_on-requires c = bound_fits c.args.rewriter.now.signature c.args.s.now c.args.x c.in-Some.t.now c.requires.values c.requires.sort (rw c.in-Some.is at c.get.ensures)
 
-pub returns-in-Some : goal.returns-in-Some
-returns-in-Some c =
+pub returns-in_ok-is-in-Some : goal.returns-in_ok-is-in-Some
+returns-in_ok-is-in-Some c =
     let r = c.args.rewriter.now in
     bound_reducible_as r.signature (equations_by r) c.args.s.now c.args.x c.in-Some.t.now c.in_ok-is-in-Some.is (rw c.in-Some.is at c.get.ensures) c.in_ok-is-in-Some.ensures
 

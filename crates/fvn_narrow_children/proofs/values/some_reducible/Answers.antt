@@ -19,8 +19,8 @@ is_reducible-requires c = record {
 }
 
 -- where it is as before
-pub loop-x-preserved-then : goal.loop-x-preserved-then
-loop-x-preserved-then c =
+pub loop-x-preserved-then-is_as_before : goal.loop-x-preserved-then-is_as_before
+loop-x-preserved-then-is_as_before c =
     let r = c.args.rewriter.now in
     All-more (λ x. IsIrreducible r.signature (equations_by r) (substitution c.args.new.now x)) c.args.vars.now c.loop-x.x-index _ c.loop-x-test.true c.loop-x.invariant
     (still_irreducible r.signature (equations_by r) c.args.old.now c.args.new.now _ (c.is_as_before.ensures c.if-is_as_before.true) (All-get_or (λ x. IsIrreducible r.signature (equations_by r) (substitution c.args.old.now x)) c.args.vars.now c.loop-x.x-index _ c.loop-x-test.true c.requires.old))
@@ -31,8 +31,8 @@ loop-x-preserved c =
     let r = c.args.rewriter.now in
     All-more (λ x. IsIrreducible r.signature (equations_by r) (substitution c.args.new.now x)) c.args.vars.now c.loop-x.x-index _ c.loop-x-test.true c.loop-x.invariant (rw c.if-found.false at c.in_ok-found.ensures)
 
-pub returns-then : goal.returns-then
-returns-then c = record { variable = _; listed = Contains-get_or c.args.vars.now c.loop-x.x-index _ c.loop-x-test.true; reducible = rw c.if-found.true at c.in_ok-found.ensures }
+pub returns-then-found : goal.returns-then-found
+returns-then-found c = record { variable = _; listed = Contains-get_or c.args.vars.now c.loop-x.x-index _ c.loop-x-test.true; reducible = rw c.if-found.true at c.in_ok-found.ensures }
 
 pub returns : goal.returns
 returns c =
