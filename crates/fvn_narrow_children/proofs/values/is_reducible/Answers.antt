@@ -10,7 +10,7 @@ steps_on-requires c = bound_fits c.args.rewriter.now.signature c.args.s.now c.ar
 pub returns-in_ok-is-in-Some : goal.returns-in_ok-is-in-Some
 returns-in_ok-is-in-Some c =
     let r = c.args.rewriter.now in
-    bound_reducible_as r.signature (equations_by r) c.args.s.now c.args.x c.in-Some.t.now c.in_ok-is-in-Some.is (rw c.in-Some.is at c.get.ensures) c.in_ok-is-in-Some.ensures
+    bound_reducible_as r.signature (equations_by r) c.args.s.now c.args.x c.in-Some.t.now c.in_ok-is-in-Some.is' (rw c.in-Some.is at c.get.ensures) c.in_ok-is-in-Some.ensures
 
 pub returns-in-None : goal.returns-in-None
 returns-in-None c =
