@@ -1,5 +1,5 @@
 -- What the unifiers so far made of a variant.
-use Rattle.std.proofs.Common.{◌≡◌, ◌≤◌, ◌<◌, ◌+◌, ℕ, List, [], ◌∷◌, ◌++◌, take, length, get_or, refl, sym, ap, ◌∙◌, subst, inl, inr}
+use Rattle.std.proofs.Common.{◌≡◌, ◌≤◌, ◌<◌, ◌+◌, ℕ, List, [], ◌∷◌, ◌++◌, take, length, get_or, Option, None, Some, refl, sym, ap, ◌∙◌, subst, inl, inr}
 use Rattle.std.specs.Prelude.{◌⊎◌, All, Contains}
 use Rattle.std.proofs.lemmas.List.{take_all}
 use Rattle.std.proofs.lemmas.List.Elements.{All-nil, All-weaker, All-push, All-more, Contains-get_or, Contains-append_left, Contains-append_right}
@@ -10,6 +10,9 @@ use Rattle.fvn_rewrite.specs.Usable.{Rewriting}
 use Rattle.fvn_cover.specs.declared.variant.Variant.{Variant}
 use Rattle.fvn_exploring.specs.declared.ends.ExpandEnd.{ExpandEnd}
 use Rattle.fvn_exploring.specs.declared.ends.ExpandEnd.TheVariants.{Whole}
+use Rattle.fvn_narrow_children.specs.declared.growing.Outcome.{Outcome}
+use Rattle.fvn_narrow_children.specs.declared.growing.Outcome.TheVariants.{Child, Lost, Stopped}
+use Rattle.fvn_narrow_children.specs.inner.Outcomes.{OutcomeAs, IsTaken}
 use Rattle.fvn_narrow_children.specs.Growing.{IsRaw, IsGrown, IsLost, IsDealtWith, StopsAt, AreGrown}
 
 module _ (r : Rewriting) (v : Variant) (members : List FlatTerm) (unifiers : List Bindings) where
@@ -66,3 +69,22 @@ module _ (r : Rewriting) (v : Variant) (members : List FlatTerm) (unifiers : Lis
 -- what stops is no whole end
 pub stops_not_whole : (r : Rewriting) (Told : FlatTerm → Type 0) (end : ExpandEnd) → StopsAt r Told end → end ≡ Whole → ⊥
 stops_not_whole r Told end h e = subst (StopsAt r Told) e h
+
+module _ (r : Rewriting) (v : Variant) (members : List FlatTerm) (unifiers : List Bindings) (i : ℕ) (before : List Variant) (so_far : AreGrownSoFar r v members unifiers i before) (s : Bindings) (low : i < length unifiers) (is : s ≡ get_or unifiers i s) where
+  -- where it did not stop
+  pub taken_more : (next : Outcome) → OutcomeAs r v members s next → (after : List Variant) (stop : Option ExpandEnd) → stop ≡ None → IsTaken before next after stop → AreGrownSoFar r v members unifiers (i + 1) after
+  taken_more (Child c) h after stop e t = grown_child r v members unifiers i before so_far s low is c after t.0 h
+  taken_more Lost h after stop e t = subst (AreGrownSoFar r v members unifiers (i + 1)) (sym t.0) (grown_lost r v members unifiers i before so_far s low is h)
+  taken_more (Stopped end) h after stop e t = let q : None ≡ Some end = sym e ∙ t.1 in cc
+
+  -- where it did
+  pub taken_stopped : (next : Outcome) → OutcomeAs r v members s next → (after : List Variant) (stop : Option ExpandEnd) (end : ExpandEnd) → stop ≡ Some end → IsTaken before next after stop → AreGrown r v members unifiers record { children = after; end = end }
+  taken_stopped (Child c) h after stop end e t = let q : None ≡ Some end = sym t.1 ∙ e in cc
+  taken_stopped Lost h after stop end e t = let q : None ≡ Some end = sym t.1 ∙ e in cc
+  taken_stopped (Stopped other) h after stop end e t =
+      let q : other ≡ end = same_end other end (sym t.1 ∙ e) in
+      subst (λ l. AreGrown r v members unifiers record { children = l; end = end }) (sym t.0)
+      (subst (λ o. AreGrown r v members unifiers record { children = before; end = o }) q (grown_stopped r v members unifiers i before so_far s low is other h (stops_not_whole r (IsRaw r v members s) other h)))
+    where
+      same_end : (a b : ExpandEnd) → Some a ≡ Some b → a ≡ b
+      same_end a b k = cc

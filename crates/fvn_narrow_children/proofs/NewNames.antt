@@ -52,11 +52,11 @@ kept_listed s (x ∷ vars) list y e = kept_listed s vars (with_variables (value 
 
 pub occurring_in_values : (s : Bindings) (vars list : List Var) (x y : Var) → Contains vars x → Occurs y (plain (value s x)) → listed (value_variables s vars list) y ≡ true
 occurring_in_values s [] list x y c o = absurd (contains_none x c)
-occurring_in_values s (z ∷ vars) list x y c o = go (contains_cases z vars x c)
+occurring_in_values s (z ∷ vars) list x y c o = go (contains_cases z vars x c) (λ i. occurring_in_values s vars (with_variables (value s z) list) x y i o)
   where
-    go : (z ≡ x) ⊎ Contains vars x → listed (value_variables s (z ∷ vars) list) y ≡ true
-    go (inl q) = kept_listed s vars (with_variables (value s z) list) y (occurring_listed (value s z) list y (subst (λ w. Occurs y (plain (value s w))) (sym q) o))
-    go (inr i) = occurring_in_values s vars (with_variables (value s z) list) x y i o
+    go : (z ≡ x) ⊎ Contains vars x → (Contains vars x → listed (value_variables s (z ∷ vars) list) y ≡ true) → listed (value_variables s (z ∷ vars) list) y ≡ true
+    go (inl q) rest = kept_listed s vars (with_variables (value s z) list) y (occurring_listed (value s z) list y (subst (λ w. Occurs y (plain (value s w))) (sym q) o))
+    go (inr i) rest = rest i
 
 pub values_distinct : (s : Bindings) (vars list : List Var) → Distinct list → Distinct (value_variables s vars list)
 values_distinct s [] list h = h

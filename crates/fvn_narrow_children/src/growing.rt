@@ -7,7 +7,7 @@ ghost use Rattle.fvn_rewrite.specs.Usable.{equations_by};
 ghost use Rattle.fvn_exploring.specs.declared.ends.ExpandEnd.TheVariants.{Whole};
 ghost use Rattle.fvn_narrow_children.specs.Values.{AreValuesUnder, AreIrreducible};
 ghost use Rattle.fvn_narrow_children.specs.Growing.{AreGrown};
-ghost use Rattle.fvn_narrow_children.specs.inner.Outcomes.{OutcomeAs};
+ghost use Rattle.fvn_narrow_children.specs.inner.Outcomes.{OutcomeAs, IsTaken};
 
 use crate::resting::{Rested, rest_all};
 use crate::values::{large_value, some_reducible, values_under};
@@ -93,6 +93,24 @@ fn tried(
     Ok(made)
 }
 
+// The children with what comes of one more unifier, and the end at which it stopped.
+fn with_outcome(
+    children: Vec<Variant>,
+    next: Outcome,
+) -> Result<(Vec<Variant>, Option<ExpandEnd>), NoMemory>
+    ensures { IfOk result (λ r. IsTaken children.items next r.0.items r.1) }
+{
+    let mut all = children;
+    match next {
+        Outcome::Child(c) => {
+            all.push(c)?;
+            Ok((all, None))
+        }
+        Outcome::Lost => Ok((all, None)),
+        Outcome::Stopped(end) => Ok((all, Some(end))),
+    }
+}
+
 /// What the unifiers make of a variant with irreducible values, in their order, up to the first that stops.
 ///
 /// The members are the variant's terms after a step, not yet under the unifier.
@@ -115,15 +133,13 @@ pub fn grown(
     let mut children = Vec::new(alloc);
     for s in unifiers {
         let next = tried(alloc, rewriter, size, v, members, s)?;
-        match next {
-            Outcome::Child(c) => children.push(c)?,
-            Outcome::Lost => {}
-            Outcome::Stopped(end) => {
-                return Ok(Expansion {
-                    children: Seq::from_vec(children),
-                    end,
-                });
-            }
+        let (all, stop) = with_outcome(children, next)?;
+        children = all;
+        if let Some(end) = stop {
+            return Ok(Expansion {
+                children: Seq::from_vec(children),
+                end,
+            });
         }
     }
     Ok(Expansion {

@@ -1,8 +1,8 @@
 //! Variants with new variables, from which one step goes on.
 ghost use Rattle.std.specs.Prelude.{◌≡◌, [], IfOk};
 ghost use Rattle.fvn_cover.specs.Covering.{IsFlatVariant};
-ghost use Rattle.fvn_flat.specs.Bindings.{value};
-ghost use Rattle.fvn_flat.specs.Variables.{with_variables, renaming};
+ghost use Rattle.fvn_flat.specs.Bindings.{value, BindingsFit};
+ghost use Rattle.fvn_flat.specs.Variables.{with_variables};
 ghost use Rattle.fvn_exploring.specs.Children.{HoldsVariables};
 ghost use Rattle.fvn_narrow_children.specs.Starts.{IsStartOf};
 ghost use Rattle.fvn_narrow_children.specs.inner.Renaming.{value_variables, IsRenamedBy};
@@ -51,16 +51,10 @@ fn variables(alloc: Global, v: &Variant) -> Result<Vec<Var>, NoMemory>
 }
 
 // The variant under a renaming of its variables.
-fn renamed(
-    alloc: Global,
-    sig: &Signature,
-    v: &Variant,
-    s: &Subst,
-    names: &[Var],
-) -> Result<Variant, NoMemory>
+fn renamed(alloc: Global, sig: &Signature, v: &Variant, s: &Subst) -> Result<Variant, NoMemory>
     requires variant { IsFlatVariant sig.now v.now }
-    requires names { s.now ≡ renaming 1 names.now }
-    ensures { IfOk result (IsRenamedBy sig.now names.now v.now) }
+    requires fits { BindingsFit sig.now s.now }
+    ensures { IfOk result (IsRenamedBy sig.now s.now v.now) }
 {
     let terms = instances(alloc, sig, s, v.terms.as_slice())?;
     let subst = values_under(alloc, sig, v, s)?;
@@ -86,6 +80,6 @@ pub fn start_of(alloc: Global, sig: &Signature, v: &Variant) -> Result<Start, No
     }
     sig.recall_good();
     let (s, next) = fresh_variables(alloc, names.as_slice(), 1)?;
-    let variant = renamed(alloc, sig, v, &s, names.as_slice())?;
+    let variant = renamed(alloc, sig, v, &s)?;
     Ok(Start { variant, next })
 }

@@ -5,7 +5,7 @@ use Rattle.fvn_terms.specs.declared.declarations.Declarations.{Declarations}
 use Rattle.fvn_forms.specs.Flat.{FlatTerm}
 use Rattle.fvn_forms.specs.Canon.{inst}
 use Rattle.fvn_flat.specs.Bindings.{Bindings, value}
-use Rattle.fvn_flat.specs.Variables.{with_variables, renaming}
+use Rattle.fvn_flat.specs.Variables.{with_variables}
 use Rattle.fvn_cover.specs.declared.variant.Variant.{Variant}
 use Rattle.fvn_narrow_children.specs.Values.{AreValuesUnder}
 
@@ -14,8 +14,8 @@ abbrev pub value_variables : Bindings → List Var → List Var → List Var
 value_variables s [] list = list
 value_variables s (x ∷ vars) list = value_variables s vars (with_variables (value s x) list)
 
--- the variant under the renaming of these variables to new ones, numbered from 1
-pub record IsRenamedBy (d : Declarations) (names : List Var) (v w : Variant) : Type 0 where
-  pub terms : w.terms ≡ map (inst d (value (renaming 1 names))) v.terms
-  pub values : AreValuesUnder d v (renaming 1 names) w.subst
+-- the variant under a renaming of its variables
+pub record IsRenamedBy (d : Declarations) (names : Bindings) (v w : Variant) : Type 0 where
+  pub terms : w.terms ≡ map (inst d (value names)) v.terms
+  pub values : AreValuesUnder d v names w.subst
   pub vars : w.vars ≡ v.vars

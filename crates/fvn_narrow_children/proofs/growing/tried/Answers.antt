@@ -19,9 +19,9 @@ values_under-requires c = record {
 pub some_reducible-requires : goal.some_reducible-requires
 some_reducible-requires c =
     let r = c.args.rewriter.now in record {
-      sorts = subst (All (λ (x : Var). IsSort r.signature x.sort)) (sym c.as_slice.ensures) c.requires.variant.vars;
+      sorts = subst (All (λ (x : Var). IsSort r.signature x.sort)) (sym c.as_slice-vars.ensures) c.requires.variant.vars;
       values = subst (λ (d : Declarations). BindingsFit d c.in_ok-subst.subst) c.signature.ensures c.in_ok-subst.ensures.fits;
-      old = subst (λ vars. AreIrreducible r.signature (equations_by r) vars c.args.v.now.subst) (sym c.as_slice.ensures) c.requires.irreducible;
+      old = subst (λ vars. AreIrreducible r.signature (equations_by r) vars c.args.v.now.subst) (sym c.as_slice-vars.ensures) c.requires.irreducible;
     }
 
 pub with_terms-requires : goal.with_terms-requires
@@ -31,7 +31,7 @@ with_terms-requires c =
       members = c.requires.members;
       values = subst (λ (d : Declarations). AreValuesUnder d c.args.v.now c.args.s.now c.in_ok-subst.subst) c.signature.ensures c.in_ok-subst.ensures;
       irreducible =
-          subst (λ vars. AreIrreducible r.signature (equations_by r) vars c.in_ok-subst.subst) c.as_slice.ensures (rw c.if-lost.false at c.in_ok-lost.ensures);
+          subst (λ vars. AreIrreducible r.signature (equations_by r) vars c.in_ok-subst.subst) c.as_slice-vars.ensures (rw c.if-lost.false at c.in_ok-lost.ensures);
     }
 
 pub returns-then-lost : goal.returns-then-lost
@@ -39,11 +39,11 @@ returns-then-lost c =
     let r = c.args.rewriter.now in
     lost_is r c.args.v.now c.args.members.now c.args.s.now c.in_ok-subst.subst
     (subst (λ (d : Declarations). AreValuesUnder d c.args.v.now c.args.s.now c.in_ok-subst.subst) c.signature.ensures c.in_ok-subst.ensures)
-    (subst (λ vars. AreReducibleAs r.signature (equations_by r) vars c.in_ok-subst.subst _) c.as_slice.ensures (rw c.if-lost.true at c.in_ok-lost.ensures))
+    (subst (λ vars. AreReducibleAs r.signature (equations_by r) vars c.in_ok-subst.subst _) c.as_slice-vars.ensures (rw c.if-lost.true at c.in_ok-lost.ensures))
 
 pub returns-in-Some : goal.returns-in-Some
 returns-in-Some c =
     let r = c.args.rewriter.now in
     large_stops r c.args.v.now c.args.members.now c.args.s.now c.in_ok-subst.subst c.requires.variant c.args.size c.requires.size c.in-Some.t
     (subst (λ (d : Declarations). AreValuesUnder d c.args.v.now c.args.s.now c.in_ok-subst.subst) c.signature.ensures c.in_ok-subst.ensures)
-    (subst (λ vars. IsLargeValue vars c.in_ok-subst.subst c.args.size c.in-Some.t) c.as_slice.ensures (rw c.in-Some.is at c.in_ok-large.ensures))
+    (subst (λ vars. IsLargeValue vars c.in_ok-subst.subst c.args.size c.in-Some.t) c.as_slice-vars.ensures (rw c.in-Some.is at c.in_ok-large.ensures))
