@@ -1,6 +1,6 @@
 -- What was found in some turns and what was found in others is what was found in all of them.
 use Rattle.std.proofs.Common.{◌≡◌, ◌≤◌, ◌<◌, ◌+◌, ℕ, zero, suc, List, [], ◌∷◌, ◌++◌, take, length, get_or, refl, sym, ap, ◌∙◌, subst, inl, inr, arith}
-use Rattle.std.specs.Prelude.{◌⊎◌, All, Any, Contains}
+use Rattle.std.specs.Prelude.{◌⊎◌, ◌↔◌, Bool, true, false, IsTrue, All, Any, Contains}
 use Rattle.std.proofs.lemmas.List.{take_more, take_all}
 use Rattle.std.proofs.lemmas.List.Elements.{All-nil, All-append, Contains-append_left, Contains-append_right, Contains-append_cases}
 use Rattle.fvn_base.proofs.Membership.{contains_here, contains_none, contains_cases}
@@ -110,3 +110,10 @@ less_or_equal (suc m) (suc n) h = elim (less_or_equal m n (omega (arith, h))) [ 
 -- one member more
 pub member_more : (i : ℕ) (turn : Turn) → IsAmongFirst (i + 1) turn → IsAmongFirst i turn ⊎ (turn.member ≡ i)
 member_more i turn c = less_or_equal turn.member i c
+
+-- what the test for a whole end denies
+pub not_whole : (b : Bool) (end : ExpandEnd) → IsTrue b ↔ (end ≡ Whole) → b ≡ false → end ≡ Whole → ⊥
+not_whole b end h e w = let z : true ≡ false = sym (h.1 w) ∙ e in cc
+
+pub none_below : (n : ℕ) → n < 0 → ⊥
+none_below n h = absurd (omega (arith, h))

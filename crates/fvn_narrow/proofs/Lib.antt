@@ -1,5 +1,7 @@
 -- Lemmas on the turns of an expansion.
 mod Turning
+mod Members
+mod Posed
 mod Once
 mod Fit
 mod Steps
@@ -8,5 +10,6 @@ mod Children
 mod RuleTurn
 mod Found
 mod Joined
+mod Along
 mod Backwards
 mod Expanded

@@ -8,6 +8,7 @@ use fvn_cover::Variant;
 use fvn_exploring::{Expander, Expansion};
 use fvn_flat::{AxiomSolver, Flat, Normal};
 use fvn_rewrite::Rewriter;
+use fvn_rewrite_coherence::rules_are_coherent;
 use fvn_rewrite_normal_forms::normal_forms_are_lawful;
 use fvn_rewrite_rules::Rules;
 use fvn_signature::Signature;
@@ -63,6 +64,7 @@ impl<A: AxiomSolver> Expander for Narrower<'_, A> {
 
     fn rest(&self, _alloc: Global, t: &Flat) -> Result<Normal, NoMemory> {
         self.rewriter.recall();
+        rules_are_coherent();
         normal_forms_are_lawful();
         let found = self.rewriter.normal(t)?;
         Ok(found)

@@ -61,6 +61,8 @@ fn children<A: AxiomSolver>(
     if unifiers.is_empty() {
         return Ok(no_children(alloc));
     }
+    narrower.rewriter.recall();
+    rules_are_lawful();
     let sig = narrower.rewriter.signature();
     let terms = start.variant.terms.as_slice();
     let all = members(alloc, sig, terms, part, &rule.right)?;

@@ -60,7 +60,7 @@ module _ (d : Declarations) (good : IsGood d) (v w : Variant) (flat : IsFlatVari
   abbrev by : Renaming
   by = name_for 1 names
 
-  module _ (next : ℕ) (new : RenamesApart (Contains names) 1 next (value (renaming 1 names))) (fits : BindingsFit d (renaming 1 names)) (r : IsRenamedBy d (renaming 1 names) v w) (small : next ≤ FIRST_FRESH) where
+  module _ (next : ℕ) (new : RenamesApart (Contains names) 1 next (value (renaming 1 names))) (fits : BindingsFit d (renaming 1 names)) (r : IsRenamedBy d (renaming 1 names) v w) (positive : 1 ≤ next) (small : next ≤ FIRST_FRESH) where
     abbrev new_values : Var → FlatTerm
     new_values = value (renaming 1 names)
 
@@ -155,10 +155,11 @@ module _ (d : Declarations) (good : IsGood d) (v w : Variant) (flat : IsFlatVari
       others = λ x n. ap (λ o. plain (form_or x o)) (r.values.others x n);
       holds = holds_after;
       numbers = numbers_after;
+      positive = positive;
       small = small;
     }
 
-  pub started : (next : ℕ) (vars : List Var) → vars ≡ names → (s : Bindings) → s ≡ renaming 1 vars → RenamesApart (Contains vars) 1 next (value s) → BindingsFit d s → IsRenamedBy d s v w → next ≤ FIRST_FRESH → IsStartOf d next v w
-  started next vars e s named new fits r small =
+  pub started : (next : ℕ) (vars : List Var) → vars ≡ names → (s : Bindings) → s ≡ renaming 1 vars → RenamesApart (Contains vars) 1 next (value s) → BindingsFit d s → IsRenamedBy d s v w → 1 ≤ next → next ≤ FIRST_FRESH → IsStartOf d next v w
+  started next vars e s named new fits r positive small =
       let all : s ≡ renaming 1 names = named ∙ ap (renaming 1) e in
-      is_start next (subst (λ l. RenamesApart (Contains l) 1 next (value (renaming 1 names))) e (subst (λ b. RenamesApart (Contains vars) 1 next (value b)) all new)) (subst (BindingsFit d) all fits) (subst (λ b. IsRenamedBy d b v w) all r) small
+      is_start next (subst (λ l. RenamesApart (Contains l) 1 next (value (renaming 1 names))) e (subst (λ b. RenamesApart (Contains vars) 1 next (value b)) all new)) (subst (BindingsFit d) all fits) (subst (λ b. IsRenamedBy d b v w) all r) positive small

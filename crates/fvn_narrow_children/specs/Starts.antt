@@ -30,4 +30,5 @@ pub record IsStartOf (d : Declarations) (next : ℕ) (v start : Variant) : Type 
   pub others : (x : Var) → (Contains v.vars x → ⊥) → substitution start.subst x ≡ var x
   pub holds : HoldsVariables start
   pub numbers : (y : Var) → OccursIn d v.vars (narrowed start) y → IsNumberedUpTo next y
+  pub positive : 1 ≤ next
   pub small : next ≤ FIRST_FRESH

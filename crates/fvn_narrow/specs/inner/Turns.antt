@@ -52,6 +52,7 @@ pub record IsReady (r : Rewriting) (v : Variant) (next : ℕ) : Type 0 where
   pub others : (x : Var) → (Contains v.vars x → ⊥) → substitution v.subst x ≡ var x
   pub holds : HoldsVariables v
   pub numbers : (y : Var) → OccursIn r.signature v.vars (narrowed v) y → IsNumberedUpTo next y
+  pub positive : 1 ≤ next
   pub small : next ≤ FIRST_FRESH
   pub irreducible : AreIrreducible r.signature (equations_by r) v.vars v.subst
 

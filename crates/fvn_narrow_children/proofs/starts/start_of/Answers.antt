@@ -23,4 +23,4 @@ pub returns : goal.returns
 returns c =
     let v = c.args.v.now in
     started c.args.sig.now c.recall_good.ensures v c.in_ok-variant.variant c.requires.variant c.requires.holds c.in_ok-s.next c.as_slice.result.now (c.as_slice.ensures.value ∙ c.in_ok-names.ensures) c.in_ok-s.s c.in_ok-s.ensures.named c.in_ok-s.ensures.apart
-    (c.in_ok-s.ensures.fits c.args.sig.now) c.in_ok-variant.ensures (omega (arith, c.if-len.false, c.len.ensures, c.as_slice.ensures.len, c.in_ok-s.ensures.next))
+    (c.in_ok-s.ensures.fits c.args.sig.now) c.in_ok-variant.ensures (omega (arith, c.in_ok-s.ensures.next)) (omega (arith, c.if-len.false, c.len.ensures, c.as_slice.ensures.len, c.in_ok-s.ensures.next))
