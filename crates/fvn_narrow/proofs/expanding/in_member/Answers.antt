@@ -62,6 +62,6 @@ returns g c =
     let i = c.loop-path.path-index in
     let term : FlatTerm = c.index-as_slice-member.result in
     let all : AreSoFar n.rewriter unifiers may v (IsThrough m list) c.loop-path.children.items =
-        subst (λ l. AreSoFar n.rewriter unifiers may v (IsThrough m l) c.loop-path.children.items) (take_all i list c.loop-path-test.false) c.loop-path.invariant in
+    subst (λ l. AreSoFar n.rewriter unifiers may v (IsThrough m l) c.loop-path.children.items) (take_all i list c.loop-path-test.false) c.loop-path.invariant in
     subst (λ l. AreFound n.rewriter unifiers may v (IsInMember m) record { children = l; end = Whole }) (sym c.from_vec-2.ensures)
     (in_the_member n.rewriter unifiers may v m term (read_at v.terms c.as_slice.result.now m term c.as_slice.ensures c.requires.member c.index-as_slice-member.is) list c.in_ok-all_paths.ensures c.loop-path.children.items all)

@@ -32,8 +32,8 @@ grown-requires g c =
     let turn = turn_of c.args.part.now.member c.args.part.now.path.now c.args.rule.now in
     let all = c.in_ok-all.all.items in
     let made : AreMembers r.signature v.terms turn.member turn.path turn.rule.right all =
-        subst (λ (d : Declarations). AreMembers d v.terms turn.member turn.path turn.rule.right all) c.signature-sig.ensures
-        (subst (λ l. AreMembers c.signature-sig.result.now l turn.member turn.path turn.rule.right all) c.as_slice-terms.ensures c.in_ok-all.ensures) in record {
+    subst (λ (d : Declarations). AreMembers d v.terms turn.member turn.path turn.rule.right all) c.signature-sig.ensures
+    (subst (λ l. AreMembers c.signature-sig.result.now l turn.member turn.path turn.rule.right all) c.as_slice-terms.ensures c.in_ok-all.ensures) in record {
       size = ap (λ b. b.size) c.args.narrower.now.one_bound;
       unifiers = c.requires.unifiers;
       members = subst (AllFit r.signature) (sym c.as_slice.ensures.value)
@@ -52,6 +52,6 @@ returns g c =
     let turn = turn_of c.args.part.now.member c.args.part.now.path.now c.args.rule.now in
     let all = c.in_ok-all.all.items in
     let made : AreMembers r.signature v.terms turn.member turn.path turn.rule.right all =
-        subst (λ (d : Declarations). AreMembers d v.terms turn.member turn.path turn.rule.right all) c.signature-sig.ensures
-        (subst (λ l. AreMembers c.signature-sig.result.now l turn.member turn.path turn.rule.right all) c.as_slice-terms.ensures c.in_ok-all.ensures) in
+    subst (λ (d : Declarations). AreMembers d v.terms turn.member turn.path turn.rule.right all) c.signature-sig.ensures
+    (subst (λ l. AreMembers c.signature-sig.result.now l turn.member turn.path turn.rule.right all) c.as_slice-terms.ensures c.in_ok-all.ensures) in
     inr (all, made, subst (λ l. AreGrown r v l c.args.unifiers.now c.in_ok-e.e) c.as_slice.ensures.value c.in_ok-e.ensures)
