@@ -1,5 +1,5 @@
 -- The children of the start, or none where a value is reducible.
-use Rattle.std.proofs.Common.{◌≡◌, List, [], refl, sym, ap, ◌∙◌, subst}
+use Rattle.std.proofs.Common.{◌≡◌, true, List, [], refl, sym, ap, ◌∙◌, subst}
 use Rattle.std.specs.Prelude.{All, Contains}
 use Rattle.std.proofs.lemmas.List.Elements.{All-weaker}
 use Rattle.fvn_terms.specs.declared.plain.Var.{Var}
@@ -52,7 +52,7 @@ returns-then-lost g c =
     let o : IsStartOf r.signature start.next c.args.v.now start.variant = subst (λ (d : Declarations). IsStartOf d start.next c.args.v.now start.variant) c.signature.ensures c.in_ok-start.ensures in
     nothing_expands r c.recall.ensures.good c.recall.ensures.completed c.recall.ensures.usable (c.sequences_are_lawful.ensures r.signature (equations_by r))
     (g.A.AxiomSolver.most_unifiers n.solver.now) (g.A.AxiomSolver.drawn n.solver.now) c.requires.0 start.next c.args.v.now start.variant c.requires.1 o c.renamed_forms_have_the_same_instances.ensures
-    (subst (λ vars. AreReducibleAs r.signature (equations_by r) vars start.variant.subst _) c.as_slice-vars.ensures (rw c.if-lost.true at c.in_ok-lost.ensures))
+    (subst (λ vars. AreReducibleAs r.signature (equations_by r) vars start.variant.subst true) c.as_slice-vars.ensures (rw c.if-lost.true at c.in_ok-lost.ensures))
     c.no_children.result c.no_children.ensures.children c.no_children.ensures.end
 
 pub returns : goal.returns
