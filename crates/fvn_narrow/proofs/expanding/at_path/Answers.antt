@@ -24,28 +24,28 @@ by_rules-requires g c =
 
 pub returns-in_default : goal.returns-in_default
 returns-in_default g c =
-    let n = c.args.narrower.now in
+    let n = c.args.tools.now in
     let v = c.args.start.now.variant in
     let term : FlatTerm = c.index-as_slice-member.result in
-    nowhere n.rewriter (g.A.AxiomSolver.most_unifiers n.solver.now) (g.A.AxiomSolver.drawn n.solver.now) v c.args.member term
+    nowhere n.rewriter.now (g.S.Solves.most_unifiers n.solver.now) (g.S.Solves.drawn n.solver.now) v c.args.member term
     (read_at v.terms c.as_slice.result.now c.args.member term c.as_slice.ensures c.requires.member c.index-as_slice-member.is) c.args.path.now
     (rw c.in_default.is at c.form_at.ensures) c.no_children.result c.no_children.ensures.children c.no_children.ensures.end
 
 pub returns-in_default-head : goal.returns-in_default-head
 returns-in_default-head g c =
-    let n = c.args.narrower.now in
+    let n = c.args.tools.now in
     let v = c.args.start.now.variant in
     let term : FlatTerm = c.index-as_slice-member.result in
-    headless n.rewriter (g.A.AxiomSolver.most_unifiers n.solver.now) (g.A.AxiomSolver.drawn n.solver.now) v c.args.member term
+    headless n.rewriter.now (g.S.Solves.most_unifiers n.solver.now) (g.S.Solves.drawn n.solver.now) v c.args.member term
     (read_at v.terms c.as_slice.result.now c.args.member term c.as_slice.ensures c.requires.member c.index-as_slice-member.is) c.args.path.now
     c.in-Some.at.now (rw c.in-Some.is at c.form_at.ensures) (sym c.head.ensures ∙ c.in_default-head.is) c.no_children.result c.no_children.ensures.children c.no_children.ensures.end
 
 pub returns : goal.returns
 returns g c =
-    let n = c.args.narrower.now in
+    let n = c.args.tools.now in
     let v = c.args.start.now.variant in
     let term : FlatTerm = c.index-as_slice-member.result in
-    along n.rewriter (g.A.AxiomSolver.most_unifiers n.solver.now) (g.A.AxiomSolver.drawn n.solver.now) v c.args.member term
+    along n.rewriter.now (g.S.Solves.most_unifiers n.solver.now) (g.S.Solves.drawn n.solver.now) v c.args.member term
     (read_at v.terms c.as_slice.result.now c.args.member term c.as_slice.ensures c.requires.member c.index-as_slice-member.is) c.args.path.now
     c.in-Some.at.now (rw c.in-Some.is at c.form_at.ensures) c.in-Some-head.f (sym c.head.ensures ∙ c.in-Some-head.is) c.headed.result.now (c.headed.ensures ∙ ap (λ (l : RuleLists). headed l c.in-Some-head.f) c.rules.ensures)
     c.in_ok-e.e c.in_ok-e.ensures
