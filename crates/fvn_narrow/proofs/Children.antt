@@ -1,7 +1,7 @@
 -- What a unifier makes of a variant is a child by one step.
 use Rattle.std.proofs.Common.{◌≡◌, ◌≤◌, ◌<◌, ◌+◌, ℕ, suc, true, List, [], ◌∷◌, ◌++◌, map, take, drop, length, None, Some, refl, sym, ap, ◌∙◌, subst, inl, inr, arith}
 use Rattle.std.specs.Prelude.{◌⊎◌, Option, All, Any, Contains, slice_get}
-use Rattle.std.specs.List.{AllZip}
+use Rattle.std.specs.List.{AllZip, AllByRecursion}
 use Rattle.std.proofs.lemmas.List.{length-append, length-map}
 use Rattle.std.proofs.lemmas.List.Elements.{All-nil, All-head, All-contains, All-from_recursion, length_all_zip, Contains-append_left, Contains-append_right, Contains-append_cases}
 use Rattle.std.proofs.lemmas.Option.{slice_get_within, get_or_from_slice_get}
@@ -91,7 +91,7 @@ module _ (r : Rewriting) where
   forms_irreducible : (ts us : List FlatTerm) → AllZip (IsFormOf r) ts us → All (IsIrreducible d equations) (map plain us)
   forms_irreducible ts us h = All-from_recursion (IsIrreducible d equations) (map plain us) (go ts us h)
     where
-      go : (ts us : List FlatTerm) → AllZip (IsFormOf r) ts us → _
+      go : (ts us : List FlatTerm) → AllZip (IsFormOf r) ts us → AllByRecursion (IsIrreducible d equations) (map plain us)
       go [] [] h = tt
       go [] (u ∷ us) h = absurd h
       go (t ∷ ts) [] h = absurd h
@@ -124,7 +124,7 @@ module _ (r : Rewriting) (good : IsGood r.signature) (brings_none : BringsNoVari
       BEqual-occurs z r.signature raw (plain (canon r.signature raw)) (to_canon r.signature good.fits raw put.kinded.0 put.kinded.1) (subst (λ q. Occurs z (plain q)) put.is o)
 
   -- the variables of the terms with the right side put in
-  OccursThere : Var → Type 0
+  abbrev OccursThere : Var → Type 0
   OccursThere z = Any (λ w. Occurs z (plain w)) v.terms ⊎ Occurs z (plain turn.rule.right)
 
   in_member : (w : FlatTerm) → Contains members w → (z : Var) → Occurs z (plain w) → OccursThere z
@@ -221,7 +221,7 @@ module _ (r : Rewriting) (good : IsGood r.signature) (brings_none : BringsNoVari
         ap length (split_at v.terms turn.member m.term m.is)
         ∙ same_length (take turn.member v.terms) m.term m.new (drop (turn.member + 1) v.terms)
         ∙ ap length (sym m.all_are)
-        ∙ sym (length-map (inst r.signature (value s)) members)
+        ∙ sym (length-map members (inst r.signature (value s)))
         ∙ length_all_zip (IsFormOf r) (map (inst r.signature (value s)) members) c.terms grown.terms
 
     -- one sequence leads from what the unifier makes of the members to the child's terms

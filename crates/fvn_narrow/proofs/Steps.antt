@@ -52,7 +52,7 @@ module _ (d : Declarations) where
 
   -- instances by flat values
   pub instance_is : (s : Bindings) → SettledValues d (value s) → (t : FlatTerm) → inst d (value s) t ≡ canon d (apply (substitution s) (plain t))
-  instance_is s settled t = (λ i. eval d (λ x. canon_plain d (value s x) (settled x) (~ i)) (plain t)) ∙ sym (eval_apply d fvar (substitution s) (plain t))
+  instance_is s settled t = sym (eval_apply d fvar (substitution s) (plain t) ∙ (λ i. eval d (λ x. canon_plain d (value s x) (settled x) i) (plain t)))
 
 -- what is not bound stays
 pub unbound_stays : (problem : Problem) (s : Bindings) → Binds problem s → (x : Var) → (Contains (variables_of problem) x → ⊥) → substitution s x ≡ var x
@@ -163,3 +163,8 @@ module _ (r : Rewriting) (good : IsGood r.signature) (drawn : Problem → Substi
       where
         new_is_new : (x : Var) → OccursInValues (variables_of problem) (substitution s) x → IsNumberedUpTo next x → ⊥
         new_is_new x o n = let k = u.numbered o.0 x o.1 o.2 in let low = k.1 in let high = n.high in absurd (omega arith)
+
+    -- its unifier
+    pub unifier_is : step_from.unifier ≡ substitution s
+    unfolding step_from
+    unifier_is = refl

@@ -14,8 +14,8 @@ use Rattle.fvn_narrow.proofs.RuleTurn.{IsAnswered}
 use Rattle.fvn_narrow.proofs.Found.{found_here}
 use Rattle.fvn_narrow.proofs.stepping.by_rule.Goals as goal
 
-pub clash-requires : goal.clash-requires
-clash-requires g c =
+pub clash-clashing-requires : goal.clash-clashing-requires
+clash-clashing-requires g c =
     let r = c.args.tools.now.rewriter.now in
     let v = c.args.start.now.variant in
     let turn = turn_of c.args.part.now.member c.args.part.now.path.now c.args.rule.now in
