@@ -1,23 +1,23 @@
 -- What a unifier makes of a variant is a child by one step.
-use Rattle.std.proofs.Common.{◌≡◌, ◌≤◌, ◌<◌, ◌+◌, ℕ, suc, true, List, [], ◌∷◌, ◌++◌, map, take, drop, length, None, Some, refl, sym, ap, ◌∙◌, subst, inl, inr, arith}
+use Rattle.std.proofs.Common.{◌≡◌, ◌<◌, ◌+◌, ℕ, suc, List, [], ◌∷◌, ◌++◌, map, take, drop, length, None, Some, refl, sym, ap, ◌∙◌, subst, inl, inr, arith}
 use Rattle.std.specs.Prelude.{◌⊎◌, Option, All, Any, Contains, slice_get}
 use Rattle.std.specs.List.{AllZip, AllByRecursion}
-use Rattle.std.proofs.lemmas.List.{length-append, length-map}
+use Rattle.std.proofs.lemmas.List.{length-map}
 use Rattle.std.proofs.lemmas.List.Elements.{All-nil, All-head, All-contains, All-from_recursion, length_all_zip, Contains-append_left, Contains-append_right, Contains-append_cases}
 use Rattle.std.proofs.lemmas.Option.{slice_get_within, get_or_from_slice_get}
-use Rattle.fvn_base.specs.declared.limits.TheConstants.{NEXT_FRESH, EXPANDED_FRESH}
+use Rattle.fvn_base.specs.declared.limits.TheConstants.{EXPANDED_FRESH}
 use Rattle.fvn_base.proofs.Membership.{contains_here, contains_later, contains_cases, contains_none, map_contains}
 use Rattle.fvn_terms.specs.declared.plain.Var.{Var}
 use Rattle.fvn_terms.specs.declared.declarations.Declarations.{Declarations}
 use Rattle.fvn_terms.specs.Theory.{Equations}
-use Rattle.fvn_terms.specs.Term.{Term, var}
+use Rattle.fvn_terms.specs.Term.{Term}
 use Rattle.fvn_terms.specs.Signature.{kind, IsSort, IsTerm}
 use Rattle.fvn_terms.specs.Substitution.{Substitution, apply, Occurs}
 use Rattle.fvn_terms.specs.Equality.{BEqual}
 use Rattle.fvn_terms.specs.Unifiers.{Problem}
-use Rattle.fvn_terms.specs.Rewriting.{TermSequence, ListSequence, IsIrreducible, BringsNoVariable}
+use Rattle.fvn_terms.specs.Rewriting.{ListSequence, IsIrreducible, BringsNoVariable}
 use Rattle.fvn_terms.specs.Laws.{RewritingLaws}
-use Rattle.fvn_terms.proofs.Equal.{BEqual-refl, BEqual-sym}
+use Rattle.fvn_terms.proofs.Equal.{BEqual-refl}
 use Rattle.fvn_terms.proofs.Occurrences.{occurs_value, occurs_instance, BEqual-occurs}
 use Rattle.fvn_forms.specs.Flat.{FlatTerm, plain}
 use Rattle.fvn_forms.specs.Canon.{canon, inst}
@@ -25,8 +25,7 @@ use Rattle.fvn_forms.specs.Good.{IsGood}
 use Rattle.fvn_forms.proofs.ToCanon.{to_canon}
 use Rattle.fvn_flat.specs.Bindings.{Bindings, bound, form_or, value}
 use Rattle.fvn_flat.specs.Fits.{Fits, AllFit}
-use Rattle.fvn_flat.specs.Solving.{substitution, IsNumbered}
-use Rattle.fvn_flat.specs.Problems.{variables_of}
+use Rattle.fvn_flat.specs.Solving.{substitution}
 use Rattle.fvn_cover.specs.declared.variant.Variant.{Variant}
 use Rattle.fvn_rewrite_laws.specs.Laws.{ListLaws, RuleLaws}
 use Rattle.fvn_rewrite_laws.specs.Lists.{EachHasSequence}
@@ -39,7 +38,7 @@ use Rattle.fvn_narrow_children.proofs.Replacing.{split_at}
 use Rattle.fvn_narrow.specs.Settings.{narrowing_setting}
 use Rattle.fvn_narrow.specs.inner.Turns.{Turn, IsReady, AreMembers, IsStepChild}
 use Rattle.fvn_narrow.proofs.Turning.{problem_at, IsFitTurn, IsGivenIn}
-use Rattle.fvn_narrow.proofs.Steps.{successor, is_put, step_from, unbound_stays}
+use Rattle.fvn_narrow.proofs.Steps.{successor, is_put, step_from}
 use Rattle.fvn_narrow.proofs.Occurring.{occurs_replaced, occurs_at, occurs_in_inst, inst_has}
 
 pub item_listed : (l : List FlatTerm) (i : ℕ) (a : FlatTerm) → slice_get l i ≡ Some a → Contains l a

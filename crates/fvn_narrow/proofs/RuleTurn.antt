@@ -19,7 +19,7 @@ use Rattle.fvn_flat.specs.Bindings.{Bindings, BindsOnce, BindingsFit}
 use Rattle.fvn_flat.specs.OneAnswer.{IsCompleteFor}
 use Rattle.fvn_flat.specs.Problems.{plain_pairs}
 use Rattle.fvn_flat.specs.Solving.{substitution, problem_of, Binds, IsNumbered, AreUnifiers, AreDrawn, AreBindings, AreNumbered, AreApart, AreComplete}
-use Rattle.fvn_flat.specs.Successors.{OccursIn, Narrowed, IsStepFrom}
+use Rattle.fvn_flat.specs.Successors.{OccursIn}
 use Rattle.fvn_flat.specs.declared.solver.Pairs.{Pairs}
 use Rattle.fvn_flat.specs.declared.solver.Solved.{Solved}
 use Rattle.fvn_flat.specs.declared.solver.SolveEnd.TheVariants.{Complete}

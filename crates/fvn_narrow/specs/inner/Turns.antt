@@ -1,11 +1,11 @@
 -- The turns of an expansion, and what is found in them.
-use Rattle.std.specs.Prelude.{◌≡◌, ◌≤◌, ◌<◌, ◌⊎◌, ◌+◌, ℕ, List, [], ◌∷◌, ◌++◌, map, take, drop, length, All, Contains, Some, slice_get}
+use Rattle.std.specs.Prelude.{◌≡◌, ◌≤◌, ◌<◌, ◌⊎◌, ◌+◌, ℕ, List, [], ◌∷◌, ◌++◌, map, take, drop, All, Contains, Some, slice_get}
 use Rattle.fvn_base.specs.declared.limits.TheConstants.{FIRST_FRESH}
 use Rattle.fvn_terms.specs.declared.plain.Var.{Var}
 use Rattle.fvn_terms.specs.declared.plain.OpId.{OpId}
 use Rattle.fvn_terms.specs.declared.declarations.Declarations.{Declarations}
 use Rattle.fvn_terms.specs.Term.{var}
-use Rattle.fvn_terms.specs.Substitution.{Substitution, apply}
+use Rattle.fvn_terms.specs.Substitution.{Substitution}
 use Rattle.fvn_terms.specs.Equality.{BEqual}
 use Rattle.fvn_terms.specs.Unifiers.{Problem}
 use Rattle.fvn_terms.specs.Rewriting.{ListSequence}

@@ -1,12 +1,12 @@
 -- The children of the start, or none where a value is reducible.
-use Rattle.std.proofs.Common.{◌≡◌, true, List, [], refl, sym, ap, ◌∙◌, subst}
-use Rattle.std.specs.Prelude.{All, Contains}
+use Rattle.std.proofs.Common.{true, [], refl, sym, subst}
+use Rattle.std.specs.Prelude.{All}
 use Rattle.std.proofs.lemmas.List.Elements.{All-weaker}
 use Rattle.fvn_terms.specs.declared.plain.Var.{Var}
 use Rattle.fvn_terms.specs.declared.declarations.Declarations.{Declarations}
 use Rattle.fvn_terms.specs.Signature.{IsSort}
 use Rattle.fvn_terms.specs.Rewriting.{IsIrreducible}
-use Rattle.fvn_flat.specs.Bindings.{Bindings, BindingsFit}
+use Rattle.fvn_flat.specs.Bindings.{Bindings}
 use Rattle.fvn_flat.specs.Solving.{substitution}
 use Rattle.fvn_cover.specs.Covering.{IsFlatVariant}
 use Rattle.fvn_rewrite.specs.Usable.{equations_by}
@@ -41,8 +41,9 @@ in_members-requires g c =
     let r = c.args.tools.now.rewriter.now in
     let start = c.in_ok-start.start in
     let o : IsStartOf r.signature start.next c.args.v.now start.variant = subst (λ (d : Declarations). IsStartOf d start.next c.args.v.now start.variant) c.signature.ensures c.in_ok-start.ensures in
-    ready_start r start.next c.args.v.now start.variant o
-    (subst (λ vars. AreIrreducible r.signature (equations_by r) vars start.variant.subst) c.as_slice-vars.ensures (rw c.if-lost.false at c.in_ok-lost.ensures))
+    record {
+      ready = ready_start r start.next c.args.v.now start.variant o (subst (λ vars. AreIrreducible r.signature (equations_by r) vars start.variant.subst) c.as_slice-vars.ensures (rw c.if-lost.false at c.in_ok-lost.ensures));
+    }
 
 pub returns-then-lost : goal.returns-then-lost
 returns-then-lost g c =

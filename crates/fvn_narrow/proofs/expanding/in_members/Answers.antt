@@ -1,5 +1,5 @@
 -- One member more.
-use Rattle.std.proofs.Common.{◌≡◌, ◌≤◌, ◌<◌, ◌+◌, true, false, length, sym, ap, ◌∙◌, subst, arith}
+use Rattle.std.proofs.Common.{◌+◌, sym, subst, arith}
 use Rattle.fvn_exploring.specs.declared.ends.ExpandEnd.TheVariants.{Whole}
 use Rattle.fvn_narrow.specs.inner.Turns.{IsAmongFirst, IsInMember, IsAny, AreFound}
 use Rattle.fvn_narrow.proofs.Joined.{AreSoFar, none_so_far, none_below, joined, stopped, member_more, not_whole}
@@ -14,7 +14,7 @@ loop-member-init g c =
     subst (AreSoFar n.rewriter.now unifiers may c.args.start.now.variant (IsAmongFirst 0)) (sym c.new-children.ensures.items) (none_so_far n.rewriter.now unifiers may c.args.start.now.variant (IsAmongFirst 0) (λ turn k. none_below turn.member k))
 
 pub in_member-requires : goal.in_member-requires
-in_member-requires g c = record { ready = c.requires.ready; member = omega (arith, c.loop-member-test.true, c.len.ensures) }
+in_member-requires g c = record { ready = c.requires.ready; member = omega (arith, c.loop-member-test.true, c.len-member-end.ensures) }
 
 pub loop-member-preserved : goal.loop-member-preserved
 loop-member-preserved g c =
@@ -43,4 +43,4 @@ returns g c =
     let v = c.args.start.now.variant in
     let i = c.loop-member.member in
     subst (λ l. AreFound n.rewriter.now unifiers may v IsAny record { children = l; end = Whole }) (sym c.from_vec-2.ensures)
-    (in_all n.rewriter.now unifiers may v i (omega (arith, c.loop-member-test.false, c.len.ensures)) c.loop-member.children.items c.loop-member.invariant)
+    (in_all n.rewriter.now unifiers may v i (omega (arith, c.loop-member-test.false, c.len-member-end.ensures)) c.loop-member.children.items c.loop-member.invariant)

@@ -1,5 +1,5 @@
 -- The children of both.
-use Rattle.std.proofs.Common.{◌++◌, sym, ap, ◌∙◌}
+use Rattle.std.proofs.Common.{◌++◌, ap, ◌∙◌}
 use Rattle.fvn_narrow.proofs.expanding.with_more.Goals as goal
 
 pub returns : goal.returns

@@ -1,12 +1,12 @@
 -- A clash, or the solver's answer and what its unifiers make.
-use Rattle.std.proofs.Common.{◌≡◌, ◌∷◌, [], sym, ap, ◌∙◌, subst}
+use Rattle.std.proofs.Common.{sym, subst}
 use Rattle.std.specs.Prelude.{All}
 use Rattle.std.proofs.lemmas.List.Elements.{All-weaker}
 use Rattle.fvn_terms.specs.declared.declarations.Declarations.{Declarations}
 use Rattle.fvn_flat.specs.Bindings.{Bindings, BindsOnce, BindingsFit}
 use Rattle.fvn_flat.specs.Fits.{Fits}
 use Rattle.fvn_flat.specs.Solving.{problem_of, Binds, IsGiven, AreUnifiers, AreBindings, AreNumbered, AreApart, AreComplete, HasCause}
-use Rattle.fvn_rewrite.specs.Usable.{Rewriting, equations_by}
+use Rattle.fvn_rewrite.specs.Usable.{equations_by}
 use Rattle.fvn_narrow_children.specs.Clashes.{NeverMeet}
 use Rattle.fvn_narrow.specs.inner.Turns.{turn_of, AreGrownAt}
 use Rattle.fvn_narrow.proofs.Posed.{fit_here, may_be_given, found_none}

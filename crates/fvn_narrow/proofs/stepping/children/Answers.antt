@@ -1,11 +1,8 @@
 -- No unifier, or what each of them makes of the terms with the right side put in.
-use Rattle.std.proofs.Common.{◌≡◌, List, length, refl, sym, ap, ◌∙◌, subst, inl, inr}
+use Rattle.std.proofs.Common.{sym, ◌∙◌, subst, inl, inr}
 use Rattle.fvn_terms.specs.declared.declarations.Declarations.{Declarations}
-use Rattle.fvn_forms.specs.Flat.{FlatTerm}
-use Rattle.fvn_forms.specs.Good.{IsGood}
 use Rattle.fvn_flat.specs.Fits.{AllFit}
-use Rattle.fvn_cover.specs.declared.variant.Variant.{Variant}
-use Rattle.fvn_rewrite.specs.Usable.{Rewriting, equations_by}
+use Rattle.fvn_rewrite.specs.Usable.{equations_by}
 use Rattle.fvn_narrow_children.specs.Growing.{AreGrown}
 use Rattle.fvn_narrow.specs.inner.Turns.{turn_of, CanReplace, AreMembers}
 use Rattle.fvn_narrow.proofs.Members.{members_fit}
