@@ -9,14 +9,16 @@ use Rattle.fvn_terms.specs.Equality.{BEqual}
 use Rattle.fvn_terms.specs.Sorts.{IsWellSorted}
 use Rattle.fvn_terms.specs.Rewriting.{ListSequence}
 use Rattle.fvn_terms.specs.Laws.{RewritingLaws}
+use Rattle.fvn_terms.specs.Variants.{Covers}
 use Rattle.fvn_terms.proofs.Substitutions.{apply-apply}
 use Rattle.fvn_terms.proofs.Equal.{BEqual-apply, BEqual-trans}
 use Rattle.fvn_terms.proofs.WellSorted.{IsWellSorted-followed_by}
-use Rattle.fvn_forms.specs.Flat.{plain}
+use Rattle.fvn_forms.specs.Flat.{FlatTerm, plain}
 use Rattle.fvn_flat.specs.Solving.{substitution}
 use Rattle.fvn_cover.specs.declared.variant.Variant.{Variant}
 use Rattle.fvn_cover.specs.Covering.{CoversVariant}
 use Rattle.fvn_exploring.specs.Setting.{Setting}
+use Rattle.fvn_exploring.specs.LevelRuns.{AreVariablesOf}
 use Rattle.fvn_exploring.specs.Liftings.{instance_of, value_under, IsLifted}
 
 -- instances of equal lists
@@ -44,3 +46,11 @@ carried g laws v c n vars covers s h =
           (subst (BEqual d (value_under h.by c x)) (apply-apply covers.by h.by (substitution n.subst x))
           (BEqual-apply d h.by (h.well_sorted).0 (covers.same_values x (subst (λ l. Contains l x) (sym vars) m))));
     }
+
+-- covering speaks of these variables alone
+pub covers_on : (d : Declarations) (vars others : List Var) (ts : List Term) (s : Substitution) (us : List Term) (c : Substitution) → ((x : Var) → Contains others x → Contains vars x) → Covers d vars ts s us c → Covers d others ts s us c
+covers_on d vars others ts s us c within h = record { by = h.by; well_sorted = h.well_sorted; same_terms = h.same_terms; same_values = λ x m. h.same_values x (within x m) }
+
+-- two lists of the variables of one start have the same
+pub same_variables : (start : List FlatTerm) (vars others : List Var) → AreVariablesOf start vars → AreVariablesOf start others → (x : Var) → Contains vars x → Contains others x
+same_variables start vars others h k x m = (k.all x).1 ((h.all x).0 m)

@@ -31,15 +31,8 @@ use Rattle.fvn_exploring.specs.Explorations.{IsFound, IsVariantOf, IsStartWithin
 use Rattle.fvn_closure.specs.Closing.{IsExplorable, Reached, reached_of, IsReachedVariant, IsCoveredBy, IsVariantWithin}
 use Rattle.fvn_closure.specs.Laws.{ExplorationLaws}
 use Rattle.fvn_closure.proofs.Known.{IsKnown}
+use Rattle.fvn_closure.proofs.Carrying.{covers_on, same_variables}
 use Rattle.fvn_closure.proofs.Found.{child_found, all_found}
-
--- covering speaks of these variables alone
-pub covers_on : (d : Declarations) (vars others : List Var) (ts : List Term) (s : Substitution) (us : List Term) (c : Substitution) → ((x : Var) → Contains others x → Contains vars x) → Covers d vars ts s us c → Covers d others ts s us c
-covers_on d vars others ts s us c within h = record { by = h.by; well_sorted = h.well_sorted; same_terms = h.same_terms; same_values = λ x m. h.same_values x (within x m) }
-
--- two lists of the variables of one start have the same
-pub same_variables : (start : List FlatTerm) (vars others : List Var) → AreVariablesOf start vars → AreVariablesOf start others → (x : Var) → Contains vars x → Contains others x
-same_variables start vars others h k x m = (k.all x).1 ((h.all x).0 m)
 
 module _ (g : Setting) (start : List FlatTerm) (explorable : IsExplorable g start) (known : IsKnown g.declarations g.equations) (order : CoveringIsReflexiveAndTransitive)
     (drawn : Problem → Substitution → Type 0) (confluent : IsConfluent g.declarations g.equations) (limits : Limits) (x : Explored) (h : IsExploration g drawn start limits x) (vars : List Var) (variables : AreVariablesOf start vars) where
