@@ -1,10 +1,10 @@
 -- Lemmas of closed levels; the public ones are for callers.
-mod Known
+pub mod Known
 mod Places
-mod Renamings
+pub mod Renamings
 pub mod Following
 mod Found
 pub mod Carrying
 mod Descending
-mod Starting
+pub mod Starting
 mod Ending

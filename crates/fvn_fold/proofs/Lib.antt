@@ -7,3 +7,5 @@ mod Closed
 mod Ends
 mod Outcomes
 mod Turning
+mod Firsts
+mod Takings

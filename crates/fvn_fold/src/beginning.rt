@@ -7,6 +7,7 @@ ghost use Rattle.fvn_fold.specs.Starts.{IsStartable, IsSettingIn};
 ghost use Rattle.fvn_fold.specs.inner.Beginning.{variables_of_forms, AreRested, IsBegun};
 
 use fvn_base::Seq;
+use fvn_base::limits::FIRST_FRESH;
 use fvn_cover::Variant;
 use fvn_exploring::{Expander, ExploreEnd};
 use fvn_flat::{Flat, Normal, SizeCause, Subst, fresh_variables};
@@ -67,6 +68,8 @@ fn rested<E: Expander>(
 }
 
 /// The first variant of an exploration, or why there is none within the limits.
+///
+/// More variables than can be numbered are refused as memory is.
 pub(crate) fn begin<E: Expander>(
     alloc: Global,
     sig: &Signature,
@@ -79,6 +82,9 @@ pub(crate) fn begin<E: Expander>(
     ensures begun { IfOk result (IsBegun (E.setting expander.now) (E.drawn expander.now) start.now) }
 {
     let vars = variables(alloc, start)?;
+    if vars.len() > FIRST_FRESH as usize {
+        return Err(NoMemory);
+    }
     let (names, _) = fresh_variables(alloc, vars.as_slice(), 0)?;
     match rested(alloc, sig, expander, start, &names)? {
         Rested::Forms(terms) => Ok(Begun::Start(Variant {

@@ -1,16 +1,14 @@
 -- How an exploration begins.
-use Rattle.std.specs.Prelude.{◌≡◌, ◌×◌, List, [], ◌∷◌, Contains}
-use Rattle.std.specs.List.{AllZip, fold}
+use Rattle.std.specs.Prelude.{List, []}
+use Rattle.std.specs.List.{AllZip}
 use Rattle.fvn_terms.specs.declared.plain.Var.{Var}
 use Rattle.fvn_terms.specs.Substitution.{Substitution}
 use Rattle.fvn_terms.specs.Unifiers.{Problem}
-use Rattle.fvn_forms.specs.Flat.{FlatTerm}
+use Rattle.fvn_forms.specs.Flat.{FlatTerm, fpack}
 use Rattle.fvn_flat.specs.Bindings.{Bindings, IsInstanceBy}
 use Rattle.fvn_flat.specs.Fits.{Fits}
-use Rattle.fvn_flat.specs.Variables.{with_variables}
+use Rattle.fvn_flat.specs.Variables.{with_all_variables}
 use Rattle.fvn_rewrite_laws.specs.Normalised.{IsForm}
-use Rattle.fvn_exploring.specs.declared.limits.Limits.{Limits}
-use Rattle.fvn_exploring.specs.declared.ends.Explored.{Explored}
 use Rattle.fvn_exploring.specs.declared.ends.ExploreEnd.{ExploreEnd}
 use Rattle.fvn_exploring.specs.declared.ends.ExploreEnd.TheVariants.{Complete, Levels, Variants, Steps, Size, Basis, Unifiers}
 use Rattle.fvn_exploring.specs.Setting.{Setting}
@@ -23,13 +21,8 @@ use Rattle.fvn_fold.specs.declared.beginning.Rested.{Rested}
 use Rattle.fvn_fold.specs.declared.beginning.Rested.TheVariants.{Forms, End as RestedEnd}
 
 -- the variables of the forms, each once, in order of first occurrence
-abbrev pub with_variables_of : List FlatTerm → List Var → List Var
-with_variables_of [] vars = vars
-with_variables_of (t ∷ ts) vars = with_variables_of ts (with_variables t vars)
-
--- the same from none on
 abbrev pub variables_of_forms : List FlatTerm → List Var
-variables_of_forms ts = with_variables_of ts []
+variables_of_forms ts = with_all_variables (fpack ts) []
 
 -- u is a normal form of t, renamed
 pub record IsRenamedForm (g : Setting) (names : Bindings) (t u : FlatTerm) : Type 0 where
