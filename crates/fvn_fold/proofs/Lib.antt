@@ -9,3 +9,5 @@ mod Outcomes
 mod Turning
 mod Firsts
 mod Takings
+mod Pairs
+mod Chunks

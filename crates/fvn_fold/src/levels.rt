@@ -1,7 +1,8 @@
 //! The next level of a level: its members are expanded, and their children folded into those that are kept.
 ghost use Rattle.std.specs.Prelude.{◌≡◌, ◌≤◌, true, ◌↔◌, IsTrue, IfOk, All, Contains, [], Bool, List};
 ghost use Rattle.fvn_cover.specs.declared.marking.TheConstants.{WORKERS};
-ghost use Rattle.fvn_cover.specs.Covering.{AreAlike, IsFlatVariant};
+ghost use Rattle.fvn_cover.specs.Covering.{CoversVariant, AreAlike, IsFlatVariant};
+ghost use Rattle.fvn_terms.specs.CompleteSets.{IsApart};
 ghost use Rattle.fvn_cover.specs.Marks.{AreComparable, AreMarks};
 ghost use Rattle.fvn_exploring.specs.declared.ends.ExpandEnd.TheVariants.{Whole};
 ghost use Rattle.fvn_fold.specs.Levels.{AreExpansions};
@@ -87,6 +88,7 @@ fn taken(
     requires comparable { AreComparable sig.now kept.now candidates.items }
     requires marks { AreMarks sig.now kept.now candidates.items marks.now }
     requires flat { All (IsFlatVariant sig.now) before.items }
+    requires apart { IsApart (CoversVariant sig.now) before.items }
     requires alike { All (λ a. All (AreAlike a) before.items) candidates.items }
     requires candidates { All (λ a. All (AreAlike a) candidates.items) candidates.items }
     ensures { IfOk result (λ after. AreTaken sig.now kept.now before.items candidates.items after.items) }

@@ -1,0 +1,8 @@
+-- the normal forms so far
+use Rattle.std.proofs.Common.{take}
+use Rattle.std.specs.List.{AllZip}
+use Rattle.fvn_fold.specs.inner.Beginning.{IsRenamedForm}
+use Rattle.fvn_fold.proofs.beginning.rested.Given as goal
+
+abbrev pub invariant-loop-t : goal.invariant-loop-t
+invariant-loop-t l = AllZip (IsRenamedForm (l.E.setting l.expander) l.names) (take l.t-index l.start) l.terms.items
