@@ -104,13 +104,10 @@ module _ (g : Setting) (start : List FlatTerm) (explorable : IsExplorable g star
     f : IsFound g start m.variant
     f = found_at m listed
 
-    abbrev old : Substitution
-    old = substitution m.variant.subst
-
-    one : (t : Term) → ((y : Var) → Occurs y t → OccursInSome y (map plain start)) → IsIrreducible g.declarations g.equations (apply s t) → IsIrreducible g.declarations g.equations (apply by (apply old t))
+    one : (t : Term) → ((y : Var) → Occurs y t → OccursInSome y (map plain start)) → IsIrreducible g.declarations g.equations (apply s t) → IsIrreducible g.declarations g.equations (apply by (apply (substitution m.variant.subst) t))
     one t within irreducible =
-        known.sequences.irreducible (apply s t) (apply by (apply old t))
-        (subst (BEqual g.declarations (apply s t)) (sym (apply-apply old by t)) (equal_by_agreement g.declarations s (followed_by old by) t (λ x o. at.same x ((f.vars.all x).1 (within x o)))))
+        known.sequences.irreducible (apply s t) (apply by (apply (substitution m.variant.subst) t))
+        (subst (BEqual g.declarations (apply s t)) (sym (apply-apply (substitution m.variant.subst) by t)) (equal_by_agreement g.declarations s (followed_by (substitution m.variant.subst) by) t (λ x o. at.same x ((f.vars.all x).1 (within x o)))))
         irreducible
 
   -- the instance of what a member lifts into

@@ -1,5 +1,5 @@
 -- Drawn successors and children are reached from instances of what they come from.
-use Rattle.std.proofs.Common.{◌≡◌, ℕ, zero, suc, ◌+◌, List, [], ◌∷◌, ◌++◌, map, refl, sym, ap, ◌∙◌, subst, inl, inr, arith}
+use Rattle.std.proofs.Common.{◌≡◌, ◌⊎◌, ℕ, zero, suc, ◌+◌, List, [], ◌∷◌, ◌++◌, map, refl, sym, ap, ◌∙◌, subst, inl, inr, arith}
 use Rattle.std.specs.Prelude.{Any}
 use Rattle.std.specs.List.{AllZip, All, Contains}
 use Rattle.std.proofs.lemmas.List.Elements.{All-head, Contains-append_left, Contains-append_right, Contains-append_cases}
@@ -84,7 +84,7 @@ module _ (d : Declarations) (good : IsGood d) (equations : Equations) (known : I
 
   -- what is renamed follows
   module _ (vars : List Var) (v w : Narrowed) (fit : AllFit d v.terms) (h : IsRenamed d vars v w) where
-    terms_and_values : List Term
+    abbrev terms_and_values : List Term
     terms_and_values = map plain v.terms ++ map v.values vars
 
     abbrev renamed_variables : List Var
@@ -97,7 +97,7 @@ module _ (d : Declarations) (good : IsGood d) (equations : Equations) (known : I
 
       go : (t : Term) → Occurs x t → Contains (map plain v.terms) t ⊎ Contains (map v.values vars) t → OccursIn d vars v x
       go t o (inl m) = let w = map_contains plain v.terms t m in inl (w.1.0.0, w.0, w.1.0.1, w.1.0.2, subst (Occurs x) (sym w.1.1) o)
-      go t o (inr m) = let w = map_contains v.values vars t m in inr (w.0, (w.1.0, subst (Occurs x) (sym w.1.1) o))
+      go t o (inr m) = let w = map_contains v.values vars t m in inr (w.0, w.1.0, subst (Occurs x) (sym w.1.1) o)
 
     by_sorted : IsWellSorted d (limited h.by renamed_variables)
     by_sorted = limited_sorted d (OccursIn d vars v) h.by h.renames renamed_variables within

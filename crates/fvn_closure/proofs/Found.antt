@@ -1,6 +1,6 @@
 -- The members of a level run are variants of the start.
-use Rattle.std.proofs.Common.{◌≡◌, ℕ, ◌+◌, Bool, true, false, List, [], ◌∷◌, ◌++◌, map, refl, sym, ap, ◌∙◌, subst, inl, inr}
-use Rattle.std.specs.Prelude.{Any, ◌⊎◌}
+use Rattle.std.proofs.Common.{◌≡◌, ◌⊎◌, ℕ, ◌+◌, Bool, true, false, List, [], ◌∷◌, ◌++◌, map, refl, sym, ap, ◌∙◌, subst, inl, inr}
+use Rattle.std.specs.Prelude.{Any}
 use Rattle.std.specs.List.{AllZip, All, Contains}
 use Rattle.std.proofs.lemmas.List.{append_assoc}
 use Rattle.std.proofs.lemmas.List.Elements.{All-nil, All-push, All-contains, All-append}
@@ -83,30 +83,24 @@ module _ (g : Setting) (start : List FlatTerm) where
       f : Follows g.declarations explorable.good g.equations known v.vars (narrowed v) (narrowed c)
       f = child_follows v c found.member h
 
-      abbrev old : Substitution
-      old = substitution v.subst
-
-      abbrev new : Substitution
-      new = substitution c.subst
-
-      same : (x : Var) → Contains v.vars x → BEqual g.declarations (new x) (apply f.by (old x))
+      same : (x : Var) → Contains v.vars x → BEqual g.declarations ((substitution c.subst) x) (apply f.by ((substitution v.subst) x))
       same = f.same
 
-      sorts : (x : Var) → Contains c.vars x → HasSort g.declarations (new x) x.sort
+      sorts : (x : Var) → Contains c.vars x → HasSort g.declarations ((substitution c.subst) x) x.sort
       sorts x m =
           let here = subst (λ vars. Contains vars x) (sym h.alike.vars) m in
-          let s = HasSort-apply g.declarations f.by f.well_sorted (old x) x.sort (found.variant.well_sorted.1 x) in
+          let s = HasSort-apply g.declarations f.by f.well_sorted ((substitution v.subst) x) x.sort (found.variant.well_sorted.1 x) in
           record { form = s.form; equal = BEqual-trans g.declarations (same x here) s.equal; gets = s.gets }
 
-      moved : ListSequence g.declarations g.equations found.variant.steps (map (apply (followed_by old f.by)) (map plain start)) (map (apply f.by) (map plain v.terms))
-      moved = subst (λ ts. ListSequence g.declarations g.equations found.variant.steps ts (map (apply f.by) (map plain v.terms))) (instances_followed old f.by (map plain start))
-          (known.lists.instances f.by f.well_sorted found.variant.steps (map (apply old) (map plain start)) (map plain v.terms) found.variant.sequence)
+      moved : ListSequence g.declarations g.equations found.variant.steps (map (apply (followed_by (substitution v.subst) f.by)) (map plain start)) (map (apply f.by) (map plain v.terms))
+      moved = subst (λ ts. ListSequence g.declarations g.equations found.variant.steps ts (map (apply f.by) (map plain v.terms))) (instances_followed (substitution v.subst) f.by (map plain start))
+          (known.lists.instances f.by f.well_sorted found.variant.steps (map (apply (substitution v.subst)) (map plain start)) (map plain v.terms) found.variant.sequence)
 
-      whole : ListSequence g.declarations g.equations (found.variant.steps + f.steps) (map (apply new) (map plain start)) (map plain c.terms)
+      whole : ListSequence g.declarations g.equations (found.variant.steps + f.steps) (map (apply (substitution c.subst)) (map plain start)) (map plain c.terms)
       whole =
-          known.rewriting.list_joined found.variant.steps f.steps (map (apply new) (map plain start)) (map (apply f.by) (map plain v.terms)) (map plain c.terms)
-          (list_before g.declarations g.equations known.rewriting found.variant.steps (map (apply (followed_by old f.by)) (map plain start)) (map (apply new) (map plain start)) (map (apply f.by) (map plain v.terms))
-          (each_equal_by_agreement g.declarations (map plain start) new (followed_by old f.by) (λ x o. same x ((found.vars.all x).1 o)))
+          known.rewriting.list_joined found.variant.steps f.steps (map (apply (substitution c.subst)) (map plain start)) (map (apply f.by) (map plain v.terms)) (map plain c.terms)
+          (list_before g.declarations g.equations known.rewriting found.variant.steps (map (apply (followed_by (substitution v.subst) f.by)) (map plain start)) (map (apply (substitution c.subst)) (map plain start)) (map (apply f.by) (map plain v.terms))
+          (each_equal_by_agreement g.declarations (map plain start) (substitution c.subst) (followed_by (substitution v.subst) f.by) (λ x o. same x ((found.vars.all x).1 o)))
           moved)
           f.sequence
 

@@ -108,20 +108,20 @@ module _ (d : Declarations) (f : OpId) (assoc : IsAssociative (axioms d f)) wher
   taking_one t [] [] [] l e = stop
   taking_one t [] [] (o ∷ os) l e = absurd (omega (arith, l))
   taking_one t [] (u ∷ us) others l e = absurd (omega (arith, l))
-  taking_one t (a ∷ as) [] [] l e = absurd (omega (arith, l))
-  taking_one t (a ∷ as) [] (o ∷ os) l e = beside_equal (plain t) e
-  taking_one t (a ∷ as) (u ∷ us) [] l e = beside_equal (plain t) e
-  taking_one t (a ∷ as) (u ∷ us) (o ∷ os) l e = BEqual-trans d (beside_equal (plain t) e) (shifted_back (plain t) (nested f (u ∷ us)) (nested f (o ∷ os)))
+  taking_one t (a ∷ later_ones) [] [] l e = absurd (omega (arith, l))
+  taking_one t (a ∷ later_ones) [] (o ∷ os) l e = beside_equal (plain t) e
+  taking_one t (a ∷ later_ones) (u ∷ us) [] l e = beside_equal (plain t) e
+  taking_one t (a ∷ later_ones) (u ∷ us) (o ∷ os) l e = BEqual-trans d (beside_equal (plain t) e) (shifted_back (plain t) (nested f (u ∷ us)) (nested f (o ∷ os)))
 
   leaving_one : (t : FlatTerm) (all taken others : List FlatTerm) → length all ≡ length taken + length others →
       BEqual d (nested f all) (taken_first f taken others) → BEqual d (nested f (t ∷ all)) (taken_first f taken (t ∷ others))
   leaving_one t [] [] [] l e = stop
   leaving_one t [] [] (o ∷ os) l e = absurd (omega (arith, l))
   leaving_one t [] (u ∷ us) others l e = absurd (omega (arith, l))
-  leaving_one t (a ∷ as) [] [] l e = absurd (omega (arith, l))
-  leaving_one t (a ∷ as) [] (o ∷ os) l e = beside_equal (plain t) e
-  leaving_one t (a ∷ as) (u ∷ us) [] l e = BEqual-trans d (beside_equal (plain t) e) (swapped (plain t) (nested f (u ∷ us)))
-  leaving_one t (a ∷ as) (u ∷ us) (o ∷ os) l e =
+  leaving_one t (a ∷ later_ones) [] [] l e = absurd (omega (arith, l))
+  leaving_one t (a ∷ later_ones) [] (o ∷ os) l e = beside_equal (plain t) e
+  leaving_one t (a ∷ later_ones) (u ∷ us) [] l e = BEqual-trans d (beside_equal (plain t) e) (swapped (plain t) (nested f (u ∷ us)))
+  leaving_one t (a ∷ later_ones) (u ∷ us) (o ∷ os) l e =
       let x = nested f (u ∷ us) in
       let y = nested f (o ∷ os) in
       BEqual-trans d (beside_equal (plain t) e)
@@ -167,9 +167,6 @@ module _ (d : Declarations) (good : IsGood d) (equations : Equations) (laws : Re
   module _ (part new : FlatTerm) (settled : Settled d new) (keeps : (q : SortId) → HasKind d (plain part) q → HasKind d (plain new) q) (step_of : StepUnder (plain part) (plain new)) where
     part_of_sum : (f : OpId) (others : List FlatTerm) (whole : FlatTerm) → Fits d whole → IsPartOfSum f others whole part → StepUnder (plain whole) (plain (build d f (new ∷ others)))
     part_of_sum f others whole h p = go (funpack p.taken) refl where
-      rest : Terms
-      rest = plain_all (fpack others)
-
       is_joined : Settled d (fapp f true p.all)
       is_joined = subst (Settled d) p.is_sum h.flat
 
@@ -184,13 +181,13 @@ module _ (d : Declarations) (good : IsGood d) (equations : Equations) (laws : Re
       go (t ∷ ts) e =
           let part_is : nested f (t ∷ ts) ≡ plain part = ap (nested f) (sym e) ∙ ap (λ (us : FlatTerms). nest_all f (plain_all us)) (fpack-funpack p.taken) ∙ ap plain (sym p.part_is) in
           let whole_is : nested f (funpack p.all) ≡ plain whole = ap (λ (us : FlatTerms). nest_all f (plain_all us)) (fpack-funpack p.all) ∙ ap plain (sym p.is_sum) in
-          let into : BEqual d (nested f (funpack p.all)) (nest f (nested f (t ∷ ts)) rest) = subst (λ l. BEqual d (nested f (funpack p.all)) (taken_first f l others)) e (taken_equal d f assoc p.divided_into) in
-          let before : BEqual d (plain whole) (nest f (plain part) rest) = subst (λ (u : Term). BEqual d (plain whole) (nest f u rest)) part_is (subst (λ u. BEqual d u (nest f (nested f (t ∷ ts)) rest)) whole_is into) in
+          let into : BEqual d (nested f (funpack p.all)) (nest f (nested f (t ∷ ts)) (plain_all (fpack others))) = subst (λ l. BEqual d (nested f (funpack p.all)) (taken_first f l others)) e (taken_equal d f assoc p.divided_into) in
+          let before : BEqual d (plain whole) (nest f (plain part) (plain_all (fpack others))) = subst (λ (u : Term). BEqual d (plain whole) (nest f u (plain_all (fpack others)))) part_is (subst (λ u. BEqual d u (nest f (nested f (t ∷ ts)) (plain_all (fpack others)))) whole_is into) in
           let k = h.kinded.0 in
-          let new_kind = first_of_kind d f assoc good (plain part) (plain new) rest k keeps (b_equal_keeps_kind d good.fits before k h.kinded.1) in
-          let after : BEqual d (nest f (plain new) rest) (plain (build d f (new ∷ others))) = subst (λ c. BEqual d (nest f (plain new) rest) (plain c)) (nest_is_build d f assoc new others settled others_settled) (to_canon d good.fits (nest f (plain new) rest) k new_kind) in
-          let inner : StepUnder (nest f (plain part) rest) (nest f (plain new) rest) = at_place (nest_first {R = StepUnder} f (here step_of) rest) in
-          laws.modulo (apply s (nest f (plain part) rest)) (apply s (plain whole)) (apply s (nest f (plain new) rest)) (apply s (plain (build d f (new ∷ others))))
+          let new_kind = first_of_kind d f assoc good (plain part) (plain new) (plain_all (fpack others)) k keeps (b_equal_keeps_kind d good.fits before k h.kinded.1) in
+          let after : BEqual d (nest f (plain new) (plain_all (fpack others))) (plain (build d f (new ∷ others))) = subst (λ c. BEqual d (nest f (plain new) (plain_all (fpack others))) (plain c)) (nest_is_build d f assoc new others settled others_settled) (to_canon d good.fits (nest f (plain new) (plain_all (fpack others))) k new_kind) in
+          let inner : StepUnder (nest f (plain part) (plain_all (fpack others))) (nest f (plain new) (plain_all (fpack others))) = at_place (nest_first {R = StepUnder} f (here step_of) (plain_all (fpack others))) in
+          laws.modulo (apply s (nest f (plain part) (plain_all (fpack others)))) (apply s (plain whole)) (apply s (nest f (plain new) (plain_all (fpack others)))) (apply s (plain (build d f (new ∷ others))))
           (BEqual-sym d (BEqual-apply d s sorted.0 before))
           inner
           (BEqual-apply d s sorted.0 after)

@@ -1,5 +1,5 @@
 -- The first member of a level run, and the instance of it that a variant is.
-use Rattle.std.proofs.Common.{◌≡◌, ℕ, zero, suc, ◌+◌, ◌≤◌, Bool, true, false, List, [], ◌∷◌, map, refl, sym, ap, ◌∙◌, subst, inl, inr, arith}
+use Rattle.std.proofs.Common.{◌≡◌, ◌⊎◌, ℕ, zero, suc, ◌+◌, ◌≤◌, Bool, true, false, List, [], ◌∷◌, map, refl, sym, ap, ◌∙◌, subst, inl, inr, arith}
 use Rattle.std.specs.List.{AllZip, All, Contains}
 use Rattle.std.proofs.lemmas.List.Elements.{All-contains}
 use Rattle.fvn_base.proofs.Membership.{contains_here, contains_later, contains_cases, contains_none, contains_map}
@@ -89,31 +89,22 @@ module _ (g : Setting) (start : List FlatTerm) (explorable : IsExplorable g star
   module _ (us : List Term) (s : Substitution) (variant : IsVariantOf g start us s) where
     -- the first member has an instance that the start's is brought to
     start_at : (m : Deep) → IsStart g start m.variant → (by : Substitution) × IsAt g start explorable known kept found us s variant m by
-    start_at m h = (by, record { well_sorted = sorted; same = same; steps = h.steps; reached = reached }) where
-      abbrev vars : List Var
-      vars = m.variant.vars
+    start_at m h = ((back h.by s m.variant.vars), record { well_sorted = sorted; same = same; steps = h.steps; reached = reached }) where
+      sorted : IsWellSorted g.declarations (back h.by s m.variant.vars)
+      sorted = back_sorted h.by s m.variant.vars h.renames.one_to_one g.declarations variant.well_sorted h.renames.sorts
 
-      abbrev old : Substitution
-      old = substitution m.variant.subst
+      is : (x : Var) → Contains m.variant.vars x → apply (back h.by s m.variant.vars) ((substitution m.variant.subst) x) ≡ s x
+      is x i = ap (apply (back h.by s m.variant.vars)) (h.renamed x i) ∙ back_renamed h.by s m.variant.vars h.renames.one_to_one m.variant.vars (λ y j. j) x i
 
-      abbrev by : Substitution
-      by = back h.by s vars
-
-      sorted : IsWellSorted g.declarations by
-      sorted = back_sorted h.by s vars h.renames.one_to_one g.declarations variant.well_sorted h.renames.sorts
-
-      is : (x : Var) → Contains vars x → apply by (old x) ≡ s x
-      is x i = ap (apply by) (h.renamed x i) ∙ back_renamed h.by s vars h.renames.one_to_one vars (λ y j. j) x i
-
-      same : (x : Var) → Contains vars x → BEqual g.declarations (s x) (apply by (old x))
+      same : (x : Var) → Contains m.variant.vars x → BEqual g.declarations (s x) (apply (back h.by s m.variant.vars) ((substitution m.variant.subst) x))
       same x i = subst (BEqual g.declarations (s x)) (sym (is x i)) stop
 
-      reached : ListSequence g.declarations g.equations h.steps (map (apply s) (map plain start)) (instance_of by m.variant)
+      reached : ListSequence g.declarations g.equations h.steps (map (apply s) (map plain start)) (instance_of (back h.by s m.variant.vars) m.variant)
       reached =
-          list_before g.declarations g.equations known.rewriting h.steps (map (apply (followed_by old by)) (map plain start)) (map (apply s) (map plain start)) (instance_of by m.variant)
-          (each_equal_by_agreement g.declarations (map plain start) s (followed_by old by) (λ x o. same x ((h.vars.all x).1 o)))
-          (subst (λ ts. ListSequence g.declarations g.equations h.steps ts (instance_of by m.variant)) (instances_followed old by (map plain start))
-          (known.lists.instances by sorted h.steps (map (apply old) (map plain start)) (map plain m.variant.terms) h.reached))
+          list_before g.declarations g.equations known.rewriting h.steps (map (apply (followed_by (substitution m.variant.subst) (back h.by s m.variant.vars))) (map plain start)) (map (apply s) (map plain start)) (instance_of (back h.by s m.variant.vars) m.variant)
+          (each_equal_by_agreement g.declarations (map plain start) s (followed_by (substitution m.variant.subst) (back h.by s m.variant.vars)) (λ x o. same x ((h.vars.all x).1 o)))
+          (subst (λ ts. ListSequence g.declarations g.equations h.steps ts (instance_of (back h.by s m.variant.vars) m.variant)) (instances_followed (substitution m.variant.subst) (back h.by s m.variant.vars) (map plain start))
+          (known.lists.instances (back h.by s m.variant.vars) sorted h.steps (map (apply (substitution m.variant.subst)) (map plain start)) (map plain m.variant.terms) h.reached))
 
     -- a bound of the start's instance is one of the member's
     bounded_at : (k : ℕ) → IsStartWithin g start k s → (m : Deep) (by : Substitution) → IsAt g start explorable known kept found us s variant m by →

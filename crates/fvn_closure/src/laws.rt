@@ -6,6 +6,7 @@ ghost use Rattle.fvn_closure.specs.Laws.{
   ExplorationsAreLawful,
 };
 
+use fvn_exploring::Expander;
 use fvn_rewrite_laws::{
     kinded_theories_are_lawful, lists_are_lawful, rules_are_lawful, sequences_are_lawful,
 };
@@ -19,8 +20,8 @@ pub fn coverings_carry_liftings()
 }
 
 /// A child of a variant of the start is a variant of the start.
-pub fn children_are_variants()
-    ensures { ChildrenAreVariants }
+pub fn children_are_variants<E: Expander>(expander: &E)
+    ensures { ChildrenAreVariants (E.setting expander.now) (E.drawn expander.now) }
 {
     rewriting_is_lawful();
     sequences_are_lawful();
@@ -30,8 +31,8 @@ pub fn children_are_variants()
 }
 
 /// Each member of a level run is a variant of the start; where levels are closed, those that few steps lead to are covered.
-pub fn level_runs_are_lawful()
-    ensures { LevelRunsAreLawful }
+pub fn level_runs_are_lawful<E: Expander>(expander: &E)
+    ensures { LevelRunsAreLawful (E.setting expander.now) (E.drawn expander.now) }
 {
     rewriting_is_lawful();
     sequences_are_lawful();
@@ -41,8 +42,8 @@ pub fn level_runs_are_lawful()
 }
 
 /// Where finitely many variants within the levels suffice, no exploration ends at its levels; a complete one is shortest.
-pub fn explorations_are_lawful()
-    ensures { ExplorationsAreLawful }
+pub fn explorations_are_lawful<E: Expander>(expander: &E)
+    ensures { ExplorationsAreLawful (E.setting expander.now) (E.drawn expander.now) }
 {
     rewriting_is_lawful();
     sequences_are_lawful();

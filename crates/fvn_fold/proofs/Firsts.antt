@@ -200,7 +200,7 @@ module _ (g : Setting) (start : List FlatTerm) (explorable : IsExplorable g star
       let w = form_of start v.terms forms u.0 u.1.0 in
       let f = w.1.1 in
       let z = occurs_value y s (plain f.form) (BEqual-occurs y g.declarations (apply s (plain f.form)) (plain u.0) f.renamed u.1.1) in
-      (z.0, (form_variables w.0 u.0 w.1.0 f z.0 z.1.0, z.1.1))
+      (z.0, form_variables w.0 u.0 w.1.0 f z.0 z.1.0, z.1.1)
 
   numbered : (y : Var) → OccursInValues v.vars s y → y.name < EXPANDED_FRESH
   numbered y h =

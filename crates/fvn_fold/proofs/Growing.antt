@@ -96,14 +96,11 @@ module _ (g : Setting) (drawn : Problem → Substitution → Type 0) (start : Li
     grown_some front = let l = length-append run (map (at_depth (depth + 1)) front) in omega (arith, l, some)
 
     grown_next : (front : List Variant) (w : Variant) → IsLevelRun g drawn start (grown front) → HasPlace w → ((v : Variant) → Contains front v → (CoversVariant g.declarations v w → ⊥) × (CoversVariant g.declarations w v → ⊥)) → IsLevelRun g drawn start (grown (front ++ w ∷ []))
-    grown_next front w h p apart = subst (IsLevelRun g drawn start) (sym (grown_more front w)) (run_push (grown front) new (grown_some front) h parent (λ a m. folds a (Contains-append_cases run (map (at_depth (depth + 1)) front) a m))) where
-      abbrev new : Deep
-      new = at_depth (depth + 1) w
-
-      parent : HasParent g drawn (grown front) new
+    grown_next front w h p apart = subst (IsLevelRun g drawn start) (sym (grown_more front w)) (run_push (grown front) (at_depth (depth + 1) w) (grown_some front) h parent (λ a m. folds a (Contains-append_cases run (map (at_depth (depth + 1)) front) a m))) where
+      parent : HasParent g drawn (grown front) (at_depth (depth + 1) w)
       parent = record { parent = p.parent; listed = Contains-append_left run (map (at_depth (depth + 1)) front) p.parent p.listed; above = ap (λ (n : ℕ). n + 1) p.level; child = p.child }
 
-      folds : (a : Deep) → Contains run a ⊎ Contains (map (at_depth (depth + 1)) front) a → (a.depth ≤ new.depth) × AreFolded g a new
+      folds : (a : Deep) → Contains run a ⊎ Contains (map (at_depth (depth + 1)) front) a → (a.depth ≤ (depth + 1)) × AreFolded g a (at_depth (depth + 1) w)
       folds a (inl l) =
           let low = bound a l in (
             omega (arith, low),
@@ -111,7 +108,7 @@ module _ (g : Setting) (drawn : Problem → Substitution → Type 0) (start : Li
           )
       folds a (inr r) =
           let v = map_contains (at_depth (depth + 1)) front a r in
-          subst (λ b. (b.depth ≤ new.depth) × AreFolded g b new) v.1.1 (omega arith, ((apart v.0 v.1.0).0, λ e. (apart v.0 v.1.0).1))
+          subst (λ b. (b.depth ≤ (depth + 1)) × AreFolded g b (at_depth (depth + 1) w)) v.1.1 (omega arith, ((apart v.0 v.1.0).0, λ e. (apart v.0 v.1.0).1))
 
     grown_on : (front rest : List Variant) → IsLevelRun g drawn start (grown front) → ((w : Variant) → Contains rest w → HasPlace w) → IsApart (CoversVariant g.declarations) (front ++ rest) → IsLevelRun g drawn start (grown (front ++ rest))
     grown_on front [] h place apart = subst (λ l. IsLevelRun g drawn start (grown l)) (sym (append-nil front)) h

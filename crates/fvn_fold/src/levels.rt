@@ -9,9 +9,7 @@ ghost use Rattle.fvn_fold.specs.Levels.{AreExpansions};
 ghost use Rattle.fvn_fold.specs.inner.Gathering.{IsTask, AreReady, IsGatheredFrom, AreTaken, AreNext, IsMoreOfLevel, IsNextLevel};
 
 use crate::expanding::expand_level;
-use fvn_cover::{
-    Gate, Kept, Variant, covering_of_variants_is_a_preorder, marks, with_member,
-};
+use fvn_cover::{Gate, Kept, Variant, covering_of_variants_is_a_preorder, marks, with_member};
 use fvn_exploring::{ExpandEnd, Expander, Expansion, Limits};
 use fvn_signature::Signature;
 use fvn_terms::NoMemory;
@@ -127,7 +125,15 @@ fn chunk_level<R: Threads + Sync, G: Gate, E: Expander>(
     let expansions = expand_level(rt, task.alloc, task.expander, members, workers, gate)?;
     let found = gathered(task.alloc, expansions)?;
     let Gathered { candidates, end } = found;
-    let covered = marks(rt, task.alloc, task.sig, kept, candidates.as_slice(), workers, gate)?;
+    let covered = marks(
+        rt,
+        task.alloc,
+        task.sig,
+        kept,
+        candidates.as_slice(),
+        workers,
+        gate,
+    )?;
     let next = taken(
         task.alloc,
         task.sig,

@@ -56,7 +56,7 @@ abbrev pub IsGatheredFrom : List Expansion → List Variant → ExpandEnd → Ty
 IsGatheredFrom es candidates end =
     (AreWhole es × (candidates ≡ all_children es) × (end ≡ Whole))
     ⊎ ((before : List Expansion) × (e : Expansion) × (after : List Expansion) × (es ≡ before ++ e ∷ after)
-        × (candidates ≡ all_children (before ++ e ∷ [])) × (end ≡ e.end) × (end ≢ Whole))
+    × (candidates ≡ all_children (before ++ e ∷ [])) × (end ≡ e.end) × (end ≢ Whole))
 
 -- Of the candidates that no kept variant covers each is now covered by one that was there or by one of them.
 pub record AreTaken (d : Declarations) (kept before candidates after : List Variant) : Type 0 where
@@ -67,10 +67,10 @@ pub record AreTaken (d : Declarations) (kept before candidates after : List Vari
 
 -- children of the members that no kept variant covers, none covering another
 pub record AreNext (g : Setting) (drawn : Problem → Substitution → Type 0) (kept members next : List Variant) : Type 0
-    where
-  pub children : All (λ w. Any (λ m. IsChild g drawn m w) members) next
-  pub uncovered : All (λ w. IsCoveredBySome g.declarations kept w → ⊥) next
-  pub apart : IsApart (CoversVariant g.declarations) next
+  where
+    pub children : All (λ w. Any (λ m. IsChild g drawn m w) members) next
+    pub uncovered : All (λ w. IsCoveredBySome g.declarations kept w → ⊥) next
+    pub apart : IsApart (CoversVariant g.declarations) next
 
 -- What more members of a level add to the next level.
 pub record IsMoreOfLevel (g : Setting) (drawn : Problem → Substitution → Type 0) (kept members before next : List Variant)

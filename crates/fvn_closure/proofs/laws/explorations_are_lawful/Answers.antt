@@ -4,6 +4,8 @@ use Rattle.fvn_closure.proofs.Ending.{exploration_laws}
 use Rattle.fvn_closure.proofs.laws.explorations_are_lawful.Goals as goal
 
 pub returns : goal.returns
-returns c = λ g drawn start explorable.
-    let known = known_of c.rewriting_is_lawful.ensures c.sequences_are_lawful.ensures c.lists_are_lawful.ensures c.kinded_theories_are_lawful.ensures c.rules_are_lawful.ensures g start explorable in
-    exploration_laws g start explorable known c.covering_is_reflexive_and_transitive.ensures drawn
+returns g c = λ start explorable.
+    let s = g.E.Expander.setting c.args.expander.now in
+    let drawn = g.E.Expander.drawn c.args.expander.now in
+    let known = known_of c.rewriting_is_lawful.ensures c.sequences_are_lawful.ensures c.lists_are_lawful.ensures c.kinded_theories_are_lawful.ensures c.rules_are_lawful.ensures s start explorable in
+    exploration_laws s start explorable known c.covering_is_reflexive_and_transitive.ensures drawn
