@@ -36,13 +36,13 @@ module _ (g : Setting) (drawn : Problem → Substitution → Type 0) (v : Varian
   abbrev pub IsExpandCause : ExpandEnd → Type 0
   IsExpandCause Whole = Unit {0}
   IsExpandCause (Steps start end) =
-    IsStepsCause g drawn (IsNarrowingProblem g v) (IsOfSuccessor g drawn v) start end
+      IsStepsCause g drawn (IsNarrowingProblem g v) (IsOfSuccessor g drawn v) start end
   IsExpandCause (Size cause) =
-    IsSizeCause g drawn (IsNarrowingProblem g v) (IsOfSuccessor g drawn v) cause
+      IsSizeCause g drawn (IsNarrowingProblem g v) (IsOfSuccessor g drawn v) cause
   IsExpandCause (Basis f system) =
-    IsSystemCause g drawn (IsNarrowingProblem g v) (IsOfSuccessor g drawn v) f system
+      IsSystemCause g drawn (IsNarrowingProblem g v) (IsOfSuccessor g drawn v) f system
   IsExpandCause (Unifiers given list) =
-    IsUnifiersCause g drawn (IsNarrowingProblem g v) (IsOfSuccessor g drawn v) given list
+      IsUnifiersCause g drawn (IsNarrowingProblem g v) (IsOfSuccessor g drawn v) given list
 
   -- the end of an expansion has its cause
   abbrev pub HasExpandCause : Expansion → Type 0

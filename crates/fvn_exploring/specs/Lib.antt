@@ -1,4 +1,5 @@
 -- What contracts of explorations speak of.
+pub mod Ends
 pub mod Setting
 pub mod Children
 pub mod Liftings

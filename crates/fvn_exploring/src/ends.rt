@@ -1,4 +1,7 @@
 //! What an expansion and an exploration end with.
+ghost use Rattle.std.specs.Prelude.{◌≡◌};
+ghost use Rattle.fvn_exploring.specs.Ends.{explore_end};
+
 use fvn_base::Seq;
 use fvn_cover::Variant;
 use fvn_flat::{Flat, Pairs, SizeCause, Subst};
@@ -6,7 +9,6 @@ use fvn_lindio::System;
 use fvn_terms::OpId;
 
 /// Why an expansion stopped.
-#[derive(Drop)]
 pub enum ExpandEnd {
     /// Every reducible instance lifts into a child.
     Whole,
@@ -20,15 +22,59 @@ pub enum ExpandEnd {
     Unifiers(Pairs, Seq<Subst>),
 }
 
+impl Drop for ExpandEnd {
+    fn drop(self) {
+        match self {
+            ExpandEnd::Whole => {}
+            ExpandEnd::Steps(_, _) => {}
+            ExpandEnd::Size(_) => {}
+            ExpandEnd::Basis(_, _) => {}
+            ExpandEnd::Unifiers(_, _) => {}
+        }
+    }
+}
+
+impl ExpandEnd {
+    /// The end of an exploration that stops where this expansion did.
+    pub fn into_explore_end(self) -> ExploreEnd
+        ensures { result ≡ explore_end self }
+    {
+        match self {
+            ExpandEnd::Whole => ExploreEnd::Complete,
+            ExpandEnd::Steps(start, end) => ExploreEnd::Steps(start, end),
+            ExpandEnd::Size(cause) => ExploreEnd::Size(cause),
+            ExpandEnd::Basis(f, system) => ExploreEnd::Basis(f, system),
+            ExpandEnd::Unifiers(given, list) => ExploreEnd::Unifiers(given, list),
+        }
+    }
+}
+
 /// What a variant is expanded to.
-#[derive(Drop)]
 pub struct Expansion {
     pub children: Seq<Variant>,
     pub end: ExpandEnd,
 }
 
+impl Drop for Expansion {
+    fn drop(self) {
+        let Expansion {
+            children: _,
+            end: _,
+        } = self;
+    }
+}
+
+impl Expansion {
+    /// The children and the end, each by itself.
+    pub fn into_parts(self) -> (Seq<Variant>, ExpandEnd)
+        ensures { result ≡ (self.children, self.end) }
+    {
+        let Expansion { children, end } = self;
+        (children, end)
+    }
+}
+
 /// Why an exploration stopped.
-#[derive(Drop)]
 pub enum ExploreEnd {
     /// Every variant is covered.
     Complete,
@@ -46,19 +92,64 @@ pub enum ExploreEnd {
     Unifiers(Pairs, Seq<Subst>),
 }
 
+impl Drop for ExploreEnd {
+    fn drop(self) {
+        match self {
+            ExploreEnd::Complete => {}
+            ExploreEnd::Levels(_) => {}
+            ExploreEnd::Variants(_) => {}
+            ExploreEnd::Steps(_, _) => {}
+            ExploreEnd::Size(_) => {}
+            ExploreEnd::Basis(_, _) => {}
+            ExploreEnd::Unifiers(_, _) => {}
+        }
+    }
+}
+
 /// A variant and how many levels below the start it was found.
-#[derive(Drop)]
 pub struct Deep {
     pub variant: Variant,
     pub depth: u32,
 }
 
+impl Drop for Deep {
+    fn drop(self) {
+        let Deep {
+            variant: _,
+            depth: _,
+        } = self;
+    }
+}
+
 /// What an exploration found: all that were kept, level by level, and those that no other one covers.
-#[derive(Drop)]
 pub struct Explored {
     pub kept: Seq<Deep>,
     pub variants: Seq<Variant>,
     pub end: ExploreEnd,
+}
+
+impl Drop for Explored {
+    fn drop(self) {
+        let Explored {
+            kept: _,
+            variants: _,
+            end: _,
+        } = self;
+    }
+}
+
+impl Explored {
+    /// The end alone.
+    pub fn into_end(self) -> ExploreEnd
+        ensures { result ≡ self.end }
+    {
+        let Explored {
+            kept: _,
+            variants: _,
+            end,
+        } = self;
+        end
+    }
 }
 
 fn shared<T: Send + Sync>(_value: &T) {}

@@ -39,5 +39,5 @@ pub trait Expander: Sync {
     fn rest(&self, alloc: Global, t: &Flat) -> Result<Normal, NoMemory>
         requires { Fits (setting self.now).declarations t.now }
         ensures normal { IfOk result (IsRested (setting self.now) t.now) }
-        ensures lawful { AreLawfulIn (setting self.now) };
+        ensures lawful { IfOk result (λ _. AreLawfulIn (setting self.now)) };
 }
