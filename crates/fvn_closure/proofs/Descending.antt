@@ -1,9 +1,7 @@
 -- From a member of a level run down to one that covers: each reducible instance lifts into a member one level below.
-use Rattle.std.proofs.Common.{◌≡◌, ◌⊎◌, ℕ, zero, suc, ◌+◌, ◌≤◌, ◌<◌, List, [], ◌∷◌, get_or, map, refl, sym, ap, ◌∙◌, subst, inl, inr, arith}
-use Rattle.std.specs.Prelude.{Any}
+use Rattle.std.proofs.Common.{◌⊎◌, ℕ, zero, suc, ◌+◌, ◌≤◌, ◌<◌, List, [], ◌∷◌, get_or, map, sym, subst, inl, inr, arith}
 use Rattle.std.specs.List.{AllZip, All, Contains}
-use Rattle.std.proofs.lemmas.List.Elements.{All-nil, All-cons, All-head, All-tail, All-contains, All-weaker, All-from_get_or}
-use Rattle.fvn_base.proofs.Membership.{contains_map}
+use Rattle.std.proofs.lemmas.List.Elements.{All-nil, All-cons, All-head, All-tail, All-contains}
 use Rattle.fvn_terms.specs.declared.plain.Var.{Var}
 use Rattle.fvn_terms.specs.declared.declarations.Declarations.{Declarations}
 use Rattle.fvn_terms.specs.Term.{Term}
@@ -16,7 +14,7 @@ use Rattle.fvn_terms.specs.Theory.{Equations}
 use Rattle.fvn_terms.specs.Rewriting.{ListRewrites, ListSequence, IsReducible, IsIrreducible, IsIrreducibleList, IsConfluent}
 use Rattle.fvn_terms.specs.Variants.{OccursInSome, Covers}
 use Rattle.fvn_terms.proofs.Substitutions.{apply-apply}
-use Rattle.fvn_terms.proofs.Equal.{HasKind-apply, BEqual-sym, BEqual-trans}
+use Rattle.fvn_terms.proofs.Equal.{HasKind-apply, BEqual-trans}
 use Rattle.fvn_forms.specs.Flat.{FlatTerm, plain}
 use Rattle.fvn_flat.specs.Fits.{AllFit}
 use Rattle.fvn_flat.specs.Solving.{substitution}
@@ -24,12 +22,11 @@ use Rattle.fvn_rewrite_laws.specs.Lawful.{AreLawful}
 use Rattle.fvn_rewrite_laws.specs.Lists.{EachHasSequence}
 use Rattle.fvn_rewrite_laws.proofs.Lists.{each_equal_itself}
 use Rattle.fvn_rewrite_laws.proofs.Agreement.{equal_by_agreement}
-use Rattle.fvn_cover.specs.declared.variant.Variant.{Variant}
 use Rattle.fvn_exploring.specs.declared.ends.Deep.{Deep}
 use Rattle.fvn_exploring.specs.Setting.{Setting}
 use Rattle.fvn_exploring.specs.Liftings.{instance_of, value_under, IsLifted, KeepsIrreducible}
 use Rattle.fvn_exploring.specs.Explorations.{IsVariantOf, IsFound}
-use Rattle.fvn_closure.specs.Closing.{IsExplorable, IsKeptWithin, AreClosedBelow}
+use Rattle.fvn_closure.specs.Closing.{IsExplorable, AreClosedBelow}
 use Rattle.fvn_closure.proofs.Known.{IsKnown}
 
 -- instances of forms that fit are well-kinded

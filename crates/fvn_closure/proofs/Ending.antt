@@ -1,33 +1,29 @@
 -- Explorations: what finitely many variants give, and shortest lists.
-use Rattle.std.proofs.Common.{◌≡◌, ℕ, ◌<◌, ◌≤◌, List, [], ◌∷◌, get_or, length, map, refl, sym, ap, ◌∙◌, subst, inl, inr, arith}
-use Rattle.std.specs.Prelude.{Any, AllPairs}
-use Rattle.std.specs.List.{All, Contains}
+use Rattle.std.proofs.Common.{◌≡◌, List, [], ◌∷◌, get_or, map, refl, subst, inr, arith}
+use Rattle.std.specs.Prelude.{Any}
+use Rattle.std.specs.List.{All}
 use Rattle.std.proofs.lemmas.List.Elements.{All-contains, All-map, All-tail, All-weaker, Contains-get_or}
 use Rattle.std.proofs.lemmas.List.Kept.{AllPairs-cons}
 use Rattle.fvn_base.proofs.Membership.{contains_here, contains_later, contains_map}
 use Rattle.fvn_base.proofs.Pigeonhole.{AllPairs-tail, AllPairs-first}
 use Rattle.fvn_terms.specs.declared.plain.Var.{Var}
-use Rattle.fvn_terms.specs.declared.declarations.Declarations.{Declarations}
-use Rattle.fvn_terms.specs.Term.{Term}
 use Rattle.fvn_terms.specs.Substitution.{Substitution}
 use Rattle.fvn_terms.specs.Unifiers.{Problem}
 use Rattle.fvn_terms.specs.Rewriting.{IsTerminating, IsConfluent}
 use Rattle.fvn_terms.specs.Variants.{Covers}
-use Rattle.fvn_terms.specs.CompleteSets.{IsApart, IsCompleteSet, IsShortest}
+use Rattle.fvn_terms.specs.CompleteSets.{IsApart, IsCompleteSet}
 use Rattle.fvn_terms.specs.Laws.{CoveringIsReflexiveAndTransitive}
 use Rattle.fvn_terms.proofs.CompleteSets.{apart_and_complete_is_shortest}
 use Rattle.fvn_forms.specs.Flat.{FlatTerm, plain}
 use Rattle.fvn_flat.specs.Solving.{substitution}
 use Rattle.fvn_cover.specs.declared.variant.Variant.{Variant}
 use Rattle.fvn_cover.specs.Covering.{CoversVariant}
-use Rattle.fvn_cover.specs.Pruning.{IsCoveredBySome}
 use Rattle.fvn_exploring.specs.declared.limits.Limits.{Limits}
-use Rattle.fvn_exploring.specs.declared.ends.Deep.{Deep}
 use Rattle.fvn_exploring.specs.declared.ends.Explored.{Explored}
 use Rattle.fvn_exploring.specs.declared.ends.ExploreEnd.TheVariants.{Complete, Levels}
 use Rattle.fvn_exploring.specs.Setting.{Setting}
-use Rattle.fvn_exploring.specs.LevelRuns.{AreVariablesOf, IsLevelRun}
-use Rattle.fvn_exploring.specs.Explorations.{IsFound, IsVariantOf, IsStartWithin, IsBelowLevel, IsExploreCause, IsExploration}
+use Rattle.fvn_exploring.specs.LevelRuns.{AreVariablesOf}
+use Rattle.fvn_exploring.specs.Explorations.{IsFound, IsBelowLevel, IsExploreCause, IsExploration}
 use Rattle.fvn_closure.specs.Closing.{IsExplorable, Reached, reached_of, IsReachedVariant, IsCoveredBy, IsVariantWithin}
 use Rattle.fvn_closure.specs.Laws.{ExplorationLaws}
 use Rattle.fvn_closure.proofs.Known.{IsKnown}
@@ -51,7 +47,7 @@ module _ (g : Setting) (start : List FlatTerm) (explorable : IsExplorable g star
     found = below_found v below
 
     go : Any (IsCoveredBy g start vars (reached_of v)) list → ⊥
-    go (i, p, l, is, covers) = covered (h.within confluent limits.levels (inr (v, (e, refl))) p.0 p.1 both.0 both.1) where
+    go (i, p, l, is, covers) = covered (h.within confluent limits.levels (inr (v, e, refl)) p.0 p.1 both.0 both.1) where
       both : IsVariantWithin g start limits.levels p
       both = All-contains (IsVariantWithin g start limits.levels) list p within (i, l, is)
 

@@ -1,9 +1,8 @@
 -- Drawn successors and children are reached from instances of what they come from.
-use Rattle.std.proofs.Common.{◌≡◌, ◌⊎◌, ℕ, zero, suc, ◌+◌, List, [], ◌∷◌, ◌++◌, map, refl, sym, ap, ◌∙◌, subst, inl, inr, arith}
-use Rattle.std.specs.Prelude.{Any}
+use Rattle.std.proofs.Common.{◌≡◌, ◌⊎◌, ℕ, ◌+◌, List, [], ◌∷◌, ◌++◌, map, refl, sym, subst, inl, inr}
 use Rattle.std.specs.List.{AllZip, All, Contains}
 use Rattle.std.proofs.lemmas.List.Elements.{All-head, Contains-append_left, Contains-append_right, Contains-append_cases}
-use Rattle.fvn_base.proofs.Membership.{contains_here, contains_later, contains_cases, contains_map, map_contains}
+use Rattle.fvn_base.proofs.Membership.{contains_here, contains_later, contains_map, map_contains}
 use Rattle.fvn_terms.specs.declared.plain.Var.{Var}
 use Rattle.fvn_terms.specs.declared.plain.SortId.{SortId}
 use Rattle.fvn_terms.specs.declared.declarations.Declarations.{Declarations}
@@ -25,14 +24,14 @@ use Rattle.fvn_forms.specs.Good.{IsGood}
 use Rattle.fvn_forms.proofs.Eval.{canon_settled}
 use Rattle.fvn_forms.proofs.KindsKept.{kind_unique, b_equal_keeps_kind}
 use Rattle.fvn_forms.proofs.ToCanon.{to_canon, canon_of_kind}
-use Rattle.fvn_flat.specs.Drawn.{OccursInValues, Renaming, renamed}
+use Rattle.fvn_flat.specs.Drawn.{Renaming, renamed}
 use Rattle.fvn_flat.specs.Fits.{Fits, AllFit}
 use Rattle.fvn_flat.specs.Problems.{variables}
 use Rattle.fvn_flat.specs.FlatPlaces.{with_beside}
-use Rattle.fvn_flat.specs.Successors.{IsRenaming, Narrowed, renamed_form, OccursIn, IsRenamed, IsStepFrom, IsDrawnSuccessor}
+use Rattle.fvn_flat.specs.Successors.{Narrowed, renamed_form, OccursIn, IsRenamed, IsStepFrom, IsDrawnSuccessor}
 use Rattle.fvn_flat.proofs.Fitting.{canon_fits}
 use Rattle.fvn_flat.proofs.VariableLists.{variables_list, variables_occur}
-use Rattle.fvn_rewrite_laws.proofs.Lists.{each_equal_itself, each_equal_on}
+use Rattle.fvn_rewrite_laws.proofs.Lists.{each_equal_itself}
 use Rattle.fvn_closure.proofs.Known.{IsKnown}
 use Rattle.fvn_closure.proofs.Places.{place_fits, placed_step, part_step}
 use Rattle.fvn_closure.proofs.Renamings.{variables_of_all, all_variables, no_other_variables, limited, limited_sorted, limited_renames}

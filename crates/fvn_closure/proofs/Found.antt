@@ -1,21 +1,18 @@
 -- The members of a level run are variants of the start.
-use Rattle.std.proofs.Common.{◌≡◌, ◌⊎◌, ℕ, ◌+◌, Bool, true, false, List, [], ◌∷◌, ◌++◌, map, refl, sym, ap, ◌∙◌, subst, inl, inr}
-use Rattle.std.specs.Prelude.{Any}
-use Rattle.std.specs.List.{AllZip, All, Contains}
+use Rattle.std.proofs.Common.{◌≡◌, ◌⊎◌, ℕ, ◌+◌, Bool, true, false, List, [], ◌∷◌, ◌++◌, map, refl, sym, ◌∙◌, subst, inl, inr}
+use Rattle.std.specs.List.{All, Contains}
 use Rattle.std.proofs.lemmas.List.{append_assoc}
 use Rattle.std.proofs.lemmas.List.Elements.{All-nil, All-push, All-contains, All-append}
 use Rattle.fvn_terms.specs.declared.plain.Var.{Var}
-use Rattle.fvn_terms.specs.Term.{Term, var}
-use Rattle.fvn_terms.specs.Substitution.{Substitution, apply, followed_by, Occurs}
+use Rattle.fvn_terms.specs.Substitution.{Substitution, apply, followed_by}
 use Rattle.fvn_terms.specs.Equality.{BEqual}
 use Rattle.fvn_terms.specs.Sorts.{HasSort, IsWellSorted}
 use Rattle.fvn_terms.specs.Unifiers.{Problem}
 use Rattle.fvn_terms.specs.Rewriting.{ListSequence}
-use Rattle.fvn_terms.proofs.Equal.{BEqual-sym, BEqual-trans}
+use Rattle.fvn_terms.proofs.Equal.{BEqual-trans}
 use Rattle.fvn_terms.proofs.WellSorted.{HasSort-apply}
 use Rattle.fvn_forms.specs.Flat.{FlatTerm, plain}
 use Rattle.fvn_flat.specs.Solving.{substitution}
-use Rattle.fvn_flat.specs.Successors.{Narrowed}
 use Rattle.fvn_flat.specs.Variables.{listed}
 use Rattle.fvn_rewrite_laws.proofs.Lists.{list_before}
 use Rattle.fvn_rewrite_laws.proofs.Listing.{var_listed, listed_var}
@@ -29,7 +26,7 @@ use Rattle.fvn_exploring.specs.Explorations.{IsFound}
 use Rattle.fvn_closure.specs.Closing.{IsExplorable}
 use Rattle.fvn_closure.proofs.Known.{IsKnown}
 use Rattle.fvn_closure.proofs.Renamings.{variable_of_sort}
-use Rattle.fvn_closure.proofs.Following.{Follows, follows_on, successor_follows, instances_followed}
+use Rattle.fvn_closure.proofs.Following.{Follows, successor_follows, instances_followed}
 
 -- listed or not
 listed_or_not : (vars : List Var) (x : Var) → Contains vars x ⊎ (Contains vars x → ⊥)

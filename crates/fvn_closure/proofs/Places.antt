@@ -8,7 +8,7 @@ use Rattle.fvn_terms.specs.Term.{Term, Terms, none, more}
 use Rattle.fvn_terms.specs.Substitution.{Substitution, apply}
 use Rattle.fvn_terms.specs.Signature.{axioms, HasKind}
 use Rattle.fvn_terms.specs.Places.{AtOnePlace, AmongOnePlace, here, inside, first, later, stop, step}
-use Rattle.fvn_terms.specs.Equality.{two, IsCommutative, IsAssociative, BEqual, swap, shift}
+use Rattle.fvn_terms.specs.Equality.{two, IsAssociative, BEqual, swap, shift}
 use Rattle.fvn_terms.specs.Sorts.{IsWellSorted}
 use Rattle.fvn_terms.specs.Theory.{Equations}
 use Rattle.fvn_terms.specs.Rewriting.{Rewrites}

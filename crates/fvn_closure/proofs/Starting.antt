@@ -1,6 +1,6 @@
 -- The first member of a level run, and the instance of it that a variant is.
-use Rattle.std.proofs.Common.{◌≡◌, ◌⊎◌, ℕ, zero, suc, ◌+◌, ◌≤◌, Bool, true, false, List, [], ◌∷◌, map, refl, sym, ap, ◌∙◌, subst, inl, inr, arith}
-use Rattle.std.specs.List.{AllZip, All, Contains}
+use Rattle.std.proofs.Common.{◌≡◌, ◌⊎◌, ℕ, ◌+◌, ◌≤◌, Bool, true, false, List, [], ◌∷◌, map, refl, sym, ap, ◌∙◌, subst, inl, inr, arith}
+use Rattle.std.specs.List.{All, Contains}
 use Rattle.std.proofs.lemmas.List.Elements.{All-contains}
 use Rattle.fvn_base.proofs.Membership.{contains_here, contains_later, contains_cases, contains_none, contains_map}
 use Rattle.fvn_terms.specs.declared.plain.Var.{Var}
@@ -32,7 +32,7 @@ use Rattle.fvn_closure.proofs.Known.{IsKnown}
 use Rattle.fvn_closure.proofs.Renamings.{variable_of_sort, variable_of_kind}
 use Rattle.fvn_closure.proofs.Following.{instances_followed}
 use Rattle.fvn_closure.proofs.Found.{all_found}
-use Rattle.fvn_closure.proofs.Descending.{IsAt, HasLanded, descend, landed_covers, instances_kinded}
+use Rattle.fvn_closure.proofs.Descending.{IsAt, descend, landed_covers, instances_kinded}
 
 -- the variant covers these terms with this substitution
 abbrev CoversReached : Setting → List Term → Substitution → Variant → Type 0

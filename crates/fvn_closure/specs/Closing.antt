@@ -16,8 +16,8 @@ use Rattle.fvn_exploring.specs.Setting.{Setting, AreLawfulIn}
 use Rattle.fvn_exploring.specs.Liftings.{LiftsInto}
 use Rattle.fvn_exploring.specs.Explorations.{IsVariantOf, IsStartWithin}
 
--- A good signature with all that its queries need, lawful equations, a start of forms that fit, and fixed terms over its
--- variables.
+-- A good signature with all that its queries need, lawful equations, a start of forms that fit, and fixed terms over
+-- its variables.
 pub record IsExplorable (g : Setting) (start : List FlatTerm) : Type 0 where
   pub good : IsGood g.declarations
   pub completed : IsCompleted g.declarations

@@ -28,7 +28,8 @@ CoveringsCarryLiftings = (g : Setting) (v c n : Variant) → n.vars ≡ v.vars �
 
 -- a child of a variant of the start is one
 abbrev pub ChildrenAreVariants : Setting → (Problem → Substitution → Type 0) → Type 0
-ChildrenAreVariants g drawn = (start : List FlatTerm) → IsExplorable g start → (v c : Variant) → IsFound g start v → IsChild g drawn v c → IsFound g start c
+ChildrenAreVariants g drawn = (start : List FlatTerm) → IsExplorable g start
+    → (v c : Variant) → IsFound g start v → IsChild g drawn v c → IsFound g start c
 
 -- what is said of the members of a level run
 pub record LevelRunLaws (g : Setting) (start : List FlatTerm) (kept : List Deep) : Type 0 where
@@ -46,7 +47,8 @@ pub record LevelRunLaws (g : Setting) (start : List FlatTerm) (kept : List Deep)
 
 -- in a good signature with lawful equations, for each level run
 abbrev pub LevelRunsAreLawful : Setting → (Problem → Substitution → Type 0) → Type 0
-LevelRunsAreLawful g drawn = (start : List FlatTerm) → IsExplorable g start → (kept : List Deep) → IsLevelRun g drawn start kept → LevelRunLaws g start kept
+LevelRunsAreLawful g drawn = (start : List FlatTerm) → IsExplorable g start
+    → (kept : List Deep) → IsLevelRun g drawn start kept → LevelRunLaws g start kept
 
 -- what is said of an exploration of a start with these variables, where the equations are confluent
 pub record ExplorationLaws (g : Setting) (start : List FlatTerm) (limits : Limits) (x : Explored)
@@ -61,6 +63,7 @@ pub record ExplorationLaws (g : Setting) (start : List FlatTerm) (limits : Limit
 
 -- in a good signature with lawful equations
 abbrev pub ExplorationsAreLawful : Setting → (Problem → Substitution → Type 0) → Type 0
-ExplorationsAreLawful g drawn = (start : List FlatTerm) → IsExplorable g start → IsConfluent g.declarations g.equations → (limits : Limits) (x : Explored)
+ExplorationsAreLawful g drawn = (start : List FlatTerm) → IsExplorable g start
+    → IsConfluent g.declarations g.equations → (limits : Limits) (x : Explored)
     → IsExploration g drawn start limits x → (vars : List Var) → AreVariablesOf start vars
     → ExplorationLaws g start limits x vars

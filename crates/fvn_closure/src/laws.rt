@@ -30,7 +30,7 @@ pub fn children_are_variants<E: Expander>(expander: &E)
     rules_are_lawful();
 }
 
-/// Each member of a level run is a variant of the start; where levels are closed, those that few steps lead to are covered.
+/// Each member of a level run is a variant of the start; closed levels cover those that few steps lead to.
 pub fn level_runs_are_lawful<E: Expander>(expander: &E)
     ensures { LevelRunsAreLawful (E.setting expander.now) (E.drawn expander.now) }
 {
@@ -41,7 +41,7 @@ pub fn level_runs_are_lawful<E: Expander>(expander: &E)
     rules_are_lawful();
 }
 
-/// Where finitely many variants within the levels suffice, no exploration ends at its levels; a complete one is shortest.
+/// Where finitely many variants suffice, no exploration ends at its levels; a complete one is shortest.
 pub fn explorations_are_lawful<E: Expander>(expander: &E)
     ensures { ExplorationsAreLawful (E.setting expander.now) (E.drawn expander.now) }
 {

@@ -18,7 +18,7 @@ use Rattle.fvn_exploring.specs.Setting.{Setting}
 use Rattle.fvn_exploring.specs.Causes.{IsSizeCause, IsOfSuccessor, IsNarrowingProblem}
 use Rattle.fvn_exploring.specs.Expansions.{IsExpandCause}
 use Rattle.fvn_exploring.specs.Explorations.{IsPosed, IsTold, IsExploreCause}
-use Rattle.fvn_fold.specs.inner.Running.{explore_end}
+use Rattle.fvn_exploring.specs.Ends.{explore_end}
 use Rattle.fvn_fold.proofs.Gathers.{any_member}
 
 module _ (g : Setting) (drawn : Problem → Substitution → Type 0) (start : List FlatTerm) (kept : List Deep) (m : Deep) (listed : Contains kept m) where

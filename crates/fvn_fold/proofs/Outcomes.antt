@@ -33,7 +33,7 @@ pruned_listed d given kept h v m =
     let i = filter_contains (λ (c : Variant × Bool). c.1) h.choices c.0 c.1.0 in
     subst (λ l. Contains l v) h.whole (subst (Contains (map (λ (c : Variant × Bool). c.0) h.choices)) c.1.1 (contains_map (λ (c : Variant × Bool). c.0) h.choices c.0 i.0))
 
-module _ (g : Setting) (drawn : Problem → Substitution → Type 0) (start : List FlatTerm) (explorable : IsExplorable g start) (laws : LevelRunsAreLawful) (order : CoveringIsReflexiveAndTransitive) (limits : Limits) (x : Explored) where
+module _ (g : Setting) (drawn : Problem → Substitution → Type 0) (start : List FlatTerm) (explorable : IsExplorable g start) (laws : LevelRunsAreLawful g drawn) (order : CoveringIsReflexiveAndTransitive) (limits : Limits) (x : Explored) where
   -- what is known of what was explored
   pub record IsOutcome : Type 0 where
     pub run : IsLevelRun g drawn start x.kept
@@ -47,7 +47,7 @@ module _ (g : Setting) (drawn : Problem → Substitution → Type 0) (start : Li
 
   module _ (h : IsOutcome) where
     run_laws : LevelRunLaws g start x.kept
-    run_laws = laws g drawn start explorable x.kept h.run
+    run_laws = laws start explorable x.kept h.run
 
     kept_found : (v : Variant) → Contains (variants_of x.kept) v → IsFound g start v
     kept_found v i = let m = map_contains (λ (m : Deep). m.variant) x.kept v i in subst (IsFound g start) m.1.1 (run_laws.found m.0 m.1.0)

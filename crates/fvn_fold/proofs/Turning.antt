@@ -20,6 +20,7 @@ use Rattle.fvn_exploring.specs.declared.ends.ExpandEnd.{ExpandEnd}
 use Rattle.fvn_exploring.specs.declared.ends.ExpandEnd.TheVariants.{Whole, Steps, Size, Basis, Unifiers}
 use Rattle.fvn_exploring.specs.declared.ends.ExploreEnd.{ExploreEnd}
 use Rattle.fvn_exploring.specs.declared.ends.ExploreEnd.TheVariants.{Complete, Levels, Variants}
+use Rattle.fvn_exploring.specs.Ends.{explore_end}
 use Rattle.fvn_exploring.specs.Setting.{Setting}
 use Rattle.fvn_exploring.specs.Children.{IsMember, IsChild}
 use Rattle.fvn_exploring.specs.Expansions.{IsExpandCause}
@@ -28,7 +29,7 @@ use Rattle.fvn_exploring.specs.Explorations.{variants_of, IsDeeper, IsBelowLevel
 use Rattle.fvn_closure.specs.Closing.{IsExplorable, AreClosedBelow}
 use Rattle.fvn_closure.specs.Laws.{CoveringsCarryLiftings, LevelRunsAreLawful}
 use Rattle.fvn_fold.specs.inner.Gathering.{AreReady, AreNext, IsNextLevel}
-use Rattle.fvn_fold.specs.inner.Running.{at_depth, LevelLists, deep_of, with_next, explore_end, IsExploredTo, IsEndAtLevels, IsEndOfLast, IsEndFull, IsEndBelow, IsEnded}
+use Rattle.fvn_fold.specs.inner.Running.{at_depth, LevelLists, deep_of, with_next, IsExploredTo, IsEndAtLevels, IsEndOfLast, IsEndFull, IsEndBelow, IsEnded}
 use Rattle.fvn_fold.proofs.Gathers.{all_members, member_of_any, any_member}
 use Rattle.fvn_fold.proofs.Nexts.{child_member, child_like}
 use Rattle.fvn_fold.proofs.Growing.{HasPlace, pairs_front, run_grown}
@@ -143,7 +144,7 @@ module _ (g : Setting) (drawn : Problem → Substitution → Type 0) (start : Li
     member v (inl m) = All-contains (IsMember g) r.kept v ready.members m
     member v (inr m) = child_member g r.kept ready drawn r.members v (child v m)
 
-  module _ (explorable : IsExplorable g start) (laws : LevelRunsAreLawful) (order : CoveringIsReflexiveAndTransitive) (few : length r.kept ≤ limits.variants) (within : depth ≤ limits.levels) (x : Explored) where
+  module _ (explorable : IsExplorable g start) (laws : LevelRunsAreLawful g drawn) (order : CoveringIsReflexiveAndTransitive) (few : length r.kept ≤ limits.variants) (within : depth ≤ limits.levels) (x : Explored) where
     abbrev Outcome : Type 0
     Outcome = IsOutcome g drawn start explorable laws order limits x
 

@@ -6,7 +6,7 @@ ghost use Rattle.fvn_exploring.specs.LevelRuns.{IsStart};
 ghost use Rattle.fvn_exploring.specs.Setting.{AreLawfulIn};
 ghost use Rattle.fvn_fold.specs.Starts.{IsStartable, IsSettingIn};
 ghost use Rattle.fvn_fold.specs.inner.Gathering.{IsTask};
-ghost use Rattle.fvn_fold.specs.inner.Running.{lists_of, explore_end, AreKept, IsEndedAtLast, IsEndFull, IsTurned};
+ghost use Rattle.fvn_fold.specs.inner.Running.{lists_of, AreKept, IsEndedAtLast, IsEndFull, IsTurned};
 
 use crate::beginning::{Begun, begin};
 use crate::levels::{Level, Task, is_whole, next_level};
@@ -14,10 +14,10 @@ use crate::runs::{Run, finish, first_run, with_level};
 use fvn_base::Seq;
 use fvn_closure::{coverings_carry_liftings, level_runs_are_lawful};
 use fvn_cover::{Gate, Kept, Variant};
-use fvn_exploring::{ExpandEnd, Expander, ExploreEnd, Explored, Limits};
+use fvn_exploring::{Expander, ExploreEnd, Explored, Limits};
 use fvn_flat::Flat;
 use fvn_signature::Signature;
-use fvn_terms::NoMemory;
+use fvn_terms::{NoMemory, covering_is_reflexive_and_transitive};
 use std::alloc::Global;
 use std::thread::Threads;
 
@@ -26,19 +26,6 @@ use std::thread::Threads;
 enum Turn {
     On(Run),
     Done(Explored),
-}
-
-// The end of an exploration that an end of an expansion is.
-fn ended(end: ExpandEnd) -> ExploreEnd
-    ensures { result ≡ explore_end end }
-{
-    match end {
-        ExpandEnd::Whole => ExploreEnd::Complete,
-        ExpandEnd::Steps(from, to) => ExploreEnd::Steps(from, to),
-        ExpandEnd::Size(cause) => ExploreEnd::Size(cause),
-        ExpandEnd::Basis(f, system) => ExploreEnd::Basis(f, system),
-        ExpandEnd::Unifiers(given, list) => ExploreEnd::Unifiers(given, list),
-    }
 }
 
 // What was explored, where the last level of the run is the last that is allowed, and this would be the next one.
@@ -57,7 +44,7 @@ fn at_last(
     let Level { next, end } = level;
     let mut left = next;
     if left.is_empty() {
-        let x = finish(alloc, sig, run, depth, ended(end))?;
+        let x = finish(alloc, sig, run, depth, end.into_explore_end())?;
         return Ok(x);
     }
     let v = left.remove(0).into_variant();
@@ -111,7 +98,7 @@ fn next_turn(
             return Ok(Turn::On(more));
         }
     }
-    let x = finish(alloc, sig, more, depth + 1, ended(end))?;
+    let x = finish(alloc, sig, more, depth + 1, end.into_explore_end())?;
     Ok(Turn::Done(x))
 }
 
@@ -160,7 +147,8 @@ fn levels<R: Threads + Sync, G: Gate, E: Expander>(
         task.now.limits) }
 {
     coverings_carry_liftings();
-    level_runs_are_lawful();
+    level_runs_are_lawful(task.expander);
+    covering_is_reflexive_and_transitive();
     let mut run = first_run(task.alloc, task.sig, first)?;
     let mut depth = 0;
     loop {

@@ -61,7 +61,7 @@ fn gathered(alloc: Global, expansions: Vec<Expansion>) -> Result<Gathered, NoMem
 {
     let mut candidates = Vec::new(alloc);
     for expansion in expansions {
-        let Expansion { children, end } = expansion;
+        let (children, end) = expansion.into_parts();
         let mut more = children.into_vec();
         candidates.append(&mut more)?;
         if !is_whole(&end) {

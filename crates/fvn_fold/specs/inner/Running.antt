@@ -10,10 +10,10 @@ use Rattle.fvn_cover.specs.Pruning.{IsPruned}
 use Rattle.fvn_exploring.specs.declared.limits.Limits.{Limits}
 use Rattle.fvn_exploring.specs.declared.ends.Deep.{Deep}
 use Rattle.fvn_exploring.specs.declared.ends.ExpandEnd.{ExpandEnd}
-use Rattle.fvn_exploring.specs.declared.ends.ExpandEnd.TheVariants.{Whole, Steps as ExpandSteps, Size as ExpandSize, Basis as ExpandBasis, Unifiers as ExpandUnifiers}
+use Rattle.fvn_exploring.specs.declared.ends.ExpandEnd.TheVariants.{Whole}
 use Rattle.fvn_exploring.specs.declared.ends.Explored.{Explored}
-use Rattle.fvn_exploring.specs.declared.ends.ExploreEnd.{ExploreEnd}
-use Rattle.fvn_exploring.specs.declared.ends.ExploreEnd.TheVariants.{Complete, Levels, Variants, Steps, Size, Basis, Unifiers}
+use Rattle.fvn_exploring.specs.declared.ends.ExploreEnd.TheVariants.{Levels, Variants}
+use Rattle.fvn_exploring.specs.Ends.{explore_end}
 use Rattle.fvn_exploring.specs.Setting.{Setting}
 use Rattle.fvn_exploring.specs.LevelRuns.{IsLevelRun}
 use Rattle.fvn_exploring.specs.Explorations.{variants_of}
@@ -44,14 +44,6 @@ deep_of r depth = r.done ++ map (at_depth depth) r.members
 -- the run with one more level below this one
 abbrev pub with_next : LevelLists → ℕ → List Variant → LevelLists
 with_next r depth next = record { done = deep_of r depth; members = next; kept = r.kept ++ next }
-
--- the end of an exploration that an end of an expansion is
-abbrev pub explore_end : ExpandEnd → ExploreEnd
-explore_end Whole = Complete
-explore_end (ExpandSteps from to) = Steps from to
-explore_end (ExpandSize cause) = Size cause
-explore_end (ExpandBasis f system) = Basis f system
-explore_end (ExpandUnifiers given list) = Unifiers given list
 
 -- What is known of a run whose last level is this one: it is a level run, all levels above its last are closed, and the
 -- three lists fit.

@@ -5,4 +5,4 @@ use Rattle.fvn_fold.specs.inner.Beginning.{IsRenamedForm}
 use Rattle.fvn_fold.proofs.beginning.rested.Given as goal
 
 abbrev pub invariant-loop-t : goal.invariant-loop-t
-invariant-loop-t l = AllZip (IsRenamedForm (l.E.setting l.expander) l.names) (take l.t-index l.start) l.terms.items
+invariant-loop-t g l = AllZip (IsRenamedForm (g.E.Expander.setting l.expander) l.names) (take l.t-index l.start) l.terms.items

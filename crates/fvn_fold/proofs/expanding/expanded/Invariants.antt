@@ -4,4 +4,4 @@ use Rattle.fvn_fold.specs.Levels.{AreExpansions}
 use Rattle.fvn_fold.proofs.expanding.expanded.Given as goal
 
 abbrev pub invariant-loop-v : goal.invariant-loop-v
-invariant-loop-v l = AreExpansions (l.E.setting l.expander) (l.E.drawn l.expander) (take l.v-index l.members) l.es.items
+invariant-loop-v g l = AreExpansions (g.E.Expander.setting l.expander) (g.E.Expander.drawn l.expander) (take l.v-index l.members) l.es.items

@@ -6,4 +6,4 @@ use Rattle.fvn_fold.proofs.Chunks.{ChunkFacts, chunk_facts}
 use Rattle.fvn_fold.proofs.levels.chunk_level.Goals as goal
 
 pub expand_level-requires-clause-members : goal.expand_level-requires-clause-members
-expand_level-requires-clause-members c = kept_expandable (c.E.setting c.args.task.now.expander.now) c.args.kept.now c.requires.ready c.requires.task.setting.none_fixed c.args.members.now c.requires.members
+expand_level-requires-clause-members g c = kept_expandable (g.E.Expander.setting c.args.task.now.expander.now) c.args.kept.now c.requires.ready c.requires.task.setting.none_fixed c.args.members.now c.requires.members

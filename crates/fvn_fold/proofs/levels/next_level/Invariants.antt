@@ -5,4 +5,4 @@ use Rattle.fvn_fold.specs.inner.Gathering.{IsNextLevel}
 use Rattle.fvn_fold.proofs.levels.next_level.Given as goal
 
 abbrev pub invariant-loop : goal.invariant-loop
-invariant-loop l = (l.begin ≤ length l.members) × IsNextLevel (l.E.setting l.task.expander) (l.E.drawn l.task.expander) l.kept (take l.begin l.members) l.next.items Whole
+invariant-loop g l = (l.begin ≤ length l.members) × IsNextLevel (g.E.Expander.setting l.task.expander) (g.E.Expander.drawn l.task.expander) l.kept (take l.begin l.members) l.next.items Whole
