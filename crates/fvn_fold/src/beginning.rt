@@ -41,7 +41,7 @@ fn variables(alloc: Global, start: &[Flat]) -> Result<Vec<Var>, NoMemory>
 }
 
 // The normal forms of the terms as they are given, each then renamed.
-fn rested<E: Expander>(
+fn rest_all<E: Expander>(
     alloc: Global,
     sig: &Signature,
     expander: &E,
@@ -86,7 +86,7 @@ pub(crate) fn begin<E: Expander>(
         return Err(NoMemory);
     }
     let (names, _) = fresh_variables(alloc, vars.as_slice(), 0)?;
-    match rested(alloc, sig, expander, start, &names)? {
+    match rest_all(alloc, sig, expander, start, &names)? {
         Rested::Forms(terms) => Ok(Begun::Start(Variant {
             terms: Seq::from_vec(terms),
             subst: names,

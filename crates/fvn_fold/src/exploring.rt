@@ -103,7 +103,7 @@ fn next_turn(
 }
 
 // The run with the next level, or what was explored where none follows.
-fn turn(
+fn after_level(
     alloc: Global,
     sig: &Signature,
     limits: Limits,
@@ -153,7 +153,7 @@ fn levels<R: Threads + Sync, G: Gate, E: Expander>(
     let mut depth = 0;
     loop {
         let level = next_level(rt, task, gate, run.kept.as_slice(), run.members.as_slice())?;
-        match turn(task.alloc, task.sig, task.limits, run, depth, level)? {
+        match after_level(task.alloc, task.sig, task.limits, run, depth, level)? {
             Turn::Done(x) => return Ok(x),
             Turn::On(more) => {
                 run = more;

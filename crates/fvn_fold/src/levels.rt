@@ -56,7 +56,7 @@ pub(crate) fn is_whole(end: &ExpandEnd) -> bool
 }
 
 // The children of all expansions, up to the first whose end is not Whole.
-fn gathered(alloc: Global, expansions: Vec<Expansion>) -> Result<Gathered, NoMemory>
+fn gather(alloc: Global, expansions: Vec<Expansion>) -> Result<Gathered, NoMemory>
     ensures { IfOk result (λ r. IsGatheredFrom expansions.items r.candidates.items r.end) }
 {
     let mut candidates = Vec::new(alloc);
@@ -123,7 +123,7 @@ fn chunk_level<R: Threads + Sync, G: Gate, E: Expander>(
 {
     let workers = task.limits.workers;
     let expansions = expand_level(rt, task.alloc, task.expander, members, workers, gate)?;
-    let found = gathered(task.alloc, expansions)?;
+    let found = gather(task.alloc, expansions)?;
     let Gathered { candidates, end } = found;
     let covered = marks(
         rt,
