@@ -11,3 +11,5 @@ mod Firsts
 mod Takings
 mod Pairs
 mod Chunks
+mod Begins
+mod Rounds
