@@ -1,10 +1,10 @@
 -- How an exploration begins: its first forms, its first run, and what ends before there is one.
 use Rattle.std.proofs.Common.{◌≡◌, ◌⊎◌, ℕ, ◌+◌, ◌-◌, ◌^◌, ◌<◌, ◌≤◌, List, [], ◌∷◌, ◌++◌, length, get_or, take, map, refl, sym, ap, ◌∙◌, subst, inl, inr, arith}
-use Rattle.std.specs.Prelude.{min, Bool, All, AllPairs, Any, Contains}
+use Rattle.std.specs.Prelude.{min, All, Any, Contains}
 use Rattle.std.specs.List.{AllZip}
 use Rattle.std.proofs.lemmas.List.{take_more, length-append}
 use Rattle.std.proofs.lemmas.List.Elements.{All-nil}
-use Rattle.fvn_base.proofs.Membership.{contains_here, contains_cases, contains_none}
+use Rattle.fvn_base.proofs.Membership.{contains_cases, contains_none}
 use Rattle.fvn_terms.specs.declared.plain.Var.{Var}
 use Rattle.fvn_terms.specs.declared.declarations.Declarations.{Declarations}
 use Rattle.fvn_terms.specs.Substitution.{Substitution, Occurs}
@@ -29,7 +29,7 @@ use Rattle.fvn_exploring.specs.declared.ends.ExploreEnd.TheVariants.{Complete, L
 use Rattle.fvn_exploring.specs.Setting.{Setting, AreLawfulIn}
 use Rattle.fvn_exploring.specs.Children.{IsMember}
 use Rattle.fvn_exploring.specs.Causes.{IsStepsCause, IsSizeCause}
-use Rattle.fvn_exploring.specs.LevelRuns.{IsStart, HasParent, AreFolded, IsLevelRun}
+use Rattle.fvn_exploring.specs.LevelRuns.{IsStart, IsLevelRun}
 use Rattle.fvn_exploring.specs.Explorations.{variants_of, IsPosed, IsTold, IsFound, IsExploreCause, ReachesPast, IsExploration}
 use Rattle.fvn_closure.specs.Closing.{IsExplorable}
 use Rattle.fvn_fold.specs.Starts.{IsStartable, IsSettingIn}

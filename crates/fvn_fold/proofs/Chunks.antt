@@ -1,5 +1,5 @@
 -- What is asked and got where some members of a level are expanded.
-use Rattle.std.proofs.Common.{◌≡◌, ◌⊎◌, ℕ, zero, suc, ◌+◌, ◌-◌, ◌<◌, ◌≤◌, List, [], ◌∷◌, ◌++◌, length, take, drop, refl, sym, ap, ◌∙◌, subst, inl, inr, arith}
+use Rattle.std.proofs.Common.{◌≡◌, ℕ, zero, suc, ◌+◌, ◌-◌, ◌≤◌, List, [], ◌∷◌, ◌++◌, length, take, drop, refl, sym, ap, ◌∙◌, subst, arith}
 use Rattle.std.specs.Prelude.{All, Any, Contains}
 use Rattle.std.proofs.lemmas.List.{take_all, take-append-drop}
 use Rattle.std.proofs.lemmas.List.Elements.{All-contains, All-take}
@@ -15,13 +15,15 @@ use Rattle.fvn_exploring.specs.declared.ends.ExpandEnd.TheVariants.{Whole}
 use Rattle.fvn_exploring.specs.Setting.{Setting}
 use Rattle.fvn_exploring.specs.Children.{IsChild}
 use Rattle.fvn_fold.specs.inner.Gathering.{AreReady, AreGathered, AreTaken, AreNext, IsMoreOfLevel, IsNextLevel}
-use Rattle.fvn_fold.specs.inner.Running.{AreKept}
 use Rattle.fvn_fold.proofs.Gathers.{all_members, any_member, member_of_any}
-use Rattle.fvn_fold.proofs.Nexts.{kept_member, kept_like, child_member, child_like, all_alike, comparable, more_taken, more_next, cut_next}
+use Rattle.fvn_fold.proofs.Nexts.{child_member, child_like, all_alike, comparable, more_taken, more_next, cut_next}
 
 -- a list in two parts
 module _ {A : Type 0} where
-  take_none : (n : ℕ) → take n ([] {A}) ≡ []
+  abbrev none_of : List A
+  none_of = []
+
+  take_none : (n : ℕ) → take n none_of ≡ none_of
   take_none zero = refl
   take_none (suc n) = refl
 

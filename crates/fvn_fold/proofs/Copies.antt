@@ -1,9 +1,9 @@
 -- Lists of a run, as its variants are copied.
-use Rattle.std.proofs.Common.{◌≡◌, ℕ, List, [], ◌∷◌, ◌++◌, map, refl, sym, ap, ◌∙◌}
+use Rattle.std.proofs.Common.{◌≡◌, ℕ, List, [], ◌∷◌, ◌++◌, map, sym, ap, ◌∙◌}
 use Rattle.std.proofs.lemmas.List.{append_assoc, map-append}
 use Rattle.fvn_cover.specs.declared.variant.Variant.{Variant}
 use Rattle.fvn_exploring.specs.declared.ends.Deep.{Deep}
-use Rattle.fvn_fold.specs.inner.Running.{at_depth, LevelLists, deep_of, with_next}
+use Rattle.fvn_fold.specs.inner.Running.{at_depth, with_next}
 
 -- one more of a level
 pub depth_more : (done all : List Deep) (depth : ℕ) (seen : List Variant) (v : Variant) → all ≡ done ++ map (at_depth depth) seen → all ++ at_depth depth v ∷ [] ≡ done ++ map (at_depth depth) (seen ++ v ∷ [])

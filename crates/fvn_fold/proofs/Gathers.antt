@@ -69,18 +69,21 @@ all_children_more [] e = append-nil e.children
 all_children_more (z ∷ es) e = ap (λ l. z.children ++ l) (all_children_more es e) ∙ sym (append_assoc z.children (all_children es) e.children)
 
 -- the two parts of an expansion
-abbrev Parts : Type 0
+abbrev pub Parts : Type 0
 Parts = List Variant × ExpandEnd
 
-pub gathered_more : (es : List Expansion) (e : Expansion) (candidates children : List Variant) (end : ExpandEnd) → (children, end) ≡ (e.children, e.end) → candidates ≡ all_children es → candidates ++ children ≡ all_children (es ++ e ∷ [])
+abbrev pub IsPartsOf : Expansion → Parts → Type 0
+IsPartsOf e p = ◌≡◌ {A = Parts} p (e.children, e.end)
+
+pub gathered_more : (es : List Expansion) (e : Expansion) (candidates children : List Variant) (end : ExpandEnd) → IsPartsOf e (children, end) → candidates ≡ all_children es → candidates ++ children ≡ all_children (es ++ e ∷ [])
 gathered_more es e candidates children end parts h = ap (λ l. l ++ children) h ∙ ap (λ (p : Parts). all_children es ++ p.0) parts ∙ sym (all_children_more es e)
 
-pub whole_more : (es : List Expansion) (e : Expansion) (children : List Variant) (end : ExpandEnd) → (children, end) ≡ (e.children, e.end) → end ≡ Whole → AreWhole es → AreWhole (es ++ e ∷ [])
+pub whole_more : (es : List Expansion) (e : Expansion) (children : List Variant) (end : ExpandEnd) → IsPartsOf e (children, end) → end ≡ Whole → AreWhole es → AreWhole (es ++ e ∷ [])
 whole_more es e children end parts w h = All-push (λ (e : Expansion). e.end ≡ Whole) es e h (sym (ap (λ (p : Parts). p.1) parts) ∙ w)
 
 -- the first that is not whole
 pub gathered_here : (all before : List Expansion) (e : Expansion) (candidates children : List Variant) (end : ExpandEnd) → before ≡ take (length before) all → length before < length all → e ≡ get_or all (length before) e →
-    (children, end) ≡ (e.children, e.end) → candidates ≡ all_children before → (end ≡ Whole → ⊥) → IsGatheredFrom all (candidates ++ children) end
+    IsPartsOf e (children, end) → candidates ≡ all_children before → (end ≡ Whole → ⊥) → IsGatheredFrom all (candidates ++ children) end
 gathered_here all before e candidates children end so_far l is parts h not =
     inr (before, e, drop (length before + 1) all, split, gathered_more before e candidates children end parts h, ap (λ (p : Parts). p.1) parts, not)
   where

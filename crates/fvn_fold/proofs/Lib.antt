@@ -13,3 +13,4 @@ mod Pairs
 mod Chunks
 mod Begins
 mod Rounds
+mod Copies

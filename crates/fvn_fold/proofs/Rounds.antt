@@ -1,5 +1,5 @@
 -- What the calls of one round ask of a run and of its next level.
-use Rattle.std.proofs.Common.{◌≡◌, ◌⊎◌, ℕ, zero, suc, ◌+◌, ◌-◌, ◌<◌, ◌≤◌, List, [], ◌∷◌, ◌++◌, length, get_or, take, drop, map, refl, sym, ap, ◌∙◌, subst, inl, inr, arith}
+use Rattle.std.proofs.Common.{◌≡◌, ℕ, zero, suc, ◌+◌, ◌<◌, ◌≤◌, List, [], ◌∷◌, ◌++◌, length, get_or, take, drop, refl, sym, ap, ◌∙◌, subst, inl, inr, arith}
 use Rattle.std.specs.Prelude.{◌↔◌, ◌==◌, Bool, true, false, not, IsTrue, Vec, vec_len, All, Any, Contains}
 use Rattle.std.proofs.lemmas.Bool.{false≢true}
 use Rattle.std.proofs.lemmas.Bool.Decides.{nat_tests}
@@ -17,8 +17,8 @@ use Rattle.fvn_exploring.specs.declared.ends.ExpandEnd.TheVariants.{Whole}
 use Rattle.fvn_exploring.specs.Setting.{Setting}
 use Rattle.fvn_exploring.specs.Children.{IsMember, IsChild}
 use Rattle.fvn_closure.specs.Laws.{CoveringsCarryLiftings}
-use Rattle.fvn_fold.specs.inner.Gathering.{AreReady, IsNextLevel}
-use Rattle.fvn_fold.specs.inner.Running.{at_depth, LevelLists, with_next, IsExploredTo, AreKept, IsOverOrWhole, GoesOn}
+use Rattle.fvn_fold.specs.inner.Gathering.{IsNextLevel}
+use Rattle.fvn_fold.specs.inner.Running.{at_depth, LevelLists, IsExploredTo, AreKept, IsOverOrWhole, GoesOn}
 use Rattle.fvn_fold.proofs.Gathers.{all_members}
 use Rattle.fvn_fold.proofs.Nexts.{kept_member, kept_like, child_member, child_like, all_alike}
 use Rattle.fvn_fold.proofs.Closed.{deep_kept, member_deep}

@@ -1,6 +1,6 @@
 -- One more candidate, marked or taken.
-use Rattle.std.proofs.Common.{◌≡◌, ◌⊎◌, ℕ, zero, suc, ◌+◌, ◌<◌, Bool, true, false, List, [], ◌∷◌, ◌++◌, length, get_or, take, refl, sym, ◌∙◌, subst, inl, inr, arith}
-use Rattle.std.specs.Prelude.{◌↔◌, All, Any, Contains, IsTrue}
+use Rattle.std.proofs.Common.{◌≡◌, ◌⊎◌, ℕ, zero, suc, ◌<◌, Bool, true, false, List, [], ◌∷◌, ◌++◌, length, get_or, take, refl, sym, subst, inl, inr, arith}
+use Rattle.std.specs.Prelude.{◌↔◌, All, Contains, IsTrue}
 use Rattle.std.specs.List.{AllZip}
 use Rattle.std.proofs.lemmas.Bool.{false≢true}
 use Rattle.std.proofs.lemmas.List.Elements.{All-nil, All-push, All-contains, All-take, Contains-append_left, Contains-push}
@@ -12,7 +12,6 @@ use Rattle.fvn_cover.specs.Pruning.{IsCoveredBySome}
 use Rattle.fvn_cover.specs.Adding.{IsAdded}
 use Rattle.fvn_cover.specs.Laws.{CoveringIsAPreorder}
 use Rattle.fvn_cover.proofs.Additions.{added_all, added_apart, added_new, added_still}
-use Rattle.fvn_cover.specs.Marks.{AreMarks}
 use Rattle.fvn_cover.proofs.Leftovers.{all_at}
 use Rattle.fvn_fold.specs.inner.Gathering.{IsCoveredByEither, IsMarkedOrAdded, AreTaken}
 use Rattle.fvn_fold.proofs.Gathers.{all_members}

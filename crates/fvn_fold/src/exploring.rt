@@ -138,6 +138,14 @@ fn after_level(
     Ok(t)
 }
 
+// The level below this one, which is allowed.
+fn level_below(depth: u32, limits: Limits) -> u32
+    requires { depth < limits.levels }
+    ensures { result ≡ depth + 1 }
+{
+    depth + 1
+}
+
 // The levels from the start on.
 fn levels<R: Threads + Sync, G: Gate, E: Expander>(
     rt: &R,
@@ -167,7 +175,7 @@ fn levels<R: Threads + Sync, G: Gate, E: Expander>(
             Turn::Done(x) => return Ok(x),
             Turn::On(more) => {
                 run = more;
-                depth += 1;
+                depth = level_below(depth, task.limits);
             }
         }
     }

@@ -1,5 +1,5 @@
 -- as many of the next level as may be kept
-use Rattle.std.proofs.Common.{◌≡◌, ◌+◌, ◌-◌, ◌<◌, ◌++◌, length, get_or, take, drop, refl, sym, ap, ◌∙◌, subst, arith}
+use Rattle.std.proofs.Common.{◌≡◌, ◌+◌, ◌-◌, length, get_or, drop, sym, ap, ◌∙◌, subst, arith}
 use Rattle.fvn_fold.specs.inner.Running.{LevelLists, deep_of, AreKept}
 use Rattle.fvn_cover.specs.Pruning.{IsPruned}
 use Rattle.fvn_fold.proofs.Rounds.{kept_cut, front_flat, cut_at}
@@ -13,7 +13,7 @@ with_level-requires c =
     let many = c.requires.many in
     let few = c.requires.few in
     let cut = cut_at next c.remove.new.self.items c.truncate.new.self.items room c.into_variant-v.result (omega (arith, length_kept, many, few)) (c.into_variant-v.ensures ∙ c.remove.ensures.value ∙ ap (λ v. get_or next room v) (sym c.into_variant-v.ensures)) c.remove.ensures.items c.truncate.ensures.items in
-    front_flat c.args.sig.now c.args.run.kept.items next room c.into_variant-v.result c.truncate.new.self.items cut c.requires.kept
+    record { flat = front_flat c.args.sig.now c.args.run.kept.items next room c.into_variant-v.result c.truncate.new.self.items cut c.requires.kept }
 
 pub finish-requires : goal.finish-requires
 finish-requires c =

@@ -5,10 +5,10 @@ use Rattle.fvn_fold.proofs.Chunks.{chunk_facts}
 use Rattle.fvn_fold.proofs.levels.chunk_level.Goals as goal
 
 pub expand_level-requires-clause-members : goal.expand_level-requires-clause-members
-expand_level-requires-clause-members g c = kept_expandable (g.E.Expander.setting c.args.task.now.expander.now) c.args.kept.now c.requires.ready c.requires.task.setting.none_fixed c.args.members.now c.requires.members
+expand_level-requires-clause-members g c κs within = kept_expandable (g.E.Expander.setting c.args.task.now.expander.now) c.args.kept.now c.requires.ready c.requires.task.setting.none_fixed c.args.members.now c.requires.members
 
 pub marks-requires-clause-comparable : goal.marks-requires-clause-comparable
-marks-requires-clause-comparable g c =
+marks-requires-clause-comparable g c κs within =
     let s = g.E.Expander.setting c.args.task.now.expander.now in
     let drawn = g.E.Expander.drawn c.args.task.now.expander.now in
     let found = gathered_from s drawn c.args.members.now c.in_ok-expansions.expansions.items c.in_ok-expansions.ensures.expanded c.in_ok-found.found.candidates.items c.in_ok-found.found.end c.in_ok-found.ensures in

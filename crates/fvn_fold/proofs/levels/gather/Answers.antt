@@ -18,16 +18,15 @@ returns-then-not-is_whole c =
     let turn = YieldsList-turn road before c.loop-expansion.expansion-iterator c.loop-expansion.yielded_by c.next.result c.next.new.self e c.in-Some.is c.next.ensures.steps in
     let so_far : before ≡ take (length before) all = sym (map-id before) ∙ YieldsList-so_far road before c.loop-expansion.expansion-iterator c.loop-expansion.yielded_by in
     rw (c.in_ok-append.ensures.items, c.into_vec-more.ensures)
-    (gathered_here all before e c.loop-expansion.candidates.items c.into_parts.result.0 c.into_parts.result.1 so_far turn.0 turn.1 c.into_parts.ensures c.loop-expansion.invariant.0
+    (gathered_here all before e c.loop-expansion.candidates.items c.into_parts-children.result.0 c.into_parts-children.result.1 so_far turn.0 turn.1 c.into_parts-children.ensures c.loop-expansion.invariant.0
     (λ w. false≢true (sym c.if-not-is_whole.true ∙ c.is_whole.ensures.1 w)))
 
 pub loop-expansion-preserved : goal.loop-expansion-preserved
 loop-expansion-preserved c =
     let e = c.in-Some.expansion in
-    let before = c.loop-expansion.yielded in
-    (
-      rw (c.in_ok-append.ensures.items, c.into_vec-more.ensures) (gathered_more before e c.loop-expansion.candidates.items c.into_parts.result.0 c.into_parts.result.1 c.into_parts.ensures c.loop-expansion.invariant.0),
-      whole_more before e c.into_parts.result.0 c.into_parts.result.1 c.into_parts.ensures (c.is_whole.ensures.0 c.if-not-is_whole.false) c.loop-expansion.invariant.1,
+    let before = c.loop-expansion.yielded in (
+      rw (c.in_ok-append.ensures.items, c.into_vec-more.ensures) (gathered_more before e c.loop-expansion.candidates.items c.into_parts-children.result.0 c.into_parts-children.result.1 c.into_parts-children.ensures c.loop-expansion.invariant.0),
+      whole_more before e c.into_parts-children.result.0 c.into_parts-children.result.1 c.into_parts-children.ensures (c.is_whole.ensures.0 c.if-not-is_whole.false) c.loop-expansion.invariant.1,
     )
 
 pub returns : goal.returns

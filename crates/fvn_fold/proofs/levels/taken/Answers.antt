@@ -58,8 +58,7 @@ loop-candidate-preserved c =
     let turn = YieldsList-turn road seen c.loop-candidate.candidate-iterator c.loop-candidate.yielded_by c.next.result c.next.new.self v c.in-Some.is c.next.ensures.steps in
     let so_far : seen ≡ take (length seen) all = sym (map-id seen) ∙ YieldsList-so_far road seen c.loop-candidate.candidate-iterator c.loop-candidate.yielded_by in
     let facts = taking_facts c.args.sig.now c.args.kept.now c.args.before.items all seen c.loop-candidate.after.items v c.loop-candidate.invariant.0 so_far turn.0 turn.1 c.requires.comparable.candidates_flat c.requires.flat c.requires.alike c.requires.candidates in
-    let exact = zip_at (λ w m. IsTrue m ↔ IsCoveredBySome c.args.sig.now c.args.kept.now w) all c.args.marks.now c.requires.marks c.loop-candidate.i v _ (subst (λ n. n < length all) (sym c.loop-candidate.invariant.1) turn.0) (subst (λ n. v ≡ get_or all n v) (sym c.loop-candidate.invariant.1) turn.1) in
-    (
+    let exact = zip_at (λ w m. IsTrue m ↔ IsCoveredBySome c.args.sig.now c.args.kept.now w) all c.args.marks.now c.requires.marks c.loop-candidate.i v _ (subst (λ n. n < length all) (sym c.loop-candidate.invariant.1) turn.0) (subst (λ n. v ≡ get_or all n v) (sym c.loop-candidate.invariant.1) turn.1) in (
       taken_one c.args.sig.now c.args.kept.now c.args.before.items (c.covering_of_variants_is_a_preorder.ensures c.args.sig.now) seen c.loop-candidate.after.items v c.in_ok-after.after.items _ exact c.in_ok-after.ensures facts.like c.loop-candidate.invariant.0,
       ap (λ n. n + 1) c.loop-candidate.invariant.1 ∙ sym (length_push seen v),
     )

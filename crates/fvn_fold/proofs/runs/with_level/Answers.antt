@@ -1,6 +1,6 @@
 -- one more variant
-use Rattle.std.proofs.Common.{◌≡◌, ◌++◌, length, map, sym, ap, ◌∙◌, subst}
-use Rattle.std.proofs.lemmas.List.{map-id, append_assoc}
+use Rattle.std.proofs.Common.{◌≡◌, ◌++◌, length, sym, ap, ◌∙◌}
+use Rattle.std.proofs.lemmas.List.{map-id}
 use Rattle.std.proofs.lemmas.Iterator.Adapters.{YieldsList-from_vec}
 use Rattle.std.proofs.lemmas.Iterator.Consumers.{YieldsList-turn, YieldsList-end}
 use Rattle.fvn_cover.specs.Covering.{IsFlatVariant}
@@ -15,7 +15,7 @@ new-requires c =
     let gives = c.into_iter-k-iterator.ensures.into_iter_gives in
     let road = YieldsList-from_vec all gives.0 (gives.1 ∙ c.args.next.ok.0) in
     let turn = YieldsList-turn road c.loop-k.yielded c.loop-k.k-iterator c.loop-k.yielded_by c.next.result c.next.new.self v c.in-Some.is c.next.ensures.steps in
-    rw (c.in_ok-other.ensures, c.into_variant-v.ensures) (all_at (IsFlatVariant c.args.sig.now) all (length c.loop-k.yielded) v c.requires turn.0 turn.1)
+    rw (c.in_ok-other.ensures, c.into_variant-v.ensures) (all_at (IsFlatVariant c.args.sig.now) all (length c.loop-k.yielded) v c.requires.flat turn.0 turn.1)
 
 pub loop-k-preserved : goal.loop-k-preserved
 loop-k-preserved c = (
