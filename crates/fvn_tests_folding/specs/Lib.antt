@@ -1,2 +1,0 @@
--- What contracts of the tests speak of.
-pub mod Nothing
