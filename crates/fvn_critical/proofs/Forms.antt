@@ -33,7 +33,7 @@ use Rattle.fvn_critical.specs.inner.Testing.{IsDrawnFor}
 
 -- instances by flat values
 instance_is : (d : Declarations) (s : Bindings) → SettledValues d (value s) → (t : FlatTerm) → inst d (value s) t ≡ canon d (apply (substitution s) (plain t))
-instance_is d s settled t = (λ i. eval d (λ x. canon_plain d (value s x) (settled x) (~ i)) (plain t)) ∙ sym (eval_apply d fvar (substitution s) (plain t))
+instance_is d s settled t = sym (eval_apply d fvar (substitution s) (plain t) ∙ (λ i. eval d (λ x. canon_plain d (value s x) (settled x) i) (plain t)))
 
 pub used_by : (r : Rewriting) → IsGood r.signature → IsCompleted r.signature → AreUsable r.signature r.rules → AreUsed r.signature (equations_by r) r.rules
 used_by r good completed usable = record { good = good; completed = completed; same = refl; admissible = usable.admissible; rules = usable.rules }

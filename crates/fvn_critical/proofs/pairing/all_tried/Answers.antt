@@ -14,16 +14,13 @@ use Rattle.fvn_critical.proofs.pairing.all_tried.Goals as goal
 pub loop-s-init : goal.loop-s-init
 loop-s-init g c = All-nil (λ (s : Bindings). JoinsUnder c.args.tester.now.rewriter.signature (equations_by c.args.tester.now.rewriter) (overlap_in c.args.meeting.now) (substitution s))
 
-pub tried-requires : goal.tried-requires
-tried-requires g c =
+pub tried-requires-clause-unifier : goal.tried-requires-clause-unifier
+tried-requires-clause-unifier g c =
     let r = c.args.tester.now.rewriter in
     let may = g.A.AxiomSolver.drawn c.args.tester.now.solver.now in
-    let s : Bindings = c.s-item.result in record {
-      overlap = c.requires.overlap;
-      whole = c.requires.whole;
-      unifier = All-contains (IsDrawnFor r may (overlap_in c.args.meeting.now)) c.args.unifiers.now s c.requires.unifiers
-          (subst (λ w. Contains c.args.unifiers.now w) (sym c.s-item.is) (Contains-get_or c.args.unifiers.now c.loop-s.s-index s c.loop-s-test.true));
-    }
+    let s : Bindings = c.s-item.result in
+    All-contains (IsDrawnFor r may (overlap_in c.args.meeting.now)) c.args.unifiers.now s c.requires.unifiers
+    (subst (λ w. Contains c.args.unifiers.now w) (sym c.s-item.is) (Contains-get_or c.args.unifiers.now c.loop-s.s-index s c.loop-s-test.true))
 
 pub loop-s-preserved : goal.loop-s-preserved
 loop-s-preserved g c =

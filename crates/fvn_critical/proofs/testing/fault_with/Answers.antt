@@ -12,8 +12,8 @@ returns-then-not-heads g c =
     other_head c.args.tester.now.rewriter c.args.new.now.rule part.path.now part.at.now c.requires.part.leads part.head c.requires.part.heads c.args.inner.now
     (subst (HeadsAs part.head c.args.inner.now.left) c.if-not-heads.true c.heads.ensures)
 
-pub overlap_fault-requires : goal.overlap_fault-requires
-overlap_fault-requires g c =
+pub overlap_fault-requires-clause-overlap : goal.overlap_fault-requires-clause-overlap
+overlap_fault-requires-clause-overlap g c =
     let part = c.args.part.now in record {
       rule = c.requires.outer.0;
       given = c.requires.outer.1;
