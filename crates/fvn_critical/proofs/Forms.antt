@@ -1,6 +1,5 @@
 -- The two forms to which an overlap leads under a unifier.
 use Rattle.std.proofs.Common.{◌≡◌, ℕ, inl, inr, sym, ap, ◌∙◌, subst, refl}
-use Rattle.fvn_terms.specs.declared.plain.Var.{Var}
 use Rattle.fvn_terms.specs.declared.plain.SortId.{SortId}
 use Rattle.fvn_terms.specs.declared.declarations.Declarations.{Declarations}
 use Rattle.fvn_terms.specs.Term.{Term}
@@ -8,7 +7,6 @@ use Rattle.fvn_terms.specs.Signature.{HasKind, IsTerm}
 use Rattle.fvn_terms.specs.Substitution.{Substitution, apply}
 use Rattle.fvn_terms.specs.Equality.{BEqual}
 use Rattle.fvn_terms.specs.Unifiers.{Problem}
-use Rattle.fvn_terms.specs.Theory.{Equations}
 use Rattle.fvn_terms.proofs.Equal.{HasKind-apply, BEqual-sym}
 use Rattle.fvn_forms.specs.Flat.{FlatTerm, fvar, plain}
 use Rattle.fvn_forms.specs.Canon.{eval, canon, inst}

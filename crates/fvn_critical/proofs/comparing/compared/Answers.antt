@@ -1,5 +1,5 @@
 -- One form, or two in order.
-use Rattle.std.proofs.Common.{◌≡◌, ◌≤◌, true, false, inl, inr, refl, sym, ◌∙◌, arith}
+use Rattle.std.proofs.Common.{◌≡◌, true, false, inl, inr, refl, sym, ◌∙◌, arith}
 use Rattle.fvn_critical.proofs.comparing.compared.Goals as goal
 
 pub returns-then-same : goal.returns-then-same

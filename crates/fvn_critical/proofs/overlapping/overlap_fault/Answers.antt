@@ -1,5 +1,5 @@
 -- A clash, or the solver's answer and the tests of its unifiers.
-use Rattle.std.proofs.Common.{◌≡◌, sym, ap, ◌∙◌, subst}
+use Rattle.std.proofs.Common.{sym, subst}
 use Rattle.std.specs.Prelude.{All}
 use Rattle.fvn_terms.specs.declared.declarations.Declarations.{Declarations}
 use Rattle.fvn_flat.specs.Fits.{Fits}
@@ -78,12 +78,12 @@ put-requires g c =
     }
 
 pub all_tried-requires-clause-whole : goal.all_tried-requires-clause-whole
-all_tried-requires-clause-whole g c =
+all_tried-requires-clause-whole g c lives order =
     let o = overlap_in c.args.meeting.now in
     subst (λ (d : Declarations). PutAs d o.path o.outer.left o.inner.right c.in_ok-whole.whole) c.signature-sig.ensures c.in_ok-whole.ensures
 
 pub all_tried-requires-clause-unifiers : goal.all_tried-requires-clause-unifiers
-all_tried-requires-clause-unifiers g c =
+all_tried-requires-clause-unifiers g c lives order =
     let r = c.args.tester.now.rewriter in
     let good = c.recall.ensures.good in
     let completed = c.recall.ensures.completed in

@@ -1,7 +1,6 @@
 -- Both results under a unifier, and their normal forms.
 use Rattle.std.proofs.Common.{◌≡◌, sym, ap, ◌∙◌, subst}
 use Rattle.fvn_terms.specs.declared.declarations.Declarations.{Declarations}
-use Rattle.fvn_forms.specs.Flat.{FlatTerm}
 use Rattle.fvn_forms.specs.Canon.{inst}
 use Rattle.fvn_flat.specs.Bindings.{value, BindingsFit}
 use Rattle.fvn_flat.specs.Fits.{Fits}
@@ -85,8 +84,8 @@ returns-in-Form g c =
     let two : c.in_ok-second.second ≡ inst r.signature (value c.args.s.now) c.args.whole.now = c.in_ok-second.ensures.exact ∙ ap (λ (d : Declarations). inst d (value c.args.s.now) c.args.whole.now) c.signature-sig.ensures in
     let form : IsForm r.signature (equations_by r) (inst r.signature (value c.args.s.now) o.outer.right) r.bounds c.in-Form.left =
     subst (λ w. IsForm r.signature (equations_by r) w r.bounds c.in-Form.left) one (rw c.in-Form.is at c.in_ok-found.ensures) in
-    tried_against r good completed usable rules sequences steps may (g.A.AxiomSolver.most_unifiers c.args.tester.now.solver.now) c.args.meeting.now.next o is c.args.s.now c.requires.unifier c.args.whole.now c.requires.whole c.in-Form.left form c.in_ok-fault.fault
-    (subst (λ w. AgainstAs o.outer.equation o.inner.equation c.in-Form.left r w c.in_ok-fault.fault) two c.in_ok-fault.ensures)
+    tried_against r good completed usable rules sequences steps may (g.A.AxiomSolver.most_unifiers c.args.tester.now.solver.now) c.args.meeting.now.next o is c.args.s.now c.requires.unifier c.args.whole.now c.requires.whole c.in-Form.left form c.in_ok-fault-in-Form.fault
+    (subst (λ w. AgainstAs o.outer.equation o.inner.equation c.in-Form.left r w c.in_ok-fault-in-Form.fault) two c.in_ok-fault-in-Form.ensures)
 
 pub returns-in-Steps : goal.returns-in-Steps
 returns-in-Steps g c =
@@ -104,8 +103,8 @@ returns-in-Steps g c =
     first_unfinished r good completed usable rules sequences steps may (g.A.AxiomSolver.most_unifiers c.args.tester.now.solver.now) c.args.meeting.now.next o is c.args.s.now c.requires.unifier c.args.whole.now c.requires.whole c.in-Steps.start c.in-Steps.end
     (subst (λ w. IsUnfinished r.signature (equations_by r) w r.bounds c.in-Steps.start c.in-Steps.end) one (rw c.in-Steps.is at c.in_ok-found.ensures))
 
-pub returns-in-Size : goal.returns-in-Size
-returns-in-Size g c =
+pub returns : goal.returns
+returns g c =
     let r = c.args.tester.now.rewriter in
     let may = g.A.AxiomSolver.drawn c.args.tester.now.solver.now in
     let good = c.recall.ensures.good in

@@ -1,5 +1,5 @@
 -- The rule under the new names.
-use Rattle.std.proofs.Common.{◌≡◌, ◌+◌, ◌≤◌, [], length, sym, ap, ◌∙◌, subst, refl, arith}
+use Rattle.std.proofs.Common.{[], sym, ap, ◌∙◌, subst, refl, arith}
 use Rattle.std.specs.Prelude.{AllPairs, ◌≢◌}
 use Rattle.fvn_terms.specs.declared.plain.Var.{Var}
 use Rattle.fvn_flat.specs.Variables.{with_variables}

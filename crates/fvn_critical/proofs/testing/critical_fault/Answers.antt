@@ -1,8 +1,7 @@
 -- A loss, or the tests of all overlaps.
-use Rattle.std.proofs.Common.{◌≡◌, Some, sym, subst}
+use Rattle.std.proofs.Common.{Some, subst}
 use Rattle.fvn_theory.specs.Equations.{equations_of}
 use Rattle.fvn_rewrite_laws.specs.Losses.{AreSortDecreasing, IsFirstLoss}
-use Rattle.fvn_rewrite.specs.Usable.{Rewriting}
 use Rattle.fvn_critical.specs.declared.fault.CriticalFault.TheVariants.{Sorts}
 use Rattle.fvn_critical.specs.Faults.{rewriting_of, IsAnswer}
 use Rattle.fvn_critical.specs.inner.Testing.{TestedAs, Each, IsJoinedBy}

@@ -1,5 +1,5 @@
 -- One more.
-use Rattle.std.proofs.Common.{◌≡◌, sym, subst}
+use Rattle.std.proofs.Common.{sym, subst}
 use Rattle.std.specs.Prelude.{Contains}
 use Rattle.std.proofs.lemmas.List.Elements.{Contains-get_or}
 use Rattle.std.specs.Prelude.{ℕ, List}
@@ -12,7 +12,7 @@ pub loop-path-init : goal.loop-path-init
 loop-path-init g c = each_none (JoinAt c.args.tester.now.rewriter c.args.new.now.rule)
 
 pub fault_at-requires-clause-path : goal.fault_at-requires-clause-path
-fault_at-requires-clause-path g c =
+fault_at-requires-clause-path g c lives order =
     let item : List ℕ = c.path-item.result in
     subst (λ p. Contains (paths c.args.new.now.rule.left) p) (sym c.as_slice.ensures) (subst (λ l. Contains l item) c.requires.list (subst (Contains c.args.list.now) (sym c.path-item.is) (Contains-get_or c.args.list.now c.loop-path.path-index item c.loop-path-test.true)))
 

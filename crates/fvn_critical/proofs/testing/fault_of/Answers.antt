@@ -1,5 +1,5 @@
 -- The rule with new variables.
-use Rattle.std.proofs.Common.{◌≡◌, refl, sym, ◌∙◌, subst}
+use Rattle.std.proofs.Common.{refl, sym, ◌∙◌, subst}
 use Rattle.std.specs.Prelude.{Contains}
 use Rattle.fvn_terms.specs.declared.declarations.Declarations.{Declarations}
 use Rattle.fvn_flat.specs.Fits.{Fits}
@@ -26,11 +26,11 @@ renewed-requires g c =
     }
 
 pub fault_along-requires-clause-outer : goal.fault_along-requires-clause-outer
-fault_along-requires-clause-outer g c =
+fault_along-requires-clause-outer g c lives order =
     let new = c.in_ok-new.new in (c.args.rule.now, c.requires.rule, subst (λ (d : Declarations). IsRenewed d new.next c.args.rule.now new.rule) c.signature.ensures c.in_ok-new.ensures)
 
 pub fault_along-requires-clause-list : goal.fault_along-requires-clause-list
-fault_along-requires-clause-list g c = c.as_slice.ensures.value ∙ c.in_ok-list.ensures
+fault_along-requires-clause-list g c lives order = c.as_slice.ensures.value ∙ c.in_ok-list.ensures
 
 pub returns : goal.returns
 returns g c =

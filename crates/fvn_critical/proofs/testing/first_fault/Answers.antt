@@ -1,5 +1,5 @@
 -- One more.
-use Rattle.std.proofs.Common.{◌≡◌, sym, ap, ◌∙◌, subst}
+use Rattle.std.proofs.Common.{sym, ap, ◌∙◌, subst}
 use Rattle.std.specs.Prelude.{Contains}
 use Rattle.std.proofs.lemmas.List.Elements.{Contains-get_or}
 use Rattle.fvn_rewrite_rules.specs.declared.rule.Rule.{Rule}
@@ -12,7 +12,7 @@ pub loop-rule-init : goal.loop-rule-init
 loop-rule-init g c = each_none (IsJoinedBy c.args.tester.now.rewriter)
 
 pub fault_of-requires-clause-rule : goal.fault_of-requires-clause-rule
-fault_of-requires-clause-rule g c =
+fault_of-requires-clause-rule g c lives order =
     let item : Rule = c.rule-item.result in
     let all = c.rules-rule-items.ensures ∙ ap (λ (l : RuleLists). l.rules) c.rules.ensures in
     subst (λ l. Contains l item) all (subst (Contains c.rules-rule-items.result.now) (sym c.rule-item.is) (Contains-get_or c.rules-rule-items.result.now c.loop-rule.rule-index item c.loop-rule-test.true))
