@@ -1,5 +1,5 @@
 -- What the answer shows.
-use Rattle.std.proofs.Common.{◌≡◌, ℕ, ◌+◌, List, [], ◌∷◌, ◌++◌, length, Some, None, refl, sym, ap, ◌∙◌, subst}
+use Rattle.std.proofs.Common.{◌≡◌, ℕ, suc, ◌+◌, [], ◌∷◌, ◌++◌, length, Some, None, refl, sym, ap, ◌∙◌, subst}
 use Rattle.std.specs.Prelude.{Option, Contains}
 use Rattle.std.proofs.lemmas.List.Elements.{Contains-append_right}
 use Rattle.fvn_base.proofs.Membership.{contains_here, contains_later}
@@ -37,7 +37,7 @@ module _ (d : Declarations) where
   once (g ∷ b) [] e f x y q h k i j = let same : f ≡ g = cc in absurd (loses_none (g ∷ b) h f (subst (Contains (g ∷ b)) (sym same) (contains_here g b)) j)
   once (g ∷ b) (z ∷ c) e f x y q h k i j =
       let rest : b ++ e ∷ x ≡ c ++ f ∷ y = cc in
-      ap (λ n. n + 1) (once b c e f x y rest (λ p m. h p (contains_later g b p m)) k (λ p m. i p (contains_later z c p m)) j)
+      ap suc (once b c e f x y rest (λ p m. h p (contains_later g b p m)) k (λ p m. i p (contains_later z c p m)) j)
 
   pub one_first_loss : (equations : Equations) (m n : ℕ) → IsFirstLoss d equations m → IsFirstLoss d equations n → m ≡ n
   one_first_loss equations m n f g = f.number ∙ ap (λ k. k + 1) (once f.before g.before f.equation g.equation f.after g.after (sym f.split ∙ g.split) f.earlier f.loses g.earlier g.loses) ∙ sym g.number

@@ -94,8 +94,8 @@ module _ (r : Rewriting) (outer : Rule) (path : List ℕ) where
     pub with_this : (inner : Rule) → Joins r.signature (equations_by r) record { outer = outer; path = path; at = at; inner = inner } → JoinWith r outer path inner
     with_this inner j o same there this h =
         let is : o.at ≡ at = leads_once path outer.left o.at at (leads_there o same there h) leads in
-        let whole : record { outer = outer; path = path; at = at; inner = inner } ≡ o = λ i. record { outer = same (~ i); path = there (~ i); at = is (~ i); inner = this (~ i) } in
-        subst (Joins r.signature (equations_by r)) whole j
+        let whole : o ≡ record { outer = outer; path = path; at = at; inner = inner } = λ i. record { outer = same i; path = there i; at = is i; inner = this i } in
+        subst (Joins r.signature (equations_by r)) (sym whole) j
 
   pub with_all : Each (JoinWith r outer path) r.rules.rules → JoinAt r outer path
   with_all h o same there k = h o.inner k.given o same there refl k

@@ -1,6 +1,5 @@
 -- The two forms to which an overlap leads under a unifier.
 use Rattle.std.proofs.Common.{◌≡◌, ℕ, inl, inr, sym, ap, ◌∙◌, subst, refl}
-use Rattle.fvn_terms.specs.declared.plain.Var.{Var}
 use Rattle.fvn_terms.specs.declared.plain.SortId.{SortId}
 use Rattle.fvn_terms.specs.declared.declarations.Declarations.{Declarations}
 use Rattle.fvn_terms.specs.Term.{Term}
@@ -8,7 +7,6 @@ use Rattle.fvn_terms.specs.Signature.{HasKind, IsTerm}
 use Rattle.fvn_terms.specs.Substitution.{Substitution, apply}
 use Rattle.fvn_terms.specs.Equality.{BEqual}
 use Rattle.fvn_terms.specs.Unifiers.{Problem}
-use Rattle.fvn_terms.specs.Theory.{Equations}
 use Rattle.fvn_terms.proofs.Equal.{HasKind-apply, BEqual-sym}
 use Rattle.fvn_forms.specs.Flat.{FlatTerm, fvar, plain}
 use Rattle.fvn_forms.specs.Canon.{eval, canon, inst}
@@ -33,7 +31,7 @@ use Rattle.fvn_critical.specs.inner.Testing.{IsDrawnFor}
 
 -- instances by flat values
 instance_is : (d : Declarations) (s : Bindings) → SettledValues d (value s) → (t : FlatTerm) → inst d (value s) t ≡ canon d (apply (substitution s) (plain t))
-instance_is d s settled t = (λ i. eval d (λ x. canon_plain d (value s x) (settled x) (~ i)) (plain t)) ∙ sym (eval_apply d fvar (substitution s) (plain t))
+instance_is d s settled t = sym (eval_apply d fvar (substitution s) (plain t) ∙ (λ i. eval d (λ x. canon_plain d (value s x) (settled x) i) (plain t)))
 
 pub used_by : (r : Rewriting) → IsGood r.signature → IsCompleted r.signature → AreUsable r.signature r.rules → AreUsed r.signature (equations_by r) r.rules
 used_by r good completed usable = record { good = good; completed = completed; same = refl; admissible = usable.admissible; rules = usable.rules }

@@ -1,9 +1,9 @@
 -- Lemmas of the test of confluence.
-mod Renewing
-mod Comparing
+mod Renewed
+mod Compared
 mod Forms
 mod Trying
-mod Posing
+mod Posed
 mod Joining
 mod Covering
 mod Answering

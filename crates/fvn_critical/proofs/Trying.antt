@@ -1,17 +1,16 @@
 -- What the normal forms of both results show.
-use Rattle.std.proofs.Common.{◌≡◌, ◌⊎◌, ◌≤◌, ◌<◌, ℕ, List, inl, inr, sym, ap, ◌∙◌, subst, arith}
+use Rattle.std.proofs.Common.{◌≡◌, ◌⊎◌, ℕ, List, inl, inr, sym, ◌∙◌, subst, arith}
 use Rattle.std.specs.Prelude.{Option, None, Some}
 use Rattle.fvn_terms.specs.declared.declarations.Declarations.{Declarations}
 use Rattle.fvn_terms.specs.Term.{Term}
 use Rattle.fvn_terms.specs.Substitution.{Substitution, apply}
 use Rattle.fvn_terms.specs.Places.{stop}
-use Rattle.fvn_terms.specs.Equality.{BEqual}
 use Rattle.fvn_terms.specs.Unifiers.{Problem}
 use Rattle.fvn_terms.specs.Theory.{Equations}
 use Rattle.fvn_terms.specs.Rewriting.{TermSequence}
 use Rattle.fvn_terms.proofs.Equal.{BEqual-sym}
 use Rattle.fvn_forms.specs.Flat.{FlatTerm, plain}
-use Rattle.fvn_forms.specs.Canon.{canon, inst}
+use Rattle.fvn_forms.specs.Canon.{inst}
 use Rattle.fvn_forms.specs.Good.{IsGood}
 use Rattle.fvn_forms.proofs.Eval.{canon_plain, canon_respects}
 use Rattle.fvn_signature.specs.Queries.{IsCompleted}
@@ -24,7 +23,7 @@ use Rattle.fvn_theory.specs.declared.equation.Equation.{Equation}
 use Rattle.fvn_rewrite.specs.Usable.{Rewriting, AreUsable, equations_by}
 use Rattle.fvn_places.specs.Putting.{PutAs}
 use Rattle.fvn_critical_pairs.specs.Overlaps.{Overlap, inner_result, IsOverlap, JoinsUnder}
-use Rattle.fvn_critical_pairs.specs.Divergence.{LeadsBy, StepsBy, Diverge}
+use Rattle.fvn_critical_pairs.specs.Divergence.{Diverge}
 use Rattle.fvn_critical_pairs.specs.Laws.{AreBothReached, OverlapsAreSteps}
 use Rattle.fvn_critical.specs.declared.fault.CriticalFault.{CriticalFault}
 use Rattle.fvn_critical.specs.declared.fault.CriticalFault.TheVariants.{Sorts, Apart, Steps, Size, Basis, Unifiers}

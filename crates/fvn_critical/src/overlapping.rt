@@ -22,7 +22,7 @@ pub(crate) fn overlap_fault<A: AxiomSolver>(
     alloc: Global,
     meeting: &Meeting<'_>,
 ) -> Result<Option<CriticalFault>, NoMemory>
-    requires { IsTestable tester.now.rewriter meeting.now }
+    requires overlap { IsTestable tester.now.rewriter meeting.now }
     ensures { IfOk result (TestedAs tester.now.rewriter (A.drawn tester.now.solver.now)
         (A.most_unifiers tester.now.solver.now)
         (Joins tester.now.rewriter.signature (equations_by tester.now.rewriter)

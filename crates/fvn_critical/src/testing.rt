@@ -146,7 +146,7 @@ fn fault_of<A: AxiomSolver>(
     alloc: Global,
     rule: &Rule,
 ) -> Result<Option<CriticalFault>, NoMemory>
-    requires { Contains tester.now.rewriter.rules.rules rule.now }
+    requires rule { Contains tester.now.rewriter.rules.rules rule.now }
     ensures { IfOk result (TestedAs tester.now.rewriter (A.drawn tester.now.solver.now)
         (A.most_unifiers tester.now.solver.now)
         (IsJoinedBy tester.now.rewriter rule.now)) }

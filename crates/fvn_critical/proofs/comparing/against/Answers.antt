@@ -1,5 +1,5 @@
 -- The normal form of the other form, or why there is none.
-use Rattle.fvn_critical.proofs.Comparing.{against_compared}
+use Rattle.fvn_critical.proofs.Compared.{against_compared}
 use Rattle.fvn_critical.proofs.comparing.against.Goals as goal
 
 pub returns-in-Form : goal.returns-in-Form

@@ -1,29 +1,25 @@
 -- One unifier more.
-use Rattle.std.proofs.Common.{◌≡◌, ◌+◌, ◌++◌, ◌∷◌, [], take, sym, ap, ◌∙◌, subst}
+use Rattle.std.proofs.Common.{sym, subst}
 use Rattle.std.specs.Prelude.{Contains}
-use Rattle.std.proofs.lemmas.List.{take_more, take_all}
 use Rattle.std.proofs.lemmas.List.Elements.{All-nil, All-contains, Contains-get_or}
 use Rattle.fvn_flat.specs.Bindings.{Bindings}
 use Rattle.fvn_flat.specs.Solving.{substitution}
 use Rattle.fvn_rewrite.specs.Usable.{equations_by}
 use Rattle.fvn_critical_pairs.specs.Overlaps.{JoinsUnder}
-use Rattle.fvn_critical.specs.inner.Testing.{overlap_in, IsDrawnFor, AllJoin}
+use Rattle.fvn_critical.specs.inner.Testing.{overlap_in, IsDrawnFor}
 use Rattle.fvn_critical.proofs.Covering.{all_more, all_at_end, shown, faulty}
 use Rattle.fvn_critical.proofs.pairing.all_tried.Goals as goal
 
 pub loop-s-init : goal.loop-s-init
 loop-s-init g c = All-nil (λ (s : Bindings). JoinsUnder c.args.tester.now.rewriter.signature (equations_by c.args.tester.now.rewriter) (overlap_in c.args.meeting.now) (substitution s))
 
-pub tried-requires : goal.tried-requires
-tried-requires g c =
+pub tried-requires-clause-unifier : goal.tried-requires-clause-unifier
+tried-requires-clause-unifier g c lives order =
     let r = c.args.tester.now.rewriter in
     let may = g.A.AxiomSolver.drawn c.args.tester.now.solver.now in
-    let s : Bindings = c.s-item.result in record {
-      overlap = c.requires.overlap;
-      whole = c.requires.whole;
-      unifier = All-contains (IsDrawnFor r may (overlap_in c.args.meeting.now)) c.args.unifiers.now s c.requires.unifiers
-          (subst (λ w. Contains c.args.unifiers.now w) (sym c.s-item.is) (Contains-get_or c.args.unifiers.now c.loop-s.s-index s c.loop-s-test.true));
-    }
+    let s : Bindings = c.s-item.result in
+    All-contains (IsDrawnFor r may (overlap_in c.args.meeting.now)) c.args.unifiers.now s c.requires.unifiers
+    (subst (λ w. Contains c.args.unifiers.now w) (sym c.s-item.is) (Contains-get_or c.args.unifiers.now c.loop-s.s-index s c.loop-s-test.true))
 
 pub loop-s-preserved : goal.loop-s-preserved
 loop-s-preserved g c =

@@ -1,10 +1,10 @@
 -- The rule under the new names.
-use Rattle.std.proofs.Common.{◌≡◌, ◌+◌, ◌≤◌, [], length, sym, ap, ◌∙◌, subst, refl, arith}
+use Rattle.std.proofs.Common.{[], sym, ap, ◌∙◌, subst, refl, arith}
 use Rattle.std.specs.Prelude.{AllPairs, ◌≢◌}
 use Rattle.fvn_terms.specs.declared.plain.Var.{Var}
 use Rattle.fvn_flat.specs.Variables.{with_variables}
 use Rattle.fvn_flat.proofs.ListedVariables.{distinct_pairs, with_variables_distinct}
-use Rattle.fvn_critical.proofs.Renewing.{rule_variables, renewed_by}
+use Rattle.fvn_critical.proofs.Renewed.{rule_variables, renewed_by}
 use Rattle.fvn_critical.proofs.renewing.renewed.Goals as goal
 
 pub fresh_variables-requires : goal.fresh_variables-requires

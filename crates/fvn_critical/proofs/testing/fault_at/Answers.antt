@@ -1,5 +1,5 @@
 -- No form at the end of the path, one without a head, or a part.
-use Rattle.std.proofs.Common.{◌≡◌, sym, ap, ◌∙◌, subst}
+use Rattle.std.proofs.Common.{sym, ap, ◌∙◌, subst}
 use Rattle.fvn_rewrite_rules.specs.Given.{RuleLists}
 use Rattle.fvn_critical.specs.inner.Testing.{Each, JoinWith, JoinAt}
 use Rattle.fvn_critical.proofs.Covering.{weaker, nowhere, headless, with_all}
@@ -12,12 +12,11 @@ pub returns-in_default-head : goal.returns-in_default-head
 returns-in_default-head g c =
     headless c.args.tester.now.rewriter c.args.new.now.rule c.args.path.now c.in-Some.at.now (rw c.in-Some.is at c.form_at.ensures) (sym c.head.ensures ∙ c.in_default-head.is)
 
-pub fault_by-requires : goal.fault_by-requires
-fault_by-requires g c = record {
-  outer = c.requires.outer;
-  part = record { listed = c.requires.path; leads = rw c.in-Some.is at c.form_at.ensures; heads = sym c.head.ensures ∙ c.in-Some-head.is };
-  inner = c.rules-2.ensures ∙ ap (λ (l : RuleLists). l.rules) c.rules.ensures;
-}
+pub fault_by-requires-clause-part : goal.fault_by-requires-clause-part
+fault_by-requires-clause-part g c lives order = record { listed = c.requires.path; leads = rw c.in-Some.is at c.form_at.ensures; heads = sym c.head.ensures ∙ c.in-Some-head.is }
+
+pub fault_by-requires-clause-inner : goal.fault_by-requires-clause-inner
+fault_by-requires-clause-inner g c lives order = c.rules-2.ensures ∙ ap (λ (l : RuleLists). l.rules) c.rules.ensures
 
 pub returns : goal.returns
 returns g c =

@@ -1,5 +1,5 @@
 -- One more.
-use Rattle.std.proofs.Common.{◌≡◌, sym, subst}
+use Rattle.std.proofs.Common.{sym, subst}
 use Rattle.std.specs.Prelude.{Contains}
 use Rattle.std.proofs.lemmas.List.Elements.{Contains-get_or}
 use Rattle.fvn_rewrite_rules.specs.declared.rule.Rule.{Rule}
@@ -10,13 +10,10 @@ use Rattle.fvn_critical.proofs.testing.fault_by.Goals as goal
 pub loop-inner-init : goal.loop-inner-init
 loop-inner-init g c = each_none (JoinWith c.args.tester.now.rewriter c.args.new.now.rule c.args.part.now.path.now)
 
-pub fault_with-requires : goal.fault_with-requires
-fault_with-requires g c =
-    let item : Rule = c.inner-item.result in record {
-      outer = c.requires.outer;
-      part = c.requires.part;
-      inner = subst (λ l. Contains l item) c.requires.inner (subst (Contains c.args.rules.now) (sym c.inner-item.is) (Contains-get_or c.args.rules.now c.loop-inner.inner-index item c.loop-inner-test.true));
-    }
+pub fault_with-requires-clause-inner : goal.fault_with-requires-clause-inner
+fault_with-requires-clause-inner g c lives order =
+    let item : Rule = c.inner-item.result in
+    subst (λ l. Contains l item) c.requires.inner (subst (Contains c.args.rules.now) (sym c.inner-item.is) (Contains-get_or c.args.rules.now c.loop-inner.inner-index item c.loop-inner-test.true))
 
 pub loop-inner-preserved : goal.loop-inner-preserved
 loop-inner-preserved g c =

@@ -1,5 +1,5 @@
 -- The rule with new variables.
-use Rattle.std.proofs.Common.{◌≡◌, refl, sym, ◌∙◌, subst}
+use Rattle.std.proofs.Common.{refl, sym, ◌∙◌, subst}
 use Rattle.std.specs.Prelude.{Contains}
 use Rattle.fvn_terms.specs.declared.declarations.Declarations.{Declarations}
 use Rattle.fvn_flat.specs.Fits.{Fits}
@@ -21,17 +21,16 @@ renewed-requires g c =
     let usable = c.recall.ensures.usable in
     let rules = c.rules_are_lawful.ensures r.signature good completed (equations_by r) (λ e i. (usable.admissible e i).kinded.kinds) in
     let used = used_by r good completed usable in record {
-      left = subst (λ (d : Declarations). Fits d c.args.rule.now.left) (sym c.signature.ensures) (left_fits r.signature r.rules used rules c.args.rule.now c.requires);
-      right = subst (λ (d : Declarations). Fits d c.args.rule.now.right) (sym c.signature.ensures) (right_fits r.signature r.rules used rules c.args.rule.now c.requires);
+      left = subst (λ (d : Declarations). Fits d c.args.rule.now.left) (sym c.signature.ensures) (left_fits r.signature r.rules used rules c.args.rule.now c.requires.rule);
+      right = subst (λ (d : Declarations). Fits d c.args.rule.now.right) (sym c.signature.ensures) (right_fits r.signature r.rules used rules c.args.rule.now c.requires.rule);
     }
 
-pub fault_along-requires : goal.fault_along-requires
-fault_along-requires g c =
-    let r = c.args.tester.now.rewriter in
-    let new = c.in_ok-new.new in record {
-      outer = (c.args.rule.now, c.requires, subst (λ (d : Declarations). IsRenewed d new.next c.args.rule.now new.rule) c.signature.ensures c.in_ok-new.ensures);
-      list = c.as_slice.ensures.value ∙ c.in_ok-list.ensures;
-    }
+pub fault_along-requires-clause-outer : goal.fault_along-requires-clause-outer
+fault_along-requires-clause-outer g c lives order =
+    let new = c.in_ok-new.new in (c.args.rule.now, c.requires.rule, subst (λ (d : Declarations). IsRenewed d new.next c.args.rule.now new.rule) c.signature.ensures c.in_ok-new.ensures)
+
+pub fault_along-requires-clause-list : goal.fault_along-requires-clause-list
+fault_along-requires-clause-list g c lives order = c.as_slice.ensures.value ∙ c.in_ok-list.ensures
 
 pub returns : goal.returns
 returns g c =

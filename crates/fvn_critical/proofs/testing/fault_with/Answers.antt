@@ -1,8 +1,8 @@
 -- Another head, or an overlap.
-use Rattle.std.proofs.Common.{◌≡◌, sym, subst}
+use Rattle.std.proofs.Common.{subst}
 use Rattle.fvn_rewrite.specs.Usable.{equations_by}
 use Rattle.fvn_critical_pairs.specs.Overlaps.{Joins}
-use Rattle.fvn_critical.specs.inner.Testing.{overlap_in, HeadsAs, JoinWith}
+use Rattle.fvn_critical.specs.inner.Testing.{HeadsAs, JoinWith}
 use Rattle.fvn_critical.proofs.Covering.{weaker, other_head, with_this}
 use Rattle.fvn_critical.proofs.testing.fault_with.Goals as goal
 
@@ -12,8 +12,8 @@ returns-then-not-heads g c =
     other_head c.args.tester.now.rewriter c.args.new.now.rule part.path.now part.at.now c.requires.part.leads part.head c.requires.part.heads c.args.inner.now
     (subst (HeadsAs part.head c.args.inner.now.left) c.if-not-heads.true c.heads.ensures)
 
-pub overlap_fault-requires : goal.overlap_fault-requires
-overlap_fault-requires g c =
+pub overlap_fault-requires-clause-overlap : goal.overlap_fault-requires-clause-overlap
+overlap_fault-requires-clause-overlap g c lives order =
     let part = c.args.part.now in record {
       rule = c.requires.outer.0;
       given = c.requires.outer.1;

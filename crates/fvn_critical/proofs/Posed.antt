@@ -1,5 +1,5 @@
 -- The problem of an overlap may be given to a solver; where part and left side clash, nothing meets.
-use Rattle.std.proofs.Common.{◌≡◌, ◌<◌, ◌≤◌, ℕ, true, false, [], ◌∷◌, ◌++◌, sym, ap, ◌∙◌, subst, inl, inr, arith}
+use Rattle.std.proofs.Common.{◌≡◌, ◌<◌, ℕ, true, false, [], ◌∷◌, ◌++◌, sym, ◌∙◌, subst, inl, inr, arith}
 use Rattle.std.specs.Prelude.{◌⊎◌, All, Contains}
 use Rattle.std.proofs.lemmas.List.Elements.{All-nil, All-cons, Contains-append_cases}
 use Rattle.fvn_base.proofs.Membership.{contains_none}
@@ -21,10 +21,10 @@ use Rattle.fvn_flat.proofs.VariableLists.{variables_occur}
 use Rattle.fvn_rewrite_laws.specs.Laws.{RuleLaws}
 use Rattle.fvn_rewrite.specs.Usable.{Rewriting, AreUsable, equations_by}
 use Rattle.fvn_places.specs.Clashes.{NeverMeet}
-use Rattle.fvn_places.specs.Putting.{KeepsKindsOf, CanPut}
+use Rattle.fvn_places.specs.Putting.{CanPut}
 use Rattle.fvn_places.proofs.PathFacts.{stands_at}
 use Rattle.fvn_lifting.specs.Laws.{AreUsed}
-use Rattle.fvn_critical_pairs.specs.Overlaps.{Overlap, IsNumberedUpTo, IsOverlap, Joins}
+use Rattle.fvn_critical_pairs.specs.Overlaps.{Overlap, IsOverlap, Joins}
 use Rattle.fvn_critical_pairs.proofs.GivenRules.{occurs_in_part, path_fits, one_kind, old, left_fits, right_fits, sides_of_kind}
 use Rattle.fvn_critical.proofs.Forms.{used_by, outer_left_fits}
 

@@ -1,5 +1,5 @@
 -- What comes of a form whose normal form is compared.
-use Rattle.std.proofs.Common.{◌≡◌, ◌≤◌, ℕ, true, inl, inr, refl, sym, subst}
+use Rattle.std.proofs.Common.{ℕ, sym, subst}
 use Rattle.std.specs.Prelude.{Option, None, Some}
 use Rattle.fvn_forms.specs.Flat.{FlatTerm}
 use Rattle.fvn_rewrite_laws.specs.Normalised.{IsForm}

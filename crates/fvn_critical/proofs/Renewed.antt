@@ -1,6 +1,6 @@
 -- A rule under new names for its variables is renewed.
-use Rattle.std.proofs.Common.{◌≡◌, ℕ, ◌+◌, ◌≤◌, ◌<◌, Bool, true, false, List, [], ◌∷◌, length, Some, None, refl, sym, ap, ◌∙◌, subst, inl, inr, arith}
-use Rattle.std.specs.Prelude.{◌||◌, ◌⊎◌, if◌then◌else◌, Contains}
+use Rattle.std.proofs.Common.{◌≡◌, ℕ, ◌+◌, ◌≤◌, ◌<◌, Bool, true, false, List, [], ◌∷◌, Some, refl, sym, ap, ◌∙◌, subst, inl, inr}
+use Rattle.std.specs.Prelude.{◌||◌, if◌then◌else◌, Contains}
 use Rattle.fvn_base.specs.declared.limits.TheConstants.{FIRST_FRESH}
 use Rattle.fvn_base.proofs.Membership.{contains_here, contains_later}
 use Rattle.fvn_terms.specs.declared.plain.Var.{Var}
