@@ -2,9 +2,9 @@
 use Rattle.std.proofs.Common.{◌≡◌, ℕ, zero, suc, ◌+◌, ◌<◌, true, false, List, [], ◌∷◌, ◌++◌, length, get_or, set, replicate, refl, sym, ap, ◌∙◌, subst, inl, inr, arith, All, Option, Some, None}
 use Rattle.std.specs.Prelude.{Bool, IfSome, sum_by}
 use Rattle.std.proofs.lemmas.Bool.{cases_eq}
-use Rattle.std.proofs.lemmas.List.{length-set, length_push, get_or-set_same, get_or-set_other, get_or-replicate, length-replicate, get_or_append_left}
+use Rattle.std.proofs.lemmas.List.{length-set, length_push, get_or-set_same, get_or-set_other, length-replicate, get_or_append_left}
 use Rattle.std.proofs.lemmas.List.Elements.{All-nil, All-cons, All-append, All-push, All-set}
-use Rattle.std.proofs.lemmas.List.Sums.{sum_by-set, sum_by_push, sum_by-append}
+use Rattle.std.proofs.lemmas.List.Sums.{sum_by-cons, sum_by-set, sum_by_push, sum_by-append}
 use Rattle.fvn_terms.specs.declared.plain.OpId.{OpId}
 use Rattle.fvn_combine_nodes.specs.Table.{NodeTable}
 use Rattle.fvn_combine_nodes.specs.declared.state.State.{State}
@@ -12,21 +12,19 @@ use Rattle.fvn_combine_inferring.specs.declared.rows.Row.{Row}
 use Rattle.fvn_combine_inferring.specs.inner.Lists.{StaysBelow, IsCancelled, IsWithout}
 use Rattle.fvn_combine_inferring.specs.inner.Splits.{IsSplit, AreSplits, noted, IsAdditive, AreWithin, IsSplitPlace, IsExpression, IsReduced}
 
+-- a list of one thing has nothing else
+replicated : {X : Type 0} (n k : ℕ) (x : X) → get_or (replicate n x) k x ≡ x
+replicated zero k x = refl
+replicated (suc n) zero x = refl
+replicated (suc n) (suc k) x = replicated n k x
+
 module _ (t : NodeTable) (s : State) (f : OpId) where
   -- no split is noted yet
   pub no_splits : (splits : List (Option (ℕ × ℕ))) → splits ≡ replicate (length t.nodes) None → AreSplits t s f splits
   no_splits splits e = record {
     as_many = ap length e ∙ length-replicate (length t.nodes) None;
-    each = λ k p h. absurd (none k p (sym (ap (λ l. get_or l k None) e) ∙ h));
+    each = λ k p h. absurd (let n : None ≡ Some p = sym (replicated (length t.nodes) k None) ∙ ap (λ l. get_or l k None) (sym e) ∙ h in cc);
   }
-    where
-      none : (k : ℕ) (p : ℕ × ℕ) → get_or (replicate (length t.nodes) None) k None ≡ Some p → ⊥
-      none k p h = let n = get_or-replicate_none (length t.nodes) k in let e : None ≡ Some p = sym n ∙ h in cc
-        where
-          get_or-replicate_none : (n k : ℕ) → get_or (replicate n (None {A = ℕ × ℕ})) k None ≡ None
-          get_or-replicate_none zero k = refl
-          get_or-replicate_none (suc n) zero = refl
-          get_or-replicate_none (suc n) (suc k) = get_or-replicate_none n k
 
   -- one more
   pub more_splits : (splits : List (Option (ℕ × ℕ))) (k : ℕ) → k < length splits → AreSplits t s f splits → (o : Option (ℕ × ℕ)) → IfSome o (IsSplit t s f k) → AreSplits t s f (noted splits k o)
@@ -46,7 +44,7 @@ module _ (t : NodeTable) (s : State) (f : OpId) where
 module _ (splits : List (Option (ℕ × ℕ))) where
   pub alone_is : (k : ℕ) (list : List ℕ) → k < length splits → list ≡ k ∷ [] → IsExpression splits k list
   alone_is k list l e = subst (IsExpression splits k) (sym e) (record {
-    weight = λ w a. let n : sum_by w (k ∷ []) ≡ 0 + w k = refl in omega (arith, n);
+    weight = λ w a. let n = sum_by-cons w k [] in let z : sum_by w [] ≡ 0 = refl in omega (arith, n, z);
     below = All-cons (λ i. i < length splits) k [] l (All-nil (λ i. i < length splits));
   })
 
@@ -91,3 +89,7 @@ module _ (splits : List (Option (ℕ × ℕ))) where
         let n = length splits in
         subst (All (λ i. i < n)) (sym right_is) (wr.below n (c.below_right n ek.below));
   }
+
+  -- the list is longer by one
+  pub split_longer : (list after : List ℕ) (place : ℕ) → IsSplitPlace splits list after place true → length after ≡ length list + 1
+  split_longer list after place (p, at, e) = ap length e ∙ length-set (list ++ p.1 ∷ []) place p.0 ∙ length_push list p.1

@@ -9,7 +9,6 @@ use Rattle.std.proofs.lemmas.List.Sums.{sum_by-cons, get_or-le-sum_by, sum_by_mo
 use Rattle.fvn_terms.specs.declared.plain.OpId.{OpId}
 use Rattle.fvn_terms.specs.declared.declarations.Declarations.{Declarations}
 use Rattle.fvn_terms.specs.Signature.{axioms}
-use Rattle.fvn_terms.specs.Equality.{IsAssociative}
 use Rattle.fvn_forms.specs.Flat.{FlatTerm}
 use Rattle.fvn_forms.specs.InOrder.{one_if, count}
 use Rattle.fvn_forms.specs.Order.{same_flat}
@@ -46,13 +45,17 @@ scaled (suc n) a b some e = elim (cases_order a b) [
 ]
 
 sum_const : (w : ℕ → ℕ) (k : ℕ) (xs : List ℕ) → All (λ x. x ≡ k) xs → sum_by w xs ≡ length xs * w k
-sum_const w k [] h = let z : sum_by w [] ≡ 0 = refl in let e : 0 * w k ≡ 0 = refl in z ∙ sym e
+sum_const w k [] h = let z : sum_by w [] ≡ 0 = refl in let e : 0 * w k ≡ 0 = omega arith in z ∙ sym e
 sum_const w k (x ∷ xs) h =
     let a = sum_by-cons w x xs in
     let b = ap w (All-head (λ x. x ≡ k) x xs h) in
     let c = sum_const w k xs (All-tail (λ x. x ≡ k) x xs h) in
     let e = suc-mul (length xs) (w k) in
     omega (arith, a, b, c, e)
+
+-- the one number of a list is below what all are below
+pub only_within : (n k : ℕ) (xs : List ℕ) → 0 < length xs → All (λ x. x ≡ k) xs → All (λ x. x < n) xs → k < n
+only_within n k xs some all below = subst (λ x. x < n) (all 0 0 some) (below 0 0 some)
 
 -- two nodes that are neither in one class nor open are kept apart
 pub kept_apart : (s : State) (i j : ℕ) → is_same s i j ≡ false → is_open s i j ≡ false → is_apart s i j ≡ true
@@ -100,8 +103,8 @@ module _ (d : Declarations) (t : NodeTable) (s : State) where
         subst (λ k. values (class_of s k) ≡ values (class_of s n)) (get_or_default xs i 0 e l) (nothing_value d t has s closed values go f n (get_or xs i 0) unit (nothing_each values xs (sides values go) i l))
 
     -- one class as often as another
-    pub cancelled_met : IsAssociative (axioms d f) → (k l : ℕ) (xs ys : List ℕ) → 0 < length xs → length xs ≡ length ys → All (λ x. x ≡ k) xs → All (λ y. y ≡ l) ys → AreSides d t s f xs ys → HaveOneValue d t s k l
-    cancelled_met assoc k l xs ys some long left right sides values go =
+    pub cancelled_met : (k l : ℕ) (xs ys : List ℕ) → 0 < length xs → length xs ≡ length ys → All (λ x. x ≡ k) xs → All (λ y. y ≡ l) ys → AreSides d t s f xs ys → HaveOneValue d t s k l
+    cancelled_met k l xs ys some long left right sides values go =
         sym (sum_parts d f (values (class_of s k)) (go.are.settled (class_of s k)))
         ∙ sum_same_counts d f (summands d s f values k) (summands d s f values l) same
         ∙ sum_parts d f (values (class_of s l)) (go.are.settled (class_of s l))

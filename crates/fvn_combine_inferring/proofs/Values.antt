@@ -38,17 +38,24 @@ module _ (d : Declarations) (t : NodeTable) (s : State) (closed : IsClosed d t s
   pub name_within : (i : ℕ) → i < length t.nodes → class_of s i < length t.nodes
   name_within i l = let w = closed.whole in let n = named_within s closed.naming i (omega (arith, l, w)) in omega (arith, n, w)
 
-  -- the classes of splits have places
-  pub splits_within : IsWellMade t → (f : OpId) (splits : List (Option (ℕ × ℕ))) → AreSplits t s f splits → AreWithin splits
-  splits_within made f splits are k p e =
-      let h = are.each k p e in
-      let n = are.as_many in
+  -- the classes of a split are nodes
+  pub split_within : IsWellMade t → (f : OpId) (k : ℕ) (p : ℕ × ℕ) → IsSplit t s f k p → (p.0 < length t.nodes) × (p.1 < length t.nodes)
+  split_within made f k p h =
       let args = arguments_within t.nodes made.ordered h.member f (h.left ∷ h.right ∷ []) h.over in
       let a = name_within h.left (args 0 0 (omega arith)) in
       let b = name_within h.right (args 1 0 (omega arith)) in
       let first = h.first in
       let second = h.second in
-      (omega (arith, n, a, first), omega (arith, n, b, second))
+      (omega (arith, a, first), omega (arith, b, second))
+
+  -- the classes of splits have places
+  pub splits_within : IsWellMade t → (f : OpId) (splits : List (Option (ℕ × ℕ))) → AreSplits t s f splits → AreWithin splits
+  splits_within made f splits are k p e =
+      let n = are.as_many in
+      let h = split_within made f k p (are.each k p e) in
+      let a = h.0 in
+      let b = h.1 in
+      (omega (arith, n, a), omega (arith, n, b))
 
 module _ (d : Declarations) (t : NodeTable) (has : HasSums d t) (s : State) (closed : IsClosed d t s) (values : ℕ → FlatTerm) (go_with : GoWith d t s values) where
   settled_values : (ks : List ℕ) → AllByRecursion (Settled d) (map (λ k. values (class_of s k)) ks)

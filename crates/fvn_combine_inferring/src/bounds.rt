@@ -155,9 +155,10 @@ pub(crate) fn count_summands(
 {
     let mut count = 0;
     for k in list {
-        if has_summand(sig, table, state, heads, f, *k) {
-            count += 1;
+        if !has_summand(sig, table, state, heads, f, *k) {
+            continue;
         }
+        count += 1;
     }
     count
 }

@@ -210,6 +210,7 @@ pub(crate) fn expression(
         }
         if !split_place(&mut list, splits, place)? {
             place += 1;
+            continue;
         }
     }
     let whole = alone(alloc, k)?;

@@ -56,7 +56,7 @@ impl Inferred {
     }
 
     // This, where anything is said, else the other.
-    pub(crate) fn or(self, other: Inferred) -> Inferred
+    pub(crate) fn or_told(self, other: Inferred) -> Inferred
         ensures { (result ≡ self) ⊎ (result ≡ other) }
     {
         if self.is_something() { self } else { other }
@@ -83,7 +83,8 @@ fn infer_at(
     match row_at(alloc, sig, table, state, addition, i)? {
         None => Ok(Inferred::Nothing),
         Some(row) => {
-            let (left, right) = (row.left.as_slice(), row.right.as_slice());
+            let left = row.left.as_slice();
+            let right = row.right.as_slice();
             Ok(rule(sig, table, state, heads, addition.operator, left, right))
         }
     }
@@ -111,7 +112,7 @@ fn infer_of(
         if told.is_fact() {
             return Ok(told);
         }
-        asked = asked.or(told);
+        asked = asked.or_told(told);
     }
     Ok(asked)
 }
@@ -138,7 +139,7 @@ pub fn infer(
         if told.is_fact() {
             return Ok(told);
         }
-        asked = asked.or(told);
+        asked = asked.or_told(told);
     }
     Ok(asked)
 }

@@ -1,7 +1,5 @@
 //! What a reduced row says of its classes.
-ghost use Rattle.std.specs.Prelude.{◌≡◌, ◌<◌, [], length, All, IsTrue, ◌↔◌};
-ghost use Rattle.fvn_terms.specs.Signature.{axioms};
-ghost use Rattle.fvn_terms.specs.Equality.{IsAssociative};
+ghost use Rattle.std.specs.Prelude.{◌≡◌, ◌↔◌, ◌<◌, [], length, All, IfSome, IsTrue};
 ghost use Rattle.fvn_combine_choices.specs.Tables.{HasSums};
 ghost use Rattle.fvn_combine_leaves.specs.Readings.{AreHeads};
 ghost use Rattle.fvn_combine_nodes.specs.States.{IsClosed, class_of};
@@ -84,6 +82,27 @@ fn are_all(list: &[usize], k: usize) -> bool
     true
 }
 
+// The number that all members of the list are, where it has any.
+fn the_one(list: &[usize]) -> Option<usize>
+    ensures some { IfSome result (λ k. 0 < length list.now) }
+    ensures all { IfSome result (λ k. All (λ x. x ≡ k) list.now) }
+{
+    if list.len() == 0 {
+        return None;
+    }
+    if are_all(list, list[0]) {
+        return Some(list[0]);
+    }
+    None
+}
+
+// Whether both lists have as many.
+fn are_as_many(xs: &[usize], ys: &[usize]) -> bool
+    ensures { IsTrue result ↔ (length xs.now ≡ length ys.now) }
+{
+    xs.len() == ys.len()
+}
+
 // What is said where both sides are one class each, equally often.
 fn cancelled(
     sig: &Signature,
@@ -93,7 +112,6 @@ fn cancelled(
     left: &[usize],
     right: &[usize],
 ) -> Inferred
-    requires associative { IsAssociative (axioms sig.now f) }
     requires closed { IsClosed sig.now table.now state.now }
     requires left { All (λ k. k < length table.now.nodes) left.now }
     requires right { All (λ k. k < length table.now.nodes) right.now }
@@ -101,19 +119,18 @@ fn cancelled(
     ensures { IsInferred sig.now table.now state.now result }
 {
     let _operator = f;
-    if left.len() == 0 {
-        return Inferred::Nothing;
+    match the_one(left) {
+        None => Inferred::Nothing,
+        Some(k) => match the_one(right) {
+            None => Inferred::Nothing,
+            Some(l) => {
+                if !are_as_many(left, right) {
+                    return Inferred::Nothing;
+                }
+                met(sig, table, state, k, l)
+            }
+        },
     }
-    if left.len() != right.len() {
-        return Inferred::Nothing;
-    }
-    if !are_all(left, left[0]) {
-        return Inferred::Nothing;
-    }
-    if !are_all(right, right[0]) {
-        return Inferred::Nothing;
-    }
-    met(sig, table, state, left[0], right[0])
 }
 
 // What is said where the classes of the second list are one summand each: the first ones have no more.
@@ -203,7 +220,6 @@ pub(crate) fn rule(
     left: &[usize],
     right: &[usize],
 ) -> Inferred
-    requires associative { IsAssociative (axioms sig.now f) }
     requires closed { IsClosed sig.now table.now state.now }
     requires sums { HasSums sig.now table.now }
     requires heads { AreHeads sig.now table.now (class_of state.now) heads.now }

@@ -66,6 +66,6 @@ module _ (splits : List (Option (ℕ × ℕ))) where
 
   -- where class k weighs what a and b weigh, and the identity nothing, both sides of the row weigh the same
   pub record IsReduced (unit : Option ℕ) (k a b : ℕ) (row : Row) : Type 0 where
-    pub weight : (w : ℕ → ℕ) → IsAdditive w → IfSome unit (λ e. w e ≡ 0) → w k ≡ w a + w b → sum_by w row.left ≡ sum_by w row.right
-    pub left : All (λ i. i < length splits) row.left
-    pub right : All (λ i. i < length splits) row.right
+    pub weight : (w : ℕ → ℕ) → IsAdditive w → IfSome unit (λ e. w e ≡ 0) → w k ≡ w a + w b → sum_by w row.left.items ≡ sum_by w row.right.items
+    pub left : All (λ i. i < length splits) row.left.items
+    pub right : All (λ i. i < length splits) row.right.items

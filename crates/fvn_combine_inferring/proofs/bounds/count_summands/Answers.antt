@@ -11,19 +11,19 @@ loop-k-init c = record { few = zero-le; least = λ values go. zero-le }
 pub has_summand-requires-clause-within : goal.has_summand-requires-clause-within
 has_summand-requires-clause-within c = c.requires.within c.loop-k.k-index 0 c.loop-k-test.true
 
-pub loop-k-preserved-then-has_summand : goal.loop-k-preserved-then-has_summand
-loop-k-preserved-then-has_summand c =
+pub loop-k-preserved : goal.loop-k-preserved
+loop-k-preserved c =
     let xs = c.args.list.now in
     let i = c.loop-k.k-index in
     let n = c.loop-k.invariant.few in
     record {
       few = omega (arith, n);
       least = λ values go.
-          count_more c.args.sig.now c.args.table.now c.args.state.now c.args.f values xs i c.loop-k.count (get_or xs i 0) c.loop-k-test.true refl (c.has_summand.ensures c.if-has_summand.true values go) (c.loop-k.invariant.least values go);
+          count_more c.args.sig.now c.args.table.now c.args.state.now c.args.f values xs i c.loop-k.count (get_or xs i 0) c.loop-k-test.true refl (c.has_summand.ensures c.if-not-has_summand.false values go) (c.loop-k.invariant.least values go);
     }
 
-pub loop-k-preserved-else-has_summand : goal.loop-k-preserved-else-has_summand
-loop-k-preserved-else-has_summand c =
+pub loop-k-preserved-then-not-has_summand : goal.loop-k-preserved-then-not-has_summand
+loop-k-preserved-then-not-has_summand c =
     let n = c.loop-k.invariant.few in
     record {
       few = omega (arith, n);

@@ -1,15 +1,16 @@
 -- Both sides are one class, equally often.
-use Rattle.std.proofs.Common.{arith}
-use Rattle.fvn_combine_inferring.proofs.Told.{cancelled_met}
+use Rattle.std.proofs.Common.{◌<◌, length, subst}
+use Rattle.fvn_combine_inferring.proofs.Told.{cancelled_met, only_within}
 use Rattle.fvn_combine_inferring.proofs.rules.cancelled.Goals as goal
 
 pub met-requires : goal.met-requires
 met-requires c =
-    let n = c.if-eq.false in
-    let m = c.if-ne.false in
+    let t = c.args.table.now in
+    let k = c.in-Some.k in
+    let l = c.in-Some-2.l in
     record {
       closed = c.requires.closed;
-      left = c.requires.left 0 0 (omega (arith, n));
-      right = c.requires.right 0 0 (omega (arith, n, m));
-      equal = cancelled_met c.args.sig.now c.args.table.now c.args.state.now c.args.f c.requires.associative _ _ c.args.left.now c.args.right.now (omega (arith, n)) m (c.are_all.ensures c.if-not-are_all.false) (c.are_all-2.ensures c.if-not-are_all-2.false) c.requires.sides;
+      left = only_within (length t.nodes) k c.args.left.now c.in-Some.ensures.some c.in-Some.ensures.all c.requires.left;
+      right = only_within (length t.nodes) l c.args.right.now c.in-Some-2.ensures.some c.in-Some-2.ensures.all c.requires.right;
+      equal = cancelled_met c.args.sig.now t c.args.state.now c.args.f k l c.args.left.now c.args.right.now c.in-Some.ensures.some (c.are_as_many.ensures.0 c.if-not-are_as_many.false) c.in-Some.ensures.all c.in-Some-2.ensures.all c.requires.sides;
     }

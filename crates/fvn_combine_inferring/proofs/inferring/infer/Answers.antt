@@ -1,0 +1,19 @@
+-- What is told, or what was asked before; the operators of a reading are associative.
+use Rattle.std.proofs.Common.{sym, subst, Contains}
+use Rattle.std.proofs.lemmas.List.Elements.{Contains-get_or}
+use Rattle.fvn_combine_leaves.proofs.ReadOfState.{sum_operator}
+use Rattle.fvn_combine_inferring.specs.Inferred.{IsInferred}
+use Rattle.fvn_combine_inferring.proofs.inferring.infer.Goals as goal
+
+pub infer_of-told-requires-clause-associative : goal.infer_of-told-requires-clause-associative
+infer_of-told-requires-clause-associative c =
+    (sum_operator c.args.sig.now c.args.table.now c.recall_well_made.ensures c.args.state.now c.requires.closed c.args.reading.now c.requires.reading c.sums-item.result
+    (subst (Contains c.args.reading.now.sums) (sym c.sums-item.is) (Contains-get_or c.args.reading.now.sums c.loop-sums.sums-index _ c.loop-sums-test.true))).associative
+
+pub loop-sums-preserved : goal.loop-sums-preserved
+loop-sums-preserved c =
+    let told = IsInferred c.args.sig.now c.args.table.now c.args.state.now in
+    elim c.or_told.ensures [
+      | inl e ↦ subst told (sym e) c.loop-sums.invariant
+      | inr e ↦ subst told (sym e) c.in_ok-told.ensures
+    ]

@@ -1,0 +1,15 @@
+-- What is told, or what was asked before.
+use Rattle.std.proofs.Common.{◌<◌, length, sym, subst}
+use Rattle.fvn_combine_inferring.specs.Inferred.{IsInferred}
+use Rattle.fvn_combine_inferring.proofs.inferring.infer_of.Goals as goal
+
+pub infer_at-told-requires-clause-within : goal.infer_at-told-requires-clause-within
+infer_at-told-requires-clause-within c = subst (λ ns. c.loop-i.i < length ns) c.nodes.ensures c.loop-i-test.true
+
+pub loop-i-preserved : goal.loop-i-preserved
+loop-i-preserved c =
+    let told = IsInferred c.args.sig.now c.args.table.now c.args.state.now in
+    elim c.or_told.ensures [
+      | inl e ↦ subst told (sym e) c.loop-i.invariant
+      | inr e ↦ subst told (sym e) c.in_ok-told.ensures
+    ]
