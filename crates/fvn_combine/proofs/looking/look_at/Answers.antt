@@ -1,11 +1,15 @@
 -- The table holds arguments, is small and has sums; what is inferred is said of each unifier.
-use Rattle.std.proofs.Common.{subst, arith}
+use Rattle.std.proofs.Common.{sym, subst, arith}
 use Rattle.fvn_flat.specs.Solving.{problem_of}
+use Rattle.fvn_combine_nodes.specs.States.{IsClosed}
 use Rattle.fvn_combine.specs.Tasks.{Combining}
 use Rattle.fvn_combine_inferring.specs.Inferred.{IsInferred}
 use Rattle.fvn_combine_inferring.specs.declared.inferring.Inferred.TheVariants.{Impossible}
 use Rattle.fvn_combine.proofs.Inferring.{none_admitted}
 use Rattle.fvn_combine.proofs.looking.look_at.Goals as goal
+
+pub read-requires-clause-closed : goal.read-requires-clause-closed
+read-requires-clause-closed c = subst (λ (k : Combining). IsClosed k.declarations k.table c.args.state.now) (sym c.task.view_is) c.requires
 
 pub read-requires-clause-arguments : goal.read-requires-clause-arguments
 read-requires-clause-arguments c = c.tables_hold_arguments.ensures c.task.inside.sig.now (problem_of c.task.inside.problem.now) c.task.inside.table c.task.invariant.well_made c.task.invariant.table_of
