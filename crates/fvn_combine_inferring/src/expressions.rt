@@ -1,12 +1,11 @@
 //! Classes as sums of other classes.
-ghost use Rattle.std.specs.Prelude.{◌≡◌, ◌<◌, ◌∷◌, [], length, slice_get, slice_index_or, All, IfOk, IfSome};
+ghost use Rattle.std.specs.Prelude.{◌≡◌, ◌<◌, ◌∷◌, [], length, slice_get, slice_index_or, None, All, IfOk, IfSome};
 ghost use Rattle.fvn_terms.specs.Signature.{axioms};
 ghost use Rattle.fvn_terms.specs.Equality.{IsAssociative};
 ghost use Rattle.fvn_combine_nodes.specs.States.{IsClosed, class_of};
 ghost use Rattle.fvn_combine_systems.specs.NodeSystems.{pair, addends};
 ghost use Rattle.fvn_combine_inferring.specs.inner.Splits.{IsUnitNode, IsUnitClass, IsSplit, AreSplits, noted, IsAddition, AreWithin, IsSplitPlace, IsExpression};
 
-use crate::bounds::is_headed_apart;
 use fvn_base::Seq;
 use fvn_combine_nodes::{Node, State, Table};
 use fvn_signature::Signature;
@@ -62,7 +61,16 @@ pub(crate) fn split_at(table: &Table, state: &State, f: OpId, i: usize) -> Optio
     }
 }
 
-// The same; none where another operator heads the class.
+// The operator that is noted of the class of node i.
+fn head_at(state: &State, heads: &[Option<OpId>], i: usize) -> Option<OpId>
+    requires within { i < length state.now.names }
+    requires heads { class_of state.now i < length heads.now }
+    ensures { result ≡ slice_index_or heads.now (class_of state.now i) None }
+{
+    heads[state.class_of(i)]
+}
+
+// The same; none where another operator heads the class, as f's identity heads its own.
 fn own_split(
     sig: &Signature,
     table: &Table,
@@ -76,10 +84,17 @@ fn own_split(
     requires within { i < length table.now.nodes }
     ensures { IfSome result (IsSplit table.now state.now f (class_of state.now i)) }
 {
-    if is_headed_apart(sig, state, heads, f, i) {
-        return None;
+    let _sig = sig;
+    match head_at(state, heads, i) {
+        None => split_at(table, state, f, i),
+        Some(g) => {
+            if g == f {
+                split_at(table, state, f, i)
+            } else {
+                None
+            }
+        }
     }
-    split_at(table, state, f, i)
 }
 
 // Notes the split of a class, where there is one.
