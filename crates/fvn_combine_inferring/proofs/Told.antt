@@ -53,6 +53,11 @@ sum_const w k (x ∷ xs) h =
     let e = suc-mul (length xs) (w k) in
     omega (arith, a, b, c, e)
 
+-- what is told to be other than zero is above it
+pub some_told : (n : ℕ) (b : Bool) → (n ≡ 0 → b ≡ true) → b ≡ false → 0 < n
+some_told zero b h e = absurd (false≢true (sym e ∙ h refl))
+some_told (suc n) b h e = omega arith
+
 -- the one number of a list is below what all are below
 pub only_within : (n k : ℕ) (xs : List ℕ) → 0 < length xs → All (λ x. x ≡ k) xs → All (λ x. x < n) xs → k < n
 only_within n k xs some all below = subst (λ x. x < n) (all 0 0 some) (below 0 0 some)

@@ -50,6 +50,13 @@ fn all_met(sig: &Signature, table: &Table, state: &State, list: &[usize], n: usi
     Inferred::Nothing
 }
 
+// Whether the list has no classes.
+fn has_none(list: &[usize]) -> bool
+    ensures { IsTrue result ↔ (length list.now ≡ 0) }
+{
+    list.len() == 0
+}
+
 // What is said of classes whose values have no summands.
 fn emptied(sig: &Signature, table: &Table, state: &State, f: OpId, list: &[usize]) -> Inferred
     requires closed { IsClosed sig.now table.now state.now }
@@ -58,7 +65,7 @@ fn emptied(sig: &Signature, table: &Table, state: &State, f: OpId, list: &[usize
     requires sides { AreSides sig.now table.now state.now f list.now [] }
     ensures { IsInferred sig.now table.now state.now result }
 {
-    if list.len() == 0 {
+    if has_none(list) {
         return Inferred::Nothing;
     }
     if has_no_identity(sig.axioms(f)) {
@@ -133,6 +140,13 @@ fn cancelled(
     }
 }
 
+// Whether the number is above that of the list's members.
+fn is_more(count: usize, list: &[usize]) -> bool
+    ensures { IsTrue result ↔ (length list.now < count) }
+{
+    count > list.len()
+}
+
 // What is said where the classes of the second list are one summand each: the first ones have no more.
 fn counted(
     sig: &Signature,
@@ -154,7 +168,8 @@ fn counted(
     if !are_summands(sig, table, state, heads, f, second) {
         return Inferred::Nothing;
     }
-    if count_summands(sig, table, state, heads, f, first) > second.len() {
+    let count = count_summands(sig, table, state, heads, f, first);
+    if is_more(count, second) {
         return Inferred::Impossible;
     }
     Inferred::Nothing
@@ -176,10 +191,10 @@ fn one_sided(
     requires sides { AreSides sig.now table.now state.now f left.now right.now }
     ensures { IsInferred sig.now table.now state.now result }
 {
-    if right.len() == 0 {
+    if has_none(right) {
         return emptied(sig, table, state, f, left);
     }
-    if left.len() == 0 {
+    if has_none(left) {
         return emptied(sig, table, state, f, right);
     }
     Inferred::Nothing
