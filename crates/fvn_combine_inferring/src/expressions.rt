@@ -57,7 +57,7 @@ pub(crate) fn split_at(table: &Table, state: &State, f: OpId, i: usize) -> Optio
 {
     match addends(table, f, i) {
         None => None,
-        Some((a, b)) => Some((state.class_of(a), state.class_of(b))),
+        Some(p) => Some((state.class_of(p.0), state.class_of(p.1))),
     }
 }
 
@@ -190,9 +190,9 @@ fn split_place(
 {
     match splits[list[place]] {
         None => Ok(false),
-        Some((a, b)) => {
-            list.push(b)?;
-            list[place] = a;
+        Some(p) => {
+            list.push(p.1)?;
+            list[place] = p.0;
             Ok(true)
         }
     }

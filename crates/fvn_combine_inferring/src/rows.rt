@@ -66,14 +66,14 @@ pub(crate) fn row_at(
     let _sig = sig;
     match split_at(table, state, addition.operator, i) {
         None => Ok(None),
-        Some((a, b)) => {
+        Some(p) => {
             let row = reduced(
                 alloc,
                 addition.splits.as_slice(),
                 addition.unit,
                 state.class_of(i),
-                a,
-                b,
+                p.0,
+                p.1,
             )?;
             Ok(Some(row))
         }

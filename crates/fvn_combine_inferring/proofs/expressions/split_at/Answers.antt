@@ -6,9 +6,9 @@ use Rattle.fvn_combine_inferring.proofs.expressions.split_at.Goals as goal
 pub returns-in-Some : goal.returns-in-Some
 returns-in-Some c = record {
   member = c.args.i;
-  left = c.in-Some.a;
-  right = c.in-Some.b;
-  over = addends_over c.args.f (slice_get c.args.table.now.nodes c.args.i) (c.in-Some.a, c.in-Some.b) (sym c.addends.ensures.is ∙ c.in-Some.is);
+  left = c.in-Some.p.0;
+  right = c.in-Some.p.1;
+  over = addends_over c.args.f (slice_get c.args.table.now.nodes c.args.i) c.in-Some.p (sym c.addends.ensures.is ∙ c.in-Some.is);
   of = refl;
   first = sym c.class_of.ensures;
   second = sym c.class_of-2.ensures;

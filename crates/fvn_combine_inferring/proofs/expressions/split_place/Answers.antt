@@ -4,7 +4,7 @@ use Rattle.fvn_combine_inferring.proofs.expressions.split_place.Goals as goal
 
 pub returns-in_ok-push-in-Some : goal.returns-in_ok-push-in-Some
 returns-in_ok-push-in-Some c = (
-  (c.in-Some.a, c.in-Some.b),
+  c.in-Some.p,
   c.in-Some.is,
-  ap (λ l. set l c.args.place c.in-Some.a) c.in_ok-push.ensures.items,
+  ap (λ l. set l c.args.place c.in-Some.p.0) c.in_ok-push-in-Some.ensures.items,
 )
