@@ -1,10 +1,13 @@
 -- What is told, or what was asked before.
-use Rattle.std.proofs.Common.{◌<◌, length, sym, subst}
+use Rattle.std.proofs.Common.{◌<◌, length, inl, inr, sym, subst}
 use Rattle.fvn_combine_inferring.specs.Inferred.{IsInferred}
 use Rattle.fvn_combine_inferring.proofs.inferring.infer_of.Goals as goal
 
-pub infer_at-told-requires-clause-within : goal.infer_at-told-requires-clause-within
-infer_at-told-requires-clause-within c = subst (λ ns. c.loop-i.i < length ns) c.nodes.ensures c.loop-i-test.true
+pub addition_of-requires-clause-heads : goal.addition_of-requires-clause-heads
+addition_of-requires-clause-heads c = c.requires.heads.as_many
+
+pub infer_at-requires-clause-within : goal.infer_at-requires-clause-within
+infer_at-requires-clause-within c = subst (λ ns. c.loop-i.i < length ns) c.nodes.ensures c.loop-i-test.true
 
 pub loop-i-preserved : goal.loop-i-preserved
 loop-i-preserved c =

@@ -1,7 +1,21 @@
 -- What is neither one class nor open is kept apart.
-use Rattle.std.proofs.Common.{sym, ◌∙◌}
+use Rattle.std.proofs.Common.{sym, ◌∙◌, arith}
 use Rattle.fvn_combine_inferring.proofs.Told.{kept_apart, met_apart}
 use Rattle.fvn_combine_inferring.proofs.rules.met.Goals as goal
+
+pub is_same-requires : goal.is_same-requires
+is_same-requires c =
+    let w = c.requires.closed.whole in
+    let i = c.requires.left in
+    let j = c.requires.right in
+    record { left = omega (arith, w, i); right = omega (arith, w, j) }
+
+pub is_open-requires : goal.is_open-requires
+is_open-requires c =
+    let w = c.requires.closed.whole in
+    let i = c.requires.left in
+    let j = c.requires.right in
+    record { naming = c.requires.closed.naming; left = omega (arith, w, i); right = omega (arith, w, j) }
 
 pub returns-then-is_open : goal.returns-then-is_open
 returns-then-is_open c = record {
