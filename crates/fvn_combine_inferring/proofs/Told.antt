@@ -124,7 +124,7 @@ module _ (d : Declarations) (t : NodeTable) (s : State) where
             scaled (length xs) (w k) (w l) some (sym a ∙ c ∙ b ∙ sym e)
 
     -- all summands of the classes, one class after another
-    all_summands : (ℕ → FlatTerm) → List ℕ → List FlatTerm
+    abbrev all_summands : (ℕ → FlatTerm) → List ℕ → List FlatTerm
     all_summands values [] = []
     all_summands values (k ∷ ks) = summands d s f values k ++ all_summands values ks
 

@@ -13,5 +13,5 @@ is_open-requires c =
     let l = c.in-Some.ensures in
     record { naming = c.requires.closed.naming; left = omega (arith, w, k); right = omega (arith, w, l) }
 
-pub returns-then-is_open-in-Some : goal.returns-then-is_open-in-Some
-returns-then-is_open-in-Some c = record { left = c.requires.within; right = c.in-Some.ensures; undecided = sym c.is_open.ensures ∙ c.if-is_open.true }
+pub returns-then-is_open : goal.returns-then-is_open
+returns-then-is_open c = record { left = c.requires.within; right = c.in-Some.ensures; undecided = sym c.is_open.ensures ∙ c.if-is_open.true }

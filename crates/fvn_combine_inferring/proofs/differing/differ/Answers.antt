@@ -1,5 +1,6 @@
 -- They are kept apart, or have two heads.
 use Rattle.std.proofs.Common.{◌≡◌, ℕ, sym, subst, arith}
+use Rattle.fvn_combine_nodes.specs.States.{class_of}
 use Rattle.fvn_combine_inferring.specs.inner.Bounds.{HaveTwoHeads}
 use Rattle.fvn_combine_inferring.proofs.Values.{name_within, heads_differ}
 use Rattle.fvn_combine_inferring.proofs.differing.differ.Goals as goal
@@ -26,4 +27,4 @@ have_two_heads-requires c =
 pub returns : goal.returns
 returns c t values go =
     heads_differ c.args.sig.now c.args.table.now c.requires.sums c.args.state.now c.requires.closed values go c.args.heads.now c.requires.heads c.args.i c.args.j c.requires.left c.requires.right
-    (subst (λ k. HaveTwoHeads c.args.heads.now k _) c.class_of.ensures (subst (λ k. HaveTwoHeads c.args.heads.now c.class_of.result k) c.class_of-2.ensures (c.have_two_heads.ensures t)))
+    (subst (λ k. HaveTwoHeads c.args.heads.now k (class_of c.args.state.now c.args.j)) c.class_of.ensures (subst (λ k. HaveTwoHeads c.args.heads.now c.class_of.result k) c.class_of-2.ensures (c.have_two_heads.ensures t)))

@@ -9,7 +9,7 @@ pub emptied-requires-clause-sides : goal.emptied-requires-clause-sides
 emptied-requires-clause-sides c =
     subst (AreSides c.args.sig.now c.args.table.now c.args.state.now c.args.f c.args.left.now) (nil_from_length c.args.right.now (c.has_none.ensures.0 c.if-has_none.true)) c.requires.sides
 
-pub emptied-2-requires-clause-sides : goal.emptied-2-requires-clause-sides
-emptied-2-requires-clause-sides c =
+pub emptied-requires-then-has_none-2-clause-sides : goal.emptied-requires-then-has_none-2-clause-sides
+emptied-requires-then-has_none-2-clause-sides c =
     subst (AreSides c.args.sig.now c.args.table.now c.args.state.now c.args.f c.args.right.now) (nil_from_length c.args.left.now (c.has_none-2.ensures.0 c.if-has_none-2.true))
     (other_side c.args.sig.now c.args.table.now c.args.state.now c.args.f c.args.left.now c.args.right.now c.requires.sides)
