@@ -82,7 +82,7 @@ def main():
         if given.only not in family:
             continue
         module = (HERE / "unify" / f"{name}.maude").read_text()
-        constant = {"bag": "mt", "zero": "0", "parity": "0"}.get(name, "a")
+        constant = {"evens": "0"}.get(name, "a")
         if name not in start:
             same = f"{constant} =? {constant}"
             start[name] = (

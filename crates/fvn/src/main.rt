@@ -1,11 +1,11 @@
 //! The program: it hands the words, standard input and standard output to the top call.
 #![tactic(auto)]
 
-ghost use Rattle.std.specs.Prelude.{◌≡◌, map, string_bytes, None};
+ghost use Rattle.std.specs.Prelude.{◌≡◌, map, string_bytes};
 ghost use Rattle.std.specs.Process.{exit_status};
 ghost use Rattle.fvn_cmd.specs.declared.status.Status.{Status as AnyStatus};
 ghost use Rattle.fvn_cmd.specs.Statuses.{exit_number, IsSilent};
-ghost use Rattle.fvn_tool.specs.Words.{command_of};
+ghost use Rattle.fvn_tool.specs.Words.{ReadNothing};
 ghost use Rattle.fvn_tool.specs.Runs.{seen};
 ghost use Rattle.fvn_tool.specs.Claims.{IsReport};
 
@@ -44,7 +44,7 @@ fn program<S: Source, K: Sink>(
           sink = seen K.written K.faults out.old out.new;
         })
         × (IsSilent status → out.new ≡ out.old) }
-    ensures unread { command_of (map string_bytes words.now) ≡ None → source.new ≡ source.old }
+    ensures unread { ReadNothing (map string_bytes words.now) → source.new ≡ source.old }
 {
     let status = run(alloc, words, source, out);
     ExitCode::from(status.exit_number())

@@ -1,5 +1,8 @@
 -- The words of the contracts of this crate.
 pub mod Statuses
 pub mod Texts
+pub mod Asking
 pub mod Refusing
+pub mod Headline
+pub mod Causes
 pub mod Laws

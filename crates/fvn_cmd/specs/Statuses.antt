@@ -50,3 +50,15 @@ IsAnswering ProblemRefused = ⊥
 IsAnswering ReadFault = ⊥
 IsAnswering WriteFault = ⊥
 IsAnswering NoMemory = ⊥
+
+-- the status is that of a refusal of a module, or of words in it
+abbrev pub IsRefusing : Status → Type 0
+IsRefusing ModuleRefused = Unit {0}
+IsRefusing ProblemRefused = Unit {0}
+IsRefusing Solved = ⊥
+IsRefusing Nothing = ⊥
+IsRefusing Usage = ⊥
+IsRefusing Ended = ⊥
+IsRefusing ReadFault = ⊥
+IsRefusing WriteFault = ⊥
+IsRefusing NoMemory = ⊥

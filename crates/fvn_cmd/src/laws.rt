@@ -1,5 +1,5 @@
-//! What holds of all that is read, the contract of a function that does nothing.
-ghost use Rattle.fvn_cmd.specs.Laws.{ReadersAreLawful};
+//! What holds of all that is read, and of all refusals, each the contract of a function that does nothing.
+ghost use Rattle.fvn_cmd.specs.Laws.{ReadersAreLawful, RefusalsAreLawful};
 
 use fvn_module_loading::{
     faulty_texts_are_not_loaded, load_faults_are_determined, loaded_modules_are_determined,
@@ -24,4 +24,12 @@ pub fn readers_are_lawful()
     bindings_are_determined();
     refused_bindings_bind_nothing();
     binding_faults_are_determined();
+}
+
+/// For the words of all commands: bytes and words are refused with one status and one text at most, and only where the
+/// bytes are not loaded, or else not all words are what they should be.
+pub fn refusals_are_lawful()
+    ensures { RefusalsAreLawful }
+{
+    readers_are_lawful();
 }

@@ -1,4 +1,4 @@
-//! What all commands need: statuses, answers, and how modules, problems and bindings are refused.
+//! What all commands need: statuses, answers, how modules and words are refused, and what a list of answers promises.
 #![tactic(auto)]
 
 mod answer;
@@ -7,6 +7,6 @@ mod refusing;
 mod status;
 
 pub use answer::{Answer, Text};
-pub use laws::readers_are_lawful;
+pub use laws::{readers_are_lawful, refusals_are_lawful};
 pub use refusing::{refuse_module, refuse_problem};
 pub use status::Status;

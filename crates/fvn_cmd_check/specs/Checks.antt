@@ -1,14 +1,13 @@
 -- What the program replies to `check`.
-use Rattle.std.specs.Prelude.{◌≡◌, ℕ, List, ◌++◌, Option}
-use Rattle.fvn_module.specs.declared.fault.ModuleFault.{ModuleFault}
+use Rattle.std.specs.Prelude.{ℕ, List, [], ◌++◌, Option}
 use Rattle.fvn_module.specs.Contents.{Contents}
 use Rattle.fvn_module_loading.specs.Loading.{IsLoaded}
 use Rattle.fvn_module_loading.specs.Losses.{IsLossOf}
 use Rattle.fvn_cmd_texts.specs.Summaries.{summary_text, sorts_text}
 use Rattle.fvn_cmd.specs.declared.status.Status.{Status}
-use Rattle.fvn_cmd.specs.declared.status.Status.TheVariants.{Solved, Nothing, Usage, ModuleRefused, ProblemRefused, Ended, ReadFault, WriteFault, NoMemory}
+use Rattle.fvn_cmd.specs.declared.status.Status.TheVariants.{Solved}
 use Rattle.fvn_cmd.specs.Texts.{line, Is}
-use Rattle.fvn_cmd.specs.Refusing.{IsRefusalLine, IsFirstRefusal}
+use Rattle.fvn_cmd.specs.Refusing.{IsReply}
 
 -- the lines that say how much the module declares, and which equation is the first that loses a sort, or that none does
 abbrev pub told_lines : Contents → Option ℕ → List ℕ
@@ -20,21 +19,11 @@ pub record TellsSorts (m : Contents) (status : Status) (text : List ℕ) : Type 
   pub loss_is : IsLossOf m loss
   pub told : Is Solved (told_lines m loss) status text
 
--- what `check` writes of a text: the line of a refusal, or the lines on a module
-abbrev pub IsCheckText : Status → List ℕ → Type 0
-IsCheckText Solved text = (m : Contents) × (loss : Option ℕ) × (text ≡ told_lines m loss)
-IsCheckText ModuleRefused text = (fault : ModuleFault) × IsRefusalLine fault text
-IsCheckText Nothing text = ⊥
-IsCheckText Usage text = ⊥
-IsCheckText ProblemRefused text = ⊥
-IsCheckText Ended text = ⊥
-IsCheckText ReadFault text = ⊥
-IsCheckText WriteFault text = ⊥
-IsCheckText NoMemory text = ⊥
-
 module _ (bytes : List ℕ) where
-  -- this status with this text replies to `check` over the bytes
-  pub data IsCheckReply : Status → List ℕ → Type 0 where
-    refused : {text : List ℕ} → IsFirstRefusal bytes text → IsCheckReply ModuleRefused text
-    told : {status : Status} {text : List ℕ} (m : Contents) → IsLoaded bytes m →
-        TellsSorts m status text → IsCheckReply status text
+  -- this status and this text tell of the module as which the bytes are loaded
+  abbrev pub IsCheckAnswer : Status → List ℕ → Type 0
+  IsCheckAnswer status text = (m : Contents) × (IsLoaded bytes m × TellsSorts m status text)
+
+  -- this status and this text reply to `check` over the bytes
+  abbrev pub IsCheckReply : Status → List ℕ → Type 0
+  IsCheckReply = IsReply bytes [] IsCheckAnswer

@@ -1,5 +1,4 @@
--- What is promised of `check`, `verify` and `unify` follows from their replies: these are for callers.
-pub mod Checks
+-- What is promised of answers to `check`, `verify` and `unify`: the words of verdicts and of ends are for callers.
+mod Checks
 pub mod Verified
 pub mod Unified
-mod Counts

@@ -1,40 +1,48 @@
--- Laws of the replies to `check`, `verify` and `unify`.
-use Rattle.std.specs.Prelude.{◌≡◌, ℕ, List}
+-- Laws of the answers to `check`, `verify` and `unify`.
+use Rattle.std.specs.Prelude.{◌≡◌, ℕ, List, Option}
 use Rattle.fvn_module.specs.Contents.{Contents}
+use Rattle.fvn_module_loading.specs.Losses.{IsLossOf}
 use Rattle.fvn_problems.specs.declared.problem.Problem.{Problem}
+use Rattle.fvn_problems.specs.declared.bindings.Bindings.{Bindings}
 use Rattle.fvn_answer.specs.declared.end.End.TheVariants.{Complete}
+use Rattle.fvn_verify.specs.declared.verdict.Verdict.{Verdict}
 use Rattle.fvn_cmd.specs.declared.status.Status.{Status}
+use Rattle.fvn_cmd.specs.declared.status.Status.TheVariants.{Solved}
 use Rattle.fvn_cmd.specs.Texts.{Is}
-use Rattle.fvn_cmd_check.specs.Checks.{IsCheckReply}
-use Rattle.fvn_cmd_verify.specs.Replies.{IsVerifyReply}
-use Rattle.fvn_cmd_unify.specs.Replies.{IsAnswer, IsUnifyReply}
-use Rattle.fvn_cmd_laws.specs.Unified.{AreAnswersOrOne}
-use Rattle.fvn_cmd_laws.specs.Verified.{AreVerdictsOrOne}
+use Rattle.fvn_cmd_check.specs.Checks.{told_lines, TellsSorts}
+use Rattle.fvn_cmd_verify.specs.Verdicts.{IsVerdictOn, TellsVerdict}
+use Rattle.fvn_cmd_unify.specs.Ends.{StaysWithinBounds}
+use Rattle.fvn_cmd_unify.specs.Solutions.{IsWhole}
+use Rattle.fvn_cmd_unify.specs.Replies.{IsAnswer}
+use Rattle.fvn_cmd_laws.specs.Unified.{IsNothingExact, HasFewUnifiers}
+use Rattle.fvn_cmd_laws.specs.Verified.{AreOneIfConfluent, IsDecided, AllStayWithin, IsVerdictExact}
 
--- a text has one reply to `check`
-abbrev pub RepliesToCheckAreDetermined : Type 0
-RepliesToCheckAreDetermined =
-    (bytes : List ℕ) (s : Status) (t : List ℕ) → IsCheckReply bytes s t →
-    (u : Status) (v : List ℕ) → IsCheckReply bytes u v → Is s t u v
+-- Of the sorts of a module one thing is told.
+abbrev pub SortsAreToldOnce : Type 0
+SortsAreToldOnce =
+    (m : Contents) (s : Status) (t : List ℕ) → TellsSorts m s t → (loss : Option ℕ) → IsLossOf m loss →
+    Is Solved (told_lines m loss) s t
 
--- A text, a problem and bindings are refused by `verify` with one text, or a verdict is always told, whatever the limits on
--- steps are; and where the equations are confluent, verdicts that ended at no bound are one. Which of them comes is open
+-- What is promised of verdicts: what is told is exact; where the equations are confluent, verdicts that ended at no bound
+-- are one, whatever the limits on steps are; and where no bound is met, none ended a verdict. Which of them comes is open
 -- where a side has a short way to a normal form and a long sequence besides.
-abbrev pub VerdictsAreDetermined : Type 0
-VerdictsAreDetermined =
-    (bytes problem bindings : List ℕ) (steps more : ℕ) (s : Status) (t : List ℕ) →
-    IsVerifyReply bytes problem bindings steps s t →
-    (u : Status) (v : List ℕ) → IsVerifyReply bytes problem bindings more u v → AreVerdictsOrOne bytes s t u v
+pub record VerdictsAreExact : Type 0 where
+  pub exact : (m : Contents) (p : Problem) (b : Bindings) (steps : ℕ) (s : Status) (t : List ℕ) →
+      TellsVerdict m steps p b s t → IsVerdictExact m p b steps s t
+  pub one : (m : Contents) (p : Problem) (b : Bindings) (steps more : ℕ) (s : Status) (t : List ℕ) (u : Status) (v : List ℕ) →
+      TellsVerdict m steps p b s t → TellsVerdict m more p b u v → AreOneIfConfluent m s t u v
+  pub decided : (m : Contents) (p : Problem) (b : Bindings) (steps : ℕ) (v : Verdict) →
+      IsVerdictOn m steps p b v → AllStayWithin m p b steps → IsDecided v
 
--- A text and a problem are refused by `unify` with one text, or always answered. Which unifiers an answer gives is open:
--- of two complete sets each is as good as the other.
-abbrev pub RefusalsToUnifyAreDetermined : Type 0
-RefusalsToUnifyAreDetermined =
-    (bytes word : List ℕ) (s : Status) (t : List ℕ) → IsUnifyReply bytes word s t →
-    (u : Status) (v : List ℕ) → IsUnifyReply bytes word u v → AreAnswersOrOne s t u v
-
--- Two complete answers to a problem have equally many lines.
-abbrev pub CompleteAnswersHaveOneCount : Type 0
-CompleteAnswersHaveOneCount =
-    (m : Contents) (p : Problem) (s u : Status) (t v : List ℕ) (a : IsAnswer m p s t) (b : IsAnswer m p u v) (n k : ℕ) →
-    a.end ≡ Complete n → b.end ≡ Complete k → n ≡ k
+-- What is promised of the answers to a problem: `complete 0` comes exactly at Nothing, where nothing unifies; where no
+-- bound is met, all unifiers were found; and two complete answers have equally many lines. Which unifiers an answer gives
+-- is open: of two complete sets each is as good as the other.
+pub record AnswersAreExact : Type 0 where
+  pub nothing : (m : Contents) (p : Problem) (s : Status) (t : List ℕ) (a : IsAnswer m p s t) →
+      IsNothingExact m p s a.found
+  pub whole : (m : Contents) (p : Problem) (s : Status) (t : List ℕ) (a : IsAnswer m p s t) →
+      StaysWithinBounds m p → IsWhole a.found
+  pub few : (m : Contents) (p : Problem) (s : Status) (t : List ℕ) (a : IsAnswer m p s t) →
+      HasFewUnifiers m p → IsWhole a.found
+  pub one_count : (m : Contents) (p : Problem) (s u : Status) (t v : List ℕ) (a : IsAnswer m p s t) (b : IsAnswer m p u v)
+      (n k : ℕ) → a.found.end ≡ Complete n → b.found.end ≡ Complete k → n ≡ k

@@ -1,38 +1,26 @@
-//! Laws of replies, each the contract of a function that does nothing.
-ghost use Rattle.fvn_cmd_laws.specs.Laws.{
-  RepliesToCheckAreDetermined,
-  VerdictsAreDetermined,
-  RefusalsToUnifyAreDetermined,
-  CompleteAnswersHaveOneCount,
-};
+//! Laws of answers, each the contract of a function that does nothing.
+ghost use Rattle.fvn_cmd_laws.specs.Laws.{AnswersAreExact, SortsAreToldOnce, VerdictsAreExact};
 
 use fvn_cmd::readers_are_lawful;
 use fvn_verify::verdicts_agree;
 
-/// A text has one reply to `check`.
-pub fn replies_to_check_are_determined()
-    ensures { RepliesToCheckAreDetermined }
+/// Of the sorts of a module one thing is told.
+pub fn sorts_are_told_once()
+    ensures { SortsAreToldOnce }
 {
     readers_are_lawful();
 }
 
-/// A text, a problem and bindings are refused by `verify` with one text, or a verdict is always told; where the equations
-/// are confluent, verdicts that ended at no bound are one.
-pub fn verdicts_are_determined()
-    ensures { VerdictsAreDetermined }
+/// What is told of bindings is exact; where the equations are confluent, verdicts that ended at no bound are one, and where
+/// no bound is met, none ended a verdict.
+pub fn verdicts_are_exact()
+    ensures { VerdictsAreExact }
 {
-    readers_are_lawful();
     verdicts_agree();
 }
 
-/// A text and a problem are refused by `unify` with one text, or always answered.
-pub fn refusals_to_unify_are_determined()
-    ensures { RefusalsToUnifyAreDetermined }
-{
-    readers_are_lawful();
-}
-
-/// Two complete answers of `unify` to a problem have equally many lines.
-pub fn complete_answers_have_one_count()
-    ensures { CompleteAnswersHaveOneCount }
+/// `complete 0` comes exactly where nothing unifies, all unifiers are found where no bound is met, and two complete
+/// answers to a problem have equally many lines.
+pub fn answers_are_exact()
+    ensures { AnswersAreExact }
 {}

@@ -1,9 +1,6 @@
-//! What is promised of `check`, `verify` and `unify` follows from their replies.
+//! What is promised of `check`, `verify` and `unify` follows from their answers.
 #![tactic(auto)]
 
 mod laws;
 
-pub use laws::{
-    complete_answers_have_one_count, refusals_to_unify_are_determined,
-    replies_to_check_are_determined, verdicts_are_determined,
-};
+pub use laws::{answers_are_exact, sorts_are_told_once, verdicts_are_exact};

@@ -21,7 +21,7 @@ use Rattle.fvn_cmd_unify.specs.Solutions.{IsLineOf, Shows}
 use Rattle.fvn_cmd_unify.specs.inner.Told.{AreLinesOfBindings}
 
 -- an element of the second list stands beside one of the first
-beside : {A B : Type 0} (R : A → B → Type 0) (xs : List A) (ys : List B) → AllZip R xs ys → (y : B) → Contains ys y → (x : A) × (Contains xs x × R x y)
+pub beside : {A B : Type 0} (R : A → B → Type 0) (xs : List A) (ys : List B) → AllZip R xs ys → (y : B) → Contains ys y → (x : A) × (Contains xs x × R x y)
 beside R [] [] h y c = absurd (contains_none y c)
 beside R [] (z ∷ zs) h y c = absurd h
 beside R (x ∷ xs) [] h y c = absurd h
@@ -63,7 +63,7 @@ module _ (m : Contents) (p : Problem) where
         (AllPairs-first Apart s ss b.0 a b.1.0).0 (law m.signature m.names p.names.texts p.vars l s b.0 h.0.reads same.reads))
 
     pub shown-lines : (unifiers : List Bindings) (lines : List Text) → AreLinesOfBindings m p unifiers lines → IsApart (IsInstanceOf m p) (map substitution unifiers) → (end : End) (text : Text) →
-        IsAnswerText m.signature m.names lines end text → Shows m p (map substitution unifiers) end text
+        IsAnswerText m.signature m.names lines end text → Shows m p (record { values = map substitution unifiers; end = end }) text
     shown-lines unifiers lines h a end text answer =
         let z = values-lines unifiers lines h in
         record {

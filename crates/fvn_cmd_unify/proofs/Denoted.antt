@@ -24,8 +24,8 @@ use Rattle.fvn_refine.proofs.Refined.{listed_member, member_listed}
 use Rattle.fvn_answer.specs.Denoting.{Reads}
 use Rattle.fvn_answer.specs.Laws.{EqualLinesAreInstances, LinesDenoteOneSubstitution}
 use Rattle.fvn_axunify.proofs.SameValues.{apply_equal}
-use Rattle.fvn_cmd_unify.specs.Asked.{pairs_of}
-use Rattle.fvn_cmd_unify.specs.Laws.{on_variables, LinesDenoteUnifiers}
+use Rattle.fvn_cmd_unify.specs.Asked.{pairs_of, on_variables}
+use Rattle.fvn_cmd_unify.specs.Laws.{LinesDenoteUnifiers}
 use Rattle.fvn_cmd_unify.proofs.Asking.{asked}
 
 on_listed : (vars : List Var) (s : Substitution) (x : Var) → Contains vars x → on_variables vars s x ≡ s x

@@ -6,3 +6,4 @@ mod Solving
 mod Counting
 mod Replied
 mod Denoted
+mod Shown

@@ -1,11 +1,10 @@
 -- How the steps of `unify` make its reply.
-use Rattle.std.proofs.Common.{◌≡◌, ℕ, List, map, length, Result, Ok, Err, IfOk, sym, ap, ◌∙◌, subst}
+use Rattle.std.proofs.Common.{◌≡◌, ℕ, List, length, Result, Ok, Err, IfOk, sym, ap, ◌∙◌, subst, inl, inr}
 use Rattle.std.specs.Prelude.{All}
 use Rattle.fvn_terms.specs.declared.declarations.Declarations.{Declarations}
 use Rattle.fvn_forms.specs.FitsKinds.{FitsKinds}
 use Rattle.fvn_flat.specs.Laws.{AnswersToFlattenedPairs}
 use Rattle.fvn_flat.specs.Bindings.{Bindings}
-use Rattle.fvn_flat.specs.Solving.{substitution}
 use Rattle.fvn_flat.specs.declared.solver.Solved.{Solved}
 use Rattle.fvn_syntax.specs.declared.names.Names.{Names}
 use Rattle.fvn_syntax.specs.Pieces.{Text}
@@ -24,10 +23,10 @@ use Rattle.fvn_cmd.specs.declared.answer.Answer.{Answer}
 use Rattle.fvn_cmd.specs.Texts.{bytes_of}
 use Rattle.fvn_cmd.specs.Refusing.{IsRefusalLine, IsProblemRefusalLine}
 use Rattle.fvn_cmd_unify.specs.Ends.{status_of_end}
-use Rattle.fvn_cmd_unify.specs.Replies.{IsAnswer, IsUnifyReply, module_refused, problem_refused, answered}
+use Rattle.fvn_cmd_unify.specs.Replies.{IsAnswer, IsUnifyReply}
 use Rattle.fvn_cmd_unify.specs.inner.Told.{end_told, AreLinesOfBindings}
 use Rattle.fvn_cmd_unify.specs.inner.Steps.{IsSolved, RepliesIn}
-use Rattle.fvn_cmd_unify.proofs.Solving.{solved-fits, solved-solution}
+use Rattle.fvn_cmd_unify.proofs.Solving.{solved-fits, told-found, solved-solution}
 use Rattle.fvn_cmd_unify.proofs.Counting.{shown-lines}
 
 module _ (m : Contents) (p : Problem) (kinded : All (AreOfOneKind m.signature) p.pairs) (vars : HasVariables m.signature p) (r : Solved) (s : IsSolved m p r) (unifiers : List Bindings) (are : unifiers ≡ r.unifiers) where
@@ -42,10 +41,9 @@ module _ (m : Contents) (p : Problem) (kinded : All (AreOfOneKind m.signature) p
       let solution = solved-solution m p kinded vars r s law (subst FitsKinds signature_is fits) in
       let listed : AreLinesOfBindings m p r.unifiers lines = subst (λ l. AreLinesOfBindings m p l lines) are h in
       record {
-        values = map substitution r.unifiers;
-        end = e;
+        found = told-found m p kinded vars r s;
         solution = solution;
-        shown = shown-lines m p lines_law r.unifiers lines listed solution.apart e text (subst (λ x. IsAnswerText m.signature m.names lines x text) end_is shown);
+        shown = shown-lines m p lines_law r.unifiers lines listed solution.headline.apart e text (subst (λ x. IsAnswerText m.signature m.names lines x text) end_is shown);
         status_is = is ∙ ap status_of_end end_is;
       }
 
@@ -57,7 +55,7 @@ module _ {E : Type 0} (bytes word : List ℕ) where
   unified-in m h (Err e) t = tt
 
   pub module-refused : (fault : ModuleFault) → IsLoadFault bytes fault → (r : Result Answer E) → IfOk r (λ a. a.status ≡ ModuleRefused) → IfOk r (λ a. IsRefusalLine fault (bytes_of a.text)) → IfOk r (λ a. IsUnifyReply bytes word a.status (bytes_of a.text))
-  module-refused fault h (Ok a) e is = subst (λ x. IsUnifyReply bytes word x (bytes_of a.text)) (sym e) (module_refused (record { fault = fault; first = h; line_of = is }))
+  module-refused fault h (Ok a) e is = inl (inl (e, record { fault = fault; first = h; line_of = is }))
   module-refused fault h (Err e) s is = tt
 
 module _ (m : Contents) (d : Declarations) (names : Names) (signature_is : d ≡ m.signature) (names_are : names ≡ m.names) where
@@ -66,8 +64,17 @@ module _ (m : Contents) (d : Declarations) (names : Names) (signature_is : d ≡
 
   pub problem-refused : (word : List ℕ) (fault : ProblemFault) → RefusesProblem d names word fault → (s : Status) (t : List ℕ) → s ≡ ProblemRefused → IsProblemRefusalLine fault t → RepliesIn m word s t
   problem-refused word fault h s t e is bytes module_text =
-      subst (λ x. IsUnifyReply bytes word x t) (sym e)
-      (problem_refused m module_text (record { fault = fault; first = in_module (λ x y. RefusesProblem x y word fault) h; line_of = is }))
+      inl (inr (
+        e,
+        record {
+          contents = m;
+          loaded = module_text;
+          fault = fault;
+          first = inl (in_module (λ x y. RefusesProblem x y word fault) h);
+          line_of = is;
+        },
+      ))
 
   pub problem-answered : (word : List ℕ) (p : Problem) → IsProblem d names word p → (s : Status) (t : List ℕ) → IsAnswer m p s t → RepliesIn m word s t
-  problem-answered word p h s t a bytes module_text = answered m p (record { module_text = module_text; problem_text = in_module (λ x y. IsProblem x y word p) h }) a
+  problem-answered word p h s t a bytes module_text =
+      inr (m, p, (record { module_text = module_text; problem_text = in_module (λ x y. IsProblem x y word p) h }, a))

@@ -36,9 +36,11 @@ use Rattle.fvn_axunify.specs.Exact.{IsExact}
 use Rattle.fvn_answer.specs.Answers.{FitsEnd}
 use Rattle.fvn_answer.specs.Asked.{HaveSorts}
 use Rattle.fvn_answer.specs.declared.end.End.TheVariants.{Complete, Unifiers}
-use Rattle.fvn_cmd_unify.specs.Asked.{pairs_of, Unifies, IsInstanceOf, flattened}
-use Rattle.fvn_cmd_unify.specs.Ends.{AreFlattened, IsCauseOf}
-use Rattle.fvn_cmd_unify.specs.Solutions.{AreAll, IsSolution}
+use Rattle.fvn_cmd.specs.Causes.{HasTooMany}
+use Rattle.fvn_cmd.specs.Headline.{AreAll}
+use Rattle.fvn_cmd_unify.specs.Asked.{pairs_of, Unifies, IsInstanceOf, flattened, AreFlattened, unifiers_of}
+use Rattle.fvn_cmd_unify.specs.Ends.{IsCauseOf}
+use Rattle.fvn_cmd_unify.specs.Solutions.{Found, IsSolution}
 use Rattle.fvn_cmd_unify.specs.inner.Told.{end_told}
 use Rattle.fvn_cmd_unify.specs.inner.Steps.{IsSolved}
 use Rattle.fvn_cmd_unify.proofs.Flattening.{pairs_of-problem}
@@ -92,11 +94,23 @@ module _ (m : Contents) (p : Problem) (kinded : All (AreOfOneKind m.signature) p
   count-is : length r.unifiers ≡ length values
   count-is = sym (length-map r.unifiers substitution)
 
+  -- where the limit is met, as many are kept as may be
+  too-many : length r.unifiers ≡ UNIFIERS → HasTooMany m.signature (AreFlattened m p)
+  too-many full = record {
+    given = s.given;
+    is_given = s.flattened;
+    kept = values;
+    sound = All-map (IsUnifier m.signature (problem_of s.given)) substitution r.unifiers s.answer.sound;
+    drawn = All-map (IsDrawn m.signature (problem_of s.given)) substitution r.unifiers s.answer.drawn;
+    apart = s.answer.apart;
+    count = sym count-is ∙ full;
+  }
+
   told-cause : (e : SolveEnd) → IsCause m.signature s.given UNIFIERS TERM_SYMBOLS (length r.unifiers) e → IsCauseOf m p values (end_told e (length r.unifiers))
   told-cause AllFound c = count-is
-  told-cause (NoBasis f system) c = record { given = s.given; flattened = s.flattened; system = system; cause = c }
-  told-cause Full c = (refl, sym count-is ∙ c)
-  told-cause (TooLarge cause) c = (refl, record { given = s.given; flattened = s.flattened; cause = cause; large = c })
+  told-cause (NoBasis f system) c = record { given = s.given; is_given = s.flattened; system = system; cause = c }
+  told-cause Full c = (refl, too-many c)
+  told-cause (TooLarge cause) c = (refl, record { given = s.given; is_given = s.flattened; cause = cause; large = c })
 
   told-fits : (e : SolveEnd) → IsCause m.signature s.given UNIFIERS TERM_SYMBOLS (length r.unifiers) e → FitsEnd m.signature (end_told e (length r.unifiers))
   told-fits AllFound c = tt
@@ -129,22 +143,29 @@ module _ (m : Contents) (p : Problem) (kinded : All (AreOfOneKind m.signature) p
     complete = λ u is. let a = h.complete u is in (a.0, a.1, a.2, a.3, instance-on_vars m.signature p vars u a.1 a.4);
   }
 
-  all-of : IsApart (IsInstanceOf m p) values → IsCompleteSet (Unifies m p) (IsInstanceOf m p) values → AreAll m p values
+  all-of : IsApart (IsInstanceOf m p) values → IsCompleteSet (Unifies m p) (IsInstanceOf m p) values → AreAll (unifiers_of m p) values
   all-of apart complete = record {
-    complete = complete;
+    complete = complete.complete;
     shortest = shortest_unifiers m.signature p.vars (pairs_of p.pairs) values complete apart;
   }
 
+  -- what is told of what was found
+  abbrev pub told-found : Found
+  told-found = record { values = values; end = end_told r.end (length r.unifiers) }
+
   -- the answer to the flattened pairs is one to the problem
-  pub solved-solution : AnswersToFlattenedPairs → FitsKinds m.signature → IsSolution m p values (end_told r.end (length r.unifiers))
+  pub solved-solution : AnswersToFlattenedPairs → FitsKinds m.signature → IsSolution m p told-found
   solved-solution law fits =
       let a : IsAnswerTo m.signature (pairs_of p.pairs) values (r.end ≡ AllFound) =
       law m.signature fits (pairs_of p.pairs) (pairs_of-problem m.signature p.pairs kinded) s.given s.flattened r s.answer.sound s.answer.apart s.answer.complete in
+      let apart = apart-on_vars a.apart in
       record {
-        sound = a.sound;
+        headline = record {
+          sound = a.sound;
+          apart = apart;
+          all = λ e trusted. all-of apart (complete-on_vars (a.complete (told-complete r.end (length r.unifiers) (length values) e)));
+        };
         drawn = drawn;
-        apart = apart-on_vars a.apart;
-        all = λ n e. all-of (apart-on_vars a.apart) (complete-on_vars (a.complete (told-complete r.end (length r.unifiers) n e)));
         cause = told-cause r.end s.answer.cause;
         few = subst (λ n. n ≤ UNIFIERS) count-is s.exact.unifiers.few;
         full = (

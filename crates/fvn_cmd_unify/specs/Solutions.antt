@@ -1,9 +1,8 @@
 -- Unifiers with the end of their answer, and the text that shows them.
-use Rattle.std.specs.Prelude.{ℕ, ◌≡◌, ◌≤◌, ◌↔◌, List, length, All}
+use Rattle.std.specs.Prelude.{◌≡◌, ◌≤◌, ◌↔◌, List, length, All}
 use Rattle.fvn_base.specs.declared.limits.TheConstants.{UNIFIERS}
 use Rattle.std.specs.List.{AllZip}
 use Rattle.fvn_terms.specs.Substitution.{Substitution}
-use Rattle.fvn_terms.specs.CompleteSets.{IsCompleteSet, IsApart, IsShortest}
 use Rattle.fvn_flat.specs.Bindings.{Bindings}
 use Rattle.fvn_flat.specs.Drawn.{IsDrawn}
 use Rattle.fvn_flat.specs.Solving.{substitution}
@@ -15,25 +14,28 @@ use Rattle.fvn_answer.specs.Denoting.{Reads}
 use Rattle.fvn_answer.specs.Answers.{IsAnswerText}
 use Rattle.fvn_answer.specs.declared.end.End.{End}
 use Rattle.fvn_answer.specs.declared.end.End.TheVariants.{Complete, Unifiers}
-use Rattle.fvn_cmd_unify.specs.Asked.{Unifies, IsInstanceOf, flattened}
+use Rattle.fvn_cmd.specs.Headline.{IsHeadline}
+use Rattle.fvn_cmd_unify.specs.Asked.{flattened, unifiers_of}
 use Rattle.fvn_cmd_unify.specs.Ends.{IsCauseOf}
 
-module _ (m : Contents) (p : Problem) where
-  -- every unifier is an instance of one of these, and no complete set of unifiers has fewer members
-  pub record AreAll (values : List Substitution) : Type 0 where
-    pub complete : IsCompleteSet (Unifies m p) (IsInstanceOf m p) values
-    pub shortest : IsShortest (Unifies m p) (IsInstanceOf m p) values
+-- what was found: substitutions, and the end of the search for them
+pub record Found : Type 0 where
+  pub values : List Substitution
+  pub end : End
 
+-- the search came to its end
+abbrev pub IsWhole : Found → Type 0
+IsWhole found = found.end ≡ Complete (length found.values)
+
+module _ (m : Contents) (p : Problem) where
   -- these are unifiers that may be drawn, none an instance of another; at `complete` they are all; and the end has its cause
-  pub record IsSolution (values : List Substitution) (end : End) : Type 0 where
-    pub sound : All (Unifies m p) values
-    pub drawn : All (IsDrawn m.signature (flattened m p)) values
-    pub apart : IsApart (IsInstanceOf m p) values
-    pub all : (n : ℕ) → end ≡ Complete n → AreAll values
-    pub cause : IsCauseOf m p values end
+  pub record IsSolution (found : Found) : Type 0 where
+    pub headline : IsHeadline (unifiers_of m p) (IsWhole found) found.values
+    pub drawn : All (IsDrawn m.signature (flattened m p)) found.values
+    pub cause : IsCauseOf m p found.values found.end
     -- the limit of unifiers is not passed, and it is told exactly where it is reached
-    pub few : length values ≤ UNIFIERS
-    pub full : (end ≡ Unifiers UNIFIERS) ↔ (length values ≡ UNIFIERS)
+    pub few : length found.values ≤ UNIFIERS
+    pub full : (found.end ≡ Unifiers UNIFIERS) ↔ (length found.values ≡ UNIFIERS)
 
   -- the line denotes the substitution, modulo the axioms and up to new names; it is the text of the values of some bindings
   -- that stand for it, under a numbering of their variables; and it is one line
@@ -45,9 +47,9 @@ module _ (m : Contents) (p : Problem) where
     pub plain : HasNoLineFeed line
 
   -- the text shows a line for each of the substitutions, in byte order, and then the line of the end
-  pub record Shows (values : List Substitution) (end : End) (text : Text) : Type 0 where
+  pub record Shows (found : Found) (text : Text) : Type 0 where
     pub lines : List Text
-    pub lines_of : AllZip IsLineOf values lines
-    pub answer : IsAnswerText m.signature m.names lines end text
+    pub lines_of : AllZip IsLineOf found.values lines
+    pub answer : IsAnswerText m.signature m.names lines found.end text
     -- no two of them have one line
-    pub count : length answer.lines ≡ length values
+    pub count : length answer.lines ≡ length found.values

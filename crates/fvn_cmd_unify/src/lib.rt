@@ -7,5 +7,5 @@ mod lines;
 mod pairs;
 mod replying;
 
-pub use laws::lines_denote_unifiers;
+pub use laws::{lines_denote_unifiers, shown_lines_keep_the_promise};
 pub use replying::unify_reply;

@@ -1,5 +1,5 @@
 -- How the steps of `verify` make its reply.
-use Rattle.std.proofs.Common.{◌≡◌, ℕ, List, sym, subst}
+use Rattle.std.proofs.Common.{◌≡◌, ℕ, List, subst, inl, inr}
 use Rattle.fvn_terms.specs.declared.declarations.Declarations.{Declarations}
 use Rattle.fvn_syntax.specs.declared.names.Names.{Names}
 use Rattle.fvn_module.specs.declared.fault.ModuleFault.{ModuleFault}
@@ -16,7 +16,7 @@ use Rattle.fvn_cmd.specs.declared.status.Status.{Status}
 use Rattle.fvn_cmd.specs.declared.status.Status.TheVariants.{ModuleRefused, ProblemRefused}
 use Rattle.fvn_cmd.specs.Refusing.{IsRefusalLine, IsProblemRefusalLine}
 use Rattle.fvn_cmd_verify.specs.Verdicts.{TellsVerdict}
-use Rattle.fvn_cmd_verify.specs.Replies.{IsVerifyReply, module_refused, problem_refused, bindings_refused, verified}
+use Rattle.fvn_cmd_verify.specs.Replies.{IsVerifyReply}
 use Rattle.fvn_cmd_verify.specs.inner.Steps.{RepliesToBindings, RepliesToProblem}
 
 -- the names of a module that was read
@@ -28,8 +28,7 @@ module-names m r = record {
 
 -- a module is refused with its first fault
 pub refused_module : (bytes problem bindings : List ℕ) (steps : ℕ) (fault : ModuleFault) → IsLoadFault bytes fault → (s : Status) (t : List ℕ) → s ≡ ModuleRefused → IsRefusalLine fault t → IsVerifyReply bytes problem bindings steps s t
-refused_module bytes problem bindings steps fault h s t e is =
-    subst (λ x. IsVerifyReply bytes problem bindings steps x t) (sym e) (module_refused (record { fault = fault; first = h; line_of = is }))
+refused_module bytes problem bindings steps fault h s t e is = inl (inl (e, record { fault = fault; first = h; line_of = is }))
 
 module _ (m : Contents) (d : Declarations) (names : Names) (signature_is : d ≡ m.signature) (names_are : names ≡ m.names) (steps : ℕ) where
   in_module : (P : Declarations → Names → Type 0) → P d names → P m.signature m.names
@@ -39,19 +38,35 @@ module _ (m : Contents) (d : Declarations) (names : Names) (signature_is : d ≡
   pub refused_bindings : (p : Problem) (bindings : List ℕ) (fault : ProblemFault) → RefusesBindings d names p bindings fault → (s : Status) (t : List ℕ) → s ≡ ProblemRefused → IsProblemRefusalLine fault t →
       RepliesToBindings m p bindings steps s t
   refused_bindings p bindings fault h s t e is bytes problem asked =
-      subst (λ x. IsVerifyReply bytes problem bindings steps x t) (sym e)
-      (bindings_refused m p asked (record { fault = fault; first = in_module (λ x y. RefusesBindings x y p bindings fault) h; line_of = is }))
+      inl (inr (
+        e,
+        record {
+          contents = m;
+          loaded = asked.module_text;
+          fault = fault;
+          first = inr ((p, asked.problem_text), inl (p, (asked.problem_text, in_module (λ x y. RefusesBindings x y p bindings fault) h)));
+          line_of = is;
+        },
+      ))
 
   pub told_verdict : (p : Problem) (bindings : List ℕ) (b : Bindings) → IsBindings d names p bindings b → (s : Status) (t : List ℕ) → TellsVerdict m steps p b s t → RepliesToBindings m p bindings steps s t
   told_verdict p bindings b h s t k bytes problem asked =
-      verified m p b (record { asked_in = asked; bindings_text = in_module (λ x y. IsBindings x y p bindings b) h }) k
+      inr (m, p, b, (record { asked_in = asked; bindings_text = in_module (λ x y. IsBindings x y p bindings b) h }, k))
 
   -- a problem is refused with its first fault, or the bindings are looked at
   pub refused_problem : (problem bindings : List ℕ) (fault : ProblemFault) → RefusesProblem d names problem fault → (s : Status) (t : List ℕ) → s ≡ ProblemRefused → IsProblemRefusalLine fault t →
       RepliesToProblem m problem bindings steps s t
   refused_problem problem bindings fault h s t e is bytes loaded =
-      subst (λ x. IsVerifyReply bytes problem bindings steps x t) (sym e)
-      (problem_refused m loaded (record { fault = fault; first = in_module (λ x y. RefusesProblem x y problem fault) h; line_of = is }))
+      inl (inr (
+        e,
+        record {
+          contents = m;
+          loaded = loaded;
+          fault = fault;
+          first = inl (in_module (λ x y. RefusesProblem x y problem fault) h);
+          line_of = is;
+        },
+      ))
 
   pub asked_problem : (problem bindings : List ℕ) (p : Problem) → IsProblem d names problem p → (s : Status) (t : List ℕ) → RepliesToBindings m p bindings steps s t → RepliesToProblem m problem bindings steps s t
   asked_problem problem bindings p h s t r bytes loaded = r bytes problem (record { module_text = loaded; problem_text = in_module (λ x y. IsProblem x y problem p) h })

@@ -1,43 +1,73 @@
--- A run has one outcome, but for the answers to `unify` and the verdicts of `verify`.
-use Rattle.std.proofs.Common.{ℕ, List, Some, sym, ◌∙◌, subst, inr, arith}
-use Rattle.fvn_verify.specs.Laws.{VerdictsAgree}
+-- What answers say, and that a run has one outcome, but for answers to one question that agree.
+use Rattle.std.proofs.Common.{◌⊎◌, ℕ, List, sym, ◌∙◌, subst, inl, inr}
+use Rattle.fvn_module.specs.Contents.{Contents}
+use Rattle.fvn_problems.specs.declared.problem.Problem.{Problem}
+use Rattle.fvn_problems.specs.declared.bindings.Bindings.{Bindings}
 use Rattle.fvn_cmd.specs.declared.status.Status.{Status}
 use Rattle.fvn_cmd.specs.Texts.{Is}
-use Rattle.fvn_cmd.specs.Laws.{ReadersAreLawful}
-use Rattle.fvn_cmd_laws.proofs.Checks.{check_determined}
-use Rattle.fvn_cmd_laws.proofs.Verified.{verify_agrees}
-use Rattle.fvn_cmd_laws.proofs.Unified.{unify_agrees}
-use Rattle.fvn_tool.specs.Words.{Command, check, unify, verify}
-use Rattle.fvn_tool.specs.Replies.{IsReply}
+use Rattle.fvn_cmd_check.specs.Checks.{TellsSorts}
+use Rattle.fvn_cmd_verify.specs.Verdicts.{TellsVerdict}
+use Rattle.fvn_cmd_unify.specs.Replies.{IsAnswer}
+use Rattle.fvn_cmd_laws.specs.Laws.{SortsAreToldOnce, VerdictsAreExact, AnswersAreExact}
+use Rattle.fvn_tool.specs.Words.{Command, IsCommand}
+use Rattle.fvn_tool.specs.Asked.{Question, summary, unifiers, verdict, Asked}
+use Rattle.fvn_tool.specs.Answered.{Answers, IsReply}
 use Rattle.fvn_tool.specs.Outcomes.{no_command, too_long, replied}
-use Rattle.fvn_tool.specs.Laws.{Agree, OutcomesAreDetermined}
-use Rattle.fvn_tool.proofs.Claims.{outcome_usage, Comes, comes_long, comes_reply, comes}
+use Rattle.fvn_tool.specs.Laws.{QuestionsAreDetermined, SaysExactly, AnswersSayExactly, AgreeOn, AgreeAsAnswers, OutcomesAreDetermined}
+use Rattle.fvn_tool.proofs.Claims.{came, outcome_usage}
 
--- outcomes that are one agree
-one_agrees : (bytes : List ℕ) (command : Command) (s : Status) (t : List ℕ) (u : Status) (v : List ℕ) → Is s t u v → Agree bytes (Some command) s t u v
-one_agrees bytes check s t u v h = h
-one_agrees bytes (unify word) s t u v h = inr h
-one_agrees bytes (verify problem bindings steps) s t u v h = inr h
+-- what is asked, as a value
+abbrev of : Contents → Question → Asked
+of m q = record { contents = m; question = q }
 
-module _ (laws : ReadersAreLawful) (agree : VerdictsAgree) where
-  replies_agree : (command : Command) (bytes : List ℕ) (s : Status) (t : List ℕ) → IsReply command bytes s t → (u : Status) (v : List ℕ) → IsReply command bytes u v → Agree bytes (Some command) s t u v
-  replies_agree check bytes s t r u v k = check_determined bytes laws.loaded laws.not_loaded laws.faults laws.losses s t r u v k
-  replies_agree (unify word) bytes s t r u v k = unify_agrees bytes word laws s t r u v k
-  replies_agree (verify problem bindings steps) bytes s t r u v k = verify_agrees bytes problem bindings steps steps laws agree s t r u v k
+module _ (m : Contents) (s : Status) (t : List ℕ) where
+  tells_sorts : Answers (of m summary) s t → TellsSorts m s t
+  tells_sorts h = record { loss = h.answer; loss_is = h.right; told = (h.status_is, h.shown) }
 
-  come_alike : (command : Command) (bytes : List ℕ) (s : Status) (t : List ℕ) → Comes bytes command s t → (u : Status) (v : List ℕ) → Comes bytes command u v → Agree bytes (Some command) s t u v
-  come_alike command bytes s t (comes_long e l is) u v (comes_long i m k) = one_agrees bytes command s t u v (i ∙ sym e, k ∙ sym is)
-  come_alike command bytes s t (comes_long e l is) u v (comes_reply f r) = absurd (omega (arith, l, f))
-  come_alike command bytes s t (comes_reply f r) u v (comes_long i m k) = absurd (omega (arith, m, f))
-  come_alike command bytes s t (comes_reply f r) u v (comes_reply g q) = replies_agree command bytes s t r u v q
+  tells_verdict : (p : Problem) (b : Bindings) (steps : ℕ) → Answers (of m (verdict p b steps)) s t → TellsVerdict m steps p b s t
+  tells_verdict p b steps h = (h.answer, (h.right, record { status_is = h.status_is; text_tells = h.shown }))
 
-  pub outcomes_determined : OutcomesAreDetermined
-  outcomes_determined words bytes source other one two s t (no_command none is) u v k =
-      let r = outcome_usage words other none u v k in
-      subst (λ c. Agree bytes c s t u v) (sym none) (r.0, r.1 ∙ sym is)
-  outcomes_determined words bytes source other one two s t (too_long command e n is) u v k =
-      subst (λ c. Agree bytes c s t u v) (sym e)
-      (come_alike command bytes s t (comes words source bytes command one e s t (too_long command e n is)) u v (comes words other bytes command two e u v k))
-  outcomes_determined words bytes source other one two s t (replied command read e n d f r) u v k =
-      subst (λ c. Agree bytes c s t u v) (sym e)
-      (come_alike command bytes s t (comes words source bytes command one e s t (replied command read e n d f r)) u v (comes words other bytes command two e u v k))
+  is_answer : (p : Problem) → Answers (of m (unifiers p)) s t → IsAnswer m p s t
+  is_answer p h = record { found = h.answer; solution = h.right; shown = h.shown; status_is = h.status_is }
+
+module _ (sorts : SortsAreToldOnce) (verdicts : VerdictsAreExact) where
+  says : AnswersAreExact → (m : Contents) (q : Question) (s : Status) (t : List ℕ) → Answers (of m q) s t → SaysExactly m q s t
+  says answers m summary s t h = sorts m s t (tells_sorts m s t h)
+  says answers m (unifiers p) s t h = let a = is_answer m s t p h in (a, (answers.nothing m p s t a, answers.few m p s t a))
+  says answers m (verdict p b steps) s t h = verdicts.exact m p b steps s t (tells_verdict m s t p b steps h)
+
+  pub say_exactly : AnswersAreExact → AnswersSayExactly
+  say_exactly answers a s t h = says answers a.contents a.question s t h
+
+  agree : (m : Contents) (q : Question) (s : Status) (t : List ℕ) (u : Status) (v : List ℕ) → Answers (of m q) s t → Answers (of m q) u v → AgreeOn m q s t u v
+  agree m summary s t u v h k =
+      let r = sorts m u v (tells_sorts m u v k) h.answer h.right in (r.0 ∙ sym h.status_is, r.1 ∙ sym h.shown)
+  agree m (unifiers p) s t u v h k = tt
+  agree m (verdict p b steps) s t u v h k =
+      verdicts.one m p b steps steps s t u v (tells_verdict m s t p b steps h) (tells_verdict m u v p b steps k)
+
+  module _ (questions : QuestionsAreDetermined) where
+    replies : (words : List (List ℕ)) (bytes : List ℕ) (c : Command) → IsCommand words c → (s : Status) (t : List ℕ) → IsReply bytes c s t → (u : Status) (v : List ℕ) → IsReply bytes c u v →
+        Is s t u v ⊎ AgreeAsAnswers words bytes s t u v
+    replies words bytes c is s t (inl r) u v (inl q) = inl (questions.one_refusal bytes c s t r u v q)
+    replies words bytes c is s t (inl r) u v (inr b) = absurd (questions.not_both bytes c b.0 b.1.0 s t r)
+    replies words bytes c is s t (inr a) u v (inl q) = absurd (questions.not_both bytes c a.0 a.1.0 u v q)
+    replies words bytes c is s t (inr a) u v (inr b) =
+        let second : Answers a.0 u v = subst (λ x. Answers x u v) (questions.one_question bytes c b.0 a.0 b.1.0 a.1.0) b.1.1 in
+        inr (record {
+          command = c;
+          command_is = is;
+          asked = a.0;
+          is_asked = a.1.0;
+          first = a.1.1;
+          second = second;
+          agree = agree a.0.contents a.0.question s t u v a.1.1 second;
+        })
+
+    pub outcomes_determined : OutcomesAreDetermined
+    outcomes_determined words bytes source other one two s t (no_command none is) u v k =
+        let r = outcome_usage words other none u v k in inl (r.0, r.1 ∙ sym is)
+    outcomes_determined words bytes source other one two s t (too_long c e n is) u v k =
+        replies words bytes c e s t (came words source bytes c one e s t (too_long c e n is)) u v (came words other bytes c two e u v k)
+    outcomes_determined words bytes source other one two s t (replied c read e n d r) u v k =
+        replies words bytes c e s t (came words source bytes c one e s t (replied c read e n d r)) u v (came words other bytes c two e u v k)

@@ -3,11 +3,11 @@ use Rattle.std.proofs.Common.{◌≡◌, ◌≤◌, ◌<◌, ◌+◌, ◌*◌, �
 use Rattle.std.specs.Prelude.{nat_le, ◌&&◌, if◌then◌else◌}
 use Rattle.std.proofs.lemmas.Bool.{le-leb, lt-leb}
 use Rattle.std.proofs.lemmas.List.{drop_more}
-use Rattle.fvn_tool.specs.Words.{read_on, allowed}
+use Rattle.fvn_tool.specs.inner.Reading.{read_on, allowed}
 use Rattle.fvn_tool.specs.declared.limits.TheConstants.{MOST_STEPS}
 
 -- a digit goes on
-digit : (n byte : ℕ) (bytes : List ℕ) → 48 ≤ byte → byte ≤ 57 → read_on n (byte ∷ bytes) ≡ read_on (10 * n + (byte - 48)) bytes
+pub digit : (n byte : ℕ) (bytes : List ℕ) → 48 ≤ byte → byte ≤ 57 → read_on n (byte ∷ bytes) ≡ read_on (10 * n + (byte - 48)) bytes
 digit n byte bytes l h =
     let a : nat_le 48 byte ≡ true = le-leb 48 byte l in
     let b : nat_le byte 57 ≡ true = le-leb byte 57 h in

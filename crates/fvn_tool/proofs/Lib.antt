@@ -1,5 +1,8 @@
 -- Lemmas of this crate; none is for other crates.
 mod Digits
+mod Grammar
 mod Outcomes
+mod Questions
+mod Replying
 mod Claims
 mod Determined

@@ -5,32 +5,86 @@ use Rattle.fvn_outside.specs.Source.{TakesCount}
 use Rattle.fvn_outside.specs.Sink.{Appends}
 use Rattle.fvn_cmd.specs.declared.status.Status.{Status}
 use Rattle.fvn_cmd.specs.declared.status.Status.TheVariants.{Solved, Nothing, Usage, ModuleRefused, ProblemRefused, Ended, ReadFault, WriteFault, NoMemory}
-use Rattle.fvn_tool.specs.Words.{Command, check, unify, verify, command_of}
-use Rattle.fvn_cmd.specs.Statuses.{IsSilent, IsSpoken}
-use Rattle.fvn_tool.specs.Runs.{Outside, Leaves, WritesWhole}
-use Rattle.fvn_tool.specs.Replies.{IsReply}
-use Rattle.fvn_tool.specs.Outcomes.{usage_line, too_long_line, IsOutcome, no_command, too_long, replied}
-use Rattle.fvn_cmd_laws.proofs.Checks.{check_spoken}
-use Rattle.fvn_cmd_laws.proofs.Verified.{verify_spoken}
-use Rattle.fvn_cmd_laws.proofs.Unified.{unify_spoken}
+use Rattle.fvn_cmd.specs.Statuses.{IsSilent, IsSpoken, IsAnswering, IsRefusing}
+use Rattle.fvn_cmd.specs.Asking.{Word}
+use Rattle.fvn_cmd.specs.Refusing.{IsRefusal}
+use Rattle.fvn_cmd_laws.proofs.Verified.{verdict_answering}
+use Rattle.fvn_cmd_laws.proofs.Unified.{end_answering}
+use Rattle.fvn_tool.specs.Words.{Command, check, unify, verify}
+use Rattle.fvn_tool.specs.Runs.{Outside, Leaves}
+use Rattle.fvn_tool.specs.Asked.{too_long_line, IsRefused}
+use Rattle.fvn_tool.specs.Outcomes.{usage_line}
+use Rattle.fvn_tool.specs.inner.Reading.{command_of}
+use Rattle.fvn_tool.specs.inner.Steps.{IsCommandReply, IsGivenOutcome, is_usage, is_long, is_replied}
 
 module _ (words : List (List ℕ)) (source : Outside) (status : Status) (text : List ℕ) where
-  pub usage_outcome : status ≡ Usage → command_of words ≡ None → text ≡ usage_line → IsOutcome words source status text
-  usage_outcome e none is = subst (λ s. IsOutcome words source s text) (sym e) (no_command none is)
+  pub usage_outcome : status ≡ Usage → command_of words ≡ None → text ≡ usage_line → IsGivenOutcome words source status text
+  usage_outcome e none is = subst (λ s. IsGivenOutcome words source s text) (sym e) (is_usage none is)
 
-  pub too_long_outcome : (command : Command) → status ≡ ModuleRefused → command_of words ≡ Some command → TakesCount source.before source.after (MODULE_BYTES + 1) → text ≡ too_long_line → IsOutcome words source status text
-  too_long_outcome command e is_command taken is = subst (λ s. IsOutcome words source s text) (sym e) (too_long command is_command taken is)
+  pub too_long_outcome : (command : Command) → status ≡ ModuleRefused → command_of words ≡ Some command → TakesCount source.before source.after (MODULE_BYTES + 1) → text ≡ too_long_line → IsGivenOutcome words source status text
+  too_long_outcome command e is_command taken is = subst (λ s. IsGivenOutcome words source s text) (sym e) (is_long command is_command taken is)
 
--- an outcome has a text
-reply_spoken : (command : Command) (bytes : List ℕ) (status : Status) (text : List ℕ) → IsReply command bytes status text → IsSpoken status
-reply_spoken check bytes status text r = check_spoken bytes r
-reply_spoken (unify word) bytes status text r = unify_spoken bytes word r
-reply_spoken (verify problem bindings steps) bytes status text r = verify_spoken bytes problem bindings steps r
+-- Statuses.
 
-pub outcome_spoken : {words : List (List ℕ)} {source : Outside} {status : Status} {text : List ℕ} → IsOutcome words source status text → IsSpoken status
-outcome_spoken (no_command h is) = tt
-outcome_spoken (too_long command h t is) = tt
-outcome_spoken (replied command bytes h t e f r) = reply_spoken command bytes _ _ r
+pub answering_spoken : (s : Status) → IsAnswering s → IsSpoken s
+answering_spoken Solved a = tt
+answering_spoken Nothing a = tt
+answering_spoken Ended a = tt
+answering_spoken Usage a = absurd a
+answering_spoken ModuleRefused a = absurd a
+answering_spoken ProblemRefused a = absurd a
+answering_spoken ReadFault a = absurd a
+answering_spoken WriteFault a = absurd a
+answering_spoken NoMemory a = absurd a
+
+pub refusing_spoken : (s : Status) → IsRefusing s → IsSpoken s
+refusing_spoken ModuleRefused a = tt
+refusing_spoken ProblemRefused a = tt
+refusing_spoken Solved a = absurd a
+refusing_spoken Nothing a = absurd a
+refusing_spoken Ended a = absurd a
+refusing_spoken Usage a = absurd a
+refusing_spoken ReadFault a = absurd a
+refusing_spoken WriteFault a = absurd a
+refusing_spoken NoMemory a = absurd a
+
+pub refusing_not_answering : (s : Status) → IsRefusing s → IsAnswering s → ⊥
+refusing_not_answering ModuleRefused r a = a
+refusing_not_answering ProblemRefused r a = a
+refusing_not_answering Solved r a = r
+refusing_not_answering Nothing r a = r
+refusing_not_answering Ended r a = r
+refusing_not_answering Usage r a = r
+refusing_not_answering ReadFault r a = r
+refusing_not_answering WriteFault r a = r
+refusing_not_answering NoMemory r a = r
+
+refusal_refusing : {bytes : List ℕ} {words : List Word} {s : Status} {t : List ℕ} → IsRefusal bytes words s t → IsRefusing s
+refusal_refusing (inl a) = subst IsRefusing (sym a.0) tt
+refusal_refusing (inr a) = subst IsRefusing (sym a.0) tt
+
+pub refused_refusing : (bytes : List ℕ) (c : Command) (s : Status) (t : List ℕ) → IsRefused bytes c s t → IsRefusing s
+refused_refusing bytes c s t (inl a) = subst IsRefusing (sym a.1.0) tt
+refused_refusing bytes c s t (inr a) = refusal_refusing a.1
+
+-- the reply of a command has a text
+status_of_check : {s : Status} → s ≡ Solved → IsSpoken s
+status_of_check e = subst IsSpoken (sym e) tt
+
+reply_spoken : (command : Command) (bytes : List ℕ) (status : Status) (text : List ℕ) → IsCommandReply command bytes status text → IsSpoken status
+reply_spoken check bytes status text (inl r) = refusing_spoken status (refusal_refusing r)
+reply_spoken check bytes status text (inr a) = status_of_check a.1.1.told.0
+reply_spoken (unify word) bytes status text (inl r) = refusing_spoken status (refusal_refusing r)
+reply_spoken (unify word) bytes status text (inr a) =
+    answering_spoken status (subst IsAnswering (sym a.2.1.status_is) (end_answering a.2.1.found.end))
+reply_spoken (verify problem bindings steps) bytes status text (inl r) = refusing_spoken status (refusal_refusing r)
+reply_spoken (verify problem bindings steps) bytes status text (inr a) =
+    answering_spoken status (subst IsAnswering (sym a.3.1.1.1.status_is) (verdict_answering a.3.1.0))
+
+pub outcome_spoken : {words : List (List ℕ)} {source : Outside} {status : Status} {text : List ℕ} → IsGivenOutcome words source status text → IsSpoken status
+outcome_spoken (is_usage h is) = tt
+outcome_spoken (is_long command h t is) = tt
+outcome_spoken (is_replied command bytes h t e f r) = reply_spoken command bytes _ _ r
 
 -- a text that goes with its status was written
 pub leaves_whole : (Goes : Status → List ℕ → Type 0) (status : Status) (text : List ℕ) (sink : Outside) → IsSpoken status → Goes status text → Appends sink.before sink.after text → Leaves Goes status sink
@@ -68,18 +122,6 @@ Leaves-goes Goes WriteFault sink k h = absurd k
 Leaves-goes Goes ReadFault sink k h = absurd k
 Leaves-goes Goes NoMemory sink k h = absurd k
 
--- what was written whole at a status that is known
-pub Leaves-told : (known : Status) (Goes : Status → List ℕ → Type 0) (status : Status) (sink : Outside) → IsSpoken known → status ≡ known → Leaves (λ s t. s ≡ known → Goes s t) status sink → WritesWhole Goes status sink
-Leaves-told known Goes Solved sink k e h = record { text = h.text; goes = h.goes e; written = h.written }
-Leaves-told known Goes Nothing sink k e h = record { text = h.text; goes = h.goes e; written = h.written }
-Leaves-told known Goes Usage sink k e h = record { text = h.text; goes = h.goes e; written = h.written }
-Leaves-told known Goes ModuleRefused sink k e h = record { text = h.text; goes = h.goes e; written = h.written }
-Leaves-told known Goes ProblemRefused sink k e h = record { text = h.text; goes = h.goes e; written = h.written }
-Leaves-told known Goes Ended sink k e h = record { text = h.text; goes = h.goes e; written = h.written }
-Leaves-told known Goes WriteFault sink k e h = absurd (subst IsSpoken (sym e) k)
-Leaves-told known Goes ReadFault sink k e h = absurd (subst IsSpoken (sym e) k)
-Leaves-told known Goes NoMemory sink k e h = absurd (subst IsSpoken (sym e) k)
-
 pub spoken_not_silent : (s : Status) → IsSpoken s → IsSilent s → ⊥
 spoken_not_silent Solved h k = k
 spoken_not_silent Nothing h k = k
@@ -92,14 +134,13 @@ spoken_not_silent ReadFault h k = h
 spoken_not_silent NoMemory h k = h
 
 -- where nothing outside failed, a text was written whole, or memory was refused
-pub Leaves-without_fault : (Goes : Status → List ℕ → Type 0) (status : Status) (sink : Outside) → Leaves Goes status sink → (status ≡ ReadFault → ⊥) → (status ≡ WriteFault → ⊥) →
-    (status ≡ NoMemory) ⊎ WritesWhole Goes status sink
-Leaves-without_fault Goes Solved sink h r w = inr h
-Leaves-without_fault Goes Nothing sink h r w = inr h
-Leaves-without_fault Goes Usage sink h r w = inr h
-Leaves-without_fault Goes ModuleRefused sink h r w = inr h
-Leaves-without_fault Goes ProblemRefused sink h r w = inr h
-Leaves-without_fault Goes Ended sink h r w = inr h
-Leaves-without_fault Goes WriteFault sink h r w = absurd (w refl)
-Leaves-without_fault Goes ReadFault sink h r w = absurd (r refl)
-Leaves-without_fault Goes NoMemory sink h r w = inl refl
+pub without_fault : (status : Status) → (status ≡ ReadFault → ⊥) → (status ≡ WriteFault → ⊥) → (status ≡ NoMemory) ⊎ IsSpoken status
+without_fault Solved r w = inr tt
+without_fault Nothing r w = inr tt
+without_fault Usage r w = inr tt
+without_fault ModuleRefused r w = inr tt
+without_fault ProblemRefused r w = inr tt
+without_fault Ended r w = inr tt
+without_fault WriteFault r w = absurd (w refl)
+without_fault ReadFault r w = absurd (r refl)
+without_fault NoMemory r w = inl refl

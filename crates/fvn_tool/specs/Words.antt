@@ -1,10 +1,7 @@
--- The words of the command line.
-use Rattle.std.specs.Prelude.{ℕ, Bool, not, ◌&&◌, ◌+◌, ◌*◌, ◌-◌, nat_eq, nat_le, if◌then◌else◌, List, [], ◌∷◌, Option, Some, None, option_map, codes, length}
-use Rattle.std.specs.List.{starts_with}
-use Rattle.std.specs.Cmp.Lexicographic.{pointwise}
+-- The words of the command line: which of them are which command.
+use Rattle.std.specs.Prelude.{◌≡◌, ◌≤◌, ◌⊎◌, ℕ, Bool, false, ◌&&◌, ◌+◌, ◌*◌, ◌-◌, nat_eq, nat_le, List, [], ◌∷◌, codes, length}
+use Rattle.std.specs.List.{starts_with, AllByRecursion}
 use Rattle.fvn_tool.specs.declared.limits.TheConstants.{VERIFY_STEPS, MOST_STEPS}
-use Rattle.fvn_tool.specs.declared.words.Command.{Command as Given}
-use Rattle.fvn_tool.specs.declared.words.Command.TheVariants.{Check, Unify, Verify}
 
 -- what the program is asked to do with a module
 pub data Command : Type 0 where
@@ -16,41 +13,52 @@ pub data Command : Type 0 where
 unfoldable pub is_option : List ℕ → Bool
 is_option word = starts_with nat_eq word (codes "-") && nat_le 2 (length word)
 
--- the number that decimal digits spell behind those of n, where all are digits
-abbrev pub read_on : ℕ → List ℕ → Option ℕ
-read_on n [] = Some n
-read_on n (byte ∷ bytes) = if nat_le 48 byte && nat_le byte 57 then read_on (10 * n + (byte - 48)) bytes else None
+-- other words stand for problems and bindings
+abbrev pub IsOperand : List ℕ → Type 0
+IsOperand word = is_option word ≡ false
 
--- a number of steps that may be asked for
-abbrev pub allowed : Option ℕ → Option ℕ
-allowed None = None
-allowed (Some n) = if nat_le 1 n && nat_le n MOST_STEPS then Some n else None
+-- a decimal digit
+abbrev pub IsDigit : ℕ → Type 0
+IsDigit byte = (48 ≤ byte) × (byte ≤ 57)
 
--- the number of steps that a word of one to nine decimal digits spells, where it may be asked for
-unfoldable pub steps_of : List ℕ → Option ℕ
-steps_of word = if nat_le 1 (length word) && nat_le (length word) 9 then allowed (read_on 0 word) else None
+-- the number that decimal digits spell behind those of n
+abbrev pub spelled_behind : ℕ → List ℕ → ℕ
+spelled_behind n [] = n
+spelled_behind n (byte ∷ bytes) = spelled_behind (10 * n + (byte - 48)) bytes
 
--- the first word is `verify`, and those of the problem and of the bindings are no options
-abbrev pub is_verify : (name problem bindings : List ℕ) → Bool
-is_verify name problem bindings =
-    pointwise nat_eq name (codes "verify") && not (is_option problem) && not (is_option bindings)
+-- the word is at most nine decimal digits that spell n, which may be asked for as a number of steps
+pub record IsNumberOfSteps (word : List ℕ) (n : ℕ) : Type 0 where
+  pub digits : AllByRecursion IsDigit word
+  pub short : length word ≤ 9
+  pub number_is : n ≡ spelled_behind 0 word
+  pub some : 1 ≤ n
+  pub few : n ≤ MOST_STEPS
 
--- The command that the words are: `check` alone, `unify` and one word more, or `verify` and two; these are no options.
--- Behind those of `verify`, `--steps` and a number may stand.
-abbrev pub command_of : List (List ℕ) → Option Command
-command_of [] = None
-command_of (name ∷ []) = if pointwise nat_eq name (codes "check") then Some check else None
-command_of (name ∷ problem ∷ []) = if pointwise nat_eq name (codes "unify") && not (is_option problem) then Some (unify problem) else None
-command_of (name ∷ problem ∷ bindings ∷ []) =
-    if is_verify name problem bindings then Some (verify problem bindings VERIFY_STEPS) else None
-command_of (name ∷ problem ∷ bindings ∷ option ∷ []) = None
-command_of (name ∷ problem ∷ bindings ∷ option ∷ number ∷ []) =
-    if is_verify name problem bindings && pointwise nat_eq option (codes "--steps")
-    then option_map (verify problem bindings) (steps_of number) else None
-command_of (name ∷ problem ∷ bindings ∷ option ∷ number ∷ more ∷ words) = None
+-- the options of `verify`: none, or `--steps` and a number
+abbrev pub AreStepOptions : List (List ℕ) → ℕ → Type 0
+AreStepOptions options steps =
+    ((options ≡ []) × (steps ≡ VERIFY_STEPS))
+    ⊎ ((word : List ℕ) × ((options ≡ codes "--steps" ∷ word ∷ []) × IsNumberOfSteps word steps))
 
--- the command that a value of the program stands for
-abbrev pub meant : Given → Command
-meant Check = check
-meant (Unify problem) = unify problem.now
-meant (Verify problem bindings steps) = verify problem.now bindings.now steps
+-- the words are this command: its name, its operands, and its options
+abbrev pub IsCommand : List (List ℕ) → Command → Type 0
+IsCommand words check = words ≡ codes "check" ∷ []
+IsCommand words (unify problem) = IsOperand problem × (words ≡ codes "unify" ∷ problem ∷ [])
+IsCommand words (verify problem bindings steps) =
+    IsOperand problem × IsOperand bindings
+    × ((options : List (List ℕ))
+    × (AreStepOptions options steps × (words ≡ codes "verify" ∷ problem ∷ bindings ∷ options)))
+
+-- the words are no command
+abbrev pub AreNoCommand : List (List ℕ) → Type 0
+AreNoCommand words = (command : Command) → IsCommand words command → ⊥
+
+-- the command reads the text of a module
+abbrev pub ReadsModule : Command → Type 0
+ReadsModule check = Unit {0}
+ReadsModule (unify problem) = Unit {0}
+ReadsModule (verify problem bindings steps) = Unit {0}
+
+-- the words are no command that reads
+abbrev pub ReadNothing : List (List ℕ) → Type 0
+ReadNothing words = (command : Command) → IsCommand words command → ReadsModule command → ⊥

@@ -1,8 +1,9 @@
 //! The answer to a command over the text of a module.
 ghost use Rattle.std.specs.Prelude.{◌≡◌, IfOk};
-ghost use Rattle.fvn_tool.specs.Words.{meant};
-ghost use Rattle.fvn_tool.specs.Replies.{IsReply};
-ghost use Rattle.fvn_tool.specs.Outcomes.{usage_line, too_long_line};
+ghost use Rattle.fvn_tool.specs.Asked.{too_long_line};
+ghost use Rattle.fvn_tool.specs.Outcomes.{usage_line};
+ghost use Rattle.fvn_tool.specs.inner.Reading.{meant};
+ghost use Rattle.fvn_tool.specs.inner.Steps.{IsCommandReply};
 ghost use Rattle.fvn_cmd.specs.Texts.{bytes_of};
 
 use crate::words::Command;
@@ -35,7 +36,7 @@ pub(crate) fn too_long() -> Answer
 /// What is replied to a command over the text of a module.
 pub(crate) fn reply(alloc: Global, bytes: &[u8], command: Command<'_>) -> Result<Answer, NoMemory>
     ensures { IfOk result (λ a.
-        IsReply (meant command.entry) bytes.now a.status (bytes_of a.text)) }
+        IsCommandReply (meant command.entry) bytes.now a.status (bytes_of a.text)) }
 {
     match command {
         Command::Check => check_reply(alloc, bytes),

@@ -8,5 +8,8 @@ mod top;
 mod words;
 
 pub use fvn_cmd::Status;
-pub use laws::{outcomes_are_determined, step_limits_are};
+pub use laws::{
+    answers_say_exactly, outcomes_are_determined, questions_are_determined, refusals_are_right,
+    step_limits_are, words_are_one_command,
+};
 pub use top::run;

@@ -1,16 +1,19 @@
 //! The top call.
 ghost use Rattle.std.specs.Prelude.{◌≡◌, ◌<◌, ◌⊎◌, map, string_bytes, None, ◌≢◌, IfOk, IfErr, IsOk, IsErrOf};
 ghost use Rattle.fvn_outside.specs.Faults.{Rose, NeverFails};
-ghost use Rattle.fvn_tool.specs.Words.{command_of};
+ghost use Rattle.fvn_tool.specs.Words.{ReadNothing};
 ghost use Rattle.fvn_cmd.specs.Texts.{bytes_of};
 ghost use Rattle.fvn_cmd.specs.Statuses.{IsSilent};
 ghost use Rattle.fvn_tool.specs.Runs.{seen, Leaves};
-ghost use Rattle.fvn_tool.specs.Outcomes.{IsOutcome};
 ghost use Rattle.fvn_tool.specs.Claims.{IsReport};
+ghost use Rattle.fvn_tool.specs.inner.Reading.{command_of};
+ghost use Rattle.fvn_tool.specs.inner.Steps.{IsGivenOutcome};
 
+use crate::laws::questions_are_determined;
 use crate::{answer, words};
 use fvn_base::limits::MODULE_BYTES;
-use fvn_cmd::{Answer, Status, readers_are_lawful};
+use fvn_cmd::{Answer, Status};
+use fvn_cmd_laws::{answers_are_exact, verdicts_are_exact};
 use fvn_outside::{ReadAll, Sink, Source, WriteFailed, read_all, write_all};
 use fvn_terms::NoMemory;
 use std::alloc::Global;
@@ -20,7 +23,7 @@ use std::string::String;
 fn respond<S: Source>(alloc: Global, words: &[String], source: &mut S) -> Result<Answer, Status>
     ensures unread { command_of (map string_bytes words.now) ≡ None → source.new ≡ source.old }
     ensures usage { command_of (map string_bytes words.now) ≡ None → IsOk result }
-    ensures outcome { IfOk result (λ a. IsOutcome (map string_bytes words.now)
+    ensures outcome { IfOk result (λ a. IsGivenOutcome (map string_bytes words.now)
         (seen S.left S.faults source.old source.new) a.status (bytes_of a.text)) }
 
     ensures silent { IfErr result IsSilent }
@@ -54,7 +57,8 @@ fn conclude<S: Source, K: Sink>(
     ensures unread { command_of (map string_bytes words.now) ≡ None → source.new ≡ source.old }
     ensures unwritten { IsSilent result → out.new ≡ out.old }
     ensures outcome { Leaves
-        (IsOutcome (map string_bytes words.now) (seen S.left S.faults source.old source.new))
+        (IsGivenOutcome (map string_bytes words.now)
+        (seen S.left S.faults source.old source.new))
         result (seen K.written K.faults out.old out.new) }
     ensures usage { command_of (map string_bytes words.now) ≡ None →
         (result ≡ Status.Usage) ⊎ (result ≡ Status.WriteFault) }
@@ -92,14 +96,16 @@ pub fn run<S: Source, K: Sink>(
       sink = seen K.written K.faults out.old out.new;
     }) }
 
-    // Without a command nothing is read, and without a text nothing is written.
-    ensures unread { command_of (map string_bytes words.now) ≡ None → source.new ≡ source.old }
+    // Only for a command that reads is anything read, and without a text nothing is written.
+    ensures unread { ReadNothing (map string_bytes words.now) → source.new ≡ source.old }
     ensures unwritten { IsSilent result → out.new ≡ out.old }
 
     // What never fails gives no fault.
     ensures no_read_fault { NeverFails S.faults → result ≢ Status.ReadFault }
     ensures no_write_fault { NeverFails K.faults → result ≢ Status.WriteFault }
 {
-    readers_are_lawful();
+    verdicts_are_exact();
+    answers_are_exact();
+    questions_are_determined();
     conclude(alloc, words, source, out)
 }

@@ -1,6 +1,7 @@
 //! Reading the words of the command line.
 ghost use Rattle.std.specs.Prelude.{◌≡◌, map, string_bytes, MatchOption, Some, None, ◌∷◌, []};
-ghost use Rattle.fvn_tool.specs.Words.{command_of, is_option, is_verify, read_on, allowed, steps_of, meant};
+ghost use Rattle.fvn_tool.specs.Words.{is_option};
+ghost use Rattle.fvn_tool.specs.inner.Reading.{command_of, is_verify, read_on, allowed, steps_of, meant};
 
 use crate::limits::{MOST_STEPS, VERIFY_STEPS};
 use std::string::String;
@@ -67,7 +68,7 @@ fn read_digits(word: &[u8]) -> Option<u64>
 }
 
 // The number of steps that a word tells, where it may be asked for.
-#[tactic(auto, unfolding(crate::specs::Words::steps_of))]
+#[tactic(auto, unfolding(crate::specs::inner::Reading::steps_of))]
 fn read_steps(word: &[u8]) -> Option<u64>
     ensures { result ≡ steps_of word.now }
 {

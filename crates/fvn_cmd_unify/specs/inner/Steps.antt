@@ -9,7 +9,7 @@ use Rattle.fvn_module_loading.specs.Loading.{IsLoaded}
 use Rattle.fvn_axunify.specs.Solved.{IsSolvedAs}
 use Rattle.fvn_axunify.specs.Exact.{IsExact}
 use Rattle.fvn_cmd.specs.declared.status.Status.{Status}
-use Rattle.fvn_cmd_unify.specs.Ends.{AreFlattened}
+use Rattle.fvn_cmd_unify.specs.Asked.{AreFlattened}
 use Rattle.fvn_cmd_unify.specs.Replies.{IsUnifyReply}
 
 -- what a solver found answers the problem's pairs in flat form

@@ -1,7 +1,7 @@
 -- What `respond` promises and requires, where the search does not find it.
 use Rattle.std.proofs.Common.{rules}
-use Rattle.fvn_tool.specs.Words.{meant}
-use Rattle.fvn_tool.specs.Outcomes.{replied}
+use Rattle.fvn_tool.specs.inner.Reading.{meant}
+use Rattle.fvn_tool.specs.inner.Steps.{is_replied}
 use Rattle.fvn_tool.proofs.Outcomes.{usage_outcome, too_long_outcome}
 use Rattle.fvn_tool.proofs.top.respond.Goals as goal
 
@@ -14,4 +14,4 @@ returns-in-Err-TooLong-clause-outcome g c =
 
 pub returns-clause-outcome : goal.returns-clause-outcome
 returns-clause-outcome g c =
-    replied (meant c.in-Some.command) c.in-Ok.bytes.items c.in-Some.ensures c.in-Ok.ensures.taken c.in-Ok.ensures.end c.in-Ok.ensures.within (rw (← c.deref.ensures.value) c.in-Ok-reply.ensures)
+    is_replied (meant c.in-Some.command) c.in-Ok.bytes.items c.in-Some.ensures c.in-Ok.ensures.taken c.in-Ok.ensures.end c.in-Ok.ensures.within (rw (← c.deref.ensures.value) c.in-Ok-reply.ensures)

@@ -1,6 +1,6 @@
 -- What is left decides.
 use Rattle.std.proofs.Common.{refl, sym, ap, ◌∙◌, arith, drop}
-use Rattle.fvn_tool.specs.Words.{allowed}
+use Rattle.fvn_tool.specs.inner.Reading.{allowed}
 use Rattle.fvn_tool.proofs.Digits.{step, too_large}
 use Rattle.fvn_tool.proofs.words.read_digits.Goals as goal
 

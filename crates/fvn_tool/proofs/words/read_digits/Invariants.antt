@@ -1,6 +1,6 @@
 -- What is left decides, and the number so far is in its type.
 use Rattle.std.proofs.Common.{◌≡◌, ◌≤◌, ◌+◌, ◌*◌, drop}
-use Rattle.fvn_tool.specs.Words.{read_on, allowed}
+use Rattle.fvn_tool.specs.inner.Reading.{read_on, allowed}
 use Rattle.fvn_tool.specs.declared.limits.TheConstants.{MOST_STEPS}
 use Rattle.fvn_tool.proofs.words.read_digits.Given as goal
 

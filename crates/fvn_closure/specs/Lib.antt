@@ -1,0 +1,3 @@
+-- The words of closed levels.
+pub mod Closing
+pub mod Laws

@@ -1,0 +1,5 @@
+-- The words of lifting.
+pub mod Meetings
+pub mod Turns
+pub mod Lifted
+pub mod Laws

@@ -1,0 +1,3 @@
+-- The words of peaks.
+pub mod Peaks
+pub mod Laws

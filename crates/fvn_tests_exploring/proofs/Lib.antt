@@ -1,0 +1,2 @@
+-- Lemmas on rewriting without equations.
+mod NoEquations

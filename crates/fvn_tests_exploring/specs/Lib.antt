@@ -1,0 +1,2 @@
+-- What contracts of an expander without equations speak of.
+pub mod Settings

@@ -1,0 +1,3 @@
+//! Weights of the operators of modules, and the texts that give them.
+mod telling;
+mod weighing;

@@ -1,0 +1,3 @@
+-- Lemmas of unifiers in a theory.
+mod IrreducibleValues
+mod Flattened

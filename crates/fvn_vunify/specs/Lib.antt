@@ -1,0 +1,6 @@
+-- What contracts of unifiers in a theory speak of.
+pub mod Sides
+pub mod Solutions
+pub mod Causes
+pub mod Solved
+pub mod Laws

@@ -1,0 +1,4 @@
+-- What mirrors the code.
+pub mod Numbers
+pub mod Forms
+pub mod Equations
