@@ -66,12 +66,7 @@ fn asked(
 }
 
 /// Asks the top its question, or takes it out; false where the tree is empty.
-fn step(
-    alloc: Global,
-    sig: &Signature,
-    table: &Table,
-    tree: &mut Tree,
-) -> Result<bool, NoMemory>
+fn step(alloc: Global, sig: &Signature, table: &Table, tree: &mut Tree) -> Result<bool, NoMemory>
     requires closed { AreClosed sig.now table.now tree.old }
     requires sums { HasSums sig.now table.now }
     requires arguments { HoldsArguments table.now }
