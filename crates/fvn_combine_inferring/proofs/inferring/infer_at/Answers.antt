@@ -11,7 +11,7 @@ rule-requires c =
       closed = c.requires.closed;
       sums = c.requires.sums;
       heads = c.requires.heads;
-      left = subst P (sym c.as_slice-left.ensures.value) c.in-Some.ensures.left;
-      right = subst P (sym c.as_slice-right.ensures.value) c.in-Some.ensures.right;
-      sides = subst (λ l. sides l c.as_slice-right.result.now) (sym c.as_slice-left.ensures.value) (subst (λ r. sides c.in-Some.row.left.items r) (sym c.as_slice-right.ensures.value) c.in-Some.ensures.sides);
+      left = subst P (sym c.as_slice-left.ensures.value) (rw c.in-Some.is at c.in_ok-row_at.ensures.left);
+      right = subst P (sym c.as_slice-right.ensures.value) (rw c.in-Some.is at c.in_ok-row_at.ensures.right);
+      sides = subst (λ l. sides l c.as_slice-right.result.now) (sym c.as_slice-left.ensures.value) (subst (λ r. sides c.in-Some.row.left.items r) (sym c.as_slice-right.ensures.value) (rw c.in-Some.is at c.in_ok-row_at.ensures.sides));
     }

@@ -8,7 +8,7 @@ pub returns : goal.returns
 returns c =
     let first = c.in_ok-added.added.items in
     let added = c.extend_from_slice.new.self.items in
-    let now = c.cancel-rest.new.left.items in
+    let now = c.cancel.new.left.items in
     let rest = c.in_ok-rest.rest.items in
     let left = c.in_ok-left.left.items in
     let right = c.in_ok-right.right.items in
