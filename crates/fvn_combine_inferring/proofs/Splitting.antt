@@ -1,5 +1,5 @@
 -- Classes that are replaced by the classes that they add.
-use Rattle.std.proofs.Common.{◌≡◌, ℕ, zero, suc, ◌+◌, ◌<◌, true, false, List, [], ◌∷◌, ◌++◌, length, get_or, set, refl, sym, ap, ◌∙◌, subst, inl, inr, arith, All, Option, Some, None}
+use Rattle.std.proofs.Common.{◌≡◌, ℕ, ◌+◌, ◌<◌, true, false, List, [], ◌∷◌, ◌++◌, length, get_or, set, refl, sym, ap, ◌∙◌, subst, inl, inr, arith, All, Option, Some, None}
 use Rattle.std.specs.Prelude.{Bool, IfSome, sum_by}
 use Rattle.std.proofs.lemmas.Bool.{cases_eq, cases_lt}
 use Rattle.std.proofs.lemmas.List.{length-set, length_push, get_or-set_same, get_or-set_other, get_or_append_left, get_or_past}
@@ -9,8 +9,8 @@ use Rattle.fvn_terms.specs.declared.plain.OpId.{OpId}
 use Rattle.fvn_combine_nodes.specs.Table.{NodeTable}
 use Rattle.fvn_combine_nodes.specs.declared.state.State.{State}
 use Rattle.fvn_combine_inferring.specs.declared.rows.Row.{Row}
-use Rattle.fvn_combine_inferring.specs.inner.Lists.{StaysBelow, IsCancelled, IsWithout}
-use Rattle.fvn_combine_inferring.specs.inner.Splits.{IsSplit, AreSplits, IsUnsplit, noted, IsAdditive, AreWithin, IsSplitPlace, IsExpression, IsReduced}
+use Rattle.fvn_combine_inferring.specs.inner.Lists.{IsCancelled, IsWithout}
+use Rattle.fvn_combine_inferring.specs.inner.Splits.{IsSplit, AreSplits, IsUnsplit, noted, AreWithin, IsSplitPlace, IsExpression, IsReduced}
 
 -- no place is noted yet, or one more
 pub unsplit_none : IsUnsplit 0 []

@@ -1,5 +1,5 @@
 -- One class is pushed, and the other one is written in its place.
-use Rattle.std.proofs.Common.{◌≡◌, ◌∙◌, get_or, set, sym, ap, None}
+use Rattle.std.proofs.Common.{◌∙◌, get_or, set, sym, ap, None}
 use Rattle.std.proofs.lemmas.List.{get_or_default}
 use Rattle.fvn_combine_inferring.proofs.expressions.split_place.Goals as goal
 

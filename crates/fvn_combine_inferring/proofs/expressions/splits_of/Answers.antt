@@ -1,8 +1,7 @@
 -- One more node.
 use Rattle.std.proofs.Common.{◌<◌, length, sym, ap, ◌∙◌, subst, arith}
-use Rattle.std.specs.Prelude.{IfSome}
 use Rattle.fvn_combine_nodes.specs.States.{class_of}
-use Rattle.fvn_combine_inferring.specs.inner.Splits.{IsSplit, AreSplits, IsUnsplit, noted}
+use Rattle.fvn_combine_inferring.specs.inner.Splits.{AreSplits, IsUnsplit, noted}
 use Rattle.fvn_combine_inferring.proofs.Splitting.{no_splits, more_splits}
 use Rattle.fvn_combine_inferring.proofs.Values.{name_within}
 use Rattle.fvn_combine_inferring.proofs.expressions.splits_of.Goals as goal

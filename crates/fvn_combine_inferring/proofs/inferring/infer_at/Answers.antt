@@ -1,5 +1,5 @@
 -- The classes of the row are nodes, and its sides have the same summands.
-use Rattle.std.proofs.Common.{List, ℕ, ◌<◌, All, length, sym, subst}
+use Rattle.std.proofs.Common.{◌<◌, All, length, sym, subst}
 use Rattle.fvn_combine_inferring.specs.Rows.{AreSides}
 use Rattle.fvn_combine_inferring.proofs.inferring.infer_at.Goals as goal
 

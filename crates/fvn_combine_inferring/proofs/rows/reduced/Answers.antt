@@ -1,5 +1,5 @@
 -- What is left on both sides.
-use Rattle.std.proofs.Common.{◌≡◌, ◌++◌, refl, sym, ap, ◌∙◌, subst}
+use Rattle.std.proofs.Common.{◌++◌, refl, ap, ◌∙◌, subst}
 use Rattle.fvn_combine_inferring.specs.inner.Lists.{IsCancelled, IsWithout}
 use Rattle.fvn_combine_inferring.proofs.Splitting.{reduced_is}
 use Rattle.fvn_combine_inferring.proofs.rows.reduced.Goals as goal
