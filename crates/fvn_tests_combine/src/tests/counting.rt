@@ -81,10 +81,10 @@ fn step(alloc: Global, sig: &Signature, table: &Table, tree: &mut Tree) -> Resul
                 tree.ask(alloc, sig, table, i, j)?;
                 Ok(true)
             }
-            None => match tree.take_top() {
-                None => Ok(false),
-                Some(_) => Ok(true),
-            },
+            None => {
+                let more = tree.take_top().is_some();
+                Ok(more)
+            }
         },
     }
 }
