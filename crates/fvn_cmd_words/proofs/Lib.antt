@@ -1,0 +1,7 @@
+-- Lemmas of the reader of words.
+mod Spelling
+mod Settings
+mod Sorting
+mod Gathering
+mod Naming
+mod Steps
