@@ -13,15 +13,15 @@ use Rattle.fvn_cmd_words.proofs.Spelling.{number_read, number_spelled}
 use Rattle.fvn_cmd_words.proofs.Sorting.{IsSo, next_so, operand_next, spelled_next, joined_given}
 
 -- the words behind an option are its number and arguments
-record IsBehind (x : OptionName) (words operands : List Word) (options : Options) : Type 0 where
-  number : Word
-  value : ℕ
-  rest : List Word
-  others : Options
-  words_are : words ≡ number ∷ rest
-  options_are : options ≡ (x, value) ∷ others
-  is_number : IsNumber number value
-  arguments : AreArguments rest operands others
+pub record IsBehind (x : OptionName) (words operands : List Word) (options : Options) : Type 0 where
+  pub number : Word
+  pub value : ℕ
+  pub rest : List Word
+  pub others : Options
+  pub words_are : words ≡ number ∷ rest
+  pub options_are : options ≡ (x, value) ∷ others
+  pub is_number : IsNumber number value
+  pub arguments : AreArguments rest operands others
 
 -- what is read where this is awaited
 abbrev Arrives : Mode → List Word → Given → Type 0

@@ -1,13 +1,14 @@
 -- The number that an option has.
-use Rattle.std.proofs.Common.{◌≡◌, ◌⊎◌, ◌≤◌, ◌<◌, ℕ, Bool, true, false, List, [], ◌∷◌, ◌++◌, Option, Some, None, inl, inr, refl, sym, ap, ◌∙◌, subst, arith}
+use Rattle.std.proofs.Common.{◌≡◌, ◌⊎◌, ◌≤◌, ◌<◌, ℕ, Bool, true, false, List, [], ◌∷◌, ◌++◌, ◌+◌, length, drop, get_or, Option, Some, None, inl, inr, refl, sym, ap, ◌∙◌, subst, arith}
 use Rattle.std.specs.Prelude.{if◌then◌else◌, nat_lt, Contains}
 use Rattle.std.proofs.lemmas.Bool.{ltb-false, le-ltb}
+use Rattle.std.proofs.lemmas.List.{drop_more}
 use Rattle.fvn_base.proofs.Membership.{contains_here, contains_later, contains_cases, contains_none}
 use Rattle.fvn_base.proofs.Options.{Some-injective}
 use Rattle.fvn_cmd_words.specs.declared.options.OptionName.{OptionName}
 use Rattle.fvn_cmd_words.specs.declared.options.OptionName.TheVariants.{Levels, Variants, Steps, Workers}
 use Rattle.fvn_cmd_words.specs.Words.{Options, usual, most, IsNoneOf, StandsOnce, IsSet, HaveStepsAlone}
-use Rattle.fvn_cmd_words.specs.inner.Reading.{same_name, one_more, once, settled, settled_once, setting_of, has_steps_alone, is_bare}
+use Rattle.fvn_cmd_words.specs.inner.Reading.{same_name, one_more, first_one, with_one, once, settled, settled_once, setting_of, has_steps_alone, is_bare}
 
 pub itself : (x : OptionName) → same_name x x ≡ true
 itself Levels = refl
@@ -46,11 +47,11 @@ other x option f e = let t : true ≡ false = sym (subst (λ y. same_name y x �
 -- what is found: what was found before, and the option stands no more; or the one number with which it stands
 data IsFound (x : OptionName) (found : Option ℕ) (options : Options) (told : Option ℕ) : Type 0 where
   as_before : told ≡ found → IsNoneOf x options → IsFound x found options told
-  this_one : {n : ℕ} {before after : Options} → found ≡ None → told ≡ Some n → options ≡ before ++ (x, n) ∷ after → IsNoneOf x before → IsNoneOf x after → IsFound x found options told
+  this_one : (n : ℕ) (before after : Options) → found ≡ None → told ≡ Some n → options ≡ before ++ (x, n) ∷ after → IsNoneOf x before → IsNoneOf x after → IsFound x found options told
 
 one_later : (x : OptionName) (found told : Option ℕ) (option : OptionName × ℕ) (options : Options) → (option.0 ≡ x → ⊥) → IsFound x found options told → IsFound x found (option ∷ options) told
 one_later x found told option options n (as_before e h) = as_before e (none_with x option options n h)
-one_later x found told option options n (this_one {before} e t s b a) = this_one e t (ap (λ l. option ∷ l) s) (none_with x option before n b) a
+one_later x found told option options n (this_one m before after e t s b a) = this_one m (option ∷ before) after e t (ap (λ l. option ∷ l) s) (none_with x option before n b) a
 
 none_listed : (x : OptionName) → IsNoneOf x []
 none_listed x n c = contains_none (x, n) c
@@ -60,32 +61,32 @@ is_this x option e i = (e i, option.1)
 
 once_found : (x : OptionName) (options : Options) (found told : Option ℕ) → once x found options ≡ Some told → IsFound x found options told
 once_found x [] found told e = as_before (sym (Some-injective e)) (none_listed x)
-once_found x (option ∷ options) found told e = go (same_name option.0 x) refl found refl e
+once_found x (option ∷ options) found told e = go (same_name option.0 x) refl found refl e (λ f h. once_found x options f told h)
   where
     first : (f : Option ℕ) → f ≡ None → IsFound x (Some option.1) options told → option.0 ≡ x → IsFound x f (option ∷ options) told
-    first f z (as_before t h) s = this_one z t (ap (λ p. p ∷ options) (is_this x option s)) (none_listed x) h
-    first f z (this_one q t r b a) s = cc
+    first f z (as_before t h) s = this_one option.1 [] options z t (ap (λ p. p ∷ options) (is_this x option s)) (none_listed x) h
+    first f z (this_one n before after q t r b a) s = cc
 
-    go : (b : Bool) → same_name option.0 x ≡ b → (f : Option ℕ) → found ≡ f → one_more b f (once x f options) (once x (Some option.1) options) ≡ Some told → IsFound x f (option ∷ options) told
-    go false s f q h = one_later x f told option options (other x option s) (once_found x options f told h)
-    go true s None q h = first None refl (once_found x options (Some option.1) told h) (same_is option.0 x s)
-    go true s (Some m) q h = cc
+    go : (b : Bool) → same_name option.0 x ≡ b → (f : Option ℕ) → found ≡ f → one_more b f (once x f options) (once x (Some option.1) options) ≡ Some told → ((f : Option ℕ) → once x f options ≡ Some told → IsFound x f options told) → IsFound x f (option ∷ options) told
+    go false s f q h rest = one_later x f told option options (other x option s) (rest f h)
+    go true s None q h rest = first None refl (rest (Some option.1) h) (same_is option.0 x s)
+    go true s (Some m) q h rest = cc
 
 once_none : (x : OptionName) (options : Options) (found : Option ℕ) → IsNoneOf x options → once x found options ≡ Some found
 once_none x [] found h = refl
-once_none x (option ∷ options) found h = go (same_name option.0 x) refl
+once_none x (option ∷ options) found h = go (same_name option.0 x) refl (once_none x options found (λ n c. h n (contains_later option options (x, n) c)))
   where
-    go : (b : Bool) → same_name option.0 x ≡ b → one_more b found (once x found options) (once x (Some option.1) options) ≡ Some found
-    go false s = once_none x options found (λ n c. h n (contains_later option options (x, n) c))
-    go true s = absurd (h option.1 (subst (λ p. Contains (option ∷ options) p) (is_this x option (same_is option.0 x s)) (contains_here option options)))
+    go : (b : Bool) → same_name option.0 x ≡ b → once x found options ≡ Some found → one_more b found (once x found options) (once x (Some option.1) options) ≡ Some found
+    go false s rest = rest
+    go true s rest = absurd (h option.1 (subst (λ p. Contains (option ∷ options) p) (is_this x option (same_is option.0 x s)) (contains_here option options)))
 
 once_this : (x : OptionName) (n : ℕ) (before after : Options) → IsNoneOf x before → IsNoneOf x after → once x None (before ++ (x, n) ∷ after) ≡ Some (Some n)
 once_this x n [] after b a = ap (λ t. one_more t None (once x None after) (once x (Some n) after)) (itself x) ∙ once_none x after (Some n) a
-once_this x n (option ∷ before) after b a = go (same_name option.0 x) refl
+once_this x n (option ∷ before) after b a = go (same_name option.0 x) refl (once_this x n before after (λ m c. b m (contains_later option before (x, m) c)) a)
   where
-    go : (t : Bool) → same_name option.0 x ≡ t → one_more t None (once x None (before ++ (x, n) ∷ after)) (once x (Some option.1) (before ++ (x, n) ∷ after)) ≡ Some (Some n)
-    go false s = once_this x n before after (λ m c. b m (contains_later option before (x, m) c)) a
-    go true s = absurd (b option.1 (subst (λ p. Contains (option ∷ before) p) (is_this x option (same_is option.0 x s)) (contains_here option before)))
+    go : (t : Bool) → same_name option.0 x ≡ t → once x None (before ++ (x, n) ∷ after) ≡ Some (Some n) → one_more t None (once x None (before ++ (x, n) ∷ after)) (once x (Some option.1) (before ++ (x, n) ∷ after)) ≡ Some (Some n)
+    go false s rest = rest
+    go true s rest = absurd (b option.1 (subst (λ p. Contains (option ∷ before) p) (is_this x option (same_is option.0 x s)) (contains_here option before)))
 
 in_range : (x : OptionName) (m n : ℕ) → settled x (Some m) ≡ Some n → (m ≡ n) × (1 ≤ n) × (n ≤ most x)
 in_range x m n e = go (nat_lt m 1) refl e
@@ -111,9 +112,9 @@ setting_read options x n e = go (once x None options) refl e
   where
     told : (t : Option ℕ) → settled x t ≡ Some n → IsFound x None options t → IsSet options x n
     told None h (as_before q s) = inr (s, sym (Some-injective h))
-    told None h (this_one f t s b a) = cc
+    told None h (this_one k before after f t s b a) = cc
     told (Some m) h (as_before q s) = cc
-    told (Some m) h (this_one {n = k} {before} {after} f t s b a) =
+    told (Some m) h (this_one k before after f t s b a) =
         let r = in_range x m n h in
         let same : k ≡ n = sym (Some-injective t) ∙ r.0 in
         inl (record { before = before; after = after; split = subst (λ i. options ≡ before ++ (x, i) ∷ after) same s; none_before = b; none_after = a; low = r.1; high = r.2 })
@@ -130,12 +131,12 @@ setting_given options x n (inr s) = ap (settled_once x) (once_none x options Non
 -- `--steps` alone
 pub steps_read : (options : Options) → has_steps_alone options ≡ true → HaveStepsAlone options
 steps_read [] e x n c = absurd (contains_none (x, n) c)
-steps_read (option ∷ options) e x n c = go (same_name option.0 Steps) refl e (contains_cases option options (x, n) c)
+steps_read (option ∷ options) e x n c = go (same_name option.0 Steps) refl e (contains_cases option options (x, n) c) (λ h k. steps_read options h x n k)
   where
-    go : (b : Bool) → same_name option.0 Steps ≡ b → (if b then has_steps_alone options else false) ≡ true → (option ≡ (x, n)) ⊎ Contains options (x, n) → x ≡ Steps
-    go true s h (inl q) = sym (ap (λ p. p.0) q) ∙ same_is option.0 Steps s
-    go true s h (inr k) = steps_read options h x n k
-    go false s h k = cc
+    go : (b : Bool) → same_name option.0 Steps ≡ b → (if b then has_steps_alone options else false) ≡ true → (option ≡ (x, n)) ⊎ Contains options (x, n) → (has_steps_alone options ≡ true → Contains options (x, n) → x ≡ Steps) → x ≡ Steps
+    go true s h (inl q) rest = sym (ap (λ p. p.0) q) ∙ same_is option.0 Steps s
+    go true s h (inr k) rest = rest h k
+    go false s h k rest = cc
 
 pub steps_given : (options : Options) → HaveStepsAlone options → has_steps_alone options ≡ true
 steps_given [] h = refl
@@ -147,3 +148,30 @@ steps_given (option ∷ options) h =
 pub bare_is : (options : Options) → is_bare options ≡ true → options ≡ []
 bare_is [] e = refl
 bare_is (option ∷ options) e = cc
+
+-- One option more.
+pub once_on : (x : OptionName) (found : Option ℕ) (option : OptionName × ℕ) (options : Options) (more : Option ℕ) → with_one x found option ≡ Some more → once x found (option ∷ options) ≡ once x more options
+once_on x found option options more e = go (same_name option.0 x) found e
+  where
+    go : (b : Bool) (f : Option ℕ) → (if b then first_one f option.1 else Some f) ≡ Some more → one_more b f (once x f options) (once x (Some option.1) options) ≡ once x more options
+    go false f h = ap (λ m. once x m options) (Some-injective h)
+    go true None h = ap (λ m. once x m options) (Some-injective h)
+    go true (Some m) h = cc
+
+pub once_off : (x : OptionName) (found : Option ℕ) (option : OptionName × ℕ) (options : Options) → with_one x found option ≡ None → once x found (option ∷ options) ≡ None
+once_off x found option options e = go (same_name option.0 x) found e
+  where
+    go : (b : Bool) (f : Option ℕ) → (if b then first_one f option.1 else Some f) ≡ None → one_more b f (once x f options) (once x (Some option.1) options) ≡ None
+    go false f h = cc
+    go true None h = cc
+    go true (Some m) h = refl
+
+pub steps_on : (option : OptionName × ℕ) (options : Options) → same_name option.0 Steps ≡ true → has_steps_alone (option ∷ options) ≡ has_steps_alone options
+steps_on option options e = ap (λ b. if b then has_steps_alone options else false) e
+
+pub steps_off : (option : OptionName × ℕ) (options : Options) → same_name option.0 Steps ≡ false → has_steps_alone (option ∷ options) ≡ false
+steps_off option options e = ap (λ b. if b then has_steps_alone options else false) e
+
+-- what stands at a place
+pub option_there : (options : Options) (i : ℕ) (option : OptionName × ℕ) → i < length options → option ≡ get_or options i option → drop i options ≡ option ∷ drop (i + 1) options
+option_there options i option within is = drop_more options i option within ∙ ap (λ o. o ∷ drop (i + 1) options) (sym is)

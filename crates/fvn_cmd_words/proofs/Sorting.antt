@@ -2,7 +2,7 @@
 use Rattle.std.proofs.Common.{◌≡◌, ℕ, Bool, true, false, List, [], ◌∷◌, ◌++◌, take, drop, length, Option, Some, None, refl, sym, ap, ◌∙◌, subst}
 use Rattle.std.specs.Prelude.{if◌then◌else◌, not, nat_eq, codes}
 use Rattle.std.specs.Cmp.Lexicographic.{pointwise, bytes_decides}
-use Rattle.std.proofs.lemmas.List.{take_drop}
+use Rattle.std.proofs.lemmas.List.{take-append-drop}
 use Rattle.fvn_base.proofs.Options.{Some-injective}
 use Rattle.fvn_cmd_words.specs.declared.options.OptionName.{OptionName}
 use Rattle.fvn_cmd_words.specs.declared.options.OptionName.TheVariants.{Levels, Variants, Steps, Workers}
@@ -50,7 +50,7 @@ behind_so x word number e = go (pointwise nat_eq (take (length (opened x)) word)
   where
     go : (b : Bool) → pointwise nat_eq (take (length (opened x)) word) (opened x) ≡ b → (if b then Some (drop (length (opened x)) word) else None) ≡ Some number → word ≡ opened x ++ number
     go true q h =
-        sym (take_drop (length (opened x)) word)
+        sym (take-append-drop (length (opened x)) word)
         ∙ ap (λ l. l ++ drop (length (opened x)) word) (word_is (take (length (opened x)) word) (opened x) q)
         ∙ ap (λ l. opened x ++ l) (Some-injective h)
     go false q h = cc
@@ -63,17 +63,16 @@ set_so x word number e = go (number_of number) refl
     go (Some n) q = (number, e, q)
 
 joined_so : (word : Word) → IsSo word (joined_next word)
-joined_so word = at Levels later_levels
+joined_so word =
+    at Levels (set_behind Variants (behind Variants word) (set_behind Steps (behind Steps word) (set_behind Workers (behind Workers word) Wrong)))
+    (at Variants (set_behind Steps (behind Steps word) (set_behind Workers (behind Workers word) Wrong)) (at Steps (set_behind Workers (behind Workers word) Wrong) (at Workers Wrong tt)))
   where
-    at : (x : OptionName) {other : Next} → IsSo word other → IsSo word (set_behind x (behind x word) other)
-    at x {other} h = go (behind x word) refl
+    at : (x : OptionName) (other : Next) → IsSo word other → IsSo word (set_behind x (behind x word) other)
+    at x other h = go (behind x word) refl
       where
         go : (o : Option Word) → behind x word ≡ o → IsSo word (set_behind x o other)
         go None q = h
         go (Some number) q = set_so x word number (behind_so x word number q)
-
-    later_levels : IsSo word (set_behind Variants (behind Variants word) (set_behind Steps (behind Steps word) (set_behind Workers (behind Workers word) Wrong)))
-    later_levels = at Variants (at Steps (at Workers tt))
 
 pub next_so : (word : Word) → IsSo word (usual_next word)
 next_so word = dashed (is_dashed word) refl

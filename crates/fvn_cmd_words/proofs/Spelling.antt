@@ -1,8 +1,8 @@
 -- Numbers of one to nine decimal digits.
-use Rattle.std.proofs.Common.{◌≡◌, ◌≤◌, ◌<◌, ◌+◌, ◌*◌, ◌-◌, ℕ, zero, suc, Bool, true, false, List, [], ◌∷◌, length, drop, get_or, Option, Some, None, refl, sym, ap, ◌∙◌, subst, arith}
-use Rattle.std.specs.Prelude.{if◌then◌else◌, ◌&&◌, nat_le}
+use Rattle.std.proofs.Common.{◌≡◌, ◌≤◌, ◌<◌, ◌+◌, ◌*◌, ◌-◌, ℕ, zero, suc, Bool, true, false, List, [], ◌∷◌, length, drop, get_or, Option, Some, None, inl, inr, refl, sym, ap, ◌∙◌, subst, arith}
+use Rattle.std.specs.Prelude.{◌⊎◌, if◌then◌else◌, ◌&&◌, nat_le}
 use Rattle.std.specs.List.{AllByRecursion}
-use Rattle.std.proofs.lemmas.Bool.{and_parts, and_from, leb-true, le-leb}
+use Rattle.std.proofs.lemmas.Bool.{and_parts, and_from, leb-true, le-leb, lt-leb}
 use Rattle.std.proofs.lemmas.List.{drop_more}
 use Rattle.fvn_base.proofs.Options.{Some-injective}
 use Rattle.fvn_cmd_words.specs.Words.{Word, IsDigit, spelled_behind, IsNumber}
@@ -24,6 +24,18 @@ pub digit_step : (word : Word) (n i r : ℕ) → i < length word → 48 ≤ get_
     read_on n (drop i word) ≡ read_on (10 * n + r) (drop (i + 1) word)
 digit_step word n i r within l h is =
     ap (read_on n) (drop_more word i 0 within) ∙ digit n (get_or word i 0) (drop (i + 1) word) l h ∙ ap (λ x. read_on (10 * n + x) (drop (i + 1) word)) (sym is)
+
+-- what is no digit
+pub bad_digit : (word : Word) (n i : ℕ) → i < length word → (get_or word i 0 < 48) ⊎ (57 < get_or word i 0) → read_on n (drop i word) ≡ None
+bad_digit word n i within h = ap (read_on n) (drop_more word i 0 within) ∙ go h
+  where
+    go : (get_or word i 0 < 48) ⊎ (57 < get_or word i 0) → read_on n (get_or word i 0 ∷ drop (i + 1) word) ≡ None
+    go (inl low) = let a : nat_le 48 (get_or word i 0) ≡ false = lt-leb 48 (get_or word i 0) low in rw a refl
+    go (inr high) = upper (nat_le 48 (get_or word i 0)) (lt-leb (get_or word i 0) 57 high)
+      where
+        upper : (b : Bool) → nat_le (get_or word i 0) 57 ≡ false → (if b && nat_le (get_or word i 0) 57 then read_on (10 * n + (get_or word i 0 - 48)) (drop (i + 1) word) else None) ≡ None
+        upper true q = ap (λ t. if t then read_on (10 * n + (get_or word i 0 - 48)) (drop (i + 1) word) else None) q
+        upper false q = refl
 
 digits_read : (n : ℕ) (word : Word) (r : ℕ) → read_on n word ≡ Some r → AllByRecursion IsDigit word × (r ≡ spelled_behind n word)
 digits_read n [] r e = (tt, sym (Some-injective e))

@@ -30,7 +30,7 @@ fn has_steps_alone(options: &[(OptionName, u64)]) -> bool
 }
 
 // How far to search, as the options tell.
-fn search(options: &[(OptionName, u64)]) -> Option<Search>
+fn search_set(options: &[(OptionName, u64)]) -> Option<Search>
     ensures exact { MatchOption result (reach_from options.now ≡ None) (λ s. reach_from options.now ≡ Some s.reach) }
     ensures workers { MatchOption result (reach_from options.now ≡ None)
         (λ s. (1 ≤ s.workers) × (s.workers ≤ MOST_WORKERS)) }
@@ -75,7 +75,7 @@ fn work(word: &[u8]) -> Option<Command<'static>>
 fn variants<'a>(word: &'a [u8], options: &[(OptionName, u64)]) -> Option<Command<'a>>
     ensures { TellsAs (variants_from word.now options.now) result }
 {
-    match search(options) {
+    match search_set(options) {
         None => None,
         Some(s) => Some(Command::Variants(word, s.reach, s.workers)),
     }
@@ -85,7 +85,7 @@ fn variants<'a>(word: &'a [u8], options: &[(OptionName, u64)]) -> Option<Command
 fn vunify<'a>(word: &'a [u8], options: &[(OptionName, u64)]) -> Option<Command<'a>>
     ensures { TellsAs (vunify_from word.now options.now) result }
 {
-    match search(options) {
+    match search_set(options) {
         None => None,
         Some(s) => Some(Command::Vunify(word, s.reach, s.workers)),
     }

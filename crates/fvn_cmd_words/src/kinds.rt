@@ -124,7 +124,7 @@ fn usual_next(word: &[u8]) -> Next
 }
 
 // What a word is.
-pub(crate) fn next(mode: Mode, word: &[u8]) -> Next
+pub(crate) fn next_of(mode: Mode, word: &[u8]) -> Next
     ensures { result ≡ next_of mode word.now }
 {
     match mode {

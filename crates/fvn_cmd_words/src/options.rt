@@ -1,7 +1,7 @@
 //! Options, and the numbers that they are set to.
 ghost use Rattle.std.specs.Prelude.{◌≡◌, ◌≤◌, None, IfSome};
 ghost use Rattle.fvn_cmd_words.specs.Words.{usual, most};
-ghost use Rattle.fvn_cmd_words.specs.inner.Reading.{same_name, once, settled, setting_of};
+ghost use Rattle.fvn_cmd_words.specs.inner.Reading.{same_name, with_one, once, settled, setting_of};
 
 use crate::limits::{
     LEVELS, MOST_LEVELS, MOST_STEPS, MOST_VARIANTS, MOST_WORKERS, STEPS, USUAL_WORKERS, VARIANTS,
@@ -72,18 +72,29 @@ pub(crate) fn same_name(x: OptionName, y: OptionName) -> bool
     }
 }
 
+// The number that was found, with one option more; nothing where it is the second of its name.
+fn with_one(found: Option<u64>, option: (OptionName, u64), x: OptionName) -> Option<Option<u64>>
+    ensures { result ≡ with_one x found option }
+{
+    if !same_name(option.0, x) {
+        return Some(found);
+    }
+    match found {
+        Some(_) => None,
+        None => Some(Some(option.1)),
+    }
+}
+
 // The number that the option is set to, nothing where it stands twice.
 fn once(options: &[(OptionName, u64)], x: OptionName) -> Option<Option<u64>>
     ensures { result ≡ once x None options.now }
 {
     let mut found = None;
     for option in options {
-        if !same_name(option.0, x) {
-            continue;
-        }
-        match found {
-            Some(_) => return None,
-            None => found = Some(option.1),
+        let more = with_one(found, *option, x);
+        match more {
+            None => return None,
+            Some(told) => found = told,
         }
     }
     Some(found)

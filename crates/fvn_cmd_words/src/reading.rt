@@ -5,7 +5,7 @@ ghost use Rattle.fvn_cmd_words.specs.inner.Reading.{TakenAs, ClosedAs, ReadAs};
 
 use crate::command::Command;
 use crate::interpreting::command_at;
-use crate::kinds::{Mode, Next, next};
+use crate::kinds::{Mode, Next, next_of};
 use crate::options::OptionName;
 use fvn_terms::NoMemory;
 use std::alloc::Global;
@@ -78,7 +78,7 @@ fn closed(state: State) -> Option<Arguments>
 }
 
 // The operands and options behind the name.
-fn arguments(alloc: Global, words: &[String]) -> Result<Option<Arguments>, NoMemory>
+fn arguments_of(alloc: Global, words: &[String]) -> Result<Option<Arguments>, NoMemory>
     requires { 1 ≤ length words.now }
     ensures { IfOk result (ReadAs (map string_bytes words.now)) }
 {
@@ -88,7 +88,7 @@ fn arguments(alloc: Global, words: &[String]) -> Result<Option<Arguments>, NoMem
         options: Vec::new(alloc),
     };
     for i in 1..words.len() {
-        let now = next(state.mode, words[i].as_bytes());
+        let now = next_of(state.mode, words[i].as_bytes());
         let more = taken(state, i, now)?;
         match more {
             None => return Ok(None),
@@ -105,7 +105,7 @@ pub fn read_command(alloc: Global, words: &[String]) -> Result<Option<Command<'_
     if words.is_empty() {
         return Ok(None);
     }
-    let read = arguments(alloc, words)?;
+    let read = arguments_of(alloc, words)?;
     match read {
         None => Ok(None),
         Some(given) => Ok(command_at(

@@ -126,6 +126,15 @@ one_more false found others first = others
 one_more true None others first = first
 one_more true (Some m) others first = None
 
+-- the first number of an option; nothing for a second one
+abbrev pub first_one : Option ℕ → ℕ → Option (Option ℕ)
+first_one None n = Some (Some n)
+first_one (Some m) n = None
+
+-- the number that was found, with one option more
+abbrev pub with_one : OptionName → Option ℕ → OptionName × ℕ → Option (Option ℕ)
+with_one x found option = if same_name option.0 x then first_one found option.1 else Some found
+
 -- the number with which the option stands, where it stands once or not at all, if one was found before
 abbrev pub once : OptionName → Option ℕ → Options → Option (Option ℕ)
 once x found [] = Some found
