@@ -1,5 +1,5 @@
 -- Words are read just as the command that they are.
-use Rattle.std.proofs.Common.{◌≡◌, ◌≤◌, ℕ, Bool, true, false, List, [], ◌∷◌, Option, Some, None, refl, sym, ap, ◌∙◌, subst}
+use Rattle.std.proofs.Common.{◌≡◌, ◌≤◌, ℕ, Bool, true, false, List, [], ◌∷◌, Option, Some, None, length, drop, refl, sym, ap, ◌∙◌, subst, arith}
 use Rattle.std.specs.Prelude.{if◌then◌else◌, ◌&&◌, nat_eq, nat_lt, codes, option_map}
 use Rattle.std.specs.Cmp.Lexicographic.{pointwise, bytes_decides}
 use Rattle.std.proofs.lemmas.Bool.{and_parts, ltb-false, le-ltb}
@@ -9,8 +9,10 @@ use Rattle.fvn_cmd_words.specs.declared.options.OptionName.TheVariants.{Levels, 
 use Rattle.fvn_cmd_words.specs.declared.reach.Reach.{Reach}
 use Rattle.fvn_cmd_words.specs.declared.kinds.Mode.TheVariants.{Usual}
 use Rattle.fvn_cmd_words.specs.Words.{Word, Command, check, unify, verify, terminates, variants, vunify, work, Options, IsNumber, AreArguments, IsSet, HaveStepsAlone, AreOptionsOf, AreCalled, IsSearchBy, IsCommand, AreNoCommand}
+use Rattle.fvn_cmd_words.specs.declared.command.Command.{Command as Told}
+use Rattle.fvn_cmd_words.specs.Told.{meant, IsRead}
 use Rattle.fvn_cmd_words.specs.Laws.{WordsAreOneCommand}
-use Rattle.fvn_cmd_words.specs.inner.Reading.{number_of, setting_of, is_bare, has_steps_alone, work_of, reach_of, reach_from, variants_from, vunify_from, verify_from, bare_with, command_with, command_with_two, command_alone, command_from, command_given, command_of, Given, arguments_of}
+use Rattle.fvn_cmd_words.specs.inner.Reading.{TellsAs, word_at, number_of, setting_of, is_bare, has_steps_alone, work_of, reach_of, reach_from, variants_from, vunify_from, verify_from, bare_with, command_with, command_with_two, command_alone, command_from, command_given, command_of, Given, arguments_of}
 use Rattle.fvn_cmd_words.proofs.Spelling.{passed, number_read, number_spelled}
 use Rattle.fvn_cmd_words.proofs.Settings.{setting_read, setting_given, steps_read, steps_given, bare_is}
 use Rattle.fvn_cmd_words.proofs.Sorting.{word_is}
@@ -156,3 +158,13 @@ no_command words none c h = let e = command_told words c h in cc
 
 pub one_command : WordsAreOneCommand
 one_command words c d h k = Some-injective (sym (command_told words c h) ∙ command_told words d k)
+
+-- the command is told by the name and what stands behind it
+pub command_behind : (words : List Word) → 1 ≤ length words → command_of words ≡ command_given (word_at words 0) (arguments_of (drop 1 words) Usual)
+command_behind [] some = absurd (omega (arith, some))
+command_behind (name ∷ words) some = refl
+
+-- a value that tells what was read
+pub told_as : (words : List Word) (o : Option Told) → TellsAs (command_of words) o → IsRead words o
+told_as words None e = no_command words e
+told_as words (Some told) h = (command_read words (meant told) h.0, h.1)

@@ -1,5 +1,5 @@
 -- Words that are read one after another.
-use Rattle.std.proofs.Common.{◌≡◌, ◌<◌, ◌≤◌, ◌+◌, ℕ, List, [], ◌∷◌, ◌++◌, map, drop, length, get_or, Option, Some, None, refl, sym, ap, ◌∙◌, subst}
+use Rattle.std.proofs.Common.{◌≡◌, ◌<◌, ◌≤◌, ◌+◌, ℕ, List, [], ◌∷◌, ◌++◌, suc, zero, map, drop, length, get_or, Option, Some, None, refl, sym, ap, ◌∙◌, subst, arith}
 use Rattle.std.specs.Prelude.{All}
 use Rattle.std.proofs.lemmas.List.{append_assoc, map-append, drop_more, drop_all}
 use Rattle.std.proofs.lemmas.List.Elements.{All-push}
@@ -21,6 +21,28 @@ no_more : {A : Type 0} (l : List A) → l ++ [] ≡ l
 no_more [] = refl
 no_more (x ∷ l) = ap (λ m. x ∷ m) (no_more l)
 
+before_none : (o : Option Given) → before_all [] [] o ≡ o
+before_none None = refl
+before_none (Some g) = refl
+
+-- what stands at a place
+pub there : {A : Type 0} (f : A → Word) (l : List A) (i : ℕ) (x d : A) → i < length l → x ≡ get_or l i d → word_at (map f l) i ≡ f x
+there f [] i x d within is = absurd (omega (arith, within))
+there f (y ∷ l) zero x d within is = ap f (sym is)
+there f (y ∷ l) (suc i) x d within is = there f l i x d (omega (arith, within)) is
+
+-- operands that are one or two
+pub one_place : (f : ℕ → Word) (l : List ℕ) (i d : ℕ) → length l ≡ 1 → i ≡ get_or l 0 d → map f l ≡ f i ∷ []
+one_place f [] i d n is = cc
+one_place f (x ∷ []) i d n is = ap (λ m. f m ∷ []) (sym is)
+one_place f (x ∷ y ∷ l) i d n is = cc
+
+pub two_places : (f : ℕ → Word) (l : List ℕ) (i d j e : ℕ) → length l ≡ 2 → i ≡ get_or l 0 d → j ≡ get_or l 1 e → map f l ≡ f i ∷ f j ∷ []
+two_places f [] i d j e n is at = cc
+two_places f (x ∷ []) i d j e n is at = cc
+two_places f (x ∷ y ∷ []) i d j e n is at = ap (λ m. f m ∷ f y ∷ []) (sym is) ∙ ap (λ m. f i ∷ f m ∷ []) (sym at)
+two_places f (x ∷ y ∷ z ∷ l) i d j e n is at = cc
+
 module _ (words : List Word) where
   abbrev at : List ℕ → List Word
   at places = map (word_at words) places
@@ -28,6 +50,14 @@ module _ (words : List Word) where
   -- what is read of the words from a place on
   pub read_on_word : (mode : Mode) (i : ℕ) → i < length words → arguments_of (drop i words) mode ≡ going_on mode (word_at words i) (next_of mode (word_at words i)) (arguments_of (drop (i + 1) words))
   read_on_word mode i within = ap (λ l. arguments_of l mode) (drop_more words i [] within)
+
+  -- nothing was read
+  pub read_begin : (s : State) (rest : List Word) → s.mode ≡ Usual → s.operands.items ≡ [] → s.options.items ≡ [] → arguments_of rest Usual ≡ read_so_far words s rest
+  read_begin s rest m a b =
+      sym (before_none (arguments_of rest Usual))
+      ∙ ap (λ l. before_all (at l) [] (arguments_of rest Usual)) (sym a)
+      ∙ ap (λ l. before_all (at s.operands.items) l (arguments_of rest Usual)) (sym b)
+      ∙ ap (λ n. before_all (at s.operands.items) s.options.items (arguments_of rest n)) (sym m)
 
   -- one word more
   pub read_step : (s t : State) (i : ℕ) (next : Next) → i < length words → next ≡ next_of s.mode (word_at words i) → TakenAs next i s (Some t) → read_so_far words s (drop i words) ≡ read_so_far words t (drop (i + 1) words)

@@ -21,8 +21,8 @@ struct Search {
 fn has_steps_alone(options: &[(OptionName, u64)]) -> bool
     ensures { result ≡ has_steps_alone options.now }
 {
-    for option in options {
-        if !same_name(option.0, OptionName::Steps) {
+    for i in 0..options.len() {
+        if !same_name(options[i].0, OptionName::Steps) {
             return false;
         }
     }

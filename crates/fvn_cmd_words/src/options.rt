@@ -90,8 +90,8 @@ fn once(options: &[(OptionName, u64)], x: OptionName) -> Option<Option<u64>>
     ensures { result ≡ once x None options.now }
 {
     let mut found = None;
-    for option in options {
-        let more = with_one(found, *option, x);
+    for i in 0..options.len() {
+        let more = with_one(found, options[i], x);
         match more {
             None => return None,
             Some(told) => found = told,

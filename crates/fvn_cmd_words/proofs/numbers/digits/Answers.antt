@@ -17,3 +17,6 @@ returns-then-byte-lt48 c = sym (c.loop-byte.invariant.0 ∙ bad_digit c.args.wor
 
 pub returns-then-byte-gt57 : goal.returns-then-byte-gt57
 returns-then-byte-gt57 c = sym (c.loop-byte.invariant.0 ∙ bad_digit c.args.word.now c.loop-byte.n c.loop-byte.byte-index c.loop-byte-test.true (inr c.if-byte-gt57.true))
+
+pub overflow_add-n : goal.overflow_add-n
+overflow_add-n c = let s = nine_digits c.loop-byte.byte-index (omega (arith, c.loop-byte-test.true, c.requires)) in omega (arith, s, c.loop-byte.invariant.1, c.if-byte-gt57.false, c.from.ensures)
