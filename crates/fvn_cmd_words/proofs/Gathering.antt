@@ -8,7 +8,7 @@ use Rattle.fvn_cmd_words.specs.declared.kinds.Mode.TheVariants.{Usual, Value, Op
 use Rattle.fvn_cmd_words.specs.declared.kinds.Next.{Next}
 use Rattle.fvn_cmd_words.specs.declared.kinds.Next.TheVariants.{Operand, Set, To, Wrong}
 use Rattle.fvn_cmd_words.specs.Words.{Word, spelled, Options, IsNumber, AreArguments, none, ended, operand, in_two, in_one}
-use Rattle.fvn_cmd_words.specs.inner.Reading.{number_of, set_to, usual_next, next_of, Given, before_all, at_end, going_on, arguments_of}
+use Rattle.fvn_cmd_words.specs.inner.Reading.{number_of, set_to, usual_next, Given, before_all, going_on, arguments_of}
 use Rattle.fvn_cmd_words.proofs.Spelling.{number_read, number_spelled}
 use Rattle.fvn_cmd_words.proofs.Sorting.{IsSo, next_so, operand_next, spelled_next, joined_given}
 

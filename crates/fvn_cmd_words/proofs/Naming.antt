@@ -8,11 +8,11 @@ use Rattle.fvn_cmd_words.specs.declared.limits.TheConstants.{LEAST_WORK, MOST_WO
 use Rattle.fvn_cmd_words.specs.declared.options.OptionName.TheVariants.{Levels, Variants, Steps, Workers}
 use Rattle.fvn_cmd_words.specs.declared.reach.Reach.{Reach}
 use Rattle.fvn_cmd_words.specs.declared.kinds.Mode.TheVariants.{Usual}
-use Rattle.fvn_cmd_words.specs.Words.{Word, Command, check, unify, verify, terminates, variants, vunify, work, Options, IsNumber, AreArguments, IsSet, HaveStepsAlone, AreOptionsOf, AreCalled, IsSearchBy, IsCommand, AreNoCommand}
+use Rattle.fvn_cmd_words.specs.Words.{Word, Command, check, unify, verify, terminates, variants, vunify, work, Options, AreArguments, AreOptionsOf, AreCalled, IsSearchBy, IsCommand, AreNoCommand}
 use Rattle.fvn_cmd_words.specs.declared.command.Command.{Command as Told}
 use Rattle.fvn_cmd_words.specs.Told.{meant, IsRead}
 use Rattle.fvn_cmd_words.specs.Laws.{WordsAreOneCommand}
-use Rattle.fvn_cmd_words.specs.inner.Reading.{TellsAs, word_at, number_of, setting_of, is_bare, has_steps_alone, work_of, reach_of, reach_from, variants_from, vunify_from, verify_from, bare_with, command_with, command_with_two, command_alone, command_from, command_given, command_of, Given, arguments_of}
+use Rattle.fvn_cmd_words.specs.inner.Reading.{TellsAs, word_at, number_of, setting_of, is_bare, has_steps_alone, work_of, reach_of, reach_from, variants_from, vunify_from, verify_from, bare_with, command_with, command_from, command_given, command_of, Given, arguments_of}
 use Rattle.fvn_cmd_words.proofs.Spelling.{passed, number_read, number_spelled}
 use Rattle.fvn_cmd_words.proofs.Settings.{setting_read, setting_given, steps_read, steps_given, bare_is}
 use Rattle.fvn_cmd_words.proofs.Sorting.{word_is}

@@ -1,5 +1,5 @@
 -- The number that an option has.
-use Rattle.std.proofs.Common.{◌≡◌, ◌⊎◌, ◌≤◌, ◌<◌, ℕ, Bool, true, false, List, [], ◌∷◌, ◌++◌, ◌+◌, length, drop, get_or, Option, Some, None, inl, inr, refl, sym, ap, ◌∙◌, subst, arith}
+use Rattle.std.proofs.Common.{◌≡◌, ◌⊎◌, ◌≤◌, ◌<◌, ℕ, Bool, true, false, [], ◌∷◌, ◌++◌, ◌+◌, length, drop, get_or, Option, Some, None, inl, inr, refl, sym, ap, ◌∙◌, subst}
 use Rattle.std.specs.Prelude.{if◌then◌else◌, nat_lt, Contains}
 use Rattle.std.proofs.lemmas.Bool.{ltb-false, le-ltb}
 use Rattle.std.proofs.lemmas.List.{drop_more}
@@ -7,7 +7,7 @@ use Rattle.fvn_base.proofs.Membership.{contains_here, contains_later, contains_c
 use Rattle.fvn_base.proofs.Options.{Some-injective}
 use Rattle.fvn_cmd_words.specs.declared.options.OptionName.{OptionName}
 use Rattle.fvn_cmd_words.specs.declared.options.OptionName.TheVariants.{Levels, Variants, Steps, Workers}
-use Rattle.fvn_cmd_words.specs.Words.{Options, usual, most, IsNoneOf, StandsOnce, IsSet, HaveStepsAlone}
+use Rattle.fvn_cmd_words.specs.Words.{Options, most, IsNoneOf, IsSet, HaveStepsAlone}
 use Rattle.fvn_cmd_words.specs.inner.Reading.{same_name, one_more, first_one, with_one, once, settled, settled_once, setting_of, has_steps_alone, is_bare}
 
 pub itself : (x : OptionName) → same_name x x ≡ true

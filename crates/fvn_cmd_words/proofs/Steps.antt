@@ -1,9 +1,7 @@
 -- Words that are read one after another.
 use Rattle.std.proofs.Common.{◌≡◌, ◌<◌, ◌≤◌, ◌+◌, ℕ, List, [], ◌∷◌, ◌++◌, suc, zero, map, drop, length, get_or, Option, Some, None, refl, sym, ap, ◌∙◌, subst, arith}
-use Rattle.std.specs.Prelude.{All}
 use Rattle.std.proofs.lemmas.List.{append_assoc, map-append, drop_more, drop_all}
 use Rattle.std.proofs.lemmas.List.Elements.{All-push}
-use Rattle.fvn_cmd_words.specs.declared.options.OptionName.{OptionName}
 use Rattle.fvn_cmd_words.specs.declared.kinds.Mode.{Mode}
 use Rattle.fvn_cmd_words.specs.declared.kinds.Mode.TheVariants.{Usual}
 use Rattle.fvn_cmd_words.specs.declared.kinds.Next.{Next}

@@ -1,5 +1,5 @@
 -- The words of the command line: which of them are which command.
-use Rattle.std.specs.Prelude.{◌≡◌, ◌≤◌, ◌⊎◌, ℕ, Bool, true, false, ◌+◌, ◌*◌, ◌-◌, nat_eq, List, [], ◌∷◌, ◌++◌, codes, length, Contains}
+use Rattle.std.specs.Prelude.{◌≡◌, ◌≤◌, ◌⊎◌, ℕ, Bool, false, ◌+◌, ◌*◌, ◌-◌, nat_eq, List, [], ◌∷◌, ◌++◌, codes, length, Contains}
 use Rattle.std.specs.List.{AllByRecursion}
 use Rattle.fvn_cmd_words.specs.declared.limits.TheConstants.{LEVELS, MOST_LEVELS, VARIANTS, MOST_VARIANTS, STEPS, MOST_STEPS, USUAL_WORKERS, MOST_WORKERS, LEAST_WORK, MOST_WORK}
 use Rattle.fvn_cmd_words.specs.declared.options.OptionName.{OptionName}

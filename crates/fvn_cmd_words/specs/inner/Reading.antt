@@ -1,5 +1,5 @@
 -- The reader of the words of the command line, as a function.
-use Rattle.std.specs.Prelude.{◌≡◌, ◌≤◌, ◌<◌, ℕ, Bool, true, false, not, ◌&&◌, ◌+◌, ◌*◌, ◌-◌, nat_eq, nat_le, nat_lt, if◌then◌else◌, List, [], ◌∷◌, ◌++◌, All, map, take, drop, slice_index_or, Option, Some, None, option_map, codes, length}
+use Rattle.std.specs.Prelude.{◌≡◌, ◌<◌, ℕ, Bool, true, false, not, ◌&&◌, ◌+◌, ◌*◌, ◌-◌, nat_eq, nat_le, nat_lt, if◌then◌else◌, List, [], ◌∷◌, ◌++◌, All, map, take, drop, slice_index_or, Option, Some, None, option_map, codes, length}
 use Rattle.std.specs.Cmp.Lexicographic.{pointwise}
 use Rattle.fvn_cmd_words.specs.declared.limits.TheConstants.{LEAST_WORK, MOST_WORK}
 use Rattle.fvn_cmd_words.specs.declared.options.OptionName.{OptionName}

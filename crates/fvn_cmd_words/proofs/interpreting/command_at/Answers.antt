@@ -1,5 +1,5 @@
 -- Operands are words at their places.
-use Rattle.std.proofs.Common.{◌≡◌, ◌<◌, ◌≤◌, String, Global, List, ℕ, get_or, length, map, refl, sym, ap, ◌∙◌, subst, arith}
+use Rattle.std.proofs.Common.{◌≡◌, ◌<◌, String, Global, List, ℕ, get_or, length, map, refl, sym, ◌∙◌, subst, arith}
 use Rattle.std.specs.Prelude.{string_bytes}
 use Rattle.fvn_cmd_words.specs.Words.{Word}
 use Rattle.fvn_cmd_words.specs.inner.Reading.{word_at, AllBelow, command_from, command_with, command_with_two, TellsAs}

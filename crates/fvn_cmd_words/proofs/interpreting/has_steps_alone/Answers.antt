@@ -1,5 +1,5 @@
 -- What is left decides.
-use Rattle.std.proofs.Common.{◌≡◌, refl, sym, ap, ◌∙◌, ◌+◌, get_or, drop}
+use Rattle.std.proofs.Common.{sym, ap, ◌∙◌, ◌+◌, get_or, drop}
 use Rattle.std.proofs.lemmas.List.{drop_more, drop_all}
 use Rattle.fvn_cmd_words.specs.declared.options.OptionName.TheVariants.{Levels}
 use Rattle.fvn_cmd_words.specs.inner.Reading.{has_steps_alone}

@@ -1,6 +1,6 @@
 -- What is left decides.
-use Rattle.std.proofs.Common.{◌≡◌, ◌<◌, ◌≤◌, ◌+◌, ◌*◌, inl, inr, refl, sym, ap, ◌∙◌, arith, drop}
-use Rattle.fvn_cmd_words.proofs.Spelling.{ten_to, ten_more, nine_digits, digit_step, bad_digit}
+use Rattle.std.proofs.Common.{inl, inr, refl, sym, ◌∙◌, arith}
+use Rattle.fvn_cmd_words.proofs.Spelling.{ten_more, nine_digits, digit_step, bad_digit}
 use Rattle.fvn_cmd_words.proofs.numbers.digits.Goals as goal
 
 pub loop-byte-init : goal.loop-byte-init

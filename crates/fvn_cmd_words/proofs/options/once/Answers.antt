@@ -1,5 +1,5 @@
 -- What is left decides.
-use Rattle.std.proofs.Common.{◌≡◌, refl, sym, ap, ◌∙◌, ◌+◌, drop}
+use Rattle.std.proofs.Common.{sym, ap, ◌∙◌, ◌+◌, drop}
 use Rattle.std.proofs.lemmas.List.{drop_more, drop_all}
 use Rattle.fvn_cmd_words.specs.inner.Reading.{once}
 use Rattle.fvn_cmd_words.proofs.Settings.{once_on, once_off}

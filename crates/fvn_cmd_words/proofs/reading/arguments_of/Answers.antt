@@ -1,5 +1,5 @@
 -- One word more.
-use Rattle.std.proofs.Common.{◌≡◌, ◌<◌, ◌≤◌, List, Some, None, String, Global, length, map, drop, refl, sym, ap, ◌∙◌, subst, arith}
+use Rattle.std.proofs.Common.{◌<◌, ◌≤◌, List, Some, None, String, Global, length, map, drop, refl, sym, ap, ◌∙◌, subst, arith}
 use Rattle.std.proofs.lemmas.List.{length-map}
 use Rattle.fvn_cmd_words.specs.declared.kinds.Mode.TheVariants.{Usual}
 use Rattle.fvn_cmd_words.specs.Words.{Word}
@@ -23,8 +23,7 @@ loop-i-preserved c =
     let inside : c.loop-i.i < length (spoken c.args.words.now) = subst (λ n. c.loop-i.i < n) (sym (length-map c.args.words.now (string_bytes {Z = Global}))) within in
     let word = there (string_bytes {Z = Global}) c.args.words.now c.loop-i.i c.index-words-i.result c.index-words-i.result within c.index-words-i.is in
     let is = c.next_of-now.ensures ∙ ap (next_of c.loop-i.state.mode) (c.as_bytes.ensures.value ∙ sym word) in
-    let taken : TakenAs c.next_of-now.result c.loop-i.i c.loop-i.state (Some c.in-Some.other) = subst (TakenAs c.next_of-now.result c.loop-i.i c.loop-i.state) c.in-Some.is c.in_ok-more.ensures in
-    (
+    let taken : TakenAs c.next_of-now.result c.loop-i.i c.loop-i.state (Some c.in-Some.other) = subst (TakenAs c.next_of-now.result c.loop-i.i c.loop-i.state) c.in-Some.is c.in_ok-more.ensures in (
       c.loop-i.invariant.0 ∙ read_step (spoken c.args.words.now) c.loop-i.state c.in-Some.other c.loop-i.i c.next_of-now.result inside is taken,
       places_step (spoken c.args.words.now) c.loop-i.state c.in-Some.other c.loop-i.i c.next_of-now.result inside taken c.loop-i.invariant.1,
     )

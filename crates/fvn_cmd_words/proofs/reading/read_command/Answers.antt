@@ -1,5 +1,5 @@
 -- What was read tells the command.
-use Rattle.std.proofs.Common.{◌≡◌, ◌<◌, ◌≤◌, String, Global, List, [], ◌∷◌, Some, None, length, map, drop, refl, sym, ap, ◌∙◌, subst, arith}
+use Rattle.std.proofs.Common.{◌≡◌, ◌≤◌, String, Global, List, [], ◌∷◌, Some, None, length, map, sym, ap, ◌∙◌, subst, arith}
 use Rattle.std.specs.Prelude.{string_bytes, nat_eq, false}
 use Rattle.std.proofs.lemmas.List.{length-map}
 use Rattle.fvn_cmd_words.specs.Words.{Word}
