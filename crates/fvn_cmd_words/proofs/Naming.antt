@@ -26,21 +26,21 @@ mapped f None y e = cc
 mapped f (Some x) y e = (x, refl, Some-injective e)
 
 -- Searches.
-reach_parts : (l v s k : Option ℕ) (reach : Reach) → reach_of l v s k ≡ Some reach → (workers : ℕ) × ((l ≡ Some reach.levels) × (v ≡ Some reach.variants) × (s ≡ Some reach.steps) × (k ≡ Some workers))
-reach_parts None v s k reach e = cc
-reach_parts (Some l) None s k reach e = cc
-reach_parts (Some l) (Some v) None k reach e = cc
-reach_parts (Some l) (Some v) (Some s) None reach e = cc
-reach_parts (Some l) (Some v) (Some s) (Some k) reach e =
-    let q : record { levels = l; variants = v; steps = s } ≡ reach = Some-injective e in
-    (k, (ap (λ (r : Reach). Some r.levels) q, ap (λ (r : Reach). Some r.variants) q, ap (λ (r : Reach). Some r.steps) q, refl))
+reach_parts : (l v s k : Option ℕ) (reach : Reach) (workers : ℕ) → reach_of l v s k ≡ Some (reach, workers) → (l ≡ Some reach.levels) × (v ≡ Some reach.variants) × (s ≡ Some reach.steps) × (k ≡ Some workers)
+reach_parts None v s k reach workers e = cc
+reach_parts (Some l) None s k reach workers e = cc
+reach_parts (Some l) (Some v) None k reach workers e = cc
+reach_parts (Some l) (Some v) (Some s) None reach workers e = cc
+reach_parts (Some l) (Some v) (Some s) (Some k) reach workers e =
+    let q : (record { levels = l; variants = v; steps = s }, k) ≡ (reach, workers) = Some-injective e in
+    (ap (λ (r : Reach × ℕ). Some r.0.levels) q, ap (λ (r : Reach × ℕ). Some r.0.variants) q, ap (λ (r : Reach × ℕ). Some r.0.steps) q, ap (λ (r : Reach × ℕ). Some r.1) q)
 
-search_read : (options : Options) (reach : Reach) → reach_from options ≡ Some reach → (workers : ℕ) × AreOptionsOf options reach workers
-search_read options reach e =
-    let p = reach_parts (setting_of Levels options) (setting_of Variants options) (setting_of Steps options) (setting_of Workers options) reach e in
-    (p.0, record { levels = setting_read options Levels reach.levels p.1.0; kept = setting_read options Variants reach.variants p.1.1; steps = setting_read options Steps reach.steps p.1.2; workers_are = setting_read options Workers p.0 p.1.3 })
+search_read : (options : Options) (reach : Reach) (workers : ℕ) → reach_from options ≡ Some (reach, workers) → AreOptionsOf options reach workers
+search_read options reach workers e =
+    let p = reach_parts (setting_of Levels options) (setting_of Variants options) (setting_of Steps options) (setting_of Workers options) reach workers e in
+    record { levels = setting_read options Levels reach.levels p.0; kept = setting_read options Variants reach.variants p.1; steps = setting_read options Steps reach.steps p.2; workers_are = setting_read options Workers workers p.3 }
 
-search_given : (options : Options) (reach : Reach) (workers : ℕ) → AreOptionsOf options reach workers → reach_from options ≡ Some reach
+search_given : (options : Options) (reach : Reach) (workers : ℕ) → AreOptionsOf options reach workers → reach_from options ≡ Some (reach, workers)
 search_given options reach workers h =
     ap (λ l. reach_of l (setting_of Variants options) (setting_of Steps options) (setting_of Workers options)) (setting_given options Levels reach.levels h.levels)
     ∙ ap (λ v. reach_of (Some reach.levels) v (setting_of Steps options) (setting_of Workers options)) (setting_given options Variants reach.variants h.kept)
@@ -87,18 +87,16 @@ module _ (name : Word) (words : List Word) where
         is_unify true q f = subst (IsCommand (name ∷ words)) (Some-injective f) (called (codes "unify") (word ∷ []) [] q plainly)
         is_unify false q f = is_terminates (pointwise nat_eq name (codes "terminates")) refl f
 
-    search_by : (given : Word) (reach : Reach) → pointwise nat_eq name given ≡ true → reach_from options ≡ Some reach → (workers : ℕ) × IsSearchBy given (name ∷ words) word reach workers
-    search_by given reach q e =
-        let s = search_read options reach e in
-        (s.0, record { options = options; called = called given (word ∷ []) options q a; options_are = s.1 })
+    search_by : (given : Word) (reach : Reach) (workers : ℕ) → pointwise nat_eq name given ≡ true → reach_from options ≡ Some (reach, workers) → IsSearchBy given (name ∷ words) word reach workers
+    search_by given reach workers q e = record { options = options; called = called given (word ∷ []) options q a; options_are = search_read options reach workers e }
 
     one_read : command_with name word options ≡ Some c → IsCommand (name ∷ words) c
     one_read e = is_variants (pointwise nat_eq name (codes "variants")) refl e
       where
         is_vunify : (b : Bool) → pointwise nat_eq name (codes "vunify") ≡ b → (if b then vunify_from word options else (if is_bare options then bare_with name word else None)) ≡ Some c → IsCommand (name ∷ words) c
         is_vunify true q f =
-            let m = mapped (vunify word) (reach_from options) c f in
-            subst (IsCommand (name ∷ words)) m.2 (search_by (codes "vunify") m.0 q m.1)
+            let m = mapped (λ (s : Reach × ℕ). vunify word s.0 s.1) (reach_from options) c f in
+            subst (IsCommand (name ∷ words)) m.2 (search_by (codes "vunify") m.0.0 m.0.1 q m.1)
         is_vunify false q f =
             let p = passed (is_bare options) (bare_with name word) c f in
             bare_read (bare_is options p.0) p.1
@@ -106,8 +104,8 @@ module _ (name : Word) (words : List Word) where
         is_variants : (b : Bool) → pointwise nat_eq name (codes "variants") ≡ b →
             (if b then variants_from word options else (if pointwise nat_eq name (codes "vunify") then vunify_from word options else (if is_bare options then bare_with name word else None))) ≡ Some c → IsCommand (name ∷ words) c
         is_variants true q f =
-            let m = mapped (variants word) (reach_from options) c f in
-            subst (IsCommand (name ∷ words)) m.2 (search_by (codes "variants") m.0 q m.1)
+            let m = mapped (λ (s : Reach × ℕ). variants word s.0 s.1) (reach_from options) c f in
+            subst (IsCommand (name ∷ words)) m.2 (search_by (codes "variants") m.0.0 m.0.1 q m.1)
         is_variants false q f = is_vunify (pointwise nat_eq name (codes "vunify")) refl f
 
   read_from : (operands : List Word) (options : Options) (c : Command) → AreArguments words operands options → command_from name operands options ≡ Some c → IsCommand (name ∷ words) c
@@ -143,10 +141,10 @@ command_told words (verify problem bindings steps) h =
     from_call (codes "verify") words (problem ∷ bindings ∷ []) h.0 h.1
     ∙ ap (λ b. if b then option_map (verify problem bindings) (setting_of Steps h.0) else None) (steps_given h.0 h.2)
     ∙ ap (option_map (verify problem bindings)) (setting_given h.0 Steps steps h.3)
-command_told words (variants term reach) h =
-    from_call (codes "variants") words (term ∷ []) h.1.options h.1.called ∙ ap (option_map (variants term)) (search_given h.1.options reach h.0 h.1.options_are)
-command_told words (vunify problem reach) h =
-    from_call (codes "vunify") words (problem ∷ []) h.1.options h.1.called ∙ ap (option_map (vunify problem)) (search_given h.1.options reach h.0 h.1.options_are)
+command_told words (variants term reach workers) h =
+    from_call (codes "variants") words (term ∷ []) h.options h.called ∙ ap (option_map (λ (s : Reach × ℕ). variants term s.0 s.1)) (search_given h.options reach workers h.options_are)
+command_told words (vunify problem reach workers) h =
+    from_call (codes "vunify") words (problem ∷ []) h.options h.called ∙ ap (option_map (λ (s : Reach × ℕ). vunify problem s.0 s.1)) (search_given h.options reach workers h.options_are)
 command_told words (work n) h =
     let a : nat_lt n LEAST_WORK ≡ false = le-ltb n LEAST_WORK h.3 in
     let b : nat_lt MOST_WORK n ≡ false = le-ltb MOST_WORK n h.4 in

@@ -16,8 +16,8 @@ pub data Command : Type 0 where
   unify : (problem : Word) → Command
   verify : (problem bindings : Word) (steps : ℕ) → Command
   terminates : (weights : Word) → Command
-  variants : (term : Word) (reach : Reach) → Command
-  vunify : (problem : Word) (reach : Reach) → Command
+  variants : (term : Word) (reach : Reach) (workers : ℕ) → Command
+  vunify : (problem : Word) (reach : Reach) (workers : ℕ) → Command
   work : (number : ℕ) → Command
 
 -- whether the word begins with a dash and is longer than the dash
@@ -131,8 +131,8 @@ IsCommand words (verify problem bindings steps) =
     (options : Options) × AreCalled (codes "verify") words (problem ∷ bindings ∷ []) options
     × HaveStepsAlone options × IsSet options Steps steps
 IsCommand words (terminates weights) = AreCalled (codes "terminates") words (weights ∷ []) []
-IsCommand words (variants term reach) = (workers : ℕ) × IsSearchBy (codes "variants") words term reach workers
-IsCommand words (vunify problem reach) = (workers : ℕ) × IsSearchBy (codes "vunify") words problem reach workers
+IsCommand words (variants term reach workers) = IsSearchBy (codes "variants") words term reach workers
+IsCommand words (vunify problem reach workers) = IsSearchBy (codes "vunify") words problem reach workers
 IsCommand words (work n) =
     (word : Word) × AreCalled (codes "work") words (word ∷ []) [] × IsNumber word n
     × (LEAST_WORK ≤ n) × (n ≤ MOST_WORK)

@@ -1,6 +1,6 @@
 //! The command that a name, operands and options are.
-ghost use Rattle.std.specs.Prelude.{◌≡◌, ◌≤◌, length, map, string_bytes, MatchOption, None, Some};
-ghost use Rattle.fvn_cmd_words.specs.declared.limits.TheConstants.{MOST_WORKERS};
+ghost use Rattle.std.specs.Prelude.{◌≡◌, length, map, string_bytes, MatchOption, IfSome, None, Some};
+ghost use Rattle.fvn_cmd_words.specs.Told.{IsSearchWithin};
 ghost use Rattle.fvn_cmd_words.specs.inner.Reading.{has_steps_alone, work_of, reach_from, variants_from, vunify_from, verify_from, bare_with, command_with, command_with_two, command_alone, command_from, number_of, word_at, TellsAs, AllBelow};
 
 use crate::command::Command;
@@ -31,9 +31,8 @@ fn has_steps_alone(options: &[(OptionName, u64)]) -> bool
 
 // How far to search, as the options tell.
 fn search_set(options: &[(OptionName, u64)]) -> Option<Search>
-    ensures exact { MatchOption result (reach_from options.now ≡ None) (λ s. reach_from options.now ≡ Some s.reach) }
-    ensures workers { MatchOption result (reach_from options.now ≡ None)
-        (λ s. (1 ≤ s.workers) × (s.workers ≤ MOST_WORKERS)) }
+    ensures exact { MatchOption result (reach_from options.now ≡ None) (λ s. reach_from options.now ≡ Some (s.reach, s.workers)) }
+    ensures within { IfSome result (λ s. IsSearchWithin s.reach s.workers) }
 {
     let Some(levels) = setting(options, OptionName::Levels) else {
         return None;

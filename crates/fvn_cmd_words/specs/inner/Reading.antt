@@ -12,7 +12,7 @@ use Rattle.fvn_cmd_words.specs.declared.kinds.Next.TheVariants.{Operand, Set, To
 use Rattle.fvn_cmd_words.specs.declared.command.Command.{Command as Told}
 use Rattle.fvn_cmd_words.specs.declared.reading.State.{State}
 use Rattle.fvn_cmd_words.specs.declared.reading.Arguments.{Arguments}
-use Rattle.fvn_cmd_words.specs.Told.{meant, AreSomeWorkersOf}
+use Rattle.fvn_cmd_words.specs.Told.{meant, IsWithin}
 use Rattle.fvn_cmd_words.specs.Words.{Word, Command, check, unify, verify, terminates, variants, vunify, work, is_dashed, spelled, usual, most, Options}
 
 -- the number that decimal digits spell behind those of n, where all are digits
@@ -169,26 +169,28 @@ abbrev pub work_of : Option ℕ → Option Command
 work_of None = None
 work_of (Some n) = if nat_lt n LEAST_WORK then None else (if nat_lt MOST_WORK n then None else Some (work n))
 
--- how far to search, where each option has a number, the workers too
-abbrev pub reach_of : Option ℕ → Option ℕ → Option ℕ → Option ℕ → Option Reach
+-- how far to search, and with how many workers, where each option has a number
+abbrev pub reach_of : Option ℕ → Option ℕ → Option ℕ → Option ℕ → Option (Reach × ℕ)
 reach_of None v s k = None
 reach_of (Some l) None s k = None
 reach_of (Some l) (Some v) None k = None
 reach_of (Some l) (Some v) (Some s) None = None
-reach_of (Some l) (Some v) (Some s) (Some k) = Some (record { levels = l; variants = v; steps = s })
+reach_of (Some l) (Some v) (Some s) (Some k) = Some (record { levels = l; variants = v; steps = s }, k)
 
 -- the same, from the options
-abbrev pub reach_from : Options → Option Reach
+abbrev pub reach_from : Options → Option (Reach × ℕ)
 reach_from options =
     reach_of (setting_of Levels options) (setting_of Variants options) (setting_of Steps options) (setting_of Workers options)
 
--- searches, and `verify`, with their options
+-- a search for variants with its options
 abbrev pub variants_from : Word → Options → Option Command
-variants_from word options = option_map (variants word) (reach_from options)
+variants_from word options = option_map (λ s. variants word s.0 s.1) (reach_from options)
 
+-- a search for unifiers with its options
 abbrev pub vunify_from : Word → Options → Option Command
-vunify_from word options = option_map (vunify word) (reach_from options)
+vunify_from word options = option_map (λ s. vunify word s.0 s.1) (reach_from options)
 
+-- `verify` with its options
 abbrev pub verify_from : Word → Word → Options → Option Command
 verify_from problem bindings options =
     if has_steps_alone options then option_map (verify problem bindings) (setting_of Steps options) else None
@@ -236,7 +238,7 @@ command_of (name ∷ words) = command_given name (arguments_of words Usual)
 -- the value stands for the command that was read, or nothing was
 abbrev pub TellsAs : Option Command → Option Told → Type 0
 TellsAs read None = read ≡ None
-TellsAs read (Some told) = (read ≡ Some (meant told)) × AreSomeWorkersOf told
+TellsAs read (Some told) = (read ≡ Some (meant told)) × IsWithin told
 
 -- each number is below this one
 abbrev pub AllBelow : ℕ → List ℕ → Type 0
