@@ -1,0 +1,4 @@
+//! Tests of narrowing.
+
+mod expanding;
+mod texts;
