@@ -1,0 +1,5 @@
+-- what follows
+use Rattle.fvn_fold.proofs.exploring.after_level.Goals as goal
+
+pub wrong : goal.wrong
+wrong g c = tt

@@ -1,0 +1,8 @@
+-- the members so far
+use Rattle.std.proofs.Common.{◌≤◌, length, take}
+use Rattle.fvn_exploring.specs.declared.ends.ExpandEnd.TheVariants.{Whole}
+use Rattle.fvn_fold.specs.inner.Gathering.{IsNextLevel}
+use Rattle.fvn_fold.proofs.levels.next_level.Given as goal
+
+abbrev pub invariant-loop : goal.invariant-loop
+invariant-loop g l = (l.begin ≤ length l.members) × IsNextLevel (g.E.Expander.setting l.task.expander) (g.E.Expander.drawn l.task.expander) l.kept (take l.begin l.members) l.next.items Whole
