@@ -1,0 +1,46 @@
+-- What variants are explored in.
+use Rattle.std.specs.Prelude.{◌≤◌, ℕ, List, []}
+use Rattle.fvn_base.specs.declared.limits.TheConstants.{TERM_SYMBOLS, UNIFIERS}
+use Rattle.fvn_terms.specs.Rewriting.{IsTerminating, IsConfluent}
+use Rattle.fvn_forms.specs.Flat.{FlatTerm}
+use Rattle.fvn_flat.specs.Drawn.{IsDrawn}
+use Rattle.fvn_module.specs.Contents.{Contents}
+use Rattle.fvn_theory.specs.Equations.{equations_of}
+use Rattle.fvn_exploring.specs.declared.limits.Limits.{Limits}
+use Rattle.fvn_exploring.specs.declared.ends.Explored.{Explored}
+use Rattle.fvn_exploring.specs.Setting.{Setting}
+use Rattle.fvn_exploring.specs.Explorations.{IsExploration}
+use Rattle.fvn_cmd_variants.specs.declared.reach.Reach.{Reach}
+
+-- one variant at least may be kept
+abbrev pub KeepsSome : Reach → Type 0
+KeepsSome reach = 1 ≤ reach.variants
+
+-- what is trusted of the equations of a module: that they terminate and are confluent
+abbrev pub AreTrusted : Contents → Type 0
+AreTrusted m = IsTerminating m.signature (equations_of m.equations) × IsConfluent m.signature (equations_of m.equations)
+
+module _ (m : Contents) (reach : Reach) where
+  -- the signature and the equations of the module, and the limits; no term is asked to stay irreducible
+  abbrev pub setting_of : Setting
+  setting_of = record {
+    declarations = m.signature;
+    equations = equations_of m.equations;
+    fixed = [];
+    bounds = record { steps = reach.steps; size = TERM_SYMBOLS };
+    unifiers = UNIFIERS;
+  }
+
+  -- how far is explored, by so many workers
+  abbrev pub limits_of : ℕ → Limits
+  limits_of workers = record {
+    levels = reach.levels;
+    variants = reach.variants;
+    steps = reach.steps;
+    size = TERM_SYMBOLS;
+    workers = workers;
+  }
+
+  -- these forms were explored so far; the number of workers makes no difference
+  abbrev pub AreExplored : List FlatTerm → Explored → Type 0
+  AreExplored start x = IsExploration setting_of (IsDrawn m.signature) start (limits_of 1) x
