@@ -1,11 +1,14 @@
 -- What variants are explored in.
-use Rattle.std.specs.Prelude.{◌≤◌, ℕ, List, []}
+use Rattle.std.specs.Prelude.{◌≡◌, ◌≤◌, ℕ, List, []}
 use Rattle.fvn_base.specs.declared.limits.TheConstants.{TERM_SYMBOLS, UNIFIERS}
 use Rattle.fvn_terms.specs.Rewriting.{IsTerminating, IsConfluent}
 use Rattle.fvn_forms.specs.Flat.{FlatTerm}
 use Rattle.fvn_flat.specs.Drawn.{IsDrawn}
 use Rattle.fvn_module.specs.Contents.{Contents}
 use Rattle.fvn_theory.specs.Equations.{equations_of}
+use Rattle.fvn_cover.specs.declared.marking.TheConstants.{WORKERS}
+use Rattle.fvn_rewrite.specs.Usable.{AreUsable}
+use Rattle.fvn_rewrite_rules.specs.Given.{RuleLists}
 use Rattle.fvn_exploring.specs.declared.limits.Limits.{Limits}
 use Rattle.fvn_exploring.specs.declared.ends.Explored.{Explored}
 use Rattle.fvn_exploring.specs.Setting.{Setting}
@@ -44,3 +47,15 @@ module _ (m : Contents) (reach : Reach) where
   -- these forms were explored so far; the number of workers makes no difference
   abbrev pub AreExplored : List FlatTerm → Explored → Type 0
   AreExplored start x = IsExploration setting_of (IsDrawn m.signature) start (limits_of 1) x
+
+-- a number of workers that may be asked for
+pub record AreSomeWorkers (workers : ℕ) : Type 0 where
+  pub one : 1 ≤ workers
+  pub few : workers ≤ WORKERS
+
+-- the rules are those of the module, whose equations are admissible, and the limits can be kept to
+pub record IsSearchable (m : Contents) (rules : RuleLists) (reach : Reach) (workers : ℕ) : Type 0 where
+  pub usable : AreUsable m.signature rules
+  pub equations : rules.equations ≡ m.equations
+  pub keeps : KeepsSome reach
+  pub workers_are : AreSomeWorkers workers

@@ -4,9 +4,9 @@ ghost use Rattle.fvn_terms.specs.Plain.{term};
 ghost use Rattle.fvn_terms.specs.Signature.{IsTerm};
 ghost use Rattle.fvn_module_loading.specs.Loading.{HasHarmlessSides};
 ghost use Rattle.fvn_cmd.specs.Texts.{bytes_of};
-ghost use Rattle.fvn_cmd_variants.specs.Searches.{KeepsSome};
+ghost use Rattle.fvn_cmd_variants.specs.Searches.{AreSomeWorkers, IsSearchable, KeepsSome};
 ghost use Rattle.fvn_cmd_variants.specs.Replies.{IsAnswer, IsVariantsReply};
-ghost use Rattle.fvn_cmd_variants.specs.inner.Steps.{AreSomeWorkers, IsSearchable, IsStartOf, IsTermIn, RepliesIn};
+ghost use Rattle.fvn_cmd_variants.specs.inner.Steps.{IsStartOf, IsTermIn, RepliesIn};
 
 use crate::ends::{end_told, loss_after};
 use crate::lines::lines_of;

@@ -1,7 +1,8 @@
 //! The search for variants of forms in a module.
 ghost use Rattle.std.specs.Prelude.{IfOk};
 ghost use Rattle.fvn_fold.specs.Starts.{IsStartable};
-ghost use Rattle.fvn_cmd_variants.specs.inner.Steps.{IsSearchable, IsSearched};
+ghost use Rattle.fvn_cmd_variants.specs.Searches.{IsSearchable};
+ghost use Rattle.fvn_cmd_variants.specs.inner.Steps.{IsSearched};
 
 use crate::reach::Reach;
 use fvn_axunify::{AxiomUnify, SolveLimits};

@@ -1,5 +1,5 @@
 -- What the steps of `variants` are given, find and reply.
-use Rattle.std.specs.Prelude.{◌≡◌, ◌≤◌, ℕ, List, [], ◌∷◌, length}
+use Rattle.std.specs.Prelude.{◌≡◌, ℕ, List, [], ◌∷◌, length}
 use Rattle.std.specs.List.{AllZip}
 use Rattle.fvn_terms.specs.declared.plain.Var.{Var}
 use Rattle.fvn_terms.specs.declared.declarations.Declarations.{Declarations}
@@ -17,31 +17,16 @@ use Rattle.fvn_problems.specs.declared.query.Query.{Query}
 use Rattle.fvn_problems.specs.Queries.{HasVariables}
 use Rattle.fvn_module.specs.Contents.{Contents}
 use Rattle.fvn_module_loading.specs.Loading.{IsLoaded}
-use Rattle.fvn_cover.specs.declared.marking.TheConstants.{WORKERS}
 use Rattle.fvn_cover.specs.declared.variant.Variant.{Variant}
 use Rattle.fvn_exploring.specs.declared.ends.Explored.{Explored}
 use Rattle.fvn_closure.specs.Closing.{reached_of}
 use Rattle.fvn_closure.specs.Laws.{ExplorationsAreLawful}
-use Rattle.fvn_rewrite.specs.Usable.{AreUsable}
-use Rattle.fvn_rewrite_rules.specs.Given.{RuleLists}
 use Rattle.fvn_answer.specs.Asked.{AreAsked, HaveSorts}
 use Rattle.fvn_cmd.specs.declared.status.Status.{Status}
 use Rattle.fvn_cmd_variants.specs.declared.reach.Reach.{Reach}
-use Rattle.fvn_cmd_variants.specs.Searches.{KeepsSome, setting_of, AreExplored}
+use Rattle.fvn_cmd_variants.specs.Searches.{setting_of, AreExplored}
 use Rattle.fvn_cmd_variants.specs.Solutions.{IsLineOf}
 use Rattle.fvn_cmd_variants.specs.Replies.{IsVariantsReply}
-
--- a number of workers that may be asked for
-pub record AreSomeWorkers (workers : ℕ) : Type 0 where
-  pub one : 1 ≤ workers
-  pub few : workers ≤ WORKERS
-
--- the rules are those of the module, whose equations are admissible, and the limits can be kept to
-pub record IsSearchable (m : Contents) (rules : RuleLists) (reach : Reach) (workers : ℕ) : Type 0 where
-  pub usable : AreUsable m.signature rules
-  pub equations : rules.equations ≡ m.equations
-  pub keeps : KeepsSome reach
-  pub workers_are : AreSomeWorkers workers
 
 -- the term is well-kinded, and its variables can be asked for
 pub record IsTermIn (m : Contents) (t : Query) : Type 0 where
