@@ -1,5 +1,5 @@
 -- Unifiers in a theory with the end of the search for them, and the text that shows them.
-use Rattle.std.specs.Prelude.{◌≡◌, ℕ, List, map, length, Option, None}
+use Rattle.std.specs.Prelude.{◌≡◌, ℕ, List, map, length, Option, None, All}
 use Rattle.std.specs.List.{AllZip}
 use Rattle.fvn_terms.specs.Substitution.{Substitution}
 use Rattle.fvn_flat.specs.Drawn.{IsDrawn}
@@ -11,7 +11,9 @@ use Rattle.fvn_module_loading.specs.Losses.{IsLossOf}
 use Rattle.fvn_exploring.specs.declared.ends.Explored.{Explored}
 use Rattle.fvn_exploring.specs.declared.ends.ExploreEnd.{ExploreEnd}
 use Rattle.fvn_exploring.specs.declared.ends.ExploreEnd.TheVariants.{Complete}
+use Rattle.fvn_exploring.specs.Explorations.{IsExploreCause}
 use Rattle.fvn_vunify.specs.declared.solved.SolvedModulo.{SolvedModulo}
+use Rattle.fvn_vunify.specs.Causes.{MeetsBound}
 use Rattle.fvn_vunify.specs.Sides.{sides_in_turn}
 use Rattle.fvn_vunify.specs.Solved.{IsSolvedModulo}
 use Rattle.fvn_answer.specs.Answers.{IsAnswerText}
@@ -34,9 +36,13 @@ pub record Found : Type 0 where
 abbrev pub values : Found → List Substitution
 values found = map substitution found.solved.unifiers
 
--- the search came to its end, and no equation loses a sort
+-- the search came to its end
+abbrev pub IsSolvedWhole : Found → Type 0
+IsSolvedWhole found = found.solved.end ≡ Complete
+
+-- and no equation loses a sort
 abbrev pub IsWhole : Found → Type 0
-IsWhole found = (found.solved.end ≡ Complete) × (found.loss ≡ None)
+IsWhole found = IsSolvedWhole found × (found.loss ≡ None)
 
 -- the end that is told of what was found
 abbrev pub end_of : Reach → Found → End
@@ -51,7 +57,14 @@ module _ (m : Contents) (p : Problem) where
       pub explored : AreExplored m reach (sides_in_turn (flattened_pairs m p)) found.explored
       pub solved : IsSolvedModulo (setting_of m reach) (IsDrawn m.signature) (flattened_pairs m p) (limits_of m reach 1) found.explored found.solved
       pub headline : IsHeadline (theory_unifiers_of m p) (IsWhole found) (values found)
-      pub loss_is : found.solved.end ≡ Complete → IsLossOf m found.loss
+      pub loss_is : IsSolvedWhole found → IsLossOf m found.loss
+
+    -- no end of the exploration but the complete one has a cause, and no pairs of a variant meet a bound
+    pub record StaysWithinBounds (found : Found) : Type 0 where
+      pub explored : (end : ExploreEnd) →
+          IsExploreCause (setting_of m reach) (IsDrawn m.signature) (sides_in_turn (flattened_pairs m p)) (limits_of m reach 1) found.explored end →
+          end ≡ Complete
+      pub pairs : All (λ v. MeetsBound (setting_of m reach) (IsDrawn m.signature) v → ⊥) found.explored.variants
 
   -- the text shows a line for each of the substitutions, in byte order, and then the line of the end
   pub record Shows (reach : Reach) (found : Found) (text : Text) : Type 0 where

@@ -6,6 +6,7 @@ use fvn_tool::Status;
 use std::alloc::Global;
 use std::process::Abort;
 use std::string::String;
+use std::thread::Threads;
 
 /// A problem whose most general unifier has a term of 511 symbols.
 const SMALL: &str = "p(V0:S,p(V1:S,p(V2:S,p(V3:S,p(V4:S,p(V5:S,p(V6:S,V7:S))))))) =? \
@@ -49,8 +50,8 @@ fn chain(alloc: Global, last: &str) -> Result<String, NoMemory> {
 }
 
 /// The status alone.
-fn assert_status(
-    rt: &impl Abort,
+fn assert_status<R: Abort + Threads + Sync>(
+    rt: &R,
     alloc: Global,
     module: &str,
     problem: &str,
