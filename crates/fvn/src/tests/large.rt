@@ -57,7 +57,7 @@ fn assert_status<R: Abort + Threads + Sync>(
     problem: &str,
     want: Status,
 ) -> Result<(), NoMemory> {
-    let (status, _text) = answer(alloc, &plain(&["unify", problem], module.as_bytes()))?;
+    let (status, _text) = answer(rt, alloc, &plain(&["unify", problem], module.as_bytes()))?;
     assert_eq!(rt; status, want);
     Ok(())
 }
@@ -203,7 +203,7 @@ fn is_full(text: &[u8]) -> bool {
 fn of_over_4096_unifiers_4096_are_told(rt: HostRuntime) -> Result<(), NoMemory> {
     let mut setting = plain(&MANY, SUMS.as_bytes());
     setting.room = 1_000_000;
-    let (status, text) = answer(rt.alloc(), &setting)?;
+    let (status, text) = answer(&rt, rt.alloc(), &setting)?;
     assert_eq!(rt; status, Status::Ended);
     assert!(rt; is_full(text.as_slice()));
     Ok(())
