@@ -17,9 +17,9 @@ use Rattle.fvn_vunify.specs.Solved.{StopsAtPairs}
 use Rattle.fvn_cmd.specs.declared.status.Status.{Status}
 use Rattle.fvn_cmd.specs.declared.status.Status.TheVariants.{Ended}
 use Rattle.fvn_cmd_unify.specs.Ends.{status_of_end}
-use Rattle.fvn_cmd_variants.specs.declared.reach.Reach.{Reach}
-use Rattle.fvn_cmd_variants.specs.Searches.{setting_of}
-use Rattle.fvn_cmd_variants.specs.Ends.{end_told}
+use Rattle.fvn_cmd_exploring.specs.declared.reach.Reach.{Reach}
+use Rattle.fvn_cmd_exploring.specs.Searches.{setting_of}
+use Rattle.fvn_cmd_exploring.specs.Ends.{end_told}
 use Rattle.fvn_cmd_variants.specs.Solutions as of_terms
 use Rattle.fvn_cmd_variants.specs.Replies as of_terms_reply
 use Rattle.fvn_cmd_vunify.specs.Solutions as modulo

@@ -15,7 +15,7 @@ use Rattle.fvn_weights.specs.Values.{Linear}
 use Rattle.fvn_weights.specs.Weighing.{linear, IsBig, IsGrowing, IsFalling, IsFirstOf, IsWeighFault, AreWeighed}
 use Rattle.fvn_cmd_texts.specs.Weighings.{weigh_fault_text, weighing_text}
 use Rattle.fvn_cmd.specs.declared.status.Status.{Status}
-use Rattle.fvn_cmd.specs.declared.status.Status.TheVariants.{Solved, Nothing}
+use Rattle.fvn_cmd.specs.declared.status.Status.TheVariants.{Solved}
 use Rattle.fvn_cmd.specs.Statuses.{IsAnswering}
 use Rattle.fvn_cmd.specs.Texts.{line, Is}
 use Rattle.fvn_cmd_terminates.specs.Weighings.{status_of_weighing, AreWeighedBy, AreTerminatingIn, IsWeighed, TellsWeighing}

@@ -1,2 +1,2 @@
 -- Lemmas of this crate.
-mod Replying
+mod Told

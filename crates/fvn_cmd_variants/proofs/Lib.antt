@@ -1,5 +1,4 @@
--- The lemmas of the crate; the public ones are for callers.
-pub mod Searching
+-- The lemmas of the crate.
 mod Headline
-mod Lines
+mod Listed
 mod Replied

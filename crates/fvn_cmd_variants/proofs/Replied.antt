@@ -35,29 +35,15 @@ use Rattle.fvn_cmd.specs.Refusing.{IsProblemRefusalLine}
 use Rattle.fvn_cmd.proofs.Replying.{in_module, refused_words}
 use Rattle.fvn_cmd_unify.specs.Ends.{status_of_end}
 use Rattle.fvn_cmd_unify.proofs.Solving.{associative-declared}
-use Rattle.fvn_cmd_variants.specs.declared.reach.Reach.{Reach}
-use Rattle.fvn_cmd_variants.specs.Searches.{setting_of, limits_of}
+use Rattle.fvn_cmd_exploring.specs.declared.reach.Reach.{Reach}
+use Rattle.fvn_cmd_exploring.specs.Searches.{setting_of, limits_of, IsSearched}
 use Rattle.fvn_cmd_variants.specs.Asked.{flattened}
-use Rattle.fvn_cmd_variants.specs.Ends.{end_told}
+use Rattle.fvn_cmd_exploring.specs.Ends.{end_told}
 use Rattle.fvn_cmd_variants.specs.Solutions.{Found}
 use Rattle.fvn_cmd_variants.specs.Replies.{variants_words, IsAnswer, IsVariantsAnswer}
-use Rattle.fvn_cmd_variants.specs.inner.Steps.{IsSearched, IsStartOf, IsTermIn, AreLinesOfVariants, RepliesIn}
+use Rattle.fvn_cmd_variants.specs.inner.Steps.{IsStartOf, IsTermIn, AreLinesOfVariants, RepliesIn}
 use Rattle.fvn_cmd_variants.proofs.Headline.{headline}
-use Rattle.fvn_cmd_variants.proofs.Lines.{shown-lines}
-
--- an end with its cause can be written
-module _ (m : Contents) (reach : Reach) (start : List FlatTerm) (x : Explored) (loss : Option ℕ) (count : ℕ) where
-  pub told_fits : (end : ExploreEnd) → IsExploreCause (setting_of m reach) (IsDrawn m.signature) start (limits_of m reach 1) x end → FitsEnd m.signature (end_told reach end loss count)
-  told_fits Complete c = whole loss where
-    whole : (l : Option ℕ) → FitsEnd m.signature (end_told reach Complete l count)
-    whole None = tt
-    whole (Some n) = tt
-  told_fits (Levels v) c = tt
-  told_fits (Variants v) c = tt
-  told_fits (Steps from to) c = c.fits
-  told_fits (Size cause) c = tt
-  told_fits (Basis f system) c = associative-declared m.signature f c.basis.is_system.associative
-  told_fits (Unifiers given list) c = tt
+use Rattle.fvn_cmd_variants.proofs.Listed.{shown-lines}
 
 module _ (m : Contents) (t : Query) (reach : Reach) (start : List FlatTerm) (begins : IsStartOf m.signature (term t.term) start) where
   pub startable : IsStartable m.signature start

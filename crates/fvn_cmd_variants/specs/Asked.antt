@@ -15,7 +15,7 @@ use Rattle.fvn_closure.specs.Closing.{Reached}
 use Rattle.fvn_answer.specs.Denoting.{DenotesVariant}
 use Rattle.fvn_cmd.specs.Headline.{Promise}
 use Rattle.fvn_cmd_unify.specs.Asked.{on_variables}
-use Rattle.fvn_cmd_variants.specs.Searches.{AreTrusted}
+use Rattle.fvn_cmd_exploring.specs.Searches.{AreTrusted}
 
 module _ (m : Contents) (t : Query) where
   -- the flat form of the term, which is explored

@@ -19,10 +19,10 @@ use Rattle.fvn_answer.specs.Denoting.{ReadsVariant}
 use Rattle.fvn_answer.specs.Answers.{IsAnswerText}
 use Rattle.fvn_answer.specs.declared.end.End.{End}
 use Rattle.fvn_cmd.specs.Headline.{IsHeadline}
-use Rattle.fvn_cmd_variants.specs.declared.reach.Reach.{Reach}
-use Rattle.fvn_cmd_variants.specs.Searches.{setting_of, limits_of, AreExplored}
+use Rattle.fvn_cmd_exploring.specs.declared.reach.Reach.{Reach}
+use Rattle.fvn_cmd_exploring.specs.Searches.{setting_of, limits_of, AreExplored}
 use Rattle.fvn_cmd_variants.specs.Asked.{flattened, variants_of}
-use Rattle.fvn_cmd_variants.specs.Ends.{end_told}
+use Rattle.fvn_cmd_exploring.specs.Ends.{end_told}
 
 -- what was found: an exploration, and where that is complete the first equation that loses a sort, if one does
 pub record Found : Type 0 where

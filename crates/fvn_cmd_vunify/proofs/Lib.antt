@@ -1,4 +1,4 @@
 -- The lemmas of the crate.
 mod Headline
-mod Solving
+mod Explored
 mod Replied

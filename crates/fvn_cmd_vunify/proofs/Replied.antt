@@ -48,8 +48,8 @@ use Rattle.fvn_cmd_unify.specs.inner.Told.{AreLinesOfBindings}
 use Rattle.fvn_cmd_unify.proofs.Asking.{problem-asked, problem-room}
 use Rattle.fvn_cmd_unify.proofs.Counting.{as-many}
 use Rattle.fvn_cmd_unify.proofs.Flattening.{pairs_of-problem}
-use Rattle.fvn_cmd_variants.specs.declared.reach.Reach.{Reach}
-use Rattle.fvn_cmd_variants.specs.Ends.{end_told}
+use Rattle.fvn_cmd_exploring.specs.declared.reach.Reach.{Reach}
+use Rattle.fvn_cmd_exploring.specs.Ends.{end_told}
 use Rattle.fvn_cmd_vunify.specs.Asked.{flattened_pairs}
 use Rattle.fvn_cmd_vunify.specs.Solutions.{Found, values, end_of, Shows}
 use Rattle.fvn_cmd_vunify.specs.Replies.{IsAnswer, IsVunifyAnswer}

@@ -12,7 +12,7 @@ use Rattle.fvn_module.specs.Contents.{Contents}
 use Rattle.fvn_theory.specs.Equations.{equations_of}
 use Rattle.fvn_cmd.specs.Headline.{Promise}
 use Rattle.fvn_cmd_unify.specs.Asked.{pairs_of, IsInstanceOf, DenotesOnVariables}
-use Rattle.fvn_cmd_variants.specs.Searches.{AreTrusted}
+use Rattle.fvn_cmd_exploring.specs.Searches.{AreTrusted}
 
 module _ (m : Contents) (p : Problem) where
   -- the pairs in flat form, whose sides are explored

@@ -2,15 +2,15 @@
 ghost use Rattle.std.specs.Prelude.{IfOk};
 ghost use Rattle.fvn_module_loading.specs.Loading.{HasHarmlessSides};
 ghost use Rattle.fvn_cmd.specs.Texts.{bytes_of};
-ghost use Rattle.fvn_cmd_variants.specs.Searches.{AreSomeWorkers, IsSearchable, KeepsSome};
+ghost use Rattle.fvn_cmd_exploring.specs.Searches.{AreSomeWorkers, IsSearchable, KeepsSome};
 ghost use Rattle.fvn_cmd_vunify.specs.Replies.{IsAnswer, IsVunifyReply};
 ghost use Rattle.fvn_cmd_vunify.specs.inner.Steps.{IsProblemIn, RepliesIn};
 
 use crate::solving::solved;
 use fvn_answer::{answer_text, equal_lines_are_instances};
 use fvn_cmd::{Answer, Text, refuse_module, refuse_problem};
+use fvn_cmd_exploring::{Reach, Search, end_told, loss_after};
 use fvn_cmd_unify::{flattened, lines_of, status_of_end};
-use fvn_cmd_variants::{Reach, Search, end_told, loss_after};
 use fvn_cohere::harmless_equations_are_admissible;
 use fvn_cover::Gate;
 use fvn_flat::flattened_pairs_are_given;

@@ -1,11 +1,11 @@
 //! The search for unifiers in the theory of a module.
 ghost use Rattle.std.specs.Prelude.{IfOk};
-ghost use Rattle.fvn_cmd_variants.specs.Searches.{IsSearchable};
+ghost use Rattle.fvn_cmd_exploring.specs.Searches.{IsSearchable};
 ghost use Rattle.fvn_cmd_vunify.specs.inner.Steps.{AreSides, IsSolvedIn};
 
 use fvn_axunify::{AxiomUnify, SolveLimits};
 use fvn_base::limits::{TERM_SYMBOLS, UNIFIERS};
-use fvn_cmd_variants::Search;
+use fvn_cmd_exploring::Search;
 use fvn_cover::Gate;
 use fvn_flat::Pairs;
 use fvn_fold::explore;

@@ -12,7 +12,7 @@ use Rattle.fvn_cmd_verify.specs.Verdicts.{TellsVerdict}
 use Rattle.fvn_cmd_unify.specs.Replies.{IsAnswer}
 use Rattle.fvn_cmd_laws.specs.Laws.{SortsAreToldOnce, VerdictsAreExact, WeighingsAreExact, AnswersAreExact}
 use Rattle.fvn_problems.specs.declared.query.Query.{Query}
-use Rattle.fvn_cmd_variants.specs.declared.reach.Reach.{Reach}
+use Rattle.fvn_cmd_exploring.specs.declared.reach.Reach.{Reach}
 use Rattle.fvn_cmd_variants.specs.Replies as of_terms
 use Rattle.fvn_cmd_vunify.specs.Replies as modulo
 use Rattle.fvn_cmd_laws.proofs.Explored.{variants_whole, theory_whole}

@@ -19,7 +19,7 @@ use Rattle.fvn_cmd.specs.Refusing.{IsRefusal}
 use Rattle.fvn_cmd_terminates.specs.Replies.{terminates_words}
 use Rattle.fvn_cmd_verify.specs.Replies.{verify_words}
 use Rattle.fvn_cmd_unify.specs.Replies.{unify_words}
-use Rattle.fvn_cmd_variants.specs.declared.reach.Reach.{Reach}
+use Rattle.fvn_cmd_exploring.specs.declared.reach.Reach.{Reach}
 use Rattle.fvn_cmd_variants.specs.Replies.{variants_words}
 use Rattle.fvn_tool.specs.Words.{Command, check, unify, verify, terminates, variants, vunify}
 

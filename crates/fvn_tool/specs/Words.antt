@@ -1,7 +1,7 @@
 -- The words of the command line: which of them are which command.
 use Rattle.std.specs.Prelude.{◌≡◌, ◌≤◌, ◌⊎◌, ℕ, Bool, false, ◌&&◌, ◌+◌, ◌*◌, ◌-◌, nat_eq, nat_le, List, [], ◌∷◌, codes, length}
 use Rattle.std.specs.List.{starts_with, AllByRecursion}
-use Rattle.fvn_cmd_variants.specs.declared.reach.Reach.{Reach}
+use Rattle.fvn_cmd_exploring.specs.declared.reach.Reach.{Reach}
 use Rattle.fvn_tool.specs.declared.limits.TheConstants.{LEVELS, VARIANTS, VERIFY_STEPS, MOST_STEPS}
 
 -- what the program is asked to do with a module

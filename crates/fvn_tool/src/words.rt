@@ -4,7 +4,7 @@ ghost use Rattle.fvn_tool.specs.Words.{is_option, usual_reach};
 ghost use Rattle.fvn_tool.specs.inner.Reading.{command_of, is_verify, read_on, allowed, steps_of, with_far_word, meant};
 
 use crate::limits::{LEVELS, MOST_STEPS, VARIANTS, VERIFY_STEPS};
-use fvn_cmd_variants::Reach;
+use fvn_cmd_exploring::Reach;
 use std::string::String;
 
 /// What the words ask.

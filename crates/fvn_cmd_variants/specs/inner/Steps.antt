@@ -8,7 +8,6 @@ use Rattle.fvn_terms.specs.Plain.{term}
 use Rattle.fvn_terms.specs.Signature.{IsTerm}
 use Rattle.fvn_terms.specs.Equality.{BEqual}
 use Rattle.fvn_flat.specs.Bindings.{BindingsFit}
-use Rattle.fvn_flat.specs.Drawn.{IsDrawn}
 use Rattle.fvn_flat.specs.Fits.{Fits, AllFit}
 use Rattle.fvn_forms.specs.Flat.{FlatTerm, plain}
 use Rattle.fvn_forms.specs.Canon.{canon}
@@ -18,13 +17,10 @@ use Rattle.fvn_problems.specs.Queries.{HasVariables}
 use Rattle.fvn_module.specs.Contents.{Contents}
 use Rattle.fvn_module_loading.specs.Loading.{IsLoaded}
 use Rattle.fvn_cover.specs.declared.variant.Variant.{Variant}
-use Rattle.fvn_exploring.specs.declared.ends.Explored.{Explored}
 use Rattle.fvn_closure.specs.Closing.{reached_of}
-use Rattle.fvn_closure.specs.Laws.{ExplorationsAreLawful}
 use Rattle.fvn_answer.specs.Asked.{AreAsked, HaveSorts}
 use Rattle.fvn_cmd.specs.declared.status.Status.{Status}
-use Rattle.fvn_cmd_variants.specs.declared.reach.Reach.{Reach}
-use Rattle.fvn_cmd_variants.specs.Searches.{setting_of, AreExplored}
+use Rattle.fvn_cmd_exploring.specs.declared.reach.Reach.{Reach}
 use Rattle.fvn_cmd_variants.specs.Solutions.{IsLineOf}
 use Rattle.fvn_cmd_variants.specs.Replies.{IsVariantsReply}
 
@@ -39,11 +35,6 @@ pub record IsStartOf (d : Declarations) (t : Term) (start : List FlatTerm) : Typ
   pub is : start ≡ canon d t ∷ []
   pub fits : Fits d (canon d t)
   pub equal : BEqual d t (plain (canon d t))
-
--- what was explored, and what is known of explorations in the module
-pub record IsSearched (m : Contents) (reach : Reach) (start : List FlatTerm) (x : Explored) : Type 0 where
-  pub explored : AreExplored m reach start x
-  pub laws : ExplorationsAreLawful (setting_of m reach) (IsDrawn m.signature)
 
 -- the variant has one term, and is flat; and what it makes of the variables has their sorts
 pub record IsPrintable (d : Declarations) (vars : List Var) (v : Variant) : Type 0 where

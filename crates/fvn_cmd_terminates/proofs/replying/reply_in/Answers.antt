@@ -3,7 +3,7 @@ use Rattle.std.proofs.Common.{sym, subst}
 use Rattle.fvn_problems.specs.Scopes.{AreNamesOf}
 use Rattle.fvn_weights.specs.Weighing.{AreWeightsOf}
 use Rattle.fvn_cmd.proofs.Replying.{module_names}
-use Rattle.fvn_cmd_terminates.proofs.Replying.{weights_refused, weights_answered}
+use Rattle.fvn_cmd_terminates.proofs.Told.{weights_refused, weights_answered}
 use Rattle.fvn_cmd_terminates.proofs.replying.reply_in.Goals as goal
 
 pub read_weights-requires : goal.read_weights-requires

@@ -1,6 +1,6 @@
 -- The line of a fault.
 use Rattle.std.proofs.Common.{refl}
-use Rattle.fvn_cmd_terminates.proofs.Replying.{fault_line}
+use Rattle.fvn_cmd_terminates.proofs.Told.{fault_line}
 use Rattle.fvn_cmd_terminates.proofs.replying.tell_fault.Goals as goal
 
 pub returns-clause-text : goal.returns-clause-text

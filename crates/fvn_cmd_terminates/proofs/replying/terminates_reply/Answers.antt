@@ -1,7 +1,7 @@
 -- A module is refused with its first fault, or the word is looked at.
 use Rattle.fvn_cmd.proofs.Replying.{refused_module}
 use Rattle.fvn_cmd_terminates.specs.Replies.{terminates_words, IsTerminatesAnswer}
-use Rattle.fvn_cmd_terminates.proofs.Replying.{replied_in}
+use Rattle.fvn_cmd_terminates.proofs.Told.{replied_in}
 use Rattle.fvn_cmd_terminates.proofs.replying.terminates_reply.Goals as goal
 
 pub returns-in-Ok : goal.returns-in-Ok

@@ -1,7 +1,7 @@
 -- One more line.
 use Rattle.std.proofs.Common.{sym, subst}
 use Rattle.fvn_cmd_variants.specs.inner.Steps.{IsPrintable}
-use Rattle.fvn_cmd_variants.proofs.Lines.{line-of, lines-more}
+use Rattle.fvn_cmd_variants.proofs.Listed.{line-of, lines-more}
 use Rattle.fvn_cmd_variants.proofs.lines.lines_of.Goals as goal
 
 pub loop-v-preserved : goal.loop-v-preserved

@@ -1,5 +1,5 @@
 -- What is explored by what narrows with the module's rules.
-use Rattle.fvn_cmd_variants.proofs.Searching.{setting_is, drawn_is, limits_are, searched}
+use Rattle.fvn_cmd_exploring.proofs.Settings.{setting_is, drawn_is, limits_are, searched}
 use Rattle.fvn_cmd_variants.proofs.searching.searched.Goals as goal
 
 pub returns : goal.returns

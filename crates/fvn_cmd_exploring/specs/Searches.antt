@@ -13,7 +13,8 @@ use Rattle.fvn_exploring.specs.declared.limits.Limits.{Limits}
 use Rattle.fvn_exploring.specs.declared.ends.Explored.{Explored}
 use Rattle.fvn_exploring.specs.Setting.{Setting}
 use Rattle.fvn_exploring.specs.Explorations.{IsExploration}
-use Rattle.fvn_cmd_variants.specs.declared.reach.Reach.{Reach}
+use Rattle.fvn_closure.specs.Laws.{ExplorationsAreLawful}
+use Rattle.fvn_cmd_exploring.specs.declared.reach.Reach.{Reach}
 
 -- one variant at least may be kept
 abbrev pub KeepsSome : Reach → Type 0
@@ -59,3 +60,8 @@ pub record IsSearchable (m : Contents) (rules : RuleLists) (reach : Reach) (work
   pub equations : rules.equations ≡ m.equations
   pub keeps : KeepsSome reach
   pub workers_are : AreSomeWorkers workers
+
+-- what was explored, and what is known of explorations in the module
+pub record IsSearched (m : Contents) (reach : Reach) (start : List FlatTerm) (x : Explored) : Type 0 where
+  pub explored : AreExplored m reach start x
+  pub laws : ExplorationsAreLawful (setting_of m reach) (IsDrawn m.signature)

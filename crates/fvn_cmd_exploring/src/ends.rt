@@ -2,7 +2,7 @@
 ghost use Rattle.std.specs.Prelude.{◌≡◌, IfOk};
 ghost use Rattle.fvn_exploring.specs.declared.ends.ExploreEnd.TheVariants.{Complete};
 ghost use Rattle.fvn_module_loading.specs.Losses.{IsLossOf};
-ghost use Rattle.fvn_cmd_variants.specs.Ends.{end_told};
+ghost use Rattle.fvn_cmd_exploring.specs.Ends.{end_told};
 
 use crate::reach::Reach;
 use fvn_answer::End;

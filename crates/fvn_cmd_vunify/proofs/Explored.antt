@@ -14,9 +14,9 @@ use Rattle.fvn_exploring.specs.Explorations.{IsExploration}
 use Rattle.fvn_vunify.specs.declared.solved.SolvedModulo.{SolvedModulo}
 use Rattle.fvn_vunify.specs.Sides.{sides_in_turn}
 use Rattle.fvn_vunify.specs.Solved.{IsOfSomePairs, IsSolvedFor}
-use Rattle.fvn_cmd_variants.specs.declared.reach.Reach.{Reach}
-use Rattle.fvn_cmd_variants.specs.Searches.{setting_of, limits_of, AreExplored}
-use Rattle.fvn_cmd_variants.proofs.Searching.{explored_in}
+use Rattle.fvn_cmd_exploring.specs.declared.reach.Reach.{Reach}
+use Rattle.fvn_cmd_exploring.specs.Searches.{setting_of, limits_of, AreExplored}
+use Rattle.fvn_cmd_exploring.proofs.Settings.{explored_in}
 use Rattle.fvn_cmd_vunify.specs.inner.Steps.{AreSides, IsSolvedIn}
 
 module _ (m : Contents) (reach : Reach) (pairs : FlatPairs) (sides : AreSides m.signature pairs) (g : Setting) (setting : g ≡ setting_of m reach) (drawn : Problem → Substitution → Type 0) (draws : drawn ≡ IsDrawn m.signature) (x : Explored) where
