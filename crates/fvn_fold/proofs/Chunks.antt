@@ -1,7 +1,8 @@
 -- What is asked and got where some members of a level are expanded.
-use Rattle.std.proofs.Common.{◌≡◌, ◌⊎◌, ℕ, zero, suc, ◌+◌, ◌-◌, ◌<◌, ◌≤◌, List, [], ◌∷◌, ◌++◌, length, take, drop, refl, sym, ap, ◌∙◌, subst, inl, inr, arith}
+use Rattle.std.proofs.Common.{◌≡◌, ℕ, zero, suc, ◌+◌, ◌-◌, ◌≤◌, List, [], ◌∷◌, ◌++◌, length, take, drop, refl, sym, ap, ◌∙◌, subst, arith}
 use Rattle.std.specs.Prelude.{All, Any, Contains}
-use Rattle.std.proofs.lemmas.List.Elements.{All-contains, All-take, All-drop}
+use Rattle.std.proofs.lemmas.List.{take_all, take-append-drop}
+use Rattle.std.proofs.lemmas.List.Elements.{All-contains, All-take}
 use Rattle.fvn_terms.specs.declared.declarations.Declarations.{Declarations}
 use Rattle.fvn_terms.specs.Substitution.{Substitution}
 use Rattle.fvn_terms.specs.Unifiers.{Problem}
@@ -14,13 +15,15 @@ use Rattle.fvn_exploring.specs.declared.ends.ExpandEnd.TheVariants.{Whole}
 use Rattle.fvn_exploring.specs.Setting.{Setting}
 use Rattle.fvn_exploring.specs.Children.{IsChild}
 use Rattle.fvn_fold.specs.inner.Gathering.{AreReady, AreGathered, AreTaken, AreNext, IsMoreOfLevel, IsNextLevel}
-use Rattle.fvn_fold.specs.inner.Running.{AreKept}
 use Rattle.fvn_fold.proofs.Gathers.{all_members, any_member, member_of_any}
-use Rattle.fvn_fold.proofs.Nexts.{kept_member, kept_like, child_member, child_like, all_alike, comparable, more_taken, more_next, cut_next}
+use Rattle.fvn_fold.proofs.Nexts.{child_member, child_like, all_alike, comparable, more_taken, more_next, cut_next}
 
 -- a list in two parts
 module _ {A : Type 0} where
-  take_none : (n : ℕ) → take n ([] {A}) ≡ []
+  abbrev none_of : List A
+  none_of = []
+
+  take_none : (n : ℕ) → take n none_of ≡ none_of
   take_none zero = refl
   take_none (suc n) = refl
 
@@ -28,11 +31,6 @@ module _ {A : Type 0} where
   take_on zero n xs = let e : n ≡ 0 + n = omega arith in ap (λ k. take k xs) e
   take_on (suc i) n [] = take_none n ∙ sym (take_none (suc i + n))
   take_on (suc i) n (x ∷ xs) = let e : suc (i + n) ≡ suc i + n = omega arith in ap (λ l. x ∷ l) (take_on i n xs) ∙ ap (λ k. take k (x ∷ xs)) e
-
-  take_then_drop : (i : ℕ) (xs : List A) → take i xs ++ drop i xs ≡ xs
-  take_then_drop zero xs = refl
-  take_then_drop (suc i) [] = refl
-  take_then_drop (suc i) (x ∷ xs) = ap (λ l. x ∷ l) (take_then_drop i xs)
 
 module _ (g : Setting) (drawn : Problem → Substitution → Type 0) (kept : List Variant) (ready : AreReady g kept) where
   abbrev ChildOf : List Variant → Variant → Type 0
@@ -97,4 +95,8 @@ module _ (g : Setting) (drawn : Problem → Substitution → Type 0) (kept : Lis
         subst (λ ms. IsNextLevel g drawn kept ms after end) (ap (λ c. take i members ++ c) is ∙ slice_joined i j l) (more_next g drawn kept (take i members) chunk before after end h k)
 
     pub next_cut : (j : ℕ) (next : List Variant) (end : ExpandEnd) → (end ≡ Whole → ⊥) → IsNextLevel g drawn kept (take j members) next end → IsNextLevel g drawn kept members next end
-    next_cut j next end not h = subst (λ ms. IsNextLevel g drawn kept ms next end) (take_then_drop j members) (cut_next g drawn kept (take j members) (drop j members) next end not h)
+    next_cut j next end not h = subst (λ ms. IsNextLevel g drawn kept ms next end) (take-append-drop j members) (cut_next g drawn kept (take j members) (drop j members) next end not h)
+
+    -- all members
+    pub next_all : (j : ℕ) (next : List Variant) (end : ExpandEnd) → length members ≤ j → IsNextLevel g drawn kept (take j members) next end → IsNextLevel g drawn kept members next end
+    next_all j next end l h = subst (λ ms. IsNextLevel g drawn kept ms next end) (take_all j members l) h

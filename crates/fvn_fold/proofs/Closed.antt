@@ -1,26 +1,24 @@
 -- Levels that are closed by what is kept and by the next level.
-use Rattle.std.proofs.Common.{◌≡◌, ◌⊎◌, ℕ, ◌+◌, ◌<◌, ◌≤◌, List, [], ◌∷◌, ◌++◌, map, refl, sym, ap, ◌∙◌, subst, inl, inr, arith}
-use Rattle.std.specs.Prelude.{All, Any, Contains}
+use Rattle.std.proofs.Common.{◌≡◌, ◌⊎◌, ℕ, ◌+◌, ◌<◌, ◌≤◌, List, ◌++◌, map, refl, sym, subst, inl, inr, arith}
+use Rattle.std.specs.Prelude.{Any, Contains}
 use Rattle.std.proofs.lemmas.List.Elements.{All-contains, Contains-append_left, Contains-append_right, Contains-append_cases}
 use Rattle.fvn_base.proofs.Membership.{contains_map, map_contains}
 use Rattle.fvn_terms.specs.Substitution.{Substitution}
 use Rattle.fvn_terms.specs.Unifiers.{Problem}
 use Rattle.fvn_forms.specs.Flat.{FlatTerm}
 use Rattle.fvn_cover.specs.declared.variant.Variant.{Variant}
-use Rattle.fvn_cover.specs.Covering.{CoversVariant, AreAlike}
-use Rattle.fvn_cover.specs.Pruning.{IsCoveredBySome}
+use Rattle.fvn_cover.specs.Covering.{CoversVariant}
 use Rattle.fvn_exploring.specs.declared.ends.Deep.{Deep}
 use Rattle.fvn_exploring.specs.declared.ends.ExpandEnd.{ExpandEnd}
 use Rattle.fvn_exploring.specs.declared.ends.ExpandEnd.TheVariants.{Whole}
 use Rattle.fvn_exploring.specs.Setting.{Setting}
 use Rattle.fvn_exploring.specs.Children.{IsChild}
 use Rattle.fvn_exploring.specs.Liftings.{LiftsInto, IsLifted}
-use Rattle.fvn_exploring.specs.Explorations.{variants_of}
 use Rattle.fvn_closure.specs.Closing.{IsKeptWithin, AreClosedBelow}
 use Rattle.fvn_closure.specs.Laws.{CoveringsCarryLiftings}
-use Rattle.fvn_fold.specs.inner.Gathering.{IsCoveredByEither, AreReady, AreNext, IsNextLevel}
+use Rattle.fvn_fold.specs.inner.Gathering.{IsCoveredByEither, IsNextLevel}
 use Rattle.fvn_fold.specs.inner.Running.{at_depth, LevelLists, deep_of, IsExploredTo}
-use Rattle.fvn_fold.proofs.Gathers.{member_of_any, any_member, lifts_weaker}
+use Rattle.fvn_fold.proofs.Gathers.{member_of_any, lifts_weaker}
 use Rattle.fvn_fold.proofs.Nexts.{like_back, like_on, kept_like, child_like}
 
 -- closed levels stay so where more is kept that is deeper

@@ -1,14 +1,12 @@
 -- Why an exploration ends, from why the expansion of a member does.
-use Rattle.std.proofs.Common.{◌≡◌, ◌⊎◌, ℕ, List, [], ◌∷◌, ◌++◌, refl, sym, subst, inl, inr}
-use Rattle.std.specs.Prelude.{All, Any, Contains}
-use Rattle.fvn_terms.specs.declared.plain.OpId.{OpId}
+use Rattle.std.proofs.Common.{◌≡◌, List, inr}
+use Rattle.std.specs.Prelude.{Contains}
 use Rattle.fvn_terms.specs.Substitution.{Substitution}
 use Rattle.fvn_terms.specs.Unifiers.{Problem}
 use Rattle.fvn_forms.specs.Flat.{FlatTerm}
 use Rattle.fvn_flat.specs.declared.solver.Pairs.{Pairs}
 use Rattle.fvn_flat.specs.declared.solver.SizeCause.{SizeCause}
 use Rattle.fvn_flat.specs.declared.solver.SizeCause.TheVariants.{Problem as OfProblem, Binding, Term as OfTerm}
-use Rattle.fvn_cover.specs.declared.variant.Variant.{Variant}
 use Rattle.fvn_exploring.specs.declared.limits.Limits.{Limits}
 use Rattle.fvn_exploring.specs.declared.ends.Deep.{Deep}
 use Rattle.fvn_exploring.specs.declared.ends.ExpandEnd.{ExpandEnd}

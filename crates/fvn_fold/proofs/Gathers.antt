@@ -1,9 +1,9 @@
 -- Members of lists, and what is gathered from expansions.
-use Rattle.std.proofs.Common.{◌≡◌, ◌⊎◌, List, [], ◌∷◌, ◌++◌, get_or, refl, sym, ap, ◌∙◌, subst, inl, inr}
+use Rattle.std.proofs.Common.{◌≡◌, ◌⊎◌, ◌+◌, ◌<◌, List, [], ◌∷◌, ◌++◌, length, get_or, take, drop, refl, sym, ap, ◌∙◌, subst, inl, inr}
 use Rattle.std.specs.Prelude.{All, Any, Contains}
 use Rattle.std.specs.List.{AllZip}
-use Rattle.std.proofs.lemmas.List.{append-nil, append_assoc}
-use Rattle.std.proofs.lemmas.List.Elements.{All-contains, Contains-get_or, Contains-append_left, Contains-append_right, Contains-append_cases}
+use Rattle.std.proofs.lemmas.List.{append-nil, append_assoc, take-append-drop, drop_more}
+use Rattle.std.proofs.lemmas.List.Elements.{All-contains, All-push, Contains-get_or, Contains-append_left, Contains-append_right, Contains-append_cases}
 use Rattle.fvn_base.proofs.Membership.{contains_here, contains_later, contains_cases, contains_none}
 use Rattle.fvn_terms.specs.Substitution.{Substitution}
 use Rattle.fvn_terms.specs.Unifiers.{Problem}
@@ -67,6 +67,30 @@ child_of_all (z ∷ es) e c m i = go (contains_cases z es e m) (λ l. child_of_a
 pub all_children_more : (es : List Expansion) (e : Expansion) → all_children (es ++ e ∷ []) ≡ all_children es ++ e.children
 all_children_more [] e = append-nil e.children
 all_children_more (z ∷ es) e = ap (λ l. z.children ++ l) (all_children_more es e) ∙ sym (append_assoc z.children (all_children es) e.children)
+
+-- the two parts of an expansion
+abbrev pub Parts : Type 0
+Parts = List Variant × ExpandEnd
+
+abbrev pub IsPartsOf : Expansion → Parts → Type 0
+IsPartsOf e p = ◌≡◌ {A = Parts} p (e.children, e.end)
+
+pub gathered_more : (es : List Expansion) (e : Expansion) (candidates children : List Variant) (end : ExpandEnd) → IsPartsOf e (children, end) → candidates ≡ all_children es → candidates ++ children ≡ all_children (es ++ e ∷ [])
+gathered_more es e candidates children end parts h = ap (λ l. l ++ children) h ∙ ap (λ (p : Parts). all_children es ++ p.0) parts ∙ sym (all_children_more es e)
+
+pub whole_more : (es : List Expansion) (e : Expansion) (children : List Variant) (end : ExpandEnd) → IsPartsOf e (children, end) → end ≡ Whole → AreWhole es → AreWhole (es ++ e ∷ [])
+whole_more es e children end parts w h = All-push (λ (e : Expansion). e.end ≡ Whole) es e h (sym (ap (λ (p : Parts). p.1) parts) ∙ w)
+
+-- the first that is not whole
+pub gathered_here : (all before : List Expansion) (e : Expansion) (candidates children : List Variant) (end : ExpandEnd) → before ≡ take (length before) all → length before < length all → e ≡ get_or all (length before) e →
+    IsPartsOf e (children, end) → candidates ≡ all_children before → (end ≡ Whole → ⊥) → IsGatheredFrom all (candidates ++ children) end
+gathered_here all before e candidates children end so_far l is parts h not =
+    inr (before, e, drop (length before + 1) all, split, gathered_more before e candidates children end parts h, ap (λ (p : Parts). p.1) parts, not)
+  where
+    split : all ≡ before ++ e ∷ drop (length before + 1) all
+    split =
+        sym (take-append-drop (length before) all) ∙ ap (λ k. k ++ drop (length before) all) (sym so_far)
+        ∙ ap (λ k. before ++ k) (drop_more all (length before) e l ∙ ap (λ z. z ∷ drop (length before + 1) all) (sym is))
 
 -- what lifts into some lifts into what holds of these
 pub lifts_weaker : (g : Setting) (v : Variant) (P Q : Variant → Type 0) → ((c : Variant) → P c → Q c) → LiftsInto g v P → LiftsInto g v Q

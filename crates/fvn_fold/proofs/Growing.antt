@@ -1,8 +1,8 @@
 -- Level runs with one more level.
-use Rattle.std.proofs.Common.{◌≡◌, ◌⊎◌, ℕ, suc, ◌+◌, ◌<◌, ◌≤◌, List, [], ◌∷◌, ◌++◌, length, get_or, map, refl, sym, ap, ◌∙◌, subst, inl, inr, arith}
-use Rattle.std.specs.Prelude.{All, AllPairs, Any, Contains}
+use Rattle.std.proofs.Common.{◌≡◌, ◌⊎◌, ℕ, ◌+◌, ◌≤◌, List, [], ◌∷◌, ◌++◌, length, get_or, map, refl, sym, ap, ◌∙◌, subst, inl, inr, arith}
+use Rattle.std.specs.Prelude.{AllPairs, Contains}
 use Rattle.std.proofs.lemmas.List.{append-nil, append_assoc, length-append, map-append}
-use Rattle.std.proofs.lemmas.List.Elements.{All-contains, Contains-get_or, Contains-append_left, Contains-append_right, Contains-append_cases, Contains-push, Contains-push_cases}
+use Rattle.std.proofs.lemmas.List.Elements.{Contains-get_or, Contains-append_left, Contains-append_right, Contains-append_cases}
 use Rattle.std.proofs.lemmas.List.Quantifiers.{all_pairs_push}
 use Rattle.std.proofs.lemmas.List.Kept.{AllPairs-cons}
 use Rattle.fvn_base.proofs.Membership.{contains_here, contains_later, contains_cases, contains_none, contains_map, map_contains}
@@ -20,7 +20,7 @@ use Rattle.fvn_exploring.specs.Children.{IsChild}
 use Rattle.fvn_exploring.specs.LevelRuns.{IsStart, HasParent, AreFolded, IsLevelRun}
 use Rattle.fvn_exploring.specs.Explorations.{variants_of}
 use Rattle.fvn_fold.specs.inner.Running.{at_depth}
-use Rattle.fvn_fold.proofs.Gathers.{member_of_any, any_member}
+use Rattle.fvn_fold.proofs.Gathers.{any_member}
 
 module _ {A : Type 0} where
   heads : (x y : A) (xs ys : List A) → x ∷ xs ≡ y ∷ ys → x ≡ y
@@ -82,7 +82,7 @@ module _ (g : Setting) (drawn : Problem → Substitution → Type 0) (start : Li
     grown front = run ++ map (at_depth (depth + 1)) front
 
     -- where a parent of each stands, which no member covers
-    record HasPlace (w : Variant) : Type 0 where
+    pub record HasPlace (w : Variant) : Type 0 where
       pub parent : Deep
       pub listed : Contains run parent
       pub level : parent.depth ≡ depth

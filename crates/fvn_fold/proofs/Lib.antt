@@ -11,3 +11,6 @@ mod Firsts
 mod Takings
 mod Pairs
 mod Chunks
+mod Begins
+mod Rounds
+mod Copies

@@ -1,16 +1,14 @@
 -- The next level of some members of a level, and of more of them.
-use Rattle.std.proofs.Common.{◌≡◌, ◌⊎◌, ◌<◌, ℕ, arith, List, [], ◌∷◌, ◌++◌, refl, sym, ap, ◌∙◌, subst, inl, inr}
+use Rattle.std.proofs.Common.{◌≡◌, ◌⊎◌, ◌<◌, ℕ, arith, List, [], ◌++◌, refl, sym, ◌∙◌, subst, inl, inr}
 use Rattle.std.specs.Prelude.{All, AllPairs, Any, Contains}
 use Rattle.std.proofs.lemmas.List.Elements.{All-nil, All-append, All-contains, Contains-append_left, Contains-append_right}
 use Rattle.fvn_base.specs.declared.limits.TheConstants.{EXPANDED_FRESH}
-use Rattle.fvn_base.proofs.Membership.{contains_none}
 use Rattle.fvn_terms.specs.declared.plain.Var.{Var}
 use Rattle.fvn_terms.specs.declared.declarations.Declarations.{Declarations}
 use Rattle.fvn_terms.specs.Substitution.{Substitution, Occurs}
 use Rattle.fvn_terms.specs.Unifiers.{Problem}
-use Rattle.fvn_terms.specs.CompleteSets.{IsApart}
 use Rattle.fvn_cover.specs.declared.variant.Variant.{Variant}
-use Rattle.fvn_cover.specs.Covering.{CoversVariant, AreAlike, IsFlatVariant}
+use Rattle.fvn_cover.specs.Covering.{AreAlike, IsFlatVariant}
 use Rattle.fvn_cover.specs.Marks.{AreComparable}
 use Rattle.fvn_cover.specs.Pruning.{IsCoveredBySome}
 use Rattle.fvn_exploring.specs.declared.ends.ExpandEnd.{ExpandEnd}
@@ -20,8 +18,7 @@ use Rattle.fvn_exploring.specs.Children.{IsMember, IsChild}
 use Rattle.fvn_exploring.specs.Liftings.{LiftsInto}
 use Rattle.fvn_exploring.specs.Expansions.{IsExpandable, IsExpandCause}
 use Rattle.fvn_fold.specs.Levels.{AreExpandable}
-use Rattle.fvn_fold.specs.inner.Gathering.{IsCoveredByEither, AreReady, AreGathered, AreTaken, AreNext, IsMoreOfLevel, IsNextLevel}
-use Rattle.fvn_fold.specs.inner.Running.{AreKept}
+use Rattle.fvn_fold.specs.inner.Gathering.{IsCoveredByEither, AreReady, AreGathered, AreTaken, IsMoreOfLevel, IsNextLevel}
 use Rattle.fvn_fold.proofs.Gathers.{all_members, any_member, member_of_any, lifts_weaker}
 
 no_index : (j : ℕ) → j < 0 → ⊥

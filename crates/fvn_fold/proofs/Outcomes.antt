@@ -1,6 +1,6 @@
 -- An exploration from its level run, its closed levels and its cause.
-use Rattle.std.proofs.Common.{◌≡◌, ◌⊎◌, ℕ, ◌≤◌, ◌<◌, ◌+◌, List, [], ◌∷◌, ◌++◌, length, map, refl, sym, ap, ◌∙◌, subst, inl, inr, arith}
-use Rattle.std.specs.Prelude.{Bool, All, Any, Contains, filter}
+use Rattle.std.proofs.Common.{◌≡◌, ℕ, ◌≤◌, List, length, map, sym, subst}
+use Rattle.std.specs.Prelude.{Bool, Contains, filter}
 use Rattle.std.proofs.lemmas.List.Elements.{All-contains}
 use Rattle.fvn_base.proofs.Membership.{contains_map, map_contains, filter_contains}
 use Rattle.fvn_terms.specs.declared.declarations.Declarations.{Declarations}

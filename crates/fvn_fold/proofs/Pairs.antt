@@ -1,5 +1,5 @@
 -- Pairs of a substitution, taken one by one.
-use Rattle.std.proofs.Common.{◌≡◌, ℕ, zero, suc, ◌+◌, ◌<◌, Bool, true, false, List, [], ◌∷◌, ◌++◌, length, take, get_or, Option, Some, None, refl, sym, ap, ◌∙◌, subst, arith}
+use Rattle.std.proofs.Common.{◌≡◌, ℕ, zero, suc, ◌+◌, ◌<◌, Bool, true, false, List, [], ◌∷◌, ◌++◌, length, take, get_or, Some, None, refl, sym, ap, ◌∙◌, subst, arith}
 use Rattle.std.specs.Prelude.{if◌then◌else◌, slice_get}
 use Rattle.std.proofs.lemmas.List.{take_more}
 use Rattle.fvn_terms.specs.declared.plain.Var.{Var}
@@ -40,3 +40,7 @@ not_bound_yet [] zero x t once g = refl
 not_bound_yet [] (suc i) x t once g = refl
 not_bound_yet (p ∷ s) zero x t once g = refl
 not_bound_yet (p ∷ s) (suc i) x t once g = ap (λ (b : Bool). if b then Some p.1 else bound (take i s) x) (unbound p.0 x p.1 s i t once.0 g) ∙ not_bound_yet s i x t once.1 g
+
+-- one more pair of a copy
+pub copied_more : (all s : Bindings) (i : ℕ) (x : Var) (t : FlatTerm) (more : Bindings) → more ≡ all ++ (x, t) ∷ [] → all ≡ take i s → slice_get s i ≡ Some (x, t) → more ≡ take (i + 1) s
+copied_more all s i x t more is h e = is ∙ ap (λ (l : Bindings). l ++ (x, t) ∷ []) h ∙ sym (pairs_more s i (x, t) e)

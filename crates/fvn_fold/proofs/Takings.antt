@@ -1,7 +1,9 @@
 -- One more candidate, marked or taken.
-use Rattle.std.proofs.Common.{◌≡◌, ◌⊎◌, List, [], ◌∷◌, ◌++◌, refl, sym, subst, inl, inr}
-use Rattle.std.specs.Prelude.{All, Any, Contains}
-use Rattle.std.proofs.lemmas.List.Elements.{All-nil, All-push, All-contains, Contains-append_left, Contains-push}
+use Rattle.std.proofs.Common.{◌≡◌, ◌⊎◌, ℕ, zero, suc, ◌<◌, Bool, true, false, List, [], ◌∷◌, ◌++◌, length, get_or, take, refl, sym, subst, inl, inr, arith}
+use Rattle.std.specs.Prelude.{◌↔◌, All, Contains, IsTrue}
+use Rattle.std.specs.List.{AllZip}
+use Rattle.std.proofs.lemmas.Bool.{false≢true}
+use Rattle.std.proofs.lemmas.List.Elements.{All-nil, All-push, All-contains, All-take, Contains-append_left, Contains-push}
 use Rattle.fvn_terms.specs.declared.declarations.Declarations.{Declarations}
 use Rattle.fvn_terms.specs.CompleteSets.{IsApart}
 use Rattle.fvn_cover.specs.declared.variant.Variant.{Variant}
@@ -10,8 +12,10 @@ use Rattle.fvn_cover.specs.Pruning.{IsCoveredBySome}
 use Rattle.fvn_cover.specs.Adding.{IsAdded}
 use Rattle.fvn_cover.specs.Laws.{CoveringIsAPreorder}
 use Rattle.fvn_cover.proofs.Additions.{added_all, added_apart, added_new, added_still}
-use Rattle.fvn_fold.specs.inner.Gathering.{IsCoveredByEither, AreTaken}
+use Rattle.fvn_cover.proofs.Leftovers.{all_at}
+use Rattle.fvn_fold.specs.inner.Gathering.{IsCoveredByEither, IsMarkedOrAdded, AreTaken}
 use Rattle.fvn_fold.proofs.Gathers.{all_members}
+use Rattle.fvn_fold.proofs.Nexts.{like_back}
 
 module _ (d : Declarations) (kept before : List Variant) where
   abbrev Uncovered : Variant → Type 0
@@ -68,3 +72,46 @@ module _ (d : Declarations) (kept before : List Variant) where
     go : (w : Variant) → IsOneOf seen w → P w
     go w (inl m) = All-contains P before w old m
     go w (inr m) = new w m.0
+
+  -- the next candidate, marked or not
+  module _ (order : CoveringIsAPreorder d) where
+    pub taken_one : (seen after : List Variant) (c : Variant) (more : List Variant) (mark : Bool) → (IsTrue mark ↔ IsCoveredBySome d kept c) → IsMarkedOrAdded d mark after c more → All (AreAlike c) after → AreTaken d kept before seen after → AreTaken d kept before (seen ++ c ∷ []) more
+    taken_one seen after c more true exact is alike h = subst (AreTaken d kept before (seen ++ c ∷ [])) (sym is) (marked_more seen after c h (exact.0 refl))
+    taken_one seen after c more false exact is alike h = taken_more order seen after c more h (λ w. false≢true (exact.1 w)) alike is
+
+-- members of lists side by side, at one place
+module _ {A B : Type 0} (R : A → B → Type 0) where
+  pub zip_at : (xs : List A) (ys : List B) → AllZip R xs ys → (i : ℕ) (x : A) (y : B) → i < length xs → x ≡ get_or xs i x → R x (get_or ys i y)
+  zip_at [] ys h i x y l is = absurd (omega (arith, l))
+  zip_at (z ∷ xs) [] h i x y l is = absurd h
+  zip_at (z ∷ xs) (w ∷ ys) h zero x y l is = subst (λ a. R a w) (sym is) h.0
+  zip_at (z ∷ xs) (w ∷ ys) h (suc i) x y l is = zip_at xs ys h.1 i x y (omega (arith, l)) is
+
+  pub zip_length : (xs : List A) (ys : List B) → AllZip R xs ys → length xs ≡ length ys
+  zip_length [] [] h = refl
+  zip_length [] (y ∷ ys) h = absurd h
+  zip_length (x ∷ xs) [] h = absurd h
+  zip_length (x ∷ xs) (y ∷ ys) h = let l = zip_length xs ys h.1 in omega (arith, l)
+
+module _ (d : Declarations) (kept before all seen after : List Variant) (c : Variant) where
+  -- what is asked where the next candidate is taken
+  pub record TakingFacts : Type 0 where
+    pub flat : IsFlatVariant d c × All (IsFlatVariant d) after
+    pub alike : All (λ k. AreAlike k c) after
+    pub like : All (AreAlike c) after
+
+  pub taking_facts : AreTaken d kept before seen after → seen ≡ take (length seen) all → length seen < length all → c ≡ get_or all (length seen) c →
+      All (IsFlatVariant d) all → All (IsFlatVariant d) before → All (λ a. All (AreAlike a) before) all → All (λ a. All (AreAlike a) all) all → TakingFacts
+  taking_facts h so_far l is flat_all flat_before alike_before alike_all = record {
+    flat = (all_at (IsFlatVariant d) all (length seen) c flat_all l is, taken_each d kept before (IsFlatVariant d) seen after h flat_before (seen_each (IsFlatVariant d) flat_all));
+    alike = all_members (λ k. AreAlike k c) after (λ k m. like_back c k (All-contains (AreAlike c) after k like m));
+    like = like;
+  } where
+    seen_each : (P : Variant → Type 0) → All P all → (v : Variant) → Contains seen v → P v
+    seen_each P f v m = All-contains P seen v (subst (All P) (sym so_far) (All-take P (length seen) all f)) m
+
+    mine : All (AreAlike c) all
+    mine = all_at (λ a. All (AreAlike a) all) all (length seen) c alike_all l is
+
+    like : All (AreAlike c) after
+    like = taken_each d kept before (AreAlike c) seen after h (all_at (λ a. All (AreAlike a) before) all (length seen) c alike_before l is) (seen_each (AreAlike c) mine)

@@ -1,9 +1,9 @@
 -- What comes after a level: a longer run, or an outcome.
 use Rattle.std.proofs.Common.{◌≡◌, ◌⊎◌, ℕ, ◌≤◌, ◌<◌, ◌+◌, List, [], ◌∷◌, ◌++◌, length, map, refl, sym, ap, ◌∙◌, subst, inl, inr, arith}
-use Rattle.std.specs.Prelude.{All, Any, Contains}
+use Rattle.std.specs.Prelude.{Any, Contains}
 use Rattle.std.proofs.lemmas.List.{append-nil, append_assoc, length-append, map-append, length-map}
-use Rattle.std.proofs.lemmas.List.Elements.{All-contains, Contains-append_left, Contains-append_right, Contains-append_cases}
-use Rattle.fvn_base.proofs.Membership.{contains_here, contains_map, map_contains}
+use Rattle.std.proofs.lemmas.List.Elements.{All-contains, Contains-append_left, Contains-append_cases}
+use Rattle.fvn_base.proofs.Membership.{contains_here, map_contains}
 use Rattle.fvn_terms.specs.declared.declarations.Declarations.{Declarations}
 use Rattle.fvn_terms.specs.Substitution.{Substitution}
 use Rattle.fvn_terms.specs.Unifiers.{Problem}
@@ -18,22 +18,21 @@ use Rattle.fvn_exploring.specs.declared.ends.Deep.{Deep}
 use Rattle.fvn_exploring.specs.declared.ends.Explored.{Explored}
 use Rattle.fvn_exploring.specs.declared.ends.ExpandEnd.{ExpandEnd}
 use Rattle.fvn_exploring.specs.declared.ends.ExpandEnd.TheVariants.{Whole, Steps, Size, Basis, Unifiers}
-use Rattle.fvn_exploring.specs.declared.ends.ExploreEnd.{ExploreEnd}
 use Rattle.fvn_exploring.specs.declared.ends.ExploreEnd.TheVariants.{Complete, Levels, Variants}
 use Rattle.fvn_exploring.specs.Ends.{explore_end}
 use Rattle.fvn_exploring.specs.Setting.{Setting}
 use Rattle.fvn_exploring.specs.Children.{IsMember, IsChild}
 use Rattle.fvn_exploring.specs.Expansions.{IsExpandCause}
 use Rattle.fvn_exploring.specs.LevelRuns.{IsLevelRun}
-use Rattle.fvn_exploring.specs.Explorations.{variants_of, IsDeeper, IsBelowLevel, IsOneMore, IsExploreCause, ReachesPast, IsExploration}
+use Rattle.fvn_exploring.specs.Explorations.{variants_of, IsBelowLevel, IsOneMore, IsExploreCause, ReachesPast, IsExploration}
 use Rattle.fvn_closure.specs.Closing.{IsExplorable, AreClosedBelow}
 use Rattle.fvn_closure.specs.Laws.{CoveringsCarryLiftings, LevelRunsAreLawful}
-use Rattle.fvn_fold.specs.inner.Gathering.{AreReady, AreNext, IsNextLevel}
+use Rattle.fvn_fold.specs.inner.Gathering.{AreReady, IsNextLevel}
 use Rattle.fvn_fold.specs.inner.Running.{at_depth, LevelLists, deep_of, with_next, IsExploredTo, IsEndAtLevels, IsEndOfLast, IsEndFull, IsEndBelow, IsEnded}
 use Rattle.fvn_fold.proofs.Gathers.{all_members, member_of_any, any_member}
 use Rattle.fvn_fold.proofs.Nexts.{child_member, child_like}
 use Rattle.fvn_fold.proofs.Growing.{HasPlace, pairs_front, run_grown}
-use Rattle.fvn_fold.proofs.Closed.{closed_more, closed_fewer, closed_all, bound, kept_deep, deep_kept, member_deep, closed_next}
+use Rattle.fvn_fold.proofs.Closed.{closed_more, closed_fewer, closed_all, bound, deep_kept, member_deep, closed_next}
 use Rattle.fvn_fold.proofs.Ends.{member_cause}
 use Rattle.fvn_fold.proofs.Outcomes.{IsOutcome, exploration, pruned_listed}
 
@@ -65,7 +64,7 @@ module _ (g : Setting) (drawn : Problem → Substitution → Type 0) (start : Li
   below front = map (at_depth (depth + 1)) front
 
   run_some : 1 ≤ length run
-  run_some = let l = ap length explored.kept ∙ length-map (λ (m : Deep). m.variant) run in let s = explored.some in omega (arith, l, s)
+  run_some = let l = ap length explored.kept ∙ length-map run (λ (m : Deep). m.variant) in let s = explored.some in omega (arith, l, s)
 
   first_of : (list : List Deep) → 1 ≤ length list → (m : Deep) × Contains list m
   first_of [] l = absurd (omega (arith, l))
@@ -110,7 +109,7 @@ module _ (g : Setting) (drawn : Problem → Substitution → Type 0) (start : Li
       same (v ∷ l) = ap (λ m. v ∷ m) (same l)
 
   length_grown : (front : List Variant) → length (run ++ below front) ≡ length r.kept + length front
-  length_grown front = sym (length-map (λ (m : Deep). m.variant) (run ++ below front)) ∙ ap length (variants_grown front) ∙ length-append r.kept front
+  length_grown front = sym (length-map (run ++ below front) (λ (m : Deep). m.variant)) ∙ ap length (variants_grown front) ∙ length-append r.kept front
 
   -- the run goes on
   pub goes_on : CoveringsCarryLiftings → end ≡ Whole → IsExploredTo g drawn start (depth + 1) (with_next r depth next)
@@ -171,7 +170,7 @@ module _ (g : Setting) (drawn : Problem → Substitution → Type 0) (start : Li
       past_depth k (inr w) = let l = levels w.0 w.1 in let e = w.2 in omega (arith, l, e)
 
     few_run : length run ≤ limits.variants
-    few_run = let l = ap length explored.kept ∙ length-map (λ (m : Deep). m.variant) run in omega (arith, l, few)
+    few_run = let l = ap length explored.kept ∙ length-map run (λ (m : Deep). m.variant) in omega (arith, l, few)
 
     shallow_run : (m : Deep) → Contains run m → m.depth ≤ limits.levels
     shallow_run m i = let b = run_bound m i in omega (arith, b, within)

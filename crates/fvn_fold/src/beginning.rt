@@ -11,8 +11,11 @@ use fvn_base::limits::FIRST_FRESH;
 use fvn_cover::Variant;
 use fvn_exploring::{Expander, ExploreEnd};
 use fvn_flat::{Flat, Normal, SizeCause, Subst, fresh_variables};
+use fvn_rewrite_laws::{
+    kinded_theories_are_lawful, lists_are_lawful, rules_are_lawful, sequences_are_lawful,
+};
 use fvn_signature::Signature;
-use fvn_terms::{NoMemory, Var};
+use fvn_terms::{NoMemory, Var, rewriting_is_lawful};
 use std::alloc::Global;
 
 /// How an exploration begins: with its first variant, or with an end.
@@ -51,7 +54,8 @@ fn rest_all<E: Expander>(
     requires setting { IsSettingIn (E.setting expander.now) sig.now }
     requires start { IsStartable sig.now start.now }
     requires names { BindingsFit sig.now names.now }
-    ensures { IfOk result (AreRested (E.setting expander.now) (E.drawn expander.now) start.now names.now) }
+    ensures rested { IfOk result (AreRested (E.setting expander.now) (E.drawn expander.now) start.now names.now) }
+    ensures lawful { IfOk result (λ _. AreLawfulIn (E.setting expander.now)) }
 {
     let mut terms = Vec::new(alloc);
     for t in start {
@@ -81,6 +85,13 @@ pub(crate) fn begin<E: Expander>(
     ensures lawful { IfOk result (λ _. AreLawfulIn (E.setting expander.now)) }
     ensures begun { IfOk result (IsBegun (E.setting expander.now) (E.drawn expander.now) start.now) }
 {
+    sig.recall_good();
+    sig.recall_completed();
+    rewriting_is_lawful();
+    sequences_are_lawful();
+    lists_are_lawful();
+    kinded_theories_are_lawful();
+    rules_are_lawful();
     let vars = variables(alloc, start)?;
     if vars.len() > FIRST_FRESH as usize {
         return Err(NoMemory);

@@ -6,7 +6,7 @@ ghost use Rattle.fvn_exploring.specs.LevelRuns.{IsStart};
 ghost use Rattle.fvn_exploring.specs.Setting.{AreLawfulIn};
 ghost use Rattle.fvn_fold.specs.Starts.{IsStartable, IsSettingIn};
 ghost use Rattle.fvn_fold.specs.inner.Gathering.{IsTask};
-ghost use Rattle.fvn_fold.specs.inner.Running.{lists_of, AreKept, IsEndedAtLast, IsEndFull, IsTurned};
+ghost use Rattle.fvn_fold.specs.inner.Running.{lists_of, AreKept, IsEndedAtLast, IsEndFull, IsOverOrWhole, IsTurned};
 
 use crate::beginning::{Begun, begin};
 use crate::levels::{Level, Task, is_whole, next_level};
@@ -76,6 +76,16 @@ fn full(
     Ok(x)
 }
 
+// Whether nothing comes after the next level: an expansion was not whole, or nothing is new.
+fn is_over(level: &Level) -> bool
+    ensures { IsOverOrWhole result level.now.next.items level.now.end }
+{
+    if level.next.is_empty() {
+        return true;
+    }
+    !is_whole(&level.end)
+}
+
 // What comes after a level that has all of this next one: the run with it, or what was explored where none follows.
 fn next_turn(
     alloc: Global,
@@ -90,13 +100,11 @@ fn next_turn(
     requires few { length run.kept.items + length level.next.items ≤ limits.variants }
     ensures { IfOk result (IsTurned sig.now limits (lists_of run) depth level.next.items level.end) }
 {
+    let over = is_over(&level);
     let Level { next, end } = level;
-    let none = next.is_empty();
     let more = with_level(alloc, sig, run, depth, next)?;
-    if !none {
-        if is_whole(&end) {
-            return Ok(Turn::On(more));
-        }
+    if !over {
+        return Ok(Turn::On(more));
     }
     let x = finish(alloc, sig, more, depth + 1, end.into_explore_end())?;
     Ok(Turn::Done(x))
@@ -130,6 +138,14 @@ fn after_level(
     Ok(t)
 }
 
+// The level below this one, which is allowed.
+fn level_below(depth: u32, limits: Limits) -> u32
+    requires { depth < limits.levels }
+    ensures { result ≡ depth + 1 }
+{
+    depth + 1
+}
+
 // The levels from the start on.
 fn levels<R: Threads + Sync, G: Gate, E: Expander>(
     rt: &R,
@@ -146,6 +162,8 @@ fn levels<R: Threads + Sync, G: Gate, E: Expander>(
     ensures { IfOk result (IsExploration (E.setting task.now.expander.now) (E.drawn task.now.expander.now) start.now
         task.now.limits) }
 {
+    task.sig.recall_good();
+    task.sig.recall_completed();
     coverings_carry_liftings();
     level_runs_are_lawful(task.expander);
     covering_is_reflexive_and_transitive();
@@ -157,7 +175,7 @@ fn levels<R: Threads + Sync, G: Gate, E: Expander>(
             Turn::Done(x) => return Ok(x),
             Turn::On(more) => {
                 run = more;
-                depth += 1;
+                depth = level_below(depth, task.limits);
             }
         }
     }

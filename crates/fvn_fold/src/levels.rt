@@ -6,7 +6,7 @@ ghost use Rattle.fvn_terms.specs.CompleteSets.{IsApart};
 ghost use Rattle.fvn_cover.specs.Marks.{AreComparable, AreMarks};
 ghost use Rattle.fvn_exploring.specs.declared.ends.ExpandEnd.TheVariants.{Whole};
 ghost use Rattle.fvn_fold.specs.Levels.{AreExpansions};
-ghost use Rattle.fvn_fold.specs.inner.Gathering.{IsTask, AreReady, IsGatheredFrom, AreTaken, AreNext, IsMoreOfLevel, IsNextLevel};
+ghost use Rattle.fvn_fold.specs.inner.Gathering.{IsTask, AreReady, IsGatheredFrom, IsMarkedOrAdded, AreTaken, AreNext, IsMoreOfLevel, IsNextLevel};
 
 use crate::expanding::expand_level;
 use fvn_cover::{Gate, Kept, Variant, covering_of_variants_is_a_preorder, marks, with_member};
@@ -74,6 +74,26 @@ fn gather(alloc: Global, expansions: Vec<Expansion>) -> Result<Gathered, NoMemor
     })
 }
 
+// The list with the candidate, unless it is marked or a member covers it, without those that it then covers.
+fn with_candidate(
+    alloc: Global,
+    sig: &Signature,
+    before: Vec<Kept>,
+    candidate: Variant,
+    mark: bool,
+) -> Result<Vec<Kept>, NoMemory>
+    requires flat { IsFlatVariant sig.now candidate × All (IsFlatVariant sig.now) before.items }
+    requires alike { All (λ k. AreAlike k candidate) before.items }
+    ensures { IfOk result (λ after. IsMarkedOrAdded sig.now mark before.items candidate after.items) }
+{
+    if mark {
+        return Ok(before);
+    }
+    let k = Kept::new(alloc, sig, candidate)?;
+    let after = with_member(alloc, sig, before, k)?;
+    Ok(after)
+}
+
 // The list with the candidates that are not marked, each if no member covers it, without those that it then covers.
 fn taken(
     alloc: Global,
@@ -94,11 +114,9 @@ fn taken(
     covering_of_variants_is_a_preorder();
     let mut after = before;
     let mut i = 0;
-    for c in candidates {
-        if !marks[i] {
-            let k = Kept::new(alloc, sig, c)?;
-            after = with_member(alloc, sig, after, k)?;
-        }
+    for candidate in candidates {
+        let mark = marks[i];
+        after = with_candidate(alloc, sig, after, candidate, mark)?;
         i += 1;
     }
     Ok(after)

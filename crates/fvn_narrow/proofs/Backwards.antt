@@ -72,7 +72,7 @@ module _ (r : Rewriting) (unifiers next : ℕ) (v start : Variant) (o : IsStartO
       steps = h.steps;
       reached = h.reached;
       same = λ x i. h.same x (subst (λ vs. Contains vs x) (sym o.vars) i);
-      alike = record { vars = sym o.vars ∙ h.alike.vars; terms = sym (length-map (renamed_form d o.by) v.terms) ∙ ap length (sym o.terms) ∙ h.alike.terms };
+      alike = record { vars = sym o.vars ∙ h.alike.vars; terms = sym (length-map v.terms (renamed_form d o.by)) ∙ ap length (sym o.terms) ∙ h.alike.terms };
       member = h.member;
     }
 

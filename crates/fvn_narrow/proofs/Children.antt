@@ -1,23 +1,23 @@
 -- What a unifier makes of a variant is a child by one step.
-use Rattle.std.proofs.Common.{◌≡◌, ◌≤◌, ◌<◌, ◌+◌, ℕ, suc, true, List, [], ◌∷◌, ◌++◌, map, take, drop, length, None, Some, refl, sym, ap, ◌∙◌, subst, inl, inr, arith}
+use Rattle.std.proofs.Common.{◌≡◌, ◌<◌, ◌+◌, ℕ, suc, List, [], ◌∷◌, ◌++◌, map, take, drop, length, None, Some, refl, sym, ap, ◌∙◌, subst, inl, inr, arith}
 use Rattle.std.specs.Prelude.{◌⊎◌, Option, All, Any, Contains, slice_get}
-use Rattle.std.specs.List.{AllZip}
-use Rattle.std.proofs.lemmas.List.{length-append, length-map}
+use Rattle.std.specs.List.{AllZip, AllByRecursion}
+use Rattle.std.proofs.lemmas.List.{length-map}
 use Rattle.std.proofs.lemmas.List.Elements.{All-nil, All-head, All-contains, All-from_recursion, length_all_zip, Contains-append_left, Contains-append_right, Contains-append_cases}
 use Rattle.std.proofs.lemmas.Option.{slice_get_within, get_or_from_slice_get}
-use Rattle.fvn_base.specs.declared.limits.TheConstants.{NEXT_FRESH, EXPANDED_FRESH}
+use Rattle.fvn_base.specs.declared.limits.TheConstants.{EXPANDED_FRESH}
 use Rattle.fvn_base.proofs.Membership.{contains_here, contains_later, contains_cases, contains_none, map_contains}
 use Rattle.fvn_terms.specs.declared.plain.Var.{Var}
 use Rattle.fvn_terms.specs.declared.declarations.Declarations.{Declarations}
 use Rattle.fvn_terms.specs.Theory.{Equations}
-use Rattle.fvn_terms.specs.Term.{Term, var}
+use Rattle.fvn_terms.specs.Term.{Term}
 use Rattle.fvn_terms.specs.Signature.{kind, IsSort, IsTerm}
 use Rattle.fvn_terms.specs.Substitution.{Substitution, apply, Occurs}
 use Rattle.fvn_terms.specs.Equality.{BEqual}
 use Rattle.fvn_terms.specs.Unifiers.{Problem}
-use Rattle.fvn_terms.specs.Rewriting.{TermSequence, ListSequence, IsIrreducible, BringsNoVariable}
+use Rattle.fvn_terms.specs.Rewriting.{ListSequence, IsIrreducible, BringsNoVariable}
 use Rattle.fvn_terms.specs.Laws.{RewritingLaws}
-use Rattle.fvn_terms.proofs.Equal.{BEqual-refl, BEqual-sym}
+use Rattle.fvn_terms.proofs.Equal.{BEqual-refl}
 use Rattle.fvn_terms.proofs.Occurrences.{occurs_value, occurs_instance, BEqual-occurs}
 use Rattle.fvn_forms.specs.Flat.{FlatTerm, plain}
 use Rattle.fvn_forms.specs.Canon.{canon, inst}
@@ -25,8 +25,7 @@ use Rattle.fvn_forms.specs.Good.{IsGood}
 use Rattle.fvn_forms.proofs.ToCanon.{to_canon}
 use Rattle.fvn_flat.specs.Bindings.{Bindings, bound, form_or, value}
 use Rattle.fvn_flat.specs.Fits.{Fits, AllFit}
-use Rattle.fvn_flat.specs.Solving.{substitution, IsNumbered}
-use Rattle.fvn_flat.specs.Problems.{variables_of}
+use Rattle.fvn_flat.specs.Solving.{substitution}
 use Rattle.fvn_cover.specs.declared.variant.Variant.{Variant}
 use Rattle.fvn_rewrite_laws.specs.Laws.{ListLaws, RuleLaws}
 use Rattle.fvn_rewrite_laws.specs.Lists.{EachHasSequence}
@@ -39,7 +38,7 @@ use Rattle.fvn_narrow_children.proofs.Replacing.{split_at}
 use Rattle.fvn_narrow.specs.Settings.{narrowing_setting}
 use Rattle.fvn_narrow.specs.inner.Turns.{Turn, IsReady, AreMembers, IsStepChild}
 use Rattle.fvn_narrow.proofs.Turning.{problem_at, IsFitTurn, IsGivenIn}
-use Rattle.fvn_narrow.proofs.Steps.{successor, is_put, step_from, unbound_stays}
+use Rattle.fvn_narrow.proofs.Steps.{successor, is_put, step_from}
 use Rattle.fvn_narrow.proofs.Occurring.{occurs_replaced, occurs_at, occurs_in_inst, inst_has}
 
 pub item_listed : (l : List FlatTerm) (i : ℕ) (a : FlatTerm) → slice_get l i ≡ Some a → Contains l a
@@ -91,7 +90,7 @@ module _ (r : Rewriting) where
   forms_irreducible : (ts us : List FlatTerm) → AllZip (IsFormOf r) ts us → All (IsIrreducible d equations) (map plain us)
   forms_irreducible ts us h = All-from_recursion (IsIrreducible d equations) (map plain us) (go ts us h)
     where
-      go : (ts us : List FlatTerm) → AllZip (IsFormOf r) ts us → _
+      go : (ts us : List FlatTerm) → AllZip (IsFormOf r) ts us → AllByRecursion (IsIrreducible d equations) (map plain us)
       go [] [] h = tt
       go [] (u ∷ us) h = absurd h
       go (t ∷ ts) [] h = absurd h
@@ -124,7 +123,7 @@ module _ (r : Rewriting) (good : IsGood r.signature) (brings_none : BringsNoVari
       BEqual-occurs z r.signature raw (plain (canon r.signature raw)) (to_canon r.signature good.fits raw put.kinded.0 put.kinded.1) (subst (λ q. Occurs z (plain q)) put.is o)
 
   -- the variables of the terms with the right side put in
-  OccursThere : Var → Type 0
+  abbrev OccursThere : Var → Type 0
   OccursThere z = Any (λ w. Occurs z (plain w)) v.terms ⊎ Occurs z (plain turn.rule.right)
 
   in_member : (w : FlatTerm) → Contains members w → (z : Var) → Occurs z (plain w) → OccursThere z
@@ -221,7 +220,7 @@ module _ (r : Rewriting) (good : IsGood r.signature) (brings_none : BringsNoVari
         ap length (split_at v.terms turn.member m.term m.is)
         ∙ same_length (take turn.member v.terms) m.term m.new (drop (turn.member + 1) v.terms)
         ∙ ap length (sym m.all_are)
-        ∙ sym (length-map (inst r.signature (value s)) members)
+        ∙ sym (length-map members (inst r.signature (value s)))
         ∙ length_all_zip (IsFormOf r) (map (inst r.signature (value s)) members) c.terms grown.terms
 
     -- one sequence leads from what the unifier makes of the members to the child's terms

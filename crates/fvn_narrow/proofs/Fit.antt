@@ -1,36 +1,32 @@
 -- What is met in a turn fits, and part and left side have one kind.
-use Rattle.std.proofs.Common.{◌≡◌, ◌≤◌, ℕ, true, false, List, [], ◌∷◌, map, length, None, Some, refl, sym, ap, ◌∙◌, subst, inl, inr, arith}
-use Rattle.std.specs.Prelude.{◌⊎◌, Contains, slice_get}
+use Rattle.std.proofs.Common.{◌≡◌, ◌≤◌, ℕ, true, false, List, [], ◌∷◌, Some, sym, ◌∙◌, subst, inl, inr, arith}
+use Rattle.std.specs.Prelude.{Contains, slice_get}
 use Rattle.std.proofs.lemmas.Option.{slice_get_within, get_or_from_slice_get}
 use Rattle.std.proofs.lemmas.List.Elements.{All-contains, All-from_recursion}
 use Rattle.fvn_base.proofs.Membership.{contains_map}
-use Rattle.fvn_terms.specs.declared.plain.Var.{Var}
 use Rattle.fvn_terms.specs.declared.plain.OpId.{OpId}
 use Rattle.fvn_terms.specs.declared.plain.SortId.{SortId}
 use Rattle.fvn_terms.specs.declared.declarations.Rank.{Rank}
 use Rattle.fvn_terms.specs.declared.declarations.Declarations.{Declarations}
 use Rattle.fvn_terms.specs.Term.{Term, var}
 use Rattle.fvn_terms.specs.Signature.{kind, declared, HasKind}
-use Rattle.fvn_terms.specs.Substitution.{apply, Occurs}
+use Rattle.fvn_terms.specs.Substitution.{apply}
 use Rattle.fvn_terms.specs.Equality.{two}
-use Rattle.fvn_forms.specs.Flat.{FlatTerm, FlatTerms, fvar, fapp, fnone, fmore, plain}
+use Rattle.fvn_forms.specs.Flat.{FlatTerm, fvar, fapp, fnone, fmore, plain}
 use Rattle.fvn_forms.specs.Settled.{Settled}
 use Rattle.fvn_forms.specs.FitsKinds.{FitsKinds}
 use Rattle.fvn_forms.specs.Good.{IsGood}
 use Rattle.fvn_forms.proofs.Eval.{canon_settled}
 use Rattle.fvn_flat.specs.Fits.{Fits, AllFit}
 use Rattle.fvn_flat.specs.Forms.{head_of, args_of}
-use Rattle.fvn_flat.specs.Problems.{variables_of, IsProblem}
 use Rattle.fvn_flat.specs.Rules.{IsRuleFrom, IsRuleOf}
-use Rattle.fvn_flat.specs.Solving.{problem_of, IsGiven}
-use Rattle.fvn_flat.specs.declared.solver.Pairs.{Pairs}
 use Rattle.fvn_flat.proofs.Fitting.{args_fit}
 use Rattle.fvn_cover.specs.declared.variant.Variant.{Variant}
 use Rattle.fvn_rewrite_laws.specs.Laws.{RuleLaws}
-use Rattle.fvn_theory.specs.Equations.{sides_of, equations_of}
+use Rattle.fvn_theory.specs.Equations.{sides_of}
 use Rattle.fvn_rewrite.specs.Usable.{Rewriting, AreUsable, equations_by}
 use Rattle.fvn_rewrite_rules.specs.declared.rule.Rule.{Rule}
-use Rattle.fvn_rewrite_rules.specs.Given.{RuleLists, headed, HasOldVariables, IsNumberedRule}
+use Rattle.fvn_rewrite_rules.specs.Given.{headed, HasOldVariables, IsNumberedRule}
 use Rattle.fvn_narrow_children.specs.Paths.{LeadsTo}
 use Rattle.fvn_narrow_children.specs.Putting.{KeepsKindsOf}
 use Rattle.fvn_narrow.specs.inner.Turns.{Turn, IsTurnAt}

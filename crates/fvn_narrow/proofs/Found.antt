@@ -1,8 +1,8 @@
 -- What one rule gives at one part, from the solver's answer and from what its unifiers make.
 use Rattle.std.proofs.Common.{◌≡◌, ◌<◌, ℕ, List, [], ◌∷◌, map, length, None, Some, refl, sym, ap, ◌∙◌, subst, inl, inr}
-use Rattle.std.specs.Prelude.{◌⊎◌, ◌≢◌, All, Any, Contains}
+use Rattle.std.specs.Prelude.{◌⊎◌, ◌≢◌, All, Contains}
 use Rattle.std.proofs.lemmas.List.Elements.{All-nil, All-weaker, All-contains}
-use Rattle.fvn_base.proofs.Membership.{contains_none, contains_cases, map_contains}
+use Rattle.fvn_base.proofs.Membership.{map_contains}
 use Rattle.fvn_terms.specs.declared.plain.Var.{Var}
 use Rattle.fvn_terms.specs.declared.declarations.Declarations.{Declarations}
 use Rattle.fvn_terms.specs.Theory.{Equations}
@@ -18,11 +18,10 @@ use Rattle.fvn_forms.proofs.Eval.{canon_plain}
 use Rattle.fvn_forms.proofs.Instances.{inst_settled}
 use Rattle.fvn_signature.specs.Queries.{IsCompleted}
 use Rattle.fvn_flat.specs.Bindings.{Bindings, value}
-use Rattle.fvn_flat.specs.Drawn.{renamed}
 use Rattle.fvn_flat.specs.Fits.{Fits}
 use Rattle.fvn_flat.specs.Forms.{head_of}
 use Rattle.fvn_flat.specs.Problems.{variables_of, flat_pairs}
-use Rattle.fvn_flat.specs.Solving.{substitution, symbols_of_pairs, IsCause, HasCause, IsTooLarge}
+use Rattle.fvn_flat.specs.Solving.{symbols_of_pairs, IsCause, HasCause, IsTooLarge}
 use Rattle.fvn_flat.specs.Successors.{renamed_form, renamed_problem}
 use Rattle.fvn_flat.specs.declared.solver.Pairs.{Pairs}
 use Rattle.fvn_flat.specs.declared.solver.Solved.{Solved}
@@ -39,13 +38,13 @@ use Rattle.fvn_exploring.specs.Causes.{IsRuleProblem}
 use Rattle.fvn_exploring.specs.declared.ends.ExpandEnd.{ExpandEnd}
 use Rattle.fvn_exploring.specs.declared.ends.ExpandEnd.TheVariants.{Whole, Steps, Size, Basis, Unifiers}
 use Rattle.fvn_exploring.specs.declared.ends.Expansion.{Expansion}
-use Rattle.fvn_narrow_children.specs.Growing.{IsRaw, IsGrown, IsDealtWith, AreGrown, StopsAt}
+use Rattle.fvn_narrow_children.specs.Growing.{IsRaw, IsGrown, StopsAt}
 use Rattle.fvn_narrow_children.proofs.PathFacts.{stands_at}
 use Rattle.fvn_lifting.specs.Lifted.{LiftsAt}
 use Rattle.fvn_lifting.specs.Laws.{SuccessorsAreSteps, TurnsLift}
 use Rattle.fvn_narrow.specs.Settings.{narrowing_setting}
 use Rattle.fvn_narrow.specs.inner.Ends.{end_after, solver_end, AreEnded}
-use Rattle.fvn_narrow.specs.inner.Turns.{Turn, IsReady, AreMembers, IsTurnAt, AreGrownAt, IsStepChild, IsOfStep, EndsAs, LiftsInTurn, AreFound, IsAtPart}
+use Rattle.fvn_narrow.specs.inner.Turns.{Turn, IsReady, AreMembers, AreGrownAt, IsStepChild, IsOfStep, EndsAs, AreFound, IsAtPart}
 use Rattle.fvn_narrow.proofs.Turning.{problem_at, IsFitTurn, IsGivenIn}
 use Rattle.fvn_narrow.proofs.Steps.{same_form, same_names, old_is_not_new, successor, step_from}
 use Rattle.fvn_narrow.proofs.Children.{item_listed, member_fits, is_step_child}

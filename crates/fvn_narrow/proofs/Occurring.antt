@@ -1,17 +1,14 @@
 -- Which variables occur in a form with another one put in, and in instances of forms.
-use Rattle.std.proofs.Common.{◌≡◌, ℕ, true, false, List, [], ◌∷◌, ◌++◌, refl, sym, ap, ◌∙◌, subst, inl, inr}
-use Rattle.std.specs.Prelude.{◌⊎◌, Any, Contains}
+use Rattle.std.proofs.Common.{inl, inr}
+use Rattle.std.specs.Prelude.{◌⊎◌}
 use Rattle.fvn_terms.specs.declared.plain.Var.{Var}
-use Rattle.fvn_terms.specs.declared.plain.OpId.{OpId}
 use Rattle.fvn_terms.specs.declared.declarations.Declarations.{Declarations}
-use Rattle.fvn_terms.specs.Term.{Term, Terms}
 use Rattle.fvn_terms.specs.Signature.{IsTerm}
-use Rattle.fvn_terms.specs.Substitution.{Substitution, apply, Occurs, OccursAmong}
-use Rattle.fvn_terms.specs.Equality.{BEqual}
+use Rattle.fvn_terms.specs.Substitution.{apply, Occurs, OccursAmong}
 use Rattle.fvn_terms.proofs.Equal.{BEqual-sym}
 use Rattle.fvn_terms.proofs.Occurrences.{occurs_value, occurs_instance, BEqual-occurs}
-use Rattle.fvn_forms.specs.Flat.{FlatTerm, FlatTerms, fvar, fapp, fnone, fmore, plain, plain_all}
-use Rattle.fvn_forms.specs.Canon.{canon, inst}
+use Rattle.fvn_forms.specs.Flat.{FlatTerm, FlatTerms, plain, plain_all}
+use Rattle.fvn_forms.specs.Canon.{inst}
 use Rattle.fvn_forms.specs.Good.{IsGood}
 use Rattle.fvn_flat.specs.Bindings.{Bindings, value, BindingsFit}
 use Rattle.fvn_flat.specs.FlatPlaces.{IsReplaced, IsReplacedAmong, here, inside, first, later}

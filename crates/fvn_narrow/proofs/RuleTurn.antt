@@ -19,7 +19,7 @@ use Rattle.fvn_flat.specs.Bindings.{Bindings, BindsOnce, BindingsFit}
 use Rattle.fvn_flat.specs.OneAnswer.{IsCompleteFor}
 use Rattle.fvn_flat.specs.Problems.{plain_pairs}
 use Rattle.fvn_flat.specs.Solving.{substitution, problem_of, Binds, IsNumbered, AreUnifiers, AreDrawn, AreBindings, AreNumbered, AreApart, AreComplete}
-use Rattle.fvn_flat.specs.Successors.{OccursIn, Narrowed, IsStepFrom}
+use Rattle.fvn_flat.specs.Successors.{OccursIn}
 use Rattle.fvn_flat.specs.declared.solver.Pairs.{Pairs}
 use Rattle.fvn_flat.specs.declared.solver.Solved.{Solved}
 use Rattle.fvn_flat.specs.declared.solver.SolveEnd.TheVariants.{Complete}
@@ -37,11 +37,10 @@ use Rattle.fvn_narrow.proofs.Turning.{problem_at, IsFitTurn, IsGivenIn}
 use Rattle.fvn_narrow.proofs.Occurring.{occurs_at}
 use Rattle.fvn_narrow.proofs.Children.{item_listed, all_reached}
 use Rattle.fvn_lifting.specs.Meetings.{IsNew, ShareNone, IsOverNew}
-use Rattle.fvn_lifting.specs.Lifted.{LiftsAt, IsBroughtTo, HasReducible, IsTurned}
+use Rattle.fvn_lifting.specs.Lifted.{may_be_any, LiftsAt, IsBroughtTo, HasReducible, IsTurned, IsStepUnder}
 use Rattle.fvn_lifting.specs.Laws.{SuccessorsAreSteps, TurnsLift}
-use Rattle.fvn_lifting.proofs.Stepping.{any_step}
 use Rattle.fvn_terms.proofs.Equal.{BEqual-refl}
-use Rattle.fvn_narrow.proofs.Steps.{successor, step_from, unbound_stays, old_is_not_new}
+use Rattle.fvn_narrow.proofs.Steps.{successor, step_from, unifier_is, unbound_stays, old_is_not_new}
 
 -- what a solver promises, and that its problem is that of the part and the left side
 pub record IsAnswered (r : Rewriting) (drawn : Problem → Substitution → Type 0) (next : ℕ) (at left : FlatTerm) (given : Pairs) (solved : Solved) : Type 0 where
@@ -118,18 +117,18 @@ module _ (r : Rewriting) (good : IsGood r.signature) (completed : IsCompleted r.
     turned_by : (s : Bindings) → Contains solved.unifiers s → IsDealtWith r v members s children → IsTurned g v.vars (narrowed v) children (substitution s)
     turned_by s i dealt = record {
       to = successor r good drawn v next ready at turn t members m s u;
-      step = steps d good completed equations usable.admissible v.vars (narrowed v) (successor r good drawn v next ready at turn t members m s u) ready.flat.terms (any_step d v.vars equations drawn (narrowed v) (successor r good drawn v next ready at turn t members m s u) made);
+      step =
+          subst (IsStepUnder d v.vars equations (narrowed v) (successor r good drawn v next ready at turn t members m s u)) (unifier_is r good may_be_any v next ready at turn t members m s any)
+          (steps d good completed equations usable.admissible v.vars (narrowed v) (successor r good may_be_any v next ready at turn t members m s any) ready.flat.terms (step_from r good may_be_any v next ready at turn t members m s any));
       taken = taken dealt;
     }
       where
         u : IsGivenIn r drawn next problem s
         u = given_in r drawn next at left given solved a s i
 
-        made : IsStepFrom d v.vars equations drawn (narrowed v) (successor r good drawn v next ready at turn t members m s u)
-        made = step_from r good drawn v next ready at turn t members m s u
-
-        to : Narrowed
-        to = successor r good drawn v next ready at turn t members m s u
+        -- any unifier might be drawn
+        any : IsGivenIn r may_be_any next problem s
+        any = record { unifies = u.unifies; is_drawn = tt; binds = u.binds; fits = u.fits; after = u.after; numbered = u.numbered; bounded = u.bounded }
 
         brought : (c : Variant) → IsGrown r v members s c → IsBroughtTo g v.vars (successor r good drawn v next ready at turn t members m s u) c
         brought c grown =

@@ -1,43 +1,37 @@
 -- What a unifier makes of the terms with a right side put in is a step from the variant.
-use Rattle.std.proofs.Common.{◌≡◌, ◌≤◌, ◌<◌, ◌+◌, ℕ, true, false, List, [], ◌∷◌, ◌++◌, map, take, drop, None, Some, refl, sym, ap, ◌∙◌, subst, inl, inr, arith}
-use Rattle.std.specs.Prelude.{◌⊎◌, ◌↔◌, Option, Any, Contains}
+use Rattle.std.proofs.Common.{◌≡◌, ◌+◌, ℕ, true, false, List, [], ◌∷◌, ◌++◌, map, take, drop, None, Some, refl, sym, ap, ◌∙◌, subst, inl, inr, arith}
+use Rattle.std.specs.Prelude.{◌⊎◌, Option, Contains}
 use Rattle.std.proofs.lemmas.List.{map-append}
 use Rattle.std.proofs.lemmas.List.Elements.{All-contains}
 use Rattle.fvn_terms.specs.declared.plain.Var.{Var}
-use Rattle.fvn_terms.specs.declared.plain.OpId.{OpId}
 use Rattle.fvn_terms.specs.declared.declarations.Declarations.{Declarations}
-use Rattle.fvn_terms.specs.Term.{Term, var}
-use Rattle.fvn_terms.specs.Signature.{kind, IsSort, IsTerm}
+use Rattle.fvn_terms.specs.Term.{var}
+use Rattle.fvn_terms.specs.Signature.{kind, IsSort}
 use Rattle.fvn_terms.specs.Substitution.{Substitution, apply, Occurs}
 use Rattle.fvn_terms.specs.Equality.{BEqual}
 use Rattle.fvn_terms.specs.Unifiers.{Problem, IsUnifier}
 use Rattle.fvn_terms.proofs.Substitutions.{apply-var}
 use Rattle.fvn_terms.proofs.Equal.{BEqual-refl, BEqual-sym}
-use Rattle.fvn_forms.specs.Flat.{FlatTerm, fvar, fapp, plain}
+use Rattle.fvn_forms.specs.Flat.{FlatTerm, fvar, plain}
 use Rattle.fvn_forms.specs.Canon.{eval, canon, inst}
 use Rattle.fvn_forms.specs.Settled.{Settled, SettledValues}
 use Rattle.fvn_forms.specs.Good.{IsGood}
 use Rattle.fvn_forms.proofs.Eval.{eval_apply, canon_plain}
 use Rattle.fvn_forms.proofs.Instances.{eval_canon}
-use Rattle.fvn_flat.specs.Bindings.{Bindings, bound, form_or, value, BindsOnce, BindingsFit}
-use Rattle.fvn_flat.specs.Drawn.{OccursInValues, renamed}
-use Rattle.fvn_flat.specs.Fits.{Fits}
+use Rattle.fvn_flat.specs.Bindings.{Bindings, bound, form_or, value}
+use Rattle.fvn_flat.specs.Drawn.{OccursInValues}
 use Rattle.fvn_flat.specs.FlatPlaces.{IsReplaced}
 use Rattle.fvn_flat.specs.Forms.{head_of}
 use Rattle.fvn_flat.specs.Problems.{variables_of, plain_pairs, flat_pairs}
-use Rattle.fvn_flat.specs.Rules.{IsRuleOf}
-use Rattle.fvn_flat.specs.Solving.{substitution, problem_of, Binds, IsNumbered}
-use Rattle.fvn_flat.specs.Successors.{Narrowed, IsRenaming, renamed_form, renamed_problem, OccursIn, IsDrawnUpToRenaming, IsStepFrom}
-use Rattle.fvn_flat.specs.declared.solver.Pairs.{Pairs}
+use Rattle.fvn_flat.specs.Solving.{substitution, Binds}
+use Rattle.fvn_flat.specs.Successors.{Narrowed, IsRenaming, renamed_form, renamed_problem, IsDrawnUpToRenaming, IsStepFrom}
 use Rattle.fvn_flat.proofs.Instances.{inst_equal}
 use Rattle.fvn_cover.specs.declared.variant.Variant.{Variant}
 use Rattle.fvn_rewrite.specs.Usable.{Rewriting, equations_by}
-use Rattle.fvn_rewrite_rules.specs.Given.{HasOldVariables}
 use Rattle.fvn_exploring.specs.Children.{narrowed}
 use Rattle.fvn_narrow_children.specs.Paths.{LeadsTo}
 use Rattle.fvn_narrow_children.specs.Putting.{IsPut}
 use Rattle.fvn_narrow_children.specs.Starts.{IsNumberedUpTo}
-use Rattle.fvn_narrow_children.proofs.PathFacts.{leads_once}
 use Rattle.fvn_narrow_children.proofs.Replacing.{split_at}
 use Rattle.fvn_narrow.specs.inner.Turns.{Turn, IsReady, AreMembers}
 use Rattle.fvn_narrow.proofs.Turning.{problem_at, IsFitTurn, IsGivenIn}
@@ -52,7 +46,7 @@ module _ (d : Declarations) where
 
   -- instances by flat values
   pub instance_is : (s : Bindings) → SettledValues d (value s) → (t : FlatTerm) → inst d (value s) t ≡ canon d (apply (substitution s) (plain t))
-  instance_is s settled t = (λ i. eval d (λ x. canon_plain d (value s x) (settled x) (~ i)) (plain t)) ∙ sym (eval_apply d fvar (substitution s) (plain t))
+  instance_is s settled t = sym (eval_apply d fvar (substitution s) (plain t) ∙ (λ i. eval d (λ x. canon_plain d (value s x) (settled x) i) (plain t)))
 
 -- what is not bound stays
 pub unbound_stays : (problem : Problem) (s : Bindings) → Binds problem s → (x : Var) → (Contains (variables_of problem) x → ⊥) → substitution s x ≡ var x
@@ -163,3 +157,8 @@ module _ (r : Rewriting) (good : IsGood r.signature) (drawn : Problem → Substi
       where
         new_is_new : (x : Var) → OccursInValues (variables_of problem) (substitution s) x → IsNumberedUpTo next x → ⊥
         new_is_new x o n = let k = u.numbered o.0 x o.1 o.2 in let low = k.1 in let high = n.high in absurd (omega arith)
+
+    -- its unifier
+    pub unifier_is : step_from.unifier ≡ substitution s
+    unfolding step_from
+    unifier_is = refl

@@ -1,5 +1,5 @@
 -- What is known of a turn, and of a unifier that is given in it.
-use Rattle.std.proofs.Common.{◌≡◌, ◌≤◌, ℕ, [], ◌∷◌}
+use Rattle.std.proofs.Common.{◌≤◌, ℕ, [], ◌∷◌}
 use Rattle.fvn_base.specs.declared.limits.TheConstants.{NEXT_FRESH}
 use Rattle.fvn_terms.specs.Substitution.{Substitution}
 use Rattle.fvn_terms.specs.Unifiers.{Problem, IsUnifier}

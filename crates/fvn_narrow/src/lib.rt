@@ -5,5 +5,6 @@ mod expanding;
 mod narrower;
 mod posing;
 mod stepping;
+mod tools;
 
 pub use narrower::{Narrower, all_shared};

@@ -4,6 +4,7 @@ ghost use Rattle.fvn_rewrite.specs.Usable.{AreUsable};
 ghost use Rattle.fvn_narrow.specs.Settings.{narrowing_setting};
 
 use crate::expanding::expansion;
+use crate::tools::{Asking, Tools};
 use fvn_cover::Variant;
 use fvn_exploring::{Expander, Expansion};
 use fvn_flat::{AxiomSolver, Flat, Normal};
@@ -57,8 +58,16 @@ impl<A: AxiomSolver> Expander for Narrower<'_, A> {
     ghost drawn = { λ n. A.drawn n.solver.now };
 
     // New variables are numbered anew for each variant, so that the number does not matter.
-    fn expand(&self, alloc: Global, v: &Variant, _first_fresh: u32) -> Result<Expansion, NoMemory> {
-        let e = expansion(self, alloc, v)?;
+    fn expand(&self, alloc: Global, v: &Variant, first_fresh: u32) -> Result<Expansion, NoMemory> {
+        let solver = Asking {
+            solver: self.solver,
+        };
+        let tools = Tools {
+            rewriter: &self.rewriter,
+            size: self.bounds.size,
+            solver: &solver,
+        };
+        let e = expansion(&tools, alloc, v, first_fresh)?;
         Ok(e)
     }
 

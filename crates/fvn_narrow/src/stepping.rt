@@ -4,10 +4,10 @@ ghost use Rattle.fvn_flat.specs.Bindings.{BindingsFit};
 ghost use Rattle.fvn_flat.specs.Fits.{AllFit};
 ghost use Rattle.fvn_narrow.specs.inner.Turns.{turn_of, IsReady, CanReplace, AreMembers, IsTurnAt, AreGrownAt, IsAtPart, AreFound};
 
-use crate::narrower::Narrower;
 use crate::posing::{ended, problem};
+use crate::tools::{Solves, Tools};
 use fvn_exploring::Expansion;
-use fvn_flat::{AxiomSolver, Flat, Subst};
+use fvn_flat::{Flat, Subst};
 use fvn_lifting::{successors_are_steps, turns_lift};
 use fvn_narrow_children::{Start, clash, grown, no_children, put, with_one_replaced};
 use fvn_rewrite_laws::{lists_are_lawful, rules_are_lawful};
@@ -43,33 +43,33 @@ fn members(
 }
 
 // The children that the unifiers make.
-fn children<A: AxiomSolver>(
-    narrower: &Narrower<'_, A>,
+fn children<S: Solves>(
+    tools: &Tools<'_, '_, S>,
     alloc: Global,
     start: &Start,
     part: &Part<'_>,
     rule: &Rule,
     unifiers: &[Subst],
 ) -> Result<Expansion, NoMemory>
-    requires ready { IsReady narrower.now.rewriter start.now.variant start.now.next }
-    requires turn { IsTurnAt narrower.now.rewriter start.now.variant part.now.at.now
+    requires ready { IsReady tools.now.rewriter.now start.now.variant start.now.next }
+    requires turn { IsTurnAt tools.now.rewriter.now start.now.variant part.now.at.now
         (turn_of part.now.member part.now.path.now rule.now) }
-    requires unifiers { All (BindingsFit narrower.now.rewriter.signature) unifiers.now }
-    ensures { IfOk result (AreGrownAt narrower.now.rewriter start.now.variant
+    requires unifiers { All (BindingsFit tools.now.rewriter.now.signature) unifiers.now }
+    ensures { IfOk result (AreGrownAt tools.now.rewriter.now start.now.variant
         (turn_of part.now.member part.now.path.now rule.now) unifiers.now) }
 {
     if unifiers.is_empty() {
         return Ok(no_children(alloc));
     }
-    narrower.rewriter.recall();
+    tools.rewriter.recall();
     rules_are_lawful();
-    let sig = narrower.rewriter.signature();
+    let sig = tools.rewriter.signature();
     let terms = start.variant.terms.as_slice();
     let all = members(alloc, sig, terms, part, &rule.right)?;
     let e = grown(
         alloc,
-        &narrower.rewriter,
-        narrower.bounds.size,
+        tools.rewriter,
+        tools.size,
         &start.variant,
         all.as_slice(),
         unifiers,
@@ -78,39 +78,32 @@ fn children<A: AxiomSolver>(
 }
 
 // The children by a rule that is needed under the head of a part; the solver is not asked where the two clash.
-pub(crate) fn by_rule<A: AxiomSolver>(
-    narrower: &Narrower<'_, A>,
+pub(crate) fn by_rule<S: Solves>(
+    tools: &Tools<'_, '_, S>,
     alloc: Global,
     start: &Start,
     part: &Part<'_>,
     rule: &Rule,
 ) -> Result<Expansion, NoMemory>
-    requires ready { IsReady narrower.now.rewriter start.now.variant start.now.next }
-    requires turn { IsTurnAt narrower.now.rewriter start.now.variant part.now.at.now
+    requires ready { IsReady tools.now.rewriter.now start.now.variant start.now.next }
+    requires turn { IsTurnAt tools.now.rewriter.now start.now.variant part.now.at.now
         (turn_of part.now.member part.now.path.now rule.now) }
-    ensures { IfOk result (AreFound narrower.now.rewriter (A.most_unifiers narrower.now.solver.now)
-        (A.drawn narrower.now.solver.now) start.now.variant
+    ensures { IfOk result (AreFound tools.now.rewriter.now (S.most_unifiers tools.now.solver.now)
+        (S.drawn tools.now.solver.now) start.now.variant
         (IsAtPart part.now.member part.now.path.now (rule.now ∷ []))) }
 {
-    narrower.rewriter.recall();
+    tools.rewriter.recall();
     rewriting_is_lawful();
     lists_are_lawful();
     rules_are_lawful();
     successors_are_steps();
     turns_lift();
-    let clashing = clash(narrower.rewriter.signature(), part.at, &rule.left);
+    let clashing = clash(tools.rewriter.signature(), part.at, &rule.left);
     if clashing {
         return Ok(no_children(alloc));
     }
     let given = problem(alloc, part.at, &rule.left)?;
-    let solved = narrower.solver.solve(alloc, &given, start.next)?;
-    let grown = children(
-        narrower,
-        alloc,
-        start,
-        part,
-        rule,
-        solved.unifiers.as_slice(),
-    )?;
+    let solved = tools.solver.solve(alloc, &given, start.next)?;
+    let grown = children(tools, alloc, start, part, rule, solved.unifiers.as_slice())?;
     Ok(ended(given, solved, grown))
 }

@@ -1,5 +1,5 @@
 -- An operator without identity heads each instance of what it heads; one without axioms keeps its arguments apart.
-use Rattle.std.proofs.Common.{◌≡◌, ℕ, zero, suc, ◌+◌, ◌<◌, ◌≤◌, true, false, List, [], ◌∷◌, ◌++◌, map, length, get_or, None, Some, refl, sym, ap, ◌∙◌, subst, arith}
+use Rattle.std.proofs.Common.{◌≡◌, ℕ, zero, suc, ◌<◌, ◌≤◌, true, false, List, [], ◌∷◌, map, length, get_or, None, Some, refl, sym, ap, ◌∙◌, subst, arith}
 use Rattle.std.specs.Prelude.{Bool, not, slice_get}
 use Rattle.std.specs.List.{AllByRecursion}
 use Rattle.std.proofs.lemmas.List.{length-append}
@@ -9,7 +9,6 @@ use Rattle.fvn_terms.specs.declared.plain.OpId.{OpId}
 use Rattle.fvn_terms.specs.declared.declarations.Axioms.{Axioms}
 use Rattle.fvn_terms.specs.declared.declarations.Axioms.TheVariants.{Free, Comm, AssocComm, AssocCommId}
 use Rattle.fvn_terms.specs.declared.declarations.Declarations.{Declarations}
-use Rattle.fvn_terms.specs.Term.{Terms}
 use Rattle.fvn_terms.specs.Signature.{axioms}
 use Rattle.fvn_terms.specs.Substitution.{Substitution, apply, apply_all}
 use Rattle.fvn_terms.specs.Equality.{IsAssociative, identity}
@@ -20,7 +19,7 @@ use Rattle.fvn_forms.specs.Settled.{FitsUnjoined, Settled, SettledValues}
 use Rattle.fvn_forms.proofs.InOrder.{length_sort}
 use Rattle.fvn_forms.proofs.Sums.{funpack-fpack, same_op_itself, same_op_is}
 use Rattle.fvn_forms.proofs.Build.{parts_none}
-use Rattle.fvn_forms.proofs.Eval.{fvar_settled, canon_settled, eval_all_settled, eval_apply, eval_nest}
+use Rattle.fvn_forms.proofs.Eval.{canon_settled, eval_all_settled, eval_apply, eval_nest}
 use Rattle.fvn_flat.specs.Forms.{head_of, args_of}
 use Rattle.fvn_narrow_children.specs.Clashes.{NeverMeet, SomeNeverMeet}
 

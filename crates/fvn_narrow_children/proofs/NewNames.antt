@@ -1,12 +1,11 @@
 -- New variables for those of a list.
-use Rattle.std.proofs.Common.{◌≡◌, ℕ, ◌+◌, ◌≤◌, ◌<◌, Bool, true, false, List, [], ◌∷◌, Some, None, refl, sym, ap, ◌∙◌, subst, inl, inr}
+use Rattle.std.proofs.Common.{◌≡◌, ℕ, ◌+◌, Bool, true, false, List, [], ◌∷◌, Some, refl, sym, ap, ◌∙◌, subst, inl, inr}
 use Rattle.std.specs.Prelude.{◌||◌, ◌⊎◌, if◌then◌else◌, Contains}
-use Rattle.std.proofs.lemmas.Bool.{or_parts}
 use Rattle.fvn_base.proofs.Membership.{contains_here, contains_later, contains_cases, contains_none}
 use Rattle.fvn_terms.specs.declared.plain.Var.{Var}
 use Rattle.fvn_terms.specs.Substitution.{same_var, Occurs}
 use Rattle.fvn_terms.proofs.Variables.{same_var_is}
-use Rattle.fvn_forms.specs.Flat.{FlatTerm, fvar, plain}
+use Rattle.fvn_forms.specs.Flat.{fvar, plain}
 use Rattle.fvn_flat.specs.Bindings.{Bindings, bound, form_or, value}
 use Rattle.fvn_flat.specs.Variables.{listed, with_variables, fresh_for, renaming}
 use Rattle.fvn_flat.proofs.ListedVariables.{Distinct, with_variables_distinct, still_listed, occurring_listed}

@@ -1,5 +1,5 @@
 -- A form is replaced at one place exactly where some path leads there.
-use Rattle.std.proofs.Common.{◌≡◌, ℕ, zero, suc, ◌+◌, ◌<◌, ◌≤◌, Bool, List, [], ◌∷◌, ◌++◌, map, length, take, drop, get_or, None, Some, refl, sym, ap, ◌∙◌, subst, arith}
+use Rattle.std.proofs.Common.{◌≡◌, ℕ, zero, suc, ◌+◌, ◌<◌, ◌≤◌, List, [], ◌∷◌, ◌++◌, map, length, take, drop, get_or, None, Some, refl, sym, ap, ◌∙◌, subst, arith}
 use Rattle.std.specs.Prelude.{◌↔◌, Contains, slice_get}
 use Rattle.std.proofs.lemmas.List.Elements.{Contains-append_left, Contains-append_right}
 use Rattle.std.proofs.lemmas.List.{append-nil, append_assoc, map-append, take_more, take_all, drop_more, drop_all, length-take}
@@ -11,7 +11,7 @@ use Rattle.fvn_forms.specs.Flat.{FlatTerm, FlatTerms, fvar, fapp, fnone, fmore, 
 use Rattle.fvn_forms.proofs.Sums.{fpack-funpack}
 use Rattle.fvn_flat.specs.Forms.{head_of, args_of}
 use Rattle.fvn_flat.specs.FlatPlaces.{IsReplaced, IsReplacedAmong, here, inside, first, later}
-use Rattle.fvn_narrow_children.specs.Paths.{LeadsTo, LeadsNowhere, paths, paths_from, paths_after}
+use Rattle.fvn_narrow_children.specs.Paths.{LeadsTo, paths, paths_from, paths_after}
 
 same_item : {A : Type 0} (a b : A) → Some a ≡ Some b → a ≡ b
 same_item a b e = cc

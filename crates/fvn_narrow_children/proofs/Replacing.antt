@@ -3,7 +3,6 @@ use Rattle.std.proofs.Common.{◌≡◌, ℕ, zero, suc, ◌+◌, ◌≤◌, Boo
 use Rattle.std.specs.Prelude.{slice_get}
 use Rattle.std.specs.List.{AllByRecursion}
 use Rattle.std.proofs.lemmas.List.{length-append}
-use Rattle.std.proofs.lemmas.Option.{slice_get_within}
 use Rattle.fvn_terms.specs.declared.plain.OpId.{OpId}
 use Rattle.fvn_terms.specs.declared.plain.SortId.{SortId}
 use Rattle.fvn_terms.specs.declared.declarations.Axioms.{Axioms}
@@ -23,7 +22,7 @@ use Rattle.fvn_forms.proofs.Eval.{fvar_settled, eval_nest, canon_plain}
 use Rattle.fvn_forms.proofs.KindsOfSums.{nest_parts_of_kind}
 use Rattle.fvn_flat.specs.Forms.{head_of, args_of}
 use Rattle.fvn_flat.specs.FlatPlaces.{IsReplaced, IsReplacedAmong, here, inside, first, later}
-use Rattle.fvn_flat.specs.Fits.{Fits, AllFit, AllOfKind, TakesAsDeclared, Takes}
+use Rattle.fvn_flat.specs.Fits.{Fits, AllOfKind, TakesAsDeclared, Takes}
 use Rattle.fvn_narrow_children.specs.Putting.{KeepsKindsOf}
 
 -- what stands around the member at a place

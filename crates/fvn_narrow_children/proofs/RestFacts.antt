@@ -1,11 +1,11 @@
 -- What is told of a form whose normal form was sought.
-use Rattle.std.proofs.Common.{◌≡◌, ◌≤◌, ◌<◌, ◌+◌, ℕ, List, [], ◌∷◌, ◌++◌, map, take, length, get_or, Some, refl, sym, ap, ◌∙◌, subst, arith}
+use Rattle.std.proofs.Common.{◌≡◌, ◌≤◌, ◌<◌, ◌+◌, ℕ, List, [], ◌∷◌, ◌++◌, map, take, length, get_or, sym, ap, ◌∙◌, subst, arith}
 use Rattle.std.specs.Prelude.{Contains}
 use Rattle.std.specs.List.{AllZip}
 use Rattle.std.proofs.lemmas.List.{take_all, map_more}
 use Rattle.std.proofs.lemmas.List.Elements.{AllZip-push, Contains-get_or}
 use Rattle.fvn_base.proofs.Membership.{contains_map}
-use Rattle.fvn_forms.specs.Flat.{FlatTerm, plain, symbols}
+use Rattle.fvn_forms.specs.Flat.{FlatTerm}
 use Rattle.fvn_rewrite_laws.specs.Normalised.{IsReached, IsForm, IsUnfinished, IsTooLarge}
 use Rattle.fvn_rewrite.specs.Usable.{Rewriting, equations_by}
 use Rattle.fvn_narrow_children.specs.Growing.{IsFormOf, IsUnrested, IsOverlarge}

@@ -1,27 +1,27 @@
 -- A variant under a renaming to new variables is a start.
-use Rattle.std.proofs.Common.{◌≡◌, ℕ, ◌+◌, ◌≤◌, ◌<◌, true, List, [], ◌∷◌, map, length, Some, None, refl, sym, ap, ◌∙◌, subst, inl, inr, arith}
-use Rattle.std.specs.Prelude.{◌⊎◌, All, Any, Contains}
+use Rattle.std.proofs.Common.{◌≡◌, ℕ, ◌≤◌, ◌<◌, List, [], ◌∷◌, map, refl, sym, ap, ◌∙◌, subst, inl, inr}
+use Rattle.std.specs.Prelude.{All, Any, Contains}
 use Rattle.std.proofs.lemmas.List.Elements.{All-contains, All-from_recursion}
 use Rattle.fvn_base.specs.declared.limits.TheConstants.{FIRST_FRESH}
 use Rattle.fvn_base.proofs.Membership.{map_contains}
 use Rattle.fvn_terms.specs.declared.plain.Var.{Var}
 use Rattle.fvn_terms.specs.declared.declarations.Declarations.{Declarations}
-use Rattle.fvn_terms.specs.Term.{Term, var}
+use Rattle.fvn_terms.specs.Term.{var}
 use Rattle.fvn_terms.specs.Signature.{kind, IsSort, IsTerm}
-use Rattle.fvn_terms.specs.Substitution.{Substitution, apply, Occurs}
+use Rattle.fvn_terms.specs.Substitution.{apply, Occurs}
 use Rattle.fvn_terms.specs.Equality.{BEqual}
 use Rattle.fvn_terms.proofs.Equal.{BEqual-sym}
 use Rattle.fvn_terms.proofs.Occurrences.{occurs_value, occurs_instance, BEqual-occurs}
 use Rattle.fvn_forms.specs.Flat.{FlatTerm, fvar, plain}
-use Rattle.fvn_forms.specs.Canon.{eval, canon, inst}
+use Rattle.fvn_forms.specs.Canon.{eval, inst}
 use Rattle.fvn_forms.specs.Good.{IsGood}
 use Rattle.fvn_forms.proofs.Eval.{eval_apply}
-use Rattle.fvn_flat.specs.Bindings.{Bindings, bound, form_or, value, BindingsFit}
-use Rattle.fvn_flat.specs.Variables.{listed, fresh_for, renaming, RenamesApart}
-use Rattle.fvn_flat.specs.Drawn.{Renaming, renamed, OccursInValues}
+use Rattle.fvn_flat.specs.Bindings.{Bindings, form_or, value, BindingsFit}
+use Rattle.fvn_flat.specs.Variables.{fresh_for, renaming, RenamesApart}
+use Rattle.fvn_flat.specs.Drawn.{Renaming, renamed}
 use Rattle.fvn_flat.specs.Fits.{Fits, AllFit}
 use Rattle.fvn_flat.specs.Solving.{substitution}
-use Rattle.fvn_flat.specs.Successors.{IsRenaming, renamed_form, OccursIn}
+use Rattle.fvn_flat.specs.Successors.{renamed_form, OccursIn}
 use Rattle.fvn_flat.proofs.Instances.{inst_equal, inst_fits}
 use Rattle.fvn_cover.specs.declared.variant.Variant.{Variant}
 use Rattle.fvn_cover.specs.Covering.{IsFlatVariant}

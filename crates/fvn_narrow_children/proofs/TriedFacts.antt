@@ -1,13 +1,12 @@
 -- What is told of a unifier under which a value is reducible, or too large.
-use Rattle.std.proofs.Common.{◌≡◌, ◌<◌, ℕ, List, refl, sym, ap, ◌∙◌, subst, inr}
-use Rattle.std.specs.Prelude.{All, Contains}
+use Rattle.std.proofs.Common.{◌≡◌, ◌<◌, ℕ, List, sym, ◌∙◌, subst, inr}
+use Rattle.std.specs.Prelude.{Contains}
 use Rattle.std.proofs.lemmas.List.Elements.{All-contains}
 use Rattle.fvn_terms.specs.declared.plain.Var.{Var}
-use Rattle.fvn_terms.specs.Signature.{kind, IsSort, HasKind}
+use Rattle.fvn_terms.specs.Signature.{kind, IsSort}
 use Rattle.fvn_terms.specs.Places.{stop}
 use Rattle.fvn_terms.specs.Rewriting.{IsReducible}
 use Rattle.fvn_forms.specs.Flat.{FlatTerm, plain, symbols}
-use Rattle.fvn_forms.specs.Canon.{inst}
 use Rattle.fvn_flat.specs.Bindings.{Bindings, value}
 use Rattle.fvn_flat.specs.Fits.{Fits}
 use Rattle.fvn_cover.specs.declared.variant.Variant.{Variant}

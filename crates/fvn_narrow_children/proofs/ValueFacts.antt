@@ -1,22 +1,19 @@
 -- Values under a substitution, and which of them are reducible.
-use Rattle.std.proofs.Common.{◌≡◌, ◌<◌, ◌-◌, ◌^◌, ℕ, Bool, true, false, List, None, Some, refl, sym, ap, ◌∙◌, subst, arith}
+use Rattle.std.proofs.Common.{◌≡◌, ◌<◌, ◌-◌, ◌^◌, ℕ, Bool, List, None, Some, refl, sym, ap, ◌∙◌, subst, arith}
 use Rattle.std.specs.Prelude.{Contains, Option, is_some, min, IfSome}
 use Rattle.fvn_terms.specs.declared.plain.Var.{Var}
 use Rattle.fvn_terms.specs.declared.declarations.Declarations.{Declarations}
-use Rattle.fvn_terms.specs.Term.{Term, var}
 use Rattle.fvn_terms.specs.Theory.{Equations}
 use Rattle.fvn_terms.specs.Signature.{kind, IsSort}
-use Rattle.fvn_terms.specs.Rewriting.{IsReducible, IsIrreducible}
-use Rattle.fvn_forms.specs.Flat.{FlatTerm, fvar, plain, symbols}
-use Rattle.fvn_forms.specs.Canon.{inst}
+use Rattle.fvn_terms.specs.Rewriting.{IsIrreducible}
+use Rattle.fvn_forms.specs.Flat.{FlatTerm, plain, symbols}
 use Rattle.fvn_flat.specs.Bindings.{Bindings, bound, form_or, value, composed, BindingsFit, IsRestriction}
-use Rattle.fvn_flat.specs.Fits.{Fits}
 use Rattle.fvn_flat.specs.Solving.{substitution}
 use Rattle.fvn_flat.proofs.Composing.{value-composed, restriction_fits}
 use Rattle.fvn_cover.specs.declared.variant.Variant.{Variant}
 use Rattle.fvn_rewrite_coherence.specs.Laws.{CoherenceLaws}
 use Rattle.fvn_rewrite_laws.specs.Normalised.{StepsTo, IsNormalForm}
-use Rattle.fvn_narrow_children.specs.Values.{AreValuesUnder, IsLargeValue, ReducibleAs, AreIrreducible, HaveReducible, AreReducibleAs}
+use Rattle.fvn_narrow_children.specs.Values.{AreValuesUnder, IsLargeValue, ReducibleAs}
 
 pub values_of_restriction : (d : Declarations) (v : Variant) (s all r : Bindings) → all ≡ composed d v.subst s → BindingsFit d all → IsRestriction v.vars all r → AreValuesUnder d v s r
 values_of_restriction d v s all r is fits own = record {

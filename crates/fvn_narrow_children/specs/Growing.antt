@@ -6,7 +6,6 @@ use Rattle.fvn_terms.specs.Rewriting.{IsReducible}
 use Rattle.fvn_forms.specs.Flat.{FlatTerm, plain, symbols}
 use Rattle.fvn_forms.specs.Canon.{inst}
 use Rattle.fvn_flat.specs.Bindings.{Bindings, value}
-use Rattle.fvn_flat.specs.declared.solver.SizeCause.{SizeCause}
 use Rattle.fvn_flat.specs.declared.solver.SizeCause.TheVariants.{Problem as OfProblem, Binding, Term as OfTerm}
 use Rattle.fvn_rewrite_laws.specs.Normalised.{IsReached, IsNormalForm}
 use Rattle.fvn_rewrite.specs.Usable.{Rewriting, equations_by}

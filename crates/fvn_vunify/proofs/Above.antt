@@ -1,6 +1,6 @@
 -- What is found for a variant that covers the normal forms of the sides is above the unifier in the theory.
-use Rattle.std.proofs.Common.{◌≤◌, ℕ, List, map, subst}
-use Rattle.std.specs.List.{All, Any, Contains}
+use Rattle.std.proofs.Common.{◌≤◌, ℕ, List, map}
+use Rattle.std.specs.List.{Any, Contains}
 use Rattle.fvn_terms.specs.declared.plain.Var.{Var}
 use Rattle.fvn_terms.specs.Term.{Term}
 use Rattle.fvn_terms.specs.Substitution.{Substitution, apply}
@@ -16,12 +16,12 @@ use Rattle.fvn_rewrite_normal_forms.specs.NormalForms.{HaveNormalForms}
 use Rattle.fvn_rewrite_normal_forms.proofs.Normalising.{normal_forms_within}
 use Rattle.fvn_cover.specs.declared.variant.Variant.{Variant}
 use Rattle.fvn_exploring.specs.Setting.{Setting, AreLawfulIn}
-use Rattle.fvn_exploring.specs.Explorations.{IsVariantOf, IsCovered}
+use Rattle.fvn_exploring.specs.Explorations.{IsVariantOf}
 use Rattle.fvn_vunify.specs.Sides.{sides_in_turn, problem_over}
 use Rattle.fvn_vunify.specs.Solutions.{IsIrreducibleUnifier}
 use Rattle.fvn_vunify.specs.inner.Attempts.{AreWholeFor}
 use Rattle.fvn_vunify.proofs.Known.{AreKnown, lists_decided}
-use Rattle.fvn_vunify.proofs.TwoByTwo.{plain_sides, variable_of_sides, side_has_variable, sides_kinded, normal_forms_unified}
+use Rattle.fvn_vunify.proofs.TwoByTwo.{plain_sides, side_has_variable, sides_kinded, normal_forms_unified}
 
 module _ (g : Setting) (fits : FitsKinds g.declarations) (known : AreKnown g.declarations g.equations) (lawful : AreLawfulIn g)
     (pairs : FlatPairs) (kinds : IsProblem g.declarations (plain_pairs pairs)) (s : Substitution) (h : IsIrreducibleUnifier g (plain_pairs pairs) s) where

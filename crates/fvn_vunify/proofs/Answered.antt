@@ -1,12 +1,12 @@
 -- What is promised of the answer, from what was found for each variant.
-use Rattle.std.proofs.Common.{◌≡◌, ◌≢◌, ◌≤◌, ◌⊎◌, ℕ, Bool, true, false, List, [], ◌∷◌, map, get_or, refl, sym, ap, ◌∙◌, subst, inl, inr}
-use Rattle.std.specs.Prelude.{All, Any, Contains, if◌then◌else◌}
-use Rattle.std.proofs.lemmas.List.Elements.{All-map, All-head, All-tail, All-contains}
+use Rattle.std.proofs.Common.{◌≡◌, ◌≢◌, ◌≤◌, ◌⊎◌, ℕ, List, [], ◌∷◌, map, refl, sym, ap, ◌∙◌, subst, inl, inr}
+use Rattle.std.specs.Prelude.{All, Any, Contains}
+use Rattle.std.proofs.lemmas.List.Elements.{All-map, All-head, All-contains}
 use Rattle.fvn_base.proofs.Membership.{contains_none}
 use Rattle.fvn_terms.specs.declared.plain.Var.{Var}
 use Rattle.fvn_terms.specs.Term.{Term}
 use Rattle.fvn_terms.specs.Substitution.{Substitution, apply}
-use Rattle.fvn_terms.specs.Unifiers.{Problem, IsInstance}
+use Rattle.fvn_terms.specs.Unifiers.{Problem}
 use Rattle.fvn_terms.specs.Rewriting.{ListSequence, IsTerminating, IsConfluent}
 use Rattle.fvn_terms.specs.Variants.{Covers}
 use Rattle.fvn_terms.specs.Laws.{InstancesAreTransitive}
@@ -32,7 +32,7 @@ use Rattle.fvn_exploring.specs.LevelRuns.{AreVariablesOf}
 use Rattle.fvn_exploring.specs.Explorations.{IsFound, IsCovered}
 use Rattle.fvn_vunify.specs.Sides.{sides_in_turn}
 use Rattle.fvn_vunify.specs.Solutions.{IsIrreducibleUnifier, IsInstanceOfSome}
-use Rattle.fvn_vunify.specs.Causes.{IsPairsCause, MeetsBound}
+use Rattle.fvn_vunify.specs.Causes.{MeetsBound}
 use Rattle.fvn_vunify.specs.Solved.{IsExploredFor, HasSmallValues, StopsAtPairs, IsWithinExplored, IsSolvedModulo}
 use Rattle.fvn_vunify.specs.inner.Ends.{end_after}
 use Rattle.fvn_vunify.specs.inner.Attempts.{first_variables, IsCandidate, AreWholeFor, AreAttempts}

@@ -1,35 +1,31 @@
 -- What is found for one variant, from the solver's answer and the tests.
-use Rattle.std.proofs.Common.{◌≡◌, ◌≢◌, ◌<◌, ◌≤◌, ◌⊎◌, ℕ, true, List, [], ◌∷◌, map, length, get_or, refl, sym, ap, ◌∙◌, subst, inl, inr, arith, Option, Some, None}
+use Rattle.std.proofs.Common.{◌≡◌, ◌≢◌, ◌<◌, ◌⊎◌, ℕ, List, map, length, refl, sym, ap, ◌∙◌, subst, inl, inr, arith, Option, Some, None}
 use Rattle.std.specs.Prelude.{All, Any, Contains}
 use Rattle.std.proofs.lemmas.List.Elements.{All-contains, All-weaker, All-contains_itself}
 use Rattle.fvn_base.proofs.Membership.{map_contains}
 use Rattle.fvn_terms.specs.declared.plain.Var.{Var}
-use Rattle.fvn_terms.specs.declared.declarations.Declarations.{Declarations}
-use Rattle.fvn_terms.specs.Term.{Term, var}
-use Rattle.fvn_terms.specs.Substitution.{Substitution, apply, followed_by, Occurs}
+use Rattle.fvn_terms.specs.Term.{var}
+use Rattle.fvn_terms.specs.Substitution.{Substitution, apply, followed_by}
 use Rattle.fvn_terms.specs.Signature.{kind, IsSort}
 use Rattle.fvn_terms.specs.Equality.{BEqual}
 use Rattle.fvn_terms.specs.Sorts.{IsWellSorted}
 use Rattle.fvn_terms.specs.Unifiers.{Problem, IsUnifier, IsInstance}
 use Rattle.fvn_terms.specs.Rewriting.{IsIrreducible}
 use Rattle.fvn_terms.proofs.Substitutions.{apply-apply}
-use Rattle.fvn_terms.proofs.Equal.{BEqual-trans}
 use Rattle.fvn_forms.specs.Flat.{FlatTerm, plain}
-use Rattle.fvn_forms.specs.Canon.{canon, inst}
+use Rattle.fvn_forms.specs.Canon.{inst}
 use Rattle.fvn_forms.specs.Good.{IsGood}
 use Rattle.fvn_forms.proofs.Eval.{canon_plain}
 use Rattle.fvn_flat.specs.Bindings.{Bindings, bound, form_or, value, composed, BindsOnce, BindingsFit}
-use Rattle.fvn_flat.specs.Drawn.{OccursInValues, renamed}
+use Rattle.fvn_flat.specs.Drawn.{OccursInValues}
 use Rattle.fvn_flat.specs.Fits.{Fits}
 use Rattle.fvn_flat.specs.Problems.{variables_of, plain_pairs}
 use Rattle.fvn_flat.specs.Solving.{substitution, symbols_of_pairs, problem_of, Binds, IsNumbered, AreUnifiers, AreDrawn, AreBindings, AreNumbered, AreApart, AreComplete, HasCause, IsCause}
 use Rattle.fvn_flat.specs.Successors.{OccursIn}
-use Rattle.fvn_flat.specs.Variables.{listed}
 use Rattle.fvn_flat.specs.declared.solver.Pairs.{Pairs}
 use Rattle.fvn_flat.specs.declared.solver.Solved.{Solved}
 use Rattle.fvn_flat.specs.declared.solver.SolveEnd.{SolveEnd}
 use Rattle.fvn_flat.specs.declared.solver.SolveEnd.TheVariants.{Complete, Basis as BasisOfSolver, Unifiers as UnifiersOfSolver, Size as SizeOfSolver}
-use Rattle.fvn_flat.specs.declared.solver.SizeCause.{SizeCause}
 use Rattle.fvn_flat.specs.declared.solver.SizeCause.TheVariants.{Problem as OfProblem, Binding, Term as OfTerm}
 use Rattle.fvn_rewrite_laws.specs.Normalised.{IsReached}
 use Rattle.fvn_rewrite_laws.specs.Laws.{SequenceLaws}
@@ -42,8 +38,8 @@ use Rattle.fvn_vunify.specs.Sides.{two_by_two, problem_over}
 use Rattle.fvn_vunify.specs.Causes.{IsPairsProblem, IsDrawnSolution, IsOfSolution, IsPairsCause}
 use Rattle.fvn_vunify.specs.inner.Ends.{end_of_pairs, first_end}
 use Rattle.fvn_vunify.specs.inner.Names.{AreFreshNames}
-use Rattle.fvn_vunify.specs.inner.Tests.{IsStopOf, IsUnfinished, GrowsTo, IsLargeCause}
-use Rattle.fvn_vunify.specs.inner.Attempts.{IsSolvable, IsTestedAs, IsStopBetween, AreTested, IsCandidate, AreWholeFor, IsAttempt}
+use Rattle.fvn_vunify.specs.inner.Tests.{IsUnfinished, GrowsTo}
+use Rattle.fvn_vunify.specs.inner.Attempts.{IsSolvable, IsTestedAs, IsStopBetween, AreTested, IsCandidate, IsAttempt}
 use Rattle.fvn_vunify.proofs.NewNames.{name_of, name_is_fresh}
 use Rattle.fvn_vunify.proofs.Posing.{with_names, renamed_before, named_by, is_renamed, posed}
 use Rattle.fvn_vunify.proofs.Joined.{seen, seen_unifies, back, back_unifies, joined_value, after, after_sorted, joined_above}

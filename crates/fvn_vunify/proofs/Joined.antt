@@ -1,29 +1,27 @@
 -- A variant's substitution with new names, and then a unifier of the solver.
-use Rattle.std.proofs.Common.{◌≡◌, ◌<◌, ◌≤◌, ◌⊎◌, ℕ, Bool, true, false, List, [], ◌∷◌, map, refl, sym, ap, ◌∙◌, subst, inl, inr, arith, Some, None, Option}
-use Rattle.std.specs.Prelude.{All, Any, Contains, nat_lt, if◌then◌else◌}
+use Rattle.std.proofs.Common.{◌≡◌, ◌<◌, ◌≤◌, ℕ, Bool, true, false, List, [], ◌∷◌, map, refl, sym, ap, ◌∙◌, subst, inl, Some, None, Option}
+use Rattle.std.specs.Prelude.{Contains, nat_lt}
 use Rattle.std.proofs.lemmas.Bool.{lt-ltb, le-ltb, true≢false}
 use Rattle.std.proofs.lemmas.List.Elements.{All-nil, All-cons, All-head, All-tail}
 use Rattle.fvn_base.proofs.Membership.{contains_here, contains_later}
 use Rattle.fvn_terms.specs.declared.plain.Var.{Var}
-use Rattle.fvn_terms.specs.declared.plain.SortId.{SortId}
-use Rattle.fvn_terms.specs.declared.declarations.Declarations.{Declarations}
 use Rattle.fvn_terms.specs.Term.{Term, var}
 use Rattle.fvn_terms.specs.Substitution.{Substitution, apply, followed_by, Occurs}
 use Rattle.fvn_terms.specs.Signature.{kind, IsSort, HasKind, IsTerm, KeepsKinds}
 use Rattle.fvn_terms.specs.Places.{stop}
 use Rattle.fvn_terms.specs.Equality.{BEqual}
 use Rattle.fvn_terms.specs.Sorts.{HasSort, IsWellSorted}
-use Rattle.fvn_terms.specs.Unifiers.{Problem, IsUnifier, Solves, IsInstance}
+use Rattle.fvn_terms.specs.Unifiers.{IsUnifier, Solves, IsInstance}
 use Rattle.fvn_terms.proofs.Substitutions.{apply-apply, apply-agree}
 use Rattle.fvn_terms.proofs.Equal.{BEqual-sym, BEqual-trans, BEqual-apply}
-use Rattle.fvn_forms.specs.Flat.{FlatTerm, fvar, plain}
+use Rattle.fvn_forms.specs.Flat.{FlatTerm, plain}
 use Rattle.fvn_forms.specs.Canon.{inst}
 use Rattle.fvn_forms.specs.Good.{IsGood}
 use Rattle.fvn_flat.specs.Bindings.{Bindings, bound, form_or, value, composed, BindingsFit}
-use Rattle.fvn_flat.specs.Drawn.{OccursInValues, renamed}
-use Rattle.fvn_flat.specs.Fits.{Fits, AllFit}
+use Rattle.fvn_flat.specs.Drawn.{renamed}
+use Rattle.fvn_flat.specs.Fits.{AllFit}
 use Rattle.fvn_flat.specs.Problems.{variables_of, plain_pairs}
-use Rattle.fvn_flat.specs.Solving.{FlatPairs, substitution, problem_of, Binds, IsNumbered}
+use Rattle.fvn_flat.specs.Solving.{substitution, problem_of, Binds, IsNumbered}
 use Rattle.fvn_flat.specs.Successors.{renamed_form}
 use Rattle.fvn_flat.specs.Variables.{listed}
 use Rattle.fvn_flat.specs.declared.solver.Pairs.{Pairs}
@@ -36,7 +34,7 @@ use Rattle.fvn_exploring.specs.Setting.{Setting}
 use Rattle.fvn_vunify.specs.Sides.{two_by_two, problem_over}
 use Rattle.fvn_vunify.specs.inner.Names.{AreFreshNames}
 use Rattle.fvn_vunify.specs.inner.Attempts.{IsSolvable}
-use Rattle.fvn_vunify.proofs.NewNames.{name_of, named, name_sort, name_is_fresh, back_from, back_name, back_sort}
+use Rattle.fvn_vunify.proofs.NewNames.{name_of, name_sort, name_is_fresh, back_from, back_name, back_sort}
 use Rattle.fvn_vunify.proofs.Posing.{inst_is_renamed, renamed_equal, renamed_term, held, is_renamed}
 
 module _ (g : Setting) (good : IsGood g.declarations) (vars : List Var) (v : Variant) (solvable : IsSolvable g vars v)

@@ -1,16 +1,15 @@
 -- New names for variables, and the way back.
-use Rattle.std.proofs.Common.{◌≡◌, ℕ, ◌+◌, ◌<◌, ◌≤◌, Bool, true, false, List, [], ◌∷◌, map, length, get_or, take, refl, sym, ap, ◌∙◌, subst, inl, inr, arith, Some}
+use Rattle.std.proofs.Common.{◌≡◌, ℕ, ◌+◌, ◌<◌, ◌≤◌, Bool, true, false, List, [], ◌∷◌, length, get_or, take, refl, sym, ap, ◌∙◌, subst, inl, inr, arith, Some}
 use Rattle.std.specs.Prelude.{if◌then◌else◌, find, unwrap_or, cond, Contains}
 use Rattle.std.proofs.lemmas.List.{get_or-map, length-map, take_all}
-use Rattle.fvn_base.proofs.Membership.{contains_here, contains_later, contains_cases, contains_none, find_or, contains_map}
+use Rattle.fvn_base.proofs.Membership.{contains_cases, contains_none, find_or, contains_map}
 use Rattle.fvn_terms.specs.declared.plain.Var.{Var}
-use Rattle.fvn_terms.specs.declared.plain.SortId.{SortId}
 use Rattle.fvn_terms.specs.Substitution.{same_var, Occurs}
 use Rattle.fvn_forms.specs.Flat.{FlatTerm, fvar, fapp, fpack, plain}
 use Rattle.fvn_flat.specs.Bindings.{Bindings, bound, form_or, value}
 use Rattle.fvn_flat.specs.Drawn.{Renaming, OccursInValues}
 use Rattle.fvn_flat.specs.Solving.{substitution}
-use Rattle.fvn_flat.specs.Variables.{listed, with_variables, with_all_variables, fresh_for, renaming, RenamesApart}
+use Rattle.fvn_flat.specs.Variables.{listed, with_variables, with_all_variables, fresh_for, renaming}
 use Rattle.fvn_flat.proofs.Binding.{same_var_is, same_var_itself}
 use Rattle.fvn_flat.proofs.ListedVariables.{Distinct, with_all_distinct, with_all-step, occurring_listed, still_all_listed}
 use Rattle.fvn_rewrite_laws.proofs.Listing.{var_listed}

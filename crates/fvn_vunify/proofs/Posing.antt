@@ -1,30 +1,30 @@
 -- The pairs of a variant with new names may be given to a solver, and are posed for it.
-use Rattle.std.proofs.Common.{◌≡◌, ◌<◌, ◌⊎◌, ℕ, true, List, [], ◌∷◌, ◌++◌, map, refl, sym, ap, ◌∙◌, subst, inl, inr}
-use Rattle.std.specs.Prelude.{All, Any, Contains}
+use Rattle.std.proofs.Common.{◌≡◌, ◌<◌, ◌⊎◌, ℕ, List, [], ◌∷◌, ◌++◌, map, refl, sym, ◌∙◌, subst, inl, inr}
+use Rattle.std.specs.Prelude.{All, Contains}
 use Rattle.std.proofs.lemmas.List.Elements.{All-nil, All-cons, All-head, All-tail, Contains-append_cases}
 use Rattle.fvn_base.proofs.Membership.{contains_here, contains_later, contains_cases, contains_none, map_contains}
 use Rattle.fvn_terms.specs.declared.plain.Var.{Var}
 use Rattle.fvn_terms.specs.declared.plain.SortId.{SortId}
 use Rattle.fvn_terms.specs.declared.declarations.Declarations.{Declarations}
 use Rattle.fvn_terms.specs.Term.{Term, var}
-use Rattle.fvn_terms.specs.Substitution.{Substitution, apply, Occurs}
+use Rattle.fvn_terms.specs.Substitution.{Occurs}
 use Rattle.fvn_terms.specs.Signature.{kind, IsSort, HasKind, IsTerm, KeepsKinds}
 use Rattle.fvn_terms.specs.Places.{stop}
 use Rattle.fvn_terms.specs.Equality.{BEqual}
-use Rattle.fvn_terms.proofs.Equal.{HasKind-apply, BEqual-sym}
+use Rattle.fvn_terms.proofs.Equal.{HasKind-apply}
 use Rattle.fvn_terms.proofs.Occurrences.{occurs_value, BEqual-occurs}
 use Rattle.fvn_forms.specs.Flat.{FlatTerm, fvar, plain}
-use Rattle.fvn_forms.specs.Canon.{eval, canon, inst}
+use Rattle.fvn_forms.specs.Canon.{eval, inst}
 use Rattle.fvn_forms.specs.Good.{IsGood}
 use Rattle.fvn_forms.proofs.Eval.{eval_apply}
 use Rattle.fvn_forms.proofs.ToCanon.{to_canon, canon_of_kind}
 use Rattle.fvn_forms.proofs.Eval.{canon_settled}
 use Rattle.fvn_flat.specs.Bindings.{Bindings, value}
-use Rattle.fvn_flat.specs.Drawn.{OccursInValues, renamed}
+use Rattle.fvn_flat.specs.Drawn.{renamed}
 use Rattle.fvn_flat.specs.Fits.{Fits, AllFit}
 use Rattle.fvn_flat.specs.Problems.{variables, variables_of, plain_pairs, IsProblem}
-use Rattle.fvn_flat.specs.Solving.{FlatPairs, IsGiven, substitution, problem_of}
-use Rattle.fvn_flat.specs.Successors.{Narrowed, renamed_form, OccursIn, IsRenamed, IsRenaming}
+use Rattle.fvn_flat.specs.Solving.{IsGiven, substitution, problem_of}
+use Rattle.fvn_flat.specs.Successors.{Narrowed, renamed_form, OccursIn, IsRenamed}
 use Rattle.fvn_flat.specs.declared.solver.Pairs.{Pairs}
 use Rattle.fvn_flat.proofs.VariableLists.{variables_occur}
 use Rattle.fvn_cover.specs.declared.variant.Variant.{Variant}

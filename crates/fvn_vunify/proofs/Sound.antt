@@ -3,16 +3,15 @@ use Rattle.std.proofs.Common.{◌≡◌, Bool, true, false, List, [], map, refl,
 use Rattle.std.specs.List.{All, Contains}
 use Rattle.std.proofs.lemmas.List.Elements.{All-nil}
 use Rattle.fvn_terms.specs.declared.plain.Var.{Var}
-use Rattle.fvn_terms.specs.Term.{Term, var}
+use Rattle.fvn_terms.specs.Term.{Term}
 use Rattle.fvn_terms.specs.Substitution.{Substitution, apply}
 use Rattle.fvn_terms.specs.Equality.{BEqual}
 use Rattle.fvn_terms.specs.Sorts.{HasSort, IsWellSorted}
 use Rattle.fvn_terms.specs.Rewriting.{IsIrreducible}
-use Rattle.fvn_terms.specs.Variants.{OccursInSome}
 use Rattle.fvn_terms.proofs.Equal.{BEqual-trans}
 use Rattle.fvn_terms.proofs.WellSorted.{HasSort-apply}
 use Rattle.fvn_forms.specs.Flat.{plain}
-use Rattle.fvn_flat.specs.Bindings.{Bindings, BindingsFit}
+use Rattle.fvn_flat.specs.Bindings.{BindingsFit}
 use Rattle.fvn_flat.specs.Problems.{variables_of, plain_pairs}
 use Rattle.fvn_flat.specs.Solving.{FlatPairs, substitution}
 use Rattle.fvn_flat.specs.Variables.{listed}

@@ -1,6 +1,6 @@
 -- Lists of tested instances with one more.
 use Rattle.std.proofs.Common.{◌≡◌, ◌≢◌, ◌<◌, ◌+◌, ◌⊎◌, ℕ, List, [], ◌∷◌, ◌++◌, length, take, get_or, refl, sym, ap, ◌∙◌, subst, inl, inr}
-use Rattle.std.specs.Prelude.{All, Any, Contains}
+use Rattle.std.specs.Prelude.{Any, Contains}
 use Rattle.std.proofs.lemmas.List.{take_more}
 use Rattle.std.proofs.lemmas.List.Elements.{All-nil, All-push, All-append, All-weaker, Contains-push_cases, Contains-append_left, Contains-append_right}
 use Rattle.std.proofs.lemmas.List.Quantifiers.{Any-push}
@@ -9,7 +9,7 @@ use Rattle.fvn_terms.specs.declared.plain.Var.{Var}
 use Rattle.fvn_terms.specs.Substitution.{Substitution}
 use Rattle.fvn_terms.specs.Unifiers.{Problem}
 use Rattle.fvn_terms.specs.Rewriting.{IsIrreducible}
-use Rattle.fvn_forms.specs.Flat.{FlatTerm, plain}
+use Rattle.fvn_forms.specs.Flat.{plain}
 use Rattle.fvn_flat.specs.Bindings.{Bindings, form_or, value, composed, BindingsFit}
 use Rattle.fvn_flat.specs.Solving.{substitution}
 use Rattle.fvn_cover.specs.declared.variant.Variant.{Variant}
@@ -59,6 +59,12 @@ module _ (g : Setting) (vars : List Var) (first : Bindings) where
     whole = λ e s m h. absurd (contains_none s m);
     stop = λ n. absurd (n refl);
   }
+
+  -- the same lists and end
+  pub tested_as : {list other : List Bindings} {found kept : List Variant} {end last : ExpandEnd} → other ≡ list → kept ≡ found → last ≡ end →
+      AreTested g vars first list found end → AreTested g vars first other kept last
+  tested_as {list} {other} {found} {kept} {end} {last} a b c h =
+      subst (λ l. AreTested g vars first l kept last) (sym a) (subst (λ l. AreTested g vars first list l last) (sym b) (subst (AreTested g vars first list found) (sym c) h))
 
   module _ (list : List Bindings) (found : List Variant) (end : ExpandEnd) (tested : AreTested g vars first list found end)
       (s by : Bindings) (joined : IsJoined g vars first s by) (fits : BindingsFit g.declarations by) where

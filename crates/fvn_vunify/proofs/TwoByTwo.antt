@@ -1,19 +1,18 @@
 -- The sides of pairs, and what they are brought to, two by two.
 use Rattle.std.proofs.Common.{◌≡◌, ◌<◌, ◌≤◌, ◌⊎◌, ◌+◌, ℕ, zero, suc, List, [], ◌∷◌, ◌++◌, map, length, get_or, drop, refl, sym, ap, ◌∙◌, subst, inl, inr, arith}
-use Rattle.std.specs.List.{All, AllZip, Any, Contains}
+use Rattle.std.specs.List.{All, AllZip, Contains}
 use Rattle.std.proofs.lemmas.List.{append-nil, append_assoc, length-drop, drop_more}
 use Rattle.std.proofs.lemmas.List.Elements.{All-nil, All-cons, All-head, All-tail}
 use Rattle.std.proofs.lemmas.List.Elements.{Contains-append_left, Contains-append_right, Contains-append_cases}
 use Rattle.fvn_base.proofs.Membership.{contains_none}
 use Rattle.fvn_terms.specs.declared.plain.Var.{Var}
-use Rattle.fvn_terms.specs.declared.plain.SortId.{SortId}
 use Rattle.fvn_terms.specs.declared.declarations.Declarations.{Declarations}
 use Rattle.fvn_terms.specs.Term.{Term}
 use Rattle.fvn_terms.specs.Substitution.{Substitution, apply, followed_by, Occurs}
-use Rattle.fvn_terms.specs.Signature.{HasKind, IsTerm, KeepsKinds}
+use Rattle.fvn_terms.specs.Signature.{IsTerm, KeepsKinds}
 use Rattle.fvn_terms.specs.Equality.{BEqual}
 use Rattle.fvn_terms.specs.Sorts.{IsWellSorted}
-use Rattle.fvn_terms.specs.Unifiers.{Problem, Solves}
+use Rattle.fvn_terms.specs.Unifiers.{Solves}
 use Rattle.fvn_terms.specs.Theory.{Equations, TEqual}
 use Rattle.fvn_terms.specs.Rewriting.{IsIrreducible, IsConfluent}
 use Rattle.fvn_terms.specs.Variants.{OccursInSome}

@@ -1,5 +1,5 @@
 -- Children of the members of a level, and which of them are kept for the next.
-use Rattle.std.specs.Prelude.{◌≡◌, ◌≢◌, ◌≤◌, ◌⊎◌, List, [], ◌∷◌, ◌++◌, All, AllPairs, Any, Contains}
+use Rattle.std.specs.Prelude.{◌≡◌, ◌≢◌, ◌≤◌, ◌⊎◌, Bool, true, false, List, [], ◌∷◌, ◌++◌, All, AllPairs, Any, Contains}
 use Rattle.fvn_terms.specs.declared.declarations.Declarations.{Declarations}
 use Rattle.fvn_terms.specs.Substitution.{Substitution}
 use Rattle.fvn_terms.specs.Unifiers.{Problem}
@@ -7,6 +7,7 @@ use Rattle.fvn_terms.specs.CompleteSets.{IsApart}
 use Rattle.fvn_cover.specs.declared.variant.Variant.{Variant}
 use Rattle.fvn_cover.specs.Covering.{CoversVariant, AreAlike}
 use Rattle.fvn_cover.specs.Pruning.{IsCoveredBySome}
+use Rattle.fvn_cover.specs.Adding.{IsAdded}
 use Rattle.fvn_cover.specs.declared.marking.TheConstants.{WORKERS}
 use Rattle.fvn_exploring.specs.declared.limits.Limits.{Limits}
 use Rattle.fvn_exploring.specs.declared.ends.Expansion.{Expansion}
@@ -57,6 +58,11 @@ IsGatheredFrom es candidates end =
     (AreWhole es × (candidates ≡ all_children es) × (end ≡ Whole))
     ⊎ ((before : List Expansion) × (e : Expansion) × (after : List Expansion) × (es ≡ before ++ e ∷ after)
     × (candidates ≡ all_children (before ++ e ∷ [])) × (end ≡ e.end) × (end ≢ Whole))
+
+-- a marked candidate changes nothing, another one is added
+abbrev pub IsMarkedOrAdded : Declarations → Bool → List Variant → Variant → List Variant → Type 0
+IsMarkedOrAdded d true before candidate after = after ≡ before
+IsMarkedOrAdded d false before candidate after = IsAdded d before candidate after
 
 -- Of the candidates that no kept variant covers each is now covered by one that was there or by one of them.
 pub record AreTaken (d : Declarations) (kept before candidates after : List Variant) : Type 0 where

@@ -1,5 +1,5 @@
 -- Level runs as they grow, and what an exploration ends with.
-use Rattle.std.specs.Prelude.{◌≡◌, ◌≢◌, ◌≤◌, ◌<◌, ◌⊎◌, ◌+◌, ℕ, List, [], ◌∷◌, ◌++◌, length, map, All, Contains}
+use Rattle.std.specs.Prelude.{◌≡◌, ◌≢◌, ◌≤◌, ◌<◌, ◌⊎◌, ◌+◌, ℕ, Bool, true, false, List, [], ◌∷◌, ◌++◌, length, map, All, Contains}
 use Rattle.fvn_terms.specs.declared.declarations.Declarations.{Declarations}
 use Rattle.fvn_terms.specs.Substitution.{Substitution}
 use Rattle.fvn_terms.specs.Unifiers.{Problem}
@@ -60,6 +60,11 @@ pub record IsExploredTo (g : Setting) (drawn : Problem → Substitution → Type
 pub record AreKept (d : Declarations) (kept : List Variant) : Type 0 where
   pub flat : All (IsFlatVariant d) kept
   pub alike : All (λ a. All (AreAlike a) kept) kept
+
+-- after this next level nothing comes, or all expansions were whole
+abbrev pub IsOverOrWhole : Bool → List Variant → ExpandEnd → Type 0
+IsOverOrWhole true next end = (end ≢ Whole) ⊎ (next ≡ [])
+IsOverOrWhole false next end = end ≡ Whole
 
 module _ (d : Declarations) (limits : Limits) (r : LevelLists) (depth : ℕ) (next : List Variant) where
   -- a next variant is left at the last level

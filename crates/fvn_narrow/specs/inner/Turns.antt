@@ -1,11 +1,11 @@
 -- The turns of an expansion, and what is found in them.
-use Rattle.std.specs.Prelude.{◌≡◌, ◌≤◌, ◌<◌, ◌⊎◌, ◌+◌, ℕ, List, [], ◌∷◌, ◌++◌, map, take, drop, length, All, Contains, Some, slice_get}
+use Rattle.std.specs.Prelude.{◌≡◌, ◌≤◌, ◌<◌, ◌⊎◌, ◌+◌, ℕ, List, [], ◌∷◌, ◌++◌, map, take, drop, All, Contains, Some, slice_get}
 use Rattle.fvn_base.specs.declared.limits.TheConstants.{FIRST_FRESH}
 use Rattle.fvn_terms.specs.declared.plain.Var.{Var}
 use Rattle.fvn_terms.specs.declared.plain.OpId.{OpId}
 use Rattle.fvn_terms.specs.declared.declarations.Declarations.{Declarations}
 use Rattle.fvn_terms.specs.Term.{var}
-use Rattle.fvn_terms.specs.Substitution.{Substitution, apply}
+use Rattle.fvn_terms.specs.Substitution.{Substitution}
 use Rattle.fvn_terms.specs.Equality.{BEqual}
 use Rattle.fvn_terms.specs.Unifiers.{Problem}
 use Rattle.fvn_terms.specs.Rewriting.{ListSequence}
@@ -23,7 +23,6 @@ use Rattle.fvn_cover.specs.declared.variant.Variant.{Variant}
 use Rattle.fvn_cover.specs.Covering.{AreAlike, IsFlatVariant}
 use Rattle.fvn_exploring.specs.Setting.{Setting}
 use Rattle.fvn_exploring.specs.Children.{narrowed, HoldsVariables, IsMember}
-use Rattle.fvn_exploring.specs.Expansions.{IsExpandable}
 use Rattle.fvn_exploring.specs.Causes.{IsStepsCause, IsSizeCause, IsSystemCause, IsUnifiersCause, IsRuleProblem}
 use Rattle.fvn_exploring.specs.declared.ends.ExpandEnd.{ExpandEnd}
 use Rattle.fvn_exploring.specs.declared.ends.ExpandEnd.TheVariants.{Whole, Steps, Size, Basis, Unifiers}
@@ -162,7 +161,3 @@ IsAmongFirst count turn = turn.member < count
 -- all turns
 abbrev pub IsAny : Turn → Type 0
 IsAny turn = Unit {0}
-
--- the variant may be expanded, from some number of new variables on
-abbrev pub MayBeExpanded : Rewriting → ℕ → Variant → Type 0
-MayBeExpanded r unifiers v = (first : ℕ) × IsExpandable (narrowing_setting r unifiers) first v

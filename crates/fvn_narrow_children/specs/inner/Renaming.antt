@@ -2,7 +2,6 @@
 use Rattle.std.specs.Prelude.{◌≡◌, List, [], ◌∷◌, map}
 use Rattle.fvn_terms.specs.declared.plain.Var.{Var}
 use Rattle.fvn_terms.specs.declared.declarations.Declarations.{Declarations}
-use Rattle.fvn_forms.specs.Flat.{FlatTerm}
 use Rattle.fvn_forms.specs.Canon.{inst}
 use Rattle.fvn_flat.specs.Bindings.{Bindings, value}
 use Rattle.fvn_flat.specs.Variables.{with_variables}

@@ -3,5 +3,5 @@ use Rattle.std.proofs.Common.{◌≡◌, length}
 use Rattle.fvn_fold.specs.inner.Gathering.{AreTaken}
 use Rattle.fvn_fold.proofs.levels.taken.Given as goal
 
-abbrev pub invariant-loop-c : goal.invariant-loop-c
-invariant-loop-c l = AreTaken l.sig l.kept l.fn.before.items l.yielded l.after.items × (l.i ≡ length l.yielded)
+abbrev pub invariant-loop-candidate : goal.invariant-loop-candidate
+invariant-loop-candidate l = AreTaken l.sig l.kept l.fn.before.items l.yielded l.after.items × (l.i ≡ length l.yielded)

@@ -3,4 +3,4 @@ use Rattle.std.proofs.Common.{◌≡◌, ◌++◌}
 use Rattle.fvn_fold.proofs.runs.with_level.Given as goal
 
 abbrev pub invariant-loop-k : goal.invariant-loop-k
-invariant-loop-k l = (l.last.items ≡ l.yielded) × (l.all.items ≡ l.fn.kept.items ++ l.yielded)
+invariant-loop-k l = (l.last.items ≡ l.yielded) × (l.all.items ≡ l.fn.run.kept.items ++ l.yielded)

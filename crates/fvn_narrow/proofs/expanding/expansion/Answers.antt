@@ -1,12 +1,12 @@
 -- The children of the start, or none where a value is reducible.
-use Rattle.std.proofs.Common.{◌≡◌, List, [], refl, sym, ap, ◌∙◌, subst}
-use Rattle.std.specs.Prelude.{All, Contains}
+use Rattle.std.proofs.Common.{true, [], refl, sym, subst}
+use Rattle.std.specs.Prelude.{All}
 use Rattle.std.proofs.lemmas.List.Elements.{All-weaker}
 use Rattle.fvn_terms.specs.declared.plain.Var.{Var}
 use Rattle.fvn_terms.specs.declared.declarations.Declarations.{Declarations}
 use Rattle.fvn_terms.specs.Signature.{IsSort}
 use Rattle.fvn_terms.specs.Rewriting.{IsIrreducible}
-use Rattle.fvn_flat.specs.Bindings.{Bindings, BindingsFit}
+use Rattle.fvn_flat.specs.Bindings.{Bindings}
 use Rattle.fvn_flat.specs.Solving.{substitution}
 use Rattle.fvn_cover.specs.Covering.{IsFlatVariant}
 use Rattle.fvn_rewrite.specs.Usable.{equations_by}
@@ -19,13 +19,13 @@ use Rattle.fvn_narrow.proofs.expanding.expansion.Goals as goal
 
 pub start_of-requires : goal.start_of-requires
 start_of-requires g c = record {
-  variant = subst (λ (d : Declarations). IsFlatVariant d c.args.v.now) (sym c.signature.ensures) c.requires.1.flat;
-  holds = c.requires.1.holds;
+  variant = subst (λ (d : Declarations). IsFlatVariant d c.args.v.now) (sym c.signature.ensures) c.requires.flat;
+  holds = c.requires.holds;
 }
 
 pub some_reducible-requires : goal.some_reducible-requires
 some_reducible-requires g c =
-    let r = c.args.narrower.now.rewriter in
+    let r = c.args.tools.now.rewriter.now in
     let start = c.in_ok-start.start in
     let o : IsStartOf r.signature start.next c.args.v.now start.variant = subst (λ (d : Declarations). IsStartOf d start.next c.args.v.now start.variant) c.signature.ensures c.in_ok-start.ensures in
     let laws = c.rules_are_coherent.ensures r.signature c.recall.ensures.good c.recall.ensures.completed (equations_by r) c.recall.ensures.usable.admissible in
@@ -38,28 +38,29 @@ some_reducible-requires g c =
 
 pub in_members-requires : goal.in_members-requires
 in_members-requires g c =
-    let r = c.args.narrower.now.rewriter in
+    let r = c.args.tools.now.rewriter.now in
     let start = c.in_ok-start.start in
     let o : IsStartOf r.signature start.next c.args.v.now start.variant = subst (λ (d : Declarations). IsStartOf d start.next c.args.v.now start.variant) c.signature.ensures c.in_ok-start.ensures in
-    ready_start r start.next c.args.v.now start.variant o
-    (subst (λ vars. AreIrreducible r.signature (equations_by r) vars start.variant.subst) c.as_slice-vars.ensures (rw c.if-lost.false at c.in_ok-lost.ensures))
+    record {
+      ready = ready_start r start.next c.args.v.now start.variant o (subst (λ vars. AreIrreducible r.signature (equations_by r) vars start.variant.subst) c.as_slice-vars.ensures (rw c.if-lost.false at c.in_ok-lost.ensures));
+    }
 
 pub returns-then-lost : goal.returns-then-lost
 returns-then-lost g c =
-    let n = c.args.narrower.now in
-    let r = n.rewriter in
+    let n = c.args.tools.now in
+    let r = n.rewriter.now in
     let start = c.in_ok-start.start in
     let o : IsStartOf r.signature start.next c.args.v.now start.variant = subst (λ (d : Declarations). IsStartOf d start.next c.args.v.now start.variant) c.signature.ensures c.in_ok-start.ensures in
     nothing_expands r c.recall.ensures.good c.recall.ensures.completed c.recall.ensures.usable (c.sequences_are_lawful.ensures r.signature (equations_by r))
-    (g.A.AxiomSolver.most_unifiers n.solver.now) (g.A.AxiomSolver.drawn n.solver.now) c.requires.0 start.next c.args.v.now start.variant c.requires.1 o c.renamed_forms_have_the_same_instances.ensures
-    (subst (λ vars. AreReducibleAs r.signature (equations_by r) vars start.variant.subst _) c.as_slice-vars.ensures (rw c.if-lost.true at c.in_ok-lost.ensures))
+    (g.S.Solves.most_unifiers n.solver.now) (g.S.Solves.drawn n.solver.now) c.args._first_fresh start.next c.args.v.now start.variant c.requires o c.renamed_forms_have_the_same_instances.ensures
+    (subst (λ vars. AreReducibleAs r.signature (equations_by r) vars start.variant.subst true) c.as_slice-vars.ensures (rw c.if-lost.true at c.in_ok-lost.ensures))
     c.no_children.result c.no_children.ensures.children c.no_children.ensures.end
 
 pub returns : goal.returns
 returns g c =
-    let n = c.args.narrower.now in
-    let r = n.rewriter in
+    let n = c.args.tools.now in
+    let r = n.rewriter.now in
     let start = c.in_ok-start.start in
     let o : IsStartOf r.signature start.next c.args.v.now start.variant = subst (λ (d : Declarations). IsStartOf d start.next c.args.v.now start.variant) c.signature.ensures c.in_ok-start.ensures in
     is_expansion r c.recall.ensures.good c.recall.ensures.completed c.recall.ensures.usable (c.sequences_are_lawful.ensures r.signature (equations_by r))
-    (g.A.AxiomSolver.most_unifiers n.solver.now) (g.A.AxiomSolver.drawn n.solver.now) c.requires.0 start.next c.args.v.now start.variant c.requires.1 o c.whole_expansions_lift.ensures c.in_ok-e.e c.in_ok-e.ensures
+    (g.S.Solves.most_unifiers n.solver.now) (g.S.Solves.drawn n.solver.now) c.args._first_fresh start.next c.args.v.now start.variant c.requires o c.whole_expansions_lift.ensures c.in_ok-e.e c.in_ok-e.ensures

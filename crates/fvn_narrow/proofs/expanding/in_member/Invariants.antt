@@ -6,4 +6,4 @@ use Rattle.fvn_narrow.proofs.expanding.in_member.Given as goal
 
 abbrev pub invariant-loop-path : goal.invariant-loop-path
 invariant-loop-path g l =
-    AreSoFar l.narrower.rewriter (g.A.AxiomSolver.most_unifiers l.narrower.solver.now) (g.A.AxiomSolver.drawn l.narrower.solver.now) l.start.variant (IsThrough l.member (take l.path-index l.path-items)) l.children.items
+    AreSoFar l.tools.rewriter.now (g.S.Solves.most_unifiers l.tools.solver.now) (g.S.Solves.drawn l.tools.solver.now) l.start.variant (IsThrough l.member (take l.path-index l.path-items)) l.children.items

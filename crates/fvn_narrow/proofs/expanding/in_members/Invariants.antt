@@ -5,4 +5,4 @@ use Rattle.fvn_narrow.proofs.expanding.in_members.Given as goal
 
 abbrev pub invariant-loop-member : goal.invariant-loop-member
 invariant-loop-member g l =
-    AreSoFar l.narrower.rewriter (g.A.AxiomSolver.most_unifiers l.narrower.solver.now) (g.A.AxiomSolver.drawn l.narrower.solver.now) l.start.variant (IsAmongFirst l.member) l.children.items
+    AreSoFar l.tools.rewriter.now (g.S.Solves.most_unifiers l.tools.solver.now) (g.S.Solves.drawn l.tools.solver.now) l.start.variant (IsAmongFirst l.member) l.children.items

@@ -4,12 +4,12 @@ use Rattle.fvn_narrow.proofs.posing.ended.Goals as goal
 
 pub returns-then-is_whole : goal.returns-then-is_whole
 returns-then-is_whole c = record {
-  children = ap (λ p. p.0) c.into_parts.ensures;
-  end = inl (sym (ap (λ p. p.1) c.into_parts.ensures) ∙ c.is_whole.ensures.0 c.if-is_whole.true, c.end_of.ensures);
+  children = ap (λ p. p.0) c.into_parts-children.ensures;
+  end = inl (sym (ap (λ p. p.1) c.into_parts-children.ensures) ∙ c.is_whole.ensures.0 c.if-is_whole.true, c.end_of.ensures);
 }
 
 pub returns : goal.returns
 returns c = record {
-  children = ap (λ p. p.0) c.into_parts.ensures;
-  end = inr (λ q. (let z : true ≡ false = sym (c.is_whole.ensures.1 (ap (λ p. p.1) c.into_parts.ensures ∙ q)) ∙ c.if-is_whole.false in cc), ap (λ p. p.1) c.into_parts.ensures);
+  children = ap (λ p. p.0) c.into_parts-children.ensures;
+  end = inr (λ q. (let z : true ≡ false = sym (c.is_whole.ensures.1 (ap (λ p. p.1) c.into_parts-children.ensures ∙ q)) ∙ c.if-is_whole.false in cc), ap (λ p. p.1) c.into_parts-children.ensures);
 }

@@ -1,5 +1,5 @@
 -- Two heads, and two arguments side by side.
-use Rattle.std.proofs.Common.{◌≡◌, ◌<◌, length, Some, sym, ap, ◌∙◌, subst, arith}
+use Rattle.std.proofs.Common.{◌<◌, length, Some, sym, ap, ◌∙◌, subst, arith}
 use Rattle.fvn_terms.proofs.AxiomWords.{free_is}
 use Rattle.fvn_terms.specs.Equality.{is_free}
 use Rattle.fvn_terms.specs.Signature.{axioms}
@@ -8,7 +8,7 @@ use Rattle.fvn_flat.proofs.Instances.{each_at}
 use Rattle.fvn_flat.proofs.Smaller.{places_at}
 use Rattle.fvn_narrow_children.specs.Clashes.{SomeNeverMeet}
 use Rattle.fvn_narrow_children.proofs.Measures.{args_fall}
-use Rattle.fvn_narrow_children.proofs.ClashFacts.{heads_differ, heads_same, heads_never_meet, arguments_never_meet, side_by_side}
+use Rattle.fvn_narrow_children.proofs.ClashFacts.{heads_differ, heads_same, heads_never_meet, arguments_never_meet}
 use Rattle.fvn_narrow_children.proofs.clashes.+clash.Goals as goal
 
 pub clash-some_clash-requires : goal.clash-some_clash-requires

@@ -1,6 +1,5 @@
 -- One unifier more.
-use Rattle.std.proofs.Common.{[], sym, subst}
-use Rattle.std.specs.Prelude.{All}
+use Rattle.std.proofs.Common.{sym, subst}
 use Rattle.std.proofs.lemmas.List.Elements.{All-get_or}
 use Rattle.fvn_flat.specs.Bindings.{BindingsFit}
 use Rattle.fvn_exploring.specs.declared.ends.ExpandEnd.TheVariants.{Whole}

@@ -1,6 +1,6 @@
 -- First the values are tested, and only then the terms brought to normal form.
-use Rattle.std.proofs.Common.{◌≡◌, List, sym, ap, ◌∙◌, subst, inr}
-use Rattle.std.specs.Prelude.{All, Contains}
+use Rattle.std.proofs.Common.{true, sym, subst}
+use Rattle.std.specs.Prelude.{All}
 use Rattle.fvn_terms.specs.declared.plain.Var.{Var}
 use Rattle.fvn_terms.specs.declared.declarations.Declarations.{Declarations}
 use Rattle.fvn_terms.specs.Signature.{IsSort}
@@ -39,7 +39,7 @@ returns-then-lost c =
     let r = c.args.rewriter.now in
     lost_is r c.args.v.now c.args.members.now c.args.s.now c.in_ok-subst.subst
     (subst (λ (d : Declarations). AreValuesUnder d c.args.v.now c.args.s.now c.in_ok-subst.subst) c.signature.ensures c.in_ok-subst.ensures)
-    (subst (λ vars. AreReducibleAs r.signature (equations_by r) vars c.in_ok-subst.subst _) c.as_slice-vars.ensures (rw c.if-lost.true at c.in_ok-lost.ensures))
+    (subst (λ vars. AreReducibleAs r.signature (equations_by r) vars c.in_ok-subst.subst true) c.as_slice-vars.ensures (rw c.if-lost.true at c.in_ok-lost.ensures))
 
 pub returns-in-Some : goal.returns-in-Some
 returns-in-Some c =

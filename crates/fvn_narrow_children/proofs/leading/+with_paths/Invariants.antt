@@ -1,6 +1,5 @@
 -- The paths so far.
 use Rattle.std.proofs.Common.{◌≡◌, ◌++◌}
-use Rattle.fvn_flat.specs.Weight.{places}
 use Rattle.fvn_narrow_children.proofs.PathFacts.{paths_so_far}
 use Rattle.fvn_narrow_children.proofs.leading.+with_paths.Given as goal
 

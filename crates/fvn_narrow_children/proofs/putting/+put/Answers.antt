@@ -1,10 +1,6 @@
 -- The argument that the path takes, with the given form put in.
-use Rattle.std.proofs.Common.{◌≡◌, ◌<◌, ◌+◌, ◌∷◌, ◌++◌, length, take, drop, Some, sym, ap, ◌∙◌, subst, arith}
-use Rattle.std.specs.Prelude.{slice_get}
-use Rattle.std.proofs.lemmas.Option.{slice_get_within, slice_get_read}
-use Rattle.fvn_forms.specs.Canon.{build}
+use Rattle.std.proofs.Common.{sym, ◌∙◌, subst, arith}
 use Rattle.fvn_flat.specs.Fits.{Fits}
-use Rattle.fvn_flat.proofs.Fitting.{args_fit}
 use Rattle.fvn_flat.proofs.Instances.{each_at}
 use Rattle.fvn_flat.proofs.Smaller.{argument_is_smaller}
 use Rattle.fvn_narrow_children.specs.Putting.{CanPut, PutAs}

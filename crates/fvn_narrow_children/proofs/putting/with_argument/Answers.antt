@@ -1,5 +1,5 @@
 -- The operator over the arguments, one of them replaced.
-use Rattle.std.proofs.Common.{◌≡◌, ◌<◌, ◌+◌, ◌∷◌, ◌++◌, length, take, drop, sym, ap, ◌∙◌, subst}
+use Rattle.std.proofs.Common.{◌<◌, ◌+◌, ◌∷◌, ◌++◌, length, take, drop, sym, ap, ◌∙◌, subst}
 use Rattle.fvn_forms.specs.Canon.{build}
 use Rattle.fvn_flat.specs.Fits.{AllFit, Takes}
 use Rattle.fvn_flat.proofs.Fitting.{args_fit}

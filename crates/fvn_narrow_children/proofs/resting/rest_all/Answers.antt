@@ -1,14 +1,9 @@
 -- One more normal form, or an end.
-use Rattle.std.proofs.Common.{◌≡◌, sym, ap, ◌∙◌, subst}
+use Rattle.std.proofs.Common.{◌≡◌, ap, ◌∙◌, subst}
 use Rattle.fvn_terms.specs.declared.declarations.Declarations.{Declarations}
 use Rattle.fvn_narrow_children.specs.Growing.{IsFormOf}
-use Rattle.std.specs.Prelude.{Contains}
 use Rattle.fvn_forms.specs.Canon.{inst}
 use Rattle.fvn_flat.specs.Bindings.{value}
-use Rattle.fvn_flat.specs.Fits.{Fits}
-use Rattle.fvn_flat.proofs.Instances.{each_at}
-use Rattle.fvn_rewrite_laws.specs.Normalised.{IsForm, IsUnfinished, IsTooLarge}
-use Rattle.fvn_rewrite.specs.Usable.{equations_by}
 use Rattle.fvn_narrow_children.proofs.RestFacts.{form_of, unrested, overlarge, one_more_form, all_forms, told_at}
 use Rattle.fvn_narrow_children.proofs.resting.rest_all.Goals as goal
 

@@ -1,7 +1,5 @@
 -- Terms and values under the renaming.
-use Rattle.std.proofs.Common.{sym, ap, ◌∙◌, subst, map}
-use Rattle.fvn_forms.specs.Canon.{inst}
-use Rattle.fvn_flat.specs.Bindings.{value}
+use Rattle.std.proofs.Common.{sym, subst}
 use Rattle.fvn_flat.specs.Fits.{AllFit}
 use Rattle.fvn_narrow_children.proofs.starts.renamed.Goals as goal
 

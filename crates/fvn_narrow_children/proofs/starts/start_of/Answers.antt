@@ -1,5 +1,5 @@
 -- The renamed variant is a start.
-use Rattle.std.proofs.Common.{◌≡◌, ◌+◌, ◌≤◌, [], length, sym, ap, ◌∙◌, subst, arith}
+use Rattle.std.proofs.Common.{[], sym, ◌∙◌, subst, arith}
 use Rattle.std.specs.Prelude.{AllPairs, ◌≢◌}
 use Rattle.fvn_terms.specs.declared.plain.Var.{Var}
 use Rattle.fvn_flat.proofs.ListedVariables.{distinct_pairs}

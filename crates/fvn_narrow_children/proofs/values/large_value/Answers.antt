@@ -1,5 +1,4 @@
 -- The value that is bound is too large.
-use Rattle.std.specs.Prelude.{Contains}
 use Rattle.std.proofs.lemmas.List.Elements.{Contains-get_or}
 use Rattle.fvn_narrow_children.proofs.ValueFacts.{large_value_is}
 use Rattle.fvn_narrow_children.proofs.values.large_value.Goals as goal

@@ -1,6 +1,5 @@
 -- One value more.
-use Rattle.std.proofs.Common.{◌≡◌, List, get_or, subst}
-use Rattle.std.specs.Prelude.{All, Contains}
+use Rattle.std.proofs.Common.{subst}
 use Rattle.std.proofs.lemmas.List.{take_all}
 use Rattle.std.proofs.lemmas.List.Elements.{All-get_or, All-more, Contains-get_or}
 use Rattle.fvn_terms.specs.declared.plain.Var.{Var}

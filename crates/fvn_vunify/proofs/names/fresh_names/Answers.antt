@@ -1,5 +1,5 @@
 -- Fresh names for all variables of the values.
-use Rattle.std.proofs.Common.{◌≡◌, ◌≢◌, length, sym, ap, ◌∙◌, subst, arith}
+use Rattle.std.proofs.Common.{◌≢◌, length, sym, ap, ◌∙◌, subst, arith}
 use Rattle.std.specs.Prelude.{AllPairs, Contains}
 use Rattle.fvn_flat.proofs.ListedVariables.{distinct_pairs}
 use Rattle.fvn_vunify.specs.inner.Names.{variables_of_values}

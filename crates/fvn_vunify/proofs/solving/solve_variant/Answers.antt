@@ -42,14 +42,14 @@ pub compose-requires-clause-then : goal.compose-requires-clause-then
 compose-requires-clause-then g c = c.in_ok-names.ensures.fits c.args.sig.now
 
 pub tested-requires-clause-sorts : goal.tested-requires-clause-sorts
-tested-requires-clause-sorts g c =
+tested-requires-clause-sorts g c = λ κs w.
     let s = g.E.Expander.setting c.args.expander.now in
     let at : All (λ (x : Var). IsSort s.declarations x.sort) c.args.vars.now = All-weaker (Contains c.args.vars.now) (λ (x : Var). IsSort s.declarations x.sort)
     (λ x m. All-contains (λ (y : Var). IsSort s.declarations y.sort) c.args.v.now.vars x c.requires.solvable.flat.vars ((c.requires.solvable.same_vars x).0 m)) c.args.vars.now (All-contains_itself c.args.vars.now) in
     subst (λ d. All (λ (x : Var). IsSort d x.sort) c.args.vars.now) (sym c.requires.sig) at
 
 pub tested-requires-clause-unifiers : goal.tested-requires-clause-unifiers
-tested-requires-clause-unifiers g c =
+tested-requires-clause-unifiers g c = λ κs w.
     subst (All (BindingsFit c.args.sig.now)) (sym c.as_slice-unifiers.ensures)
     (All-weaker (λ (b : Bindings). Binds (problem_of c.in_ok-given.given) b × BindsOnce b × BindingsFit (g.A.AxiomSolver.signature c.args.solver.now) b) (BindingsFit c.args.sig.now)
     (λ b h. subst (λ d. BindingsFit d b) (c.requires.solver.signature ∙ sym c.requires.sig) h.2) c.in_ok-solved.solved.unifiers c.in_ok-solved.ensures.binds)

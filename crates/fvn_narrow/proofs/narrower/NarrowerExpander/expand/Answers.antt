@@ -2,7 +2,7 @@
 use Rattle.fvn_narrow.proofs.narrower.NarrowerExpander.expand.Goals as goal
 
 pub expansion-requires : goal.expansion-requires
-expansion-requires g c = (c.args._first_fresh, c.requires.variant)
+expansion-requires g c = c.requires.variant
 
 pub returns-clause-children : goal.returns-clause-children
 returns-clause-children g c = c.in_ok-e.ensures.children
