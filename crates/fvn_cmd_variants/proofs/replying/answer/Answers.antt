@@ -15,18 +15,18 @@ use Rattle.fvn_cmd_variants.proofs.Replied.{startable, searched_flat, answer-tol
 use Rattle.fvn_cmd_variants.proofs.replying.answer.Goals as goal
 
 pub start_of-requires : goal.start_of-requires
-start_of-requires c = subst (λ d. IsTerm d (term c.args.query.now.term)) (sym c.signature.ensures) c.requires.query.kinded
+start_of-requires g c = subst (λ d. IsTerm d (term c.args.query.now.term)) (sym c.signature.ensures) c.requires.query.kinded
 
 pub searched-requires-clause-start : goal.searched-requires-clause-start
-searched-requires-clause-start c =
+searched-requires-clause-start g c =
     startable c.args.search.now.declared.now c.args.query.now c.args.search.now.reach _
     (begins c.args.search.now.declared.now c.args.query.now _ c.signature.ensures _ c.in_ok-start.ensures _ c.as_slice.ensures.value)
 
 pub lines_of-requires-clause-vars : goal.lines_of-requires-clause-vars
-lines_of-requires-clause-vars c = c.requires.query.asked
+lines_of-requires-clause-vars g c = c.requires.query.asked
 
 pub lines_of-requires-clause-variants : goal.lines_of-requires-clause-variants
-lines_of-requires-clause-variants c =
+lines_of-requires-clause-variants g c =
     let m = c.args.search.now.declared.now in
     let q = c.args.query.now in
     let reach = c.args.search.now.reach in
@@ -35,7 +35,7 @@ lines_of-requires-clause-variants c =
     (all_printable m q reach c.in_ok-x.x (searched_flat m q reach _ from c.in_ok-x.x c.in_ok-x.ensures).explored)
 
 pub answer_text-requires : goal.answer_text-requires
-answer_text-requires c =
+answer_text-requires g c =
     let m = c.args.search.now.declared.now in
     let q = c.args.query.now in
     let reach = c.args.search.now.reach in
@@ -46,7 +46,7 @@ answer_text-requires c =
     }
 
 pub returns : goal.returns
-returns c =
+returns g c =
     let m = c.args.search.now.declared.now in
     let q = c.args.query.now in
     let reach = c.args.search.now.reach in
