@@ -15,12 +15,12 @@ use Rattle.fvn_cmd_variants.proofs.Replied.{startable, searched_flat, answer-tol
 use Rattle.fvn_cmd_variants.proofs.replying.answer.Goals as goal
 
 pub start_of-requires : goal.start_of-requires
-start_of-requires g c = subst (λ d. IsTerm d (term c.args.query.now.term)) (sym c.signature.ensures) c.requires.query.kinded
+start_of-requires g c = subst (λ d. IsTerm d (term c.args.query.now.term)) (sym c.signature-signature.ensures) c.requires.query.kinded
 
 pub searched-requires-clause-start : goal.searched-requires-clause-start
-searched-requires-clause-start g c =
+searched-requires-clause-start g c lives order =
     startable c.args.search.now.declared.now c.args.query.now c.args.search.now.reach _
-    (begins c.args.search.now.declared.now c.args.query.now _ c.signature.ensures _ c.in_ok-start.ensures _ c.as_slice.ensures.value)
+    (begins c.args.search.now.declared.now c.args.query.now _ c.signature-signature.ensures _ c.in_ok-start.ensures _ c.as_slice.ensures.value)
 
 pub lines_of-requires-clause-vars : goal.lines_of-requires-clause-vars
 lines_of-requires-clause-vars g c = c.requires.query.asked
@@ -30,7 +30,7 @@ lines_of-requires-clause-variants g c =
     let m = c.args.search.now.declared.now in
     let q = c.args.query.now in
     let reach = c.args.search.now.reach in
-    let from = begins m q _ c.signature.ensures _ c.in_ok-start.ensures _ c.as_slice.ensures.value in
+    let from = begins m q _ c.signature-signature.ensures _ c.in_ok-start.ensures _ c.as_slice.ensures.value in
     subst (All (IsPrintable m.signature q.vars)) (sym c.as_slice-variants.ensures)
     (all_printable m q reach c.in_ok-x.x (searched_flat m q reach _ from c.in_ok-x.x c.in_ok-x.ensures).explored)
 
@@ -50,6 +50,6 @@ returns g c =
     let m = c.args.search.now.declared.now in
     let q = c.args.query.now in
     let reach = c.args.search.now.reach in
-    let from = begins m q _ c.signature.ensures _ c.in_ok-start.ensures _ c.as_slice.ensures.value in
-    answer-told m q reach _ from c.rewriting_is_lawful.ensures c.equal_lines_cover.ensures (subst IsGood c.signature.ensures c.recall_good.ensures) (subst IsCompleted c.signature.ensures c.recall_completed.ensures) c.requires.query.vars c.in_ok-x.x
+    let from = begins m q _ c.signature-signature.ensures _ c.in_ok-start.ensures _ c.as_slice.ensures.value in
+    answer-told m q reach _ from c.rewriting_is_lawful.ensures c.equal_lines_cover.ensures (subst IsGood c.signature-signature.ensures c.recall_good.ensures) (subst IsCompleted c.signature-signature.ensures c.recall_completed.ensures) c.requires.query.vars c.in_ok-x.x
     c.in_ok-x.ensures c.in_ok-loss.loss c.in_ok-loss.ensures _ c.as_slice-variants.ensures _ c.in_ok-lines.ensures _ c.in_ok-end.ensures _ c.in_ok-text.ensures _ c.status_of_end.ensures

@@ -10,7 +10,7 @@ read_term-requires g c =
     subst (λ d. AreNamesOf d c.names.result.now) (sym c.signature.ensures) (subst (AreNamesOf c.args.declared.now.signature) (sym c.names.ensures) (module_names c.args.declared.now c.recall_readable.ensures))
 
 pub answer_in-requires-clause-query : goal.answer_in-requires-clause-query
-answer_in-requires-clause-query g c =
+answer_in-requires-clause-query g c lives order =
     term_in c.args.declared.now _ _ c.signature.ensures c.names.ensures c.args.reach c.args.word.now c.in-Ok.query c.query_names_are_words.ensures c.query_names_differ.ensures c.in-Ok.ensures.ok c.in-Ok.ensures.kinded
     c.in-Ok.ensures.vars
 
