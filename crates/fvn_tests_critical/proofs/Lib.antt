@@ -1,1 +1,1 @@
--- No lemmas.
+-- The crate has no lemmas.
