@@ -1,10 +1,12 @@
 -- What a problem asks is determined.
-use Rattle.std.proofs.Common.{◌≡◌, zero, suc, ◌<◌, ◌≤◌, ◌⊎◌, inl, inr, List, [], ◌∷◌, Some, Result, refl, sym, ap, ◌∙◌, subst, arith}
+use Rattle.std.proofs.Common.{◌≡◌, zero, suc, ◌<◌, ◌≤◌, ◌⊎◌, inl, inr, List, [], ◌∷◌, Result, refl, sym, ap, ◌∙◌, subst, arith}
 use Rattle.std.specs.Prelude.{IfErr, All, map}
 use Rattle.std.specs.List.{AllByRecursion}
 use Rattle.std.proofs.lemmas.List.{append-nil}
 use Rattle.fvn_base.specs.declared.limits.TheConstants.{TEXT_SYMBOLS}
-use Rattle.fvn_lex.specs.Cut.{Piece, pieces_of}
+use Rattle.fvn_lex.specs.Cut.{Piece}
+use Rattle.fvn_lex.specs.Parts.{HasPieces}
+use Rattle.fvn_lex.proofs.RowPieces.{pieces-once}
 use Rattle.fvn_terms.specs.declared.plain.Var.{Var}
 use Rattle.fvn_terms.specs.declared.plain.Plain.{Plain}
 use Rattle.fvn_terms.specs.declared.declarations.Declarations.{Declarations}
@@ -128,7 +130,7 @@ side-sorted d x (p ∷ ps) a (inr o) = side-sorted d x ps a.1 o
 module _ (d : Declarations) (names : Names) (bytes : Text) where
   pub text-once : (q r : RawProblem) → IsProblemText bytes q → IsProblemText bytes r → q ≡ r
   text-once q r a b =
-      let e : spell_problem q ≡ spell_problem r = (let f : Some (spell_problem q) ≡ Some (spell_problem r) = sym a.spelled ∙ b.spelled in cc) in
+      let e = pieces-once bytes (spell_problem q) (spell_problem r) a.spelled b.spelled in
       problems-once q r a.written b.written e
 
   pub problem-only : (p : Problem) → IsProblem d names bytes p → IsOnlyProblem d names bytes p
@@ -162,10 +164,10 @@ module _ (d : Declarations) (names : Names) (bytes : Text) where
         named = λ x o. record { not_fresh = (g.old x o).0; number = (g.old x o).1; sort = side-sorted d x p.pairs kinded o };
       }
 
-  module _ (row : List Piece) (cut : pieces_of bytes ≡ Some row) where
+  module _ (row : List Piece) (cut : HasPieces bytes row) where
     module _ (list : List Halves) (split : IsProblemSplit row list) where
       in-text : IsProblemText bytes split.raw
-      in-text = record { written = split.is.written; spelled = cut ∙ ap Some split.is.spelled }
+      in-text = record { written = split.is.written; spelled = subst (HasPieces bytes) split.is.spelled cut }
 
       in-list : AreOf list (pairs_in split.raw)
       in-list = record { written = split.is.written; are = split.halves }

@@ -1,8 +1,10 @@
 -- What a term text asks is determined.
-use Rattle.std.proofs.Common.{◌≡◌, ◌<◌, ◌⊎◌, inl, inr, List, [], length, Some, Result, Ok, refl, sym, ap, ◌∙◌, subst, arith}
+use Rattle.std.proofs.Common.{◌≡◌, ◌<◌, ◌⊎◌, inl, inr, List, [], length, Result, Ok, refl, sym, ap, ◌∙◌, subst, arith}
 use Rattle.std.specs.Prelude.{IfErr}
 use Rattle.fvn_base.specs.declared.limits.TheConstants.{TEXT_SYMBOLS}
-use Rattle.fvn_lex.specs.Cut.{Piece, pieces_of}
+use Rattle.fvn_lex.specs.Cut.{Piece}
+use Rattle.fvn_lex.specs.Parts.{HasPieces}
+use Rattle.fvn_lex.proofs.RowPieces.{pieces-once}
 use Rattle.fvn_terms.specs.declared.plain.Var.{Var}
 use Rattle.fvn_terms.specs.declared.plain.Plain.{Plain}
 use Rattle.fvn_terms.specs.declared.declarations.Declarations.{Declarations}
@@ -64,7 +66,7 @@ module _ (c : Scope) (raw : RawQuery) where
 module _ (d : Declarations) (names : Names) (bytes : Text) where
   pub text-once : (q r : RawQuery) → IsQueryText bytes q → IsQueryText bytes r → q ≡ r
   text-once q r a b =
-      let e : spell_query q ≡ spell_query r = (let f : Some (spell_query q) ≡ Some (spell_query r) = sym a.spelled ∙ b.spelled in cc) in
+      let e = pieces-once bytes (spell_query q) (spell_query r) a.spelled b.spelled in
       queries-once q r a.written b.written e
 
   pub query-only : (q : Query) → IsQuery d names bytes q → IsOnlyQuery d names bytes q
@@ -102,10 +104,10 @@ module _ (d : Declarations) (names : Names) (bytes : Text) where
             record { not_fresh = old.0; number = subst (λ ts. x.name < length ts) (sym a.asked.names) old.1; sort = sort-known d x (term q.term) is.0 is.1 o };
       }
 
-  module _ (row : List Piece) (cut : pieces_of bytes ≡ Some row) where
+  module _ (row : List Piece) (cut : HasPieces bytes row) where
     module _ (front : List Piece) (split : IsQuerySplit row front) where
       in-text : IsQueryText bytes split.raw
-      in-text = record { written = split.is.written; spelled = cut ∙ ap Some split.is.spelled }
+      in-text = record { written = split.is.written; spelled = subst (HasPieces bytes) split.is.spelled cut }
 
       in-row : IsTermOf front split.raw
       in-row = record { written = split.is.written; is = split.front_is }

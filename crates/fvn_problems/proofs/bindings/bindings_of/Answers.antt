@@ -1,7 +1,7 @@
 -- What is bound is bound by the text, and a fault is the first of the text.
-use Rattle.std.proofs.Common.{◌≡◌, true, false, Some, sym, ap, subst, ◌∙◌}
+use Rattle.std.proofs.Common.{◌≡◌, true, false, sym, subst}
 use Rattle.std.specs.Prelude.{All, IfOk, IfErr}
-use Rattle.fvn_lex.specs.Cut.{pieces_of}
+use Rattle.fvn_lex.specs.Parts.{HasPieces}
 use Rattle.fvn_problems.specs.Scopes.{unguarded}
 use Rattle.fvn_problems.specs.inner.Split.{AreTerms, IsBindingSplit}
 use Rattle.fvn_problems.specs.inner.Bound.{TellsOnce, Binds, BindsNothing}
@@ -11,8 +11,8 @@ use Rattle.fvn_problems.proofs.bindings.bindings_of.Goals.{After-as_slice-in-Som
 
 -- what is known where the text has its form
 module _ (c : After-as_slice-in-Some) where
-  cut : pieces_of c.args.bytes.now ≡ Some c.as_slice.result.now
-  cut = c.in_ok-row.ensures.ok ∙ ap Some (sym c.as_slice.ensures.value)
+  cut : HasPieces c.args.bytes.now c.as_slice.result.now
+  cut = subst (HasPieces c.args.bytes.now) (sym c.as_slice.ensures.value) c.in_ok-row.ensures.ok
 
   split : IsBindingSplit c.as_slice.result.now c.in-Some.list
   split = rw c.in-Some.is at c.in_ok-split_bindings.ensures.some
