@@ -208,12 +208,15 @@ asked-out ps f h = go (equation_of ps) refl where
   unnamed e false i =
       let g : LeftOut feature.Equation ≡ LeftOut f = rw (e, i) at h in
       let k : feature.Equation ≡ f = cc in
-      inr (sym k, record {
-        rest = ps;
-        spelled = refl;
-        unnamed = none-any (is_name (codes "variant")) ps i;
-        known = λ u. let j = out-equation ps feature.Attribute u in differs (equation_of ps) feature.Attribute e j;
-      })
+      inr (
+        sym k,
+        record {
+          rest = ps;
+          spelled = refl;
+          unnamed = none-any (is_name (codes "variant")) ps i;
+          known = λ u. let j = out-equation ps feature.Attribute u in differs (equation_of ps) feature.Attribute e j;
+        },
+      )
     where
       differs : (o : Reading Statement) (x : Feature) → o ≡ NoForm → o ≡ LeftOut x → ⊥
       differs o x a b = cc

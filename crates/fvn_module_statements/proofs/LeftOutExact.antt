@@ -157,15 +157,14 @@ left_out-sound (p ∷ ps) f h = go (is_word p) (feature_of p.text) (keyword_of p
 
 out-operator : (f : Feature) (ps : List Piece) → IsLeftOutOperator f ps → statement_of ps ≡ LeftOut f
 out-operator f ps h = go h.names where
-  abbrev behind : List Piece
-  behind = spell_rank h.rank ++ h.behind
-
   go : IsNaming h.naming → statement_of ps ≡ LeftOut f
   go (one name some plain touches is) =
+      let behind = spell_rank h.rank ++ h.behind in
       let d : operator_of (name ++ (colon ∷ behind)) ≡ LeftOut f =
       rw (split_colon-complete name behind plain, not_empty name some, touches) (out-ranked (statement.Operator name) h.rank h.behind f h.sorts h.left_out) in
       ap statement_of (h.spelled ∙ ap (λ x. x ++ (colon ∷ behind)) is) ∙ behind-keyword Operator (name ++ (colon ∷ behind)) ∙ d
   go (several names some are touch is) =
+      let behind = spell_rank h.rank ++ h.behind in
       let g = gather-spelled name_of spell_name IsName Any name-complete (colon ∷ behind) tt refl name_some names are in
       let d : operators_of (each spell_name names ++ (colon ∷ behind)) ≡ LeftOut f =
       rw (g, true-all names_touch names touch, is_some-of names some) (out-ranked (statement.Operators names) h.rank h.behind f h.sorts h.left_out) in

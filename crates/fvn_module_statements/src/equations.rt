@@ -196,10 +196,7 @@ fn read_right<'a>(
 }
 
 // What follows `eq`, from left to right.
-fn read_whole<'a>(
-    alloc: Global,
-    row: &'a [Piece<'a>],
-) -> Result<Reading<Statement<'a>>, NoMemory>
+fn read_whole<'a>(alloc: Global, row: &'a [Piece<'a>]) -> Result<Reading<Statement<'a>>, NoMemory>
     ensures { IfOk result (λ r. r ≡ equation_of row.now) }
 {
     let Some((label, rest)) = read_label(row) else {
