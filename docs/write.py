@@ -4,8 +4,8 @@
     python3 docs/write.py           writes all that is listed below
     python3 docs/write.py --check   fails where what is written differs from the sources, where a crate cites a definition of
                                     another's specs/inner/, where a definition under the report cites one that mirrors code,
-                                    where an engine stands on a reader of texts, or where README says nothing of a field of
-                                    the report
+                                    where an engine stands on a reader of texts, where README says nothing of a field of the
+                                    report, or where LADDER.md names a clause, a law or a field that there is not
     python3 docs/write.py --lint    prints what is missing: comments, first lines, uses, pages of crates, and laws that stand elsewhere
 
 | written | from |
@@ -926,6 +926,25 @@ def untold_fields():
             yield "README.md: nothing is said of " + found.group(1) + ", which the report promises"
 
 
+def unknown_rungs():
+    """What the page of rungs names and there is not."""
+    page = read(TOP / "docs" / "LADDER.md")
+    calls, fields = {}, {}
+    for name, _ in crates():
+        for path, call in Crate(name).calls():
+            calls[name + "::" + path] = {clause.name for clause in call.clauses}
+        for room in rooms(name):
+            for d in room.definitions:
+                fields.setdefault(d.name, set()).update(field for field, _ in d.fields)
+    for found in re.finditer(r"`(fvn\w*::[\w:]+)(?:\.(\w+))?`", page):
+        clauses = calls.get(found.group(1))
+        if clauses is None or found.group(2) and found.group(2) not in clauses:
+            yield "docs/LADDER.md: there is no " + found.group(0)
+    for found in re.finditer(r"`([A-Z]\w*)\.(\w+)`", page):
+        if found.group(2) not in fields.get(found.group(1), ()):
+            yield "docs/LADDER.md: there is no " + found.group(0)
+
+
 READERS = re.compile(r"fvn_(lex|outside|syntax|problems|answer|tool|module\w*|cmd\w*)")
 
 
@@ -967,7 +986,7 @@ def main(words):
         if path not in written:
             print(str(path.relative_to(TOP)) + " is the page of no layer")
             status = 1
-    for find in (borrowed, mirrors_under_report, readers_below, untold_fields) if words else ():
+    for find in (borrowed, mirrors_under_report, readers_below, untold_fields, unknown_rungs) if words else ():
         for line in find():
             print(line)
             status = 1
