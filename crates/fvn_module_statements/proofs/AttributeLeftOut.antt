@@ -16,7 +16,7 @@ use Rattle.fvn_module_syntax.specs.Spelling.{each, spell_rank, spell_attribute}
 use Rattle.fvn_module_syntax.specs.LeftOut.{left_out_in}
 use Rattle.fvn_module_syntax.specs.Written.{IsAttribute, IsRank}
 use Rattle.fvn_module_statements.specs.LeftOut.{IsAttributeBefore, AreAttributesBefore, BeginsNoAttribute, HasLeftOutAttribute}
-use Rattle.fvn_module_statements.specs.inner.Gather.{gather}
+use Rattle.fvn_module_statements.specs.inner.Gather.{gather_next, gather}
 use Rattle.fvn_module_statements.specs.inner.Sorts.{rank_of}
 use Rattle.fvn_module_statements.specs.inner.Attributes.{attribute_of, is_close, is_some, attributes_before, attributes_of}
 use Rattle.fvn_module_statements.specs.inner.Statements.{with_rank}
@@ -26,15 +26,12 @@ use Rattle.fvn_module_statements.proofs.AttributeExact.{attribute-before, attrib
 
 -- All attributes that are read.
 
-abbrev left_of : List Piece → List Attribute → List Piece → List Piece
-left_of fs xs ps = (gather attribute_of fs xs ps).1
-
 -- what was read is spelled, and each attribute can be written before what follows it
 record Gathers (fs : List Piece) (xs : List Attribute) (ps : List Piece) : Type 0 where
   more : List Attribute
   is : (gather attribute_of fs xs ps).0 ≡ xs ++ more
-  left : ps ≡ each spell_attribute more ++ left_of fs xs ps
-  fit : AreAttributesBefore (left_of fs xs ps) more
+  left : ps ≡ each spell_attribute more ++ (gather attribute_of fs xs ps).1
+  fit : AreAttributesBefore (gather attribute_of fs xs ps).1 more
 
 gathers : (fs : List Piece) (xs : List Attribute) (ps : List Piece) → Gathers fs xs ps
 gathers [] xs ps = record { more = []; is = sym (append-nil xs); left = refl; fit = tt }
@@ -44,12 +41,12 @@ gathers (f ∷ fs) xs ps = go (attribute_of ps) refl (λ ys qs. gathers fs ys qs
   go (Some r) e later =
       let g = later (xs ++ (r.0 ∷ [])) r.1 in
       let s = attribute-before ps r e in
-      let fits : AreAttributesBefore (left_of fs (xs ++ (r.0 ∷ [])) r.1) (r.0 ∷ g.more) = (subst (λ qs. IsAttributeBefore qs r.0) g.left s.1, g.fit) in
+      let fits : AreAttributesBefore (gather attribute_of fs (xs ++ (r.0 ∷ [])) r.1).1 (r.0 ∷ g.more) = (subst (λ qs. IsAttributeBefore qs r.0) g.left s.1, g.fit) in
       record {
         more = r.0 ∷ g.more;
         is = rw e (g.is ∙ append_assoc xs (r.0 ∷ []) g.more);
-        left = rw e (s.0 ∙ ap (λ qs. spell_attribute r.0 ++ qs) g.left ∙ sym (append_assoc (spell_attribute r.0) (each spell_attribute g.more) (left_of fs (xs ++ (r.0 ∷ [])) r.1)));
-        fit = rw e fits;
+        left = rw e (s.0 ∙ ap (λ qs. spell_attribute r.0 ++ qs) g.left ∙ sym (append_assoc (spell_attribute r.0) (each spell_attribute g.more) (gather attribute_of fs (xs ++ (r.0 ∷ [])) r.1).1));
+        fit = subst (λ z. AreAttributesBefore (gather_next z xs ps (λ ys qs. gather attribute_of fs ys qs)).1 (r.0 ∷ g.more)) (sym e) fits;
       }
 
 module _ (rest : List Piece) (stops : attribute_of rest ≡ None) where
@@ -109,14 +106,14 @@ attributes-out (p ∷ ps) f h = go (is_special (codes "[") p) refl where
   go true e =
       let g = gathers ps [] ps in
       let stops = gather-stops attribute_of spell_attribute IsAttribute attribute-sound attribute_some refl ps [] ps (le_refl (length ps)) in
-      let o = before-out (gather attribute_of ps [] ps).0 (left_of ps [] ps) (left_out_in (gather attribute_of ps [] ps).0 (left_of ps [] ps)) f (rw e at h) in
+      let o = before-out (gather attribute_of ps [] ps).0 (gather attribute_of ps [] ps).1 (left_out_in (gather attribute_of ps [] ps).0 (gather attribute_of ps [] ps).1) f (rw e at h) in
       record {
         attributes = g.more;
-        rest = left_of ps [] ps;
+        rest = (gather attribute_of ps [] ps).1;
         spelled = ap (λ x. x ∷ ps) (special-is (codes "[") p e) ∙ ap (λ x. left_bracket ∷ x) g.left;
         written = g.fit;
-        ended = read-none (left_of ps [] ps) stops;
-        first = ap (λ x. left_out_in x (left_of ps [] ps)) (sym g.is) ∙ o;
+        ended = read-none (gather attribute_of ps [] ps).1 stops;
+        first = ap (λ x. left_out_in x (gather attribute_of ps [] ps).1) (sym g.is) ∙ o;
       }
 
 pub out-attributes : (ps : List Piece) (f : Feature) → HasLeftOutAttribute f ps → attributes_of ps ≡ LeftOut f

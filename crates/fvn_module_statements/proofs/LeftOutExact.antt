@@ -22,7 +22,7 @@ use Rattle.fvn_module_syntax.specs.LeftOut.{feature_of}
 use Rattle.fvn_module_syntax.specs.Written.{IsName, IsWritten}
 use Rattle.fvn_module_statements.specs.Forms.{IsFormless}
 use Rattle.fvn_module_statements.specs.Laws.{StatementsAreDetermined}
-use Rattle.fvn_module_statements.specs.LeftOut.{IsNaming, one, several, IsLeftOutOperator, IsLeftOutEquation, IsLeftOut, by_first_word, by_name, by_names, by_attribute, by_equation}
+use Rattle.fvn_module_statements.specs.LeftOut.{BeginsWith, HasLooseName, HasLooseNames, IsNaming, one, several, IsLeftOutOperator, IsLeftOutEquation, IsLeftOut, by_first_word, by_name, by_names, by_attribute, by_equation}
 use Rattle.fvn_module_statements.specs.inner.Gather.{gather}
 use Rattle.fvn_module_statements.specs.inner.Attributes.{is_some}
 use Rattle.fvn_module_statements.specs.inner.Names.{is_empty, sort_names_of, groups_of, variables_of, split_colon, name_of}
@@ -46,11 +46,14 @@ operator-out ps f h = go (split_colon ps) refl where
   named r e false false i j =
       let k : LeftOut feature.Name ≡ LeftOut f = rw (e, i, j) at h in
       let s = split_colon-sound ps r.0 r.1 e in
-      by_name cc (record { name = r.0; rest = colon ∷ r.1; spelled = ap (λ x. word (codes "op") ∷ x) s.0; plain = s.1; loose = j })
+      let i : f ≡ feature.Name = cc in
+      let n : HasLooseName (word (codes "op") ∷ ps) =
+      record { name = r.0; rest = colon ∷ r.1; spelled = ap (λ x. word (codes "op") ∷ x) s.0; plain = s.1; loose = j } in
+      by_name i n
   named r e false true i j =
       let o = ranked-out (statement.Operator r.0) r.1 f (rw (e, i, j) at h) in
       let s = split_colon-sound ps r.0 r.1 e in
-      by_attribute (record {
+      let a : IsLeftOutOperator f (word (codes "op") ∷ ps) = record {
         naming = word (codes "op") ∷ r.0;
         rank = o.rank;
         behind = o.behind;
@@ -58,13 +61,17 @@ operator-out ps f h = go (split_colon ps) refl where
         names = one r.0 (empty-not r.0 i) s.1 j refl;
         sorts = o.sorts;
         left_out = o.left_out;
-      })
+      } in
+      by_attribute a
 
   none : split_colon ps ≡ None → (b : Bool) → touch ps ≡ b → IsLeftOut f (word (codes "op") ∷ ps)
   none e true i = let k = rw (e, i) at h in cc
   none e false i =
       let k : LeftOut feature.Name ≡ LeftOut f = rw (e, i) at h in
-      by_name cc (record { name = ps; rest = []; spelled = ap (λ x. word (codes "op") ∷ x) (sym (append-nil ps)); plain = no_colons ps e; loose = i })
+      let is : f ≡ feature.Name = cc in
+      let n : HasLooseName (word (codes "op") ∷ ps) =
+      record { name = ps; rest = []; spelled = ap (λ x. word (codes "op") ∷ x) (sym (append-nil ps)); plain = no_colons ps e; loose = i } in
+      by_name is n
 
   go : (o : Option (List Piece × List Piece)) → split_colon ps ≡ o → IsLeftOut f (word (codes "op") ∷ ps)
   go None e = none e (touch ps) refl
@@ -91,7 +98,8 @@ operators-out ps f h = go (list_all names_touch (gather name_of ps [] ps).0) (is
       let k : LeftOut feature.Name ≡ LeftOut f = rw e at h in
       let g = gather-sound name_of spell_name IsName name-sound ps [] ps in
       let l = loose-in g.more (gather name_of ps [] ps).1 g.fit (ap (list_all names_touch) (sym g.is) ∙ e) in
-      by_names cc (record {
+      let is : f ≡ feature.Name = cc in
+      let n : HasLooseNames (word (codes "ops") ∷ ps) = record {
         names = l.names;
         name = l.name;
         rest = l.after;
@@ -99,14 +107,15 @@ operators-out ps f h = go (list_all names_touch (gather name_of ps [] ps).0) (is
         are_names = l.are_names;
         fits = l.fits;
         loose = l.loose;
-      })
+      } in
+      by_names is n
   go true false e i = let k = rw (e, i) at h in cc
   go true true e i =
       let g = gather-sound name_of spell_name IsName name-sound ps [] ps in
       let o = behind-out (gather name_of ps [] ps).0 (gather name_of ps [] ps).1 f (rw (e, i) at h) in
       let touching : list_all names_touch g.more ≡ true = ap (list_all names_touch) (sym g.is) ∙ e in
       let some : is_some g.more ≡ true = ap is_some (sym g.is) ∙ i in
-      by_attribute (record {
+      let a : IsLeftOutOperator f (word (codes "ops") ∷ ps) = record {
         naming = word (codes "ops") ∷ each spell_name g.more;
         rank = o.ranked.rank;
         behind = o.ranked.behind;
@@ -115,7 +124,8 @@ operators-out ps f h = go (list_all names_touch (gather name_of ps [] ps).0) (is
         names = several g.more (some-is g.more some) g.fit (all-true names_touch g.more touching) refl;
         sorts = o.ranked.sorts;
         left_out = o.ranked.left_out;
-      })
+      } in
+      by_attribute a
 
 -- A statement.
 
@@ -147,7 +157,8 @@ left_out-sound (p ∷ ps) f h = go (is_word p) (feature_of p.text) (keyword_of p
   go true (Some x) k e i j =
       let g : LeftOut x ≡ LeftOut f = rw (e, i) at h in
       let s : x ≡ f = cc in
-      by_first_word (record { first = p.text; rest = ps; spelled = ap (λ y. y ∷ ps) (word-is p e); begins = i ∙ ap Some s })
+      let b : BeginsWith f (p ∷ ps) = record { first = p.text; rest = ps; spelled = ap (λ y. y ∷ ps) (word-is p e); begins = i ∙ ap Some s } in
+      by_first_word b
   go true None None e i j = let g = rw (e, i, j) at h in cc
   go true None (Some k) e i j =
       let s = keyword-out k ps f (rw (e, i, j) at h) in
