@@ -27,9 +27,9 @@ use Rattle.fvn_theory.specs.declared.equation.Equation.{Equation}
 use Rattle.fvn_module.specs.Equations.{equations_in, AreEquationsOf}
 use Rattle.fvn_module.specs.Readable.{IsReadable}
 use Rattle.fvn_module.specs.Contents.{Contents, scope_of}
-use Rattle.fvn_module.specs.ModuleText.{scope_in, Declares, IsOnlyModule}
+use Rattle.fvn_module.specs.ModuleText.{scope_in, Declares, IsOnlyModule, HasNoModule}
 use Rattle.fvn_module.specs.Refusals.{tops_told}
-use Rattle.fvn_module.specs.inner.Steps.{fault_of_cut, IsWritable, AreRead, IsSigned, IsSigningRefused, AreRefused, IsFormFault, IsModuleAlone, IsTextFault}
+use Rattle.fvn_module.specs.inner.Steps.{fault_of_cut, IsWritable, AreRead, IsSigned, IsSigningRefused, AreRefused, IsFormFault, IsRowFault, IsModuleAlone, IsTextFault}
 use Rattle.fvn_module.proofs.Results.{on_ok}
 use Rattle.fvn_module.proofs.Determined.{declared-once}
 use Rattle.fvn_module.proofs.Excluded.{not-signing, not-equations}
@@ -114,3 +114,10 @@ module _ (bytes : Text) where
   cut-fault (lexed.BlockComment n) (inl e) = cc
   cut-fault (lexed.BlockComment n) (inr h) = lex-fault (lexed.BlockComment n) h
   cut-fault lexed.NoMemory h = record { refuses = tt; none = inl refl }
+
+  pub row-told : (row : List Piece) → HasPieces bytes row → (fault : ModuleFault) → IsRowFault row fault → IsTextFault bytes fault
+  row-told row cut fault h = record { refuses = h.refuses bytes cut; none = go h.none } where
+    go : (fault ≡ NoMemory) ⊎ ((f : Form) → IsFormOf row f → (m : Contents) → Declares f m → ⊥) → HasNoModule bytes fault
+    go (inl e) = inl e
+    go (inr k) =
+        inr (λ m d. k d.form (subst (λ r. IsFormOf r d.form) (pieces-once bytes d.written.row row d.written.cut cut) d.written.form) m d.declares)
