@@ -26,7 +26,7 @@ use Rattle.fvn_problems.specs.declared.split.Halves.{Halves}
 use Rattle.fvn_problems.specs.Bindings.{BindsOnce, AreOneVariable, IsVariableOf, IsBindingFault, no_variable, in_term, other_kind, other_sort, AreBindingsOf, IsBindingsFault, AreBindings, IsFault, in_bindings, too_large, IsText, IsBindings, IsOnlyBindings, RefusesBindings, HasNoBindings, AreOfProblem, AreDistinct, AreNotFresh}
 use Rattle.fvn_problems.specs.Scopes.{unguarded, AreNamesOf}
 use Rattle.fvn_problems.specs.Spelling.{RawPair, spell_bindings, IsBindingText}
-use Rattle.fvn_problems.specs.inner.Split.{AreTerms, IsBindingSplit}
+use Rattle.fvn_problems.specs.inner.Split.{AreTerms, IsBindingRow, IsBindingSplit}
 use Rattle.fvn_problems.specs.inner.Bound.{AreBound, TellsOnce, Binds, BindsNothing}
 use Rattle.fvn_problems.proofs.Answering.{on-ok, on-err, first-written, refuted, IsOfText, fault_of-text}
 use Rattle.fvn_problems.proofs.Binding.{bindings-same, bindings-faultless}
@@ -185,6 +185,11 @@ module _ (d : Declarations) (names : Names) (p : Problem) (bytes : Text) where
       (λ x s. (value-fits d names p fit law b.subst.pairs h x).0 s, λ x. (value-fits d names p fit law b.subst.pairs h x).1)
 
   module _ (row : List Piece) (cut : HasPieces bytes row) where
+    -- a row that is none makes the text none
+    pub bindings-formless : ((raw : List RawPair) → IsBindingRow row raw → ⊥) → RefusesBindings d names p bytes NoText
+    bindings-formless none =
+        ((row, cut), λ raw t. none raw (record { written = (t.0).written; spelled = pieces-once bytes row (spell_bindings raw) cut (t.0).spelled }))
+
     module _ (list : List Halves) (split : IsBindingSplit row list) where
       in-text : IsBindingText bytes split.raw
       in-text = record { written = split.is.written; spelled = subst (HasPieces bytes) split.is.spelled cut }

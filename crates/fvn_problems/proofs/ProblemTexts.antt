@@ -22,7 +22,7 @@ use Rattle.fvn_syntax.specs.Raw.{RawTerm, spell, IsWritten, IsTermBefore}
 use Rattle.fvn_syntax.specs.Scope.{Scope}
 use Rattle.fvn_syntax.proofs.SpelledOnce.{ends-nil}
 use Rattle.fvn_problems.specs.declared.fault.ProblemFault.{ProblemFault}
-use Rattle.fvn_problems.specs.declared.fault.ProblemFault.TheVariants.{TooLarge, NoMemory}
+use Rattle.fvn_problems.specs.declared.fault.ProblemFault.TheVariants.{Text as NoText, TooLarge, NoMemory}
 use Rattle.fvn_problems.specs.declared.problem.Problem.{Problem}
 use Rattle.fvn_problems.specs.declared.split.Halves.{Halves}
 use Rattle.fvn_problems.specs.Faults.{fault_of}
@@ -30,7 +30,7 @@ use Rattle.fvn_problems.specs.Problems.{symbols_of, AreOfOneKind, IsPairOf, AreP
 use Rattle.fvn_problems.specs.Scopes.{guarded, AreNamesOf}
 use Rattle.fvn_problems.specs.Spelling.{RawPair, RawProblem, pairs_in, spell_problem, IsWrittenPair, IsProblemText}
 use Rattle.fvn_problems.specs.Variables.{with_sides, OccursInSides}
-use Rattle.fvn_problems.specs.inner.Split.{halves_of, AreTerms, IsProblemSplit}
+use Rattle.fvn_problems.specs.inner.Split.{halves_of, AreTerms, IsProblemRow, IsProblemSplit}
 use Rattle.fvn_problems.specs.inner.Steps.{MemoryOr, AreOf, ReadsPairs, RefusesPairs, Asks, AsksNothing}
 use Rattle.fvn_problems.proofs.Answering.{on-err, first-written, refuted, IsOfText, fault_of-text}
 use Rattle.fvn_problems.proofs.Named.{Grown, grown-ok, grown-both, grown-same, sort-known}
@@ -165,6 +165,11 @@ module _ (d : Declarations) (names : Names) (bytes : Text) where
       }
 
   module _ (row : List Piece) (cut : HasPieces bytes row) where
+    -- a row that is none makes the text none
+    pub problem-formless : ((raw : RawProblem) → IsProblemRow row raw → ⊥) → RefusesProblem d names bytes NoText
+    problem-formless none =
+        ((row, cut), λ raw t. none raw (record { written = t.written; spelled = pieces-once bytes row (spell_problem raw) cut t.spelled }))
+
     module _ (list : List Halves) (split : IsProblemSplit row list) where
       in-text : IsProblemText bytes split.raw
       in-text = record { written = split.is.written; spelled = subst (HasPieces bytes) split.is.spelled cut }

@@ -23,14 +23,14 @@ use Rattle.fvn_syntax.specs.Pieces.{Text}
 use Rattle.fvn_syntax.specs.Resolve.{resolve}
 use Rattle.fvn_syntax.specs.Scope.{Scope}
 use Rattle.fvn_problems.specs.declared.fault.ProblemFault.{ProblemFault}
-use Rattle.fvn_problems.specs.declared.fault.ProblemFault.TheVariants.{TooLarge, NoMemory}
+use Rattle.fvn_problems.specs.declared.fault.ProblemFault.TheVariants.{Text as NoText, TooLarge, NoMemory}
 use Rattle.fvn_problems.specs.declared.query.Query.{Query}
 use Rattle.fvn_problems.specs.Faults.{fault_of}
 use Rattle.fvn_problems.specs.Queries.{IsQueryOf, IsQueryFault, in_term, too_large, IsQuery, IsOnlyQuery, RefusesQuery, HasNoQuery, HasVariables}
 use Rattle.fvn_problems.specs.Scopes.{guarded, AreNamesOf}
 use Rattle.fvn_problems.specs.Spelling.{RawQuery, spell_query, IsQueryText}
 use Rattle.fvn_problems.specs.Variables.{with_variables}
-use Rattle.fvn_problems.specs.inner.Split.{IsQuerySplit}
+use Rattle.fvn_problems.specs.inner.Split.{IsQueryRow, IsQuerySplit}
 use Rattle.fvn_problems.specs.inner.Steps.{IsTermOf, AsksNoTerm}
 use Rattle.fvn_problems.proofs.Answering.{on-err, first-written, refuted, IsOfText, fault_of-text}
 use Rattle.fvn_problems.proofs.Named.{grown-ok, sort-known}
@@ -105,6 +105,11 @@ module _ (d : Declarations) (names : Names) (bytes : Text) where
       }
 
   module _ (row : List Piece) (cut : HasPieces bytes row) where
+    -- a row that is none makes the text none
+    pub query-formless : ((raw : RawQuery) → IsQueryRow row raw → ⊥) → RefusesQuery d names bytes NoText
+    query-formless none =
+        ((row, cut), λ raw t. none raw (record { written = t.written; spelled = pieces-once bytes row (spell_query raw) cut t.spelled }))
+
     module _ (front : List Piece) (split : IsQuerySplit row front) where
       in-text : IsQueryText bytes split.raw
       in-text = record { written = split.is.written; spelled = subst (HasPieces bytes) split.is.spelled cut }

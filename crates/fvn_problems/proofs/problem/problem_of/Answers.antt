@@ -5,7 +5,7 @@ use Rattle.fvn_lex.specs.Parts.{HasPieces}
 use Rattle.fvn_problems.specs.Scopes.{guarded}
 use Rattle.fvn_problems.specs.inner.Split.{AreTerms}
 use Rattle.fvn_problems.specs.inner.Steps.{AsksNothing}
-use Rattle.fvn_problems.proofs.ProblemTexts.{split-terms, problem-err}
+use Rattle.fvn_problems.proofs.ProblemTexts.{problem-formless, split-terms, problem-err}
 use Rattle.fvn_problems.proofs.problem.problem_of.Goals as goal
 
 pub ask-requires : goal.ask-requires
@@ -21,3 +21,8 @@ returns-clause-err c =
     let told = subst (λ l. IfErr c.ask.result (AsksNothing c.new-scope.result l)) c.as_slice-in-Some.ensures c.ask.ensures.err in
     problem-err c.args.signature.now c.args.names.now c.args.bytes.now c.as_slice.result.now cut c.in-Some.list split c.ask.result
     (subst (λ s. IfErr c.ask.result (AsksNothing s c.in-Some.list)) scope told)
+
+pub returns-in-None-clause-err : goal.returns-in-None-clause-err
+returns-in-None-clause-err c =
+    let cut = subst (HasPieces c.args.bytes.now) (sym c.as_slice.ensures.value) c.in_ok-row.ensures.ok in
+    problem-formless c.args.signature.now c.args.names.now c.args.bytes.now c.as_slice.result.now cut (rw c.in-None.is at c.in_ok-split_problem.ensures.none)
