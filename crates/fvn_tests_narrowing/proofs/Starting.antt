@@ -1,13 +1,14 @@
 -- A form whose variables are not fresh may be expanded.
 use Rattle.std.proofs.Common.{◌≡◌, Bool, true, false, ℕ, List, [], ◌∷◌, ◌++◌, refl, sym, ap, ◌∙◌, subst, inl, inr}
-use Rattle.std.specs.Prelude.{◌⊎◌, ◌≢◌, if◌then◌else◌, All, AllPairs, Any, Contains}
+use Rattle.std.specs.Prelude.{◌⊎◌, ◌≢◌, ◌||◌, if◌then◌else◌, All, AllPairs, Any, Contains}
 use Rattle.std.proofs.lemmas.List.Elements.{All-nil, All-weaker, All-contains_itself, Contains-append_cases}
-use Rattle.fvn_base.proofs.Membership.{contains_none, contains_cases}
+use Rattle.fvn_base.proofs.Membership.{contains_none, contains_cases, contains_here, contains_later}
 use Rattle.fvn_terms.specs.declared.plain.Var.{Var}
 use Rattle.fvn_terms.specs.declared.declarations.Declarations.{Declarations}
 use Rattle.fvn_terms.specs.Term.{Term, Terms, var}
 use Rattle.fvn_terms.specs.Signature.{IsSort}
-use Rattle.fvn_terms.specs.Substitution.{Occurs, OccursAmong}
+use Rattle.fvn_terms.specs.Substitution.{Occurs, OccursAmong, same_var}
+use Rattle.fvn_terms.proofs.Variables.{same_var_is}
 use Rattle.fvn_forms.specs.Flat.{FlatTerm, FlatTerms, fvar, fapp, fnone, fmore, plain, plain_all}
 use Rattle.fvn_flat.specs.Bindings.{Bindings, BindingsFit}
 use Rattle.fvn_flat.specs.Drawn.{OccursInValues}
@@ -23,6 +24,14 @@ use Rattle.fvn_exploring.specs.Setting.{Setting}
 use Rattle.fvn_exploring.specs.Children.{HoldsVariables, IsNumberedBelow}
 use Rattle.fvn_exploring.specs.Expansions.{IsExpandable}
 use Rattle.fvn_tests_narrowing.specs.Starts.{MayStart, IsAlone}
+
+listed_only : (vars : List Var) (x : Var) → listed vars x ≡ true → Contains vars x
+listed_only [] x e = cc
+listed_only (z ∷ vars) x e = go (same_var z x) refl (listed_only vars x)
+  where
+    go : (b : Bool) → same_var z x ≡ b → (listed vars x ≡ true → Contains vars x) → Contains (z ∷ vars) x
+    go true q rest = subst (λ y. Contains (y ∷ vars) x) (sym (same_var_is z x q)) (contains_here x vars)
+    go false q rest = contains_later z vars x (rest (ap (λ b. b || listed vars x) (sym q) ∙ e))
 
 -- what is listed of a form occurs in it
 last_one : (vars : List Var) (y x : Var) (b : Bool) → Contains (if b then vars else vars ++ y ∷ []) x → Contains vars x ⊎ (x ≡ y)

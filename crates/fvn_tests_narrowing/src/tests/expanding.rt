@@ -283,7 +283,7 @@ fn shown_rest(alloc: Global, normal: &Normal) -> Result<String, NoMemory> {
 }
 
 fn rested_by<E: Expander>(alloc: Global, expander: &E, term: &Flat) -> Result<String, NoMemory>
-    requires { Fits (E.setting expander.now).declarations term.now }
+    requires fits { Fits (E.setting expander.now).declarations term.now }
 {
     let normal = expander.rest(alloc, term)?;
     shown_rest(alloc, &normal)
@@ -295,7 +295,7 @@ fn children_by<E: Expander>(
     v: &Variant,
     row: &Row<'_>,
 ) -> Result<String, NoMemory>
-    requires { IsExpandable (E.setting expander.now) EXPANDED_FRESH v.now }
+    requires variant { IsExpandable (E.setting expander.now) EXPANDED_FRESH v.now }
 {
     let e = expander.expand(alloc, v, limits::EXPANDED_FRESH)?;
     shown(alloc, &e, row)
@@ -308,7 +308,7 @@ fn answered_by<E: Expander>(
     term: Flat,
     row: &Row<'_>,
 ) -> Result<String, NoMemory>
-    requires { MayStart (E.setting expander.now) term }
+    requires start { MayStart (E.setting expander.now) term }
 {
     let handing = Handing::new(expander);
     if row.rests {
