@@ -2,12 +2,13 @@
 use Rattle.std.proofs.Common.{ℕ, List, refl, inl, inr}
 use Rattle.fvn_cmd.specs.declared.status.Status.{Status}
 use Rattle.fvn_cmd_laws.specs.Laws.{VerdictsAreExact, AnswersAreExact}
-use Rattle.fvn_tool.specs.Words.{Command, check, unify, verify, terminates}
+use Rattle.fvn_tool.specs.Words.{Command, check, unify, verify, terminates, variants, vunify}
 use Rattle.fvn_tool.specs.Runs.{Outside}
-use Rattle.fvn_tool.specs.Asked.{summary, unifiers, verdict, termination, IsShort}
+use Rattle.fvn_tool.specs.Asked.{summary, unifiers, verdict, termination, term_variants, theory_unifiers, IsShort}
 use Rattle.fvn_tool.specs.Answered.{IsReply}
 use Rattle.fvn_tool.specs.Outcomes.{IsOutcome, no_command, too_long, replied}
 use Rattle.fvn_tool.specs.inner.Steps.{IsCommandReply, IsGivenOutcome, is_usage, is_long, is_replied}
+use Rattle.fvn_cmd_laws.proofs.Explored.{whole_within}
 use Rattle.fvn_tool.proofs.Grammar.{command_read, no_command_read}
 
 module _ (verdicts : VerdictsAreExact) (answers : AnswersAreExact) where
@@ -57,6 +58,36 @@ module _ (verdicts : VerdictsAreExact) (answers : AnswersAreExact) where
         (
           record { short = short; loaded = a.2.0.module_text; question_is = (a.1, (a.2.0.weights_text, refl)) },
           record { answer = a.2.1.found; right = a.2.1.right; status_is = a.2.1.status_is; shown = a.2.1.shown; whole = tt },
+        ),
+      )
+  reply (variants word reach) bytes short s t (inl r) = inl (inr (short, r))
+  reply (variants word reach) bytes short s t (inr a) =
+      inr (
+        record { contents = a.0; question = term_variants a.1 reach },
+        (
+          record { short = short; loaded = a.2.0.module_text; question_is = (a.1, (a.2.0.term_text, refl)) },
+          record {
+            answer = a.2.1.found;
+            right = a.2.1.solution;
+            status_is = a.2.1.status_is;
+            shown = a.2.1.shown;
+            whole = λ stays. stays a.2.1.found.explored.end a.2.1.solution.explored.cause;
+          },
+        ),
+      )
+  reply (vunify word reach) bytes short s t (inl r) = inl (inr (short, r))
+  reply (vunify word reach) bytes short s t (inr a) =
+      inr (
+        record { contents = a.0; question = theory_unifiers a.1 reach },
+        (
+          record { short = short; loaded = a.2.0.module_text; question_is = (a.1, (a.2.0.problem_text, refl)) },
+          record {
+            answer = a.2.1.found;
+            right = a.2.1.solution;
+            status_is = a.2.1.status_is;
+            shown = a.2.1.shown;
+            whole = whole_within a.0 a.1 reach a.2.1.found a.2.1.solution;
+          },
         ),
       )
 
