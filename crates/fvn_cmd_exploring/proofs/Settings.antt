@@ -20,7 +20,7 @@ use Rattle.fvn_exploring.specs.Explorations.{IsExploreCause, IsExploration}
 use Rattle.fvn_closure.specs.Laws.{ExplorationsAreLawful}
 use Rattle.fvn_narrow.specs.Settings.{narrowing_setting}
 use Rattle.fvn_cmd_exploring.specs.declared.reach.Reach.{Reach}
-use Rattle.fvn_cmd_exploring.specs.Searches.{setting_of, limits_of, AreExplored, IsSearched}
+use Rattle.fvn_cmd_exploring.specs.Searches.{setting_of, limits_of, IsExploredBy, IsSearched}
 
 module _ (m : Contents) (reach : Reach) where
   abbrev pub bounds_of : Bounds
@@ -41,8 +41,8 @@ module _ (m : Contents) (reach : Reach) where
   limits_are workers limits a b c e f = λ i. record { levels = a i; variants = b i; steps = c i; size = e i; workers = f i }
 
   -- an exploration does not speak of workers
-  module _ (start : List FlatTerm) (x : Explored) (workers : ℕ) where
-    cause_free : (end : ExploreEnd) → IsExploreCause (setting_of m reach) (IsDrawn m.signature) start (limits_of m reach workers) x end → IsExploreCause (setting_of m reach) (IsDrawn m.signature) start (limits_of m reach 1) x end
+  module _ (drawn : Problem → Substitution → Type 0) (start : List FlatTerm) (x : Explored) (workers : ℕ) where
+    cause_free : (end : ExploreEnd) → IsExploreCause (setting_of m reach) drawn start (limits_of m reach workers) x end → IsExploreCause (setting_of m reach) drawn start (limits_of m reach 1) x end
     cause_free Complete c = c
     cause_free (Levels v) c = c
     cause_free (Variants v) c = c
@@ -51,7 +51,7 @@ module _ (m : Contents) (reach : Reach) where
     cause_free (Basis f system) c = c
     cause_free (Unifiers given list) c = c
 
-    workers_free : IsExploration (setting_of m reach) (IsDrawn m.signature) start (limits_of m reach workers) x → AreExplored m reach start x
+    workers_free : IsExploration (setting_of m reach) drawn start (limits_of m reach workers) x → IsExploration (setting_of m reach) drawn start (limits_of m reach 1) x
     workers_free e = record {
       lawful = e.lawful;
       run = e.run;
@@ -65,15 +65,21 @@ module _ (m : Contents) (reach : Reach) where
     }
 
     -- what was explored in a setting that is the module's
-    module _ (g : Setting) (setting : g ≡ setting_of m reach) (drawn : Problem → Substitution → Type 0) (draws : drawn ≡ IsDrawn m.signature) where
-      pub explored_in : (limits : Limits) → limits ≡ limits_of m reach workers → IsExploration g drawn start limits x → AreExplored m reach start x
-      explored_in limits is e =
-          workers_free
-          (subst (λ y. IsExploration (setting_of m reach) (IsDrawn m.signature) start y x) is
-          (subst (λ y. IsExploration (setting_of m reach) y start limits x) draws (subst (λ y. IsExploration y drawn start limits x) setting e)))
+    module _ (g : Setting) (setting : g ≡ setting_of m reach) where
+      pub explored_in : (limits : Limits) → limits ≡ limits_of m reach workers → IsExploration g drawn start limits x → IsExploration (setting_of m reach) drawn start (limits_of m reach 1) x
+      explored_in limits is e = workers_free (subst (λ y. IsExploration (setting_of m reach) drawn start y x) is (subst (λ y. IsExploration y drawn start limits x) setting e))
 
-      pub searched : (limits : Limits) → limits ≡ limits_of m reach workers → IsExploration g drawn start limits x → ExplorationsAreLawful g drawn → IsSearched m reach start x
-      searched limits is e laws = record {
-        explored = explored_in limits is e;
-        laws = subst (λ y. ExplorationsAreLawful (setting_of m reach) y) draws (subst (λ y. ExplorationsAreLawful y drawn) setting laws);
-      }
+      pub explored_by : (limits : Limits) → limits ≡ limits_of m reach workers → IsExploration g drawn start limits x → ExplorationsAreLawful g drawn → IsExploredBy m reach drawn start x
+      explored_by limits is e laws = record { explored = explored_in limits is e; laws = subst (λ y. ExplorationsAreLawful y drawn) setting laws }
+
+  -- a solver modulo the axioms draws as the module's does
+  pub drawn_by : (start : List FlatTerm) (x : Explored) (drawn : Problem → Substitution → Type 0) → drawn ≡ IsDrawn m.signature → IsExploredBy m reach drawn start x → IsSearched m reach start x
+  drawn_by start x drawn is e = subst (λ y. IsExploredBy m reach y start x) is e
+
+-- what is explored with one solver is so with the same one by another name
+module _ {S : Type 0} (draws : S → Problem → Substitution → Type 0) (a b : S) (same : a ≡ b) (g : Setting) where
+  pub explored_along : (start : List FlatTerm) (limits : Limits) (x : Explored) → IsExploration g (draws a) start limits x → IsExploration g (draws b) start limits x
+  explored_along start limits x h = subst (λ z. IsExploration g (draws z) start limits x) same h
+
+  pub lawful_along : ExplorationsAreLawful g (draws a) → ExplorationsAreLawful g (draws b)
+  lawful_along h = subst (λ z. ExplorationsAreLawful g (draws z)) same h

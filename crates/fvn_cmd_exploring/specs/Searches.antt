@@ -1,6 +1,9 @@
 -- What variants are explored in.
 use Rattle.std.specs.Prelude.{◌≡◌, ◌≤◌, ℕ, List, []}
 use Rattle.fvn_base.specs.declared.limits.TheConstants.{TERM_SYMBOLS, UNIFIERS}
+use Rattle.fvn_terms.specs.declared.declarations.Declarations.{Declarations}
+use Rattle.fvn_terms.specs.Substitution.{Substitution}
+use Rattle.fvn_terms.specs.Unifiers.{Problem}
 use Rattle.fvn_terms.specs.Rewriting.{IsTerminating, IsConfluent}
 use Rattle.fvn_forms.specs.Flat.{FlatTerm}
 use Rattle.fvn_flat.specs.Drawn.{IsDrawn}
@@ -61,7 +64,18 @@ pub record IsSearchable (m : Contents) (rules : RuleLists) (reach : Reach) (work
   pub keeps : KeepsSome reach
   pub workers_are : AreSomeWorkers workers
 
--- what was explored, and what is known of explorations in the module
-pub record IsSearched (m : Contents) (reach : Reach) (start : List FlatTerm) (x : Explored) : Type 0 where
-  pub explored : AreExplored m reach start x
-  pub laws : ExplorationsAreLawful (setting_of m reach) (IsDrawn m.signature)
+-- a solver with this signature and these limits is one for the module
+pub record IsModuleSolver (m : Contents) (d : Declarations) (unifiers symbols : ℕ) : Type 0 where
+  pub signature : d ≡ m.signature
+  pub unifiers_are : unifiers ≡ UNIFIERS
+  pub symbols_are : symbols ≡ TERM_SYMBOLS
+
+-- what was explored, with a solver that may draw so, and what is known of such explorations
+pub record IsExploredBy (m : Contents) (reach : Reach) (drawn : Problem → Substitution → Type 0) (start : List FlatTerm)
+    (x : Explored) : Type 0 where
+  pub explored : IsExploration (setting_of m reach) drawn start (limits_of m reach 1) x
+  pub laws : ExplorationsAreLawful (setting_of m reach) drawn
+
+-- the same with the solver modulo the axioms
+abbrev pub IsSearched : Contents → Reach → List FlatTerm → Explored → Type 0
+IsSearched m reach = IsExploredBy m reach (IsDrawn m.signature)
