@@ -1,5 +1,5 @@
 -- The ends of searches for unifiers can be told.
-use Rattle.std.proofs.Common.{◌≡◌, ◌≢◌, ℕ, List, Option, Some, None, refl, sym, ◌∙◌, subst}
+use Rattle.std.proofs.Common.{◌≡◌, ◌≢◌, ℕ, Option, Some, None, refl, sym, subst}
 use Rattle.std.specs.Prelude.{Any}
 use Rattle.fvn_flat.specs.Drawn.{IsDrawn}
 use Rattle.fvn_flat.specs.Solving.{FlatPairs}

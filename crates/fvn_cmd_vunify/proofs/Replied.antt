@@ -11,13 +11,11 @@ use Rattle.fvn_theory.specs.Equations.{equations_of}
 use Rattle.fvn_forms.specs.Good.{IsGood}
 use Rattle.fvn_signature.specs.Queries.{IsCompleted}
 use Rattle.fvn_flat.specs.Bindings.{Bindings, BindingsFit}
-use Rattle.fvn_flat.specs.Drawn.{IsDrawn}
 use Rattle.fvn_flat.specs.Laws.{FlattenedPairsAreGiven}
 use Rattle.fvn_flat.specs.Problems.{plain_pairs, flat_pairs}
 use Rattle.fvn_flat.specs.Solving.{FlatPairs, IsGiven, substitution}
 use Rattle.fvn_flat.specs.declared.solver.Pairs.{Pairs}
 use Rattle.fvn_rewrite_laws.specs.Admissible.{AreAdmissible}
-use Rattle.fvn_rewrite_rules.specs.Given.{RuleLists}
 use Rattle.fvn_syntax.specs.declared.names.Names.{Names}
 use Rattle.fvn_syntax.specs.Pieces.{Text}
 use Rattle.fvn_syntax.specs.Scope.{Scope}
@@ -29,12 +27,11 @@ use Rattle.fvn_problems.specs.Scopes.{guarded}
 use Rattle.fvn_problems.specs.Spelling.{RawPair, pairs_in}
 use Rattle.fvn_module.specs.Contents.{Contents}
 use Rattle.fvn_module_loading.specs.Losses.{IsLossOf}
-use Rattle.fvn_exploring.specs.declared.ends.ExploreEnd.{ExploreEnd}
-use Rattle.fvn_exploring.specs.declared.ends.ExploreEnd.TheVariants.{Complete, Levels, Variants, Steps, Size, Basis, Unifiers}
+use Rattle.fvn_exploring.specs.declared.ends.ExploreEnd.TheVariants.{Complete}
 use Rattle.fvn_vunify.specs.declared.solved.SolvedModulo.{SolvedModulo}
 use Rattle.fvn_vunify.specs.Solutions.{IsIrreducibleUnifier}
 use Rattle.fvn_answer.specs.Asked.{HaveSorts}
-use Rattle.fvn_answer.specs.Answers.{FitsEnd, IsAnswerText}
+use Rattle.fvn_answer.specs.Answers.{IsAnswerText}
 use Rattle.fvn_answer.specs.Laws.{EqualLinesAreInstances}
 use Rattle.fvn_answer.specs.declared.end.End.{End}
 use Rattle.fvn_cmd.specs.declared.status.Status.{Status}

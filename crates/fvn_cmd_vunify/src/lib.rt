@@ -1,7 +1,6 @@
 //! The reply to `vunify` over the text of a module and the word of a problem.
 #![tactic(auto)]
 
-mod dummy;
 mod replying;
 mod solving;
 

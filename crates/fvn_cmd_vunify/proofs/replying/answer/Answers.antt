@@ -1,18 +1,14 @@
 -- A line for each unifier, and the end.
-use Rattle.std.proofs.Common.{◌≡◌, sym, ap, ◌∙◌, subst}
+use Rattle.std.proofs.Common.{sym, subst}
 use Rattle.std.specs.Prelude.{All}
 use Rattle.fvn_forms.specs.Good.{IsGood}
 use Rattle.fvn_signature.specs.Queries.{IsCompleted}
 use Rattle.fvn_flat.specs.Bindings.{BindingsFit}
-use Rattle.fvn_flat.specs.Problems.{flat_pairs}
 use Rattle.fvn_rewrite_laws.specs.Admissible.{AreAdmissible}
 use Rattle.fvn_theory.specs.Equations.{equations_of}
 use Rattle.fvn_problems.specs.Problems.{AreOfOneKind}
 use Rattle.fvn_answer.specs.Answers.{FitsEnd}
 use Rattle.fvn_answer.specs.Asked.{HaveSorts}
-use Rattle.fvn_cmd_unify.specs.Asked.{pairs_of}
-use Rattle.fvn_cmd_exploring.specs.Ends.{end_told}
-use Rattle.fvn_cmd_vunify.specs.Asked.{flattened_pairs}
 use Rattle.fvn_cmd_vunify.proofs.Ended.{solved_fits}
 use Rattle.fvn_cmd_vunify.proofs.Replied.{sides, all_fit, all_sorted, flat_from, answer-told}
 use Rattle.fvn_cmd_vunify.proofs.replying.answer.Goals as goal

@@ -1,7 +1,7 @@
 -- What is explored, and what is solved in it.
 use Rattle.std.proofs.Common.{◌≡◌, ◌≤◌, length, refl, sym, ap, ◌∙◌, subst}
 use Rattle.std.specs.Prelude.{All}
-use Rattle.fvn_base.specs.declared.limits.TheConstants.{TERM_SYMBOLS, UNIFIERS}
+use Rattle.fvn_base.specs.declared.limits.TheConstants.{UNIFIERS}
 use Rattle.fvn_terms.specs.declared.declarations.Declarations.{Declarations}
 use Rattle.fvn_flat.specs.Fits.{Fits, AllFit}
 use Rattle.fvn_cover.specs.declared.marking.TheConstants.{WORKERS}
