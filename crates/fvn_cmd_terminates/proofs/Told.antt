@@ -1,5 +1,5 @@
 -- How the steps of `terminates` make its reply.
-use Rattle.std.proofs.Common.{◌≡◌, ◌++◌, ◌∷◌, [], ℕ, List, Result, Ok, Err, IfOk, Some, None, refl, sym, ap, ◌∙◌, subst, inl, inr}
+use Rattle.std.proofs.Common.{◌≡◌, ℕ, List, Result, Ok, Err, IfOk, Some, None, refl, subst, inl, inr}
 use Rattle.std.specs.Prelude.{codes}
 use Rattle.fvn_terms.specs.declared.declarations.Declarations.{Declarations}
 use Rattle.fvn_terms.specs.Rewriting.{IsTerminating}

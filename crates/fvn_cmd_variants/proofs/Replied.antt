@@ -8,7 +8,6 @@ use Rattle.fvn_theory.specs.Equations.{equations_of}
 use Rattle.fvn_forms.specs.Good.{IsGood}
 use Rattle.fvn_forms.specs.Flat.{FlatTerm}
 use Rattle.fvn_signature.specs.Queries.{IsCompleted}
-use Rattle.fvn_flat.specs.Drawn.{IsDrawn}
 use Rattle.fvn_fold.specs.Starts.{IsStartable}
 use Rattle.fvn_syntax.specs.declared.names.Names.{Names}
 use Rattle.fvn_syntax.specs.Pieces.{Text}
@@ -22,11 +21,9 @@ use Rattle.fvn_module_loading.specs.Loading.{IsLoaded}
 use Rattle.fvn_module_loading.specs.Losses.{IsLossOf}
 use Rattle.fvn_cover.specs.declared.variant.Variant.{Variant}
 use Rattle.fvn_exploring.specs.declared.ends.Explored.{Explored}
-use Rattle.fvn_exploring.specs.declared.ends.ExploreEnd.{ExploreEnd}
-use Rattle.fvn_exploring.specs.declared.ends.ExploreEnd.TheVariants.{Complete, Levels, Variants, Steps, Size, Basis, Unifiers}
-use Rattle.fvn_exploring.specs.Explorations.{IsExploreCause}
+use Rattle.fvn_exploring.specs.declared.ends.ExploreEnd.TheVariants.{Complete}
 use Rattle.fvn_answer.specs.Asked.{AreAsked}
-use Rattle.fvn_answer.specs.Answers.{FitsEnd, IsAnswerText}
+use Rattle.fvn_answer.specs.Answers.{IsAnswerText}
 use Rattle.fvn_answer.specs.Laws.{EqualLinesCover}
 use Rattle.fvn_answer.specs.declared.end.End.{End}
 use Rattle.fvn_cmd.specs.declared.status.Status.{Status}
@@ -34,7 +31,6 @@ use Rattle.fvn_cmd.specs.declared.status.Status.TheVariants.{ProblemRefused}
 use Rattle.fvn_cmd.specs.Refusing.{IsProblemRefusalLine}
 use Rattle.fvn_cmd.proofs.Replying.{in_module, refused_words}
 use Rattle.fvn_cmd_unify.specs.Ends.{status_of_end}
-use Rattle.fvn_cmd_unify.proofs.Solving.{associative-declared}
 use Rattle.fvn_cmd_exploring.specs.declared.reach.Reach.{Reach}
 use Rattle.fvn_cmd_exploring.specs.Searches.{setting_of, limits_of, IsSearched}
 use Rattle.fvn_cmd_variants.specs.Asked.{flattened}
@@ -45,12 +41,16 @@ use Rattle.fvn_cmd_variants.specs.inner.Steps.{IsStartOf, IsTermIn, AreLinesOfVa
 use Rattle.fvn_cmd_variants.proofs.Headline.{headline}
 use Rattle.fvn_cmd_variants.proofs.Listed.{shown-lines}
 
-module _ (m : Contents) (t : Query) (reach : Reach) (start : List FlatTerm) (begins : IsStartOf m.signature (term t.term) start) where
+-- the list that is explored has the flat form of the term alone
+pub begins : (m : Contents) (t : Query) (d : Declarations) → d ≡ m.signature → (items : List FlatTerm) → IsStartOf d (term t.term) items → (start : List FlatTerm) → start ≡ items → IsStartOf m.signature (term t.term) start
+begins m t d signature_is items h start is = subst (IsStartOf m.signature (term t.term)) (sym is) (subst (λ x. IsStartOf x (term t.term) items) signature_is h)
+
+module _ (m : Contents) (t : Query) (reach : Reach) (start : List FlatTerm) (from : IsStartOf m.signature (term t.term) start) where
   pub startable : IsStartable m.signature start
-  startable = subst (IsStartable m.signature) (sym begins.is) (record { some = omega arith; fit = (begins.fits, tt) })
+  startable = subst (IsStartable m.signature) (sym from.is) (record { some = omega arith; fit = (from.fits, tt) })
 
   pub searched_flat : (x : Explored) → IsSearched m reach start x → IsSearched m reach (flattened m t ∷ []) x
-  searched_flat x s = subst (λ l. IsSearched m reach l x) begins.is s
+  searched_flat x s = subst (λ l. IsSearched m reach l x) from.is s
 
   pub answer-told : RewritingIsLawful → EqualLinesCover → IsGood m.signature → IsCompleted m.signature → HasVariables m.signature t → (x : Explored) → IsSearched m reach start x → (loss : Option ℕ) → (x.end ≡ Complete → IsLossOf m loss) →
       (variants : List Variant) → variants ≡ x.variants → (lines : List Text) → AreLinesOfVariants m t variants lines → (end : End) → end ≡ end_told reach x.end loss (length variants) → (text : Text) → IsAnswerText m.signature m.names lines end text →
@@ -58,7 +58,7 @@ module _ (m : Contents) (t : Query) (reach : Reach) (start : List FlatTerm) (beg
   answer-told rewriting law good completed vars x s loss loss_is variants are lines h end told text shown status is =
       let f : Found = record { explored = x; loss = loss } in
       let flat = searched_flat x s in
-      let promised = headline m t vars (rewriting m.signature (equations_of m.equations)) begins.equal reach good completed begins.fits x flat f refl in
+      let promised = headline m t vars (rewriting m.signature (equations_of m.equations)) from.equal reach good completed from.fits x flat f refl in
       let end_is : end ≡ end_told reach x.end loss (length x.variants) = told ∙ ap (λ l. end_told reach x.end loss (length l)) are in
       record {
         found = f;
