@@ -1,16 +1,13 @@
 -- What was solved keeps what is promised of unifiers in a theory.
-use Rattle.std.proofs.Common.{◌≡◌, ℕ, List, map, Option, None, sym, subst}
-use Rattle.std.specs.Prelude.{All, Any, Contains}
+use Rattle.std.proofs.Common.{◌≡◌, List, map, None, sym, subst}
+use Rattle.std.specs.Prelude.{All, Any}
 use Rattle.std.proofs.lemmas.List.Elements.{All-nil, All-map, All-weaker}
-use Rattle.fvn_terms.specs.declared.plain.Var.{Var}
-use Rattle.fvn_terms.specs.declared.declarations.Declarations.{Declarations}
 use Rattle.fvn_terms.specs.Substitution.{Substitution}
 use Rattle.fvn_terms.specs.Unifiers.{Problem as TermPairs, IsInstance}
 use Rattle.fvn_terms.specs.Theory.{IsTheoryInstance}
 use Rattle.fvn_terms.specs.CompleteSets.{IsApart, IsShortest}
 use Rattle.fvn_forms.specs.Good.{IsGood}
 use Rattle.fvn_signature.specs.Queries.{IsCompleted}
-use Rattle.fvn_flat.specs.OneAnswer.{IsApartFor}
 use Rattle.fvn_flat.specs.Drawn.{IsDrawn}
 use Rattle.fvn_flat.specs.Problems.{IsProblem as AreOfKinds, plain_pairs, variables_of}
 use Rattle.fvn_flat.specs.Solving.{substitution}
@@ -30,7 +27,7 @@ use Rattle.fvn_vunify.specs.Solved.{IsSolvedModulo}
 use Rattle.fvn_vunify.specs.Laws.{TheoryUnifiersHaveIrreducibleValues, CompleteIrreducibleUnifiersAreShortest, FlattenedPairsHaveOneTheoryAnswer, HaveOneTheoryAnswer}
 use Rattle.fvn_cmd.specs.Headline.{IsHeadline}
 use Rattle.fvn_cmd_unify.specs.Asked.{pairs_of, IsInstanceOf}
-use Rattle.fvn_cmd_unify.proofs.Asking.{listed, asked, instance-on_vars, instance-on_pairs}
+use Rattle.fvn_cmd_unify.proofs.Asking.{listed, asked, instance-on_pairs}
 use Rattle.fvn_cmd_unify.proofs.Flattening.{pairs_of-problem}
 use Rattle.fvn_cmd_exploring.specs.declared.reach.Reach.{Reach}
 use Rattle.fvn_cmd_exploring.specs.Searches.{AreTrusted, setting_of, limits_of}

@@ -11,13 +11,11 @@ use Rattle.fvn_theory.specs.Equations.{equations_of}
 use Rattle.fvn_forms.specs.Good.{IsGood}
 use Rattle.fvn_signature.specs.Queries.{IsCompleted}
 use Rattle.fvn_flat.specs.Bindings.{Bindings, BindingsFit}
-use Rattle.fvn_flat.specs.Drawn.{IsDrawn}
 use Rattle.fvn_flat.specs.Laws.{FlattenedPairsAreGiven}
-use Rattle.fvn_flat.specs.Problems.{flat_pairs}
+use Rattle.fvn_flat.specs.Problems.{plain_pairs, flat_pairs}
 use Rattle.fvn_flat.specs.Solving.{FlatPairs, IsGiven, substitution}
 use Rattle.fvn_flat.specs.declared.solver.Pairs.{Pairs}
 use Rattle.fvn_rewrite_laws.specs.Admissible.{AreAdmissible}
-use Rattle.fvn_rewrite_rules.specs.Given.{RuleLists}
 use Rattle.fvn_syntax.specs.declared.names.Names.{Names}
 use Rattle.fvn_syntax.specs.Pieces.{Text}
 use Rattle.fvn_syntax.specs.Scope.{Scope}
@@ -29,11 +27,11 @@ use Rattle.fvn_problems.specs.Scopes.{guarded}
 use Rattle.fvn_problems.specs.Spelling.{RawPair, pairs_in}
 use Rattle.fvn_module.specs.Contents.{Contents}
 use Rattle.fvn_module_loading.specs.Losses.{IsLossOf}
-use Rattle.fvn_exploring.specs.declared.ends.ExploreEnd.{ExploreEnd}
-use Rattle.fvn_exploring.specs.declared.ends.ExploreEnd.TheVariants.{Complete, Levels, Variants, Steps, Size, Basis, Unifiers}
+use Rattle.fvn_exploring.specs.declared.ends.ExploreEnd.TheVariants.{Complete}
 use Rattle.fvn_vunify.specs.declared.solved.SolvedModulo.{SolvedModulo}
+use Rattle.fvn_vunify.specs.Solutions.{IsIrreducibleUnifier}
 use Rattle.fvn_answer.specs.Asked.{HaveSorts}
-use Rattle.fvn_answer.specs.Answers.{FitsEnd, IsAnswerText}
+use Rattle.fvn_answer.specs.Answers.{IsAnswerText}
 use Rattle.fvn_answer.specs.Laws.{EqualLinesAreInstances}
 use Rattle.fvn_answer.specs.declared.end.End.{End}
 use Rattle.fvn_cmd.specs.declared.status.Status.{Status}
@@ -49,6 +47,7 @@ use Rattle.fvn_cmd_unify.proofs.Asking.{problem-asked, problem-room}
 use Rattle.fvn_cmd_unify.proofs.Counting.{as-many}
 use Rattle.fvn_cmd_unify.proofs.Flattening.{pairs_of-problem}
 use Rattle.fvn_cmd_exploring.specs.declared.reach.Reach.{Reach}
+use Rattle.fvn_cmd_exploring.specs.Searches.{setting_of}
 use Rattle.fvn_cmd_exploring.specs.Ends.{end_told}
 use Rattle.fvn_cmd_vunify.specs.Asked.{flattened_pairs}
 use Rattle.fvn_cmd_vunify.specs.Solutions.{Found, values, end_of, Shows}
@@ -74,6 +73,11 @@ module _ (m : Contents) (p : Problem) (is : IsProblemIn m p) where
         fit = h.fit;
         kinds = h.kinds;
       }
+
+-- what is flattened is the problem's pairs
+pub flat_from : (m : Contents) (p : Problem) (d : Declarations) → d ≡ m.signature → (pairs : List (Plain × Plain)) → pairs ≡ p.pairs → (given : FlatPairs) → given ≡ flat_pairs d (pairs_of pairs) → given ≡ flattened_pairs m p
+flat_from m p d signature_is pairs are given is =
+    is ∙ ap (λ (x : Declarations). flat_pairs x (pairs_of pairs)) signature_is ∙ ap (λ l. flat_pairs m.signature (pairs_of l)) are
 
 -- Lines.
 
@@ -105,7 +109,9 @@ module _ (m : Contents) (p : Problem) where
     all_fit = s.solved.fits
 
     pub all_sorted : All (HaveSorts m.signature p.vars) r.unifiers
-    all_sorted = All-weaker _ (HaveSorts m.signature p.vars) (λ b h x c. h.kept.unifier.0.1 x) r.unifiers s.solved.sound
+    all_sorted =
+        All-weaker (λ (b : Bindings). IsIrreducibleUnifier (setting_of m reach) (plain_pairs pairs) (substitution b)) (HaveSorts m.signature p.vars) (λ b h x c. h.kept.unifier.0.1 x)
+        r.unifiers s.solved.sound
 
     pub answer-told : IsLawful → EqualLinesAreInstances → IsGood m.signature → IsCompleted m.signature → AreAdmissible m.signature (equations_of m.equations) → (loss : Option ℕ) → (r.end ≡ Complete → IsLossOf m loss) →
         (unifiers : List Bindings) → unifiers ≡ r.unifiers → (lines : List Text) → AreLinesOfBindings m p unifiers lines → (end : End) → end ≡ end_told reach r.end loss (length unifiers) → (text : Text) → IsAnswerText m.signature m.names lines end text →

@@ -5,7 +5,7 @@ use Rattle.fvn_rewrite_laws.specs.Admissible.{AreAdmissible}
 use Rattle.fvn_cmd_vunify.proofs.replying.answer_in.Goals as goal
 
 pub answer-requires-clause-search : goal.answer-requires-clause-search
-answer-requires-clause-search c = record {
+answer-requires-clause-search g c κs within = record {
   usable = record {
     rules = c.in_ok-rules.ensures.rules;
     admissible =
