@@ -5,6 +5,7 @@ use fvn_tool::Status;
 use std::alloc::Global;
 use std::process::Abort;
 use std::string::String;
+use std::thread::Threads;
 
 // Modules, and problems over each with the lines that are printed of them, worked out by hand or by Maude.
 
@@ -199,8 +200,8 @@ pub fn text_of(alloc: Global, said: &str) -> Result<String, NoMemory> {
 }
 
 /// What is printed of a problem in a module.
-pub fn tell(
-    rt: &impl Abort,
+pub fn tell<R: Abort + Threads + Sync>(
+    rt: &R,
     alloc: Global,
     module: &[u8],
     problem: &str,
@@ -212,13 +213,23 @@ pub fn tell(
 }
 
 // A row of a problem and what is printed of it.
-fn unified(rt: &impl Abort, alloc: Global, module: &str, row: &str) -> Result<(), NoMemory> {
+fn unified<R: Abort + Threads + Sync>(
+    rt: &R,
+    alloc: Global,
+    module: &str,
+    row: &str,
+) -> Result<(), NoMemory> {
     let (problem, said) = row.split_once(" ==> ").unwrap_or((row, "no row"));
     tell(rt, alloc, module.as_bytes(), problem, said)
 }
 
 // All rows over this module.
-fn all_unified(rt: &impl Abort, alloc: Global, module: &str, rows: &str) -> Result<(), NoMemory> {
+fn all_unified<R: Abort + Threads + Sync>(
+    rt: &R,
+    alloc: Global,
+    module: &str,
+    rows: &str,
+) -> Result<(), NoMemory> {
     for row in rows.lines() {
         unified(rt, alloc, module, row)?;
     }
