@@ -1,7 +1,7 @@
--- Lemmas of the reader of words.
+-- Lemmas of the reader of words; that words are one command is for others too.
 mod Spelling
 mod Settings
 mod Sorting
 mod Gathering
-mod Naming
+pub mod Naming
 mod Steps
