@@ -4,15 +4,13 @@ use Rattle.std.specs.Prelude.{◌⊎◌, ◌≢◌, ◌||◌, if◌then◌else�
 use Rattle.std.proofs.lemmas.List.Elements.{All-nil, All-weaker, All-contains_itself, Contains-append_cases}
 use Rattle.fvn_base.proofs.Membership.{contains_none, contains_cases, contains_here, contains_later}
 use Rattle.fvn_terms.specs.declared.plain.Var.{Var}
-use Rattle.fvn_terms.specs.declared.declarations.Declarations.{Declarations}
-use Rattle.fvn_terms.specs.Term.{Term, Terms, var}
 use Rattle.fvn_terms.specs.Signature.{IsSort}
 use Rattle.fvn_terms.specs.Substitution.{Occurs, OccursAmong, same_var}
 use Rattle.fvn_terms.proofs.Variables.{same_var_is}
 use Rattle.fvn_forms.specs.Flat.{FlatTerm, FlatTerms, fvar, fapp, fnone, fmore, plain, plain_all}
 use Rattle.fvn_flat.specs.Bindings.{Bindings, BindingsFit}
 use Rattle.fvn_flat.specs.Drawn.{OccursInValues}
-use Rattle.fvn_flat.specs.Fits.{Fits, AllFit}
+use Rattle.fvn_flat.specs.Fits.{AllFit}
 use Rattle.fvn_flat.specs.Solving.{substitution}
 use Rattle.fvn_flat.specs.Variables.{listed, with_variables, with_all_variables}
 use Rattle.fvn_flat.proofs.Composing.{empty_fits}
@@ -21,7 +19,6 @@ use Rattle.fvn_flat.proofs.Occurrences.{occurs_in_app}
 use Rattle.fvn_cover.specs.declared.variant.Variant.{Variant}
 use Rattle.fvn_rewrite_laws.proofs.Choosing.{occurring_sort}
 use Rattle.fvn_exploring.specs.Setting.{Setting}
-use Rattle.fvn_exploring.specs.Children.{HoldsVariables, IsNumberedBelow}
 use Rattle.fvn_exploring.specs.Expansions.{IsExpandable}
 use Rattle.fvn_tests_narrowing.specs.Starts.{MayStart, IsAlone}
 

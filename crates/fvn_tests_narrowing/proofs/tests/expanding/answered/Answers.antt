@@ -1,7 +1,6 @@
 -- The right side of the last equation may be a start.
-use Rattle.std.proofs.Common.{◌≡◌, false, [], refl, sym, ap, ◌∙◌, subst, arith}
+use Rattle.std.proofs.Common.{refl, sym, subst, arith}
 use Rattle.std.proofs.lemmas.List.Elements.{All-get_or}
-use Rattle.fvn_terms.specs.Plain.{term}
 use Rattle.fvn_terms.proofs.Occurrences.{BEqual-occurs}
 use Rattle.fvn_forms.specs.Flat.{plain}
 use Rattle.fvn_theory.specs.declared.equation.Equation.{Equation}

@@ -2,7 +2,6 @@
 use Rattle.std.proofs.Common.{sym, subst}
 use Rattle.fvn_base.specs.declared.limits.TheConstants.{EXPANDED_FRESH}
 use Rattle.fvn_flat.specs.Fits.{Fits}
-use Rattle.fvn_exploring.specs.Setting.{Setting}
 use Rattle.fvn_exploring.specs.Expansions.{IsExpandable}
 use Rattle.fvn_tests_narrowing.proofs.Starting.{may_be_expanded}
 use Rattle.fvn_tests_narrowing.proofs.tests.expanding.answered_by.Goals as goal
