@@ -30,6 +30,17 @@ use std::time::Instant;
 
 const ROWS: &str = "@ROWS@";
 
+fn word(fault: &CriticalFault) -> &'static str {
+    match fault {
+        CriticalFault::Sorts(_) => "sorts",
+        CriticalFault::Apart(_, _, _, _) => "apart",
+        CriticalFault::Steps(_, _) => "steps",
+        CriticalFault::Size(_) => "size",
+        CriticalFault::Basis(_, _) => "basis",
+        CriticalFault::Unifiers(_, _) => "unifiers",
+    }
+}
+
 fn tested(alloc: Global, sig: &Signature, rules: &Rules) -> Result<&'static str, NoMemory> {
     let limits = SolveLimits {
         unifiers: 4096,
@@ -42,12 +53,7 @@ fn tested(alloc: Global, sig: &Signature, rules: &Rules) -> Result<&'static str,
     };
     match critical_fault(alloc, sig, rules, &solver, bounds)? {
         None => Ok("confluent"),
-        Some(CriticalFault::Sorts(_)) => Ok("sorts"),
-        Some(CriticalFault::Apart(_, _, _, _)) => Ok("apart"),
-        Some(CriticalFault::Steps(_, _)) => Ok("steps"),
-        Some(CriticalFault::Size(_)) => Ok("size"),
-        Some(CriticalFault::Basis(_, _)) => Ok("basis"),
-        Some(CriticalFault::Unifiers(_, _)) => Ok("unifiers"),
+        Some(fault) => Ok(word(&fault)),
     }
 }
 

@@ -1,6 +1,5 @@
 -- How the steps of `variants` make its reply.
-use Rattle.std.proofs.Common.{◌≡◌, ℕ, List, [], ◌∷◌, length, Option, Some, None, refl, sym, ap, ◌∙◌, subst, inl, inr, arith}
-use Rattle.std.specs.Prelude.{All}
+use Rattle.std.proofs.Common.{◌≡◌, ℕ, List, [], ◌∷◌, length, Option, refl, sym, ap, ◌∙◌, subst, inl, inr, arith}
 use Rattle.fvn_terms.specs.declared.declarations.Declarations.{Declarations}
 use Rattle.fvn_terms.specs.Laws.{RewritingIsLawful}
 use Rattle.fvn_terms.specs.Plain.{term}
@@ -17,7 +16,6 @@ use Rattle.fvn_problems.specs.Queries.{IsQuery, RefusesQuery, HasVariables}
 use Rattle.fvn_problems.specs.Laws.{QueryNamesAreWords, QueryNamesDiffer}
 use Rattle.fvn_terms.specs.Signature.{IsTerm}
 use Rattle.fvn_module.specs.Contents.{Contents}
-use Rattle.fvn_module_loading.specs.Loading.{IsLoaded}
 use Rattle.fvn_module_loading.specs.Losses.{IsLossOf}
 use Rattle.fvn_cover.specs.declared.variant.Variant.{Variant}
 use Rattle.fvn_exploring.specs.declared.ends.Explored.{Explored}
@@ -32,7 +30,7 @@ use Rattle.fvn_cmd.specs.Refusing.{IsProblemRefusalLine}
 use Rattle.fvn_cmd.proofs.Replying.{in_module, refused_words}
 use Rattle.fvn_cmd_unify.specs.Ends.{status_of_end}
 use Rattle.fvn_cmd_exploring.specs.declared.reach.Reach.{Reach}
-use Rattle.fvn_cmd_exploring.specs.Searches.{setting_of, limits_of, IsSearched}
+use Rattle.fvn_cmd_exploring.specs.Searches.{IsSearched}
 use Rattle.fvn_cmd_variants.specs.Asked.{flattened}
 use Rattle.fvn_cmd_exploring.specs.Ends.{end_told}
 use Rattle.fvn_cmd_variants.specs.Solutions.{Found}

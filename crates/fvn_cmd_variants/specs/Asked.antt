@@ -1,6 +1,6 @@
 -- What a term in a module asks: its variants.
 -- H. Comon-Lundh and S. Delaune, The finite variant property, 2005.
-use Rattle.std.specs.Prelude.{◌≡◌, List, [], ◌∷◌}
+use Rattle.std.specs.Prelude.{◌≡◌, [], ◌∷◌}
 use Rattle.fvn_terms.specs.Term.{Term}
 use Rattle.fvn_terms.specs.Plain.{term}
 use Rattle.fvn_terms.specs.Substitution.{Substitution}

@@ -11,10 +11,10 @@ use fvn_terms::NoMemory;
 use fvn_tests_samples::problem_of;
 use std::alloc::Global;
 
-// One sort A; constants f, g and o, free operators h and i, a commutative operator j, sums k and n, and a sum l with
+// One sort A; constants f, g and o, free operators h and i, a commutative operator j, sums k and n, and sums l and m with
 // the identity g.
 const OPERATORS: &str =
-    "A; f : -> A; g : -> A; h : A -> A; i : A A -> A; j : A A -> A [comm]; k : A A -> A [assoc comm]; l : A A -> A [assoc comm id: g]; n : A A -> A [assoc comm]; o : -> A";
+    "A; f : -> A; g : -> A; h : A -> A; i : A A -> A; j : A A -> A [comm]; k : A A -> A [assoc comm]; l : A A -> A [assoc comm id: g]; m : A A -> A [assoc comm id: g]; n : A A -> A [assoc comm]; o : -> A";
 
 // A problem, and how many states are looked at until all are leaves or impossible.
 //

@@ -1,5 +1,5 @@
 -- A module is refused with its first fault, or the word is looked at.
-use Rattle.std.proofs.Common.{inl, inr}
+use Rattle.std.proofs.Common.{inl}
 use Rattle.fvn_cmd_variants.proofs.replying.variants_reply.Goals as goal
 
 pub returns-in_ok-reply-in-Ok : goal.returns-in_ok-reply-in-Ok

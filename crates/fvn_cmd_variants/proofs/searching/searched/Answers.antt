@@ -1,5 +1,4 @@
 -- The solver modulo the axioms of the module.
-use Rattle.std.proofs.Common.{ap, ◌∙◌}
 use Rattle.fvn_cmd_exploring.proofs.Settings.{drawn_is, drawn_by}
 use Rattle.fvn_cmd_variants.proofs.searching.searched.Goals as goal
 
