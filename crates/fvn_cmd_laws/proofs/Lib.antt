@@ -4,4 +4,4 @@ mod Checks
 pub mod Verified
 pub mod Unified
 pub mod Weighed
-pub mod Explored
+mod Explored

@@ -19,7 +19,7 @@ use Rattle.fvn_tool.specs.Asked.{Question, summary, unifiers, verdict, terminati
 use Rattle.fvn_tool.specs.Answered.{AnswerTo, status_of, Answers, IsAnswered, IsReply}
 use Rattle.fvn_tool.specs.Outcomes.{usage_line, IsOutcome, no_command, too_long, replied}
 use Rattle.fvn_tool.specs.Claims.{RefusesWords, Asks, AnswersCommand, IsReport}
-use Rattle.fvn_cmd_laws.specs.Laws.{VerdictsAreExact, AnswersAreExact}
+use Rattle.fvn_cmd_laws.specs.Laws.{VerdictsAreExact, AnswersAreExact, ExploredAnswersAreExact}
 use Rattle.fvn_tool.specs.Laws.{QuestionsAreDetermined}
 use Rattle.fvn_tool.specs.inner.Steps.{IsGivenOutcome}
 use Rattle.fvn_tool.proofs.Grammar.{one_command}
@@ -133,12 +133,12 @@ module _ (run : Run) (h : Leaves (IsOutcome run.words run.source) run.status run
     }
 
 -- the outcome that the steps give, what stays the same and the causes of faults are all that there is to prove of a run
-pub report : VerdictsAreExact → AnswersAreExact → QuestionsAreDetermined → (run : Run) → Leaves (IsGivenOutcome run.words run.source) run.status run.sink → (run.status ≡ ReadFault → HasFailed run.source) → (run.status ≡ WriteFault → HasFailed run.sink) →
+pub report : VerdictsAreExact → AnswersAreExact → ExploredAnswersAreExact → QuestionsAreDetermined → (run : Run) → Leaves (IsGivenOutcome run.words run.source) run.status run.sink → (run.status ≡ ReadFault → HasFailed run.source) → (run.status ≡ WriteFault → HasFailed run.sink) →
     (AreNoCommand run.words → (run.status ≡ Usage) ⊎ (run.status ≡ WriteFault)) →
     (ReadNothing run.words → run.source.after ≡ run.source.before) → (IsSilent run.status → run.sink.after ≡ run.sink.before) →
     (run.source.faults_before < run.source.faults_after → run.status ≡ ReadFault) → IsReport run
-report verdicts exact questions run given read write always unread unwritten failed =
-    let h = Leaves-weaker (IsGivenOutcome run.words run.source) (IsOutcome run.words run.source) (given_outcome verdicts exact run.words run.source) run.status run.sink given in
+report verdicts exact explored questions run given read write always unread unwritten failed =
+    let h = Leaves-weaker (IsGivenOutcome run.words run.source) (IsOutcome run.words run.source) (given_outcome verdicts exact explored run.words run.source) run.status run.sink given in
     record {
       outcome = h;
       unread = unread;

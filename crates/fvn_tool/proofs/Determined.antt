@@ -10,12 +10,11 @@ use Rattle.fvn_cmd_check.specs.Checks.{TellsSorts}
 use Rattle.fvn_cmd_terminates.specs.Weighings.{TellsWeighing}
 use Rattle.fvn_cmd_verify.specs.Verdicts.{TellsVerdict}
 use Rattle.fvn_cmd_unify.specs.Replies.{IsAnswer}
-use Rattle.fvn_cmd_laws.specs.Laws.{SortsAreToldOnce, VerdictsAreExact, WeighingsAreExact, AnswersAreExact}
+use Rattle.fvn_cmd_laws.specs.Laws.{SortsAreToldOnce, VerdictsAreExact, WeighingsAreExact, AnswersAreExact, ExploredAnswersAreExact}
 use Rattle.fvn_problems.specs.declared.query.Query.{Query}
 use Rattle.fvn_cmd_exploring.specs.declared.reach.Reach.{Reach}
 use Rattle.fvn_cmd_variants.specs.Replies as of_terms
 use Rattle.fvn_cmd_vunify.specs.Replies as modulo
-use Rattle.fvn_cmd_laws.proofs.Explored.{variants_whole, theory_whole}
 use Rattle.fvn_tool.specs.Words.{Command, IsCommand}
 use Rattle.fvn_tool.specs.Asked.{Question, summary, unifiers, verdict, termination, term_variants, theory_unifiers, Asked}
 use Rattle.fvn_tool.specs.Answered.{Answers, IsReply}
@@ -47,16 +46,16 @@ module _ (m : Contents) (s : Status) (t : List ℕ) where
   is_answer p h = record { found = h.answer; solution = h.right; shown = h.shown; status_is = h.status_is }
 
 module _ (sorts : SortsAreToldOnce) (verdicts : VerdictsAreExact) (weighings : WeighingsAreExact) where
-  says : AnswersAreExact → (m : Contents) (q : Question) (s : Status) (t : List ℕ) → Answers (of m q) s t → SaysExactly m q s t
-  says answers m summary s t h = sorts m s t (tells_sorts m s t h)
-  says answers m (unifiers p) s t h = let a = is_answer m s t p h in (a, (answers.nothing m p s t a, answers.few m p s t a))
-  says answers m (verdict p b steps) s t h = verdicts.exact m p b steps s t (tells_verdict m s t p b steps h)
-  says answers m (termination w) s t h = weighings.exact m w s t (tells_weighing m s t w h)
-  says answers m (term_variants q reach) s t h = let a = variants_answer m s t q reach h in (a, variants_whole m q reach s t a)
-  says answers m (theory_unifiers p reach) s t h = let a = theory_answer m s t p reach h in (a, theory_whole m p reach s t a)
+  says : AnswersAreExact → ExploredAnswersAreExact → (m : Contents) (q : Question) (s : Status) (t : List ℕ) → Answers (of m q) s t → SaysExactly m q s t
+  says answers explored m summary s t h = sorts m s t (tells_sorts m s t h)
+  says answers explored m (unifiers p) s t h = let a = is_answer m s t p h in (a, (answers.nothing m p s t a, answers.few m p s t a))
+  says answers explored m (verdict p b steps) s t h = verdicts.exact m p b steps s t (tells_verdict m s t p b steps h)
+  says answers explored m (termination w) s t h = weighings.exact m w s t (tells_weighing m s t w h)
+  says answers explored m (term_variants q reach) s t h = let a = variants_answer m s t q reach h in (a, explored.variants m q reach s t a)
+  says answers explored m (theory_unifiers p reach) s t h = let a = theory_answer m s t p reach h in (a, explored.unifiers m p reach s t a)
 
-  pub say_exactly : AnswersAreExact → AnswersSayExactly
-  say_exactly answers a s t h = says answers a.contents a.question s t h
+  pub say_exactly : AnswersAreExact → ExploredAnswersAreExact → AnswersSayExactly
+  say_exactly answers explored a s t h = says answers explored a.contents a.question s t h
 
   agree : (m : Contents) (q : Question) (s : Status) (t : List ℕ) (u : Status) (v : List ℕ) → Answers (of m q) s t → Answers (of m q) u v → AgreeOn m q s t u v
   agree m summary s t u v h k =

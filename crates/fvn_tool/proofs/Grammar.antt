@@ -90,13 +90,13 @@ verify_is problem bindings p b =
 module _ (name word : List ℕ) (operand : IsOperand word) (c : Command) where
   read_vunify : (b : Bool) → pointwise nat_eq name (codes "vunify") ≡ b → (if b then Some (vunify word usual_reach) else None) ≡ Some c → IsCommand (name ∷ word ∷ []) c
   read_vunify true is e =
-      subst (IsCommand (name ∷ word ∷ [])) (Some-injective e) (operand, refl, ap (λ n. n ∷ word ∷ []) (name_is name (codes "vunify") is))
+      subst (IsCommand (name ∷ word ∷ [])) (Some-injective e) (operand, (refl, ap (λ n. n ∷ word ∷ []) (name_is name (codes "vunify") is)))
   read_vunify false is e = cc
 
   read_variants : (b : Bool) → pointwise nat_eq name (codes "variants") ≡ b →
       (if b then Some (variants word usual_reach) else (if pointwise nat_eq name (codes "vunify") then Some (vunify word usual_reach) else None)) ≡ Some c → IsCommand (name ∷ word ∷ []) c
   read_variants true is e =
-      subst (IsCommand (name ∷ word ∷ [])) (Some-injective e) (operand, refl, ap (λ n. n ∷ word ∷ []) (name_is name (codes "variants") is))
+      subst (IsCommand (name ∷ word ∷ [])) (Some-injective e) (operand, (refl, ap (λ n. n ∷ word ∷ []) (name_is name (codes "variants") is)))
   read_variants false is e = read_vunify (pointwise nat_eq name (codes "vunify")) refl e
 
   read_terminates : (b : Bool) → pointwise nat_eq name (codes "terminates") ≡ b → (if b then Some (terminates word) else with_far_word name word) ≡ Some c → IsCommand (name ∷ word ∷ []) c
@@ -154,11 +154,11 @@ command_given words (unify problem) h =
 command_given words (terminates weights) h =
     ap command_of h.1 ∙ ap (λ t. if t then with_word (codes "terminates") weights else None) (not_from_false (is_option weights) h.0)
 command_given words (variants term reach) h =
-    ap command_of h.2 ∙ ap (λ t. if t then with_word (codes "variants") term else None) (not_from_false (is_option term) h.0)
-    ∙ ap (λ r. Some (variants term r)) (sym h.1)
+    ap command_of h.1.1 ∙ ap (λ t. if t then with_word (codes "variants") term else None) (not_from_false (is_option term) h.0)
+    ∙ ap (λ r. Some (variants term r)) (sym h.1.0)
 command_given words (vunify problem reach) h =
-    ap command_of h.2 ∙ ap (λ t. if t then with_word (codes "vunify") problem else None) (not_from_false (is_option problem) h.0)
-    ∙ ap (λ r. Some (vunify problem r)) (sym h.1)
+    ap command_of h.1.1 ∙ ap (λ t. if t then with_word (codes "vunify") problem else None) (not_from_false (is_option problem) h.0)
+    ∙ ap (λ r. Some (vunify problem r)) (sym h.1.0)
 command_given words (verify problem bindings steps) h =
     ap command_of h.2.1.1 ∙ behind problem bindings steps h.2.0 (verify_is problem bindings h.0 h.1) h.2.1.0
 

@@ -13,7 +13,7 @@ use crate::laws::questions_are_determined;
 use crate::{answer, words};
 use fvn_base::limits::MODULE_BYTES;
 use fvn_cmd::{Answer, Status};
-use fvn_cmd_laws::{answers_are_exact, verdicts_are_exact};
+use fvn_cmd_laws::{answers_are_exact, explored_answers_are_exact, verdicts_are_exact};
 use fvn_cover::Gate;
 use fvn_outside::{ReadAll, Sink, Source, WriteFailed, read_all, write_all};
 use fvn_terms::NoMemory;
@@ -119,6 +119,7 @@ pub fn run<R: Threads + Sync, G: Gate, S: Source, K: Sink>(
 {
     verdicts_are_exact();
     answers_are_exact();
+    explored_answers_are_exact();
     questions_are_determined();
     conclude(rt, gate, alloc, words, source, out)
 }
