@@ -3,6 +3,7 @@ mod check;
 mod large;
 mod terminates;
 mod unify;
+mod variants;
 mod verify;
 
 use crate::program;

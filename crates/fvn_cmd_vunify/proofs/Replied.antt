@@ -42,7 +42,6 @@ use Rattle.fvn_cmd_unify.specs.Asked.{pairs_of, IsInstanceOf}
 use Rattle.fvn_cmd_unify.specs.Ends.{status_of_end}
 use Rattle.fvn_cmd_unify.specs.Replies.{unify_words}
 use Rattle.fvn_cmd_unify.specs.Solutions.{IsLineOf}
-use Rattle.fvn_cmd_unify.specs.inner.Told.{AreLinesOfBindings}
 use Rattle.fvn_cmd_unify.proofs.Asking.{problem-asked, problem-room}
 use Rattle.fvn_cmd_unify.proofs.Counting.{as-many}
 use Rattle.fvn_cmd_unify.proofs.Flattening.{pairs_of-problem}
@@ -81,14 +80,18 @@ flat_from m p d signature_is pairs are given is =
 
 -- Lines.
 
+-- a line for each of the substitutions
+abbrev pub AreLinesFor : Contents → Problem → List Bindings → List Text → Type 0
+AreLinesFor m p unifiers lines = AllZip (λ s line. IsLineOf m p (substitution s) line) unifiers lines
+
 module _ (m : Contents) (p : Problem) where
-  values-lines : (unifiers : List Bindings) (lines : List Text) → AreLinesOfBindings m p unifiers lines → AllZip (IsLineOf m p) (map substitution unifiers) lines
+  values-lines : (unifiers : List Bindings) (lines : List Text) → AreLinesFor m p unifiers lines → AllZip (IsLineOf m p) (map substitution unifiers) lines
   values-lines [] [] h = tt
   values-lines [] (l ∷ ls) h = absurd h
   values-lines (s ∷ ss) [] h = absurd h
   values-lines (s ∷ ss) (l ∷ ls) h = (h.0, values-lines ss ls h.1)
 
-  shown-lines : EqualLinesAreInstances → (reach : Reach) (found : Found) (lines : List Text) → AreLinesOfBindings m p found.solved.unifiers lines → IsApart (IsInstanceOf m p) (values found) → (text : Text) →
+  shown-lines : EqualLinesAreInstances → (reach : Reach) (found : Found) (lines : List Text) → AreLinesFor m p found.solved.unifiers lines → IsApart (IsInstanceOf m p) (values found) → (text : Text) →
       IsAnswerText m.signature m.names lines (end_of reach found) text → Shows m p reach found text
   shown-lines law reach found lines h a text answer =
       let z = values-lines found.solved.unifiers lines h in
@@ -114,7 +117,7 @@ module _ (m : Contents) (p : Problem) where
         r.unifiers s.solved.sound
 
     pub answer-told : IsLawful → EqualLinesAreInstances → IsGood m.signature → IsCompleted m.signature → AreAdmissible m.signature (equations_of m.equations) → (loss : Option ℕ) → (r.end ≡ Complete → IsLossOf m loss) →
-        (unifiers : List Bindings) → unifiers ≡ r.unifiers → (lines : List Text) → AreLinesOfBindings m p unifiers lines → (end : End) → end ≡ end_told reach r.end loss (length unifiers) → (text : Text) → IsAnswerText m.signature m.names lines end text →
+        (unifiers : List Bindings) → unifiers ≡ r.unifiers → (lines : List Text) → AreLinesFor m p unifiers lines → (end : End) → end ≡ end_told reach r.end loss (length unifiers) → (text : Text) → IsAnswerText m.signature m.names lines end text →
         (status : Status) → status ≡ status_of_end end → IsAnswer m p reach status text
     answer-told lawful law good completed admissible loss loss_is unifiers are lines h end told text shown status is_status =
         let f : Found = record { explored = s.explored; solved = r; loss = loss } in
@@ -125,7 +128,7 @@ module _ (m : Contents) (p : Problem) where
           found = record { explored = here.explored; solved = r; loss = loss };
           solution = record { explored = here.exploration; solved = here.solved; headline = promised; loss_is = loss_is };
           shown =
-              shown-lines law reach (record { explored = here.explored; solved = r; loss = loss }) lines (subst (λ l. AreLinesOfBindings m p l lines) are h) promised.apart text
+              shown-lines law reach (record { explored = here.explored; solved = r; loss = loss }) lines (subst (λ l. AreLinesFor m p l lines) are h) promised.apart text
               (subst (λ e. IsAnswerText m.signature m.names lines e text) end_is shown);
           status_is = is_status ∙ ap status_of_end end_is;
         }

@@ -4,15 +4,13 @@ use Rattle.std.specs.Prelude.{◌⊎◌, ◌≢◌, ◌||◌, if◌then◌else�
 use Rattle.std.proofs.lemmas.List.Elements.{All-nil, All-weaker, All-contains_itself, Contains-append_cases}
 use Rattle.fvn_base.proofs.Membership.{contains_none, contains_cases, contains_here, contains_later}
 use Rattle.fvn_terms.specs.declared.plain.Var.{Var}
-use Rattle.fvn_terms.specs.declared.declarations.Declarations.{Declarations}
-use Rattle.fvn_terms.specs.Term.{Term, Terms, var}
 use Rattle.fvn_terms.specs.Signature.{IsSort}
 use Rattle.fvn_terms.specs.Substitution.{Occurs, OccursAmong, same_var}
 use Rattle.fvn_terms.proofs.Variables.{same_var_is}
 use Rattle.fvn_forms.specs.Flat.{FlatTerm, FlatTerms, fvar, fapp, fnone, fmore, plain, plain_all}
 use Rattle.fvn_flat.specs.Bindings.{Bindings, BindingsFit}
 use Rattle.fvn_flat.specs.Drawn.{OccursInValues}
-use Rattle.fvn_flat.specs.Fits.{Fits, AllFit}
+use Rattle.fvn_flat.specs.Fits.{AllFit}
 use Rattle.fvn_flat.specs.Solving.{substitution}
 use Rattle.fvn_flat.specs.Variables.{listed, with_variables, with_all_variables}
 use Rattle.fvn_flat.proofs.Composing.{empty_fits}
@@ -21,7 +19,6 @@ use Rattle.fvn_flat.proofs.Occurrences.{occurs_in_app}
 use Rattle.fvn_cover.specs.declared.variant.Variant.{Variant}
 use Rattle.fvn_rewrite_laws.proofs.Choosing.{occurring_sort}
 use Rattle.fvn_exploring.specs.Setting.{Setting}
-use Rattle.fvn_exploring.specs.Children.{HoldsVariables, IsNumberedBelow}
 use Rattle.fvn_exploring.specs.Expansions.{IsExpandable}
 use Rattle.fvn_tests_narrowing.specs.Starts.{MayStart, IsAlone}
 
@@ -46,6 +43,10 @@ last_one vars y x false c = go (Contains-append_cases vars (y ∷ []) x c)
     go (inl k) = inl k
     go (inr k) = inr (only (contains_cases y [] x k))
 
+among : (t : FlatTerm) (ts : FlatTerms) (vars : List Var) (x : Var) → Contains vars x ⊎ Occurs x (plain t) → Contains vars x ⊎ OccursAmong x (plain_all (fmore t ts))
+among t ts vars x (inl k) = inl k
+among t ts vars x (inr o) = inr (inl o)
+
 mutual
   listed_occurs : (t : FlatTerm) (vars : List Var) (x : Var) → Contains (with_variables t vars) x → Contains vars x ⊎ Occurs x (plain t)
   listed_occurs (fvar y) vars x c = last_one vars y x (listed vars y) c
@@ -53,12 +54,7 @@ mutual
 
   listed_among : (ts : FlatTerms) (vars : List Var) (x : Var) → Contains (with_all_variables ts vars) x → Contains vars x ⊎ OccursAmong x (plain_all ts)
   listed_among fnone vars x c = inl c
-  listed_among (fmore t ts) vars x c = first t ts vars x (listed_among ts (with_variables t vars) x c) (listed_occurs t vars x)
-
-  first : (t : FlatTerm) (ts : FlatTerms) (vars : List Var) (x : Var) → Contains (with_variables t vars) x ⊎ OccursAmong x (plain_all ts) → (Contains (with_variables t vars) x → Contains vars x ⊎ Occurs x (plain t)) →
-      Contains vars x ⊎ OccursAmong x (plain_all (fmore t ts))
-  first t ts vars x (inr o) before = inr (inr o)
-  first t ts vars x (inl c) before = elim (before c) [ inl k ↦ inl k | inr o ↦ inr (inl o) ]
+  listed_among (fmore t ts) vars x c = elim (listed_among ts (with_variables t vars) x c) [ inl k ↦ among t ts vars x (listed_occurs t vars x k) | inr o ↦ inr (inr o) ]
 
 in_form : (t : FlatTerm) (x : Var) → Contains (with_variables t []) x → Occurs x (plain t)
 in_form t x c = elim (listed_occurs t [] x c) [ inl k ↦ absurd (contains_none x k) | inr o ↦ o ]
@@ -85,8 +81,8 @@ module _ (g : Setting) (t : FlatTerm) (v : Variant) (m : MayStart g t) (a : IsAl
   sort_of : (x : Var) → Contains (with_variables t []) x → IsSort g.declarations x.sort
   sort_of x c = occurring_sort g.declarations x (plain t) m.fits.kinded.0 m.fits.kinded.1 (in_form t x c)
 
-  pub may_be_expanded : (first : ℕ) → IsExpandable g first v
-  may_be_expanded first = record {
+  pub may_be_expanded : (n : ℕ) → IsExpandable g n v
+  may_be_expanded n = record {
     flat = record {
       terms = subst (AllFit g.declarations) (sym a.terms) (m.fits, tt);
       values = subst (BindingsFit g.declarations) (sym a.values) (empty_fits g.declarations);

@@ -8,11 +8,11 @@ use Rattle.fvn_cmd_words.proofs.Naming as naming
 use Rattle.fvn_tool.specs.Words.{Command, check, unify, verify, terminates, variants, vunify, as_told, IsCommand, AreNoCommand, ReadsModule, ReadNothing}
 use Rattle.fvn_tool.specs.Laws.{WordsAreOneCommand}
 
-from_told : Told → Reach
+abbrev from_told : Told → Reach
 from_told reach = record { levels = reach.levels; variants = reach.variants; steps = reach.steps }
 
 -- the command over a module, if it is one
-heard : grammar.Command → Option Command
+abbrev heard : grammar.Command → Option Command
 heard grammar.check = Some check
 heard (grammar.unify problem) = Some (unify problem)
 heard (grammar.verify problem bindings steps) = Some (verify problem bindings steps)
@@ -22,7 +22,7 @@ heard (grammar.vunify problem reach workers) = Some (vunify problem (from_told r
 heard (grammar.work n) = None
 
 -- as which command the words are heard
-IsSaid : List (List ℕ) → Command → Type 0
+abbrev IsSaid : List (List ℕ) → Command → Type 0
 IsSaid words c = (w : grammar.Command) × (grammar.IsCommand words w × (heard w ≡ Some c))
 
 said : (words : List (List ℕ)) (c : Command) → IsCommand words c → IsSaid words c

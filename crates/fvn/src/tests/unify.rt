@@ -168,8 +168,8 @@ const NOPRE: &str =
 const OVER_NOPRE: &str = "\
 X =? X ==> module 9.6 f A";
 
-// The status that goes with the last of these lines.
-fn status_of(said: &str) -> Status {
+/// The status that goes with the last of these lines.
+pub fn status_of(said: &str) -> Status {
     let last = match said.rsplit_once(" | ") {
         Some((_lines, last)) => last,
         None => said,
