@@ -1,5 +1,5 @@
 -- How an outcome comes about.
-use Rattle.std.proofs.Common.{◌≡◌, ◌+◌, ◌⊎◌, ℕ, List, Some, None, refl, sym, subst, inl, inr}
+use Rattle.std.proofs.Common.{◌≡◌, ◌+◌, ◌⊎◌, ℕ, List, refl, sym, subst, inl, inr}
 use Rattle.fvn_base.specs.declared.limits.TheConstants.{MODULE_BYTES}
 use Rattle.fvn_outside.specs.Source.{TakesCount}
 use Rattle.fvn_outside.specs.Sink.{Appends}

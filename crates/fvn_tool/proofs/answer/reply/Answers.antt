@@ -1,9 +1,6 @@
 -- The reply to a command is that of its crate.
-use Rattle.std.proofs.Common.{IfOk, sym, subst, arith}
+use Rattle.std.proofs.Common.{IfOk, sym, subst}
 use Rattle.fvn_cmd.specs.Texts.{bytes_of}
-use Rattle.fvn_cmd_exploring.specs.Searches.{KeepsSome}
-use Rattle.fvn_cmd_variants.specs.Replies.{IsVariantsReply}
-use Rattle.fvn_cmd_vunify.specs.Replies.{IsVunifyReply}
 use Rattle.fvn_tool.specs.inner.Reading.{meant}
 use Rattle.fvn_tool.specs.inner.Steps.{IsCommandReply}
 use Rattle.fvn_tool.proofs.answer.reply.Goals as goal

@@ -1,5 +1,5 @@
 -- What was read of the words was heard.
-use Rattle.std.proofs.Common.{String, Global, ℕ, List, Some, None, map, subst}
+use Rattle.std.proofs.Common.{String, Global, ℕ, List, Some, map, subst}
 use Rattle.std.specs.Prelude.{string_bytes}
 use Rattle.fvn_cmd_words.specs.Told.{IsRead}
 use Rattle.fvn_tool.proofs.Grammar.{none_is_none}
