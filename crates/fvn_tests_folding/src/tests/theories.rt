@@ -239,7 +239,7 @@ fn explored_in<R: Threads + Sync>(
     equations: &[Equation],
     bounded: Bounded,
 ) -> Result<String, NoMemory>
-    requires { All (IsReadableEquation sig.now) equations.now }
+    requires readable { All (IsReadableEquation sig.now) equations.now }
 {
     harmless_equations_are_admissible();
     match first_left_fault(alloc, sig, equations)? {

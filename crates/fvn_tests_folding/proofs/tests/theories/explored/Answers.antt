@@ -9,5 +9,5 @@ pub flatten-requires : goal.flatten-requires
 flatten-requires g c =
     let d = c.args.sig.now in
     let e : Equation = c.index-equations-count.result in
-    let readable = All-get_or (IsReadableEquation d) c.args.equations.now _ e (omega (arith, c.if-count.false, c.len-count.ensures)) c.requires.readable in
+    let readable = All-get_or (IsReadableEquation d) c.args.equations.now _ e (omega (arith, c.if-count-lt1.false)) c.requires.readable in
     (readable.kind, readable.right)

@@ -9,5 +9,5 @@ explored-requires-clause-rules g c lives order =
     let d = c.args.sig.now in record {
       rules = c.in_ok-rules-in-None.ensures.rules;
       admissible = subst (λ es. AreAdmissible d (equations_of es)) (sym c.in_ok-rules-in-None.ensures.equations)
-          (c.harmless_equations_are_admissible.ensures d c.args.equations.now c.requires (rw c.in-None.is at c.in_ok-first_left_fault.ensures));
+          (c.harmless_equations_are_admissible.ensures d c.args.equations.now c.requires.readable (rw c.in-None.is at c.in_ok-first_left_fault.ensures));
     }
