@@ -18,7 +18,7 @@ use Rattle.fvn_critical_pairs.specs.Laws.{OverlapsOfRulesDecideConfluence, Diver
 use Rattle.fvn_critical.specs.declared.fault.CriticalFault.{CriticalFault}
 use Rattle.fvn_critical.specs.declared.fault.CriticalFault.TheVariants.{Sorts, Apart, Steps, Size, Basis, Unifiers}
 use Rattle.fvn_critical.specs.Faults.{IsCriticalFault, IsAnswer, TellsFirstLoss, MeetsLimit, IsOnlyLimited}
-use Rattle.fvn_critical.specs.inner.Testing.{TestedAs, Each, IsJoinedBy}
+use Rattle.fvn_critical.specs.inner.Testing.{TestedAs, AreJoinedBySome}
 use Rattle.fvn_critical.proofs.Forms.{used_by}
 
 module _ (d : Declarations) where
@@ -48,10 +48,10 @@ module _ (r : Rewriting) (drawn : Problem → Substitution → Type 0) (unifiers
 
   -- where no equation loses a sort, the tests decide
   pub tested_answer : IsGood r.signature → IsCompleted r.signature → AreUsable r.signature r.rules → OverlapsOfRulesDecideConfluence → AreSortDecreasing r.signature equations →
-      (f : Option CriticalFault) → TestedAs r drawn unifiers (Each (IsJoinedBy r) r.rules.rules) f → IsAnswer r drawn unifiers f
+      (f : Option CriticalFault) → TestedAs r drawn unifiers (AreJoinedBySome r) f → IsAnswer r drawn unifiers f
   tested_answer good completed usable decide decreasing None all = record {
     decreasing = decreasing;
-    confluent = λ ends. decide r.signature r.rules (used_by r good completed usable) decreasing all ends;
+    confluent = λ ends. decide r.signature r.rules (used_by r good completed usable) decreasing all.chosen all.enough all.joined ends;
   }
   tested_answer good completed usable decide decreasing (Some f) shown = shown
 

@@ -71,11 +71,11 @@ module _ (r : Rewriting) (outer : Rule) (path : List ℕ) where
   leads_there o same there h = subst (λ p. LeadsTo p outer.left o.at) there (subst (λ (z : Rule). LeadsTo o.path z.left o.at) same h.leads)
 
   -- no form stands there, or one without a head
-  pub nowhere : ((at : FlatTerm) → LeadsTo path outer.left at → ⊥) → JoinAt r outer path
-  nowhere n o same there h = absurd (n o.at (leads_there o same there h))
+  pub nowhere : (chosen : List Rule) → ((at : FlatTerm) → LeadsTo path outer.left at → ⊥) → JoinAt r chosen outer path
+  nowhere chosen n o same there h i = absurd (n o.at (leads_there o same there h))
 
-  pub headless : (at : FlatTerm) → LeadsTo path outer.left at → head_of at ≡ None → JoinAt r outer path
-  headless at leads e o same there h =
+  pub headless : (chosen : List Rule) → (at : FlatTerm) → LeadsTo path outer.left at → head_of at ≡ None → JoinAt r chosen outer path
+  headless chosen at leads e o same there h i =
       let is : o.at ≡ at = leads_once path outer.left o.at at (leads_there o same there h) leads in
       let q : Some h.operator ≡ None = sym h.heads ∙ ap head_of is ∙ e in cc
 
@@ -97,5 +97,5 @@ module _ (r : Rewriting) (outer : Rule) (path : List ℕ) where
         let whole : o ≡ record { outer = outer; path = path; at = at; inner = inner } = λ i. record { outer = same i; path = there i; at = is i; inner = this i } in
         subst (Joins r.signature (equations_by r)) (sym whole) j
 
-  pub with_all : Each (JoinWith r outer path) r.rules.rules → JoinAt r outer path
-  with_all h o same there k = h o.inner k.given o same there refl k
+  pub with_all : (chosen : List Rule) → Each (JoinWith r outer path) chosen → JoinAt r chosen outer path
+  with_all chosen h o same there k i = h o.inner i o same there refl k

@@ -7,3 +7,4 @@ mod Posed
 mod Joining
 mod Covering
 mod Answering
+mod StandIns

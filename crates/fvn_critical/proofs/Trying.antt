@@ -95,6 +95,18 @@ module _ (r : Rewriting) (good : IsGood r.signature) (completed : IsCompleted r.
     equal = stop;
   }
 
+  -- two forms that are one
+  pub joins_at_once : first ≡ second → JoinsUnder d equations o c
+  joins_at_once e = record {
+    left = plain first;
+    right = plain first;
+    left_steps = 0;
+    right_steps = 0;
+    left_reached = BEqual-sym d (first_equal r good completed usable rules drawn next o is s u);
+    right_reached = BEqual-sym d (subst (λ w. BEqual d (plain w) (apply c (plain (inner_result o)))) (sym e) (second_equal r good completed usable rules drawn next o is s u whole put));
+    equal = stop;
+  }
+
   both : AreBothReached d r.rules.equations o c
   both = steps d r.rules (used_by r good completed usable) next o is c u.unifies
 

@@ -1,6 +1,6 @@
--- Where all overlaps of the given rules join, so do those of all rules.
+-- Where all overlaps join of rules that stand for the given ones, so do those of all rules.
 use Rattle.std.proofs.Common.{◌≡◌, Some, None, refl, sym, ap, ◌∙◌, subst}
-use Rattle.std.specs.Prelude.{Contains}
+use Rattle.std.specs.Prelude.{List, Contains}
 use Rattle.fvn_terms.specs.declared.plain.Var.{Var}
 use Rattle.fvn_terms.specs.declared.plain.OpId.{OpId}
 use Rattle.fvn_terms.specs.declared.declarations.Declarations.{Declarations}
@@ -24,43 +24,53 @@ use Rattle.fvn_rewrite_rules.specs.Given.{RuleLists, IsRenamedRule}
 use Rattle.fvn_rewrite_peaks.specs.Peaks.{IsInstanceOfForms, StandInsJoin}
 use Rattle.fvn_places.proofs.PathFacts.{HasPath, path_along}
 use Rattle.fvn_lifting.specs.Laws.{AreUsed, RenamedFormsHaveTheSameInstances}
-use Rattle.fvn_critical_pairs.specs.Overlaps.{Overlap, inner_result, IsOverlapWith, JoinsWhere, IsJoined}
+use Rattle.fvn_critical_pairs.specs.Overlaps.{Overlap, inner_result, StandsFor, SomeStandsFor, StandForAll, IsOverlapWith, JoinsWhere, IsJoined}
 use Rattle.fvn_critical_pairs.specs.Laws.{AreAllJoined}
 use Rattle.fvn_critical_pairs.proofs.Heads.{renamed_head}
 use Rattle.fvn_critical_pairs.proofs.GivenRules.{sides_fit, given_rule, is_rule, left_fits, right_fits, brings_none}
 use Rattle.fvn_critical_pairs.proofs.RenewedRules.{new_left_fits, new_brings_none, new_steps}
-use Rattle.fvn_critical_pairs.proofs.Instances.{renamed_instance, instance_again}
+use Rattle.fvn_critical_pairs.proofs.Instances.{renamed_instance, instance_again, special_instance}
 
 module _ (d : Declarations) (lists : RuleLists) (used : AreUsed d (equations_of lists.equations) lists) (rewriting : RewritingLaws d (equations_of lists.equations))
     (sequences : SequenceLaws d (equations_of lists.equations)) (agreement : AgreementLaws d (equations_of lists.equations)) (rules : RuleLaws d (equations_of lists.equations))
-    (same : RenamedFormsHaveTheSameInstances) where
+    (same : RenamedFormsHaveTheSameInstances) (chosen : List Rule) (choice : StandForAll d lists.rules chosen) where
   abbrev equations : Equations
   equations = equations_of lists.equations
 
-  -- a rule of the equations, and the given one that is it up to a renaming
+  -- a rule of the equations, the given one that it is up to a renaming, and the chosen one that stands for that
   module _ (l r : FlatTerm) (of_these : IsRuleOf d equations l r) where
     abbrev found : (rule : Rule) × (Contains lists.rules rule × IsRenamedRule d l r rule)
     found = given_rule d lists used rules l r of_these
 
+    renamed : IsRenamedRule d l r found.0
+    renamed = found.1.1
+
+    abbrev general : SomeStandsFor d chosen found.0
+    general = choice.enough found.0 found.1.0
+
     abbrev pub stand_in : Rule
-    stand_in = found.0
+    stand_in = general.0
+
+    pub stand_in_chosen : Contains chosen stand_in
+    stand_in_chosen = general.1.0
 
     pub stand_in_given : Contains lists.rules stand_in
-    stand_in_given = found.1.0
+    stand_in_given = choice.given stand_in stand_in_chosen
 
-    renamed : IsRenamedRule d l r stand_in
-    renamed = found.1.1
+    stands : StandsFor d stand_in found.0
+    stands = general.1.1
 
     pub stand_in_instance : (s : Substitution) → IsWellSorted d s → IsInstanceOfForms d equations stand_in.left stand_in.right l r s
     stand_in_instance s sorted =
         let fit = sides_fit d lists used rules l r of_these in
-        renamed_instance d equations used.good same l r stand_in.left stand_in.right fit.0 fit.1 renamed.by renamed.renames renamed.left renamed.right s sorted
+        let first = renamed_instance d equations used.good same l r found.0.left found.0.right fit.0 fit.1 renamed.by renamed.renames renamed.left renamed.right s sorted in
+        instance_again d equations used.good same l r found.0.left found.0.right stand_in.left stand_in.right s first (special_instance d equations used.good same stand_in found.0 stands first.by first.well_sorted)
 
     pub stand_in_head : (f : OpId) → head_of l ≡ Some f → head_of stand_in.left ≡ Some f
-    stand_in_head f e = ap head_of renamed.left ∙ renamed_head d renamed.by f l (sides_fit d lists used rules l r of_these).0.flat e
+    stand_in_head f e = stands.head ∙ ap head_of renamed.left ∙ renamed_head d renamed.by f l (sides_fit d lists used rules l r of_these).0.flat e
 
   -- a rule with new variables whose overlaps join
-  module _ (rule : Rule) (given : Contains lists.rules rule) (j : IsJoined d equations lists rule) where
+  module _ (rule : Rule) (given : Contains lists.rules rule) (j : IsJoined d equations lists chosen rule) where
     abbrev left : FlatTerm
     left = j.new.left
 
@@ -78,6 +88,9 @@ module _ (d : Declarations) (lists : RuleLists) (used : AreUsed d (equations_of 
       inner_given : Contains lists.rules inner
       inner_given = stand_in_given part.redex.left part.redex.right part.redex.rule
 
+      inner_chosen : Contains chosen inner
+      inner_chosen = stand_in_chosen part.redex.left part.redex.right part.redex.rule
+
       inner_head : head_of inner.left ≡ Some part.operator
       inner_head = stand_in_head part.redex.left part.redex.right part.redex.rule part.operator (part.redex.heads_left ∙ ap Some part.same_operator)
 
@@ -94,7 +107,7 @@ module _ (d : Declarations) (lists : RuleLists) (used : AreUsed d (equations_of 
       overlaps = record { listed = place.listed; leads = place.leads; operator = part.operator; heads = part.heads; given = inner_given; heads_inner = inner_head }
 
       joined : JoinsWhere d equations overlap s made.by
-      joined = j.joins overlap refl overlaps s made.by record {
+      joined = j.joins overlap refl overlaps inner_chosen s made.by record {
         left = sorted;
         right = made.well_sorted;
         equal = BEqual-trans d part.matches (BEqual-sym d made.left_is);
@@ -127,11 +140,11 @@ module _ (d : Declarations) (lists : RuleLists) (used : AreUsed d (equations_of 
             equal = k.equal;
           }
 
-  pub stand_ins_join : AreAllJoined d lists → StandInsJoin d equations
+  pub stand_ins_join : AreAllJoined d lists chosen → StandInsJoin d equations
   stand_ins_join all l r of_these =
       let rule = stand_in l r of_these in
       let given = stand_in_given l r of_these in
-      let j = all rule given in (
+      let j = all rule (stand_in_chosen l r of_these) in (
         j.new.left,
         j.new.right,
         record {

@@ -1,12 +1,15 @@
--- Instances of rules are instances of the rules with renamed variables.
+-- Instances of rules are instances of the rules with renamed variables, and of rules that stand for them.
 use Rattle.std.proofs.Common.{◌≡◌, ◌⊎◌, zero, suc, [], ◌∷◌, inl, inr, sym, ap, ◌∙◌, subst, arith}
 use Rattle.std.specs.Prelude.{Any}
 use Rattle.fvn_base.proofs.Membership.{contains_none}
 use Rattle.fvn_terms.specs.declared.plain.Var.{Var}
 use Rattle.fvn_terms.specs.declared.declarations.Declarations.{Declarations}
 use Rattle.fvn_terms.specs.Term.{var}
-use Rattle.fvn_terms.specs.Substitution.{Substitution, Occurs}
-use Rattle.fvn_terms.proofs.Equal.{BEqual-sym, BEqual-trans}
+use Rattle.fvn_terms.specs.Substitution.{Substitution, apply, followed_by, Occurs}
+use Rattle.fvn_terms.specs.Equality.{BEqual}
+use Rattle.fvn_terms.proofs.Equal.{BEqual-apply, BEqual-sym, BEqual-trans}
+use Rattle.fvn_terms.proofs.Substitutions.{apply-apply}
+use Rattle.fvn_terms.proofs.WellSorted.{IsWellSorted-followed_by}
 use Rattle.fvn_terms.specs.Sorts.{IsWellSorted}
 use Rattle.fvn_terms.specs.Theory.{Equations}
 use Rattle.fvn_forms.specs.Flat.{FlatTerm, plain}
@@ -14,8 +17,10 @@ use Rattle.fvn_forms.specs.Good.{IsGood}
 use Rattle.fvn_flat.specs.Drawn.{Renaming}
 use Rattle.fvn_flat.specs.Fits.{Fits}
 use Rattle.fvn_flat.specs.Successors.{Narrowed, IsRenaming, renamed_form, OccursIn}
+use Rattle.fvn_rewrite_rules.specs.declared.rule.Rule.{Rule}
 use Rattle.fvn_rewrite_peaks.specs.Peaks.{IsInstanceOfForms}
 use Rattle.fvn_lifting.specs.Laws.{RenamedFormsHaveTheSameInstances}
+use Rattle.fvn_critical_pairs.specs.Overlaps.{StandsFor}
 
 module _ (d : Declarations) (equations : Equations) (good : IsGood d) (same : RenamedFormsHaveTheSameInstances) where
   -- two forms, and nothing besides
@@ -54,4 +59,13 @@ module _ (d : Declarations) (equations : Equations) (good : IsGood d) (same : Re
     well_sorted = second.well_sorted;
     left_is = BEqual-trans d second.left_is first.left_is;
     right_is = BEqual-trans d second.right_is first.right_is;
+  }
+
+  -- each instance of a rule is one of a rule that stands for it
+  pub special_instance : (general special : Rule) → StandsFor d general special → (s : Substitution) → IsWellSorted d s → IsInstanceOfForms d equations general.left general.right special.left special.right s
+  special_instance general special h s sorted = record {
+    by = followed_by h.by s;
+    well_sorted = IsWellSorted-followed_by d h.by s h.well_sorted sorted;
+    left_is = subst (λ t. BEqual d t (apply s (plain special.left))) (apply-apply h.by s (plain general.left)) (BEqual-apply d s sorted.0 h.left);
+    right_is = subst (λ t. BEqual d t (apply s (plain special.right))) (apply-apply h.by s (plain general.right)) (BEqual-apply d s sorted.0 h.right);
   }

@@ -10,7 +10,7 @@ use Rattle.fvn_flat.specs.Solving.{substitution}
 use Rattle.fvn_rewrite_rules.specs.declared.rule.Rule.{Rule}
 use Rattle.fvn_rewrite.specs.Usable.{Rewriting, equations_by}
 use Rattle.fvn_places.specs.Paths.{LeadsTo, paths}
-use Rattle.fvn_critical_pairs.specs.Overlaps.{Overlap, overlap_problem, IsRenewed, IsOverlap, IsOverlapWith, JoinsUnder, Joins, IsJoined}
+use Rattle.fvn_critical_pairs.specs.Overlaps.{Overlap, overlap_problem, IsRenewed, IsOverlap, IsOverlapWith, JoinsUnder, Joins, StandForAll, IsJoined}
 use Rattle.fvn_critical.specs.declared.pairing.Meeting.{Meeting}
 use Rattle.fvn_critical.specs.declared.renewing.New.{New}
 use Rattle.fvn_critical.specs.declared.testing.Part.{Part}
@@ -66,12 +66,18 @@ JoinWith r outer path inner =
     (o : Overlap) → o.outer ≡ outer → o.path ≡ path → o.inner ≡ inner → IsOverlapWith r.rules o →
     Joins r.signature (equations_by r) o
 
--- the overlaps of the outer rule at the path join
-abbrev pub JoinAt : Rewriting → Rule → List ℕ → Type 0
-JoinAt r outer path =
-    (o : Overlap) → o.outer ≡ outer → o.path ≡ path → IsOverlapWith r.rules o →
+-- the overlaps of the outer rule at the path with chosen rules join
+abbrev pub JoinAt : Rewriting → List Rule → Rule → List ℕ → Type 0
+JoinAt r chosen outer path =
+    (o : Overlap) → o.outer ≡ outer → o.path ≡ path → IsOverlapWith r.rules o → Contains chosen o.inner →
     Joins r.signature (equations_by r) o
 
--- all overlaps of the rule join
-abbrev pub IsJoinedBy : Rewriting → Rule → Type 0
+-- all overlaps of the rule with chosen ones join
+abbrev pub IsJoinedBy : Rewriting → List Rule → Rule → Type 0
 IsJoinedBy r = IsJoined r.signature (equations_by r) r.rules
+
+-- all overlaps of some rules that stand for all join
+pub record AreJoinedBySome (r : Rewriting) : Type 0 where
+  pub chosen : List Rule
+  pub enough : StandForAll r.signature r.rules.rules chosen
+  pub joined : Each (IsJoinedBy r chosen) chosen

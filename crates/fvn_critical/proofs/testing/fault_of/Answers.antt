@@ -36,10 +36,11 @@ pub returns : goal.returns
 returns g c =
     let r = c.args.tester.now.rewriter in
     let new = c.in_ok-new.new in
-    weaker r (g.A.AxiomSolver.drawn c.args.tester.now.solver.now) (g.A.AxiomSolver.most_unifiers c.args.tester.now.solver.now) (Each (JoinAt r new.rule) c.as_slice.result.now) (IsJoinedBy r c.args.rule.now)
+    let chosen = c.args.tester.now.chosen.now in
+    weaker r (g.A.AxiomSolver.drawn c.args.tester.now.solver.now) (g.A.AxiomSolver.most_unifiers c.args.tester.now.solver.now) (Each (JoinAt r chosen new.rule) c.as_slice.result.now) (IsJoinedBy r chosen c.args.rule.now)
     (λ h. record {
       next = new.next;
       new = new.rule;
       renewed = subst (λ (d : Declarations). IsRenewed d new.next c.args.rule.now new.rule) c.signature.ensures c.in_ok-new.ensures;
-      joins = λ o same k. subst (Each (JoinAt r new.rule)) (c.as_slice.ensures.value ∙ c.in_ok-list.ensures) h o.path (subst (λ (z : Rule). Contains (paths z.left) o.path) same k.listed) o same refl k;
+      joins = λ o same k i. subst (Each (JoinAt r chosen new.rule)) (c.as_slice.ensures.value ∙ c.in_ok-list.ensures) h o.path (subst (λ (z : Rule). Contains (paths z.left) o.path) same k.listed) o same refl k i;
     }) c.in_ok-fault.fault c.in_ok-fault.ensures

@@ -1,0 +1,34 @@
+-- The chosen rules stand for all.
+use Rattle.std.proofs.Common.{List, sym, subst}
+use Rattle.std.specs.Prelude.{All}
+use Rattle.fvn_rewrite_rules.specs.declared.rule.Rule.{Rule}
+use Rattle.fvn_critical_pairs.specs.Overlaps.{StandForAll}
+use Rattle.fvn_critical.specs.Faults.{rewriting_of}
+use Rattle.fvn_critical.specs.inner.Choosing.{SidesFit}
+use Rattle.fvn_critical.specs.inner.Testing.{TestedAs, Each, IsJoinedBy, AreJoinedBySome}
+use Rattle.fvn_critical.proofs.StandIns.{rules_fit}
+use Rattle.fvn_critical.proofs.Covering.{weaker}
+use Rattle.fvn_critical.proofs.testing.fault_of_all.Goals as goal
+
+pub chosen_rules-requires : goal.chosen_rules-requires
+chosen_rules-requires g c =
+    let r = rewriting_of c.args.sig.now c.args.rules.now c.args.bounds in
+    subst (All (SidesFit c.args.sig.now)) (sym c.rules.ensures) (rules_fit r c.recall_good.ensures c.recall_completed.ensures c.requires.rules c.rules_are_lawful.ensures)
+
+pub new-requires-clause-enough : goal.new-requires-clause-enough
+new-requires-clause-enough g c lives order =
+    subst (StandForAll c.args.sig.now c.args.rules.now.rules) (sym c.as_slice.ensures.value)
+    (subst (λ (l : List Rule). StandForAll c.args.sig.now l c.in_ok-chosen.chosen.items) c.rules.ensures c.in_ok-chosen.ensures)
+
+pub returns : goal.returns
+returns g c =
+    let r = rewriting_of c.args.sig.now c.args.rules.now c.args.bounds in
+    let may = g.A.AxiomSolver.drawn c.args.solver.now in
+    let unifiers = g.A.AxiomSolver.most_unifiers c.args.solver.now in
+    let list = c.as_slice.result.now in
+    let enough : StandForAll c.args.sig.now c.args.rules.now.rules list =
+    subst (StandForAll c.args.sig.now c.args.rules.now.rules) (sym c.as_slice.ensures.value)
+    (subst (λ (l : List Rule). StandForAll c.args.sig.now l c.in_ok-chosen.chosen.items) c.rules.ensures c.in_ok-chosen.ensures) in
+    let tested : TestedAs r may unifiers (Each (IsJoinedBy r list) list) c.in_ok-fault.fault =
+    rw (c.new-tester.ensures.rewrites, c.new-tester.ensures.solver, c.new-tester.ensures.chosen) at c.in_ok-fault.ensures in
+    weaker r may unifiers (Each (IsJoinedBy r list) list) (AreJoinedBySome r) (λ h. record { chosen = list; enough = enough; joined = h }) c.in_ok-fault.fault tested

@@ -1,0 +1,117 @@
+//! The rules whose overlaps are tested: one of them stands for each other rule.
+ghost use Rattle.std.specs.Prelude.{◌≡◌, IsTrue, All, IfOk};
+ghost use Rattle.fvn_critical_pairs.specs.Overlaps.{StandsFor, SomeStandsFor, StandForAll};
+ghost use Rattle.fvn_critical.specs.inner.Choosing.{SidesFit};
+
+use crate::heading::heads;
+use fvn_match::matches_both;
+use fvn_rewrite_rules::Rule;
+use fvn_signature::Signature;
+use fvn_terms::NoMemory;
+use std::alloc::Global;
+use std::slice::from_ref;
+
+// Whether one substitution makes both sides of the second rule from those of the first, and one operator heads both
+// left sides.
+fn stands_for(
+    alloc: Global,
+    sig: &Signature,
+    general: &Rule,
+    special: &Rule,
+) -> Result<bool, NoMemory>
+    requires general { SidesFit sig.now general.now }
+    requires special { SidesFit sig.now special.now }
+    ensures { IfOk result (λ b. IsTrue b → StandsFor sig.now general.now special.now) }
+{
+    let Some(head) = special.left.head() else {
+        return Ok(false);
+    };
+    if !heads(head, &general.left) {
+        return Ok(false);
+    }
+    let found = matches_both(
+        alloc,
+        sig,
+        (from_ref(&general.left), from_ref(&general.right)),
+        (from_ref(&special.left), from_ref(&special.right)),
+    )?;
+    let is = found.is_some();
+    Ok(is)
+}
+
+// Whether one of the rules stands for this one.
+fn some_stands_for(
+    alloc: Global,
+    sig: &Signature,
+    rules: &[Rule],
+    rule: &Rule,
+) -> Result<bool, NoMemory>
+    requires rules { All (SidesFit sig.now) rules.now }
+    requires rule { SidesFit sig.now rule.now }
+    ensures { IfOk result (λ b. IsTrue b → SomeStandsFor sig.now rules.now rule.now) }
+{
+    for general in rules {
+        let found = stands_for(alloc, sig, general, rule)?;
+        if found {
+            return Ok(true);
+        }
+    }
+    Ok(false)
+}
+
+// The same rule, in memory of its own.
+fn copy_of(alloc: Global, rule: &Rule) -> Result<Rule, NoMemory>
+    ensures { IfOk result (λ r. r ≡ rule.now) }
+{
+    let left = rule.left.copy(alloc)?;
+    let right = rule.right.copy(alloc)?;
+    Ok(Rule {
+        left,
+        right,
+        equation: rule.equation,
+    })
+}
+
+// The same rules, in memory of their own.
+fn copies(alloc: Global, rules: &[Rule]) -> Result<Vec<Rule>, NoMemory>
+    ensures { IfOk result (λ all. all.items ≡ rules.now) }
+{
+    let mut all = Vec::new(alloc);
+    for rule in rules {
+        let copy = copy_of(alloc, rule)?;
+        all.push(copy)?;
+    }
+    Ok(all)
+}
+
+// The rules from the last one to the first, but for those for which a later one stands.
+fn without_special(alloc: Global, sig: &Signature, rules: Vec<Rule>) -> Result<Vec<Rule>, NoMemory>
+    requires { All (SidesFit sig.now) rules.items }
+    ensures { IfOk result (λ chosen. StandForAll sig.now rules.items chosen.items) }
+{
+    let mut rest = rules;
+    let mut chosen = Vec::new(alloc);
+    while let Some(rule) = rest.pop() {
+        let found = some_stands_for(alloc, sig, chosen.as_slice(), &rule)?;
+        if found {
+            continue;
+        }
+        chosen.push(rule)?;
+    }
+    Ok(chosen)
+}
+
+// Some of the rules, in their order, none of which stands for another one, and one of which stands for each.
+pub(crate) fn chosen_rules(
+    alloc: Global,
+    sig: &Signature,
+    rules: &[Rule],
+) -> Result<Vec<Rule>, NoMemory>
+    requires { All (SidesFit sig.now) rules.now }
+    ensures { IfOk result (λ chosen. StandForAll sig.now rules.now chosen.items) }
+{
+    let all = copies(alloc, rules)?;
+    let back = without_special(alloc, sig, all)?;
+    let chosen = without_special(alloc, sig, back)?;
+    Ok(chosen)
+}
