@@ -7,4 +7,4 @@ mod Posed
 mod Joining
 mod Covering
 mod Answering
-mod StandIns
+mod Subsuming

@@ -1,6 +1,6 @@
-//! The rules whose overlaps are tested: one of them stands for each other rule.
+//! The rules whose overlaps are tested: they subsume all others.
 ghost use Rattle.std.specs.Prelude.{◌≡◌, IsTrue, All, IfOk};
-ghost use Rattle.fvn_critical_pairs.specs.Overlaps.{StandsFor, SomeStandsFor, StandForAll};
+ghost use Rattle.fvn_critical_pairs.specs.Overlaps.{Subsumes, SomeSubsumes, SubsumeAll};
 ghost use Rattle.fvn_critical.specs.inner.Choosing.{SidesFit};
 
 use crate::heading::heads;
@@ -11,9 +11,9 @@ use fvn_terms::NoMemory;
 use std::alloc::Global;
 use std::slice::from_ref;
 
-// Whether one substitution makes both sides of the second rule from those of the first, and one operator heads both
-// left sides.
-fn stands_for(
+// Whether the first rule subsumes the second: one substitution makes both sides of the second from those of the first,
+// and one operator heads both left sides.
+fn subsumes(
     alloc: Global,
     sig: &Signature,
     general: &Rule,
@@ -21,7 +21,7 @@ fn stands_for(
 ) -> Result<bool, NoMemory>
     requires general { SidesFit sig.now general.now }
     requires special { SidesFit sig.now special.now }
-    ensures { IfOk result (λ b. IsTrue b → StandsFor sig.now general.now special.now) }
+    ensures { IfOk result (λ b. IsTrue b → Subsumes sig.now general.now special.now) }
 {
     let Some(head) = special.left.head() else {
         return Ok(false);
@@ -39,8 +39,8 @@ fn stands_for(
     Ok(is)
 }
 
-// Whether one of the rules stands for this one.
-fn some_stands_for(
+// Whether one of the rules subsumes this one.
+fn some_subsumes(
     alloc: Global,
     sig: &Signature,
     rules: &[Rule],
@@ -48,10 +48,10 @@ fn some_stands_for(
 ) -> Result<bool, NoMemory>
     requires rules { All (SidesFit sig.now) rules.now }
     requires rule { SidesFit sig.now rule.now }
-    ensures { IfOk result (λ b. IsTrue b → SomeStandsFor sig.now rules.now rule.now) }
+    ensures { IfOk result (λ b. IsTrue b → SomeSubsumes sig.now rules.now rule.now) }
 {
     for general in rules {
-        let found = stands_for(alloc, sig, general, rule)?;
+        let found = subsumes(alloc, sig, general, rule)?;
         if found {
             return Ok(true);
         }
@@ -84,15 +84,15 @@ fn copies(alloc: Global, rules: &[Rule]) -> Result<Vec<Rule>, NoMemory>
     Ok(all)
 }
 
-// The rules from the last one to the first, but for those for which a later one stands.
-fn without_special(alloc: Global, sig: &Signature, rules: Vec<Rule>) -> Result<Vec<Rule>, NoMemory>
+// The rules from the last one to the first, but for those that a later one subsumes.
+fn without_subsumed(alloc: Global, sig: &Signature, rules: Vec<Rule>) -> Result<Vec<Rule>, NoMemory>
     requires { All (SidesFit sig.now) rules.items }
-    ensures { IfOk result (λ chosen. StandForAll sig.now rules.items chosen.items) }
+    ensures { IfOk result (λ chosen. SubsumeAll sig.now rules.items chosen.items) }
 {
     let mut rest = rules;
     let mut chosen = Vec::new(alloc);
     while let Some(rule) = rest.pop() {
-        let found = some_stands_for(alloc, sig, chosen.as_slice(), &rule)?;
+        let found = some_subsumes(alloc, sig, chosen.as_slice(), &rule)?;
         if found {
             continue;
         }
@@ -101,17 +101,17 @@ fn without_special(alloc: Global, sig: &Signature, rules: Vec<Rule>) -> Result<V
     Ok(chosen)
 }
 
-// Some of the rules, in their order, none of which stands for another one, and one of which stands for each.
+// Some of the rules, in their order, that subsume all; none of them subsumes another one.
 pub(crate) fn chosen_rules(
     alloc: Global,
     sig: &Signature,
     rules: &[Rule],
 ) -> Result<Vec<Rule>, NoMemory>
     requires { All (SidesFit sig.now) rules.now }
-    ensures { IfOk result (λ chosen. StandForAll sig.now rules.now chosen.items) }
+    ensures { IfOk result (λ chosen. SubsumeAll sig.now rules.now chosen.items) }
 {
     let all = copies(alloc, rules)?;
-    let back = without_special(alloc, sig, all)?;
-    let chosen = without_special(alloc, sig, back)?;
+    let back = without_subsumed(alloc, sig, all)?;
+    let chosen = without_subsumed(alloc, sig, back)?;
     Ok(chosen)
 }

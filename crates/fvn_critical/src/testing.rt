@@ -170,7 +170,7 @@ fn first_fault<A: AxiomSolver>(
     Ok(None)
 }
 
-// The overlaps of rules that stand for all, up to the first that shows a fault.
+// The overlaps of rules that subsume all, up to the first that shows a fault.
 fn fault_of_all<A: AxiomSolver>(
     alloc: Global,
     sig: &Signature,

@@ -1,4 +1,4 @@
--- Where all overlaps join of rules that stand for the given ones, so do those of all rules.
+-- Where all overlaps join of rules that subsume the given ones, forms stand for all rules whose overlaps join.
 use Rattle.std.proofs.Common.{◌≡◌, Some, None, refl, sym, ap, ◌∙◌, subst}
 use Rattle.std.specs.Prelude.{List, Contains}
 use Rattle.fvn_terms.specs.declared.plain.Var.{Var}
@@ -24,7 +24,7 @@ use Rattle.fvn_rewrite_rules.specs.Given.{RuleLists, IsRenamedRule}
 use Rattle.fvn_rewrite_peaks.specs.Peaks.{IsInstanceOfForms, StandInsJoin}
 use Rattle.fvn_places.proofs.PathFacts.{HasPath, path_along}
 use Rattle.fvn_lifting.specs.Laws.{AreUsed, RenamedFormsHaveTheSameInstances}
-use Rattle.fvn_critical_pairs.specs.Overlaps.{Overlap, inner_result, StandsFor, SomeStandsFor, StandForAll, IsOverlapWith, JoinsWhere, IsJoined}
+use Rattle.fvn_critical_pairs.specs.Overlaps.{Overlap, inner_result, Subsumes, SomeSubsumes, SubsumeAll, IsOverlapWith, JoinsWhere, IsJoined}
 use Rattle.fvn_critical_pairs.specs.Laws.{AreAllJoined}
 use Rattle.fvn_critical_pairs.proofs.Heads.{renamed_head}
 use Rattle.fvn_critical_pairs.proofs.GivenRules.{sides_fit, given_rule, is_rule, left_fits, right_fits, brings_none}
@@ -33,11 +33,11 @@ use Rattle.fvn_critical_pairs.proofs.Instances.{renamed_instance, instance_again
 
 module _ (d : Declarations) (lists : RuleLists) (used : AreUsed d (equations_of lists.equations) lists) (rewriting : RewritingLaws d (equations_of lists.equations))
     (sequences : SequenceLaws d (equations_of lists.equations)) (agreement : AgreementLaws d (equations_of lists.equations)) (rules : RuleLaws d (equations_of lists.equations))
-    (same : RenamedFormsHaveTheSameInstances) (chosen : List Rule) (choice : StandForAll d lists.rules chosen) where
+    (same : RenamedFormsHaveTheSameInstances) (chosen : List Rule) (choice : SubsumeAll d lists.rules chosen) where
   abbrev equations : Equations
   equations = equations_of lists.equations
 
-  -- a rule of the equations, the given one that it is up to a renaming, and the chosen one that stands for that
+  -- a rule of the equations, the given one that it is up to a renaming, and the chosen one that subsumes that
   module _ (l r : FlatTerm) (of_these : IsRuleOf d equations l r) where
     abbrev found : (rule : Rule) × (Contains lists.rules rule × IsRenamedRule d l r rule)
     found = given_rule d lists used rules l r of_these
@@ -45,7 +45,7 @@ module _ (d : Declarations) (lists : RuleLists) (used : AreUsed d (equations_of 
     renamed : IsRenamedRule d l r found.0
     renamed = found.1.1
 
-    abbrev general : SomeStandsFor d chosen found.0
+    abbrev general : SomeSubsumes d chosen found.0
     general = choice.enough found.0 found.1.0
 
     abbrev pub stand_in : Rule
@@ -57,17 +57,17 @@ module _ (d : Declarations) (lists : RuleLists) (used : AreUsed d (equations_of 
     pub stand_in_given : Contains lists.rules stand_in
     stand_in_given = choice.given stand_in stand_in_chosen
 
-    stands : StandsFor d stand_in found.0
-    stands = general.1.1
+    subsumes : Subsumes d stand_in found.0
+    subsumes = general.1.1
 
     pub stand_in_instance : (s : Substitution) → IsWellSorted d s → IsInstanceOfForms d equations stand_in.left stand_in.right l r s
     stand_in_instance s sorted =
         let fit = sides_fit d lists used rules l r of_these in
         let first = renamed_instance d equations used.good same l r found.0.left found.0.right fit.0 fit.1 renamed.by renamed.renames renamed.left renamed.right s sorted in
-        instance_again d equations used.good same l r found.0.left found.0.right stand_in.left stand_in.right s first (special_instance d equations used.good same stand_in found.0 stands first.by first.well_sorted)
+        instance_again d equations used.good same l r found.0.left found.0.right stand_in.left stand_in.right s first (special_instance d equations used.good same stand_in found.0 subsumes first.by first.well_sorted)
 
     pub stand_in_head : (f : OpId) → head_of l ≡ Some f → head_of stand_in.left ≡ Some f
-    stand_in_head f e = stands.head ∙ ap head_of renamed.left ∙ renamed_head d renamed.by f l (sides_fit d lists used rules l r of_these).0.flat e
+    stand_in_head f e = subsumes.head ∙ ap head_of renamed.left ∙ renamed_head d renamed.by f l (sides_fit d lists used rules l r of_these).0.flat e
 
   -- a rule with new variables whose overlaps join
   module _ (rule : Rule) (given : Contains lists.rules rule) (j : IsJoined d equations lists chosen rule) where

@@ -1,4 +1,4 @@
--- Instances of rules are instances of the rules with renamed variables, and of rules that stand for them.
+-- Instances of rules are instances of the rules with renamed variables, and of rules that subsume them.
 use Rattle.std.proofs.Common.{◌≡◌, ◌⊎◌, zero, suc, [], ◌∷◌, inl, inr, sym, ap, ◌∙◌, subst, arith}
 use Rattle.std.specs.Prelude.{Any}
 use Rattle.fvn_base.proofs.Membership.{contains_none}
@@ -20,7 +20,7 @@ use Rattle.fvn_flat.specs.Successors.{Narrowed, IsRenaming, renamed_form, Occurs
 use Rattle.fvn_rewrite_rules.specs.declared.rule.Rule.{Rule}
 use Rattle.fvn_rewrite_peaks.specs.Peaks.{IsInstanceOfForms}
 use Rattle.fvn_lifting.specs.Laws.{RenamedFormsHaveTheSameInstances}
-use Rattle.fvn_critical_pairs.specs.Overlaps.{StandsFor}
+use Rattle.fvn_critical_pairs.specs.Overlaps.{Subsumes}
 
 module _ (d : Declarations) (equations : Equations) (good : IsGood d) (same : RenamedFormsHaveTheSameInstances) where
   -- two forms, and nothing besides
@@ -61,8 +61,8 @@ module _ (d : Declarations) (equations : Equations) (good : IsGood d) (same : Re
     right_is = BEqual-trans d second.right_is first.right_is;
   }
 
-  -- each instance of a rule is one of a rule that stands for it
-  pub special_instance : (general special : Rule) → StandsFor d general special → (s : Substitution) → IsWellSorted d s → IsInstanceOfForms d equations general.left general.right special.left special.right s
+  -- each instance of a rule is one of a rule that subsumes it
+  pub special_instance : (general special : Rule) → Subsumes d general special → (s : Substitution) → IsWellSorted d s → IsInstanceOfForms d equations general.left general.right special.left special.right s
   special_instance general special h s sorted = record {
     by = followed_by h.by s;
     well_sorted = IsWellSorted-followed_by d h.by s h.well_sorted sorted;

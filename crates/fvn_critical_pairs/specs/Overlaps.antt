@@ -45,23 +45,23 @@ pub record IsRenewed (d : Declarations) (next : ℕ) (rule new : Rule) : Type 0 
   pub positive : 1 ≤ next
   pub small : next ≤ FIRST_FRESH
 
--- The first rule stands for the second: one well-sorted substitution makes both sides of the second from its own, modulo
+-- The first rule subsumes the second: one well-sorted substitution makes both sides of the second from its own, modulo
 -- the axioms, and one operator heads both left sides.
-pub record StandsFor (d : Declarations) (general special : Rule) : Type 0 where
+pub record Subsumes (d : Declarations) (general special : Rule) : Type 0 where
   pub by : Substitution
   pub well_sorted : IsWellSorted d by
   pub left : BEqual d (apply by (plain general.left)) (plain special.left)
   pub right : BEqual d (apply by (plain general.right)) (plain special.right)
   pub head : head_of general.left ≡ head_of special.left
 
--- one of these rules stands for this one
-abbrev pub SomeStandsFor : Declarations → List Rule → Rule → Type 0
-SomeStandsFor d chosen special = (general : Rule) × (Contains chosen general × StandsFor d general special)
+-- one of these rules subsumes this one
+abbrev pub SomeSubsumes : Declarations → List Rule → Rule → Type 0
+SomeSubsumes d chosen special = (general : Rule) × (Contains chosen general × Subsumes d general special)
 
--- some of the given rules, of which one stands for each given rule
-pub record StandForAll (d : Declarations) (rules chosen : List Rule) : Type 0 where
+-- some of the given rules, which subsume all given rules
+pub record SubsumeAll (d : Declarations) (rules chosen : List Rule) : Type 0 where
   pub given : (rule : Rule) → Contains chosen rule → Contains rules rule
-  pub enough : (rule : Rule) → Contains rules rule → SomeStandsFor d chosen rule
+  pub enough : (rule : Rule) → Contains rules rule → SomeSubsumes d chosen rule
 
 -- an outer rule, the path to a part of its left side, the part, and an inner rule
 pub record Overlap : Type 0 where

@@ -10,7 +10,7 @@ use Rattle.fvn_flat.specs.Solving.{substitution}
 use Rattle.fvn_rewrite_rules.specs.declared.rule.Rule.{Rule}
 use Rattle.fvn_rewrite.specs.Usable.{Rewriting, equations_by}
 use Rattle.fvn_places.specs.Paths.{LeadsTo, paths}
-use Rattle.fvn_critical_pairs.specs.Overlaps.{Overlap, overlap_problem, IsRenewed, IsOverlap, IsOverlapWith, JoinsUnder, Joins, StandForAll, IsJoined}
+use Rattle.fvn_critical_pairs.specs.Overlaps.{Overlap, overlap_problem, IsRenewed, IsOverlap, IsOverlapWith, JoinsUnder, Joins, SubsumeAll, IsJoined}
 use Rattle.fvn_critical.specs.declared.pairing.Meeting.{Meeting}
 use Rattle.fvn_critical.specs.declared.renewing.New.{New}
 use Rattle.fvn_critical.specs.declared.testing.Part.{Part}
@@ -76,8 +76,8 @@ JoinAt r chosen outer path =
 abbrev pub IsJoinedBy : Rewriting → List Rule → Rule → Type 0
 IsJoinedBy r = IsJoined r.signature (equations_by r) r.rules
 
--- all overlaps of some rules that stand for all join
+-- all overlaps of some rules that subsume all join
 pub record AreJoinedBySome (r : Rewriting) : Type 0 where
   pub chosen : List Rule
-  pub enough : StandForAll r.signature r.rules.rules chosen
+  pub enough : SubsumeAll r.signature r.rules.rules chosen
   pub joined : Each (IsJoinedBy r chosen) chosen

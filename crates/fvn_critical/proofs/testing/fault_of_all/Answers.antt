@@ -1,12 +1,12 @@
--- The chosen rules stand for all.
+-- The chosen rules subsume all.
 use Rattle.std.proofs.Common.{List, sym, subst}
 use Rattle.std.specs.Prelude.{All}
 use Rattle.fvn_rewrite_rules.specs.declared.rule.Rule.{Rule}
-use Rattle.fvn_critical_pairs.specs.Overlaps.{StandForAll}
+use Rattle.fvn_critical_pairs.specs.Overlaps.{SubsumeAll}
 use Rattle.fvn_critical.specs.Faults.{rewriting_of}
 use Rattle.fvn_critical.specs.inner.Choosing.{SidesFit}
 use Rattle.fvn_critical.specs.inner.Testing.{TestedAs, Each, IsJoinedBy, AreJoinedBySome}
-use Rattle.fvn_critical.proofs.StandIns.{rules_fit}
+use Rattle.fvn_critical.proofs.Subsuming.{rules_fit}
 use Rattle.fvn_critical.proofs.Covering.{weaker}
 use Rattle.fvn_critical.proofs.testing.fault_of_all.Goals as goal
 
@@ -17,8 +17,8 @@ chosen_rules-requires g c =
 
 pub new-requires-clause-enough : goal.new-requires-clause-enough
 new-requires-clause-enough g c lives order =
-    subst (StandForAll c.args.sig.now c.args.rules.now.rules) (sym c.as_slice.ensures.value)
-    (subst (λ (l : List Rule). StandForAll c.args.sig.now l c.in_ok-chosen.chosen.items) c.rules.ensures c.in_ok-chosen.ensures)
+    subst (SubsumeAll c.args.sig.now c.args.rules.now.rules) (sym c.as_slice.ensures.value)
+    (subst (λ (l : List Rule). SubsumeAll c.args.sig.now l c.in_ok-chosen.chosen.items) c.rules.ensures c.in_ok-chosen.ensures)
 
 pub returns : goal.returns
 returns g c =
@@ -26,9 +26,9 @@ returns g c =
     let may = g.A.AxiomSolver.drawn c.args.solver.now in
     let unifiers = g.A.AxiomSolver.most_unifiers c.args.solver.now in
     let list = c.as_slice.result.now in
-    let enough : StandForAll c.args.sig.now c.args.rules.now.rules list =
-    subst (StandForAll c.args.sig.now c.args.rules.now.rules) (sym c.as_slice.ensures.value)
-    (subst (λ (l : List Rule). StandForAll c.args.sig.now l c.in_ok-chosen.chosen.items) c.rules.ensures c.in_ok-chosen.ensures) in
+    let enough : SubsumeAll c.args.sig.now c.args.rules.now.rules list =
+    subst (SubsumeAll c.args.sig.now c.args.rules.now.rules) (sym c.as_slice.ensures.value)
+    (subst (λ (l : List Rule). SubsumeAll c.args.sig.now l c.in_ok-chosen.chosen.items) c.rules.ensures c.in_ok-chosen.ensures) in
     let tested : TestedAs r may unifiers (Each (IsJoinedBy r list) list) c.in_ok-fault.fault =
     rw (c.new-tester.ensures.rewrites, c.new-tester.ensures.solver, c.new-tester.ensures.chosen) at c.in_ok-fault.ensures in
     weaker r may unifiers (Each (IsJoinedBy r list) list) (AreJoinedBySome r) (λ h. record { chosen = list; enough = enough; joined = h }) c.in_ok-fault.fault tested

@@ -1,4 +1,4 @@
--- Rules that stand for others, and how they are chosen.
+-- Rules that subsume others, and how they are chosen.
 use Rattle.std.proofs.Common.{◌≡◌, ◌⊎◌, true, false, List, [], ◌∷◌, ◌++◌, map, Some, None, inl, inr, refl, sym, ◌∙◌, subst}
 use Rattle.std.specs.Prelude.{Option, All, Contains, IfSome, IsTrue, is_some}
 use Rattle.std.proofs.lemmas.List.Elements.{All-contains, All-weaker, All-contains_itself, Contains-append_left, Contains-push, Contains-push_cases}
@@ -25,7 +25,7 @@ use Rattle.fvn_rewrite_laws.specs.Laws.{RuleLaws, RulesAreLawful}
 use Rattle.fvn_rewrite_rules.specs.declared.rule.Rule.{Rule}
 use Rattle.fvn_rewrite.specs.Usable.{Rewriting, AreUsable, equations_by}
 use Rattle.fvn_lifting.specs.Laws.{AreUsed}
-use Rattle.fvn_critical_pairs.specs.Overlaps.{StandsFor, SomeStandsFor, StandForAll}
+use Rattle.fvn_critical_pairs.specs.Overlaps.{Subsumes, SomeSubsumes, SubsumeAll}
 use Rattle.fvn_critical_pairs.proofs.GivenRules.{left_fits, right_fits}
 use Rattle.fvn_critical.specs.inner.Choosing.{SidesFit, AreAmong, AreChosenBut}
 use Rattle.fvn_critical.proofs.Forms.{used_by}
@@ -35,11 +35,11 @@ module _ (d : Declarations) where
   abbrev both : Rule → List FlatTerm
   both rule = rule.left ∷ rule.right ∷ []
 
-  -- a matcher of both sides shows that a rule stands for another one
-  pub stands_by_match : (general special : Rule) (f : OpId) → head_of special.left ≡ Some f → head_of general.left ≡ Some f → (ps ts : List FlatTerm) → ps ≡ both general → ts ≡ both special →
-      (o : Option Bindings) → IfSome o (Matches d ps ts) → IsTrue (is_some o) → StandsFor d general special
-  stands_by_match general special f e g ps ts p t None found is = cc
-  stands_by_match general special f e g ps ts p t (Some s) found is =
+  -- a matcher of both sides shows that a rule subsumes another one
+  pub subsumes_by_match : (general special : Rule) (f : OpId) → head_of special.left ≡ Some f → head_of general.left ≡ Some f → (ps ts : List FlatTerm) → ps ≡ both general → ts ≡ both special →
+      (o : Option Bindings) → IfSome o (Matches d ps ts) → IsTrue (is_some o) → Subsumes d general special
+  subsumes_by_match general special f e g ps ts p t None found is = cc
+  subsumes_by_match general special f e g ps ts p t (Some s) found is =
       let m : IsMatcher d (map plain (both general)) (map plain (both special)) (substitution s) = subst (λ l. Matches d l (both special) s) p (subst (λ l. Matches d ps l s) t found) in
       record { by = substitution s; well_sorted = m.0; left = m.1.0; right = m.1.1.0; head = g ∙ sym e }
 
@@ -47,16 +47,16 @@ module _ (d : Declarations) where
   var_sorted : IsWellSorted d var
   var_sorted = (λ x i. (i, refl), λ x. record { form = var x; equal = stop; gets = record { sort = x.sort; gets = refl; below = same } })
 
-  -- each rule stands for itself
-  stands_itself : (rule : Rule) → StandsFor d rule rule
-  stands_itself rule = record { by = var; well_sorted = var_sorted; left = same_term (plain rule.left); right = same_term (plain rule.right); head = refl }
+  -- each rule subsumes itself
+  subsumes_itself : (rule : Rule) → Subsumes d rule rule
+  subsumes_itself rule = record { by = var; well_sorted = var_sorted; left = same_term (plain rule.left); right = same_term (plain rule.right); head = refl }
     where
       same_term : (t : Term) → BEqual d (apply var t) t
       same_term t = subst (λ v. BEqual d v t) (sym (apply-var t)) stop
 
-  -- and for those for which one stands for which it stands
-  stands_through : (a b c : Rule) → StandsFor d a b → StandsFor d b c → StandsFor d a c
-  stands_through a b c g h = record {
+  -- and what one subsumes that it subsumes
+  subsumes_through : (a b c : Rule) → Subsumes d a b → Subsumes d b c → Subsumes d a c
+  subsumes_through a b c g h = record {
     by = followed_by g.by h.by;
     well_sorted = IsWellSorted-followed_by d g.by h.by g.well_sorted h.well_sorted;
     left = through (plain a.left) (plain b.left) (plain c.left) g.left h.left;
@@ -71,7 +71,7 @@ module _ (d : Declarations) where
   pub none_chosen : (rules : List Rule) → AreChosenBut d rules rules []
   none_chosen rules = record { left = λ rule c. c; given = λ rule c. absurd (contains_none rule c); enough = λ rule c. inl c }
 
-  -- the last of those that are left is chosen, or one stands for it
+  -- the last of those that are left is chosen, or one subsumes it
   module _ (rules before rest chosen : List Rule) (rule : Rule) (is : before ≡ rest ++ rule ∷ []) (h : AreChosenBut d rules before chosen) where
     left_before : (r : Rule) → Contains rest r → Contains before r
     left_before r c = subst (λ l. Contains l r) (sym is) (Contains-append_left rest (rule ∷ []) r c)
@@ -83,52 +83,52 @@ module _ (d : Declarations) where
     chosen_more = record {
       left = λ r c. h.left r (left_before r c);
       given = λ r c. given_or_last r (Contains-push_cases chosen rule r c);
-      enough = λ r c. stands r (h.enough r c);
+      enough = λ r c. covered r (h.enough r c);
     }
       where
         given_or_last : (r : Rule) → Contains chosen r ⊎ (rule ≡ r) → Contains rules r
         given_or_last r (inl c) = h.given r c
         given_or_last r (inr e) = subst (Contains rules) e last_given
 
-        last_or_not : (r : Rule) → Contains rest r ⊎ (rule ≡ r) → Contains rest r ⊎ SomeStandsFor d (chosen ++ rule ∷ []) r
+        last_or_not : (r : Rule) → Contains rest r ⊎ (rule ≡ r) → Contains rest r ⊎ SomeSubsumes d (chosen ++ rule ∷ []) r
         last_or_not r (inl c) = inl c
-        last_or_not r (inr e) = inr (rule, (Contains-push chosen rule, subst (StandsFor d rule) e (stands_itself rule)))
+        last_or_not r (inr e) = inr (rule, (Contains-push chosen rule, subst (Subsumes d rule) e (subsumes_itself rule)))
 
-        stands : (r : Rule) → Contains before r ⊎ SomeStandsFor d chosen r → Contains rest r ⊎ SomeStandsFor d (chosen ++ rule ∷ []) r
-        stands r (inl c) = last_or_not r (Contains-push_cases rest rule r (subst (λ l. Contains l r) is c))
-        stands r (inr (general, i, s)) = inr (general, (Contains-append_left chosen (rule ∷ []) general i, s))
+        covered : (r : Rule) → Contains before r ⊎ SomeSubsumes d chosen r → Contains rest r ⊎ SomeSubsumes d (chosen ++ rule ∷ []) r
+        covered r (inl c) = last_or_not r (Contains-push_cases rest rule r (subst (λ l. Contains l r) is c))
+        covered r (inr (general, i, s)) = inr (general, (Contains-append_left chosen (rule ∷ []) general i, s))
 
-    pub chosen_without : SomeStandsFor d chosen rule → AreChosenBut d rules rest chosen
+    pub chosen_without : SomeSubsumes d chosen rule → AreChosenBut d rules rest chosen
     chosen_without some = record {
       left = λ r c. h.left r (left_before r c);
       given = h.given;
-      enough = λ r c. stands r (h.enough r c);
+      enough = λ r c. covered r (h.enough r c);
     }
       where
-        last_or_not : (r : Rule) → Contains rest r ⊎ (rule ≡ r) → Contains rest r ⊎ SomeStandsFor d chosen r
+        last_or_not : (r : Rule) → Contains rest r ⊎ (rule ≡ r) → Contains rest r ⊎ SomeSubsumes d chosen r
         last_or_not r (inl c) = inl c
-        last_or_not r (inr e) = inr (subst (SomeStandsFor d chosen) e some)
+        last_or_not r (inr e) = inr (subst (SomeSubsumes d chosen) e some)
 
-        stands : (r : Rule) → Contains before r ⊎ SomeStandsFor d chosen r → Contains rest r ⊎ SomeStandsFor d chosen r
-        stands r (inl c) = last_or_not r (Contains-push_cases rest rule r (subst (λ l. Contains l r) is c))
-        stands r (inr s) = inr s
+        covered : (r : Rule) → Contains before r ⊎ SomeSubsumes d chosen r → Contains rest r ⊎ SomeSubsumes d chosen r
+        covered r (inl c) = last_or_not r (Contains-push_cases rest rule r (subst (λ l. Contains l r) is c))
+        covered r (inr s) = inr s
 
   -- where none is left
-  pub all_chosen : (rules rest chosen : List Rule) → rest ≡ [] → AreChosenBut d rules rest chosen → StandForAll d rules chosen
-  all_chosen rules rest chosen none h = record { given = h.given; enough = λ rule c. stands rule (h.enough rule c) }
+  pub all_chosen : (rules rest chosen : List Rule) → rest ≡ [] → AreChosenBut d rules rest chosen → SubsumeAll d rules chosen
+  all_chosen rules rest chosen none h = record { given = h.given; enough = λ rule c. covered rule (h.enough rule c) }
     where
-      stands : (rule : Rule) → Contains rest rule ⊎ SomeStandsFor d chosen rule → SomeStandsFor d chosen rule
-      stands rule (inl c) = absurd (contains_none rule (subst (λ l. Contains l rule) none c))
-      stands rule (inr s) = s
+      covered : (rule : Rule) → Contains rest rule ⊎ SomeSubsumes d chosen rule → SomeSubsumes d chosen rule
+      covered rule (inl c) = absurd (contains_none rule (subst (λ l. Contains l rule) none c))
+      covered rule (inr s) = s
 
   -- some of some
-  pub stand_through : (rules some fewer : List Rule) → StandForAll d rules some → StandForAll d some fewer → StandForAll d rules fewer
-  stand_through rules some fewer g h = record {
+  pub all_through : (rules some fewer : List Rule) → SubsumeAll d rules some → SubsumeAll d some fewer → SubsumeAll d rules fewer
+  all_through rules some fewer g h = record {
     given = λ rule c. g.given rule (h.given rule c);
     enough = λ rule c.
         let a = g.enough rule c in
         let b = h.enough a.0 a.1.0 in
-        (b.0, (b.1.0, stands_through b.0 a.0 rule b.1.1 a.1.1));
+        (b.0, (b.1.0, subsumes_through b.0 a.0 rule b.1.1 a.1.1));
   }
 
   -- their sides fit

@@ -3,27 +3,27 @@ use Rattle.std.proofs.Common.{[], ◌∷◌, ◌++◌, List, sym, subst}
 use Rattle.std.specs.Prelude.{All}
 use Rattle.std.proofs.lemmas.List.Elements.{All-contains}
 use Rattle.fvn_rewrite_rules.specs.declared.rule.Rule.{Rule}
-use Rattle.fvn_critical_pairs.specs.Overlaps.{SomeStandsFor}
+use Rattle.fvn_critical_pairs.specs.Overlaps.{SomeSubsumes}
 use Rattle.fvn_critical.specs.inner.Choosing.{SidesFit, AreChosenBut}
-use Rattle.fvn_critical.proofs.StandIns.{none_chosen, last_given, chosen_more, chosen_without, all_chosen, some_fit}
-use Rattle.fvn_critical.proofs.choosing.without_special.Goals as goal
+use Rattle.fvn_critical.proofs.Subsuming.{none_chosen, last_given, chosen_more, chosen_without, all_chosen, some_fit}
+use Rattle.fvn_critical.proofs.choosing.without_subsumed.Goals as goal
 
 pub loop-rule-init : goal.loop-rule-init
 loop-rule-init c = subst (AreChosenBut c.args.sig.now c.args.rules.items c.args.rules.items) (sym c.new-chosen.ensures.items) (none_chosen c.args.sig.now c.args.rules.items)
 
-pub some_stands_for-requires-clause-rules : goal.some_stands_for-requires-clause-rules
-some_stands_for-requires-clause-rules c =
+pub some_subsumes-requires-clause-rules : goal.some_subsumes-requires-clause-rules
+some_subsumes-requires-clause-rules c =
     subst (All (SidesFit c.args.sig.now)) (sym c.as_slice.ensures.value) (some_fit c.args.sig.now c.args.rules.items c.loop-rule.chosen.items c.loop-rule.invariant.given c.requires)
 
-pub some_stands_for-requires-clause-rule : goal.some_stands_for-requires-clause-rule
-some_stands_for-requires-clause-rule c =
+pub some_subsumes-requires-clause-rule : goal.some_subsumes-requires-clause-rule
+some_subsumes-requires-clause-rule c =
     All-contains (SidesFit c.args.sig.now) c.args.rules.items c.in-Some-pop.rule c.requires
     (last_given c.args.sig.now c.args.rules.items c.loop-rule.rest.items c.pop-in-loop-rule.new.self.items c.loop-rule.chosen.items c.in-Some-pop.rule c.in-Some-pop.ensures.items c.loop-rule.invariant)
 
 pub loop-rule-preserved-then-found : goal.loop-rule-preserved-then-found
 loop-rule-preserved-then-found c =
     chosen_without c.args.sig.now c.args.rules.items c.loop-rule.rest.items c.pop-in-loop-rule.new.self.items c.loop-rule.chosen.items c.in-Some-pop.rule c.in-Some-pop.ensures.items c.loop-rule.invariant
-    (subst (λ (l : List Rule). SomeStandsFor c.args.sig.now l c.in-Some-pop.rule) c.as_slice.ensures.value (c.in_ok-found.ensures c.if-found.true))
+    (subst (λ (l : List Rule). SomeSubsumes c.args.sig.now l c.in-Some-pop.rule) c.as_slice.ensures.value (c.in_ok-found.ensures c.if-found.true))
 
 pub loop-rule-preserved : goal.loop-rule-preserved
 loop-rule-preserved c =
