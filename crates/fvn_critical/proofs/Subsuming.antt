@@ -1,5 +1,5 @@
 -- Rules that subsume others, and how they are chosen.
-use Rattle.std.proofs.Common.{◌≡◌, ◌⊎◌, true, false, List, [], ◌∷◌, ◌++◌, map, Some, None, inl, inr, refl, sym, ◌∙◌, subst}
+use Rattle.std.proofs.Common.{◌≡◌, ◌⊎◌, true, false, List, [], ◌∷◌, ◌++◌, map, length, Some, None, inl, inr, refl, sym, ◌∙◌, subst, arith}
 use Rattle.std.specs.Prelude.{Option, All, Contains, IfSome, IsTrue, is_some}
 use Rattle.std.proofs.lemmas.List.Elements.{All-contains, All-weaker, All-contains_itself, Contains-append_left, Contains-push, Contains-push_cases}
 use Rattle.fvn_base.proofs.Membership.{contains_none}
@@ -32,7 +32,7 @@ use Rattle.fvn_critical.proofs.Forms.{used_by}
 
 module _ (d : Declarations) where
   -- both sides of a rule
-  abbrev both : Rule → List FlatTerm
+  abbrev pub both : Rule → List FlatTerm
   both rule = rule.left ∷ rule.right ∷ []
 
   -- a matcher of both sides shows that a rule subsumes another one
@@ -96,7 +96,7 @@ module _ (d : Declarations) where
 
         covered : (r : Rule) → Contains before r ⊎ SomeSubsumes d chosen r → Contains rest r ⊎ SomeSubsumes d (chosen ++ rule ∷ []) r
         covered r (inl c) = last_or_not r (Contains-push_cases rest rule r (subst (λ l. Contains l r) is c))
-        covered r (inr (general, i, s)) = inr (general, (Contains-append_left chosen (rule ∷ []) general i, s))
+        covered r (inr (general, (i, s))) = inr (general, (Contains-append_left chosen (rule ∷ []) general i, s))
 
     pub chosen_without : SomeSubsumes d chosen rule → AreChosenBut d rules rest chosen
     chosen_without some = record {
@@ -114,12 +114,13 @@ module _ (d : Declarations) where
         covered r (inr s) = inr s
 
   -- where none is left
-  pub all_chosen : (rules rest chosen : List Rule) → rest ≡ [] → AreChosenBut d rules rest chosen → SubsumeAll d rules chosen
-  all_chosen rules rest chosen none h = record { given = h.given; enough = λ rule c. covered rule (h.enough rule c) }
+  pub all_chosen : (rules rest chosen : List Rule) → length rest ≡ 0 → AreChosenBut d rules rest chosen → SubsumeAll d rules chosen
+  all_chosen rules [] chosen e h = record { given = h.given; enough = λ rule c. covered rule (h.enough rule c) }
     where
-      covered : (rule : Rule) → Contains rest rule ⊎ SomeSubsumes d chosen rule → SomeSubsumes d chosen rule
-      covered rule (inl c) = absurd (contains_none rule (subst (λ l. Contains l rule) none c))
+      covered : (rule : Rule) → Contains [] rule ⊎ SomeSubsumes d chosen rule → SomeSubsumes d chosen rule
+      covered rule (inl c) = absurd (contains_none rule c)
       covered rule (inr s) = s
+  all_chosen rules (r ∷ rest) chosen e h = absurd (omega (arith, e))
 
   -- some of some
   pub all_through : (rules some fewer : List Rule) → SubsumeAll d rules some → SubsumeAll d some fewer → SubsumeAll d rules fewer

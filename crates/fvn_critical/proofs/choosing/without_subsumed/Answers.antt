@@ -1,5 +1,5 @@
 -- One rule fewer is left.
-use Rattle.std.proofs.Common.{[], ◌∷◌, ◌++◌, List, sym, subst}
+use Rattle.std.proofs.Common.{List, sym, subst, arith}
 use Rattle.std.specs.Prelude.{All}
 use Rattle.std.proofs.lemmas.List.Elements.{All-contains}
 use Rattle.fvn_rewrite_rules.specs.declared.rule.Rule.{Rule}
@@ -17,18 +17,18 @@ some_subsumes-requires-clause-rules c =
 
 pub some_subsumes-requires-clause-rule : goal.some_subsumes-requires-clause-rule
 some_subsumes-requires-clause-rule c =
-    All-contains (SidesFit c.args.sig.now) c.args.rules.items c.in-Some-pop.rule c.requires
-    (last_given c.args.sig.now c.args.rules.items c.loop-rule.rest.items c.pop-in-loop-rule.new.self.items c.loop-rule.chosen.items c.in-Some-pop.rule c.in-Some-pop.ensures.items c.loop-rule.invariant)
+    All-contains (SidesFit c.args.sig.now) c.args.rules.items c.in-Some.rule c.requires
+    (last_given c.args.sig.now c.args.rules.items c.loop-rule.rest.items c.pop.new.self.items c.loop-rule.chosen.items c.in-Some.rule c.in-Some.ensures.items c.loop-rule.invariant)
 
 pub loop-rule-preserved-then-found : goal.loop-rule-preserved-then-found
 loop-rule-preserved-then-found c =
-    chosen_without c.args.sig.now c.args.rules.items c.loop-rule.rest.items c.pop-in-loop-rule.new.self.items c.loop-rule.chosen.items c.in-Some-pop.rule c.in-Some-pop.ensures.items c.loop-rule.invariant
-    (subst (λ (l : List Rule). SomeSubsumes c.args.sig.now l c.in-Some-pop.rule) c.as_slice.ensures.value (c.in_ok-found.ensures c.if-found.true))
+    chosen_without c.args.sig.now c.args.rules.items c.loop-rule.rest.items c.pop.new.self.items c.loop-rule.chosen.items c.in-Some.rule c.in-Some.ensures.items c.loop-rule.invariant
+    (subst (λ (l : List Rule). SomeSubsumes c.args.sig.now l c.in-Some.rule) c.as_slice.ensures.value (c.in_ok-found.ensures c.if-found.true))
 
 pub loop-rule-preserved : goal.loop-rule-preserved
 loop-rule-preserved c =
-    subst (AreChosenBut c.args.sig.now c.args.rules.items c.pop-in-loop-rule.new.self.items) (sym c.in_ok-push.ensures.items)
-    (chosen_more c.args.sig.now c.args.rules.items c.loop-rule.rest.items c.pop-in-loop-rule.new.self.items c.loop-rule.chosen.items c.in-Some-pop.rule c.in-Some-pop.ensures.items c.loop-rule.invariant)
+    subst (AreChosenBut c.args.sig.now c.args.rules.items c.pop.new.self.items) (sym c.in_ok-push.ensures.items)
+    (chosen_more c.args.sig.now c.args.rules.items c.loop-rule.rest.items c.pop.new.self.items c.loop-rule.chosen.items c.in-Some.rule c.in-Some.ensures.items c.loop-rule.invariant)
 
 pub returns : goal.returns
-returns c = all_chosen c.args.sig.now c.args.rules.items c.loop-rule.rest.items c.loop-rule.chosen.items ? c.loop-rule.invariant
+returns c = all_chosen c.args.sig.now c.args.rules.items c.loop-rule.rest.items c.loop-rule.chosen.items (omega (arith, c.loop-rule.rest.ok.0, c.in_default.ensures.cases.0)) c.loop-rule.invariant
