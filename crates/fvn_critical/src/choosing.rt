@@ -35,8 +35,7 @@ fn subsumes(
         (from_ref(&general.left), from_ref(&general.right)),
         (from_ref(&special.left), from_ref(&special.right)),
     )?;
-    let is = found.is_some();
-    Ok(is)
+    Ok(found.is_some())
 }
 
 // Whether one of the rules subsumes this one.

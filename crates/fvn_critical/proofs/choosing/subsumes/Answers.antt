@@ -20,4 +20,4 @@ pub returns : goal.returns
 returns c = λ is.
     subsumes_by_match c.args.sig.now c.args.general.now c.args.special.now c.in-Some.head (sym c.head.ensures ∙ c.in-Some.is) (subst (HeadsAs c.in-Some.head c.args.general.now.left) c.if-not-heads.false c.heads.ensures)
     (both c.args.sig.now c.args.general.now) (both c.args.sig.now c.args.special.now) refl refl c.in_ok-found.found
-    (rw (c.from_ref.ensures.value, c.from_ref-2.ensures.value, c.from_ref-3.ensures.value, c.from_ref-4.ensures.value) at c.in_ok-found.ensures.some) (sym c.is_some-is.ensures ∙ is)
+    (rw (c.from_ref.ensures.value, c.from_ref-2.ensures.value, c.from_ref-3.ensures.value, c.from_ref-4.ensures.value) at c.in_ok-found.ensures.some) (sym c.is_some.ensures ∙ is)
