@@ -110,9 +110,26 @@ module _ (d : Declarations) (equations : Equations) (o : Overlap) where
   abbrev pub Joins : Type 0
   Joins = (s c : Substitution) → Meet d (plain o.at) (plain o.inner.left) s c → JoinsWhere s c
 
--- some renewal of the rule joins in all its overlaps with chosen ones of the given rules
+-- the overlap of the whole left side of the outer rule with the inner one
+abbrev pub whole_overlap : Rule → Rule → Overlap
+whole_overlap outer inner = record { outer = outer; path = []; at = outer.left; inner = inner }
+
+-- some renewal of the rule joins with the inner one in the overlap of both whole left sides
+pub record JoinsWhole (d : Declarations) (equations : Equations) (rule inner : Rule) : Type 0 where
+  pub next : ℕ
+  pub new : Rule
+  pub renewed : IsRenewed d next rule new
+  pub joins : Joins d equations (whole_overlap new inner)
+
+-- it does so with one of the two as the outer rule
+abbrev pub JoinEitherWay : Declarations → Equations → Rule → Rule → Type 0
+JoinEitherWay d equations a b = JoinsWhole d equations a b ⊎ JoinsWhole d equations b a
+
+-- Some renewal of the rule joins in its overlaps with chosen ones of the given rules; where whole left sides overlap,
+-- which of the two is renewed does not matter.
 pub record IsJoined (d : Declarations) (equations : Equations) (lists : RuleLists) (chosen : List Rule) (rule : Rule) : Type 0 where
   pub next : ℕ
   pub new : Rule
   pub renewed : IsRenewed d next rule new
-  pub joins : (o : Overlap) → o.outer ≡ new → IsOverlapWith lists o → Contains chosen o.inner → Joins d equations o
+  pub joins : (o : Overlap) → o.outer ≡ new → IsOverlapWith lists o → Contains chosen o.inner → (o.path ≡ [] → ⊥) → Joins d equations o
+  pub whole : (inner : Rule) → Contains chosen inner → (f : OpId) → head_of rule.left ≡ Some f → head_of inner.left ≡ Some f → JoinEitherWay d equations rule inner
