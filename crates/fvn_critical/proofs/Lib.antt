@@ -8,3 +8,4 @@ mod Joining
 mod Covering
 mod Answering
 mod Subsuming
+mod Assembling

@@ -1,11 +1,11 @@
 //! The test of all overlaps.
-ghost use Rattle.std.specs.Prelude.{◌≡◌, All, Contains, IfOk};
+ghost use Rattle.std.specs.Prelude.{◌≡◌, length, All, Contains, IfOk};
 ghost use Rattle.fvn_places.specs.Paths.{paths};
 ghost use Rattle.fvn_theory.specs.Equations.{IsReadableEquation};
 ghost use Rattle.fvn_rewrite.specs.Usable.{AreUsable};
 ghost use Rattle.fvn_critical.specs.Faults.{rewriting_of, IsAnswer, TellsFirstLoss, IsOnlyLimited};
 ghost use Rattle.fvn_critical.specs.inner.Choosing.{AreAmong};
-ghost use Rattle.fvn_critical.specs.inner.Testing.{IsNewRule, IsPartAt, TestedAs, Each, JoinWith, JoinAt, IsJoinedBy, AreJoinedBySome};
+ghost use Rattle.fvn_critical.specs.inner.Testing.{IsNewRule, IsPartAt, TestedAs, Each, JoinWith, inner_rules, IsJoinedAt, IsJoinedAlong, AreJoinedUpTo, AreJoinedBySome};
 
 use crate::choosing::chosen_rules;
 use crate::fault::CriticalFault;
@@ -87,18 +87,30 @@ fn fault_by<A: AxiomSolver>(
     Ok(None)
 }
 
+// The inner rules of overlaps at a path.
+fn inner_at<'c>(chosen: &'c [Rule], later: &'c [Rule], path: &[usize]) -> &'c [Rule]
+    ensures { result.now ≡ inner_rules chosen.now later.now path.now }
+{
+    if path.is_empty() {
+        return later;
+    }
+    chosen
+}
+
 // The overlaps at the part to which a path leads.
 fn fault_at<A: AxiomSolver>(
     tester: &Tester<'_, A>,
     alloc: Global,
     new: &New,
+    later: &[Rule],
     path: &[usize],
 ) -> Result<Option<CriticalFault>, NoMemory>
     requires outer { IsNewRule tester.now.rewriter new.now }
+    requires later { AreAmong later.now tester.now.chosen.now }
     requires path { Contains (paths new.now.rule.left) path.now }
     ensures { IfOk result (TestedAs tester.now.rewriter (A.drawn tester.now.solver.now)
         (A.most_unifiers tester.now.solver.now)
-        (JoinAt tester.now.rewriter tester.now.chosen.now new.now.rule path.now)) }
+        (IsJoinedAt tester.now.rewriter tester.now.chosen.now later.now new.now.rule path.now)) }
 {
     let Some(at) = form_at(&new.rule.left, path) else {
         return Ok(None);
@@ -107,7 +119,8 @@ fn fault_at<A: AxiomSolver>(
         return Ok(None);
     };
     let part = Part { path, at, head };
-    let fault = fault_by(tester, alloc, new, &part, tester.chosen)?;
+    let inner = inner_at(tester.chosen, later, path);
+    let fault = fault_by(tester, alloc, new, &part, inner)?;
     Ok(fault)
 }
 
@@ -116,16 +129,18 @@ fn fault_along<A: AxiomSolver>(
     tester: &Tester<'_, A>,
     alloc: Global,
     new: &New,
+    later: &[Rule],
     list: &[Seq<usize>],
 ) -> Result<Option<CriticalFault>, NoMemory>
     requires outer { IsNewRule tester.now.rewriter new.now }
+    requires later { AreAmong later.now tester.now.chosen.now }
     requires list { list.now ≡ paths new.now.rule.left }
     ensures { IfOk result (TestedAs tester.now.rewriter (A.drawn tester.now.solver.now)
         (A.most_unifiers tester.now.solver.now)
-        (Each (JoinAt tester.now.rewriter tester.now.chosen.now new.now.rule) list.now)) }
+        (Each (IsJoinedAt tester.now.rewriter tester.now.chosen.now later.now new.now.rule) list.now)) }
 {
     for path in list {
-        let fault = fault_at(tester, alloc, new, path.as_slice())?;
+        let fault = fault_at(tester, alloc, new, later, path.as_slice())?;
         if let Some(wrong) = fault {
             return Ok(Some(wrong));
         }
@@ -133,22 +148,25 @@ fn fault_along<A: AxiomSolver>(
     Ok(None)
 }
 
-// All overlaps in the left side of a rule, whose variables are renamed to new ones first.
+// All overlaps in the left side of a rule, whose variables are renamed to new ones first; where whole left sides overlap,
+// those with the later rules.
 fn fault_of<A: AxiomSolver>(
     tester: &Tester<'_, A>,
     alloc: Global,
     rule: &Rule,
+    later: &[Rule],
 ) -> Result<Option<CriticalFault>, NoMemory>
     requires rule { Contains tester.now.rewriter.rules.rules rule.now }
+    requires later { AreAmong later.now tester.now.chosen.now }
     ensures { IfOk result (TestedAs tester.now.rewriter (A.drawn tester.now.solver.now)
         (A.most_unifiers tester.now.solver.now)
-        (IsJoinedBy tester.now.rewriter tester.now.chosen.now rule.now)) }
+        (IsJoinedAlong tester.now.rewriter tester.now.chosen.now later.now rule.now)) }
 {
     tester.rewriter.recall();
     rules_are_lawful();
     let new = renewed(alloc, tester.rewriter.signature(), rule)?;
     let list = paths(alloc, &new.rule.left)?;
-    let fault = fault_along(tester, alloc, &new, list.as_slice())?;
+    let fault = fault_along(tester, alloc, &new, later, list.as_slice())?;
     Ok(fault)
 }
 
@@ -159,10 +177,11 @@ fn first_fault<A: AxiomSolver>(
 ) -> Result<Option<CriticalFault>, NoMemory>
     ensures { IfOk result (TestedAs tester.now.rewriter (A.drawn tester.now.solver.now)
         (A.most_unifiers tester.now.solver.now)
-        (Each (IsJoinedBy tester.now.rewriter tester.now.chosen.now) tester.now.chosen.now)) }
+        (AreJoinedUpTo tester.now.rewriter tester.now.chosen.now (length tester.now.chosen.now))) }
 {
-    for rule in tester.chosen {
-        let fault = fault_of(tester, alloc, rule)?;
+    let chosen = tester.chosen;
+    for i in 0..chosen.len() {
+        let fault = fault_of(tester, alloc, &chosen[i], &chosen[i..])?;
         if let Some(wrong) = fault {
             return Ok(Some(wrong));
         }
@@ -221,6 +240,7 @@ pub fn critical_fault<A: AxiomSolver>(
 {
     sig.recall_good();
     sig.recall_completed();
+    rules_are_lawful();
     overlaps_of_rules_decide_confluence();
     divergence_excludes_confluence();
     let loss = sort_loss(alloc, sig, rules.equations())?;

@@ -1,11 +1,11 @@
 -- The chosen rules subsume all.
-use Rattle.std.proofs.Common.{List, sym, subst}
+use Rattle.std.proofs.Common.{List, length, sym, subst}
 use Rattle.std.specs.Prelude.{All}
 use Rattle.fvn_rewrite_rules.specs.declared.rule.Rule.{Rule}
 use Rattle.fvn_critical_pairs.specs.Overlaps.{SubsumeAll}
 use Rattle.fvn_critical.specs.Faults.{rewriting_of}
 use Rattle.fvn_critical.specs.inner.Choosing.{SidesFit}
-use Rattle.fvn_critical.specs.inner.Testing.{TestedAs, Each, IsJoinedBy, AreJoinedBySome}
+use Rattle.fvn_critical.specs.inner.Testing.{TestedAs, AreJoinedUpTo, AreJoinedBySome}
 use Rattle.fvn_critical.proofs.Subsuming.{rules_fit}
 use Rattle.fvn_critical.proofs.Covering.{weaker}
 use Rattle.fvn_critical.proofs.testing.fault_of_all.Goals as goal
@@ -29,6 +29,6 @@ returns g c =
     let enough : SubsumeAll c.args.sig.now c.args.rules.now.rules list =
     subst (SubsumeAll c.args.sig.now c.args.rules.now.rules) (sym c.as_slice.ensures.value)
     (subst (λ (l : List Rule). SubsumeAll c.args.sig.now l c.in_ok-chosen.chosen.items) c.rules.ensures c.in_ok-chosen.ensures) in
-    let tested : TestedAs r may unifiers (Each (IsJoinedBy r list) list) c.in_ok-fault.fault =
+    let tested : TestedAs r may unifiers (AreJoinedUpTo r list (length list)) c.in_ok-fault.fault =
     rw (c.new-tester.ensures.rewrites, c.new-tester.ensures.solver, c.new-tester.ensures.chosen) at c.in_ok-fault.ensures in
-    weaker r may unifiers (Each (IsJoinedBy r list) list) (AreJoinedBySome r) (λ h. record { chosen = list; enough = enough; joined = h }) c.in_ok-fault.fault tested
+    weaker r may unifiers (AreJoinedUpTo r list (length list)) (AreJoinedBySome r) (λ h. record { chosen = list; enough = enough; joined = h }) c.in_ok-fault.fault tested
