@@ -16,7 +16,7 @@ choice = random.Random(3)
 
 
 def term(size, leaves):
-    """A term of this many symbols, with these leaves from the first on."""
+    """A term of this many symbols, whose leaves are taken from the end of a list as long as there are any."""
     if size == 1:
         return leaves.pop() if leaves else "a"
     if size == 2:
@@ -25,15 +25,18 @@ def term(size, leaves):
     return "f(%s,%s)" % (term(left, leaves), term(size - 1 - left, leaves))
 
 
+def rounds(names, count):
+    """So many rounds through the names, each in another order."""
+    return [name for _ in range(count) for name in choice.sample(names, len(names))]
+
+
 def module(variables):
-    """A module whose equations have so many variables, those of a right side once and those of a left side at least once."""
+    """A module whose equations have so many variables, none of them more often on the right side than on the left one."""
     names = ["X%d" % i for i in range(variables)]
     text = "fmod BIG is\n  sort S .\n  op a : -> S .\n  op g : S -> S .\n  op f : S S -> S .\n  vars %s : S .\n" % " ".join(names)
     for _ in range(256):
-        right = term(200, choice.sample(names, min(variables, 60)))
-        left = term(400, choice.sample(names, variables))
-        while not all(x in left.replace("(", " ").replace(")", " ").replace(",", " ").split() for x in names):
-            left = term(400, choice.sample(names, variables))
+        left = term(400, rounds(names, 400 // variables))
+        right = term(200, rounds(names[:60], max(1, 60 // variables)))
         text += "  eq %s = %s [variant] .\n" % (left, right)
     return text + "endfm\n"
 
