@@ -33,7 +33,7 @@ use Rattle.fvn_critical.proofs.Forms.{used_by}
 module _ (d : Declarations) where
   -- both sides of a rule
   abbrev pub both : Rule → List FlatTerm
-  both rule = rule.left ∷ rule.right ∷ []
+  both rule = rule.right ∷ rule.left ∷ []
 
   -- a matcher of both sides shows that a rule subsumes another one
   pub subsumes_by_match : (general special : Rule) (f : OpId) → head_of special.left ≡ Some f → head_of general.left ≡ Some f → (ps ts : List FlatTerm) → ps ≡ both general → ts ≡ both special →
@@ -41,7 +41,7 @@ module _ (d : Declarations) where
   subsumes_by_match general special f e g ps ts p t None found is = cc
   subsumes_by_match general special f e g ps ts p t (Some s) found is =
       let m : IsMatcher d (map plain (both general)) (map plain (both special)) (substitution s) = subst (λ l. Matches d l (both special) s) p (subst (λ l. Matches d ps l s) t found) in
-      record { by = substitution s; well_sorted = m.0; left = m.1.0; right = m.1.1.0; head = g ∙ sym e }
+      record { by = substitution s; well_sorted = m.0; left = m.1.1.0; right = m.1.0; head = g ∙ sym e }
 
   -- each variable goes to itself
   var_sorted : IsWellSorted d var

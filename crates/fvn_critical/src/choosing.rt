@@ -12,7 +12,7 @@ use std::alloc::Global;
 use std::slice::from_ref;
 
 // Whether the first rule subsumes the second: one substitution makes both sides of the second from those of the first,
-// and one operator heads both left sides.
+// and one operator heads both left sides. Right sides are matched first, since most refuse at once.
 fn subsumes(
     alloc: Global,
     sig: &Signature,
@@ -32,8 +32,8 @@ fn subsumes(
     let found = matches_both(
         alloc,
         sig,
-        (from_ref(&general.left), from_ref(&general.right)),
-        (from_ref(&special.left), from_ref(&special.right)),
+        (from_ref(&general.right), from_ref(&general.left)),
+        (from_ref(&special.right), from_ref(&special.left)),
     )?;
     Ok(found.is_some())
 }

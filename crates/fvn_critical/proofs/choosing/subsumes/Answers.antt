@@ -5,10 +5,10 @@ use Rattle.fvn_critical.proofs.Subsuming.{both, subsumes_by_match}
 use Rattle.fvn_critical.proofs.choosing.subsumes.Goals as goal
 
 pub matches_both-requires-clause-patterns : goal.matches_both-requires-clause-patterns
-matches_both-requires-clause-patterns c = rw (c.from_ref.ensures.value, c.from_ref-2.ensures.value) (c.requires.general.left, (c.requires.general.right, tt))
+matches_both-requires-clause-patterns c = rw (c.from_ref.ensures.value, c.from_ref-2.ensures.value) (c.requires.general.right, (c.requires.general.left, tt))
 
 pub matches_both-requires-clause-targets : goal.matches_both-requires-clause-targets
-matches_both-requires-clause-targets c = rw (c.from_ref-3.ensures.value, c.from_ref-4.ensures.value) (c.requires.special.left, (c.requires.special.right, tt))
+matches_both-requires-clause-targets c = rw (c.from_ref-3.ensures.value, c.from_ref-4.ensures.value) (c.requires.special.right, (c.requires.special.left, tt))
 
 pub matches_both-requires-clause-first_lengths : goal.matches_both-requires-clause-first_lengths
 matches_both-requires-clause-first_lengths c = rw (c.from_ref.ensures.value, c.from_ref-3.ensures.value) refl
