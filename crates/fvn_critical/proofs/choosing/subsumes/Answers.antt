@@ -1,5 +1,5 @@
 -- A matcher of both sides.
-use Rattle.std.proofs.Common.{true, refl, sym, ◌∙◌, subst}
+use Rattle.std.proofs.Common.{refl, sym, ◌∙◌, subst}
 use Rattle.fvn_critical.specs.inner.Testing.{HeadsAs}
 use Rattle.fvn_critical.proofs.Subsuming.{both, subsumes_by_match}
 use Rattle.fvn_critical.proofs.choosing.subsumes.Goals as goal
