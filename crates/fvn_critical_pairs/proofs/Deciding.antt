@@ -170,7 +170,7 @@ module _ (d : Declarations) (lists : RuleLists) (used : AreUsed d (equations_of 
             (BEqual-trans d (subst (λ t. BEqual d (apply s (plain t)) (apply part.redex.by (plain part.redex.left))) (sym whole_is) part.matches) (BEqual-sym d made.left_is))
 
         -- the values of s on the left side, and those that make the inner rule elsewhere
-        values : Substitution
+        abbrev values : Substitution
         values x = chosen_of (occurs_or_not x (plain left)) (s x) (made.by x)
 
         values_left : AgreeOn d (plain left) values s
