@@ -1,7 +1,6 @@
 //! What tests: rules, and a solver.
 ghost use Rattle.std.specs.Prelude.{◌≡◌};
 ghost use Rattle.fvn_rewrite.specs.Usable.{AreUsable};
-ghost use Rattle.fvn_critical_pairs.specs.Overlaps.{SubsumeAll};
 ghost use Rattle.fvn_critical.specs.Faults.{rewriting_of};
 
 use fvn_flat::AxiomSolver;
@@ -11,13 +10,12 @@ use fvn_signature::Signature;
 use fvn_theory::Bounds;
 use std::alloc::Global;
 
-// The rules of admissible equations, some that subsume all, and a solver modulo the axioms of their signature.
+// The rules of admissible equations, some of them that are chosen, and a solver modulo the axioms of their signature.
 #[derive(Drop)]
 pub(crate) struct Tester<'a, A: AxiomSolver> {
     pub(crate) rewriter: Rewriter<'a>,
     pub(crate) solver: &'a A,
     pub(crate) chosen: &'a [Rule],
-    ghost enough: { SubsumeAll rewriter.signature rewriter.rules.rules chosen.now },
     ghost one_signature: { A.signature solver.now ≡ rewriter.signature },
     ghost one_size: { A.most_symbols solver.now ≡ rewriter.bounds.size },
 }
@@ -35,7 +33,6 @@ impl<'a, A: AxiomSolver> Tester<'a, A> {
         requires rules { AreUsable sig.now rules.now }
         requires signature { A.signature solver.now ≡ sig.now }
         requires size { A.most_symbols solver.now ≡ bounds.size }
-        requires enough { SubsumeAll sig.now rules.now.rules chosen.now }
         ensures rewrites { result.rewriter ≡ rewriting_of sig.now rules.now bounds }
         ensures solver { result.solver.now ≡ solver.now }
         ensures chosen { result.chosen.now ≡ chosen.now }

@@ -106,6 +106,7 @@ fn fault_at<A: AxiomSolver>(
     path: &[usize],
 ) -> Result<Option<CriticalFault>, NoMemory>
     requires outer { IsNewRule tester.now.rewriter new.now }
+    requires chosen { AreAmong tester.now.chosen.now tester.now.rewriter.rules.rules }
     requires later { AreAmong later.now tester.now.chosen.now }
     requires path { Contains (paths new.now.rule.left) path.now }
     ensures { IfOk result (TestedAs tester.now.rewriter (A.drawn tester.now.solver.now)
@@ -133,6 +134,7 @@ fn fault_along<A: AxiomSolver>(
     list: &[Seq<usize>],
 ) -> Result<Option<CriticalFault>, NoMemory>
     requires outer { IsNewRule tester.now.rewriter new.now }
+    requires chosen { AreAmong tester.now.chosen.now tester.now.rewriter.rules.rules }
     requires later { AreAmong later.now tester.now.chosen.now }
     requires list { list.now ≡ paths new.now.rule.left }
     ensures { IfOk result (TestedAs tester.now.rewriter (A.drawn tester.now.solver.now)
@@ -157,6 +159,7 @@ fn fault_of<A: AxiomSolver>(
     later: &[Rule],
 ) -> Result<Option<CriticalFault>, NoMemory>
     requires rule { Contains tester.now.rewriter.rules.rules rule.now }
+    requires chosen { AreAmong tester.now.chosen.now tester.now.rewriter.rules.rules }
     requires later { AreAmong later.now tester.now.chosen.now }
     ensures { IfOk result (TestedAs tester.now.rewriter (A.drawn tester.now.solver.now)
         (A.most_unifiers tester.now.solver.now)
@@ -175,6 +178,7 @@ fn first_fault<A: AxiomSolver>(
     tester: &Tester<'_, A>,
     alloc: Global,
 ) -> Result<Option<CriticalFault>, NoMemory>
+    requires chosen { AreAmong tester.now.chosen.now tester.now.rewriter.rules.rules }
     ensures { IfOk result (TestedAs tester.now.rewriter (A.drawn tester.now.solver.now)
         (A.most_unifiers tester.now.solver.now)
         (AreJoinedUpTo tester.now.rewriter tester.now.chosen.now (length tester.now.chosen.now))) }

@@ -20,7 +20,7 @@ fault_by-requires-clause-part g c lives order = record { listed = c.requires.pat
 pub fault_by-requires-clause-inner : goal.fault_by-requires-clause-inner
 fault_by-requires-clause-inner g c lives order =
     let rules = c.args.tester.now.rewriter.rules.rules in
-    subst (λ l. AreAmong l rules) (sym c.inner_at-inner.ensures) (inner_among c.args.tester.now.chosen.now c.args.later.now rules c.args.tester.now.enough.given c.requires.later c.args.path.now)
+    subst (λ l. AreAmong l rules) (sym c.inner_at-inner.ensures) (inner_among c.args.tester.now.chosen.now c.args.later.now rules c.requires.chosen c.requires.later c.args.path.now)
 
 pub returns : goal.returns
 returns g c =

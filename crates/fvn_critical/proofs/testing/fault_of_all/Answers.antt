@@ -4,7 +4,7 @@ use Rattle.std.specs.Prelude.{All}
 use Rattle.fvn_rewrite_rules.specs.declared.rule.Rule.{Rule}
 use Rattle.fvn_critical_pairs.specs.Overlaps.{SubsumeAll}
 use Rattle.fvn_critical.specs.Faults.{rewriting_of}
-use Rattle.fvn_critical.specs.inner.Choosing.{SidesFit}
+use Rattle.fvn_critical.specs.inner.Choosing.{SidesFit, AreAmong}
 use Rattle.fvn_critical.specs.inner.Testing.{TestedAs, AreJoinedUpTo, AreJoinedBySome}
 use Rattle.fvn_critical.proofs.Subsuming.{rules_fit}
 use Rattle.fvn_critical.proofs.Covering.{weaker}
@@ -15,10 +15,11 @@ chosen_rules-requires g c =
     let r = rewriting_of c.args.sig.now c.args.rules.now c.args.bounds in
     subst (All (SidesFit c.args.sig.now)) (sym c.rules.ensures) (rules_fit r c.recall_good.ensures c.recall_completed.ensures c.requires.rules c.rules_are_lawful.ensures)
 
-pub new-requires-clause-enough : goal.new-requires-clause-enough
-new-requires-clause-enough g c lives order =
-    subst (SubsumeAll c.args.sig.now c.args.rules.now.rules) (sym c.as_slice.ensures.value)
-    (subst (λ (l : List Rule). SubsumeAll c.args.sig.now l c.in_ok-chosen.chosen.items) c.rules.ensures c.in_ok-chosen.ensures)
+pub first_fault-requires-clause-chosen : goal.first_fault-requires-clause-chosen
+first_fault-requires-clause-chosen g c lives order =
+    let rules = c.args.rules.now.rules in
+    let given : AreAmong c.in_ok-chosen.chosen.items rules = subst (AreAmong c.in_ok-chosen.chosen.items) c.rules.ensures c.in_ok-chosen.ensures.given in
+    rw (c.new-tester.ensures.rewrites, c.new-tester.ensures.chosen, c.as_slice.ensures.value) given
 
 pub returns : goal.returns
 returns g c =

@@ -17,7 +17,7 @@ pub fault_of-requires-clause-rule : goal.fault_of-requires-clause-rule
 fault_of-requires-clause-rule g c lives order =
     let chosen = c.args.tester.now.chosen.now in
     let item : Rule = c.index-chosen-i.result in
-    c.args.tester.now.enough.given item (subst (Contains chosen) (sym c.index-chosen-i.is) (Contains-get_or chosen c.loop-i.i item c.loop-i-test.true))
+    c.requires.chosen item (subst (Contains chosen) (sym c.index-chosen-i.is) (Contains-get_or chosen c.loop-i.i item c.loop-i-test.true))
 
 pub fault_of-requires-clause-later : goal.fault_of-requires-clause-later
 fault_of-requires-clause-later g c lives order =
