@@ -1,9 +1,9 @@
 -- What the tests of all rules show of each: where whole left sides overlap, one of two rules is the outer one.
-use Rattle.std.proofs.Common.{◌≡◌, ◌⊎◌, ◌≤◌, ◌<◌, ◌+◌, ◌-◌, ℕ, List, [], ◌∷◌, length, drop, get_or, Some, None, inl, inr, refl, sym, ap, ◌∙◌, subst, arith}
+use Rattle.std.proofs.Common.{◌≡◌, ◌⊎◌, ◌≤◌, ◌<◌, ◌+◌, ◌-◌, ℕ, List, [], ◌∷◌, length, drop, get_or, Some, inl, inr, refl, sym, ap, ◌∙◌, subst, arith}
 use Rattle.std.specs.Prelude.{Contains, slice_get}
 use Rattle.std.proofs.lemmas.Bool.{cases_lt}
 use Rattle.std.proofs.lemmas.List.{get_or-drop, length-drop}
-use Rattle.std.proofs.lemmas.Option.{slice_get_within, slice_get_read}
+use Rattle.std.proofs.lemmas.Option.{slice_get_read}
 use Rattle.fvn_base.proofs.Membership.{contains_here}
 use Rattle.fvn_terms.specs.declared.plain.OpId.{OpId}
 use Rattle.fvn_terms.specs.declared.declarations.Declarations.{Declarations}
@@ -16,10 +16,10 @@ use Rattle.fvn_rewrite_laws.specs.Laws.{RuleLaws}
 use Rattle.fvn_rewrite_rules.specs.declared.rule.Rule.{Rule}
 use Rattle.fvn_rewrite.specs.Usable.{Rewriting, AreUsable, equations_by}
 use Rattle.fvn_places.specs.Paths.{paths, paths_from}
-use Rattle.fvn_critical_pairs.specs.Overlaps.{SubsumeAll, whole_overlap, JoinsWhole, JoinEitherWay, IsJoined}
+use Rattle.fvn_critical_pairs.specs.Overlaps.{whole_overlap, JoinsWhole, JoinEitherWay, IsJoined}
 use Rattle.fvn_critical_pairs.proofs.Heads.{renamed_head}
 use Rattle.fvn_critical_pairs.proofs.GivenRules.{left_fits}
-use Rattle.fvn_critical.specs.inner.Testing.{Each, inner_rules, IsJoinedAlong, AreJoinedUpTo, AreJoinedBySome}
+use Rattle.fvn_critical.specs.inner.Testing.{Each, inner_rules, IsJoinedAlong, AreJoinedBySome}
 use Rattle.fvn_critical.proofs.Forms.{used_by}
 
 -- the path to the whole form

@@ -6,7 +6,7 @@ use Rattle.std.proofs.lemmas.List.Elements.{Contains-get_or}
 use Rattle.std.proofs.lemmas.Option.{slice_get-get_or}
 use Rattle.fvn_rewrite_rules.specs.declared.rule.Rule.{Rule}
 use Rattle.fvn_critical.specs.inner.Choosing.{AreAmong}
-use Rattle.fvn_critical.specs.inner.Testing.{TestedAs, IsJoinedAlong, AreJoinedUpTo}
+use Rattle.fvn_critical.specs.inner.Testing.{IsJoinedAlong, AreJoinedUpTo}
 use Rattle.fvn_critical.proofs.Covering.{none_joined, joined_more, behind_chosen, shown, faulty}
 use Rattle.fvn_critical.proofs.testing.first_fault.Goals as goal
 
