@@ -220,8 +220,8 @@ fn fault_of_all<A: AxiomSolver>(
 /// Why it is not shown that the equations are confluent where they terminate; nothing where it is shown.
 ///
 /// First it is told which equation loses a sort. Then each rule's left side is unified with each part of each rule's
-/// left side that has its head, with the whole of it too, and a rule with itself too; and what both rules make of it is
-/// brought to normal form. A rule is left out where both its sides are instances of those of another one by one
+/// left side that has its head, with the whole of it too, which is done once for two rules, and a rule with itself too;
+/// and what both rules make of it is brought to normal form. A rule is left out where both its sides are instances of those of another one by one
 /// substitution: that its left side is one is not enough.
 pub fn critical_fault<A: AxiomSolver>(
     alloc: Global,
