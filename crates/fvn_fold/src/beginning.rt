@@ -3,7 +3,7 @@ ghost use Rattle.std.specs.Prelude.{◌≡◌, ◌≤◌, IfOk, All};
 ghost use Rattle.fvn_flat.specs.Variables.{renaming};
 ghost use Rattle.fvn_flat.specs.Bindings.{BindingsFit};
 ghost use Rattle.fvn_exploring.specs.Setting.{AreLawfulIn};
-ghost use Rattle.fvn_fold.specs.Starts.{IsStartable, IsSettingIn};
+ghost use Rattle.fvn_fold.specs.Starts.{IsStartable, IsSettingIn, AreFixedFor};
 ghost use Rattle.fvn_fold.specs.inner.Beginning.{variables_of_forms, AreRested, IsBegun};
 
 use fvn_base::Seq;
@@ -82,6 +82,7 @@ pub(crate) fn begin<E: Expander>(
 ) -> Result<Begun, NoMemory>
     requires setting { IsSettingIn (E.setting expander.now) sig.now }
     requires start { IsStartable sig.now start.now }
+    requires fixed { AreFixedFor (E.setting expander.now) start.now }
     ensures lawful { IfOk result (λ _. AreLawfulIn (E.setting expander.now)) }
     ensures begun { IfOk result (IsBegun (E.setting expander.now) (E.drawn expander.now) start.now) }
 {

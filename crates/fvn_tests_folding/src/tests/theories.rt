@@ -4,6 +4,7 @@ ghost use Rattle.fvn_cover.specs.declared.marking.TheConstants.{WORKERS};
 ghost use Rattle.fvn_flat.specs.Fits.{Fits};
 ghost use Rattle.fvn_fold.specs.Starts.{IsSettingIn};
 ghost use Rattle.fvn_rewrite.specs.Usable.{AreUsable};
+ghost use Rattle.fvn_tests_folding.specs.Nothing.{FixesNothing};
 ghost use Rattle.fvn_theory.specs.Equations.{IsReadableEquation};
 
 use super::explored::end_name;
@@ -160,6 +161,7 @@ fn counted_by<R: Threads + Sync, E: Expander>(
     limits: Limits,
 ) -> Result<String, NoMemory>
     requires setting { IsSettingIn (E.setting expander.now) sig.now }
+    requires fixed { FixesNothing (E.setting expander.now) }
     requires term { Fits sig.now term.now }
     requires variants { 1 ≤ limits.variants }
     requires workers { (1 ≤ limits.workers) × (limits.workers ≤ WORKERS) }
