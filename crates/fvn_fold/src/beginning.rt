@@ -1,6 +1,5 @@
 //! The first level: the normal forms of the start with all its variables renamed.
-ghost use Rattle.std.specs.Prelude.{◌≡◌, ◌≤◌, IfOk, All};
-ghost use Rattle.fvn_flat.specs.Variables.{renaming};
+ghost use Rattle.std.specs.Prelude.{◌≡◌, IfOk};
 ghost use Rattle.fvn_flat.specs.Bindings.{BindingsFit};
 ghost use Rattle.fvn_exploring.specs.Setting.{AreLawfulIn};
 ghost use Rattle.fvn_fold.specs.Starts.{IsStartable, IsSettingIn, AreFixedFor};

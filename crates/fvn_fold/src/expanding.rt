@@ -1,10 +1,9 @@
 //! Expansions of many variants, found by several workers.
-ghost use Rattle.std.specs.Prelude.{◌≡◌, ◌≤◌, ◌<◌, ◌++◌, length, IfOk, All};
+ghost use Rattle.std.specs.Prelude.{◌≤◌, ◌<◌, ◌++◌, length, IfOk};
 ghost use Rattle.std.specs.Thread.{IsSync};
 ghost use Rattle.fvn_base.specs.declared.limits.TheConstants.{EXPANDED_FRESH};
 ghost use Rattle.fvn_cover.specs.declared.marking.TheConstants.{WORKERS};
 ghost use Rattle.fvn_cover.specs.Pieces.{IsRange};
-ghost use Rattle.fvn_exploring.specs.Expansions.{IsExpandable};
 ghost use Rattle.fvn_fold.specs.Levels.{AreExpandable, AreExpansions};
 
 use fvn_base::limits::EXPANDED_FRESH;

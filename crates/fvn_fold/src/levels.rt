@@ -1,11 +1,9 @@
 //! The next level of a level: its members are expanded, and their children folded into those that are kept.
-ghost use Rattle.std.specs.Prelude.{◌≡◌, ◌≤◌, true, ◌↔◌, IsTrue, IfOk, All, Contains, [], Bool, List};
-ghost use Rattle.fvn_cover.specs.declared.marking.TheConstants.{WORKERS};
+ghost use Rattle.std.specs.Prelude.{◌≡◌, true, ◌↔◌, IsTrue, IfOk, All, Contains};
 ghost use Rattle.fvn_cover.specs.Covering.{CoversVariant, AreAlike, IsFlatVariant};
 ghost use Rattle.fvn_terms.specs.CompleteSets.{IsApart};
 ghost use Rattle.fvn_cover.specs.Marks.{AreComparable, AreMarks};
 ghost use Rattle.fvn_exploring.specs.declared.ends.ExpandEnd.TheVariants.{Whole};
-ghost use Rattle.fvn_fold.specs.Levels.{AreExpansions};
 ghost use Rattle.fvn_fold.specs.inner.Gathering.{IsTask, AreReady, IsGatheredFrom, IsMarkedOrAdded, AreTaken, AreNext, IsMoreOfLevel, IsNextLevel};
 
 use crate::expanding::expand_level;

@@ -1,11 +1,7 @@
 //! Expansions of several members at once.
-ghost use Rattle.std.specs.Prelude.{◌≡◌, ◌≤◌, [], IfOk, All};
-ghost use Rattle.fvn_terms.specs.declared.declarations.Declarations.{Declarations};
-ghost use Rattle.fvn_flat.specs.Bindings.{BindingsFit};
+ghost use Rattle.std.specs.Prelude.{◌≤◌, [], IfOk, All};
 ghost use Rattle.fvn_cover.specs.declared.marking.TheConstants.{WORKERS};
 ghost use Rattle.fvn_cover.specs.declared.variant.Variant.{Variant};
-ghost use Rattle.fvn_exploring.specs.Setting.{Setting};
-ghost use Rattle.fvn_fold.specs.Levels.{AreExpandable};
 ghost use Rattle.fvn_tests_folding.specs.Nothing.{IsOfNothing, FixesNothing};
 
 use super::rows::inert;

@@ -2,7 +2,6 @@
 ghost use Rattle.std.specs.Prelude.{◌≤◌, ◌≡◌};
 ghost use Rattle.fvn_cover.specs.declared.marking.TheConstants.{WORKERS};
 ghost use Rattle.fvn_fold.specs.Starts.{IsSettingIn};
-ghost use Rattle.fvn_tests_exploring.specs.Settings.{without_equations};
 ghost use Rattle.fvn_tests_folding.specs.Nothing.{FixesNothing};
 
 use super::explored::shown_explored;
