@@ -53,7 +53,8 @@ fn rest_all<E: Expander>(
     requires setting { IsSettingIn (E.setting expander.now) sig.now }
     requires start { IsStartable sig.now start.now }
     requires names { BindingsFit sig.now names.now }
-    ensures rested { IfOk result (AreRested (E.setting expander.now) (E.drawn expander.now) start.now names.now) }
+    ensures rested { IfOk result
+        (AreRested (E.setting expander.now) (E.drawn expander.now) start.now names.now) }
     ensures lawful { IfOk result (λ _. AreLawfulIn (E.setting expander.now)) }
 {
     let mut terms = Vec::new(alloc);
@@ -83,7 +84,8 @@ pub(crate) fn begin<E: Expander>(
     requires start { IsStartable sig.now start.now }
     requires fixed { AreFixedFor (E.setting expander.now) start.now }
     ensures lawful { IfOk result (λ _. AreLawfulIn (E.setting expander.now)) }
-    ensures begun { IfOk result (IsBegun (E.setting expander.now) (E.drawn expander.now) start.now) }
+    ensures begun { IfOk result
+        (IsBegun (E.setting expander.now) (E.drawn expander.now) start.now) }
 {
     sig.recall_good();
     sig.recall_completed();

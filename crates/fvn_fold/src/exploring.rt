@@ -98,7 +98,8 @@ fn next_turn(
     requires kept { AreKept sig.now (run.kept.items ++ level.next.items) }
     requires more_levels { depth < limits.levels }
     requires few { length run.kept.items + length level.next.items ≤ limits.variants }
-    ensures { IfOk result (IsTurned sig.now limits (lists_of run) depth level.next.items level.end) }
+    ensures { IfOk result
+        (IsTurned sig.now limits (lists_of run) depth level.next.items level.end) }
 {
     let over = is_over(&level);
     let Level { next, end } = level;
@@ -122,7 +123,8 @@ fn after_level(
     requires kept { AreKept sig.now (run.kept.items ++ level.next.items) }
     requires within { depth ≤ limits.levels }
     requires few { length run.kept.items ≤ limits.variants }
-    ensures { IfOk result (IsTurned sig.now limits (lists_of run) depth level.next.items level.end) }
+    ensures { IfOk result
+        (IsTurned sig.now limits (lists_of run) depth level.next.items level.end) }
 {
     if depth == limits.levels {
         let x = at_last(alloc, sig, limits, run, level)?;
@@ -160,8 +162,9 @@ fn levels<R: Threads + Sync, G: Gate, E: Expander>(
     requires variants { 1 ≤ task.now.limits.variants }
     requires lawful { AreLawfulIn (E.setting task.now.expander.now) }
     requires first { IsStart (E.setting task.now.expander.now) start.now first }
-    ensures { IfOk result (IsExploration (E.setting task.now.expander.now) (E.drawn task.now.expander.now) start.now
-        task.now.limits) }
+    ensures { IfOk result
+        (IsExploration (E.setting task.now.expander.now) (E.drawn task.now.expander.now)
+        start.now task.now.limits) }
 {
     task.sig.recall_good();
     task.sig.recall_completed();
@@ -201,7 +204,8 @@ pub fn explore<R: Threads + Sync, G: Gate, E: Expander>(
     requires fixed { AreFixedFor (E.setting expander.now) start.now }
     requires variants { 1 ≤ limits.variants }
     requires workers { (1 ≤ limits.workers) × (limits.workers ≤ WORKERS) }
-    ensures exploration { IfOk result (IsExploration (E.setting expander.now) (E.drawn expander.now) start.now limits) }
+    ensures exploration { IfOk result
+        (IsExploration (E.setting expander.now) (E.drawn expander.now) start.now limits) }
 {
     match begin(alloc, sig, expander, start)? {
         Begun::Start(first) => {

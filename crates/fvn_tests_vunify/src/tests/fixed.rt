@@ -121,7 +121,8 @@ fn is_over(alloc: Global, first: &Flat, t: &Flat) -> Result<bool, NoMemory>
 fn is_normal<E: Expander>(alloc: Global, expander: &E, t: &Flat) -> Result<bool, NoMemory>
     requires { Fits (E.setting expander.now).declarations t.now }
     ensures { IfOk result (λ b. IsTrue b →
-        IsIrreducible (E.setting expander.now).declarations (E.setting expander.now).equations (plain t.now)) }
+        IsIrreducible (E.setting expander.now).declarations (E.setting expander.now).equations
+        (plain t.now)) }
 {
     match expander.rest(alloc, t)? {
         Normal::Form(form) => {
@@ -143,7 +144,8 @@ fn is_fixable<E: Expander>(
     requires { Fits (E.setting expander.now).declarations t.now }
     ensures { IfOk result (λ b. IsTrue b → IsFixable (E.setting expander.now) first.now t.now) }
 {
-    if !is_over(alloc, first, t)? {
+    let over = is_over(alloc, first, t)?;
+    if !over {
         return Ok(false);
     }
     let normal = is_normal(alloc, expander, t)?;
@@ -158,10 +160,12 @@ fn are_fixable<E: Expander>(
     terms: &[Flat],
 ) -> Result<bool, NoMemory>
     requires { AllFit (E.setting expander.now).declarations terms.now }
-    ensures { IfOk result (λ b. IsTrue b → All (IsFixable (E.setting expander.now) first.now) terms.now) }
+    ensures { IfOk result (λ b. IsTrue b →
+        All (IsFixable (E.setting expander.now) first.now) terms.now) }
 {
     for t in terms {
-        if !is_fixable(alloc, expander, first, t)? {
+        let fixable = is_fixable(alloc, expander, first, t)?;
+        if !fixable {
             return Ok(false);
         }
     }
@@ -235,7 +239,8 @@ fn found_by<R: Threads + Sync, E: Expander, A: AxiomSolver>(
     requires given { ArePairsIn sig.now given.pairs }
 {
     let sides = sides_of(alloc, given)?;
-    if !may_be_explored(alloc, expander, sides.as_slice())? {
+    let may = may_be_explored(alloc, expander, sides.as_slice())?;
+    if !may {
         return Ok(String::new(alloc));
     }
     let x = explore(
