@@ -27,7 +27,7 @@ pub(crate) enum Test {
 
 // Whether a term is irreducible: whether it is its own normal form.
 fn test_term<E: Expander>(alloc: Global, expander: &E, t: &Flat) -> Result<Test, NoMemory>
-    requires { Fits (E.setting expander.now).declarations t.now }
+    requires term { Fits (E.setting expander.now).declarations t.now }
     ensures { IfOk result (IsTestOf (E.setting expander.now) t.now) }
 {
     rewriting_is_lawful();

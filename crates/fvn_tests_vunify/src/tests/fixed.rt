@@ -119,7 +119,7 @@ fn is_over(alloc: Global, first: &Flat, t: &Flat) -> Result<bool, NoMemory>
 
 // Whether a form is its own normal form.
 fn is_normal<E: Expander>(alloc: Global, expander: &E, t: &Flat) -> Result<bool, NoMemory>
-    requires { Fits (E.setting expander.now).declarations t.now }
+    requires term { Fits (E.setting expander.now).declarations t.now }
     ensures { IfOk result (λ b. IsTrue b →
         IsIrreducible (E.setting expander.now).declarations (E.setting expander.now).equations
         (plain t.now)) }
@@ -141,7 +141,7 @@ fn is_fixable<E: Expander>(
     first: &Flat,
     t: &Flat,
 ) -> Result<bool, NoMemory>
-    requires { Fits (E.setting expander.now).declarations t.now }
+    requires term { Fits (E.setting expander.now).declarations t.now }
     ensures { IfOk result (λ b. IsTrue b → IsFixable (E.setting expander.now) first.now t.now) }
 {
     let over = is_over(alloc, first, t)?;
@@ -159,7 +159,7 @@ fn are_fixable<E: Expander>(
     first: &Flat,
     terms: &[Flat],
 ) -> Result<bool, NoMemory>
-    requires { AllFit (E.setting expander.now).declarations terms.now }
+    requires terms { AllFit (E.setting expander.now).declarations terms.now }
     ensures { IfOk result (λ b. IsTrue b →
         All (IsFixable (E.setting expander.now) first.now) terms.now) }
 {

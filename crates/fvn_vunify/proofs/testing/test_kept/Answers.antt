@@ -16,14 +16,14 @@ pub test_values-requires-clause-sorts : goal.test_values-requires-clause-sorts
 test_values-requires-clause-sorts g c = λ κs w. subst (λ d. All (λ (x : Var). IsSort d x.sort) c.args.vars.now) c.requires.sig c.requires.sorts
 
 pub test_terms-requires-clause-terms : goal.test_terms-requires-clause-terms
-test_terms-requires-clause-terms g c = λ κs w. subst (λ d. AllFit d c.fixed.result.now) (sym c.requires.sig) c.fixed.ensures.fit
+test_terms-requires-clause-terms g c = λ κs w. subst (λ d. AllFit d c.fixed-fixed.result.now) (sym c.requires.sig) c.fixed-fixed.ensures.fit
 
-pub returns-in-Irreducible : goal.returns-in-Irreducible
-returns-in-Irreducible g c =
+pub returns-in_ok-test-in-Irreducible : goal.returns-in_ok-test-in-Irreducible
+returns-in_ok-test-in-Irreducible g c =
     let s = g.E.Expander.setting c.args.expander.now in
     let by = c.args.s.now in
-    with_values s c.args.vars.now by (rw c.in-Irreducible.is at c.in_ok-test_values.ensures) c.in_ok-test.test
-    (subst (λ ts. AreTestsUnder s by ts c.in_ok-test.test) c.fixed.ensures.exact c.in_ok-test.ensures)
+    with_values s c.args.vars.now by (rw c.in-Irreducible.is at c.in_ok-test_values.ensures) c.in_ok-test-in-Irreducible.test
+    (subst (λ ts. AreTestsUnder s by ts c.in_ok-test-in-Irreducible.test) c.fixed-fixed.ensures.exact c.in_ok-test-in-Irreducible.ensures)
 
 pub returns-in-Reducible : goal.returns-in-Reducible
 returns-in-Reducible g c = inl (rw c.in-Reducible.is at c.in_ok-test_values.ensures)

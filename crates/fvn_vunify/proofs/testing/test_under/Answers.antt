@@ -7,8 +7,8 @@ use Rattle.fvn_flat.specs.Fits.{Fits}
 use Rattle.fvn_vunify.proofs.Staying.{tested_under}
 use Rattle.fvn_vunify.proofs.testing.test_under.Goals as goal
 
-pub test_term-requires : goal.test_term-requires
-test_term-requires g c = λ κs w. subst (λ d. Fits d c.in_ok-u.u) c.requires.sig c.in_ok-u.ensures.fits
+pub test_term-requires-clause-term : goal.test_term-requires-clause-term
+test_term-requires-clause-term g c = λ κs w. subst (λ d. Fits d c.in_ok-u.u) c.requires.sig c.in_ok-u.ensures.fits
 
 pub returns : goal.returns
 returns g c =

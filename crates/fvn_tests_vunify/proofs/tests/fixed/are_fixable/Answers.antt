@@ -12,9 +12,9 @@ use Rattle.fvn_tests_vunify.proofs.tests.fixed.are_fixable.Goals as goal
 pub loop-t-init : goal.loop-t-init
 loop-t-init g c = All-nil (IsFixable (g.E.Expander.setting c.args.expander.now) c.args.first.now)
 
-pub is_fixable-requires : goal.is_fixable-requires
-is_fixable-requires g c = λ κs w.
-    each_at (Fits (g.E.Expander.setting c.args.expander.now).declarations) c.args.terms.now c.requires c.loop-t.t-index c.t-item.result c.loop-t-test.true c.t-item.is
+pub is_fixable-requires-clause-term : goal.is_fixable-requires-clause-term
+is_fixable-requires-clause-term g c = λ κs w.
+    each_at (Fits (g.E.Expander.setting c.args.expander.now).declarations) c.args.terms.now c.requires.terms c.loop-t.t-index c.t-item.result c.loop-t-test.true c.t-item.is
 
 pub loop-t-preserved : goal.loop-t-preserved
 loop-t-preserved g c =
