@@ -11,7 +11,7 @@ use Rattle.fvn_terms.specs.Unifiers.{Problem}
 use Rattle.fvn_terms.specs.Substitution.{Substitution}
 use Rattle.fvn_terms.specs.Rewriting.{IsIrreducible}
 use Rattle.fvn_terms.specs.Variants.{OccursInSome}
-use Rattle.fvn_forms.specs.Flat.{FlatTerm, fvar, fapp, plain}
+use Rattle.fvn_forms.specs.Flat.{FlatTerm, fvar, plain}
 use Rattle.fvn_flat.specs.Problems.{plain_pairs, IsProblem}
 use Rattle.fvn_flat.specs.Solving.{FlatPairs}
 use Rattle.fvn_flat.specs.Variables.{with_variables}

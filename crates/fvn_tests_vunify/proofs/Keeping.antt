@@ -1,5 +1,5 @@
 -- What holds of expansions without fixed terms holds of those with some, where they have no child.
-use Rattle.std.proofs.Common.{◌≡◌, ◌<◌, ℕ, List, [], sym, subst, arith}
+use Rattle.std.proofs.Common.{◌≡◌, ℕ, List, [], sym, subst}
 use Rattle.std.specs.Prelude.{All, Contains}
 use Rattle.std.proofs.lemmas.List.Elements.{All-nil}
 use Rattle.fvn_base.proofs.Membership.{contains_none}
@@ -12,7 +12,6 @@ use Rattle.fvn_terms.specs.Substitution.{Occurs}
 use Rattle.fvn_flat.specs.Solving.{substitution}
 use Rattle.fvn_cover.specs.declared.variant.Variant.{Variant}
 use Rattle.fvn_exploring.specs.declared.ends.Expansion.{Expansion}
-use Rattle.fvn_exploring.specs.declared.ends.ExpandEnd.{ExpandEnd}
 use Rattle.fvn_exploring.specs.declared.ends.ExpandEnd.TheVariants.{Whole}
 use Rattle.fvn_exploring.specs.Setting.{Setting}
 use Rattle.fvn_exploring.specs.Children.{IsChild}

@@ -1,6 +1,5 @@
 //! Unifiers in a theory under which terms are to stay irreducible.
-ghost use Rattle.std.specs.Prelude.{◌≡◌, ◌≤◌, All, IsTrue, IfOk, IfSome, Contains, List};
-ghost use Rattle.fvn_cover.specs.declared.marking.TheConstants.{WORKERS};
+ghost use Rattle.std.specs.Prelude.{◌≡◌, ◌≤◌, All, IsTrue, IfOk, Contains};
 ghost use Rattle.fvn_terms.specs.declared.plain.Var.{Var};
 ghost use Rattle.fvn_terms.specs.Rewriting.{IsIrreducible};
 ghost use Rattle.fvn_forms.specs.Flat.{plain};

@@ -1,9 +1,9 @@
 -- One more term.
-use Rattle.std.proofs.Common.{sym, subst}
+use Rattle.std.proofs.Common.{subst}
 use Rattle.fvn_forms.specs.Flat.{plain}
 use Rattle.fvn_flat.specs.Fits.{Fits}
 use Rattle.fvn_flat.proofs.Instances.{each_at}
-use Rattle.fvn_vunify.specs.declared.testing.Test.TheVariants.{Irreducible, Reducible, Stopped}
+use Rattle.fvn_vunify.specs.declared.testing.Test.TheVariants.{Reducible, Stopped}
 use Rattle.fvn_vunify.specs.inner.Tests.{StaysUnder, IsTestUnder}
 use Rattle.fvn_vunify.proofs.Passing.{each_none, each_more, each_all}
 use Rattle.fvn_vunify.proofs.Staying.{some_not_staying, all_staying}

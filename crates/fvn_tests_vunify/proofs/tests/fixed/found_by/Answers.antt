@@ -1,5 +1,5 @@
 -- What is asked of what is explored, and of what is solved in it.
-use Rattle.std.proofs.Common.{◌≡◌, ◌≤◌, length, sym, ◌∙◌, subst}
+use Rattle.std.proofs.Common.{sym, subst}
 use Rattle.fvn_flat.specs.Fits.{AllFit}
 use Rattle.fvn_flat.specs.Problems.{plain_pairs, IsProblem}
 use Rattle.fvn_tests_vunify.proofs.Asking.{of_pairs}

@@ -1,5 +1,5 @@
 -- What narrows with the rules, and the solver, are of one signature.
-use Rattle.std.proofs.Common.{◌≡◌, sym, ap, ◌∙◌, subst}
+use Rattle.std.proofs.Common.{sym, subst}
 use Rattle.fvn_flat.specs.Fits.{AllFit}
 use Rattle.fvn_rewrite.specs.Usable.{Rewriting}
 use Rattle.fvn_tests_vunify.proofs.tests.fixed.found_fixing.Goals as goal

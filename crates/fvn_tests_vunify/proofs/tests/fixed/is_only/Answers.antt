@@ -1,5 +1,5 @@
 -- The list has one variable.
-use Rattle.std.proofs.Common.{sym, ◌∙◌, arith}
+use Rattle.std.proofs.Common.{arith}
 use Rattle.fvn_tests_vunify.proofs.Asking.{only_one}
 use Rattle.fvn_tests_vunify.proofs.tests.fixed.is_only.Goals as goal
 
