@@ -1,5 +1,8 @@
-//! Tests of the reply to `vunify`, through the public call of its crate alone.
+//! Tests of unifiers in theories: the reply to `vunify`, and what is found where terms are to stay irreducible.
 #![tactic(auto)]
 
+mod fixing;
 #[cfg(test)]
 mod tests;
+
+pub use fixing::Fixing;

@@ -1,0 +1,3 @@
+-- Lemmas on fixed terms.
+mod Keeping
+mod Asking
