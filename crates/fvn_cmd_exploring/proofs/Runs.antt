@@ -1,6 +1,6 @@
 -- An exploration that ends at a limit shows a run of levels that goes past it.
-use Rattle.std.proofs.Common.{◌≡◌, ◌⊎◌, ◌+◌, ◌≤◌, List, [], ◌∷◌, ◌++◌, length, get_or, map, refl, sym, ap, ◌∙◌, subst, inl, inr, arith}
-use Rattle.std.specs.Prelude.{All, Contains}
+use Rattle.std.proofs.Common.{◌≡◌, ◌⊎◌, ◌+◌, ◌≤◌, List, [], ◌∷◌, ◌++◌, length, get_or, refl, sym, ap, ◌∙◌, subst, inl, inr, arith}
+use Rattle.std.specs.Prelude.{Contains}
 use Rattle.std.proofs.lemmas.List.{length-append}
 use Rattle.std.proofs.lemmas.List.Elements.{All-contains, Contains-get_or, Contains-append_right}
 use Rattle.std.proofs.lemmas.List.Quantifiers.{all_pairs_push}
@@ -16,7 +16,7 @@ use Rattle.fvn_exploring.specs.declared.ends.Explored.{Explored}
 use Rattle.fvn_exploring.specs.declared.ends.ExploreEnd.TheVariants.{Levels, Variants}
 use Rattle.fvn_exploring.specs.Setting.{Setting}
 use Rattle.fvn_exploring.specs.LevelRuns.{IsStart, HasParent, AreFolded, IsLevelRun}
-use Rattle.fvn_exploring.specs.Explorations.{variants_of, IsBelowLevel, IsOneMore, IsExploreCause}
+use Rattle.fvn_exploring.specs.Explorations.{IsBelowLevel, IsOneMore, IsExploreCause}
 use Rattle.fvn_cmd_exploring.specs.declared.reach.Reach.{Reach}
 use Rattle.fvn_cmd_exploring.specs.Searches.{setting_of, limits_of, AreExplored}
 use Rattle.fvn_cmd_exploring.specs.Bounds.{RunsAreShallow, RunsAreShort}

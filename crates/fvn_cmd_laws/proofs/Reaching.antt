@@ -1,5 +1,5 @@
 -- Limits that are large enough are not told.
-use Rattle.std.proofs.Common.{◌≡◌, ℕ, List, [], ◌∷◌}
+use Rattle.std.proofs.Common.{[], ◌∷◌}
 use Rattle.fvn_problems.specs.declared.problem.Problem.{Problem}
 use Rattle.fvn_problems.specs.declared.query.Query.{Query}
 use Rattle.fvn_module.specs.Contents.{Contents}

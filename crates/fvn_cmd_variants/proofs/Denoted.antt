@@ -1,6 +1,6 @@
 -- What a line denotes is a variant.
-use Rattle.std.proofs.Common.{◌≡◌, ◌+◌, false, List, [], ◌∷◌, map, refl, sym, ◌∙◌, subst, inl, inr, true, arith}
-use Rattle.std.specs.Prelude.{All, Contains}
+use Rattle.std.proofs.Common.{◌≡◌, ◌+◌, false, [], ◌∷◌, refl, sym, ◌∙◌, subst, inl, inr, true, arith}
+use Rattle.std.specs.Prelude.{Contains}
 use Rattle.std.proofs.lemmas.List.Elements.{All-nil, All-cons, All-head}
 use Rattle.fvn_terms.specs.declared.plain.Var.{Var}
 use Rattle.fvn_terms.specs.declared.declarations.Declarations.{Declarations}
@@ -35,7 +35,7 @@ use Rattle.fvn_answer.specs.Laws.{EqualLinesCover, LinesDenoteOneVariant}
 use Rattle.fvn_cmd_unify.specs.Asked.{on_variables}
 use Rattle.fvn_cmd_unify.proofs.Denoted.{on_listed, on_others, sorted}
 use Rattle.fvn_cmd_unify.proofs.Shown.{IsTwin, HasTwins}
-use Rattle.fvn_cmd_variants.specs.Asked.{IsVariantOfTerm, IsCoveredBy, DenotesReached, variants_of}
+use Rattle.fvn_cmd_variants.specs.Asked.{IsVariantOfTerm, DenotesReached, variants_of}
 use Rattle.fvn_cmd_variants.specs.Solutions.{IsLineOf}
 use Rattle.fvn_cmd_variants.proofs.Headline.{occurs_of}
 

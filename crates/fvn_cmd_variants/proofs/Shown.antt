@@ -1,5 +1,5 @@
 -- What is promised of variants holds of what the lines that are shown denote.
-use Rattle.std.proofs.Common.{◌≡◌, ◌⊎◌, ℕ, List, [], ◌∷◌, subst, inl, inr}
+use Rattle.std.proofs.Common.{ℕ, [], ◌∷◌, inl, inr}
 use Rattle.std.specs.Prelude.{Any}
 use Rattle.fvn_terms.specs.Plain.{term}
 use Rattle.fvn_terms.specs.Equality.{BEqual}

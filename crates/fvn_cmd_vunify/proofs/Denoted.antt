@@ -16,7 +16,7 @@ use Rattle.fvn_module.specs.Contents.{Contents}
 use Rattle.fvn_theory.specs.Equations.{equations_of}
 use Rattle.fvn_answer.specs.Denoting.{Denotes}
 use Rattle.fvn_answer.specs.Laws.{EqualLinesAreInstances, LinesDenoteOneSubstitution}
-use Rattle.fvn_cmd_unify.specs.Asked.{pairs_of, on_variables, DenotesOnVariables}
+use Rattle.fvn_cmd_unify.specs.Asked.{pairs_of, on_variables}
 use Rattle.fvn_cmd_unify.specs.Solutions.{IsLineOf}
 use Rattle.fvn_cmd_unify.proofs.Asking.{asked}
 use Rattle.fvn_cmd_unify.proofs.Denoted.{on_others, sorted, made, denoted_below, denoted_above}
