@@ -37,3 +37,15 @@ pub record IsAsked (d : Declarations) (t : NodeTable) (before after : List State
   -- each partition that the last state admits is admitted by one answer, and by one alone
   pub all : (class : ℕ → ℕ) → IsNodePartition d t class → Admits top class → IsToCome answers class
   pub one : (class : ℕ → ℕ) → AllPairs (λ s r. Admits s class → Admits r class → ⊥) answers
+
+-- the last state made way for what is left of it where nodes i and j are in one class; the others stay
+pub record IsMet (d : Declarations) (t : NodeTable) (i j : ℕ) (before after : List State) : Type 0 where
+  pub below : List State
+  pub top : State
+  pub left : List State
+  pub was : before ≡ below ++ top ∷ []
+  pub is : after ≡ below ++ left
+  -- what is left has what the last state had
+  pub kept : (class : ℕ → ℕ) → IsToCome left class → Admits top class
+  -- each partition that the last state admits is admitted by it, where the two are in one class
+  pub all : (class : ℕ → ℕ) → IsNodePartition d t class → Admits top class → class i ≡ class j → IsToCome left class
