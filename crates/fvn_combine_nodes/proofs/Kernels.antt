@@ -118,7 +118,7 @@ module _ (d : Declarations) (f : OpId) where
 
 -- classes and values
 module _ (d : Declarations) (s : Substitution) (nodes : List Node) where
-  same_class : (i j : ℕ) → value_at d s nodes i ≡ value_at d s nodes j → kernel d s nodes i ≡ kernel d s nodes j
+  pub same_class : (i j : ℕ) → value_at d s nodes i ≡ value_at d s nodes j → kernel d s nodes i ≡ kernel d s nodes j
   same_class i j e = first_same (value_at d s nodes) i j e
 
   same_value : (i j : ℕ) → kernel d s nodes i ≡ kernel d s nodes j → value_at d s nodes i ≡ value_at d s nodes j

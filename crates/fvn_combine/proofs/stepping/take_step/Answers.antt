@@ -1,11 +1,11 @@
 -- What is to come when the last state is asked, passed over or opened.
 use Rattle.std.proofs.Common.{subst, zero-le, Some, None}
 use Rattle.fvn_combine.proofs.Less.{left_falls}
-use Rattle.fvn_combine.proofs.Trees.{after_asking, closed_before, taken_out, taken_falls, after_passing, leaf_opened, after_opening}
-use Rattle.fvn_combine_nodes.specs.Trees.{IsAsked}
+use Rattle.fvn_combine.proofs.Trees.{after_asking, after_meeting, closed_before, taken_out, taken_falls, after_passing, leaf_opened, after_opening}
+use Rattle.fvn_combine_nodes.specs.Trees.{IsAsked, IsMet}
 use Rattle.fvn_combine.specs.Tasks.{Combining}
 use Rattle.fvn_combine.specs.inner.Found.{IsLooked}
-use Rattle.fvn_combine.specs.declared.looking.Looked.TheVariants.{Passed}
+use Rattle.fvn_combine.specs.declared.looking.Looked.TheVariants.{Fact, Passed}
 use Rattle.fvn_combine.proofs.stepping.take_step.Goals as goal
 
 pub returns-in_ok-ask-in-Open-clause-stepped : goal.returns-in_ok-ask-in-Open-clause-stepped
@@ -16,6 +16,16 @@ returns-in_ok-ask-in-Open-clause-stepped c = (
       (subst (λ (k : Combining). IsAsked k.declarations k.table c.args.tree.now c.ask.new.self) c.task.view_is c.in_ok-ask-in-Open.ensures.asked),
   left_falls c.args.task.now c.args.tree.now c.ask.new.self c.args.leaf.now None c.in_ok-ask-in-Open.ensures.falls zero-le,
 )
+
+pub returns-in_ok-meet-in-Fact-clause-stepped : goal.returns-in_ok-meet-in-Fact-clause-stepped
+returns-in_ok-meet-in-Fact-clause-stepped c =
+    let looked = subst (IsLooked c.args.task.now c.args.tree.now) c.in-Fact.is c.in_ok-look.ensures in (
+      c.in_ok-meet-in-Fact.ensures.falls,
+      tt,
+      after_meeting c.args.task.now c.recall.ensures c.unifiers_partition.ensures c.args.tree.now c.meet.new.self c.in-Fact.i c.in-Fact.j
+      (subst (λ (k : Combining). IsMet k.declarations k.table c.in-Fact.i c.in-Fact.j c.args.tree.now c.meet.new.self) c.task.view_is c.in_ok-meet-in-Fact.ensures.met) looked,
+      left_falls c.args.task.now c.args.tree.now c.meet.new.self c.args.leaf.now None c.in_ok-meet-in-Fact.ensures.falls zero-le,
+    )
 
 pub returns-in-Passed-clause-closed : goal.returns-in-Passed-clause-closed
 returns-in-Passed-clause-closed c =
