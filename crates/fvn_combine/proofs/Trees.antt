@@ -9,7 +9,7 @@ use Rattle.fvn_flat.specs.Solving.{problem_of}
 use Rattle.fvn_flat.specs.SolvedLists.{IsKindUnifier}
 use Rattle.fvn_combine_nodes.specs.Laws.{UnifiersPartition}
 use Rattle.fvn_combine_nodes.specs.States.{Admits, IsClosed}
-use Rattle.fvn_combine_nodes.specs.Trees.{AreClosed, IsAsked, IsMet, weight}
+use Rattle.fvn_combine_nodes.specs.Trees.{AreClosed, IsAsked, IsTakenOn, weight}
 use Rattle.fvn_combine_nodes.specs.Unifiers.{kernel}
 use Rattle.fvn_combine_nodes.specs.declared.state.State.{State}
 use Rattle.fvn_combine.specs.Tasks.{Combining, IsCombining}
@@ -17,7 +17,7 @@ use Rattle.fvn_combine.specs.Leaves.{IsOpened, IsCoveredToCome}
 use Rattle.fvn_combine.specs.Search.{IsAdmitted, IsCoveredAt, IsOpenedAt}
 use Rattle.fvn_combine.specs.declared.opened.Opened.{Opened}
 use Rattle.fvn_combine.specs.declared.looking.Looked.{Looked}
-use Rattle.fvn_combine.specs.declared.looking.Looked.TheVariants.{Fact, Passed, Leaf}
+use Rattle.fvn_combine.specs.declared.looking.Looked.TheVariants.{Passed, Leaf}
 use Rattle.fvn_combine.specs.inner.Found.{IsLookedAtLast, IsAdmittedBy}
 
 -- lists with a last one are equal in both parts
@@ -80,10 +80,11 @@ module _ (k : Combining) (is : IsCombining k) (partitions : UnifiersPartition) w
       back (inl b) = admitted_left k u a.below (a.top ∷ []) b
       back (inr w) = admitted_last k u a.below a.top (a.kept (kernel k.declarations u k.table.nodes) w)
 
-  -- what is in one class under each unifier is taken on
-  pub after_meeting : (before after : List State) (i j : ℕ) → IsMet k.declarations k.table i j before after → IsLookedAtLast k before (Fact i j) → (u : Substitution) → IsKindUnifier k.declarations (problem_of k.given) u
-      → IsAdmitted k before u ↔ (IsAdmitted k after u ⊎ IsCoveredAt k None u)
-  after_meeting before after i j m looked u unifies = (
+  -- what holds of the classes of each unifier is taken on
+  pub after_taking_on : (before after : List State) (Holds : (ℕ → ℕ) → Type 0) → IsTakenOn k.declarations k.table Holds before after → (below : List State) (last : State) → before ≡ below ++ last ∷ []
+      → ((u : Substitution) → IsAdmittedBy k last u → Holds (kernel k.declarations u k.table.nodes))
+      → (u : Substitution) → IsKindUnifier k.declarations (problem_of k.given) u → IsAdmitted k before u ↔ (IsAdmitted k after u ⊎ IsCoveredAt k None u)
+  after_taking_on before after Holds m below last is_last holds u unifies = (
     λ h. inl (subst (λ l. IsAdmitted k l u) (sym m.is) (forth (admitted_cases k u m.below (m.top ∷ []) (subst (λ l. IsAdmitted k l u) m.was h)))),
     λ h. elim h [
       | inl n ↦ subst (λ l. IsAdmitted k l u) (sym m.was) (back (admitted_cases k u m.below m.left (subst (λ l. IsAdmitted k l u) m.is n)))
@@ -91,16 +92,16 @@ module _ (k : Combining) (is : IsCombining k) (partitions : UnifiersPartition) w
     ],
   )
     where
-      top_is : m.top ≡ looked.last
-      top_is = (last_injective m.below looked.below m.top looked.last (sym m.was ∙ looked.is)).1
+      top_is : m.top ≡ last
+      top_is = (last_injective m.below below m.top last (sym m.was ∙ is_last)).1
 
       forth : IsAdmitted k m.below u ⊎ IsAdmitted k (m.top ∷ []) u → IsAdmitted k (m.below ++ m.left) u
       forth (inl b) = admitted_left k u m.below m.left b
       forth (inr t) =
           let p = (partitions k.declarations is.good.fits (problem_of k.given) is.is_given.kinds k.table is.well_made is.table_of u unifies).partition in
           let a = admitted_one k u m.top t in
-          let one = looked.looked.3 u (unifies, subst (λ x. Admits x (kernel k.declarations u k.table.nodes)) top_is a) in
-          admitted_right k u m.below m.left (m.all (kernel k.declarations u k.table.nodes) p a one)
+          let fact = holds u (unifies, subst (λ x. Admits x (kernel k.declarations u k.table.nodes)) top_is a) in
+          admitted_right k u m.below m.left (m.all (kernel k.declarations u k.table.nodes) p a fact)
 
       back : IsAdmitted k m.below u ⊎ IsAdmitted k m.left u → IsAdmitted k (m.below ++ m.top ∷ []) u
       back (inl b) = admitted_left k u m.below (m.top ∷ []) b

@@ -30,7 +30,9 @@ pub(crate) enum Looked {
     /// The question whether two nodes are in one class.
     Open(usize, usize),
     /// Two nodes are in one class under all unifiers.
-    Fact(usize, usize),
+    Together(usize, usize),
+    /// Two nodes are in different classes under all unifiers.
+    Apart(usize, usize),
     /// To be passed over: it admits no unifier.
     Passed,
     /// To end: the sum system of an operator is refused.
@@ -120,7 +122,7 @@ fn look_at(task: &Task, state: &State) -> Result<Looked, NoMemory>
     let reading = read(task.alloc, task.sig, &task.table, state)?;
     match infer(task.alloc, task.sig, &task.table, state, &reading)? {
         Inferred::Impossible => Ok(Looked::Passed),
-        Inferred::Together(i, j) => Ok(Looked::Fact(i, j)),
+        Inferred::Together(i, j) => Ok(Looked::Together(i, j)),
         Inferred::Question(i, j) => Ok(Looked::Open(i, j)),
         Inferred::Nothing => {
             let looked = look_further(task, state, reading)?;

@@ -53,8 +53,13 @@ fn take_step(task: &Task, tree: &mut Tree, leaf: &mut Option<Leaf>) -> Result<St
             *leaf = None;
             Ok(Step::More)
         }
-        Looked::Fact(i, j) => {
+        Looked::Together(i, j) => {
             tree.meet(task.alloc, task.sig, &task.table, i, j)?;
+            *leaf = None;
+            Ok(Step::More)
+        }
+        Looked::Apart(i, j) => {
+            tree.part(task.alloc, task.sig, &task.table, i, j)?;
             *leaf = None;
             Ok(Step::More)
         }

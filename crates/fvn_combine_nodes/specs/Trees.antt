@@ -38,8 +38,8 @@ pub record IsAsked (d : Declarations) (t : NodeTable) (before after : List State
   pub all : (class : ℕ → ℕ) → IsNodePartition d t class → Admits top class → IsToCome answers class
   pub one : (class : ℕ → ℕ) → AllPairs (λ s r. Admits s class → Admits r class → ⊥) answers
 
--- the last state made way for what is left of it where nodes i and j are in one class; the others stay
-pub record IsMet (d : Declarations) (t : NodeTable) (i j : ℕ) (before after : List State) : Type 0 where
+-- the last state made way for what is left of it where a fact holds of the classes; the others stay
+pub record IsTakenOn (d : Declarations) (t : NodeTable) (Holds : (ℕ → ℕ) → Type 0) (before after : List State) : Type 0 where
   pub below : List State
   pub top : State
   pub left : List State
@@ -47,5 +47,5 @@ pub record IsMet (d : Declarations) (t : NodeTable) (i j : ℕ) (before after : 
   pub is : after ≡ below ++ left
   -- what is left has what the last state had
   pub kept : (class : ℕ → ℕ) → IsToCome left class → Admits top class
-  -- each partition that the last state admits is admitted by it, where the two are in one class
-  pub all : (class : ℕ → ℕ) → IsNodePartition d t class → Admits top class → class i ≡ class j → IsToCome left class
+  -- each partition that the last state admits is admitted by it, where the fact holds
+  pub all : (class : ℕ → ℕ) → IsNodePartition d t class → Admits top class → Holds class → IsToCome left class

@@ -96,8 +96,8 @@ pub(crate) fn ask_same(
     Ok(left)
 }
 
-// What is left where the nodes are kept apart.
-fn ask_apart(
+/// What is left where the nodes are kept apart.
+pub(crate) fn ask_apart(
     alloc: Global,
     sig: &Signature,
     table: &Table,

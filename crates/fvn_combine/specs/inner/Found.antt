@@ -1,5 +1,5 @@
 -- What is found when states are looked at and choices are gone through.
-use Rattle.std.specs.Prelude.{◌≡◌, ◌⊎◌, ◌↔◌, ℕ, ◌*◌, ◌<◌, ◌≤◌, Bool, true, false, List, [], ◌∷◌, ◌++◌, length, Option, Result, Ok, Err}
+use Rattle.std.specs.Prelude.{◌≡◌, ◌≢◌, ◌⊎◌, ◌↔◌, ℕ, ◌*◌, ◌<◌, ◌≤◌, Bool, true, false, List, [], ◌∷◌, ◌++◌, length, Option, Result, Ok, Err}
 use Rattle.fvn_base.specs.declared.memory.NoMemory.{NoMemory}
 use Rattle.fvn_terms.specs.Substitution.{Substitution}
 use Rattle.fvn_flat.specs.Solving.{problem_of, IsBasisCause, IsTooLarge}
@@ -24,7 +24,7 @@ use Rattle.fvn_combine.specs.declared.stepping.Step.TheVariants.{Over as NoneLef
 use Rattle.fvn_combine.specs.declared.stepping.Found.{Found}
 use Rattle.fvn_combine.specs.declared.stepping.Found.TheVariants.{Nothing, Ends, Given}
 use Rattle.fvn_combine.specs.declared.looking.Looked.{Looked}
-use Rattle.fvn_combine.specs.declared.looking.Looked.TheVariants.{Over, Open, Fact, Passed, Refused, Leaf as OnLeaf}
+use Rattle.fvn_combine.specs.declared.looking.Looked.TheVariants.{Over, Open, Together, Apart, Passed, Refused, Leaf as OnLeaf}
 
 module _ (k : Combining) (Before After : Substitution → Type 0) where
   -- nothing, where nothing was to come; bindings that are too large, with all still to come; or a unifier that covers what is no longer to come
@@ -72,13 +72,16 @@ module _ (k : Combining) where
   abbrev pub IsAdmittedBy : State → Substitution → Type 0
   IsAdmittedBy s u = IsKindUnifier k.declarations (problem_of k.given) u × Admits s (kernel k.declarations u k.table.nodes)
 
-  -- a question is open in the state; two nodes that are open are in one class under each unifier that it admits; it admits no unifier; a sum system of the problem under a partition is refused; or it is a leaf, which is opened
+  -- a question is open in the state; two nodes of which it is open are in one class, or in two, under each unifier that it admits; it admits no unifier; a sum system of the problem under a partition is refused; or it is a leaf, which is opened
   abbrev pub IsLookedAt : State → Looked → Type 0
   IsLookedAt s Over = ⊥
   IsLookedAt s (Open i j) = (i < length k.table.nodes) × (j < length k.table.nodes) × IsOpen s i j
-  IsLookedAt s (Fact i j) =
+  IsLookedAt s (Together i j) =
       (i < length k.table.nodes) × (j < length k.table.nodes) × IsOpen s i j
       × ((u : Substitution) → IsAdmittedBy s u → kernel k.declarations u k.table.nodes i ≡ kernel k.declarations u k.table.nodes j)
+  IsLookedAt s (Apart i j) =
+      (i < length k.table.nodes) × (j < length k.table.nodes) × IsOpen s i j
+      × ((u : Substitution) → IsAdmittedBy s u → kernel k.declarations u k.table.nodes i ≢ kernel k.declarations u k.table.nodes j)
   IsLookedAt s Passed = (u : Substitution) → IsAdmittedBy s u → ⊥
   IsLookedAt s (Refused f system) = IsBasisCause k.declarations k.given f system
   IsLookedAt s (OnLeaf o) =
@@ -96,7 +99,8 @@ module _ (k : Combining) where
   abbrev pub IsLooked : List State → Looked → Type 0
   IsLooked states Over = states ≡ []
   IsLooked states (Open i j) = IsLookedAtLast states (Open i j)
-  IsLooked states (Fact i j) = IsLookedAtLast states (Fact i j)
+  IsLooked states (Together i j) = IsLookedAtLast states (Together i j)
+  IsLooked states (Apart i j) = IsLookedAtLast states (Apart i j)
   IsLooked states Passed = IsLookedAtLast states Passed
   IsLooked states (Refused f system) = IsLookedAtLast states (Refused f system)
   IsLooked states (OnLeaf o) = IsLookedAtLast states (OnLeaf o)

@@ -1,10 +1,10 @@
 -- What is left stands in place of the top.
-use Rattle.std.proofs.Common.{◌≡◌, ◌-◌, ◌++◌, length, take, get_or, slice_get, refl, sym, ap, ◌∙◌, subst, arith}
+use Rattle.std.proofs.Common.{◌≡◌, ℕ, ◌-◌, ◌++◌, length, take, get_or, slice_get, refl, sym, ap, ◌∙◌, subst, arith}
 use Rattle.std.specs.Option.{option_to_list}
 use Rattle.std.proofs.lemmas.List.{length_push, get_or_push}
 use Rattle.fvn_combine_nodes.specs.States.{IsClosed, IsOpen}
 use Rattle.fvn_combine_nodes.specs.Questions.{IsAnswer}
-use Rattle.fvn_combine_nodes.proofs.Growing.{met_is, met_closed, met_falls, last_is}
+use Rattle.fvn_combine_nodes.proofs.Growing.{taken_on_is, taken_on_closed, taken_on_falls, last_is}
 use Rattle.fvn_combine_nodes.proofs.tree.Tree.meet.Goals as goal
 use Rattle.fvn_combine_nodes.proofs.tree.Tree.meet.Goals.{In-Some}
 
@@ -38,18 +38,17 @@ pub returns : goal.returns
 returns c =
     let d = c.args.sig.now in
     let t = c.args.table.now in
-    let i = c.args.i in
-    let j = c.args.j in
+    let Holds : (ℕ → ℕ) → Type 0 = λ class. class c.args.i ≡ class c.args.j in
     let below = c.requires.open.below in
     let top = c.requires.open.top in
     let r = c.in_ok-same-in-Some.same in
-    let answer : IsAnswer d t top (λ class. class i ≡ class j) r = subst (λ s. IsAnswer d t s (λ class. class i ≡ class j) r) (top_is (goal.at.returns c).In-Some) c.in_ok-same-in-Some.ensures in
+    let answer : IsAnswer d t top Holds r = subst (λ s. IsAnswer d t s Holds r) (top_is (goal.at.returns c).In-Some) c.in_ok-same-in-Some.ensures in
     let before = c.args.self.now in
     let after = c.replace_top.new.states.items in
     let is : after ≡ take (length before - 1) before ++ option_to_list r = c.in_ok-replace_top.ensures.ok ∙ ap (λ l. take (length l - 1) l ++ option_to_list r) c.self.view_is in
     record {
-      met = met_is d t top i j r answer before after below c.requires.open.is is;
-      closed = met_closed d t top i j r answer before after below c.requires.open.is is c.requires.closed;
-      falls = met_falls d t top i j r answer before after below c.requires.open.is is;
+      met = taken_on_is d t top Holds r answer before after below c.requires.open.is is;
+      closed = taken_on_closed d t top Holds r answer before after below c.requires.open.is is c.requires.closed;
+      falls = taken_on_falls d t top Holds r answer before after below c.requires.open.is is;
       no_memory = tt;
     }
