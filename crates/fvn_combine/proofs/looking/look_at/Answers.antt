@@ -37,6 +37,6 @@ returns-in-Together c =
     let i = c.in-Together.i in
     let j = c.in-Together.j in
     let must : MustMeet k.declarations k.table c.args.state.now i j =
-        subst (λ (k : Combining). IsInferred k.declarations k.table c.args.state.now (Together i j)) c.task.view_is
-        (subst (IsInferred c.task.inside.sig.now c.task.inside.table c.args.state.now) c.in-Together.is c.in_ok-infer.ensures) in
+    subst (λ (k : Combining). IsInferred k.declarations k.table c.args.state.now (Together i j)) c.task.view_is
+    (subst (IsInferred c.task.inside.sig.now c.task.inside.table c.args.state.now) c.in-Together.is c.in_ok-infer.ensures) in
     (must.open_pair.left, must.open_pair.right, must.open_pair.undecided, together_admitted k c.recall.ensures c.unifiers_go_with.ensures c.args.state.now c.requires i j must.open_pair.left must.open_pair.right must.equal)

@@ -24,7 +24,7 @@ returns-in_ok-meet-in-Together-clause-stepped c =
       c.in_ok-meet-in-Together.ensures.falls,
       tt,
       after_taking_on c.args.task.now c.recall.ensures c.unifiers_partition.ensures c.args.tree.now c.meet.new.self Holds
-      (subst (λ (k : Combining). IsTakenOn k.declarations k.table Holds c.args.tree.now c.meet.new.self) c.task.view_is c.in_ok-meet-in-Together.ensures.met) l.below l.last l.is l.looked.3,
+          (subst (λ (k : Combining). IsTakenOn k.declarations k.table Holds c.args.tree.now c.meet.new.self) c.task.view_is c.in_ok-meet-in-Together.ensures.met) l.below l.last l.is l.looked.3,
       left_falls c.args.task.now c.args.tree.now c.meet.new.self c.args.leaf.now None c.in_ok-meet-in-Together.ensures.falls zero-le,
     )
 
@@ -35,7 +35,7 @@ returns-in_ok-part-in-Apart-clause-stepped c =
       c.in_ok-part-in-Apart.ensures.falls,
       tt,
       after_taking_on c.args.task.now c.recall.ensures c.unifiers_partition.ensures c.args.tree.now c.part.new.self Holds
-      (subst (λ (k : Combining). IsTakenOn k.declarations k.table Holds c.args.tree.now c.part.new.self) c.task.view_is c.in_ok-part-in-Apart.ensures.parted) l.below l.last l.is l.looked.3,
+          (subst (λ (k : Combining). IsTakenOn k.declarations k.table Holds c.args.tree.now c.part.new.self) c.task.view_is c.in_ok-part-in-Apart.ensures.parted) l.below l.last l.is l.looked.3,
       left_falls c.args.task.now c.args.tree.now c.part.new.self c.args.leaf.now None c.in_ok-part-in-Apart.ensures.falls zero-le,
     )
 
