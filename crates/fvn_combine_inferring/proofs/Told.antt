@@ -145,7 +145,7 @@ module _ (d : Declarations) (t : NodeTable) (s : State) where
         omega (arith, a, b, c)
 
     -- both sides have equally many summands
-    same_many : (values : ℕ → FlatTerm) (xs ys : List ℕ) → HaveSameSummands d s f values xs ys → sum_by (many d s f values) xs ≡ sum_by (many d s f values) ys
+    pub same_many : (values : ℕ → FlatTerm) (xs ys : List ℕ) → HaveSameSummands d s f values xs ys → sum_by (many d s f values) xs ≡ sum_by (many d s f values) ys
     same_many values xs ys h =
         let l = all_summands values xs in
         let m = all_summands values ys in

@@ -1,9 +1,8 @@
 //! What a reduced row says of its classes.
 ghost use Rattle.std.specs.Prelude.{◌≡◌, ◌↔◌, ◌<◌, [], length, All, IfSome, IsTrue};
 ghost use Rattle.fvn_combine_choices.specs.Tables.{HasSums};
-ghost use Rattle.fvn_combine_leaves.specs.Readings.{AreHeads};
-ghost use Rattle.fvn_combine_nodes.specs.States.{IsClosed, class_of};
-ghost use Rattle.fvn_combine_inferring.specs.Inferred.{HaveOneValue, IsInferred};
+ghost use Rattle.fvn_combine_nodes.specs.States.{IsClosed};
+ghost use Rattle.fvn_combine_inferring.specs.Inferred.{TellHeads, HaveOneValue, IsInferred};
 ghost use Rattle.fvn_combine_inferring.specs.Rows.{AreSides};
 
 use crate::bags::bagged;
@@ -159,7 +158,7 @@ fn counted(
 ) -> Inferred
     requires closed { IsClosed sig.now table.now state.now }
     requires sums { HasSums sig.now table.now }
-    requires heads { AreHeads sig.now table.now (class_of state.now) heads.now }
+    requires heads { TellHeads sig.now table.now state.now heads.now }
     requires left { All (λ k. k < length table.now.nodes) first.now }
     requires right { All (λ k. k < length table.now.nodes) second.now }
     requires sides { AreSides sig.now table.now state.now f first.now second.now }
@@ -212,7 +211,7 @@ fn both_bagged(
 ) -> Inferred
     requires closed { IsClosed sig.now table.now state.now }
     requires sums { HasSums sig.now table.now }
-    requires heads { AreHeads sig.now table.now (class_of state.now) heads.now }
+    requires heads { TellHeads sig.now table.now state.now heads.now }
     requires left { All (λ k. k < length table.now.nodes) left.now }
     requires right { All (λ k. k < length table.now.nodes) right.now }
     requires sides { AreSides sig.now table.now state.now f left.now right.now }
@@ -237,7 +236,7 @@ pub(crate) fn rule(
 ) -> Inferred
     requires closed { IsClosed sig.now table.now state.now }
     requires sums { HasSums sig.now table.now }
-    requires heads { AreHeads sig.now table.now (class_of state.now) heads.now }
+    requires heads { TellHeads sig.now table.now state.now heads.now }
     requires left { All (λ k. k < length table.now.nodes) left.now }
     requires right { All (λ k. k < length table.now.nodes) right.now }
     requires sides { AreSides sig.now table.now state.now f left.now right.now }
