@@ -31,8 +31,8 @@ use fvn_acunify_product::Tags;
 use std::alloc::Global;
 use std::process::Abort;
 
-/// Constants f and g, free operators h and i, a commutative operator j, sums k and n, and sums l and m with the identity g.
-const OPERATORS: &str = "A; f : -> A; g : -> A; h : A -> A; i : A A -> A; j : A A -> A [comm]; k : A A -> A [assoc comm]; l : A A -> A [assoc comm id: g]; m : A A -> A [assoc comm id: g]; n : A A -> A [assoc comm]";
+/// Constants f, g and o, free operators h and i, a commutative operator j, sums k and n, and sums l and m with the identity g.
+const OPERATORS: &str = "A; f : -> A; g : -> A; h : A -> A; i : A A -> A; j : A A -> A [comm]; k : A A -> A [assoc comm]; l : A A -> A [assoc comm id: g]; m : A A -> A [assoc comm id: g]; n : A A -> A [assoc comm]; o : -> A";
 
 const PROBLEMS: &str = "@PROBLEMS@";
 

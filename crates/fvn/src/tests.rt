@@ -1,6 +1,7 @@
 //! The program's answers, from the words and the module to the bytes that are written.
 mod check;
 mod large;
+mod terminates;
 mod unify;
 mod verify;
 
@@ -19,7 +20,7 @@ const FREE: &str =
 const LARGE: &str = "p(V0:S,p(V1:S,p(V2:S,p(V3:S,p(V4:S,p(V5:S,p(V6:S,p(V7:S,V8:S)))))))) =? \
         p(p(V1:S,V1:S),p(p(V2:S,V2:S),p(p(V3:S,V3:S),p(p(V4:S,V4:S),p(p(V5:S,V5:S),p(p(V6:S,V6:S),p(p(V7:S,V7:S),p(p(V8:S,V8:S),p(V9:S,V9:S)))))))))";
 
-const USAGE: &str = "usage: fvn check|unify|variants|vunify|verify|work\n";
+const USAGE: &str = "usage: fvn check|unify|variants|vunify|verify|work|terminates\n";
 
 /// The words, the pieces and the calls that are to fail.
 #[derive(Drop)]
@@ -178,6 +179,9 @@ unify|a|b
 unify|-x
 solve|X =? X
 check|X =? X
+terminates
+terminates|f : 1|a : 1
+terminates|-x
 -check
 checks";
 

@@ -1,5 +1,5 @@
 -- The sides of reduced rows have the same summands.
-use Rattle.std.proofs.Common.{◌≡◌, ℕ, ◌<◌, List, [], ◌∷◌, length, refl, ap, subst, arith, All, Option}
+use Rattle.std.proofs.Common.{◌≡◌, ℕ, ◌<◌, List, [], ◌∷◌, length, refl, ap, subst, arith, All, Option, Some, None}
 use Rattle.std.specs.Prelude.{IfSome, sum_by}
 use Rattle.std.proofs.lemmas.List.Sums.{sum_by-cons}
 use Rattle.fvn_terms.specs.declared.declarations.Declarations.{Declarations}
@@ -7,7 +7,7 @@ use Rattle.fvn_forms.specs.Flat.{FlatTerm}
 use Rattle.fvn_forms.specs.InOrder.{count}
 use Rattle.fvn_forms.specs.Canon.{parts}
 use Rattle.fvn_combine_nodes.specs.Table.{NodeTable, IsWellMade}
-use Rattle.fvn_combine_nodes.specs.States.{IsClosed, class_of}
+use Rattle.fvn_combine_nodes.specs.States.{IsClosed}
 use Rattle.fvn_combine_nodes.specs.declared.state.State.{State}
 use Rattle.fvn_combine_choices.specs.Tables.{HasSums}
 use Rattle.fvn_combine_complete.specs.Obeying.{GoWith}

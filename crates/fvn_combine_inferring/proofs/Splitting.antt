@@ -1,29 +1,37 @@
 -- Classes that are replaced by the classes that they add.
-use Rattle.std.proofs.Common.{◌≡◌, ℕ, zero, suc, ◌+◌, ◌<◌, true, false, List, [], ◌∷◌, ◌++◌, length, get_or, set, replicate, refl, sym, ap, ◌∙◌, subst, inl, inr, arith, All, Option, Some, None}
+use Rattle.std.proofs.Common.{◌≡◌, ℕ, ◌+◌, ◌<◌, true, false, List, [], ◌∷◌, ◌++◌, length, get_or, set, refl, sym, ap, ◌∙◌, subst, inl, inr, arith, All, Option, Some, None}
 use Rattle.std.specs.Prelude.{Bool, IfSome, sum_by}
-use Rattle.std.proofs.lemmas.Bool.{cases_eq}
-use Rattle.std.proofs.lemmas.List.{length-set, length_push, get_or-set_same, get_or-set_other, length-replicate, get_or_append_left}
+use Rattle.std.proofs.lemmas.Bool.{cases_eq, cases_lt}
+use Rattle.std.proofs.lemmas.List.{length-set, length_push, get_or-set_same, get_or-set_other, get_or_append_left, get_or_past}
 use Rattle.std.proofs.lemmas.List.Elements.{All-nil, All-cons, All-append, All-push, All-set}
 use Rattle.std.proofs.lemmas.List.Sums.{sum_by-cons, sum_by-set, sum_by_push, sum_by-append}
 use Rattle.fvn_terms.specs.declared.plain.OpId.{OpId}
 use Rattle.fvn_combine_nodes.specs.Table.{NodeTable}
 use Rattle.fvn_combine_nodes.specs.declared.state.State.{State}
 use Rattle.fvn_combine_inferring.specs.declared.rows.Row.{Row}
-use Rattle.fvn_combine_inferring.specs.inner.Lists.{StaysBelow, IsCancelled, IsWithout}
-use Rattle.fvn_combine_inferring.specs.inner.Splits.{IsSplit, AreSplits, noted, IsAdditive, AreWithin, IsSplitPlace, IsExpression, IsSum, IsReduced}
+use Rattle.fvn_combine_inferring.specs.inner.Lists.{IsCancelled, IsWithout}
+use Rattle.fvn_combine_inferring.specs.inner.Splits.{IsSplit, AreSplits, IsUnsplit, noted, AreWithin, IsSplitPlace, IsExpression, IsSum, IsReduced}
 
--- a list of one thing has nothing else
-replicated : {X : Type 0} (n k : ℕ) (x : X) → get_or (replicate n x) k x ≡ x
-replicated zero k x = refl
-replicated (suc n) zero x = refl
-replicated (suc n) (suc k) x = replicated n k x
+-- no place is noted yet, or one more
+pub unsplit_none : IsUnsplit 0 []
+unsplit_none = (refl, All-nil (λ (o : Option (ℕ × ℕ)). o ≡ None))
+
+pub unsplit_more : (n : ℕ) (splits : List (Option (ℕ × ℕ))) → IsUnsplit n splits → IsUnsplit (n + 1) (splits ++ None ∷ [])
+unsplit_more n splits h = (length_push splits None ∙ ap (λ k. k + 1) h.0, All-push (λ (o : Option (ℕ × ℕ)). o ≡ None) splits None h.1 refl)
+
+-- beyond the places there is none
+none_noted : (splits : List (Option (ℕ × ℕ))) → All (λ o. o ≡ None) splits → (k : ℕ) → get_or splits k None ≡ None
+none_noted splits h k = elim (cases_lt k (length splits)) [
+  | inl l ↦ h k None l
+  | inr g ↦ get_or_past splits k None g
+]
 
 module _ (t : NodeTable) (s : State) (f : OpId) where
   -- no split is noted yet
-  pub no_splits : (splits : List (Option (ℕ × ℕ))) → splits ≡ replicate (length t.nodes) None → AreSplits t s f splits
+  pub no_splits : (splits : List (Option (ℕ × ℕ))) → IsUnsplit (length t.nodes) splits → AreSplits t s f splits
   no_splits splits e = record {
-    as_many = ap length e ∙ length-replicate (length t.nodes) None;
-    each = λ k p h. absurd (let n : None ≡ Some p = sym (replicated (length t.nodes) k None) ∙ ap (λ l. get_or l k None) (sym e) ∙ h in cc);
+    as_many = e.0;
+    each = λ k p h. absurd (let n : None ≡ Some p = sym (none_noted splits e.1 k) ∙ h in cc);
   }
 
   -- one more

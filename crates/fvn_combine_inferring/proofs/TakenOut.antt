@@ -1,11 +1,11 @@
 -- Lists of which something is taken out.
-use Rattle.std.proofs.Common.{◌≡◌, ℕ, ◌+◌, ◌<◌, ◌≤◌, suc, true, false, List, [], ◌∷◌, ◌++◌, length, take, drop, get_or, refl, sym, ap, ◌∙◌, subst, arith, All, Option, Some, None}
+use Rattle.std.proofs.Common.{◌≡◌, ℕ, ◌+◌, ◌<◌, suc, true, List, [], ◌∷◌, ◌++◌, length, take, drop, get_or, refl, sym, ap, ◌∙◌, subst, arith, All, Option, Some}
 use Rattle.std.specs.Prelude.{IfSome, sum_by}
 use Rattle.std.specs.List.{remove}
 use Rattle.std.proofs.lemmas.List.{take-take, get_or-take, length-take-le}
 use Rattle.std.proofs.lemmas.List.Elements.{All-nil, All-append, All-take, All-drop, All-push}
 use Rattle.std.proofs.lemmas.List.Sums.{sum_by-remove, sum_by_more, sum_by_push}
-use Rattle.fvn_combine_inferring.specs.inner.Lists.{StaysBelow, IsTakenOut, IsCancelled, IsWithout}
+use Rattle.fvn_combine_inferring.specs.inner.Lists.{IsTakenOut, IsCancelled, IsWithout}
 
 -- one number is removed
 pub removed : (xs : List ℕ) (j x : ℕ) → j < length xs → get_or xs j 0 ≡ x → IsTakenOut xs (remove xs j) x true

@@ -1,5 +1,5 @@
 -- What the sides of a reduced row say of classes.
-use Rattle.std.proofs.Common.{◌≡◌, ◌≢◌, ℕ, zero, suc, ◌+◌, ◌*◌, ◌<◌, ◌≤◌, true, false, List, [], ◌∷◌, ◌++◌, length, get_or, take, refl, sym, ap, ◌∙◌, subst, inl, inr, arith, All, suc-mul, le_refl}
+use Rattle.std.proofs.Common.{◌≡◌, ◌≢◌, ℕ, zero, suc, ◌+◌, ◌*◌, ◌<◌, ◌≤◌, true, false, List, [], ◌∷◌, ◌++◌, length, get_or, take, refl, sym, ap, ◌∙◌, subst, inl, inr, arith, All, suc-mul}
 use Rattle.std.specs.Prelude.{Bool, sum_by}
 use Rattle.std.proofs.lemmas.Bool.{cases_order, eq-eqb, false≢true}
 use Rattle.std.proofs.lemmas.Nat.{mul-le}
@@ -17,7 +17,7 @@ use Rattle.fvn_forms.proofs.InOrder.{count_append, count_itself, sort_same_count
 use Rattle.fvn_forms.proofs.Sums.{sum_parts, sum_same_counts}
 use Rattle.fvn_flat.specs.Partitions.{HasNoIdentity}
 use Rattle.fvn_combine_nodes.specs.Table.{NodeTable}
-use Rattle.fvn_combine_nodes.specs.States.{IsClosed, IsOpen, class_of, is_same, is_apart, is_open}
+use Rattle.fvn_combine_nodes.specs.States.{IsClosed, class_of, is_same, is_apart, is_open}
 use Rattle.fvn_combine_nodes.specs.declared.state.State.{State}
 use Rattle.fvn_combine_nodes.proofs.Admitting.{decided}
 use Rattle.fvn_combine_choices.specs.Tables.{HasSums}

@@ -1,5 +1,5 @@
 -- The values that go with a state: what heads them, and how many summands they have.
-use Rattle.std.proofs.Common.{◌≡◌, ◌≢◌, ℕ, ◌+◌, ◌<◌, ◌≤◌, true, List, [], ◌∷◌, length, map, get_or, refl, sym, ap, ◌∙◌, subst, arith, Contains, Option, Some, None}
+use Rattle.std.proofs.Common.{◌≡◌, ◌≢◌, ℕ, ◌+◌, ◌<◌, ◌≤◌, true, List, [], ◌∷◌, length, map, refl, sym, ap, ◌∙◌, arith, Option, Some}
 use Rattle.std.specs.List.{AllByRecursion}
 use Rattle.std.proofs.lemmas.List.{length-map}
 use Rattle.std.proofs.lemmas.Option.{slice_get_within}
@@ -14,7 +14,7 @@ use Rattle.fvn_forms.specs.Settled.{Settled}
 use Rattle.fvn_forms.proofs.Build.{count_parts_build, parts_none, parts_identity}
 use Rattle.fvn_flat.specs.Forms.{head_of}
 use Rattle.fvn_flat.specs.Partitions.{HasNoIdentity}
-use Rattle.fvn_combine_nodes.specs.Table.{NodeTable, IsWellMade, IsOver}
+use Rattle.fvn_combine_nodes.specs.Table.{NodeTable, IsWellMade}
 use Rattle.fvn_combine_nodes.specs.States.{IsClosed, class_of, is_apart}
 use Rattle.fvn_combine_nodes.specs.declared.state.State.{State}
 use Rattle.fvn_combine_nodes.specs.declared.table.Node.TheVariants.{App}
@@ -25,8 +25,8 @@ use Rattle.fvn_combine_leaves.specs.Leaves.{IsSolid}
 use Rattle.fvn_combine_leaves.specs.Readings.{AreHeads}
 use Rattle.fvn_combine_choices.specs.Tables.{HasSums}
 use Rattle.fvn_combine_complete.specs.Obeying.{GoWith}
-use Rattle.fvn_combine_inferring.specs.Rows.{summands, times, many, HasSummand, IsSummand}
-use Rattle.fvn_combine_inferring.specs.inner.Bounds.{IsOtherHead, IsHeadedApart, HaveTwoHeads}
+use Rattle.fvn_combine_inferring.specs.Rows.{summands, times, many}
+use Rattle.fvn_combine_inferring.specs.inner.Bounds.{IsHeadedApart, HaveTwoHeads}
 use Rattle.fvn_combine_inferring.specs.inner.Splits.{IsUnitNode, IsUnitClass, IsSplit, AreSplits, IsAdditive, AreWithin}
 use Rattle.fvn_combine_inferring.proofs.Headed.{headed_part}
 use Rattle.fvn_combine_inferring.specs.Inferred.{TellHeads}

@@ -4,7 +4,7 @@ ghost use Rattle.fvn_terms.specs.Signature.{axioms};
 ghost use Rattle.fvn_terms.specs.Equality.{IsAssociative};
 ghost use Rattle.fvn_combine_nodes.specs.States.{IsClosed, class_of};
 ghost use Rattle.fvn_combine_systems.specs.NodeSystems.{pair, addends};
-ghost use Rattle.fvn_combine_inferring.specs.inner.Splits.{IsUnitNode, IsUnitClass, IsSplit, AreSplits, noted, IsAddition, AreWithin, IsSplitPlace, IsExpression};
+ghost use Rattle.fvn_combine_inferring.specs.inner.Splits.{IsUnitNode, IsUnitClass, IsSplit, AreSplits, IsUnsplit, noted, IsAddition, AreWithin, IsSplitPlace, IsExpression};
 
 use fvn_base::Seq;
 use fvn_combine_nodes::{Node, State, Table};
@@ -108,6 +108,17 @@ fn note(splits: &mut Vec<Option<(usize, usize)>>, k: usize, split: Option<(usize
     }
 }
 
+// No splits.
+fn unsplit(alloc: Global, count: usize) -> Result<Vec<Option<(usize, usize)>>, NoMemory>
+    ensures { IfOk result (λ v. IsUnsplit count v.items) }
+{
+    let mut splits = Vec::new(alloc);
+    for _i in 0..count {
+        splits.push(None)?;
+    }
+    Ok(splits)
+}
+
 // For each class two classes that a member of it adds.
 fn splits_of(
     alloc: Global,
@@ -122,7 +133,7 @@ fn splits_of(
     ensures { IfOk result (λ v. AreSplits table.now state.now f v.items) }
 {
     let count = table.nodes().len();
-    let mut splits = vec![in alloc; None; count]?;
+    let mut splits = unsplit(alloc, count)?;
     for i in 0..count {
         let split = own_split(sig, table, state, heads, f, i);
         note(&mut splits, state.class_of(i), split);

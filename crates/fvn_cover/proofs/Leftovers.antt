@@ -46,6 +46,11 @@ module _ {A : Type 0} (P : A → Type 0) where
   left_stays (y ∷ xs) left x (inl h) n = inl (h.0, left_stays xs left x h.1 n)
   left_stays (y ∷ xs) left x (inr h) n = inr (h.0, (h.1.0 ++ x ∷ [], ap (λ l. l ++ x ∷ []) h.1.1, left_stays xs h.1.0 x h.1.2 n))
 
+  -- where it holds of none, all are left
+  pub left_whole : (xs : List A) → (Any P xs → ⊥) → IsLeft P xs xs
+  left_whole [] n = refl
+  left_whole (x ∷ xs) n = inr (λ p. n (0, x, omega arith, refl, p), (xs, refl, left_whole xs (λ k. n (suc k.0, k.1, (let l = k.2 in omega (arith, l)), k.3, k.4))))
+
   -- no more are left than were there
   pub left_length : (xs left : List A) → IsLeft P xs left → length left ≤ length xs
   left_length [] left h = let e = ap length h in omega (arith, e)

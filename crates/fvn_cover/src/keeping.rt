@@ -1,12 +1,12 @@
-//! Variants that are kept with the values of their variables and their profiles.
+//! Variants that are kept with the values of their variables, their profiles and their marks.
 ghost use Rattle.std.specs.Prelude.{◌≡◌, IfOk};
 ghost use Rattle.fvn_cover.specs.Covering.{values_of, IsFlatVariant};
-ghost use Rattle.fvn_cover.specs.inner.Profiled.{IsProfiled};
+ghost use Rattle.fvn_cover.specs.inner.Profiled.{IsProfiled, IsMarked};
 
 use crate::covering::Shown;
 use crate::values::values;
 use crate::variant::Variant;
-use fvn_cover_counts::Profile;
+use fvn_cover_counts::{Marks, Profile, Unkept};
 use fvn_flat::Flat;
 use fvn_signature::Signature;
 use fvn_terms::NoMemory;
@@ -28,21 +28,33 @@ fn profile(
     Ok(p)
 }
 
+// The marks of a variant with these values.
+fn marks(sig: &Signature, v: &Variant, values: &[Flat], profile: &Profile) -> Marks
+    requires values { values.now ≡ values_of v.now }
+    requires profile { IsProfiled v.now profile.now }
+    ensures { IsMarked v.now result }
+{
+    let terms = v.terms.as_slice();
+    let out = Unkept::of(sig);
+    Marks::of(out, profile, terms.len() + values.len())
+}
+
 /// A variant that is kept to be compared with others, seen as that variant.
 ///
-/// It holds the values of the variant's variables and what is counted of these and of its terms.
+/// It holds the values of the variant's variables, what is counted of these and of its terms, and their marks.
 #[derive(Drop)]
 pub struct Kept {
     variant: Variant,
     values: Vec<Flat>,
     profile: Profile,
+    marks: Marks,
 }
 
 impl Model for Kept {
     ghost use Rattle.std.specs.Prelude.{◌≡◌};
     ghost use Rattle.fvn_cover.specs.declared.variant.Variant.{Variant};
     ghost use Rattle.fvn_cover.specs.Covering.{values_of};
-    ghost use Rattle.fvn_cover.specs.inner.Profiled.{IsProfiled};
+    ghost use Rattle.fvn_cover.specs.inner.Profiled.{IsProfiled, IsMarked};
 
     ghost Value = { Variant };
 
@@ -53,29 +65,44 @@ impl Model for Kept {
 
     ghost view = { λ k. k.variant };
 
-    ghost invariant = { λ k. (k.values.items ≡ values_of k.variant) × IsProfiled k.variant k.profile };
+    ghost invariant = { λ k. (k.values.items ≡ values_of k.variant) × IsProfiled k.variant k.profile
+        × IsMarked k.variant k.marks };
 }
 
 impl Kept {
-    /// The variant, its values in memory of their own, and its profile.
+    /// The variant, its values in memory of their own, its profile and its marks.
     pub fn new(alloc: Global, sig: &Signature, variant: Variant) -> Result<Kept, NoMemory>
         requires { IsFlatVariant sig.now variant }
         ensures { IfOk result (λ k. k ≡ variant) }
     {
         let forms = values(alloc, &variant)?;
         let counts = profile(alloc, sig, &variant, forms.as_slice())?;
+        let facts = marks(sig, &variant, forms.as_slice(), &counts);
         Ok(Kept {
             variant,
             values: forms,
             profile: counts,
+            marks: facts,
         })
     }
 
-    // The variant beside its values and its profile.
+    /// The variant.
+    pub fn variant(&self) -> &Variant
+        ensures { result.now ≡ self.now }
+    {
+        &self.variant
+    }
+
+    // The variant beside its values, its profile and its marks.
     pub(crate) fn shown(&self) -> Shown<'_>
         ensures { result ≡ self.now }
     {
-        Shown::new(&self.variant, self.values.as_slice(), &self.profile)
+        Shown::new(
+            &self.variant,
+            self.values.as_slice(),
+            &self.profile,
+            self.marks,
+        )
     }
 
     /// The variant alone.
@@ -86,19 +113,20 @@ impl Kept {
     }
 }
 
-// A variant of a caller, the values of its variables and its profile, which contracts see as the variant.
+// A variant of a caller, the values of its variables, its profile and its marks, which contracts see as the variant.
 #[derive(Drop)]
 pub(crate) struct Prepared<'a> {
     variant: &'a Variant,
     values: Vec<Flat>,
     profile: Profile,
+    marks: Marks,
 }
 
 impl<'a> Model for Prepared<'a> {
     ghost use Rattle.std.specs.Prelude.{◌≡◌};
     ghost use Rattle.fvn_cover.specs.declared.variant.Variant.{Variant};
     ghost use Rattle.fvn_cover.specs.Covering.{values_of};
-    ghost use Rattle.fvn_cover.specs.inner.Profiled.{IsProfiled};
+    ghost use Rattle.fvn_cover.specs.inner.Profiled.{IsProfiled, IsMarked};
 
     ghost Value = { Variant };
 
@@ -109,11 +137,12 @@ impl<'a> Model for Prepared<'a> {
 
     ghost view = { λ p. p.variant.now };
 
-    ghost invariant = { λ p. (p.values.items ≡ values_of p.variant.now) × IsProfiled p.variant.now p.profile };
+    ghost invariant = { λ p. (p.values.items ≡ values_of p.variant.now) × IsProfiled p.variant.now p.profile
+        × IsMarked p.variant.now p.marks };
 }
 
 impl<'a> Prepared<'a> {
-    // The variant, its values in memory of their own, and its profile.
+    // The variant, its values in memory of their own, its profile and its marks.
     pub(crate) fn new(
         alloc: Global,
         sig: &Signature,
@@ -124,17 +153,24 @@ impl<'a> Prepared<'a> {
     {
         let forms = values(alloc, variant)?;
         let counts = profile(alloc, sig, variant, forms.as_slice())?;
+        let facts = marks(sig, variant, forms.as_slice(), &counts);
         Ok(Prepared {
             variant,
             values: forms,
             profile: counts,
+            marks: facts,
         })
     }
 
-    // The variant beside its values and its profile.
+    // The variant beside its values, its profile and its marks.
     pub(crate) fn shown(&self) -> Shown<'_>
         ensures { result ≡ self.now }
     {
-        Shown::new(self.variant, self.values.as_slice(), &self.profile)
+        Shown::new(
+            self.variant,
+            self.values.as_slice(),
+            &self.profile,
+            self.marks,
+        )
     }
 }

@@ -12,6 +12,7 @@ use crate::gate::Gate;
 use crate::keeping::{Kept, Prepared};
 use crate::pieces::{piece_count, piece_start};
 use crate::variant::Variant;
+use fvn_cover_counts::Unkept;
 use fvn_signature::Signature;
 use fvn_terms::NoMemory;
 use std::alloc::Global;
@@ -41,8 +42,9 @@ fn is_covered(
     requires alike { All (λ k. AreAlike k candidate.now) kept.now }
     ensures { IfOk result (λ r. IsTrue r ↔ IsCoveredBySome sig.now kept.now candidate.now) }
 {
+    let out = Unkept::of(sig);
     for k in kept {
-        if k.shown().is_covering(alloc, sig, candidate)? {
+        if k.shown().is_covering(alloc, sig, out, candidate)? {
             return Ok(true);
         }
     }

@@ -1,5 +1,5 @@
 //! Lists of variants without those that another one covers.
-ghost use Rattle.std.specs.Prelude.{◌≡◌, ◌↔◌, IsTrue, IfOk, All};
+ghost use Rattle.std.specs.Prelude.{◌≡◌, ◌↔◌, IsTrue, IfOk, All, Any};
 ghost use Rattle.fvn_cover.specs.Covering.{CoversVariant, AreAlike, IsFlatVariant};
 ghost use Rattle.fvn_cover.specs.Pruning.{IsCoveredBySome, IsPruned};
 ghost use Rattle.fvn_cover.specs.Adding.{IsLeft, IsAdded};
@@ -7,6 +7,7 @@ ghost use Rattle.fvn_cover.specs.Adding.{IsLeft, IsAdded};
 use crate::keeping::Kept;
 use crate::laws::covering_of_variants_is_a_preorder;
 use crate::variant::Variant;
+use fvn_cover_counts::Unkept;
 use fvn_signature::Signature;
 use fvn_terms::NoMemory;
 use std::alloc::Global;
@@ -17,16 +18,32 @@ fn is_covered(alloc: Global, sig: &Signature, list: &[Kept], v: &Kept) -> Result
     requires alike { All (λ k. AreAlike k v.now) list.now }
     ensures { IfOk result (λ r. IsTrue r ↔ IsCoveredBySome sig.now list.now v.now) }
 {
+    let out = Unkept::of(sig);
     for k in list {
-        if k.shown().is_covering(alloc, sig, &v.shown())? {
+        if k.shown().is_covering(alloc, sig, out, &v.shown())? {
             return Ok(true);
         }
     }
     Ok(false)
 }
 
-// The members of the list that the variant does not cover.
-fn uncovered(
+// Whether the variant covers some member of the list.
+fn covers_some(alloc: Global, sig: &Signature, list: &[Kept], v: &Kept) -> Result<bool, NoMemory>
+    requires flat { IsFlatVariant sig.now v.now × All (IsFlatVariant sig.now) list.now }
+    requires alike { All (λ k. AreAlike k v.now) list.now }
+    ensures { IfOk result (λ r. IsTrue r ↔ Any (CoversVariant sig.now v.now) list.now) }
+{
+    let out = Unkept::of(sig);
+    for k in list {
+        if v.shown().is_covering(alloc, sig, out, &k.shown())? {
+            return Ok(true);
+        }
+    }
+    Ok(false)
+}
+
+// The members of the list that the variant does not cover, moved to a list of their own.
+fn without_covered(
     alloc: Global,
     sig: &Signature,
     list: Vec<Kept>,
@@ -37,17 +54,37 @@ fn uncovered(
     ensures { IfOk result (λ left. IsLeft (CoversVariant sig.now v.now) list.items left.items) }
 {
     let mut left = Vec::new(alloc);
+    let out = Unkept::of(sig);
     for k in list {
-        if !v.shown().is_covering(alloc, sig, &k.shown())? {
+        if !v.shown().is_covering(alloc, sig, out, &k.shown())? {
             left.push(k)?;
         }
     }
     Ok(left)
 }
 
+// The members of the list that the variant does not cover; none is moved where it covers none.
+fn uncovered(
+    alloc: Global,
+    sig: &Signature,
+    list: Vec<Kept>,
+    v: &Kept,
+) -> Result<Vec<Kept>, NoMemory>
+    requires flat { IsFlatVariant sig.now v.now × All (IsFlatVariant sig.now) list.items }
+    requires alike { All (λ k. AreAlike k v.now) list.items }
+    ensures { IfOk result (λ left. IsLeft (CoversVariant sig.now v.now) list.items left.items) }
+{
+    let some = covers_some(alloc, sig, list.as_slice(), v)?;
+    if !some {
+        return Ok(list);
+    }
+    let left = without_covered(alloc, sig, list, v)?;
+    Ok(left)
+}
+
 /// The list with the variant, if none of its members covers it, and then without those that it covers.
 ///
-/// The members are moved and not copied.
+/// The members are not copied, and moved only where it covers one.
 pub fn with_member(
     alloc: Global,
     sig: &Signature,

@@ -9,3 +9,7 @@ mod Instances
 mod Occurring
 mod Profiling
 mod Refusals
+mod WordBits
+mod SetBits
+mod MarkFacts
+mod MarkRefusals

@@ -1,5 +1,5 @@
 -- Where forms are matched, the counts of the targets are those of the patterns or greater.
-use Rattle.std.proofs.Common.{◌≡◌, ◌≢◌, ◌≤◌, ℕ, ◌+◌, zero, suc, ◌<◌, Bool, true, false, List, [], ◌∷◌, ◌++◌, length, map, take, get_or, Some, refl, sym, ap, ◌∙◌, subst, inl, inr, arith}
+use Rattle.std.proofs.Common.{◌≡◌, ◌≤◌, ℕ, ◌+◌, zero, suc, ◌<◌, Bool, true, false, List, [], ◌∷◌, ◌++◌, length, map, take, get_or, Some, refl, sym, ap, ◌∙◌, subst, inl, inr, arith}
 use Rattle.std.specs.Prelude.{◌↔◌, ◌⊎◌, nat_lt, All, Any, Contains, IsTrue}
 use Rattle.std.specs.List.{AllZip}
 use Rattle.std.specs.List.Sorted.{IsNonDecreasingBy}
@@ -47,7 +47,7 @@ module _ (d : Declarations) where
       constant false q = refl
 
   module _ (s : Substitution) where
-    abbrev Makes : Term → Term → Type 0
+    abbrev pub Makes : Term → Term → Type 0
     Makes p t = BEqual d (apply s p) t
 
     one_operator : (f : OpId) → IsKept d f → (t u : Term) → Makes t u → times (Operator f) t ≤ times (Operator f) u
@@ -81,7 +81,7 @@ module _ (d : Declarations) where
         (r.0, ((suc h.0, h.1, omega (arith, h.2), h.3, h.4), r.1.1))
 
     -- the counts allow what is so
-    matched_allow : (ts us : List FlatTerm) → AllZip Makes (map plain ts) (map plain us) → CountsAllow d ts us
+    pub matched_allow : (ts us : List FlatTerm) → AllZip Makes (map plain ts) (map plain us) → CountsAllow d ts us
     matched_allow ts us m = record {
       operators = λ f k. column_at_most (Operator f) (Operator f) (one_operator f k) ts us m;
       variables = λ y o. let x = source y ts us m o in (x.0, x.1.0, column_at_most (Variable x.0) (Variable y) (one_occurrence x.0 y x.1.1) ts us m);

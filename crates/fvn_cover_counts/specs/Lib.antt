@@ -2,4 +2,5 @@
 pub mod Weights
 pub mod Places
 pub mod Profiles
+pub mod Marks
 pub mod inner

@@ -2,3 +2,4 @@
 pub mod Heads
 pub mod Rows
 pub mod Comparing
+pub mod Bits

@@ -1,11 +1,14 @@
 //! What is counted of flat terms, by which coverings are refused before any matching.
 #![tactic(auto)]
 
+mod bits;
 mod comparing;
 mod kept;
+mod marks;
 mod profile;
 mod rows;
 mod symbols;
 mod walking;
 
+pub use marks::{Marks, Unkept};
 pub use profile::Profile;

@@ -10,9 +10,10 @@ use Rattle.fvn_cmd.specs.Statuses.{IsSilent, IsSpoken, IsAnswering, IsRefusing}
 use Rattle.fvn_cmd.specs.Texts.{Is}
 use Rattle.fvn_cmd_laws.proofs.Verified.{verdict_answering}
 use Rattle.fvn_cmd_laws.proofs.Unified.{end_answering}
+use Rattle.fvn_cmd_laws.proofs.Weighed.{weighing_answering}
 use Rattle.fvn_tool.specs.Words.{Command, IsCommand, AreNoCommand, ReadNothing}
 use Rattle.fvn_tool.specs.Runs.{Outside, Run, Leaves, HasFailed}
-use Rattle.fvn_tool.specs.Asked.{Question, summary, unifiers, verdict, Asked, IsAsked, AsksNothing, IsRefused}
+use Rattle.fvn_tool.specs.Asked.{Question, summary, unifiers, verdict, termination, Asked, IsAsked, AsksNothing, IsRefused}
 use Rattle.fvn_tool.specs.Answered.{AnswerTo, status_of, Answers, IsAnswered, IsReply}
 use Rattle.fvn_tool.specs.Outcomes.{usage_line, IsOutcome, no_command, too_long, replied}
 use Rattle.fvn_tool.specs.Claims.{RefusesWords, Asks, AnswersCommand, IsReport}
@@ -51,6 +52,7 @@ status_answering : (q : Question) (a : AnswerTo q) → IsAnswering (status_of q 
 status_answering summary loss = tt
 status_answering (unifiers p) found = end_answering found.end
 status_answering (verdict p b steps) v = verdict_answering v
+status_answering (termination w) found = weighing_answering found
 
 answer_answering : (a : Asked) (s : Status) (t : List ℕ) → Answers a s t → IsAnswering s
 answer_answering a s t h = subst IsAnswering (sym h.status_is) (status_answering a.question h.answer)

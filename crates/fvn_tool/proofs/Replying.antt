@@ -2,9 +2,9 @@
 use Rattle.std.proofs.Common.{ℕ, List, refl, inl, inr}
 use Rattle.fvn_cmd.specs.declared.status.Status.{Status}
 use Rattle.fvn_cmd_laws.specs.Laws.{VerdictsAreExact, AnswersAreExact}
-use Rattle.fvn_tool.specs.Words.{Command, check, unify, verify}
+use Rattle.fvn_tool.specs.Words.{Command, check, unify, verify, terminates}
 use Rattle.fvn_tool.specs.Runs.{Outside}
-use Rattle.fvn_tool.specs.Asked.{summary, unifiers, verdict, IsShort}
+use Rattle.fvn_tool.specs.Asked.{summary, unifiers, verdict, termination, IsShort}
 use Rattle.fvn_tool.specs.Answered.{IsReply}
 use Rattle.fvn_tool.specs.Outcomes.{IsOutcome, no_command, too_long, replied}
 use Rattle.fvn_tool.specs.inner.Steps.{IsCommandReply, IsGivenOutcome, is_usage, is_long, is_replied}
@@ -48,6 +48,15 @@ module _ (verdicts : VerdictsAreExact) (answers : AnswersAreExact) where
             shown = told.text_tells;
             whole = verdicts.decided a.0 a.1 a.2 steps a.3.1.0 a.3.1.1.0;
           },
+        ),
+      )
+  reply (terminates word) bytes short s t (inl r) = inl (inr (short, r))
+  reply (terminates word) bytes short s t (inr a) =
+      inr (
+        record { contents = a.0; question = termination a.1 },
+        (
+          record { short = short; loaded = a.2.0.module_text; question_is = (a.1, (a.2.0.weights_text, refl)) },
+          record { answer = a.2.1.found; right = a.2.1.right; status_is = a.2.1.status_is; shown = a.2.1.shown; whole = tt },
         ),
       )
 

@@ -8,12 +8,13 @@ pub data Command : Type 0 where
   check : Command
   unify : (problem : List ℕ) → Command
   verify : (problem bindings : List ℕ) (steps : ℕ) → Command
+  terminates : (weights : List ℕ) → Command
 
 -- a word that begins with a dash and is longer than the dash is an option
 unfoldable pub is_option : List ℕ → Bool
 is_option word = starts_with nat_eq word (codes "-") && nat_le 2 (length word)
 
--- other words stand for problems and bindings
+-- other words stand for problems, bindings and weights
 abbrev pub IsOperand : List ℕ → Type 0
 IsOperand word = is_option word ≡ false
 
@@ -48,6 +49,7 @@ IsCommand words (verify problem bindings steps) =
     IsOperand problem × IsOperand bindings
     × ((options : List (List ℕ))
     × (AreStepOptions options steps × (words ≡ codes "verify" ∷ problem ∷ bindings ∷ options)))
+IsCommand words (terminates weights) = IsOperand weights × (words ≡ codes "terminates" ∷ weights ∷ [])
 
 -- the words are no command
 abbrev pub AreNoCommand : List (List ℕ) → Type 0
@@ -58,6 +60,7 @@ abbrev pub ReadsModule : Command → Type 0
 ReadsModule check = Unit {0}
 ReadsModule (unify problem) = Unit {0}
 ReadsModule (verify problem bindings steps) = Unit {0}
+ReadsModule (terminates weights) = Unit {0}
 
 -- the words are no command that reads
 abbrev pub ReadNothing : List (List ℕ) → Type 0

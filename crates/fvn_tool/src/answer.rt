@@ -9,6 +9,7 @@ ghost use Rattle.fvn_cmd.specs.Texts.{bytes_of};
 use crate::words::Command;
 use fvn_cmd::{Answer, Status};
 use fvn_cmd_check::check_reply;
+use fvn_cmd_terminates::terminates_reply;
 use fvn_cmd_unify::unify_reply;
 use fvn_cmd_verify::verify_reply;
 use fvn_terms::NoMemory;
@@ -21,7 +22,7 @@ pub(crate) fn usage() -> Answer
 {
     Answer::fixed(
         Status::Usage,
-        b"usage: fvn check|unify|variants|vunify|verify|work\n",
+        b"usage: fvn check|unify|variants|vunify|verify|work|terminates\n",
     )
 }
 
@@ -44,5 +45,6 @@ pub(crate) fn reply(alloc: Global, bytes: &[u8], command: Command<'_>) -> Result
         Command::Verify(problem, bindings, steps) => {
             verify_reply(alloc, bytes, problem, bindings, steps)
         }
+        Command::Terminates(word) => terminates_reply(alloc, bytes, word),
     }
 }

@@ -15,6 +15,8 @@ pub(crate) enum Command<'a> {
     Unify(&'a [u8]),
     /// To tell whether bindings solve a problem, with a limit on the steps from each side.
     Verify(&'a [u8], &'a [u8], u64),
+    /// To tell whether weights show that the equations terminate.
+    Terminates(&'a [u8]),
 }
 
 // Whether the word would be an option: it begins with a dash and is longer.
@@ -77,6 +79,24 @@ fn read_steps(word: &[u8]) -> Option<u64>
     } else {
         None
     }
+}
+
+// The command that two words are.
+fn read_word<'a>(name: &[u8], word: &'a [u8]) -> Option<Command<'a>>
+    ensures { MatchOption result
+        (command_of (name.now ∷ word.now ∷ []) ≡ None)
+        (λ command. command_of (name.now ∷ word.now ∷ []) ≡ Some (meant command)) }
+{
+    if is_option_word(word) {
+        return None;
+    }
+    if name == b"unify".as_slice() {
+        return Some(Command::Unify(word));
+    }
+    if name == b"terminates".as_slice() {
+        return Some(Command::Terminates(word));
+    }
+    None
 }
 
 // The command that three words are.
@@ -142,12 +162,8 @@ pub(crate) fn read_command(words: &[String]) -> Option<Command<'_>>
             words[4].as_bytes(),
         );
     }
-    if words.len() != 2 {
-        return None;
-    }
-    let problem = words[1].as_bytes();
-    if words[0].as_bytes() == b"unify".as_slice() && !is_option_word(problem) {
-        Some(Command::Unify(problem))
+    if words.len() == 2 {
+        read_word(words[0].as_bytes(), words[1].as_bytes())
     } else {
         None
     }

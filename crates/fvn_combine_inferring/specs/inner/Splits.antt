@@ -34,6 +34,10 @@ module _ (t : NodeTable) (s : State) (f : OpId) where
   abbrev pub IsUnitClass : ℕ → Type 0
   IsUnitClass e = (n : ℕ) × IsUnitNode t f n × (n < length t.nodes) × (class_of s n ≡ e)
 
+-- there are places for n splits, and none is noted
+abbrev pub IsUnsplit : ℕ → List (Option (ℕ × ℕ)) → Type 0
+IsUnsplit n splits = (length splits ≡ n) × All (λ o. o ≡ None) splits
+
 -- the splits with that of class k, where there is one
 abbrev pub noted : List (Option (ℕ × ℕ)) → ℕ → Option (ℕ × ℕ) → List (Option (ℕ × ℕ))
 noted splits k None = splits

@@ -66,12 +66,7 @@ fn asked(
 }
 
 /// Asks the top its question, or takes it out; false where the tree is empty.
-fn step(
-    alloc: Global,
-    sig: &Signature,
-    table: &Table,
-    tree: &mut Tree,
-) -> Result<bool, NoMemory>
+fn step(alloc: Global, sig: &Signature, table: &Table, tree: &mut Tree) -> Result<bool, NoMemory>
     requires closed { AreClosed sig.now table.now tree.old }
     requires sums { HasSums sig.now table.now }
     requires arguments { HoldsArguments table.now }
@@ -86,10 +81,10 @@ fn step(
                 tree.ask(alloc, sig, table, i, j)?;
                 Ok(true)
             }
-            None => match tree.take_top() {
-                None => Ok(false),
-                Some(_) => Ok(true),
-            },
+            None => {
+                let more = tree.take_top().is_some();
+                Ok(more)
+            }
         },
     }
 }

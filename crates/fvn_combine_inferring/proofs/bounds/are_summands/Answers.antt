@@ -1,5 +1,5 @@
 -- One more class.
-use Rattle.std.proofs.Common.{take_all, All, subst, sym}
+use Rattle.std.proofs.Common.{take_all, All, subst}
 use Rattle.std.proofs.lemmas.List.Elements.{All-nil, All-more}
 use Rattle.fvn_combine_inferring.specs.Rows.{IsSummand}
 use Rattle.fvn_combine_inferring.proofs.bounds.are_summands.Goals as goal

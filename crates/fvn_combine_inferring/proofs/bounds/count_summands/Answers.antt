@@ -1,5 +1,5 @@
 -- One more class.
-use Rattle.std.proofs.Common.{ℕ, List, ◌≤◌, take_all, get_or, refl, subst, arith, zero-le}
+use Rattle.std.proofs.Common.{◌≤◌, take_all, get_or, refl, subst, arith, zero-le}
 use Rattle.std.specs.Prelude.{sum_by}
 use Rattle.fvn_combine_inferring.specs.Rows.{many}
 use Rattle.fvn_combine_inferring.proofs.Told.{count_more, count_same}

@@ -1,5 +1,5 @@
 -- The operators are compared by their numbers.
-use Rattle.std.proofs.Common.{◌≡◌, not, Option, Some, None, sym, ap, ◌∙◌}
+use Rattle.std.proofs.Common.{◌≡◌, not, Some, None, sym, ap, ◌∙◌}
 use Rattle.std.proofs.lemmas.Bool.{eq-eqb, false≢true}
 use Rattle.fvn_terms.specs.declared.plain.OpId.{OpId}
 use Rattle.fvn_combine_inferring.proofs.bounds.is_other_head.Goals as goal

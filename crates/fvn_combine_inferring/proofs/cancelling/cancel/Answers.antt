@@ -1,5 +1,5 @@
 -- One more is taken out of both lists, or kept.
-use Rattle.std.proofs.Common.{ℕ, List, [], ◌∷◌, ◌++◌, ◌+◌, true, false, take, take_all, get_or, refl, sym, subst}
+use Rattle.std.proofs.Common.{◌+◌, take, take_all, get_or, refl, sym, subst}
 use Rattle.fvn_combine_inferring.specs.inner.Lists.{IsTakenOut, IsCancelled}
 use Rattle.fvn_combine_inferring.proofs.TakenOut.{cancelled_none, cancelled_more, kept_more}
 use Rattle.fvn_combine_inferring.proofs.cancelling.cancel.Goals as goal

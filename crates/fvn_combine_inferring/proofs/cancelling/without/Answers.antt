@@ -1,5 +1,5 @@
 -- One more is left out, or kept.
-use Rattle.std.proofs.Common.{ℕ, List, [], ◌∷◌, ◌++◌, ◌+◌, take, take_all, get_or, refl, sym, subst}
+use Rattle.std.proofs.Common.{◌+◌, take, take_all, get_or, refl, sym, subst}
 use Rattle.fvn_combine_inferring.specs.inner.Lists.{IsWithout}
 use Rattle.fvn_combine_inferring.proofs.TakenOut.{without_none, without_more, with_more}
 use Rattle.fvn_combine_inferring.proofs.cancelling.without.Goals as goal

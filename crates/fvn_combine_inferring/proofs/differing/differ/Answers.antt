@@ -1,5 +1,5 @@
 -- They are kept apart, or have two heads.
-use Rattle.std.proofs.Common.{◌≡◌, ℕ, sym, subst, arith}
+use Rattle.std.proofs.Common.{subst, arith}
 use Rattle.fvn_combine_nodes.specs.States.{class_of}
 use Rattle.fvn_combine_inferring.specs.inner.Bounds.{HaveTwoHeads}
 use Rattle.fvn_combine_inferring.proofs.Values.{name_within, heads_differ}

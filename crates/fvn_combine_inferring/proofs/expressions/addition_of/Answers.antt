@@ -3,8 +3,8 @@ use Rattle.std.proofs.Common.{sym, refl, subst}
 use Rattle.fvn_combine_inferring.specs.inner.Splits.{AreSplits}
 use Rattle.fvn_combine_inferring.proofs.expressions.addition_of.Goals as goal
 
-pub returns-in_ok-splits : goal.returns-in_ok-splits
-returns-in_ok-splits c = record {
+pub returns : goal.returns
+returns c = record {
   is = record {
     associative = c.requires.associative;
     unit = c.unit_class.ensures;

@@ -1,5 +1,5 @@
 -- One more place, or two classes in the place of one.
-use Rattle.std.proofs.Common.{ℕ, ◌<◌, ◌≤◌, true, length, get_or, zero-le, sym, ap, subst, arith}
+use Rattle.std.proofs.Common.{◌<◌, true, length, zero-le, sym, ap, subst, arith}
 use Rattle.fvn_combine_inferring.specs.inner.Splits.{IsSplitPlace, IsExpression}
 use Rattle.fvn_combine_inferring.proofs.Splitting.{alone_is, split_more, split_longer}
 use Rattle.fvn_combine_inferring.proofs.expressions.expression.Goals as goal

@@ -11,5 +11,5 @@ returns-in-Some c = record {
   over = addends_over c.args.f (slice_get c.args.table.now.nodes c.args.i) c.in-Some.p (sym c.addends.ensures.is ∙ c.in-Some.is);
   of = refl;
   first = sym c.class_of.ensures;
-  second = sym c.class_of-2.ensures;
+  second = sym c.class_of-in-Some.ensures;
 }

@@ -1,14 +1,13 @@
 -- One more node.
 use Rattle.std.proofs.Common.{◌<◌, length, sym, ap, ◌∙◌, subst, arith}
-use Rattle.std.specs.Prelude.{IfSome}
 use Rattle.fvn_combine_nodes.specs.States.{class_of}
-use Rattle.fvn_combine_inferring.specs.inner.Splits.{IsSplit, AreSplits, noted}
+use Rattle.fvn_combine_inferring.specs.inner.Splits.{AreSplits, IsUnsplit, noted}
 use Rattle.fvn_combine_inferring.proofs.Splitting.{no_splits, more_splits}
 use Rattle.fvn_combine_inferring.proofs.Values.{name_within}
 use Rattle.fvn_combine_inferring.proofs.expressions.splits_of.Goals as goal
 
 pub loop-i-init : goal.loop-i-init
-loop-i-init c = no_splits c.args.table.now c.args.state.now c.args.f c.in_ok-splits.splits.items (c.in_ok-splits.ensures.items)
+loop-i-init c = no_splits c.args.table.now c.args.state.now c.args.f c.in_ok-splits.splits.items (subst (λ n. IsUnsplit n c.in_ok-splits.splits.items) (ap length c.nodes-count.ensures) c.in_ok-splits.ensures)
 
 pub loop-i-preserved : goal.loop-i-preserved
 loop-i-preserved c =

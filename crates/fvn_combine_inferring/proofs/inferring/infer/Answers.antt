@@ -8,12 +8,13 @@ use Rattle.fvn_combine_inferring.proofs.inferring.infer.Goals as goal
 pub infer_of-requires-clause-associative : goal.infer_of-requires-clause-associative
 infer_of-requires-clause-associative c =
     (sum_operator c.args.sig.now c.args.table.now c.recall_well_made.ensures c.args.state.now c.requires.closed c.args.reading.now c.requires.reading c.sums-item.result
-    (subst (Contains c.args.reading.now.sums) (sym c.sums-item.is) (Contains-get_or c.args.reading.now.sums c.loop-sums.sums-index _ c.loop-sums-test.true))).associative
+    (subst (λ l. Contains l c.sums-item.result) c.as_slice-sums-items.ensures
+    (subst (Contains c.as_slice-sums-items.result.now) (sym c.sums-item.is) (Contains-get_or c.as_slice-sums-items.result.now c.loop-sums.sums-index _ c.loop-sums-test.true)))).associative
 
 pub loop-sums-preserved : goal.loop-sums-preserved
 loop-sums-preserved c =
     let told = IsInferred c.args.sig.now c.args.table.now c.args.state.now in
-    elim c.or_told.ensures [
+    elim c.or_told-asked.ensures [
       | inl e ↦ subst told (sym e) c.loop-sums.invariant
       | inr e ↦ subst told (sym e) c.in_ok-told.ensures
     ]

@@ -7,12 +7,12 @@ pub addition_of-requires-clause-heads : goal.addition_of-requires-clause-heads
 addition_of-requires-clause-heads c = c.requires.heads.as_many
 
 pub infer_at-requires-clause-within : goal.infer_at-requires-clause-within
-infer_at-requires-clause-within c = subst (λ ns. c.loop-i.i < length ns) c.nodes.ensures c.loop-i-test.true
+infer_at-requires-clause-within c = subst (λ ns. c.loop-i.i < length ns) c.nodes-i-end.ensures c.loop-i-test.true
 
 pub loop-i-preserved : goal.loop-i-preserved
 loop-i-preserved c =
     let told = IsInferred c.args.sig.now c.args.table.now c.args.state.now in
-    elim c.or_told.ensures [
+    elim c.or_told-asked.ensures [
       | inl e ↦ subst told (sym e) c.loop-i.invariant
       | inr e ↦ subst told (sym e) c.in_ok-told.ensures
     ]

@@ -7,7 +7,7 @@ use Rattle.fvn_combine_inferring.proofs.rows.reduced.Goals as goal
 pub returns : goal.returns
 returns c =
     let added = c.in_ok-added.added.items in
-    let now = c.cancel-rest.new.left.items in
+    let now = c.cancel.new.left.items in
     let rest = c.in_ok-rest.rest.items in
     let left = c.in_ok-left.left.items in
     let right = c.in_ok-right.right.items in

@@ -1,5 +1,5 @@
 -- Both sides are one class, equally often.
-use Rattle.std.proofs.Common.{◌<◌, length, subst}
+use Rattle.std.proofs.Common.{length}
 use Rattle.fvn_combine_inferring.proofs.Told.{cancelled_met, only_within}
 use Rattle.fvn_combine_inferring.proofs.rules.cancelled.Goals as goal
 

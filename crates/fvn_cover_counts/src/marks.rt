@@ -1,0 +1,89 @@
+//! Marks of lists of flat terms: two words, compared before any profile.
+ghost use Rattle.std.specs.Prelude.{◌≡◌, ◌↔◌, ◌<◌, false, length, List, IsTrue};
+ghost use Rattle.fvn_forms.specs.Flat.{FlatTerm};
+ghost use Rattle.fvn_cover_counts.specs.Profiles.{IsProfile};
+ghost use Rattle.fvn_cover_counts.specs.Marks.{AreUnkept, AreMarks, IsWithin, MarksAllow, NeverMatchMarked};
+
+use crate::bits::{identities_word, operators_word, variables_word};
+use crate::profile::Profile;
+use fvn_signature::Signature;
+
+/// The operators that the axioms do not keep, and that marks leave out: a bit each.
+#[derive(Clone, Copy)]
+pub struct Unkept {
+    pub(crate) bits: u64,
+}
+
+impl Unkept {
+    /// Those of a signature: the operators that have an identity, and these identities.
+    pub fn of(sig: &Signature) -> Unkept
+        ensures { AreUnkept sig.now result }
+    {
+        Unkept {
+            bits: identities_word(sig.declarations().ops.as_slice()),
+        }
+    }
+}
+
+/// Two words of facts: those that an instance keeps, and those that it cannot gain.
+#[derive(Clone, Copy)]
+pub struct Marks {
+    pub(crate) out: Unkept,
+    pub(crate) up: u64,
+    pub(crate) down: u64,
+}
+
+// Whether the two are the same operators.
+fn is_same(a: Unkept, b: Unkept) -> bool
+    ensures { IsTrue result ↔ (a ≡ b) }
+{
+    a.bits == b.bits
+}
+
+// Whether each bit of the first word is one of the second.
+fn is_within(v: u64, w: u64) -> bool
+    ensures { IsTrue result ↔ IsWithin v w }
+{
+    v & w == v
+}
+
+impl Marks {
+    /// The marks of so many terms of which the profile was counted, without these operators.
+    pub fn of(out: Unkept, profile: &Profile, count: usize) -> Marks
+        ensures marks { (ts : List FlatTerm) → IsProfile ts profile.now → length ts ≡ count → AreMarks ts result }
+        ensures out { result.out ≡ out }
+    {
+        Marks {
+            out,
+            up: operators_word(out.bits, profile.rows.as_slice()),
+            down: variables_word(profile.rows.as_slice(), count),
+        }
+    }
+
+    // Whether both were made without just these operators.
+    fn are_without(&self, out: Unkept, other: &Marks) -> bool
+        ensures { IsTrue result ↔ ((self.now.out ≡ out) × (other.now.out ≡ out)) }
+    {
+        is_same(self.out, out) && is_same(other.out, out)
+    }
+
+    // Whether the other has what this one has and an instance keeps, and this one what it cannot gain.
+    fn are_within(&self, other: &Marks) -> bool
+        ensures { IsTrue result ↔ (IsWithin self.now.up other.now.up × IsWithin other.now.down self.now.down) }
+    {
+        is_within(self.up, other.up) && is_within(other.down, self.down)
+    }
+
+    /// Whether the marks allow that some substitution makes the terms of the other from those of these.
+    ///
+    /// The answer no is sure where just these operators are not kept by the axioms; the answer yes is not.
+    pub fn may_cover(&self, out: Unkept, other: &Marks) -> bool
+        ensures exact { IsTrue result ↔ MarksAllow out self.now other.now }
+        ensures none { result ≡ false → NeverMatchMarked out self.now other.now }
+    {
+        if !self.are_without(out, other) {
+            return true;
+        }
+        self.are_within(other)
+    }
+}

@@ -1,0 +1,5 @@
+-- What private contracts speak of.
+pub mod Arguments
+pub mod Renaming
+pub mod Resting
+pub mod Outcomes
