@@ -6,8 +6,9 @@ ghost use Rattle.fvn_combine_inferring.specs.Inferred.{TellHeads, IsInferred};
 ghost use Rattle.fvn_combine_inferring.specs.Rows.{AreSides, IsSummand, IsAmong};
 
 use crate::bounds::{are_summands, is_summand};
-use crate::differing::candidate;
+use crate::differing::{candidate, is_only};
 use crate::inferring::Inferred;
+use crate::meeting::met;
 use fvn_combine_nodes::{State, Table};
 use fvn_signature::Signature;
 use fvn_terms::OpId;
@@ -36,6 +37,9 @@ fn matched(
     match candidate(sig, table, state, heads, k, list) {
         None => Inferred::Impossible,
         Some(l) => {
+            if is_only(sig, table, state, heads, k, l, list) {
+                return met(sig, table, state, k, l);
+            }
             if state.is_open(k, l) {
                 Inferred::Question(k, l)
             } else {

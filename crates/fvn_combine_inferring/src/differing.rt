@@ -3,7 +3,7 @@ ghost use Rattle.std.specs.Prelude.{◌<◌, length, All, IsTrue, MatchOption};
 ghost use Rattle.fvn_combine_choices.specs.Tables.{HasSums};
 ghost use Rattle.fvn_combine_nodes.specs.States.{IsClosed};
 ghost use Rattle.fvn_combine_inferring.specs.Inferred.{TellHeads, HaveTwoValues};
-ghost use Rattle.fvn_combine_inferring.specs.inner.Bounds.{HaveTwoHeads};
+ghost use Rattle.fvn_combine_inferring.specs.inner.Bounds.{HaveTwoHeads, IsOrDiffers};
 
 use crate::bounds::are_apart;
 use fvn_combine_nodes::{State, Table};
@@ -72,4 +72,52 @@ pub(crate) fn candidate(
         }
     }
     None
+}
+
+// Whether node x is l, or its class is known to differ from that of node k.
+fn is_passed(
+    sig: &Signature,
+    table: &Table,
+    state: &State,
+    heads: &[Option<OpId>],
+    k: usize,
+    l: usize,
+    x: usize,
+) -> bool
+    requires closed { IsClosed sig.now table.now state.now }
+    requires sums { HasSums sig.now table.now }
+    requires heads { TellHeads sig.now table.now state.now heads.now }
+    requires within { k < length table.now.nodes }
+    requires other { x < length table.now.nodes }
+    ensures { IsTrue result → IsOrDiffers sig.now table.now state.now k l x }
+{
+    if x == l {
+        return true;
+    }
+    differ(sig, table, state, heads, k, x)
+}
+
+// Whether the classes of all nodes of the list but l are known to differ from that of node k.
+pub(crate) fn is_only(
+    sig: &Signature,
+    table: &Table,
+    state: &State,
+    heads: &[Option<OpId>],
+    k: usize,
+    l: usize,
+    list: &[usize],
+) -> bool
+    requires closed { IsClosed sig.now table.now state.now }
+    requires sums { HasSums sig.now table.now }
+    requires heads { TellHeads sig.now table.now state.now heads.now }
+    requires within { k < length table.now.nodes }
+    requires list { All (λ x. x < length table.now.nodes) list.now }
+    ensures { IsTrue result → All (IsOrDiffers sig.now table.now state.now k l) list.now }
+{
+    for x in list {
+        if !is_passed(sig, table, state, heads, k, l, *x) {
+            return false;
+        }
+    }
+    true
 }

@@ -8,6 +8,7 @@ mod differing;
 mod expressions;
 mod heads;
 mod inferring;
+mod meeting;
 mod rows;
 mod rules;
 
