@@ -27,7 +27,13 @@ pub(crate) fn met(sig: &Signature, table: &Table, state: &State, i: usize, j: us
 }
 
 // What is said of nodes whose classes all have the value of that of node n.
-pub(crate) fn all_met(sig: &Signature, table: &Table, state: &State, list: &[usize], n: usize) -> Inferred
+pub(crate) fn all_met(
+    sig: &Signature,
+    table: &Table,
+    state: &State,
+    list: &[usize],
+    n: usize,
+) -> Inferred
     requires closed { IsClosed sig.now table.now state.now }
     requires within { All (λ k. k < length table.now.nodes) list.now }
     requires right { n < length table.now.nodes }

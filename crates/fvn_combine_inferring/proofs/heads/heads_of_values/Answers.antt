@@ -14,4 +14,5 @@ loop-sums-init c =
 pub note_large-requires-clause-associative : goal.note_large-requires-clause-associative
 note_large-requires-clause-associative c =
     (sum_operator c.args.sig.now c.args.table.now c.recall_well_made.ensures c.args.state.now c.requires.closed c.args.reading.now c.requires.reading c.sums-item.result
-    (subst (Contains c.args.reading.now.sums) (sym c.sums-item.is) (Contains-get_or c.args.reading.now.sums c.loop-sums.sums-index _ c.loop-sums-test.true))).associative
+    (subst (λ l. Contains l c.sums-item.result) c.as_slice-sums-items.ensures
+    (subst (Contains c.as_slice-sums-items.result.now) (sym c.sums-item.is) (Contains-get_or c.as_slice-sums-items.result.now c.loop-sums.sums-index _ c.loop-sums-test.true)))).associative

@@ -13,4 +13,4 @@ returns-in-Some c t =
     let f = c.args.addition.now.operator in
     let least : (values : ℕ → FlatTerm) → GoWith d c.args.table.now c.args.state.now values → c.count_summands-count.result ≤ sum_by (many d c.args.state.now f values) c.in-Some.list.items =
     λ values go. subst (λ (l : List ℕ). c.count_summands-count.result ≤ sum_by (many d c.args.state.now f values) l) c.as_slice.ensures.value (c.count_summands-count.ensures values go) in
-    two_summands d c.args.table.now c.args.state.now f c.args.i c.count_summands-count.result c.in-Some.list.items c.in-Some.ensures.sides least (omega (arith, t))
+    two_summands d c.args.table.now c.args.state.now f c.args.i c.count_summands-count.result c.in-Some.list.items (rw c.in-Some.is at c.in_ok-added.ensures.sides) least (omega (arith, t))

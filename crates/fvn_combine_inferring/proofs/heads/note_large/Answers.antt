@@ -13,7 +13,7 @@ loop-i-preserved c =
     let s = c.args.state.now in
     let heads = c.loop-i.heads.items in
     let i = c.loop-i.i in
-    let l : i < length t.nodes = subst (λ ns. i < length ns) c.nodes.ensures c.loop-i-test.true in
+    let l : i < length t.nodes = subst (λ ns. i < length ns) c.nodes-i-end.ensures c.loop-i-test.true in
     let w = name_within d t s c.requires.closed i l in
     let n = c.loop-i.invariant.as_many in
     subst (TellHeads d t s) (sym (c.note_head.ensures ∙ ap (λ k. set heads k (Some c.args.f)) c.class_of.ensures))

@@ -1,7 +1,7 @@
 -- What is left stands in place of the top.
-use Rattle.std.proofs.Common.{◌≡◌, ◌≢◌, ℕ, ◌-◌, ◌++◌, length, take, get_or, slice_get, refl, sym, ap, ◌∙◌, subst, arith}
+use Rattle.std.proofs.Common.{◌≡◌, ◌≢◌, ℕ, ◌-◌, [], ◌++◌, length, take, get_or, slice_get, refl, sym, ap, ◌∙◌, subst, arith}
 use Rattle.std.specs.Option.{option_to_list}
-use Rattle.std.proofs.lemmas.List.{length_push, get_or_push}
+use Rattle.std.proofs.lemmas.List.{length_push, get_or_push, append-nil}
 use Rattle.fvn_combine_nodes.specs.States.{IsClosed, IsOpen}
 use Rattle.fvn_combine_nodes.specs.Questions.{IsAnswer}
 use Rattle.fvn_combine_nodes.proofs.Growing.{taken_on_is, taken_on_closed, taken_on_falls, last_is}
@@ -45,7 +45,7 @@ returns c =
     let answer : IsAnswer d t top Holds r = subst (λ s. IsAnswer d t s Holds r) (top_is (goal.at.returns c).In-Some) c.in_ok-apart-in-Some.ensures in
     let before = c.args.self.now in
     let after = c.replace_top.new.states.items in
-    let is : after ≡ take (length before - 1) before ++ option_to_list r = c.in_ok-replace_top.ensures.ok ∙ ap (λ l. take (length l - 1) l ++ option_to_list r) c.self.view_is in
+    let is : after ≡ take (length before - 1) before ++ option_to_list r = c.in_ok-replace_top.ensures.ok ∙ ap (λ l. take (length l - 1) l ++ (option_to_list r ++ [])) c.self.view_is ∙ ap (λ l. take (length before - 1) before ++ l) (append-nil (option_to_list r)) in
     record {
       parted = taken_on_is d t top Holds r answer before after below c.requires.open.is is;
       closed = taken_on_closed d t top Holds r answer before after below c.requires.open.is is c.requires.closed;
