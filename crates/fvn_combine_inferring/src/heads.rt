@@ -1,5 +1,5 @@
 //! What heads the values of classes.
-ghost use Rattle.std.specs.Prelude.{◌≡◌, ◌<◌, length, slice_set, Some, IfOk, OnOk, IsTrue};
+ghost use Rattle.std.specs.Prelude.{◌≡◌, ◌<◌, ◌≤◌, length, slice_set, Some, IfOk, OnOk, IsTrue};
 ghost use Rattle.fvn_terms.specs.Signature.{axioms};
 ghost use Rattle.fvn_terms.specs.Equality.{IsAssociative};
 ghost use Rattle.fvn_combine_choices.specs.Tables.{HasSums};
@@ -17,6 +17,13 @@ use fvn_combine_nodes::{State, Table};
 use fvn_signature::Signature;
 use fvn_terms::{NoMemory, OpId};
 use std::alloc::Global;
+
+// Whether the number is two or more.
+fn is_two(count: usize) -> bool
+    ensures { IsTrue result → 2 ≤ count }
+{
+    count >= 2
+}
 
 // Whether node i is a sum of two summands for sure.
 fn is_large(
@@ -46,7 +53,8 @@ fn is_large(
                 addition.operator,
                 list.as_slice(),
             );
-            Ok(count >= 2)
+            let large = is_two(count);
+            Ok(large)
         }
     }
 }
