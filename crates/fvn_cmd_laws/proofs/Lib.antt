@@ -4,3 +4,4 @@ mod Checks
 pub mod Verified
 pub mod Unified
 pub mod Weighed
+mod Explored

@@ -2,4 +2,5 @@
 pub mod Unified
 pub mod Verified
 pub mod Weighed
+pub mod Explored
 pub mod Laws

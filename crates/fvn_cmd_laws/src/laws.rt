@@ -1,6 +1,7 @@
 //! Laws of answers, each the contract of a function that does nothing.
 ghost use Rattle.fvn_cmd_laws.specs.Laws.{
   AnswersAreExact,
+  ExploredAnswersAreExact,
   SortsAreToldOnce,
   VerdictsAreExact,
   WeighingsAreExact,
@@ -33,4 +34,9 @@ pub fn answers_are_exact()
 /// What is told of weights is exact, and one thing.
 pub fn weighings_are_exact()
     ensures { WeighingsAreExact }
+{}
+
+/// What the status of answers over an exploration tells is exact.
+pub fn explored_answers_are_exact()
+    ensures { ExploredAnswersAreExact }
 {}

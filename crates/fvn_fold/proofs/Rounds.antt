@@ -45,10 +45,6 @@ kept_first d kept next h = record {
       All-contains (AreAlike a) (kept ++ next) b (All-contains (λ a. All (AreAlike a) (kept ++ next)) (kept ++ next) a h.alike (Contains-append_left kept next a m)) (Contains-append_left kept next b n)));
 }
 
--- the next level is flat
-pub next_flat : (d : Declarations) (kept next : List Variant) → AreKept d (kept ++ next) → All (IsFlatVariant d) next
-next_flat d kept next h = all_members (IsFlatVariant d) next (λ v m. All-contains (IsFlatVariant d) (kept ++ next) v h.flat (Contains-append_right kept next v m))
-
 module _ (g : Setting) (drawn : Problem → Substitution → Type 0) (start : List FlatTerm) (depth : ℕ) (r : LevelLists) (explored : IsExploredTo g drawn start depth r) where
   -- the members of the last level are kept
   pub members_kept : All (Contains r.kept) r.members
@@ -122,9 +118,6 @@ cut_at next without front room v l is a b =
 -- what is kept with the front of the next level
 pub kept_cut : (d : Declarations) (kept next : List Variant) (room : ℕ) (v : Variant) (front : List Variant) → IsCut next room v front → AreKept d (kept ++ next) → AreKept d (kept ++ front)
 kept_cut d kept next room v front h k = kept_front d kept front (v ∷ drop (room + 1) next) (subst (λ l. AreKept d (kept ++ l)) h.split k)
-
-pub front_flat : (d : Declarations) (kept next : List Variant) (room : ℕ) (v : Variant) (front : List Variant) → IsCut next room v front → AreKept d (kept ++ next) → All (IsFlatVariant d) front
-front_flat d kept next room v front h k = next_flat d kept front (kept_cut d kept next room v front h k)
 
 -- a level that is whole and has members goes on
 pub over_or_whole : (next : List Variant) (end : ExpandEnd) (b : Bool) → (IsTrue b ↔ (end ≡ Whole)) → IsOverOrWhole (not b) next end

@@ -1,5 +1,5 @@
 //! Level runs as they grow.
-ghost use Rattle.std.specs.Prelude.{◌≡◌, ◌++◌, [], ◌∷◌, map, IfOk, All};
+ghost use Rattle.std.specs.Prelude.{◌≡◌, ◌++◌, [], ◌∷◌, map, IfOk};
 ghost use Rattle.fvn_cover.specs.Covering.{IsFlatVariant};
 ghost use Rattle.fvn_cover.specs.Pruning.{IsPruned};
 ghost use Rattle.fvn_fold.specs.inner.Running.{at_depth, lists_of, deep_of, with_next, AreKept};
@@ -57,12 +57,10 @@ pub(crate) fn first_run(alloc: Global, sig: &Signature, start: Variant) -> Resul
 /// The run with one more level.
 pub(crate) fn with_level(
     alloc: Global,
-    sig: &Signature,
     run: Run,
     depth: u32,
     next: Vec<Kept>,
 ) -> Result<Run, NoMemory>
-    requires flat { All (IsFlatVariant sig.now) next.items }
     ensures { IfOk result (λ r. lists_of r ≡ with_next (lists_of run) depth next.items) }
 {
     let Run {
@@ -74,10 +72,9 @@ pub(crate) fn with_level(
     let mut all = kept;
     let mut last = Vec::new(alloc);
     for k in next {
-        let v = k.into_variant();
-        let other = copy(alloc, &v)?;
-        all.push(Kept::new(alloc, sig, other)?)?;
-        last.push(v)?;
+        let member = copy(alloc, k.variant())?;
+        all.push(k)?;
+        last.push(member)?;
     }
     Ok(Run {
         done: above,

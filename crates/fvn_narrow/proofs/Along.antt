@@ -17,10 +17,10 @@ use Rattle.fvn_cover.specs.declared.variant.Variant.{Variant}
 use Rattle.fvn_exploring.specs.Children.{narrowed}
 use Rattle.fvn_exploring.specs.declared.ends.ExpandEnd.TheVariants.{Whole}
 use Rattle.fvn_exploring.specs.declared.ends.Expansion.{Expansion}
-use Rattle.fvn_narrow_children.specs.Paths.{LeadsTo, LeadsNowhere, paths, paths_from}
+use Rattle.fvn_places.specs.Paths.{LeadsTo, LeadsNowhere, paths, paths_from}
 use Rattle.fvn_narrow_children.specs.Starts.{IsStartOf}
 use Rattle.fvn_narrow_children.specs.Values.{AreIrreducible}
-use Rattle.fvn_narrow_children.proofs.PathFacts.{leads_once}
+use Rattle.fvn_places.proofs.PathFacts.{leads_once}
 use Rattle.fvn_narrow.specs.inner.Turns.{Turn, IsReady, IsTurnAt, AreFound, IsAtPart, IsThrough, IsAlong, IsInMember, IsAmongFirst, IsAny}
 use Rattle.fvn_narrow.proofs.Joined.{AreSoFar, nothing_found}
 

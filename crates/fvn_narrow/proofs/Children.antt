@@ -32,9 +32,9 @@ use Rattle.fvn_rewrite_laws.specs.Lists.{EachHasSequence}
 use Rattle.fvn_rewrite.specs.Usable.{Rewriting, equations_by}
 use Rattle.fvn_exploring.specs.Setting.{Setting}
 use Rattle.fvn_exploring.specs.Children.{HoldsVariables, IsMember}
-use Rattle.fvn_narrow_children.specs.Putting.{IsPut}
+use Rattle.fvn_places.specs.Putting.{IsPut}
 use Rattle.fvn_narrow_children.specs.Growing.{IsFormOf, IsGrown}
-use Rattle.fvn_narrow_children.proofs.Replacing.{split_at}
+use Rattle.fvn_places.proofs.Replacing.{split_at}
 use Rattle.fvn_narrow.specs.Settings.{narrowing_setting}
 use Rattle.fvn_narrow.specs.inner.Turns.{Turn, IsReady, AreMembers, IsStepChild}
 use Rattle.fvn_narrow.proofs.Turning.{problem_at, IsFitTurn, IsGivenIn}
@@ -111,7 +111,7 @@ module _ (r : Rewriting) (good : IsGood r.signature) (brings_none : BringsNoVari
   abbrev g : Setting
   g = narrowing_setting r unifiers
 
-  put : IsPut r.signature at m.term turn.rule.right m.new
+  put : IsPut r.signature turn.path at m.term turn.rule.right m.new
   put = is_put r good drawn v next ready at turn t members m s u
 
   term_listed : Contains v.terms m.term

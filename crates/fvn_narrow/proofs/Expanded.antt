@@ -30,7 +30,7 @@ use Rattle.fvn_lifting.specs.Lifted.{LiftsAt}
 use Rattle.fvn_lifting.specs.Laws.{AreUsed, RenamedFormsHaveTheSameInstances, WholeExpansionsLift}
 use Rattle.fvn_narrow_children.specs.Starts.{IsStartOf}
 use Rattle.fvn_narrow_children.specs.Values.{HaveReducible}
-use Rattle.fvn_narrow_children.proofs.PathFacts.{path_to}
+use Rattle.fvn_places.proofs.PathFacts.{path_to}
 use Rattle.fvn_narrow.specs.Settings.{narrowing_setting}
 use Rattle.fvn_narrow.specs.inner.Turns.{Turn, turn_of, IsTurnAt, IsStepChild, EndsAs, AreFound, IsAny}
 use Rattle.fvn_narrow.proofs.Backwards.{renamed_start, child_back, cause_back}

@@ -27,8 +27,8 @@ use Rattle.fvn_theory.specs.Equations.{sides_of}
 use Rattle.fvn_rewrite.specs.Usable.{Rewriting, AreUsable, equations_by}
 use Rattle.fvn_rewrite_rules.specs.declared.rule.Rule.{Rule}
 use Rattle.fvn_rewrite_rules.specs.Given.{headed, HasOldVariables, IsNumberedRule}
-use Rattle.fvn_narrow_children.specs.Paths.{LeadsTo}
-use Rattle.fvn_narrow_children.specs.Putting.{KeepsKindsOf}
+use Rattle.fvn_places.specs.Paths.{LeadsTo}
+use Rattle.fvn_places.specs.Putting.{KeepsKindsOf}
 use Rattle.fvn_narrow.specs.inner.Turns.{Turn, IsTurnAt}
 use Rattle.fvn_narrow.proofs.Turning.{IsFitTurn}
 

@@ -39,7 +39,7 @@ use Rattle.fvn_exploring.specs.declared.ends.ExpandEnd.{ExpandEnd}
 use Rattle.fvn_exploring.specs.declared.ends.ExpandEnd.TheVariants.{Whole, Steps, Size, Basis, Unifiers}
 use Rattle.fvn_exploring.specs.declared.ends.Expansion.{Expansion}
 use Rattle.fvn_narrow_children.specs.Growing.{IsRaw, IsGrown, StopsAt}
-use Rattle.fvn_narrow_children.proofs.PathFacts.{stands_at}
+use Rattle.fvn_places.proofs.PathFacts.{stands_at}
 use Rattle.fvn_lifting.specs.Lifted.{LiftsAt}
 use Rattle.fvn_lifting.specs.Laws.{SuccessorsAreSteps, TurnsLift}
 use Rattle.fvn_narrow.specs.Settings.{narrowing_setting}

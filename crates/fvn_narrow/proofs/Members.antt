@@ -6,9 +6,9 @@ use Rattle.fvn_terms.specs.declared.declarations.Declarations.{Declarations}
 use Rattle.fvn_forms.specs.Flat.{FlatTerm}
 use Rattle.fvn_flat.specs.Fits.{Fits, AllFit}
 use Rattle.fvn_flat.proofs.Instances.{each_at}
-use Rattle.fvn_narrow_children.specs.Paths.{LeadsTo}
-use Rattle.fvn_narrow_children.specs.Putting.{CanPut, PutAs}
-use Rattle.fvn_narrow_children.proofs.Replacing.{split_at, each_replaced}
+use Rattle.fvn_places.specs.Paths.{LeadsTo}
+use Rattle.fvn_places.specs.Putting.{CanPut, PutAs}
+use Rattle.fvn_places.proofs.Replacing.{split_at, each_replaced}
 use Rattle.fvn_narrow.specs.inner.Turns.{CanReplace, AreMembers}
 
 module _ (d : Declarations) (terms : List FlatTerm) (member : ℕ) (path : List ℕ) (given : FlatTerm) where

@@ -9,8 +9,8 @@ use Rattle.fvn_cover.specs.declared.variant.Variant.{Variant}
 use Rattle.fvn_rewrite_rules.specs.declared.rule.Rule.{Rule}
 use Rattle.fvn_rewrite.specs.Usable.{Rewriting}
 use Rattle.fvn_exploring.specs.Children.{narrowed}
-use Rattle.fvn_narrow_children.specs.Paths.{LeadsTo}
-use Rattle.fvn_narrow_children.proofs.PathFacts.{leads_once}
+use Rattle.fvn_places.specs.Paths.{LeadsTo}
+use Rattle.fvn_places.proofs.PathFacts.{leads_once}
 use Rattle.fvn_lifting.specs.Lifted.{LiftsAt}
 use Rattle.fvn_narrow.specs.Settings.{narrowing_setting}
 use Rattle.fvn_narrow.specs.inner.Turns.{Turn, IsTurnAt, IsAtPart}

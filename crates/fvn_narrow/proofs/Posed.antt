@@ -26,8 +26,8 @@ use Rattle.fvn_exploring.specs.Children.{narrowed}
 use Rattle.fvn_exploring.specs.declared.ends.Expansion.{Expansion}
 use Rattle.fvn_exploring.specs.declared.ends.ExpandEnd.TheVariants.{Whole}
 use Rattle.fvn_lifting.specs.Lifted.{LiftsAt}
-use Rattle.fvn_narrow_children.specs.Clashes.{NeverMeet}
-use Rattle.fvn_narrow_children.proofs.PathFacts.{stands_at}
+use Rattle.fvn_places.specs.Clashes.{NeverMeet}
+use Rattle.fvn_places.proofs.PathFacts.{stands_at}
 use Rattle.fvn_narrow.specs.Settings.{narrowing_setting}
 use Rattle.fvn_narrow.specs.inner.Turns.{Turn, IsReady, IsTurnAt, IsAtPart, CanReplace, AreFound}
 use Rattle.fvn_narrow.proofs.Turning.{IsFitTurn}

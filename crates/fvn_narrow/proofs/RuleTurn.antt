@@ -30,7 +30,7 @@ use Rattle.fvn_exploring.specs.Setting.{Setting}
 use Rattle.fvn_exploring.specs.Children.{narrowed}
 use Rattle.fvn_narrow_children.specs.Starts.{IsNumberedUpTo}
 use Rattle.fvn_narrow_children.specs.Growing.{IsGrown, IsDealtWith}
-use Rattle.fvn_narrow_children.proofs.PathFacts.{stands_at}
+use Rattle.fvn_places.proofs.PathFacts.{stands_at}
 use Rattle.fvn_narrow.specs.Settings.{narrowing_setting}
 use Rattle.fvn_narrow.specs.inner.Turns.{Turn, IsReady, AreMembers}
 use Rattle.fvn_narrow.proofs.Turning.{problem_at, IsFitTurn, IsGivenIn}

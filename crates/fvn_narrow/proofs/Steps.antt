@@ -29,10 +29,10 @@ use Rattle.fvn_flat.proofs.Instances.{inst_equal}
 use Rattle.fvn_cover.specs.declared.variant.Variant.{Variant}
 use Rattle.fvn_rewrite.specs.Usable.{Rewriting, equations_by}
 use Rattle.fvn_exploring.specs.Children.{narrowed}
-use Rattle.fvn_narrow_children.specs.Paths.{LeadsTo}
-use Rattle.fvn_narrow_children.specs.Putting.{IsPut}
+use Rattle.fvn_places.specs.Paths.{LeadsTo}
+use Rattle.fvn_places.specs.Putting.{IsPut}
 use Rattle.fvn_narrow_children.specs.Starts.{IsNumberedUpTo}
-use Rattle.fvn_narrow_children.proofs.Replacing.{split_at}
+use Rattle.fvn_places.proofs.Replacing.{split_at}
 use Rattle.fvn_narrow.specs.inner.Turns.{Turn, IsReady, AreMembers}
 use Rattle.fvn_narrow.proofs.Turning.{problem_at, IsFitTurn, IsGivenIn}
 
@@ -99,7 +99,7 @@ module _ (r : Rewriting) (good : IsGood r.signature) (drawn : Problem → Substi
     abbrev pub successor : Narrowed
     successor = record { terms = map (inst d (value s)) members; values = λ x. plain (inst d (value s) (value v.subst x)) }
 
-    pub is_put : IsPut d at m.term right m.new
+    pub is_put : IsPut d turn.path at m.term right m.new
     is_put = m.put_there at (subst (λ w. LeadsTo turn.path w at) (one_item t.turn_is.term m.term (sym t.turn_is.is ∙ m.is)) t.turn_is.leads)
       where
         one_item : (a b : FlatTerm) → Some a ≡ Some b → a ≡ b

@@ -1,9 +1,4 @@
--- Lemmas on paths, clashes, renamed variants and children; the public ones are for callers.
-mod Measures
-pub mod PathFacts
-pub mod ClashFacts
-pub mod Replacing
-mod Arguments
+-- Lemmas on renamed variants and children; the public ones are for callers.
 mod NewNames
 mod StartFacts
 pub mod ValueFacts

@@ -1,5 +1,4 @@
 -- What private contracts speak of.
-pub mod Arguments
 pub mod Renaming
 pub mod Resting
 pub mod Outcomes

@@ -1,1 +1,2 @@
--- The crate has no lemmas.
+-- Terms as variants that may be expanded.
+mod Starting

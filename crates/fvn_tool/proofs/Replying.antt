@@ -1,16 +1,15 @@
 -- The replies of the commands' crates are replies to commands, and the outcome that the steps give is the outcome.
 use Rattle.std.proofs.Common.{ℕ, List, refl, inl, inr}
 use Rattle.fvn_cmd.specs.declared.status.Status.{Status}
-use Rattle.fvn_cmd_laws.specs.Laws.{VerdictsAreExact, AnswersAreExact}
-use Rattle.fvn_tool.specs.Words.{Command, check, unify, verify, terminates}
+use Rattle.fvn_cmd_laws.specs.Laws.{VerdictsAreExact, AnswersAreExact, ExploredAnswersAreExact}
+use Rattle.fvn_tool.specs.Words.{Command, check, unify, verify, terminates, variants, vunify}
 use Rattle.fvn_tool.specs.Runs.{Outside}
-use Rattle.fvn_tool.specs.Asked.{summary, unifiers, verdict, termination, IsShort}
+use Rattle.fvn_tool.specs.Asked.{summary, unifiers, verdict, termination, term_variants, theory_unifiers, IsShort}
 use Rattle.fvn_tool.specs.Answered.{IsReply}
 use Rattle.fvn_tool.specs.Outcomes.{IsOutcome, no_command, too_long, replied}
 use Rattle.fvn_tool.specs.inner.Steps.{IsCommandReply, IsGivenOutcome, is_usage, is_long, is_replied}
-use Rattle.fvn_tool.proofs.Grammar.{command_read, no_command_read}
 
-module _ (verdicts : VerdictsAreExact) (answers : AnswersAreExact) where
+module _ (verdicts : VerdictsAreExact) (answers : AnswersAreExact) (explored : ExploredAnswersAreExact) where
   reply : (c : Command) (bytes : List ℕ) → IsShort bytes → (s : Status) (t : List ℕ) → IsCommandReply c bytes s t → IsReply bytes c s t
   reply check bytes short s t (inl r) = inl (inr (short, r))
   reply check bytes short s t (inr a) =
@@ -59,8 +58,38 @@ module _ (verdicts : VerdictsAreExact) (answers : AnswersAreExact) where
           record { answer = a.2.1.found; right = a.2.1.right; status_is = a.2.1.status_is; shown = a.2.1.shown; whole = tt },
         ),
       )
+  reply (variants word reach) bytes short s t (inl r) = inl (inr (short, r))
+  reply (variants word reach) bytes short s t (inr a) =
+      inr (
+        record { contents = a.0; question = term_variants a.1 reach },
+        (
+          record { short = short; loaded = a.2.0.module_text; question_is = (a.1, (a.2.0.term_text, refl)) },
+          record {
+            answer = a.2.1.found;
+            right = a.2.1.solution;
+            status_is = a.2.1.status_is;
+            shown = a.2.1.shown;
+            whole = λ stays. stays a.2.1.found.explored.end a.2.1.solution.explored.cause;
+          },
+        ),
+      )
+  reply (vunify word reach) bytes short s t (inl r) = inl (inr (short, r))
+  reply (vunify word reach) bytes short s t (inr a) =
+      inr (
+        record { contents = a.0; question = theory_unifiers a.1 reach },
+        (
+          record { short = short; loaded = a.2.0.module_text; question_is = (a.1, (a.2.0.problem_text, refl)) },
+          record {
+            answer = a.2.1.found;
+            right = a.2.1.solution;
+            status_is = a.2.1.status_is;
+            shown = a.2.1.shown;
+            whole = explored.within a.0 a.1 reach a.2.1.found a.2.1.solution;
+          },
+        ),
+      )
 
   pub given_outcome : (words : List (List ℕ)) (source : Outside) (s : Status) (t : List ℕ) → IsGivenOutcome words source s t → IsOutcome words source s t
-  given_outcome words source s t (is_usage none is) = no_command (no_command_read words none) is
-  given_outcome words source s t (is_long c e n is) = too_long c (command_read words c e) n is
-  given_outcome words source s t (is_replied c bytes e n d f r) = replied c bytes (command_read words c e) n d (reply c bytes f s t r)
+  given_outcome words source s t (is_usage none is) = no_command none is
+  given_outcome words source s t (is_long c e n is) = too_long c e n is
+  given_outcome words source s t (is_replied c bytes e n d f r) = replied c bytes e n d (reply c bytes f s t r)

@@ -2,7 +2,7 @@
 ghost use Rattle.std.specs.Prelude.{◌≡◌, IfOk};
 ghost use Rattle.fvn_tool.specs.Asked.{too_long_line};
 ghost use Rattle.fvn_tool.specs.Outcomes.{usage_line};
-ghost use Rattle.fvn_tool.specs.inner.Reading.{meant};
+ghost use Rattle.fvn_tool.specs.inner.Reading.{meant, IsFit};
 ghost use Rattle.fvn_tool.specs.inner.Steps.{IsCommandReply};
 ghost use Rattle.fvn_cmd.specs.Texts.{bytes_of};
 
@@ -11,9 +11,13 @@ use fvn_cmd::{Answer, Status};
 use fvn_cmd_check::check_reply;
 use fvn_cmd_terminates::terminates_reply;
 use fvn_cmd_unify::unify_reply;
+use fvn_cmd_variants::variants_reply;
 use fvn_cmd_verify::verify_reply;
+use fvn_cmd_vunify::vunify_reply;
+use fvn_cover::Gate;
 use fvn_terms::NoMemory;
 use std::alloc::Global;
+use std::thread::Threads;
 
 /// The usage line, for words that are no command.
 pub(crate) fn usage() -> Answer
@@ -35,7 +39,14 @@ pub(crate) fn too_long() -> Answer
 }
 
 /// What is replied to a command over the text of a module.
-pub(crate) fn reply(alloc: Global, bytes: &[u8], command: Command<'_>) -> Result<Answer, NoMemory>
+pub(crate) fn reply<R: Threads + Sync, G: Gate>(
+    rt: &R,
+    gate: &G,
+    alloc: Global,
+    bytes: &[u8],
+    command: Command<'_>,
+) -> Result<Answer, NoMemory>
+    requires { IsFit command }
     ensures { IfOk result (λ a.
         IsCommandReply (meant command.entry) bytes.now a.status (bytes_of a.text)) }
 {
@@ -46,5 +57,11 @@ pub(crate) fn reply(alloc: Global, bytes: &[u8], command: Command<'_>) -> Result
             verify_reply(alloc, bytes, problem, bindings, steps)
         }
         Command::Terminates(word) => terminates_reply(alloc, bytes, word),
+        Command::Variants(word, reach, workers) => {
+            variants_reply(rt, gate, alloc, bytes, word, reach, workers)
+        }
+        Command::Vunify(word, reach, workers) => {
+            vunify_reply(rt, gate, alloc, bytes, word, reach, workers)
+        }
     }
 }

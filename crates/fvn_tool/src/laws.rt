@@ -11,7 +11,8 @@ ghost use Rattle.fvn_tool.specs.Limits.{AreStepLimits};
 
 use fvn_cmd::{readers_are_lawful, refusals_are_lawful};
 use fvn_cmd_laws::{
-    answers_are_exact, sorts_are_told_once, verdicts_are_exact, weighings_are_exact,
+    answers_are_exact, explored_answers_are_exact, sorts_are_told_once, verdicts_are_exact,
+    weighings_are_exact,
 };
 
 /// Words are one command at most.
@@ -44,6 +45,7 @@ pub fn answers_say_exactly()
     verdicts_are_exact();
     answers_are_exact();
     weighings_are_exact();
+    explored_answers_are_exact();
 }
 
 /// Words and the bytes of a source have at most one outcome, but for answers to one question, which agree.

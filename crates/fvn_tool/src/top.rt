@@ -1,28 +1,35 @@
 //! The top call.
-ghost use Rattle.std.specs.Prelude.{◌≡◌, ◌<◌, ◌⊎◌, map, string_bytes, None, ◌≢◌, IfOk, IfErr, IsOk, IsErrOf};
+ghost use Rattle.std.specs.Prelude.{◌≡◌, ◌<◌, ◌⊎◌, map, string_bytes, ◌≢◌, IfOk, IfErr, IsErrOf};
 ghost use Rattle.fvn_outside.specs.Faults.{Rose, NeverFails};
-ghost use Rattle.fvn_tool.specs.Words.{ReadNothing};
+ghost use Rattle.fvn_tool.specs.Words.{AreNoCommand, ReadNothing};
 ghost use Rattle.fvn_cmd.specs.Texts.{bytes_of};
 ghost use Rattle.fvn_cmd.specs.Statuses.{IsSilent};
 ghost use Rattle.fvn_tool.specs.Runs.{seen, Leaves};
 ghost use Rattle.fvn_tool.specs.Claims.{IsReport};
-ghost use Rattle.fvn_tool.specs.inner.Reading.{command_of};
 ghost use Rattle.fvn_tool.specs.inner.Steps.{IsGivenOutcome};
 
 use crate::laws::questions_are_determined;
 use crate::{answer, words};
 use fvn_base::limits::MODULE_BYTES;
 use fvn_cmd::{Answer, Status};
-use fvn_cmd_laws::{answers_are_exact, verdicts_are_exact};
+use fvn_cmd_laws::{answers_are_exact, explored_answers_are_exact, verdicts_are_exact};
+use fvn_cover::Gate;
 use fvn_outside::{ReadAll, Sink, Source, WriteFailed, read_all, write_all};
 use fvn_terms::NoMemory;
 use std::alloc::Global;
 use std::string::String;
+use std::thread::Threads;
 
 // Reads the module where the words are a command, and answers; a status alone where nothing is to be written.
-fn respond<S: Source>(alloc: Global, words: &[String], source: &mut S) -> Result<Answer, Status>
-    ensures unread { command_of (map string_bytes words.now) ≡ None → source.new ≡ source.old }
-    ensures usage { command_of (map string_bytes words.now) ≡ None → IsOk result }
+fn respond<R: Threads + Sync, G: Gate, S: Source>(
+    rt: &R,
+    gate: &G,
+    alloc: Global,
+    words: &[String],
+    source: &mut S,
+) -> Result<Answer, Status>
+    ensures unread { AreNoCommand (map string_bytes words.now) → source.new ≡ source.old }
+    ensures usage { AreNoCommand (map string_bytes words.now) → IfErr result (λ s. s ≡ Status.NoMemory) }
     ensures outcome { IfOk result (λ a. IsGivenOutcome (map string_bytes words.now)
         (seen S.left S.faults source.old source.new) a.status (bytes_of a.text)) }
 
@@ -33,14 +40,18 @@ fn respond<S: Source>(alloc: Global, words: &[String], source: &mut S) -> Result
     ensures failed_read { S.faults source.old < S.faults source.new →
         IsErrOf result Status.ReadFault }
 {
-    let Some(command) = words::read_command(words) else {
+    let heard = match words::read_command(alloc, words) {
+        Err(NoMemory) => return Err(Status::NoMemory),
+        Ok(heard) => heard,
+    };
+    let Some(command) = heard else {
         return Ok(answer::usage());
     };
     match read_all(alloc, source, MODULE_BYTES) {
         Err(ReadAll::Fault) => Err(Status::ReadFault),
         Err(ReadAll::NoMemory) => Err(Status::NoMemory),
         Err(ReadAll::TooLong) => Ok(answer::too_long()),
-        Ok(bytes) => match answer::reply(alloc, &bytes, command) {
+        Ok(bytes) => match answer::reply(rt, gate, alloc, &bytes, command) {
             Err(NoMemory) => Err(Status::NoMemory),
             Ok(answer) => Ok(answer),
         },
@@ -48,20 +59,23 @@ fn respond<S: Source>(alloc: Global, words: &[String], source: &mut S) -> Result
 }
 
 // Answers, and writes the answer's text.
-fn conclude<S: Source, K: Sink>(
+fn conclude<R: Threads + Sync, G: Gate, S: Source, K: Sink>(
+    rt: &R,
+    gate: &G,
     alloc: Global,
     words: &[String],
     source: &mut S,
     out: &mut K,
 ) -> Status
-    ensures unread { command_of (map string_bytes words.now) ≡ None → source.new ≡ source.old }
+    ensures unread { AreNoCommand (map string_bytes words.now) → source.new ≡ source.old }
     ensures unwritten { IsSilent result → out.new ≡ out.old }
     ensures outcome { Leaves
         (IsGivenOutcome (map string_bytes words.now)
         (seen S.left S.faults source.old source.new))
         result (seen K.written K.faults out.old out.new) }
-    ensures usage { command_of (map string_bytes words.now) ≡ None →
-        (result ≡ Status.Usage) ⊎ (result ≡ Status.WriteFault) }
+    ensures usage { AreNoCommand (map string_bytes words.now) →
+        (result ≡ Status.Usage)
+        ⊎ ((result ≡ Status.WriteFault) ⊎ (result ≡ Status.NoMemory)) }
 
     ensures read_fault { result ≡ Status.ReadFault →
         Rose (S.faults source.old) (S.faults source.new) }
@@ -71,7 +85,7 @@ fn conclude<S: Source, K: Sink>(
         Rose (K.faults out.old) (K.faults out.new) }
     ensures no_write_fault { NeverFails K.faults → result ≢ Status.WriteFault }
 {
-    match respond(alloc, words, source) {
+    match respond(rt, gate, alloc, words, source) {
         Err(status) => status,
         Ok(answer) => match write_all(out, answer.text.as_slice()) {
             Ok(()) => answer.status,
@@ -82,8 +96,11 @@ fn conclude<S: Source, K: Sink>(
 
 /// Does all that the program does: reads the words and the module, carries out the command, and writes one text.
 ///
-/// Nothing is written before the whole text is there.
-pub fn run<S: Source, K: Sink>(
+/// Nothing is written before the whole text is there. Each piece of work that may run beside others goes through the
+/// gate first.
+pub fn run<R: Threads + Sync, G: Gate, S: Source, K: Sink>(
+    rt: &R,
+    gate: &G,
     alloc: Global,
     words: &[String],
     source: &mut S,
@@ -106,6 +123,7 @@ pub fn run<S: Source, K: Sink>(
 {
     verdicts_are_exact();
     answers_are_exact();
+    explored_answers_are_exact();
     questions_are_determined();
-    conclude(alloc, words, source, out)
+    conclude(rt, gate, alloc, words, source, out)
 }

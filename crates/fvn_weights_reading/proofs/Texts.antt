@@ -1,10 +1,11 @@
 -- A text gives one list of weights, or has one first fault, and not both.
-use Rattle.std.proofs.Common.{◌≡◌, ◌≢◌, ◌⊎◌, inl, inr, ℕ, zero, suc, ◌+◌, ◌<◌, ◌≤◌, Bool, true, false, List, [], ◌∷◌, ◌++◌, length, get_or, map, Option, Some, None, Result, Ok, Err, refl, sym, ap, ◌∙◌, subst, arith, eqb-true, eq-eqb}
+use Rattle.std.proofs.Common.{◌≡◌, ◌≢◌, ◌⊎◌, inl, inr, ℕ, zero, suc, ◌+◌, ◌<◌, ◌≤◌, Bool, true, false, List, [], ◌∷◌, ◌++◌, length, get_or, map, Option, Some, None, refl, sym, ap, ◌∙◌, subst, arith, eqb-true, eq-eqb}
 use Rattle.std.specs.Prelude.{slice_get, Contains, nat_eq}
 use Rattle.fvn_base.proofs.Membership.{contains_here, contains_later, contains_cases, contains_none}
-use Rattle.fvn_lex.specs.declared.token.Token.{Token}
 use Rattle.fvn_lex.specs.declared.token.LexFault.{LexFault}
-use Rattle.fvn_lex.specs.Cut.{Piece, lex, pieces_of, pieces_in}
+use Rattle.fvn_lex.specs.Cut.{Piece}
+use Rattle.fvn_lex.specs.Parts.{HasPieces, IsFirstFault as IsFirstLexFault}
+use Rattle.fvn_lex.proofs.RowPieces.{pieces-once, no-pieces, first-once}
 use Rattle.fvn_terms.specs.declared.plain.OpId.{OpId}
 use Rattle.fvn_terms.specs.declared.declarations.Declarations.{Declarations}
 use Rattle.fvn_signature.specs.Queries.{arity}
@@ -26,17 +27,13 @@ use Rattle.fvn_weights_reading.specs.inner.Steps.{are_new, IsLexFault, Weigh, We
 use Rattle.fvn_weights_reading.proofs.Splitting.{entries-once}
 use Rattle.fvn_weights_reading.proofs.NewNames.{new-is-once, not-once}
 
-no-tokens : (bytes : Text) (fault : LexFault) → lex bytes ≡ Err fault → HasTokens bytes → ⊥
-unfolding pieces_of
-no-tokens bytes fault h t = (let e : None ≡ Some t.0 = ap (pieces_in bytes) (sym h) ∙ t.1 in cc)
+no-tokens : (bytes : Text) (fault : LexFault) → IsFirstLexFault bytes fault → HasTokens bytes → ⊥
+no-tokens bytes fault h t = no-pieces bytes fault t.0 h t.1
 
 -- what is written
 
-same-row : (bytes : Text) (xs ys : List Piece) → pieces_of bytes ≡ Some xs → pieces_of bytes ≡ Some ys → xs ≡ ys
-same-row bytes xs ys a b = (let e : Some xs ≡ Some ys = sym a ∙ b in cc)
-
 pub text-once : (bytes : Text) (a b : List Entry) → IsWeightText bytes a → IsWeightText bytes b → a ≡ b
-text-once bytes a b s t = entries-once a b s.entries t.entries (same-row bytes (spell_entries a) (spell_entries b) s.spelled t.spelled)
+text-once bytes a b s t = entries-once a b s.entries t.entries (pieces-once bytes (spell_entries a) (spell_entries b) s.spelled t.spelled)
 
 -- the last number of two lists
 last-same : (xs ys : List ℕ) (a b : ℕ) → xs ++ (a ∷ []) ≡ ys ++ (b ∷ []) → (xs ≡ ys) × (a ≡ b)
@@ -151,7 +148,7 @@ module _ (d : Declarations) (names : Names) where
 
     -- what a first fault is told of: the bytes, the form, what is written, or nothing
     data Told (fault : ProblemFault) : Type 0 where
-      by_bytes : (first : LexFault) → lex bytes ≡ Err first → fault ≡ Lex first → Told fault
+      by_bytes : (first : LexFault) → IsFirstLexFault bytes first → fault ≡ Lex first → Told fault
       by_form : HasTokens bytes → ((raw : List Entry) → IsWeightText bytes raw → ⊥) → fault ≡ NoText → Told fault
       by_text : (raw : List Entry) → IsWeightText bytes raw → IsEntriesFault d names raw fault → Told fault
       by_memory : fault ≡ NoMemory → Told fault
@@ -167,15 +164,11 @@ module _ (d : Declarations) (names : Names) where
     told WrongSort h = by_text h.0 h.1 h.2
     told NoMemory h = by_memory refl
 
-    abbrev refused : LexFault → Result (List Token) LexFault
-    refused fault = Err fault
-
     same : (f g : ProblemFault) → Told f → Told g → AreOneFault f g
     same f g (by_memory e) b = inl e
     same f g (by_bytes first h e) (by_memory k) = inr (inl k)
     same f g (by_bytes first h e) (by_bytes second k i) =
-        let one : first ≡ second = (let j : refused first ≡ refused second = sym h ∙ k in cc) in
-        inr (inr (e ∙ ap Lex one ∙ sym i))
+        inr (inr (e ∙ ap Lex (first-once bytes first second h k) ∙ sym i))
     same f g (by_bytes first h e) (by_form t n i) = absurd (no-tokens bytes first h t)
     same f g (by_bytes first h e) (by_text raw t b) = absurd (no-tokens bytes first h (text-tokens raw t))
     same f g (by_form t n e) (by_memory k) = inr (inl k)
@@ -224,9 +217,9 @@ module _ (d : Declarations) (names : Names) where
     entries-fault es t WrongSort h = (es, t, h)
     entries-fault es t NoMemory h = tt
 
-    module _ (row : List Piece) (cut : pieces_of bytes ≡ Some row) where
+    module _ (row : List Piece) (cut : HasPieces bytes row) where
       pub no-form-fault : IsNoEntriesRow row → RefusesWeights d names bytes NoText
-      no-form-fault n = ((row, cut), λ es t. n es (record { entries = t.entries; spelled = same-row bytes row (spell_entries es) cut t.spelled }))
+      no-form-fault n = ((row, cut), λ es t. n es (record { entries = t.entries; spelled = pieces-once bytes row (spell_entries es) cut t.spelled }))
 
       module _ (es : List Entry) (is : IsEntriesRow row es) where
         pub twice-fault : are_new [] es ≡ false → RefusesWeights d names bytes NoText
@@ -234,11 +227,11 @@ module _ (d : Declarations) (names : Names) where
           (row, cut),
           λ fs t.
               not-once es n
-              (subst AreOnce (entries-once fs es t.entries is.entries (same-row bytes (spell_entries fs) row t.spelled cut ∙ is.spelled)) t.once),
+              (subst AreOnce (entries-once fs es t.entries is.entries (pieces-once bytes (spell_entries fs) row t.spelled cut ∙ is.spelled)) t.once),
         )
 
         pub is-text : are_new [] es ≡ true → IsWeightText bytes es
-        is-text h = record { entries = is.entries; spelled = cut ∙ ap Some is.spelled; once = new-is-once es h }
+        is-text h = record { entries = is.entries; spelled = subst (HasPieces bytes) is.spelled cut; once = new-is-once es h }
 
         pub is-weights : are_new [] es ≡ true → (ws : Weights) → Weigh d names es ws.list → IsWeights d names bytes ws
         is-weights h ws w = record { entries = es; text = is-text h; fitting = w.0; weights = w.1 }

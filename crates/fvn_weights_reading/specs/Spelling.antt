@@ -1,7 +1,8 @@
 -- How weights of operators are spelled.
-use Rattle.std.specs.Prelude.{◌≡◌, ◌≢◌, ℕ, ◌+◌, ◌-◌, ◌*◌, Bool, ◌&&◌, nat_le, IsTrue, List, [], ◌∷◌, ◌++◌, length, Some, codes}
+use Rattle.std.specs.Prelude.{◌≢◌, ℕ, ◌+◌, ◌-◌, ◌*◌, Bool, ◌&&◌, nat_le, IsTrue, List, [], ◌∷◌, ◌++◌, length, codes}
 use Rattle.std.specs.List.{AllByRecursion, list_all}
-use Rattle.fvn_lex.specs.Cut.{Piece, pieces_of}
+use Rattle.fvn_lex.specs.Cut.{Piece}
+use Rattle.fvn_lex.specs.Parts.{HasPieces}
 use Rattle.fvn_syntax.specs.Pieces.{Text, word, comma, is_word}
 use Rattle.fvn_weights_reading.specs.declared.entry.Entry.{Entry}
 use Rattle.fvn_weights_reading.specs.declared.limits.TheConstants.{NUMBER_DIGITS}
@@ -62,5 +63,5 @@ AreOnce (e ∷ es) = AllByRecursion (λ f. f.name ≢ e.name) es × AreOnce es
 -- the bytes are these entries, of which no two have one name
 pub record IsWeightText (bytes : Text) (es : List Entry) : Type 0 where
   pub entries : AllByRecursion IsEntry es
-  pub spelled : pieces_of bytes ≡ Some (spell_entries es)
+  pub spelled : HasPieces bytes (spell_entries es)
   pub once : AreOnce es

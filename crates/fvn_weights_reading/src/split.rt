@@ -1,6 +1,7 @@
 //! Cutting texts into entries.
-ghost use Rattle.std.specs.Prelude.{◌≡◌, List, ◌∷◌, Some, IfOk, IfErr, IfSome, IfNone};
-ghost use Rattle.fvn_lex.specs.Cut.{Piece, pieces_of};
+ghost use Rattle.std.specs.Prelude.{◌≡◌, List, ◌∷◌, IfOk, IfErr, IfSome, IfNone};
+ghost use Rattle.fvn_lex.specs.Cut.{Piece};
+ghost use Rattle.fvn_lex.specs.Parts.{HasPieces};
 ghost use Rattle.fvn_syntax.specs.Pieces.{comma};
 ghost use Rattle.fvn_weights_reading.specs.inner.Split.{numbers_in, AreNumbersSplit, IsEntrySplit, BeginsWithNoEntry, IsEntriesRow, IsNoEntriesRow};
 ghost use Rattle.fvn_weights_reading.specs.inner.Steps.{IsLexFault};
@@ -15,7 +16,7 @@ use std::alloc::Global;
 
 /// The tokens of a text.
 pub(crate) fn cut_text<'a>(alloc: Global, bytes: &'a [u8]) -> Result<Vec<Piece<'a>>, ProblemFault>
-    ensures ok { IfOk result (λ list. pieces_of bytes.now ≡ Some list.items) }
+    ensures ok { IfOk result (λ list. HasPieces bytes.now list.items) }
     ensures err { IfErr result (IsLexFault bytes.now) }
 {
     match cut(alloc, bytes) {

@@ -5,6 +5,7 @@ use fvn_tool::Status;
 use std::alloc::Global;
 use std::process::Abort;
 use std::string::String;
+use std::thread::Threads;
 
 /// Modules, weights of their operators, and what is said of these.
 const ROWS: &str = "\
@@ -37,8 +38,8 @@ fn status_of(said: &str) -> Status {
 }
 
 // What is said of weights in a module.
-fn tell(
-    rt: &impl Abort,
+fn tell<R: Abort + Threads + Sync>(
+    rt: &R,
     alloc: Global,
     module: &str,
     weights: &str,
@@ -57,7 +58,7 @@ fn tell(
 }
 
 // A row of a module, weights, and what is said of them.
-fn told(rt: &impl Abort, alloc: Global, row: &str) -> Result<(), NoMemory> {
+fn told<R: Abort + Threads + Sync>(rt: &R, alloc: Global, row: &str) -> Result<(), NoMemory> {
     let (asked, said) = row.split_once(" ==> ").unwrap_or((row, "no row"));
     let (module, weights) = asked.split_once(" <= ").unwrap_or((asked, "no row"));
     tell(rt, alloc, module, weights, said)

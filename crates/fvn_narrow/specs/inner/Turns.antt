@@ -28,8 +28,8 @@ use Rattle.fvn_exploring.specs.declared.ends.ExpandEnd.{ExpandEnd}
 use Rattle.fvn_exploring.specs.declared.ends.ExpandEnd.TheVariants.{Whole, Steps, Size, Basis, Unifiers}
 use Rattle.fvn_exploring.specs.declared.ends.Expansion.{Expansion}
 use Rattle.fvn_lifting.specs.Lifted.{LiftsAt}
-use Rattle.fvn_narrow_children.specs.Paths.{LeadsTo}
-use Rattle.fvn_narrow_children.specs.Putting.{CanPut, PutAs}
+use Rattle.fvn_places.specs.Paths.{LeadsTo}
+use Rattle.fvn_places.specs.Putting.{CanPut, PutAs}
 use Rattle.fvn_narrow_children.specs.Starts.{IsNumberedUpTo}
 use Rattle.fvn_narrow_children.specs.Values.{AreIrreducible}
 use Rattle.fvn_narrow_children.specs.Growing.{AreGrown}

@@ -1,5 +1,11 @@
 //! What is answered for the equations of a module, as texts.
+ghost use Rattle.std.specs.Prelude.{◌≤◌, All};
+ghost use Rattle.fvn_base.specs.declared.limits.TheConstants.{TERM_SYMBOLS};
+ghost use Rattle.fvn_theory.specs.Equations.{IsReadableEquation};
+ghost use Rattle.fvn_rewrite.specs.Usable.{AreUsable};
+
 use fvn_axunify::{AxiomUnify, SolveLimits};
+use fvn_base::limits::TERM_SYMBOLS;
 use fvn_cohere::{first_left_fault, harmless_equations_are_admissible};
 use fvn_critical::{CriticalFault, critical_fault};
 use fvn_flat::Flat;
@@ -110,7 +116,12 @@ fn push_tested(
     sig: &Signature,
     rules: &Rules,
     stops: Stops,
-) -> Result<(), NoMemory> {
+) -> Result<(), NoMemory>
+    requires rules { AreUsable sig.now rules.now }
+    requires readable { All (IsReadableEquation sig.now) rules.now.equations }
+    requires unifiers { 1 ≤ stops.unifiers }
+    requires size { stops.size ≤ TERM_SYMBOLS }
+{
     let limits = SolveLimits {
         unifiers: stops.unifiers,
         size: stops.size,
@@ -126,6 +137,26 @@ fn push_tested(
     }
 }
 
+// The same, where the limits are such as a solver takes.
+fn push_within(
+    out: &mut String,
+    alloc: Global,
+    sig: &Signature,
+    rules: &Rules,
+    stops: Stops,
+) -> Result<(), NoMemory>
+    requires rules { AreUsable sig.now rules.now }
+    requires readable { All (IsReadableEquation sig.now) rules.now.equations }
+{
+    if stops.unifiers < 1 {
+        return say(out, "no unifiers");
+    }
+    if stops.size > TERM_SYMBOLS {
+        return say(out, "too many symbols");
+    }
+    push_tested(out, alloc, sig, rules, stops)
+}
+
 // The same for the rules of equations none of whose left sides is at fault.
 fn push_answer_for(
     out: &mut String,
@@ -133,13 +164,15 @@ fn push_answer_for(
     sig: &Signature,
     equations: &[Equation],
     stops: Stops,
-) -> Result<(), NoMemory> {
+) -> Result<(), NoMemory>
+    requires { All (IsReadableEquation sig.now) equations.now }
+{
     harmless_equations_are_admissible();
     match first_left_fault(alloc, sig, equations)? {
         Some(_) => say(out, "left side at fault"),
         None => {
             let rules = extend(alloc, sig, equations)?;
-            push_tested(out, alloc, sig, &rules, stops)
+            push_within(out, alloc, sig, &rules, stops)
         }
     }
 }

@@ -1,13 +1,20 @@
 //! Children of variants by the rules of modules.
+ghost use Rattle.std.specs.Prelude.{All, IfOk};
+ghost use Rattle.fvn_base.specs.declared.limits.TheConstants.{EXPANDED_FRESH};
+ghost use Rattle.fvn_flat.specs.Fits.{Fits};
+ghost use Rattle.fvn_theory.specs.Equations.{IsReadableEquation};
+ghost use Rattle.fvn_rewrite.specs.Usable.{AreUsable};
+ghost use Rattle.fvn_exploring.specs.Expansions.{IsExpandable};
+ghost use Rattle.fvn_tests_narrowing.specs.Starts.{MayStart, IsAlone};
 
 use crate::tests::handing::Handing;
 use crate::tests::texts::module_of;
 use fvn_axunify::{AxiomUnify, SolveLimits};
-use fvn_base::Seq;
+use fvn_base::{Seq, limits};
 use fvn_cohere::{first_left_fault, harmless_equations_are_admissible};
 use fvn_cover::Variant;
 use fvn_exploring::{ExpandEnd, Expander, Expansion};
-use fvn_flat::{Flat, Subst, flatten};
+use fvn_flat::{Flat, Normal, Subst, flatten};
 use fvn_module::{Module, read_module};
 use fvn_narrow::Narrower;
 use fvn_rewrite_rules::{Rules, extend};
@@ -22,8 +29,8 @@ use std::string::String;
 const MODULES: &str =
     "PLUS sort Nat . op 0 : -> Nat . op s : Nat -> Nat . op + : Nat Nat -> Nat . op term : Nat Nat Nat -> Nat . vars X Y Z : Nat . eq +(0,Y) = Y [variant] . eq +(s(X),Y) = s(+(X,Y)) [variant] .
 ENC sorts Msg Key . op a : -> Msg . op k : -> Key . ops enc dec : Msg Key -> Msg . op term : Msg Key Msg -> Msg . vars X Z : Msg . var Y : Key . eq dec(enc(X,Y),Y) = X [variant] .
-XOR sort S . op mt : -> S . ops c d : -> S . op * : S S -> S [assoc comm] . op term : S S S -> S . vars X Y Z : S . eq *(X,X) = mt [variant] . eq *(X,X,Z) = Z [variant] . eq *(X,mt) = X [variant] .
-XORN sort S . op mt : -> S . ops c d : -> S . op * : S S -> S [assoc comm] . op term : S S S -> S . vars X Y Z : S . eq *(X,X) = mt [variant] . eq *(X,mt) = X [variant] .
+XOR sort S . op mt : -> S . ops c d : -> S . op * : S S -> S [assoc comm] . op term : S S S -> S . vars X Y Z : [S] . eq *(X,X) = mt [variant] . eq *(X,X,Z) = Z [variant] . eq *(X,mt) = X [variant] .
+XORN sort S . op mt : -> S . ops c d : -> S . op * : S S -> S [assoc comm] . op term : S S S -> S . vars X Y Z : [S] . eq *(X,X) = mt [variant] . eq *(X,mt) = X [variant] .
 PAIR sort S . op pair : S S -> S . ops fst snd : S -> S . op term : S S S -> S . vars X Y Z : S . eq fst(pair(X,Y)) = X [variant] . eq snd(pair(X,Y)) = Y [variant] .
 STEP sort S . op 0 : -> S . ops s p : S -> S . op term : S S S -> S . vars X Y Z : S . eq s(p(X)) = X [variant] . eq p(s(X)) = X [variant] .
 BLIND sort S . ops sg bl ub ch : S S -> S . op term : S S S -> S . vars X Y Z : S . eq ub(sg(bl(X,Y),Z),Y) = sg(X,Z) [variant] . eq ub(bl(X,Y),Y) = X [variant] . eq ch(sg(X,Y),Y) = X [variant] .
@@ -67,7 +74,7 @@ LOOP 100 f(X) => 0 steps
 MEMBER 100 in(X,Y) => 1 whole
 XOR 100 *(X,Y) => 6 whole
 XOR 100 *(X,c) => 3 whole
-XOR 100 *(X,X) => 1 whole
+XOR 100 *(X,X) => 3 whole
 XOR 100 mt => 0 whole
 XORN 100 *(X,Y) => 6 whole";
 
@@ -82,9 +89,10 @@ STEP 5 s(p(s(p(0)))) => form f0";
 #[derive(Drop)]
 struct Row<'a> {
     name: &'a str,
-    unifiers: u32,
+    limit: u32,
     term: &'a str,
     want: &'a str,
+    rests: bool,
 }
 
 // What stands before the first of these marks, and what behind it.
@@ -92,15 +100,16 @@ fn cut<'a>(text: &'a str, mark: &str) -> (&'a str, &'a str) {
     text.split_once(mark).unwrap_or((text, ""))
 }
 
-fn row_of(text: &str) -> Row<'_> {
+fn row_of(text: &str, rests: bool) -> Row<'_> {
     let (name, behind) = cut(text, " ");
-    let (unifiers, rest) = cut(behind, " ");
+    let (limit, rest) = cut(behind, " ");
     let (term, want) = cut(rest, " => ");
     Row {
         name,
-        unifiers: unifiers.parse::<u32>().unwrap_or(1),
+        limit: limit.parse::<u32>().unwrap_or(1),
         term,
         want,
+        rests,
     }
 }
 
@@ -136,7 +145,9 @@ fn told(end: &ExpandEnd) -> &'static str {
 }
 
 // The term as a variant, each variable as it is.
-fn variant_of(alloc: Global, term: Flat) -> Result<Variant, NoMemory> {
+fn variant_of(alloc: Global, term: Flat) -> Result<Variant, NoMemory>
+    ensures { IfOk result (IsAlone term) }
+{
     let vars = term.with_variables(Vec::new(alloc))?;
     let mut terms = Vec::new(alloc);
     terms.push(term)?;
@@ -238,76 +249,144 @@ fn shown(alloc: Global, e: &Expansion, row: &Row<'_>) -> Result<String, NoMemory
     Ok(out)
 }
 
+// The word of the end of a search for a normal form.
+fn rest_word(normal: &Normal) -> &'static str {
+    match normal {
+        Normal::Form(_) => "form",
+        Normal::Steps(_, _) => "steps",
+        Normal::Size(_) => "size",
+    }
+}
+
+fn push_forms(out: &mut String, alloc: Global, normal: &Normal) -> Result<(), NoMemory> {
+    match normal {
+        Normal::Form(t) => {
+            out.push(' ')?;
+            push_flat(out, alloc, &[], t)
+        }
+        Normal::Steps(t, u) => {
+            out.push(' ')?;
+            push_flat(out, alloc, &[], t)?;
+            out.push(' ')?;
+            push_flat(out, alloc, &[], u)
+        }
+        Normal::Size(_) => Ok(()),
+    }
+}
+
+// What a search for a normal form ends with, and its forms.
+fn shown_rest(alloc: Global, normal: &Normal) -> Result<String, NoMemory> {
+    let mut out = String::new(alloc);
+    out.push_str(rest_word(normal))?;
+    push_forms(&mut out, alloc, normal)?;
+    Ok(out)
+}
+
+fn rested_by<E: Expander>(alloc: Global, expander: &E, term: &Flat) -> Result<String, NoMemory>
+    requires fits { Fits (E.setting expander.now).declarations term.now }
+{
+    let normal = expander.rest(alloc, term)?;
+    shown_rest(alloc, &normal)
+}
+
+fn children_by<E: Expander>(
+    alloc: Global,
+    expander: &E,
+    v: &Variant,
+    row: &Row<'_>,
+) -> Result<String, NoMemory>
+    requires variant { IsExpandable (E.setting expander.now) EXPANDED_FRESH v.now }
+{
+    let e = expander.expand(alloc, v, limits::EXPANDED_FRESH)?;
+    shown(alloc, &e, row)
+}
+
 // What the expander makes of a term, through one that hands every call on.
-fn expanded_by<E: Expander>(
+fn answered_by<E: Expander>(
     alloc: Global,
     expander: &E,
     term: Flat,
     row: &Row<'_>,
-) -> Result<String, NoMemory> {
-    let v = variant_of(alloc, term)?;
+) -> Result<String, NoMemory>
+    requires start { MayStart (E.setting expander.now) term }
+{
     let handing = Handing::new(expander);
-    let e = handing.expand(alloc, &v, 2000000000)?;
-    shown(alloc, &e, row)
+    if row.rests {
+        return rested_by(alloc, &handing, &term);
+    }
+    let v = variant_of(alloc, term)?;
+    children_by(alloc, &handing, &v, row)
 }
 
-// The children of the right side of the last equation, by the rules of all.
-fn expanded(
+// What comes of the right side of the last equation, by the rules of all.
+fn answered(
     alloc: Global,
     sig: &Signature,
     equations: &[Equation],
     rules: &Rules,
     row: &Row<'_>,
-) -> Result<String, NoMemory> {
+) -> Result<String, NoMemory>
+    requires readable { All (IsReadableEquation sig.now) equations.now }
+    requires rules { AreUsable sig.now rules.now }
+{
     let count = equations.len();
+    if count < 1 {
+        return Ok(String::new(alloc));
+    }
     let term = flatten(alloc, sig, &equations[count - 1].right)?;
     let limits = SolveLimits {
-        unifiers: row.unifiers,
+        unifiers: row.limit.max(1),
         size: 1000,
     };
     let solver = AxiomUnify::new(sig, limits);
     let bounds = Bounds {
-        steps: 1000,
+        steps: if row.rests {
+            u64::from(row.limit)
+        } else {
+            1000
+        },
         size: 1000,
     };
     let narrower = Narrower::new(alloc, sig, rules, &solver, bounds);
-    expanded_by(alloc, &narrower, term, row)
+    answered_by(alloc, &narrower, term, row)
 }
 
 // The same by the rules of equations none of whose left sides is at fault.
-fn expanded_in(
+fn answered_in(
     alloc: Global,
     sig: &Signature,
     equations: &[Equation],
     row: &Row<'_>,
-) -> Result<String, NoMemory> {
+) -> Result<String, NoMemory>
+    requires { All (IsReadableEquation sig.now) equations.now }
+{
     harmless_equations_are_admissible();
     match first_left_fault(alloc, sig, equations)? {
         Some(_) => Ok(String::new(alloc)),
         None => {
             let rules = extend(alloc, sig, equations)?;
-            expanded(alloc, sig, equations, &rules, row)
+            answered(alloc, sig, equations, &rules, row)
         }
     }
 }
 
-fn expanded_in_module(alloc: Global, declared: &Module, row: &Row<'_>) -> Result<String, NoMemory> {
+fn answered_in_module(alloc: Global, declared: &Module, row: &Row<'_>) -> Result<String, NoMemory> {
     declared.recall_readable();
-    expanded_in(alloc, declared.signature(), declared.equations(), row)
+    answered_in(alloc, declared.signature(), declared.equations(), row)
 }
 
-fn expanded_of(alloc: Global, bytes: &[u8], row: &Row<'_>) -> Result<String, NoMemory> {
+fn answered_of(alloc: Global, bytes: &[u8], row: &Row<'_>) -> Result<String, NoMemory> {
     match read_module(alloc, bytes) {
-        Ok(module) => expanded_in_module(alloc, &module, row),
+        Ok(module) => answered_in_module(alloc, &module, row),
         Err(_) => Ok(String::new(alloc)),
     }
 }
 
-fn assert_row(rt: &impl Abort, alloc: Global, line: &str) -> Result<(), NoMemory> {
-    let row = row_of(line);
+fn assert_row(rt: &impl Abort, alloc: Global, line: &str, rests: bool) -> Result<(), NoMemory> {
+    let row = row_of(line, rests);
     let statements = row_statements(alloc, &row)?;
     let text = module_of(alloc, statements.as_str())?;
-    let found = expanded_of(alloc, text.as_bytes(), &row)?;
+    let found = answered_of(alloc, text.as_bytes(), &row)?;
     assert_eq!(rt; found.as_str(), row.want, "at {line}");
     Ok(())
 }
@@ -315,7 +394,15 @@ fn assert_row(rt: &impl Abort, alloc: Global, line: &str) -> Result<(), NoMemory
 #[test]
 fn terms_have_these_children(rt: HostRuntime) -> Result<(), NoMemory> {
     for line in ROWS.lines() {
-        assert_row(&rt, rt.alloc(), line)?;
+        assert_row(&rt, rt.alloc(), line, false)?;
+    }
+    Ok(())
+}
+
+#[test]
+fn terms_have_these_normal_forms(rt: HostRuntime) -> Result<(), NoMemory> {
+    for line in RESTS.lines() {
+        assert_row(&rt, rt.alloc(), line, true)?;
     }
     Ok(())
 }

@@ -1,6 +1,6 @@
 -- What the steps of the reader answer.
-use Rattle.std.specs.Prelude.{◌≡◌, ◌⊎◌, Bool, true, false, if◌then◌else◌, is_some, List, [], ◌∷◌, length, slice_get, Some, Err}
-use Rattle.fvn_lex.specs.Cut.{lex}
+use Rattle.std.specs.Prelude.{◌≡◌, ◌⊎◌, Bool, true, false, if◌then◌else◌, is_some, List, [], ◌∷◌, length, slice_get, Some}
+use Rattle.fvn_lex.specs.Parts.{IsFirstFault}
 use Rattle.fvn_terms.specs.declared.plain.OpId.{OpId}
 use Rattle.fvn_terms.specs.declared.declarations.Declarations.{Declarations}
 use Rattle.fvn_signature.specs.Queries.{arity}
@@ -15,7 +15,7 @@ use Rattle.fvn_weights_reading.specs.Reading.{plain_weight, IsEntryFault, IsEntr
 
 -- the fault of a text without tokens
 abbrev pub IsLexFault : Text → ProblemFault → Type 0
-IsLexFault bytes (Lex fault) = lex bytes ≡ Err fault
+IsLexFault bytes (Lex fault) = IsFirstFault bytes fault
 IsLexFault bytes NoText = ⊥
 IsLexFault bytes UnknownName = ⊥
 IsLexFault bytes Arity = ⊥

@@ -16,4 +16,7 @@ returns c = record {
   weights = c.weights_are_determined.ensures;
   no_weights = c.refused_texts_weigh_nothing.ensures;
   weight_faults = c.weight_faults_are_determined.ensures;
+  terms = c.queries_are_determined.ensures;
+  no_term = c.refused_queries_ask_nothing.ensures;
+  term_faults = c.query_faults_are_determined.ensures;
 }

@@ -2,11 +2,7 @@
 use Rattle.std.proofs.Common.{◌+◌, sym, ap, ◌∙◌, subst, inr}
 use Rattle.fvn_cover.specs.Pruning.{IsPruned}
 use Rattle.fvn_fold.specs.inner.Running.{LevelLists, deep_of, AreKept, IsOverOrWhole}
-use Rattle.fvn_fold.proofs.Rounds.{next_flat}
 use Rattle.fvn_fold.proofs.exploring.next_turn.Goals as goal
-
-pub with_level-requires : goal.with_level-requires
-with_level-requires c = record { flat = next_flat c.args.sig.now c.args.run.kept.items c.args.level.next.items c.requires.kept }
 
 pub finish-requires : goal.finish-requires
 finish-requires c = subst (AreKept c.args.sig.now) (sym (ap (λ (l : LevelLists). l.kept) c.in_ok-more.ensures)) c.requires.kept

@@ -7,7 +7,7 @@ use Rattle.fvn_flat.specs.Bindings.{Bindings, BindsOnce, BindingsFit}
 use Rattle.fvn_flat.specs.Fits.{Fits}
 use Rattle.fvn_flat.specs.Solving.{problem_of, Binds, IsGiven, AreUnifiers, AreBindings, AreNumbered, AreApart, AreComplete, HasCause}
 use Rattle.fvn_rewrite.specs.Usable.{equations_by}
-use Rattle.fvn_narrow_children.specs.Clashes.{NeverMeet}
+use Rattle.fvn_places.specs.Clashes.{NeverMeet}
 use Rattle.fvn_narrow.specs.inner.Turns.{turn_of, AreGrownAt}
 use Rattle.fvn_narrow.proofs.Posed.{fit_here, may_be_given, found_none}
 use Rattle.fvn_narrow.proofs.RuleTurn.{IsAnswered}

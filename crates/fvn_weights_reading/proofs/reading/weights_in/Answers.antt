@@ -1,7 +1,7 @@
 -- What is read is what the text gives, and a fault is the first of the text.
-use Rattle.std.proofs.Common.{◌≡◌, true, false, [], Some, sym, ap, subst, ◌∙◌}
+use Rattle.std.proofs.Common.{◌≡◌, true, false, [], sym, ap, subst, ◌∙◌}
 use Rattle.std.proofs.lemmas.Result.{IfOk-weaker, IfErr-weaker, err_from_is_err_and}
-use Rattle.fvn_lex.specs.Cut.{pieces_of}
+use Rattle.fvn_lex.specs.Parts.{HasPieces}
 use Rattle.fvn_weights_reading.specs.Spelling.{IsWeightText}
 use Rattle.fvn_weights_reading.specs.Reading.{IsWeights, RefusesWeights}
 use Rattle.fvn_weights_reading.specs.inner.Split.{IsEntriesRow}
@@ -12,8 +12,8 @@ use Rattle.fvn_weights_reading.proofs.reading.weights_in.Goals.{After-as_slice-i
 
 -- what is known where the text has its form
 module _ (c : After-as_slice-in-Some) where
-  cut : pieces_of c.args.bytes.now ≡ Some c.as_slice.result.now
-  cut = c.in_ok-row.ensures.ok ∙ ap Some (sym c.as_slice.ensures.value)
+  cut : HasPieces c.args.bytes.now c.as_slice.result.now
+  cut = subst (HasPieces c.args.bytes.now) (sym c.as_slice.ensures.value) c.in_ok-row.ensures.ok
 
   split : IsEntriesRow c.as_slice.result.now c.in-Some.list.items
   split = rw c.in-Some.is at c.in_ok-split_entries.ensures.some
@@ -25,7 +25,7 @@ returns-in_err-row-clause-err c =
 
 pub returns-in-None-clause-err : goal.returns-in-None-clause-err
 returns-in-None-clause-err c =
-    no-form-fault c.args.signature.now c.args.names.now c.args.bytes.now c.as_slice.result.now (c.in_ok-row.ensures.ok ∙ ap Some (sym c.as_slice.ensures.value))
+    no-form-fault c.args.signature.now c.args.names.now c.args.bytes.now c.as_slice.result.now (subst (HasPieces c.args.bytes.now) (sym c.as_slice.ensures.value) c.in_ok-row.ensures.ok)
     (rw c.in-None.is at c.in_ok-split_entries.ensures.none)
 
 pub returns-then-not-once-clause-err : goal.returns-then-not-once-clause-err
