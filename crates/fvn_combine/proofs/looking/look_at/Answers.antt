@@ -20,6 +20,10 @@ read-requires-clause-few c =
     let m = c.task.invariant.small in
     omega (arith, n, m)
 
+pub heads_of_values-requires-clause-sums : goal.heads_of_values-requires-clause-sums
+heads_of_values-requires-clause-sums c =
+    c.tables_have_sums.ensures c.task.inside.sig.now c.task.invariant.good.fits (problem_of c.task.inside.problem.now) c.task.invariant.is_given.kinds c.task.inside.table c.task.invariant.well_made c.task.invariant.table_of
+
 pub infer-requires-clause-sums : goal.infer-requires-clause-sums
 infer-requires-clause-sums c =
     c.tables_have_sums.ensures c.task.inside.sig.now c.task.invariant.good.fits (problem_of c.task.inside.problem.now) c.task.invariant.is_given.kinds c.task.inside.table c.task.invariant.well_made c.task.invariant.table_of
