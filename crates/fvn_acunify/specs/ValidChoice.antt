@@ -27,7 +27,12 @@ pub record IsValid (constants : List ℕ) (may_be_zero : List Bool) (basis : Lis
 abbrev pub IsFull : List ℕ → List (List ℕ) → ℕ → Type 0
 IsFull constants basis b = (i : ℕ) → i < length basis → touched constants (slice_index_or basis i []) ≡ 0 → b / 2 ^ i % 2 ≡ 1
 
--- a valid choice; where full ones alone are asked for, a full one
-pub record IsListed (full : Bool) (constants : List ℕ) (may_be_zero : List Bool) (basis : List (List ℕ)) (b : ℕ) : Type 0 where
+-- the sum of the solutions chosen is at most 1 in each of these columns
+abbrev pub IsWithin : List ℕ → List (List ℕ) → ℕ → Type 0
+IsWithin at_most_one basis b = All (λ j. column_sum j (chosen b basis) ≤ 1) at_most_one
+
+-- a valid choice, with at most 1 in the columns where no more is asked for; where full ones alone are asked for, a full one
+pub record IsListed (full : Bool) (constants : List ℕ) (may_be_zero : List Bool) (at_most_one : List ℕ) (basis : List (List ℕ)) (b : ℕ) : Type 0 where
   pub valid : IsValid constants may_be_zero basis b
+  pub capped : IsWithin at_most_one basis b
   pub whole : full ≡ true → IsFull constants basis b

@@ -12,6 +12,7 @@ pub fn dead_place(
     full: bool,
     constants: &[usize],
     may_be_zero: &[bool],
+    at_most_one: &[usize],
     basis: &[Solution],
     number: u32,
     sums: &mut [u64],
@@ -21,13 +22,14 @@ pub fn dead_place(
     requires within { number < 2 ^ length basis.now }
 
     ensures place { IfSome result (λ place. place ≤ length basis.now) }
-    ensures dead { IfSome result (IsDead full constants.now may_be_zero.now basis.now number) }
+    ensures dead { IfSome result (IsDead (IsListed full constants.now may_be_zero.now
+        at_most_one.now (vectors_of basis.now)) number) }
     ensures listed { IfNone result (IsListed full constants.now may_be_zero.now
-        (vectors_of basis.now) number) }
+        at_most_one.now (vectors_of basis.now) number) }
 {
     sums.fill(0);
     let mut place = basis.len();
-    if !is_open(constants, may_be_zero, basis, sums) {
+    if !is_open(constants, may_be_zero, at_most_one, basis, sums) {
         return Some(place);
     }
     while place > 0 {
@@ -41,7 +43,7 @@ pub fn dead_place(
         } else if is_asked(full, constants, basis[place].parts.as_slice()) {
             return Some(place);
         }
-        if !is_open(constants, may_be_zero, &basis[..place], sums) {
+        if !is_open(constants, may_be_zero, at_most_one, &basis[..place], sums) {
             return Some(place);
         }
     }
@@ -79,12 +81,44 @@ fn add(sums: &mut [u64], parts: &[u32])
 }
 
 /// Whether every column can still get what is asked, with any of the lower solutions.
-fn is_open(constants: &[usize], may_be_zero: &[bool], lower: &[Solution], sums: &[u64]) -> bool
+fn is_open(
+    constants: &[usize],
+    may_be_zero: &[bool],
+    at_most_one: &[usize],
+    lower: &[Solution],
+    sums: &[u64],
+) -> bool
     requires bounded { IsBounded (length may_be_zero.now) constants.now lower.now }
     requires room { length sums.now ≡ length may_be_zero.now }
-    ensures { IsTrue result ↔ IsOpen constants.now may_be_zero.now lower.now sums.now }
+    ensures { IsTrue result ↔ IsOpen constants.now may_be_zero.now at_most_one.now lower.now sums.now }
 {
+    if !are_within(at_most_one, sums) {
+        return false;
+    }
     are_constants_open(constants, lower, sums) && are_columns_open(may_be_zero, lower, sums)
+}
+
+/// Whether each of these columns has at most 1.
+fn are_within(at_most_one: &[usize], sums: &[u64]) -> bool
+    ensures { IsTrue result ↔ All (λ j. slice_index sums.now j ≤ 1) at_most_one.now }
+{
+    for j in at_most_one {
+        let sum = sum_in(sums, *j);
+        if sum > 1 {
+            return false;
+        }
+    }
+    true
+}
+
+/// The sum in a column; where there is none, 0.
+fn sum_in(sums: &[u64], j: usize) -> u64
+    ensures { result ≡ slice_index sums.now j }
+{
+    if j < sums.len() {
+        return sums[j];
+    }
+    0
 }
 
 /// Whether every constant column has at most 1, and has or can get it.

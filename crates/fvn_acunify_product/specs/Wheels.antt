@@ -11,16 +11,17 @@ use Rattle.fvn_acunify_product.specs.Weight.{weight}
 pub record Wheel : Type 0 where
   pub constants : List ℕ
   pub may_be_zero : List Bool
+  pub at_most_one : List ℕ
   pub basis : List Solution
   pub full : Bool
 
 -- the wheel that a cursor over choices goes round, wherever the cursor stands
 abbrev pub wheel_of : Cursor → Wheel
-wheel_of c = record { constants = c.constants; may_be_zero = c.may_be_zero; basis = c.basis; full = c.full }
+wheel_of c = record { constants = c.constants; may_be_zero = c.may_be_zero; at_most_one = c.at_most_one; basis = c.basis; full = c.full }
 
--- the number is a choice among the wheel's solutions: a valid one, and on a wheel of full choices a full one
+-- the number is a choice among the wheel's solutions: a valid one, with at most 1 where the wheel asks for no more, and on a wheel of full choices a full one
 abbrev pub IsChoice : Wheel → ℕ → Type 0
-IsChoice w b = IsListed w.full w.constants w.may_be_zero (vectors_of w.basis) b
+IsChoice w b = IsListed w.full w.constants w.may_be_zero w.at_most_one (vectors_of w.basis) b
 
 -- wheels, and the greatest list of choices on them that is still to come, if any
 pub record Odometer : Type 0 where

@@ -17,6 +17,7 @@ module _ (d : Declarations) (t : NodeTable) (class : ℕ → ℕ) (tag : ℕ →
   pub record IsWheel (e : Sums) (basis : List Solution) (w : Wheel) : Type 0 where
     pub over : w.basis ≡ basis
     pub asked : AreAsked d t class tag e.operator e.columns w.constants w.may_be_zero
+    pub uncapped : w.at_most_one ≡ []
     pub full : (w.full ≡ true) ↔ IsNeutral d e.operator
 
   -- so does one wheel for each sum operator

@@ -63,6 +63,27 @@ fn full_choices_take_every_solution_without_a_constant(rt: HostRuntime) -> Resul
     assert_full(&rt, rt.alloc(), &[1, 3], 14)
 }
 
+/// The choices that have at most 1 in these columns.
+fn assert_within(
+    rt: &impl Abort,
+    alloc: Global,
+    at_most_one: &[usize],
+    want: &[u32],
+) -> Result<(), Fail> {
+    let mut choices = worked(rt, alloc, &[])?;
+    choices.list_within(Vec::from_slice(alloc, at_most_one)?);
+    assert_given(rt, &mut choices, want);
+    Ok(())
+}
+
+// The four solutions take a left and a right column each.
+#[test]
+fn choices_with_at_most_one_in_a_column(rt: HostRuntime) -> Result<(), Fail> {
+    assert_within(&rt, rt.alloc(), &[0], &[11, 9, 7, 6])?;
+    assert_within(&rt, rt.alloc(), &[0, 1, 2, 3], &[9, 6])?;
+    assert_within(&rt, rt.alloc(), &[4], &[15, 14, 13, 11, 9, 7, 6])
+}
+
 /// Whether the basis of the first row has too many solutions.
 fn has_too_many(alloc: Global, theory: &OneTheory) -> bool
     requires { IsOneTheory theory.now }
