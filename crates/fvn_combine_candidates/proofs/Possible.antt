@@ -144,7 +144,10 @@ module _ (d : Declarations) (t : NodeTable) (class : ℕ → ℕ) (r : Reading) 
           let op = op_here i e.0 e.1 in
           record {
             valid = ((at_wheel f op (here i e.0 e.1) w is).0 (h.0.acceptable f op)).0;
-            capped = subst (λ caps. IsWithin caps (vectors_of w.basis) (slice_index numbers i)) (sym (are_wheels.each i e.0 w e.1 is).uncapped) (All-nil (λ j. column_sum j (chosen (slice_index numbers i) (vectors_of w.basis)) ≤ 1));
+            bounded = subst (λ bounds. IsWithin bounds (vectors_of w.basis) (slice_index numbers i)) (sym (are_wheels.each i e.0 w e.1 is).bounds) record {
+              most = All-nil (λ j. column_sum j (chosen (slice_index numbers i) (vectors_of w.basis)) ≤ 1);
+              least = All-nil (λ j. 0 < column_sum j (chosen (slice_index numbers i) (vectors_of w.basis)));
+            };
             whole = whole_to f op (here i e.0 e.1) w is h.1;
           }),
       λ i e is. alias_from e.operator (here i e is) (h.0.acceptable e.operator (op_here i e is)).no_alias,

@@ -3,6 +3,7 @@ use Rattle.std.specs.Prelude.{◌≡◌, ℕ, ◌/◌, ◌^◌, ◌+◌, ◌<◌
 use Rattle.fvn_base.specs.declared.limits.TheConstants.{COMPONENT, MINIMAL_SOLUTIONS}
 use Rattle.fvn_lindio.specs.Systems.{vectors_of}
 use Rattle.fvn_lindio.specs.declared.system.Solution.{Solution}
+use Rattle.fvn_acunify.specs.declared.theory.ColumnBounds.{ColumnBounds}
 use Rattle.fvn_acunify.specs.ValidChoice.{column_sum}
 
 -- few solutions, of so many columns and with small components, and constants among these columns
@@ -24,8 +25,13 @@ CanBeFilled lower sums j = 0 < slice_index sums j + column_sum j (vectors_of low
 abbrev pub CanBeOne : List Solution → List ℕ → ℕ → Type 0
 CanBeOne lower sums c = (slice_index sums c ≤ 1) × CanBeFilled lower sums c
 
--- with these column sums and any of the lower solutions every column can still get what is asked
-pub record IsOpen (constants : List ℕ) (may_be_zero : List Bool) (at_most_one : List ℕ) (lower : List Solution) (sums : List ℕ) : Type 0 where
+-- with these column sums and any of the lower solutions the bounds can still be kept
+pub record AreBoundsOpen (bounds : ColumnBounds) (lower : List Solution) (sums : List ℕ) : Type 0 where
+  pub most : All (λ j. slice_index sums j ≤ 1) bounds.at_most_one
+  pub least : All (CanBeFilled lower sums) bounds.at_least_one
+
+-- and every column can still get what is asked
+pub record IsOpen (constants : List ℕ) (may_be_zero : List Bool) (bounds : ColumnBounds) (lower : List Solution) (sums : List ℕ) : Type 0 where
   pub filled : (j : ℕ) → slice_index_or may_be_zero j true ≡ false → CanBeFilled lower sums j
   pub once : All (CanBeOne lower sums) constants
-  pub capped : All (λ j. slice_index sums j ≤ 1) at_most_one
+  pub bounded : AreBoundsOpen bounds lower sums

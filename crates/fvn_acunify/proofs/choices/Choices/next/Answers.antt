@@ -9,7 +9,7 @@ use Rattle.fvn_acunify.proofs.choices.Choices.next.Goals as goal
 pub returns-in-None-clause-greatest : goal.returns-in-None-clause-greatest
 returns-in-None-clause-greatest c =
     let inv = c.loop-self.invariant in (
-      (omega (arith, inv.lower), IsListed-same inv.full (c.as_slice.ensures.value ∙ inv.constants) (c.as_slice-in-loop-self.ensures.value ∙ inv.may_be_zero) (c.as_slice-in-loop-self-2.ensures.value ∙ inv.at_most_one) (c.as_slice-in-loop-self-3.ensures ∙ inv.basis) _ c.in-None.ensures.listed),
+      (omega (arith, inv.lower), IsListed-same inv.full (c.as_slice.ensures.value ∙ inv.constants) (c.as_slice-in-loop-self.ensures.value ∙ inv.may_be_zero) inv.bounds (c.as_slice-in-loop-self-2.ensures ∙ inv.basis) _ c.in-None.ensures.listed),
       λ a pending. omega (arith, inv.left a pending),
     )
 
@@ -21,11 +21,11 @@ pub loop-self-preserved : goal.loop-self-preserved
 loop-self-preserved c =
     let inv = c.loop-self.invariant in
     let place = c.in-Some.place in
-    let small : place < 32 = omega (arith, c.in-Some.ensures.place, ap length c.as_slice-in-loop-self-3.ensures, inv.bounded.few) in
+    let small : place < 32 = omega (arith, c.in-Some.ensures.place, ap length c.as_slice-in-loop-self-2.ensures, inv.bounded.few) in
     record {
       constants = inv.constants;
       may_be_zero = inv.may_be_zero;
-      at_most_one = inv.at_most_one;
+      bounds = inv.bounds;
       basis = inv.basis;
       full = inv.full;
       bounded = inv.bounded;
@@ -34,7 +34,7 @@ loop-self-preserved c =
       lower = omega (arith, inv.lower);
       left = λ a pending. rw (one_shl place 32 small)
           (jump_skips_none _ _ _ _ _ _ place c.in-Some.ensures.dead a (omega (arith, inv.left a pending))
-          (IsListed-same (sym inv.full) (sym (c.as_slice.ensures.value ∙ inv.constants)) (sym (c.as_slice-in-loop-self.ensures.value ∙ inv.may_be_zero)) (sym (c.as_slice-in-loop-self-2.ensures.value ∙ inv.at_most_one)) (sym (c.as_slice-in-loop-self-3.ensures ∙ inv.basis)) a pending.1));
+          (IsListed-same (sym inv.full) (sym (c.as_slice.ensures.value ∙ inv.constants)) (sym (c.as_slice-in-loop-self.ensures.value ∙ inv.may_be_zero)) (sym inv.bounds) (sym (c.as_slice-in-loop-self-2.ensures ∙ inv.basis)) a pending.1));
     }
 
 pub returns-clause-exhausted : goal.returns-clause-exhausted
