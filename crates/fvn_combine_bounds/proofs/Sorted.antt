@@ -1,0 +1,81 @@
+-- The value of a class is that of each variable in it.
+use Rattle.std.proofs.Common.{◌≡◌, ℕ, ◌<◌, ◌≤◌, length, sym, ap, ◌∙◌, subst, arith, Some, Contains}
+use Rattle.std.specs.Prelude.{slice_get}
+use Rattle.std.proofs.lemmas.Option.{slice_get_within}
+use Rattle.fvn_terms.specs.declared.plain.Var.{Var as Variable}
+use Rattle.fvn_terms.specs.declared.plain.OpId.{OpId}
+use Rattle.fvn_terms.specs.declared.declarations.Declarations.{Declarations}
+use Rattle.fvn_terms.specs.Substitution.{Substitution, apply}
+use Rattle.fvn_terms.specs.Signature.{kind, HasKind, IsTerm}
+use Rattle.fvn_terms.specs.Term.{Term, var}
+use Rattle.fvn_terms.specs.Unifiers.{Problem}
+use Rattle.fvn_forms.specs.Flat.{FlatTerm}
+use Rattle.fvn_forms.specs.Canon.{parts, canon}
+use Rattle.fvn_forms.proofs.Eval.{canon_respects}
+use Rattle.fvn_combine_nodes.specs.Table.{NodeTable, term_at}
+use Rattle.fvn_combine_nodes.specs.States.{class_of}
+use Rattle.fvn_combine_nodes.specs.Unifiers.{value_at, kernel}
+use Rattle.fvn_combine_nodes.specs.Laws.{UnifiersPartition}
+use Rattle.fvn_combine_nodes.specs.declared.state.State.{State}
+use Rattle.fvn_combine_nodes.proofs.Admitting.{named_within}
+use Rattle.fvn_combine_nodes.proofs.Nodes.{term_at-variable}
+use Rattle.fvn_combine_nodes.proofs.NodesOf.{node_variable}
+use Rattle.fvn_combine_nodes.proofs.Subterms.{node_kinded}
+use Rattle.fvn_sort_bounds.specs.Laws.{NarrowSortsHaveOneSummand, NarrowSortsHaveNoSum, OtherSortsHaveSomeSummand}
+use Rattle.fvn_combine_bounds.specs.Narrow.{HasVariable, IsSortedAt}
+use Rattle.fvn_combine_bounds.specs.Laws.{TakenSolutionsStandForSummands, NarrowClassesHaveOneSummand, OtherClassesHaveSomeSummand, NarrowClassesAreTakenOnce, OtherClassesAreTaken, NarrowClassesHaveNoTag}
+
+module _ (law : UnifiersPartition) (d : Declarations) (problem : Problem) (t : NodeTable) (s : State) (u : Substitution) (at : IsSortedAt d problem t s u) (k : ℕ) (x : Variable) (has : HasVariable t (class_of s) k x) where
+  within : has.node < length t.nodes
+  within = slice_get_within t.nodes has.node (Var x) has.is
+
+  term_is : term_at t.nodes has.node ≡ var x
+  term_is = term_at-variable t.nodes has.node x has.is
+
+  value_is : value_at d u t.nodes k ≡ canon d (u x)
+  value_is =
+      let whole = at.closed.whole in
+      let l = within in
+      let here : has.node < length s.names = omega (arith, l, whole) in
+      let named = named_within s at.closed.naming has.node here in
+      let there : class_of s has.node < length t.nodes = omega (arith, named, whole) in
+      let partitions = law d at.good.fits problem at.is_problem t at.well_made at.table u at.unifies in
+      let equal = (partitions.exact has.node (class_of s has.node) l there).0 (at.admits.together has.node here) in
+      ap (value_at d u t.nodes) (sym has.of) ∙ sym (canon_respects d equal) ∙ ap (λ (v : Term). canon d (apply u v)) term_is
+
+  is_term : IsTerm d (u x)
+  is_term =
+      let known = subst (IsTerm d) term_is (node_kinded d at.good.fits problem at.is_problem t at.table has.node within) in
+      (kind d x.sort, at.unifies.0 x known.1.0)
+
+  has_sort : Contains (variables_of problem) x
+  has_sort = node_variable at.well_made at.table has.node x has.is
+
+pub narrow_one : UnifiersPartition → NarrowSortsHaveOneSummand → NarrowClassesHaveOneSummand
+narrow_one law sorts d problem t s u at f assoc k narrow =
+    let x = narrow.variable in
+    let few = sorts d at.good f assoc x.sort narrow.none (u x) (is_term law d problem t s u at k x narrow.has) (at.sorted x (has_sort law d problem t s u at k x narrow.has)) in
+    subst (λ v. length (parts d f v) ≤ 1) (sym (value_is law d problem t s u at k x narrow.has)) few
+
+pub others_some : UnifiersPartition → OtherSortsHaveSomeSummand → OtherClassesHaveSomeSummand
+others_some law sorts d problem t s u at f k other e =
+    let x = other.variable in
+    sorts d at.good f x.sort other.none (u x) (is_term law d problem t s u at k x other.has) (at.sorted x (has_sort law d problem t s u at k x other.has))
+    (ap (parts d f) (sym (value_is law d problem t s u at k x other.has)) ∙ e)
+
+pub narrow_once : TakenSolutionsStandForSummands → NarrowClassesHaveOneSummand → NarrowClassesAreTakenOnce
+narrow_once taken one d problem t s u at y c obeying f sum not_neutral k used narrow =
+    let few = one d problem t s u at f sum.associative k narrow in
+    let counted = (taken d t (class_of s) y c (value_at d u t.nodes) obeying).within f sum not_neutral k used in
+    omega (arith, few, counted)
+
+pub others_taken : TakenSolutionsStandForSummands → OtherClassesHaveSomeSummand → OtherClassesAreTaken
+others_taken taken some d problem t s u at y c obeying f sum k used other =
+    (taken d t (class_of s) y c (value_at d u t.nodes) obeying).some f sum k used (some d problem t s u at f k other)
+
+pub narrow_untagged : UnifiersPartition → NarrowSortsHaveNoSum → NarrowClassesHaveNoTag
+narrow_untagged law sorts d problem t s u at tag obey f k shared used narrow e =
+    let x = narrow.variable in
+    let sum = (obey k f shared used).0 e in
+    sorts d at.good f x.sort narrow.none (u x) (is_term law d problem t s u at k x narrow.has) (at.sorted x (has_sort law d problem t s u at k x narrow.has))
+    sum.0 (sym (value_is law d problem t s u at k x narrow.has) ∙ sum.1)

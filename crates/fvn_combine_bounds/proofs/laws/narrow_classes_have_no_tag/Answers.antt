@@ -1,0 +1,6 @@
+-- The law, by its lemma.
+use Rattle.fvn_combine_bounds.proofs.Sorted.{narrow_untagged}
+use Rattle.fvn_combine_bounds.proofs.laws.narrow_classes_have_no_tag.Goals as goal
+
+pub returns : goal.returns
+returns c = narrow_untagged c.unifiers_partition.ensures c.narrow_sorts_have_no_sum.ensures

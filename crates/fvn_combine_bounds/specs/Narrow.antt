@@ -1,0 +1,47 @@
+-- Classes whose values, by the sorts of their variables, have few summands, or some.
+use Rattle.std.specs.Prelude.{◌≡◌, ℕ, slice_get, Some, Contains}
+use Rattle.fvn_terms.specs.declared.plain.Var.{Var as Variable}
+use Rattle.fvn_terms.specs.declared.plain.OpId.{OpId}
+use Rattle.fvn_terms.specs.declared.declarations.Declarations.{Declarations}
+use Rattle.fvn_terms.specs.Substitution.{Substitution}
+use Rattle.fvn_terms.specs.Sorts.{HasSort}
+use Rattle.fvn_terms.specs.Unifiers.{Problem}
+use Rattle.fvn_forms.specs.Good.{IsGood}
+use Rattle.fvn_flat.specs.Problems.{IsProblem, variables_of}
+use Rattle.fvn_flat.specs.SolvedLists.{IsKindUnifier}
+use Rattle.fvn_combine_nodes.specs.Table.{NodeTable, IsWellMade, IsTableOf}
+use Rattle.fvn_combine_nodes.specs.States.{Admits, IsClosed}
+use Rattle.fvn_combine_nodes.specs.Unifiers.{kernel}
+use Rattle.fvn_combine_nodes.specs.declared.state.State.{State}
+use Rattle.fvn_combine_nodes.specs.declared.table.Node.TheVariants.{Var}
+use Rattle.fvn_sort_bounds.specs.Admitting.{AdmitsSum, AdmitsIdentity}
+
+-- a node of class k is this variable
+pub record HasVariable (t : NodeTable) (class : ℕ → ℕ) (k : ℕ) (x : Variable) : Type 0 where
+  pub node : ℕ
+  pub is : slice_get t.nodes node ≡ Some (Var x)
+  pub of : class node ≡ k
+
+module _ (d : Declarations) (t : NodeTable) (class : ℕ → ℕ) (f : OpId) where
+  -- a variable of class k has a sort that admits no sum by f
+  pub record IsNarrow (k : ℕ) : Type 0 where
+    pub variable : Variable
+    pub has : HasVariable t class k variable
+    pub none : AdmitsSum d f variable.sort → ⊥
+
+  -- a variable of class k has a sort that does not admit the identity of f
+  pub record IsNeverIdentity (k : ℕ) : Type 0 where
+    pub variable : Variable
+    pub has : HasVariable t class k variable
+    pub none : AdmitsIdentity d f variable.sort → ⊥
+
+-- a unifier on kinds that gives the problem's variables terms of their sorts, and a closed state that admits its partition
+pub record IsSortedAt (d : Declarations) (problem : Problem) (t : NodeTable) (s : State) (u : Substitution) : Type 0 where
+  pub good : IsGood d
+  pub is_problem : IsProblem d problem
+  pub well_made : IsWellMade t
+  pub table : IsTableOf d problem t
+  pub closed : IsClosed d t s
+  pub unifies : IsKindUnifier d problem u
+  pub sorted : (x : Variable) → Contains (variables_of problem) x → HasSort d (u x) x.sort
+  pub admits : Admits s (kernel d u t.nodes)

@@ -1,0 +1,65 @@
+//! Laws of sorts and choices, each the contract of a function that does nothing.
+ghost use Rattle.fvn_combine_bounds.specs.Laws.{
+  TakenSolutionsStandForSummands,
+  NarrowClassesHaveOneSummand,
+  OtherClassesHaveSomeSummand,
+  NarrowClassesAreTakenOnce,
+  OtherClassesAreTaken,
+  NarrowClassesHaveNoTag,
+  NeutralOperatorsAdmitSums,
+};
+
+use fvn_combine_nodes::unifiers_partition;
+use fvn_sort_bounds::{
+    narrow_sorts_have_no_sum, narrow_sorts_have_one_summand, other_sorts_have_some_summand,
+};
+
+/// Solutions that an obeyed choice takes stand for summands: for one each, and all summands are stood for.
+pub fn taken_solutions_stand_for_summands()
+    ensures { TakenSolutionsStandForSummands }
+{}
+
+/// The value of a narrow class has at most one summand.
+pub fn narrow_classes_have_one_summand()
+    ensures { NarrowClassesHaveOneSummand }
+{
+    unifiers_partition();
+    narrow_sorts_have_one_summand();
+}
+
+/// The value of a class that is never the identity has some summand.
+pub fn other_classes_have_some_summand()
+    ensures { OtherClassesHaveSomeSummand }
+{
+    unifiers_partition();
+    other_sorts_have_some_summand();
+}
+
+/// An obeyed choice takes solutions with a narrow class once at most.
+pub fn narrow_classes_are_taken_once()
+    ensures { NarrowClassesAreTakenOnce }
+{
+    taken_solutions_stand_for_summands();
+    narrow_classes_have_one_summand();
+}
+
+/// An obeyed choice takes some solution with a class that is never the identity.
+pub fn other_classes_are_taken()
+    ensures { OtherClassesAreTaken }
+{
+    taken_solutions_stand_for_summands();
+    other_classes_have_some_summand();
+}
+
+/// No operator under which it is narrow is the tag of a class.
+pub fn narrow_classes_have_no_tag()
+    ensures { NarrowClassesHaveNoTag }
+{
+    unifiers_partition();
+    narrow_sorts_have_no_sum();
+}
+
+/// An operator whose identity leaves sorts alone admits sums of each sort of its kind.
+pub fn neutral_operators_admit_sums()
+    ensures { NeutralOperatorsAdmitSums }
+{}

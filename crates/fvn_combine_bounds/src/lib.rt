@@ -1,0 +1,10 @@
+//! What sorts say of the solutions that a choice takes: bounds that no well-sorted unifier passes.
+#![tactic(auto)]
+
+mod laws;
+
+pub use laws::{
+    narrow_classes_are_taken_once, narrow_classes_have_no_tag, narrow_classes_have_one_summand,
+    neutral_operators_admit_sums, other_classes_are_taken, other_classes_have_some_summand,
+    taken_solutions_stand_for_summands,
+};
