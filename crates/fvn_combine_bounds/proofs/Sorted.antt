@@ -23,7 +23,7 @@ use Rattle.fvn_combine_nodes.proofs.NodesOf.{node_variable}
 use Rattle.fvn_combine_nodes.proofs.Subterms.{node_kinded}
 use Rattle.fvn_sort_bounds.specs.Laws.{NarrowSortsHaveOneSummand, NarrowSortsHaveNoSum, OtherSortsHaveSomeSummand}
 use Rattle.fvn_combine_bounds.specs.Narrow.{HasVariable, IsSortedAt}
-use Rattle.fvn_combine_bounds.specs.Laws.{TakenSolutionsStandForSummands, NarrowClassesHaveOneSummand, OtherClassesHaveSomeSummand, NarrowClassesAreTakenOnce, OtherClassesAreTaken, NarrowClassesHaveNoTag}
+use Rattle.fvn_combine_bounds.specs.Laws.{TakenSolutionsStandForSummands, NarrowClassesHaveOneSummand, OtherClassesHaveSomeSummand, ObeyedChoicesKeepBounds, NarrowClassesHaveNoTag}
 
 module _ (law : UnifiersPartition) (d : Declarations) (problem : Problem) (t : NodeTable) (s : State) (u : Substitution) (at : IsSortedAt d problem t s u) (k : ℕ) (x : Variable) (has : HasVariable t (class_of s) k x) where
   within : has.node < length t.nodes
@@ -63,15 +63,16 @@ others_some law sorts d problem t s u at f k other e =
     sorts d at.good f x.sort other.none (u x) (is_term law d problem t s u at k x other.has) (at.sorted x (has_sort law d problem t s u at k x other.has))
     (ap (parts d f) (sym (value_is law d problem t s u at k x other.has)) ∙ e)
 
-pub narrow_once : TakenSolutionsStandForSummands → NarrowClassesHaveOneSummand → NarrowClassesAreTakenOnce
-narrow_once taken one d problem t s u at y c obeying f sum not_neutral k used narrow =
-    let few = one d problem t s u at f sum.associative k narrow in
-    let counted = (taken d t (class_of s) y c (value_at d u t.nodes) obeying).within f sum not_neutral k used in
-    omega (arith, few, counted)
-
-pub others_taken : TakenSolutionsStandForSummands → OtherClassesHaveSomeSummand → OtherClassesAreTaken
-others_taken taken some d problem t s u at y c obeying f sum k used other =
-    (taken d t (class_of s) y c (value_at d u t.nodes) obeying).some f sum k used (some d problem t s u at f k other)
+pub bounds_kept : TakenSolutionsStandForSummands → NarrowClassesHaveOneSummand → OtherClassesHaveSomeSummand → ObeyedChoicesKeepBounds
+bounds_kept taken one some d problem t s u at y c obeying =
+    let summands = taken d t (class_of s) y c (value_at d u t.nodes) obeying in
+    record {
+      once = λ f sum not_neutral k used narrow.
+          let few = one d problem t s u at f sum.associative k narrow in
+          let counted = summands.within f sum not_neutral k used in
+          omega (arith, few, counted);
+      some = λ f sum k used other. summands.some f sum k used (some d problem t s u at f k other);
+    }
 
 pub narrow_untagged : UnifiersPartition → NarrowSortsHaveNoSum → NarrowClassesHaveNoTag
 narrow_untagged law sorts d problem t s u at tag obey f k shared used narrow e =

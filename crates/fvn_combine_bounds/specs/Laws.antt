@@ -20,7 +20,7 @@ use Rattle.fvn_combine_complete.specs.Neutral.{IsNeutral}
 use Rattle.fvn_combine_complete.specs.Obeyed.{AreObeying}
 use Rattle.fvn_combine_complete.specs.Obeying.{ObeyTags}
 use Rattle.fvn_sort_bounds.specs.Admitting.{AdmitsSum}
-use Rattle.fvn_combine_bounds.specs.Narrow.{IsNarrow, IsNeverIdentity, IsSortedAt}
+use Rattle.fvn_combine_bounds.specs.Narrow.{IsNarrow, IsNeverIdentity, IsSortedAt, KeepsBounds}
 
 -- a choice that values obey takes a class no more often than its value has summands, where the operator is not neutral; and it
 -- takes the class where its value has some summand
@@ -46,21 +46,11 @@ OtherClassesHaveSomeSummand =
     (d : Declarations) (problem : Problem) (t : NodeTable) (s : State) (u : Substitution) → IsSortedAt d problem t s u
     → (f : OpId) (k : ℕ) → IsNeverIdentity d t (class_of s) f k → parts d f (value_at d u t.nodes k) ≢ []
 
--- a choice that its values obey takes a narrow class once at most, where the operator is not neutral
-abbrev pub NarrowClassesAreTakenOnce : Type 0
-NarrowClassesAreTakenOnce =
+-- a choice that its values obey keeps to what sorts ask
+abbrev pub ObeyedChoicesKeepBounds : Type 0
+ObeyedChoicesKeepBounds =
     (d : Declarations) (problem : Problem) (t : NodeTable) (s : State) (u : Substitution) → IsSortedAt d problem t s u
-    → (y : Systems) (c : Choice) → AreObeying d t (class_of s) y c (value_at d u t.nodes)
-    → (f : OpId) → IsSumOperator d t f → (IsNeutral d f → ⊥) → (k : ℕ) → Uses d t (class_of s) f k
-    → IsNarrow d t (class_of s) f k → member_count y c f k ≤ 1
-
--- and it takes a class that is never the identity
-abbrev pub OtherClassesAreTaken : Type 0
-OtherClassesAreTaken =
-    (d : Declarations) (problem : Problem) (t : NodeTable) (s : State) (u : Substitution) → IsSortedAt d problem t s u
-    → (y : Systems) (c : Choice) → AreObeying d t (class_of s) y c (value_at d u t.nodes)
-    → (f : OpId) → IsSumOperator d t f → (k : ℕ) → Uses d t (class_of s) f k
-    → IsNeverIdentity d t (class_of s) f k → 0 < member_count y c f k
+    → (y : Systems) (c : Choice) → AreObeying d t (class_of s) y c (value_at d u t.nodes) → KeepsBounds d t (class_of s) y c
 
 -- no operator under which a class is narrow is its tag
 abbrev pub NarrowClassesHaveNoTag : Type 0

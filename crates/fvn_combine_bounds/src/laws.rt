@@ -3,8 +3,7 @@ ghost use Rattle.fvn_combine_bounds.specs.Laws.{
   TakenSolutionsStandForSummands,
   NarrowClassesHaveOneSummand,
   OtherClassesHaveSomeSummand,
-  NarrowClassesAreTakenOnce,
-  OtherClassesAreTaken,
+  ObeyedChoicesKeepBounds,
   NarrowClassesHaveNoTag,
   NeutralOperatorsAdmitSums,
 };
@@ -35,19 +34,12 @@ pub fn other_classes_have_some_summand()
     other_sorts_have_some_summand();
 }
 
-/// An obeyed choice takes solutions with a narrow class once at most.
-pub fn narrow_classes_are_taken_once()
-    ensures { NarrowClassesAreTakenOnce }
+/// A choice that values obey keeps to what sorts ask.
+pub fn obeyed_choices_keep_bounds()
+    ensures { ObeyedChoicesKeepBounds }
 {
     taken_solutions_stand_for_summands();
     narrow_classes_have_one_summand();
-}
-
-/// An obeyed choice takes some solution with a class that is never the identity.
-pub fn other_classes_are_taken()
-    ensures { OtherClassesAreTaken }
-{
-    taken_solutions_stand_for_summands();
     other_classes_have_some_summand();
 }
 

@@ -6,7 +6,6 @@ mod laws;
 
 pub use bounding::bounds_of;
 pub use laws::{
-    narrow_classes_are_taken_once, narrow_classes_have_no_tag, narrow_classes_have_one_summand,
-    neutral_operators_admit_sums, other_classes_are_taken, other_classes_have_some_summand,
-    taken_solutions_stand_for_summands,
+    narrow_classes_have_no_tag, narrow_classes_have_one_summand, neutral_operators_admit_sums,
+    obeyed_choices_keep_bounds, other_classes_have_some_summand, taken_solutions_stand_for_summands,
 };
