@@ -4,9 +4,9 @@
     python3 docs/write.py           writes all that is listed below
     python3 docs/write.py --check   fails where what is written differs from the sources, where a crate cites a definition of
                                     another's specs/inner/, where an engine stands on a reader of texts, or where README says
-                                    nothing of a field of the report; and counts on standard error the definitions under
-                                    the report that mirror code
-    python3 docs/write.py --lint    prints what is missing: comments, first lines, uses, pages of crates, and laws that stand elsewhere
+                                    nothing of a field of the report
+    python3 docs/write.py --lint    prints what is missing: comments, first lines, uses, pages of crates, and laws that stand elsewhere;
+                                    and counts the definitions under the report that mirror code
 
 | written | from |
 |---|---|
@@ -946,6 +946,9 @@ def main(words):
         for line in missing:
             print(line)
         print(len(missing), "warnings")
+        _, found, _, leaning = under_report()
+        mirrors = sum(k[1].startswith("specs.inner") for k in found)
+        print("under the report", mirrors, "definitions mirror code, which", len(leaning), "others cite")
         return 0
     if words not in ([], ["--check"]):
         print(__doc__)
@@ -968,10 +971,6 @@ def main(words):
         for line in find():
             print(line)
             status = 1
-    if words:
-        _, found, _, leaning = under_report()
-        mirrors = sum(k[1].startswith("specs.inner") for k in found)
-        print("under the report", mirrors, "definitions mirror code, which", len(leaning), "others cite", file=sys.stderr)
     return status
 
 

@@ -178,7 +178,7 @@ def build_trial():
     with locked("trial"):
         if is_settled():
             return
-        say("no program is built for the present sources; one is built without proof first, which takes about a minute")
+        say("no program is built for the present sources; one is built without proof first, which takes a minute or two")
         for _ in range(2):
             with tempfile.TemporaryDirectory(prefix="fvn-trial-") as room:
                 since = time.time_ns()

@@ -12,7 +12,7 @@ mutual
   pub data IsReplaced (u v : FlatTerm) : FlatTerm → FlatTerm → Type 0 where
     here : IsReplaced u v u v
     inside : {f : OpId} {joined : Bool} {ts us : FlatTerms}
-      → IsReplacedAmong u v ts us → IsReplaced u v (fapp f joined ts) (fapp f joined us)
+        → IsReplacedAmong u v ts us → IsReplaced u v (fapp f joined ts) (fapp f joined us)
 
   -- the same at one place of a list
   pub data IsReplacedAmong (u v : FlatTerm) : FlatTerms → FlatTerms → Type 0 where
@@ -27,9 +27,9 @@ IsAtPlace u t = IsReplaced u u t t
 pub data IsDivided : (all taken others : List FlatTerm) → Type 0 where
   divided : IsDivided [] [] []
   taking : {t : FlatTerm} {all taken others : List FlatTerm}
-    → IsDivided all taken others → IsDivided (t ∷ all) (t ∷ taken) others
+      → IsDivided all taken others → IsDivided (t ∷ all) (t ∷ taken) others
   leaving : {t : FlatTerm} {all taken others : List FlatTerm}
-    → IsDivided all taken others → IsDivided (t ∷ all) taken (t ∷ others)
+      → IsDivided all taken others → IsDivided (t ∷ all) taken (t ∷ others)
 
 -- what stands beside a part of a form: nothing, or the other summands of a sum
 abbrev pub Beside : Type 0

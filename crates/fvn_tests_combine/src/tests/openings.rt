@@ -13,7 +13,7 @@ use std::alloc::Global;
 // A term is written with each operator after its arguments, sums nested to the right. First comes how many
 // minimal solutions each sum operator has; then each shared class, as the number of its node, with the
 // operators that use it; then for each list of tags how many choices there are, and how many of these leave
-// no alias. `bench/openings.py` prints these lines from the problems, by the definitions alone.
+// no alias. `oracle/openings.py` prints these lines from the problems, by the definitions alone.
 const OPENED: &str = "A0 A1 k = A2 A3 k => 4 | | 77
 A0 A1 l = A2 A3 l => 4 | | 11
 A0 f k = A1 g k => 4 | | 22
@@ -31,7 +31,7 @@ A0 A0 k A0 f l i = A1 => 1 2 | 0kl | l11 k11 .11
 A0 A1 k = A2; A0 A1 l A3 A3 l i = A4 => 2 3 | 0kl 1kl | ll11 lk11 l.11 kl11 kk11 k.11 .l11 .k11 ..11";
 
 // The same, where a variable B is of a sort of elements, and no identity leaves elements alone: all valid choices are
-// on the wheels. `bench/openings.py elements` prints these lines.
+// on the wheels. `oracle/openings.py elements` prints these lines.
 const OPENED_WITH_ELEMENTS: &str = "A0 A1 l = A2 A3 l => 4 | | @@
 B0 A1 l = B2 A3 l => 4 | | @@
 B0 f l = B1 A2 l => 4 | | 88

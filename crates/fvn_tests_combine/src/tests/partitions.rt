@@ -14,7 +14,7 @@ use std::alloc::Global;
 // A term is written with each operator after its arguments, sums nested to the right. A table has its nodes,
 // each an operator with the numbers of its arguments; then the nodes of both sides of each pair; then the
 // subterms in the order in which they begin; then operators with the node of their identity. A partition is
-// the number of the first node of each node's class. `bench/partitions.py` prints these lines from the
+// the number of the first node of each node's class. `oracle/partitions.py` prints these lines from the
 // problems, by the definitions alone.
 const PARTITIONS: &str = "A0 = A0 => A0 | 0=0 | 0 | => 0
 A0 = A1 => A0 A1 | 0=1 | 0 1 | => 00

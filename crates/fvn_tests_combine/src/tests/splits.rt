@@ -11,7 +11,7 @@ use std::alloc::Global;
 //
 // A term is written with each operator after its arguments, sums nested to the right. A split has the number of
 // each part's class, the head of each part that has one, and a cross or a dash for each pair.
-// `bench/splits.py` prints these lines from the problems, by the definitions alone.
+// `oracle/splits.py` prints these lines from the problems, by the definitions alone.
 const SPLITS: &str = "A0 = A0 => 0 | 0 |  |  => 0:F:
 A0 = A1 => 01 | 01 |  |  => 00:FF:
 f = f =>  |  |  |  => ::

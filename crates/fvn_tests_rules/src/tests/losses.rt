@@ -16,7 +16,7 @@ use std::string::String;
 // Each line has the statements of a module. Then comes for each equation v where its left side becomes a variable when
 // some, perhaps none, of its variables are identities, i where it becomes an identity and never a variable, and - else;
 // behind a bar the number of the first equation that loses a sort, or 0; and behind another the first left side that is
-// at fault. `bench/equations.py` prints these lines from the modules, by trying instances.
+// at fault. `oracle/equations.py` prints these lines from the modules, by trying instances.
 const EQUATIONS: &str =
     "sorts A B . subsort A < B . op f : B -> A . op g : B -> B . var X : B . eq f(X) = g(X) [variant] . eq g(X) = f(X) [variant] . eq g(f(X)) = X [variant] . eq f(g(X)) = f(X) [variant] . eq f(f(X)) = f(X) [variant] . => - - - - - | 1 | none 0
 sort S . op mt : -> S . op _*_ : S S -> S [assoc comm id: mt] . vars X Y : S . eq _*_(X,X) = mt [variant] . eq _*_(X,Y) = X [variant] . eq _*_(X,X,Y) = Y [variant] . eq mt = mt [variant] . => i v v i | 0 | identity 1
@@ -54,7 +54,7 @@ sorts A B . subsort A < B . op d : -> B . op + : B B -> B [assoc comm id: d] . =
 
 // Each line has statements, a sort, a number and a term, and the number of the equation, or 0, where one between the sum
 // of so many variables of the sort and the term loses a sort. There are up to 16,777,216 instances by sorts and identities:
-// a search that tried each would not end in time. For three variables `bench/equations.py` prints the same numbers.
+// a search that tried each would not end in time. For three variables `oracle/equations.py` prints the same numbers.
 const LOSSES: &str = "sorts A B . subsort A < B . op + : B B -> B [assoc comm] . => B 24 | A:B | 0
 sorts A B . subsort A < B . op + : B B -> B [assoc comm] . op + : A A -> A [ditto] . => B 24 | Axx:B | 0
 sorts A B . subsort A < B . op + : B B -> B [assoc comm] . op + : A A -> A [ditto] . => B 24 | +(A:B,Axx:B) | 0

@@ -10,7 +10,7 @@ use std::string::String;
 // Each line has the statements of a module. Then come its rules, each with the number of its equation; behind a bar comes
 // for each operator that heads a left side how many of these rules are needed. Operators, sorts and kinds stand as their
 // numbers, and variables as their places in their equation; `z` is the new variable of an extension.
-// `bench/rules.py` prints these lines from the modules, by trying instances.
+// `oracle/rules.py` prints these lines from the modules, by trying instances.
 const RULES: &str =
     "sorts Nat NatSet . subsort Nat < NatSet . op 0 : -> Nat . op s : Nat -> Nat . op mt : -> NatSet . op _*_ : NatSet NatSet -> NatSet [assoc comm] . vars X Y Z : [NatSet] . eq _*_(X,X) = mt [variant] . eq _*_(X,mt) = X [variant] . => 1 f3(x0,x0) = f2, 1 f3(x0,f3(x0,z0.2)) = f3(z0.2,f2), 2 f3(x0,f2) = x0, 2 f3(x0,f3(z0.2,f2)) = f3(x0,z0.2) | f3 3
 sorts Nat NatSet . subsort Nat < NatSet . op 0 : -> Nat . op s : Nat -> Nat . op mt : -> NatSet . op _*_ : NatSet NatSet -> NatSet [assoc comm] . vars X Y Z : [NatSet] . eq _*_(X,X) = mt [variant] . eq _*_(X,X,Z) = Z [variant] . eq _*_(X,mt) = X [variant] . => 1 f3(x0,x0) = f2, 1 f3(x0,f3(x0,z0.2)) = f3(z0.2,f2), 2 f3(x0,f3(x0,x1)) = x1, 2 f3(x0,f3(x0,f3(z0.2,x1))) = f3(z0.2,x1), 3 f3(x0,f2) = x0, 3 f3(x0,f3(z0.2,f2)) = f3(x0,z0.2) | f3 3
