@@ -126,7 +126,7 @@ impl Choices {
         ensures restarted { self.new ≡ record self.old { below = 2 ^ length self.old.basis } }
         ensures all_pending { (b : ℕ) →
             IsListed self.new.full self.new.constants self.new.may_be_zero self.new.bounds
-                (vectors_of self.new.basis) b → Pending self.new b }
+            (vectors_of self.new.basis) b → Pending self.new b }
     {
         self.below = 1 << self.basis.len();
     }

@@ -26,7 +26,14 @@ fn is_in(state: &State, i: usize, k: usize) -> bool
 }
 
 // Whether node i is a variable in class k, of a sort that admits no sum.
-fn is_narrow_node(sig: &Signature, table: &Table, state: &State, f: OpId, k: usize, i: usize) -> bool
+fn is_narrow_node(
+    sig: &Signature,
+    table: &Table,
+    state: &State,
+    f: OpId,
+    k: usize,
+    i: usize,
+) -> bool
     requires associative { IsAssociative (axioms sig.now f) }
     requires closed { IsClosed sig.now table.now state.now }
     requires within { i < length table.now.nodes }

@@ -5,4 +5,6 @@ mod admitting;
 mod laws;
 
 pub use admitting::{admits_identity, admits_sum};
-pub use laws::{narrow_sorts_have_no_sum, narrow_sorts_have_one_summand, other_sorts_have_some_summand};
+pub use laws::{
+    narrow_sorts_have_no_sum, narrow_sorts_have_one_summand, other_sorts_have_some_summand,
+};
