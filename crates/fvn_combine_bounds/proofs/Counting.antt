@@ -1,23 +1,17 @@
 -- How often solutions are taken, and how many pieces are laid out for them.
-use Rattle.std.proofs.Common.{◌≡◌, ◌≢◌, ℕ, zero, suc, ◌+◌, ◌<◌, ◌≤◌, List, [], ◌∷◌, ◌++◌, length, refl, sym, ap, ◌∙◌, subst, ◌⊎◌, inl, inr, arith, Contains}
+use Rattle.std.proofs.Common.{◌≡◌, ◌≢◌, ℕ, zero, suc, ◌+◌, ◌<◌, ◌≤◌, List, [], ◌∷◌, ◌++◌, length, refl, sym, ap, ◌∙◌, ◌⊎◌, inl, inr, arith, Contains}
 use Rattle.std.specs.List.{sum_by}
 use Rattle.std.proofs.lemmas.List.{length-append}
 use Rattle.std.proofs.lemmas.List.Sums.{sum_by-cons}
 use Rattle.fvn_base.proofs.Membership.{contains_here, contains_later}
-use Rattle.fvn_terms.specs.declared.plain.OpId.{OpId}
-use Rattle.fvn_terms.specs.declared.declarations.Declarations.{Declarations}
 use Rattle.fvn_forms.specs.Flat.{FlatTerm}
 use Rattle.fvn_forms.specs.InOrder.{SameCounts}
 use Rattle.fvn_forms.specs.Canon.{parts}
 use Rattle.fvn_forms.proofs.InOrder.{sort_same_counts, length_sort}
 use Rattle.fvn_flat.specs.SolvedLists.{component}
-use Rattle.fvn_combine_nodes.specs.Table.{NodeTable}
-use Rattle.fvn_combine_leaves.specs.Leaves.{IsSumOperator, Uses}
-use Rattle.fvn_combine_choices.specs.Choosing.{Systems, Choice, taken, member_count}
+use Rattle.fvn_combine_choices.specs.Choosing.{taken, member_count}
 use Rattle.fvn_combine_complete.specs.LaidOut.{copies, laid_for}
-use Rattle.fvn_combine_complete.specs.Neutral.{IsNeutral}
-use Rattle.fvn_combine_complete.specs.Obeyed.{AreObeying, AreMadeOf}
-use Rattle.fvn_combine_bounds.specs.Laws.{IsTakenForSummands, TakenSolutionsStandForSummands}
+use Rattle.fvn_combine_bounds.specs.Laws.{TakenSolutionsStandForSummands}
 
 same_length : (l m : List FlatTerm) → SameCounts l m → length l ≡ length m
 same_length l m h = sym (length_sort l) ∙ ap length (sort_same_counts l m h) ∙ length_sort m

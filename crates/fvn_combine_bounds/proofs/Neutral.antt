@@ -1,14 +1,12 @@
 -- A term and the identity make a sum of the term's sort.
 use Rattle.std.proofs.Common.{◌≡◌, List, [], ◌∷◌, map, refl, ◌∙◌}
-use Rattle.fvn_terms.specs.declared.plain.OpId.{OpId}
 use Rattle.fvn_terms.specs.declared.plain.SortId.{SortId}
 use Rattle.fvn_terms.specs.declared.declarations.Declarations.{Declarations}
 use Rattle.fvn_terms.specs.Term.{none}
 use Rattle.fvn_terms.specs.Signature.{kind, HaveKinds}
-use Rattle.fvn_forms.specs.Good.{IsGood, IsOfKind, TakesKinds}
+use Rattle.fvn_forms.specs.Good.{IsOfKind, TakesKinds}
 use Rattle.fvn_forms.specs.Ranks.{result}
 use Rattle.fvn_forms.proofs.Results.{result-kind}
-use Rattle.fvn_combine_complete.specs.Neutral.{IsNeutral}
 use Rattle.fvn_combine_bounds.specs.Laws.{NeutralOperatorsAdmitSums}
 
 none_taken : (d : Declarations) (ks : List SortId) → HaveKinds d none ks → [] ≡ ks

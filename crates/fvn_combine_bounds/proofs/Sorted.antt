@@ -1,22 +1,20 @@
 -- The value of a class is that of each variable in it.
-use Rattle.std.proofs.Common.{◌≡◌, ℕ, ◌<◌, ◌≤◌, length, sym, ap, ◌∙◌, subst, arith, Some, Contains}
-use Rattle.std.specs.Prelude.{slice_get}
+use Rattle.std.proofs.Common.{◌≡◌, ℕ, ◌<◌, ◌≤◌, length, sym, ap, ◌∙◌, subst, arith, Contains}
 use Rattle.std.proofs.lemmas.Option.{slice_get_within}
 use Rattle.fvn_terms.specs.declared.plain.Var.{Var as Variable}
-use Rattle.fvn_terms.specs.declared.plain.OpId.{OpId}
 use Rattle.fvn_terms.specs.declared.declarations.Declarations.{Declarations}
 use Rattle.fvn_terms.specs.Substitution.{Substitution, apply}
-use Rattle.fvn_terms.specs.Signature.{kind, HasKind, IsTerm}
+use Rattle.fvn_terms.specs.Signature.{kind, IsTerm}
 use Rattle.fvn_terms.specs.Term.{Term, var}
 use Rattle.fvn_terms.specs.Unifiers.{Problem}
-use Rattle.fvn_forms.specs.Flat.{FlatTerm}
 use Rattle.fvn_forms.specs.Canon.{parts, canon}
 use Rattle.fvn_forms.proofs.Eval.{canon_respects}
 use Rattle.fvn_combine_nodes.specs.Table.{NodeTable, term_at}
 use Rattle.fvn_combine_nodes.specs.States.{class_of}
-use Rattle.fvn_combine_nodes.specs.Unifiers.{value_at, kernel}
+use Rattle.fvn_combine_nodes.specs.Unifiers.{value_at}
 use Rattle.fvn_combine_nodes.specs.Laws.{UnifiersPartition}
 use Rattle.fvn_combine_nodes.specs.declared.state.State.{State}
+use Rattle.fvn_combine_nodes.specs.declared.table.Node.TheVariants.{Var}
 use Rattle.fvn_combine_nodes.proofs.Admitting.{named_within}
 use Rattle.fvn_combine_nodes.proofs.Nodes.{term_at-variable}
 use Rattle.fvn_combine_nodes.proofs.NodesOf.{node_variable}

@@ -1,5 +1,5 @@
 -- How many summands a flat form has, by its sort.
-use Rattle.std.proofs.Common.{◌≡◌, ◌≢◌, ℕ, ◌≤◌, Bool, true, false, List, [], ◌∷◌, length, refl, sym, ap, ◌∙◌, subst, arith, Option, Some, None}
+use Rattle.std.proofs.Common.{◌≡◌, ◌≢◌, ◌≤◌, Bool, true, false, List, [], ◌∷◌, length, refl, sym, ap, ◌∙◌, subst, arith, Option, Some, None}
 use Rattle.std.specs.Prelude.{if◌then◌else◌, Contains}
 use Rattle.std.specs.List.{AllByRecursion, fold}
 use Rattle.std.proofs.lemmas.Bool.{false≢true}
@@ -7,17 +7,15 @@ use Rattle.fvn_terms.specs.declared.plain.OpId.{OpId}
 use Rattle.fvn_terms.specs.declared.plain.SortId.{SortId}
 use Rattle.fvn_terms.specs.declared.declarations.Rank.{Rank}
 use Rattle.fvn_terms.specs.declared.declarations.Declarations.{Declarations}
-use Rattle.fvn_terms.specs.Term.{Term}
 use Rattle.fvn_terms.specs.Signature.{kind, declared, axioms, AtOrBelow, HasKind, IsTerm}
 use Rattle.fvn_terms.specs.Equality.{IsAssociative, identity}
-use Rattle.fvn_terms.specs.Sorts.{HasSort}
 use Rattle.fvn_forms.specs.Flat.{FlatTerm, FlatTerms, fvar, fapp, fnone, fmore, funpack, fconstant, plain}
 use Rattle.fvn_forms.specs.Canon.{same_op, is_identity, parts, canon}
 use Rattle.fvn_forms.specs.Settled.{Settled, SettledAll}
 use Rattle.fvn_forms.specs.Good.{IsGood, IsOfKind}
 use Rattle.fvn_forms.specs.LeastSort.{result_of_two, sorts_in, least_sort}
 use Rattle.fvn_forms.proofs.Results.{result-pair}
-use Rattle.fvn_forms.proofs.Sums.{same_op_is, same_op_itself}
+use Rattle.fvn_forms.proofs.Sums.{same_op_is}
 use Rattle.fvn_forms.proofs.KindsOfSums.{nest_parts_of_kind}
 use Rattle.fvn_forms.proofs.Eval.{canon_settled}
 use Rattle.fvn_forms.proofs.ToCanon.{canon_of_kind}

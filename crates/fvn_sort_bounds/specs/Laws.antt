@@ -1,5 +1,5 @@
 -- Laws of sorts and summands.
-use Rattle.std.specs.Prelude.{◌≡◌, ◌≢◌, ◌≤◌, true, [], length}
+use Rattle.std.specs.Prelude.{◌≢◌, ◌≤◌, true, [], length}
 use Rattle.fvn_terms.specs.declared.plain.OpId.{OpId}
 use Rattle.fvn_terms.specs.declared.plain.SortId.{SortId}
 use Rattle.fvn_terms.specs.declared.declarations.Declarations.{Declarations}

@@ -1,5 +1,5 @@
 -- Past the last column there is nothing.
-use Rattle.std.proofs.Common.{slice_index, arith}
+use Rattle.std.proofs.Common.{arith}
 use Rattle.std.proofs.lemmas.List.{get_or_past}
 use Rattle.fvn_acunify.proofs.ColumnSums.{column_sum-past}
 use Rattle.fvn_acunify.proofs.prefix.is_reached.Goals as goal

@@ -1,5 +1,5 @@
 -- A column is used exactly where it is marked.
-use Rattle.std.proofs.Common.{ℕ, List, length, sym, subst}
+use Rattle.std.proofs.Common.{length, sym, subst}
 use Rattle.fvn_combine_nodes.specs.States.{class_of}
 use Rattle.fvn_combine_bounds.specs.Bounding.{AreColumnsBelow, IsNarrowAt, IsOtherAt}
 use Rattle.fvn_combine_bounds.specs.inner.Nodes.{IsNarrowColumn, IsOtherColumn}

@@ -1,7 +1,6 @@
 -- A node of the class, and a variable.
-use Rattle.std.proofs.Common.{◌≡◌, refl, sym, ap, ◌∙◌, Some}
+use Rattle.std.proofs.Common.{◌≡◌, sym, ap, ◌∙◌, Some}
 use Rattle.std.proofs.lemmas.Bool.{iff_false}
-use Rattle.fvn_combine_nodes.specs.declared.table.Node.{Node}
 use Rattle.fvn_combine_nodes.specs.declared.table.Node.TheVariants.{Var, App}
 use Rattle.fvn_combine_bounds.proofs.Listing.{not_told}
 use Rattle.fvn_combine_bounds.proofs.bounding.is_other_node.Goals as goal

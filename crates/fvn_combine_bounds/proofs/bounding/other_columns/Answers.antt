@@ -1,5 +1,5 @@
 -- One more column.
-use Rattle.std.proofs.Common.{ℕ, ◌+◌, length, sym, ◌∙◌, subst, arith}
+use Rattle.std.proofs.Common.{◌+◌, length, sym, ◌∙◌, subst, arith}
 use Rattle.std.proofs.lemmas.Bool.{false≢true}
 use Rattle.fvn_combine_nodes.specs.States.{class_of}
 use Rattle.fvn_combine_bounds.specs.Bounding.{AreColumnsBelow}
