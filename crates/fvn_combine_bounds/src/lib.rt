@@ -1,8 +1,10 @@
 //! What sorts say of the solutions that a choice takes: bounds that no well-sorted unifier passes.
 #![tactic(auto)]
 
+mod bounding;
 mod laws;
 
+pub use bounding::bounds_of;
 pub use laws::{
     narrow_classes_have_no_tag, narrow_classes_have_one_summand, neutral_operators_admit_sums,
     obeyed_choices_keep_bounds, other_classes_have_some_summand,

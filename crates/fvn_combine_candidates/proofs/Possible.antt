@@ -2,6 +2,7 @@
 use Rattle.std.proofs.Common.{◌≡◌, ℕ, ◌/◌, ◌%◌, ◌^◌, ◌<◌, ◌≤◌, true, List, [], length, slice_index, slice_index_or, refl, sym, ap, ◌∙◌, subst, arith, Contains, Option, Some}
 use Rattle.std.specs.Prelude.{◌↔◌, slice_get}
 use Rattle.std.specs.List.{AllZip, sum_by}
+use Rattle.std.proofs.lemmas.List.Elements.{All-nil}
 use Rattle.std.proofs.lemmas.Option.{slice_get_within}
 use Rattle.fvn_terms.specs.declared.plain.OpId.{OpId}
 use Rattle.fvn_terms.specs.declared.declarations.Declarations.{Declarations}
@@ -9,7 +10,7 @@ use Rattle.fvn_terms.specs.Unifiers.{Problem}
 use Rattle.fvn_forms.specs.FitsKinds.{FitsKinds}
 use Rattle.fvn_lindio.specs.declared.system.Solution.{Solution}
 use Rattle.fvn_lindio.specs.Systems.{vectors_of}
-use Rattle.fvn_acunify.specs.ValidChoice.{chosen, touched, IsValid, IsFull as TakesAll}
+use Rattle.fvn_acunify.specs.ValidChoice.{chosen, column_sum, touched, IsValid, IsWithin, IsFull as TakesAll}
 use Rattle.fvn_flat.specs.Problems.{IsProblem}
 use Rattle.fvn_flat.specs.SolvedLists.{component}
 use Rattle.fvn_combine_nodes.specs.Table.{NodeTable, IsWellMade, IsTableOf}
@@ -143,6 +144,10 @@ module _ (d : Declarations) (t : NodeTable) (class : ℕ → ℕ) (r : Reading) 
           let op = op_here i e.0 e.1 in
           record {
             valid = ((at_wheel f op (here i e.0 e.1) w is).0 (h.0.acceptable f op)).0;
+            bounded = subst (λ bounds. IsWithin bounds (vectors_of w.basis) (slice_index numbers i)) (sym (are_wheels.each i e.0 w e.1 is).bounds) record {
+              most = All-nil (λ j. column_sum j (chosen (slice_index numbers i) (vectors_of w.basis)) ≤ 1);
+              least = All-nil (λ j. 0 < column_sum j (chosen (slice_index numbers i) (vectors_of w.basis)));
+            };
             whole = whole_to f op (here i e.0 e.1) w is h.1;
           }),
       λ i e is. alias_from e.operator (here i e is) (h.0.acceptable e.operator (op_here i e is)).no_alias,

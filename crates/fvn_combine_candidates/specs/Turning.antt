@@ -10,6 +10,7 @@ use Rattle.fvn_combine_leaves.specs.declared.reading.Sums.{Sums}
 use Rattle.fvn_combine_choices.specs.Binding.{AreAsked}
 use Rattle.fvn_combine_admissible.specs.Aliases.{HasNoAlias}
 use Rattle.fvn_combine_complete.specs.Neutral.{IsNeutral}
+use Rattle.fvn_acunify.specs.Cursor.{unbounded}
 use Rattle.fvn_acunify_product.specs.Wheels.{Wheel}
 
 module _ (d : Declarations) (t : NodeTable) (class : ℕ → ℕ) (tag : ℕ → Option OpId) where
@@ -17,6 +18,7 @@ module _ (d : Declarations) (t : NodeTable) (class : ℕ → ℕ) (tag : ℕ →
   pub record IsWheel (e : Sums) (basis : List Solution) (w : Wheel) : Type 0 where
     pub over : w.basis ≡ basis
     pub asked : AreAsked d t class tag e.operator e.columns w.constants w.may_be_zero
+    pub bounds : w.bounds ≡ unbounded
     pub full : (w.full ≡ true) ↔ IsNeutral d e.operator
 
   -- so does one wheel for each sum operator

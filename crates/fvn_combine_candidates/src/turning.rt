@@ -28,6 +28,7 @@ fn listed(sig: &Signature, f: OpId, mut choices: Choices) -> Choices
     ensures same { result.basis ≡ choices.basis }
     ensures constants { result.constants ≡ choices.constants }
     ensures may_be_zero { result.may_be_zero ≡ choices.may_be_zero }
+    ensures bounds { result.bounds ≡ choices.bounds }
     ensures full { (result.full ≡ true) ↔ IsNeutral sig.now f }
 {
     if is_neutral(sig, f) {
