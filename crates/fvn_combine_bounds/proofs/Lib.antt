@@ -3,3 +3,4 @@ mod Counting
 mod Sorted
 mod Neutral
 mod Listing
+mod Covering

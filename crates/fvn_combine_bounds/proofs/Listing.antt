@@ -8,6 +8,10 @@ use Rattle.fvn_combine_bounds.specs.Bounding.{AreColumnsBelow}
 pub no_columns : (P : ℕ → Type 0) → AreColumnsBelow P 0 []
 no_columns P j = (λ m. let l = m.1 in absurd (omega (arith, l)), λ m. let l = m.0 in absurd (omega (arith, l)))
 
+-- where it holds of none the list is empty
+pub never_columns : (P : ℕ → Type 0) (n : ℕ) → ((j : ℕ) → P j → ⊥) → AreColumnsBelow P n []
+never_columns P n none j = (λ m. let l = m.1 in absurd (omega (arith, l)), λ m. absurd (none j m.1))
+
 pub one_column : (P : ℕ → Type 0) (i : ℕ) (list : List ℕ) → AreColumnsBelow P i list → P i → AreColumnsBelow P (i + 1) (list ++ i ∷ [])
 one_column P i list h here j = (
   λ m. elim (Contains-push_cases list i j m) [

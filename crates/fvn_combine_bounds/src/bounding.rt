@@ -4,9 +4,10 @@ ghost use Rattle.fvn_terms.specs.Signature.{axioms};
 ghost use Rattle.fvn_terms.specs.Equality.{IsAssociative};
 ghost use Rattle.fvn_combine_nodes.specs.States.{IsClosed, class_of};
 ghost use Rattle.fvn_combine_leaves.specs.Readings.{AreSums};
+ghost use Rattle.fvn_combine_complete.specs.Neutral.{IsNeutral};
 ghost use Rattle.fvn_combine_bounds.specs.Narrow.{IsNarrow, IsNeverIdentity};
 ghost use Rattle.fvn_combine_bounds.specs.Bounding.{AreBounds, AreColumnsBelow};
-ghost use Rattle.fvn_combine_bounds.specs.inner.Nodes.{IsNarrowNode, IsOtherNode, IsNarrowColumn, IsOtherColumn};
+ghost use Rattle.fvn_combine_bounds.specs.inner.Nodes.{IsNarrowNode, IsOtherNode, IsNarrowColumn, IsCappedColumn, IsOtherColumn};
 
 use fvn_acunify::ColumnBounds;
 use fvn_base::Seq;
@@ -128,6 +129,29 @@ fn narrow_columns(
     Ok(list)
 }
 
+// The same where the operator is not neutral, and else none.
+fn capped_columns(
+    alloc: Global,
+    sig: &Signature,
+    table: &Table,
+    state: &State,
+    sums: &Sums,
+    neutral: bool,
+) -> Result<Vec<usize>, NoMemory>
+    requires associative { IsAssociative (axioms sig.now sums.now.operator) }
+    requires closed { IsClosed sig.now table.now state.now }
+    requires sums { AreSums sig.now table.now (class_of state.now) sums.now }
+    requires neutral { IsTrue neutral ↔ IsNeutral sig.now sums.now.operator }
+    ensures { IfOk result (λ v. AreColumnsBelow (IsCappedColumn sig.now table.now (class_of state.now) sums.now)
+        (length sums.now.columns) v.items) }
+{
+    if neutral {
+        return Ok(Vec::new(alloc));
+    }
+    let list = narrow_columns(alloc, sig, table, state, sums)?;
+    Ok(list)
+}
+
 // Whether column j is used, and its class is never the identity.
 fn is_other_at(sig: &Signature, table: &Table, state: &State, sums: &Sums, j: usize) -> bool
     requires closed { IsClosed sig.now table.now state.now }
@@ -164,7 +188,8 @@ fn other_columns(
     Ok(list)
 }
 
-/// The columns whose classes are narrow, and those whose classes are never the identity.
+/// The columns whose classes are narrow, where the operator is not neutral, and those whose classes are never the
+/// identity.
 ///
 /// Each used column costs a walk through the nodes, and each variable in its class one comparison for each declared rank.
 pub fn bounds_of(
@@ -173,13 +198,15 @@ pub fn bounds_of(
     table: &Table,
     state: &State,
     sums: &Sums,
+    neutral: bool,
 ) -> Result<ColumnBounds, NoMemory>
     requires associative { IsAssociative (axioms sig.now sums.now.operator) }
     requires closed { IsClosed sig.now table.now state.now }
     requires sums { AreSums sig.now table.now (class_of state.now) sums.now }
+    requires neutral { IsTrue neutral ↔ IsNeutral sig.now sums.now.operator }
     ensures { IfOk result (AreBounds sig.now table.now (class_of state.now) sums.now) }
 {
-    let most = narrow_columns(alloc, sig, table, state, sums)?;
+    let most = capped_columns(alloc, sig, table, state, sums, neutral)?;
     let least = other_columns(alloc, sig, table, state, sums)?;
     Ok(ColumnBounds {
         at_most_one: Seq::from_vec(most),

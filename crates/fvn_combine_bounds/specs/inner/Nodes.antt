@@ -6,6 +6,7 @@ use Rattle.fvn_terms.specs.declared.declarations.Declarations.{Declarations}
 use Rattle.fvn_combine_nodes.specs.Table.{NodeTable}
 use Rattle.fvn_combine_nodes.specs.declared.table.Node.TheVariants.{Var}
 use Rattle.fvn_combine_leaves.specs.declared.reading.Sums.{Sums}
+use Rattle.fvn_combine_complete.specs.Neutral.{IsNeutral}
 use Rattle.fvn_combine_bounds.specs.Narrow.{IsNarrow, IsNeverIdentity}
 use Rattle.fvn_sort_bounds.specs.Admitting.{AdmitsSum, AdmitsIdentity}
 
@@ -28,6 +29,10 @@ module _ (d : Declarations) (t : NodeTable) (class : ℕ → ℕ) (s : Sums) whe
   -- column j is marked as used, and its class is narrow under the operator
   abbrev pub IsNarrowColumn : ℕ → Type 0
   IsNarrowColumn j = (slice_index_or s.used j false ≡ true) × IsNarrow d t class s.operator (slice_index s.columns j)
+
+  -- so it is, and the operator is not neutral
+  abbrev pub IsCappedColumn : ℕ → Type 0
+  IsCappedColumn j = IsNarrowColumn j × (IsNeutral d s.operator → ⊥)
 
   -- column j is marked as used, and its class is never the operator's identity
   abbrev pub IsOtherColumn : ℕ → Type 0
