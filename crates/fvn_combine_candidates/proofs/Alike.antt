@@ -15,6 +15,7 @@ use Rattle.fvn_combine_leaves.specs.Leaves.{IsSumOperator}
 use Rattle.fvn_combine_choices.specs.Choosing.{Systems, Choice, AreTakenTogether, IsAcceptable, IsPossible, Needs, argument, summand, Falls, member_count, taken}
 use Rattle.fvn_combine_choices.specs.Plans.{IsSimpleAt, IsFormBy, StandsFor, IsPlanBy}
 use Rattle.fvn_combine_complete.specs.CoveringChoices.{IsCovering}
+use Rattle.fvn_combine_bounds.specs.Narrow.{KeepsBounds}
 
 module _ (d : Declarations) (t : NodeTable) (class : ℕ → ℕ) (y : Systems) (tag : ℕ → Option OpId) (m n : OpId → ℕ) where
   -- the choices

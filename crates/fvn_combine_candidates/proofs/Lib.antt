@@ -3,6 +3,7 @@ mod Entries
 mod Systems
 mod Refused
 mod Possible
+mod Bounded
 mod Tagged
 mod Alike
 mod Covered

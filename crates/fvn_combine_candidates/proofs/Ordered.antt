@@ -14,7 +14,6 @@ use Rattle.fvn_combine_nodes.specs.Table.{NodeTable}
 use Rattle.fvn_combine_leaves.specs.declared.reading.Sums.{Sums}
 use Rattle.fvn_combine_choices.specs.Binding.{AreAsked}
 use Rattle.fvn_combine_complete.specs.Neutral.{IsNeutral}
-use Rattle.fvn_acunify.specs.Cursor.{unbounded}
 use Rattle.fvn_acunify_product.specs.Wheels.{Wheel}
 use Rattle.fvn_combine_leaves.specs.Bases.{IsBasis}
 use Rattle.fvn_combine_candidates.specs.Turning.{IsWheel}
@@ -70,12 +69,11 @@ one_list (x ∷ xs) (y ∷ ys) e =
 
 -- the choices among all minimal solutions, in order, are a wheel over the basis
 pub wheel_is : (d : Declarations) (t : NodeTable) (class : ℕ → ℕ) (tag : ℕ → Option OpId) (e : Sums) (basis : List Solution) → IsBasis e.system basis → (y : OneTheory) → y.system ≡ e.system → AreAsked d t class tag e.operator e.columns y.constants y.may_be_zero
-    → (w : Wheel) → ((v : List ℕ) → Contains (vectors_of w.basis) v ↔ IsMinimal y.system.columns (rows_of y.system) v) → AllPairs IsBefore (vectors_of w.basis) → w.constants ≡ y.constants → w.may_be_zero ≡ y.may_be_zero → w.bounds ≡ unbounded → ((w.full ≡ true) ↔ IsNeutral d e.operator) → IsWheel d t class tag e basis w
-wheel_is d t class tag e basis is y same asked w exact ordered constants marks bounds full =
+    → (w : Wheel) → ((v : List ℕ) → Contains (vectors_of w.basis) v ↔ IsMinimal y.system.columns (rows_of y.system) v) → AllPairs IsBefore (vectors_of w.basis) → w.constants ≡ y.constants → w.may_be_zero ≡ y.may_be_zero → ((w.full ≡ true) ↔ IsNeutral d e.operator) → IsWheel d t class tag e basis w
+wheel_is d t class tag e basis is y same asked w exact ordered constants marks full =
     let exact_e : (v : List ℕ) → Contains (vectors_of w.basis) v ↔ IsMinimal e.system.columns (rows_of e.system) v = subst (λ (s : System). (v : List ℕ) → Contains (vectors_of w.basis) v ↔ IsMinimal s.columns (rows_of s) v) same exact in
     record {
       over = one_list w.basis basis (one_ordered (vectors_of w.basis) (vectors_of basis) ordered is.ordered (λ v m. (is.exact v).1 ((exact_e v).0 m)) (λ v m. (exact_e v).1 ((is.exact v).0 m)));
       asked = subst (λ cs. AreAsked d t class tag e.operator e.columns cs w.may_be_zero) (sym constants) (subst (AreAsked d t class tag e.operator e.columns y.constants) (sym marks) asked);
-      bounds = bounds;
       full = full;
     }

@@ -2,7 +2,6 @@
 use Rattle.std.proofs.Common.{◌≡◌, ℕ, ◌/◌, ◌%◌, ◌^◌, ◌<◌, ◌≤◌, true, List, [], length, slice_index, slice_index_or, refl, sym, ap, ◌∙◌, subst, arith, Contains, Option, Some}
 use Rattle.std.specs.Prelude.{◌↔◌, slice_get}
 use Rattle.std.specs.List.{AllZip, sum_by}
-use Rattle.std.proofs.lemmas.List.Elements.{All-nil}
 use Rattle.std.proofs.lemmas.Option.{slice_get_within}
 use Rattle.fvn_terms.specs.declared.plain.OpId.{OpId}
 use Rattle.fvn_terms.specs.declared.declarations.Declarations.{Declarations}
@@ -10,7 +9,7 @@ use Rattle.fvn_terms.specs.Unifiers.{Problem}
 use Rattle.fvn_forms.specs.FitsKinds.{FitsKinds}
 use Rattle.fvn_lindio.specs.declared.system.Solution.{Solution}
 use Rattle.fvn_lindio.specs.Systems.{vectors_of}
-use Rattle.fvn_acunify.specs.ValidChoice.{chosen, column_sum, touched, IsValid, IsWithin, IsFull as TakesAll}
+use Rattle.fvn_acunify.specs.ValidChoice.{chosen, touched, IsValid, IsFull as TakesAll}
 use Rattle.fvn_flat.specs.Problems.{IsProblem}
 use Rattle.fvn_flat.specs.SolvedLists.{component}
 use Rattle.fvn_combine_nodes.specs.Table.{NodeTable, IsWellMade, IsTableOf}
@@ -31,7 +30,7 @@ use Rattle.fvn_combine_candidates.specs.declared.sharing.SharedClass.{SharedClas
 use Rattle.fvn_combine_leaves.specs.Bases.{AreBases}
 use Rattle.fvn_combine_candidates.specs.Sharing.{AreSharedClasses}
 use Rattle.fvn_combine_candidates.specs.Tags.{AreTags}
-use Rattle.fvn_combine_candidates.specs.Turning.{IsWheel, AreWheels, LeaveNoAlias}
+use Rattle.fvn_combine_candidates.specs.Turning.{IsWheel, AreWheels, LeaveNoAlias, AreWithin}
 use Rattle.fvn_combine_candidates.proofs.Entries.{entry_at, listed_at, zip_at, zip_from}
 use Rattle.fvn_combine_candidates.proofs.Systems.{IsPlaced, placed, operator_at, columns_for, basis_for, for_operator, make_systems}
 use Rattle.fvn_combine_candidates.proofs.Tagged.{tags_are_users}
@@ -135,7 +134,7 @@ module _ (d : Declarations) (t : NodeTable) (class : ℕ → ℕ) (r : Reading) 
     wheel_here : (i : ℕ) (e : Sums) → slice_get r.sums i ≡ Some e → (w : Wheel) × (slice_get wheels i ≡ Some w)
     wheel_here i e is = entry_at wheels i (let l = slice_get_within r.sums i e is in let m = are_wheels.as_many in omega (arith, l, m))
 
-    pub to_wheels : IsPossible d t class (systems_of r bases) (choice_of r tags numbers) × IsFull d t class (systems_of r bases) (choice_of r tags numbers) → AllZip IsChoice wheels numbers × LeaveNoAlias d t class (tag_in tags) r.sums bases numbers
+    pub to_wheels : IsPossible d t class (systems_of r bases) (choice_of r tags numbers) × IsFull d t class (systems_of r bases) (choice_of r tags numbers) × AreWithin wheels numbers → AllZip IsChoice wheels numbers × LeaveNoAlias d t class (tag_in tags) r.sums bases numbers
     to_wheels h = (
       zip_from IsChoice wheels numbers (let m = are_wheels.as_many in omega (arith, m, numbered)) (λ i w is.
           let l = slice_get_within wheels i w is in
@@ -144,17 +143,14 @@ module _ (d : Declarations) (t : NodeTable) (class : ℕ → ℕ) (r : Reading) 
           let op = op_here i e.0 e.1 in
           record {
             valid = ((at_wheel f op (here i e.0 e.1) w is).0 (h.0.acceptable f op)).0;
-            bounded = subst (λ bounds. IsWithin bounds (vectors_of w.basis) (slice_index numbers i)) (sym (are_wheels.each i e.0 w e.1 is).bounds) record {
-              most = All-nil (λ j. column_sum j (chosen (slice_index numbers i) (vectors_of w.basis)) ≤ 1);
-              least = All-nil (λ j. 0 < column_sum j (chosen (slice_index numbers i) (vectors_of w.basis)));
-            };
+            bounded = h.2 i w is;
             whole = whole_to f op (here i e.0 e.1) w is h.1;
           }),
       λ i e is. alias_from e.operator (here i e is) (h.0.acceptable e.operator (op_here i e is)).no_alias,
     )
 
     pub from_wheels : (shared : List SharedClass) → AreSharedClasses d t class shared → (options : List ℕ) → AreTags shared options tags
-        → AllZip IsChoice wheels numbers × LeaveNoAlias d t class (tag_in tags) r.sums bases numbers → IsPossible d t class (systems_of r bases) (choice_of r tags numbers) × IsFull d t class (systems_of r bases) (choice_of r tags numbers)
+        → AllZip IsChoice wheels numbers × LeaveNoAlias d t class (tag_in tags) r.sums bases numbers → IsPossible d t class (systems_of r bases) (choice_of r tags numbers) × IsFull d t class (systems_of r bases) (choice_of r tags numbers) × AreWithin wheels numbers
     from_wheels shared are_shared options are_tags h = (
       record {
         tags = tags_are_users d t class shared are_shared options tags are_tags;
@@ -168,4 +164,5 @@ module _ (d : Declarations) (t : NodeTable) (class : ℕ → ℕ) (r : Reading) 
           let p = placed d t class r reading f op in
           let w = wheel_here p.place p.entry p.is in
           whole_from f op p w.0 w.1 (zip_at IsChoice wheels numbers h.0 p.place w.0 w.1).whole n,
+      λ i w is. (zip_at IsChoice wheels numbers h.0 i w is).bounded,
     )
