@@ -1,5 +1,5 @@
 -- The lemmas of the crate.
-mod Entries
+pub mod Entries
 mod Systems
 mod Refused
 mod Possible

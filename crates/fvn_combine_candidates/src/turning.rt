@@ -126,9 +126,10 @@ pub fn wheels(
     let sums = reading.sums.as_slice();
     let mut list = Vec::new(alloc);
     for i in 0..sums.len() {
+        let entry = &sums[i];
         let basis = bases[i].as_slice();
-        let choices = choices_of(alloc, sig, table, state, reading, tags, &sums[i], basis)?;
-        let within = bounded(alloc, sig, table, state, &sums[i], sorted, choices)?;
+        let choices = choices_of(alloc, sig, table, state, reading, tags, entry, basis)?;
+        let within = bounded(alloc, sig, table, state, entry, sorted, choices)?;
         list.push(within)?;
     }
     let wheels = Wheels::new(alloc, list)?;

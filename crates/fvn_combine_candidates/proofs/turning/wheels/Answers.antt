@@ -27,18 +27,18 @@ pub bounded-requires-clause-associative : goal.bounded-requires-clause-associati
 bounded-requires-clause-associative c =
     let sums = c.args.reading.now.sums in
     let i = c.loop-i.i in
-    let e = c.index-sums-i-2.result in
+    let e = c.index-sums-i.result in
     let l = within_other c.as_slice-sums.result.now sums i c.as_slice-sums.ensures c.loop-i-test.true in
-    let at = read_at sums i e l (read_of_other c.as_slice-sums.result.now sums i e c.as_slice-sums.ensures c.index-sums-i-2.is) in
+    let at = read_at sums i e l (read_of_other c.as_slice-sums.result.now sums i e c.as_slice-sums.ensures c.index-sums-i.is) in
     (operator_at c.args.sig.now c.args.table.now (class_of c.args.state.now) c.args.reading.now c.requires.reading e (listed_at sums i e at)).associative
 
 pub bounded-requires-clause-sums : goal.bounded-requires-clause-sums
 bounded-requires-clause-sums c =
     let sums = c.args.reading.now.sums in
     let i = c.loop-i.i in
-    let e = c.index-sums-i-2.result in
+    let e = c.index-sums-i.result in
     let l = within_other c.as_slice-sums.result.now sums i c.as_slice-sums.ensures c.loop-i-test.true in
-    let at = read_at sums i e l (read_of_other c.as_slice-sums.result.now sums i e c.as_slice-sums.ensures c.index-sums-i-2.is) in
+    let at = read_at sums i e l (read_of_other c.as_slice-sums.result.now sums i e c.as_slice-sums.ensures c.index-sums-i.is) in
     sums_at c.args.sig.now c.args.table.now (class_of c.args.state.now) c.args.reading.now c.requires.reading i e at
 
 pub loop-i-preserved : goal.loop-i-preserved
