@@ -81,6 +81,12 @@ module _ (d : Declarations) where
     zip_back (t ∷ ts) [] h = absurd h
     zip_back (t ∷ ts) (u ∷ us) h = (BEqual-sym d h.0, zip_back ts us h.1)
 
+  -- what nothing matches it matches behind no other forms
+  pub unmatched_behind : (ts ws us vs : List FlatTerm) → length ts ≡ length ws → HasNoMatcher d us vs → HasNoMatcher d (ts ++ us) (ws ++ vs)
+  unmatched_behind ts ws us vs l n s m =
+      let zip = subst (λ x. AllZip (Makes s) x (map plain ws ++ map plain vs)) (map-append plain ts us) (subst (λ x. AllZip (Makes s) (map plain (ts ++ us)) x) (map-append plain ws vs) m.1) in
+      n s (m.0, ((AllZip-append (Makes s) (map plain ts) (map plain ws) (map plain us) (map plain vs) (length-map ts plain ∙ l ∙ sym (length-map ws plain))).0 zip).1)
+
   module _ (a b : Variant) (alike : AreAlike a b) where
     same_length : length (map plain a.terms) ≡ length (map plain b.terms)
     same_length = length-map a.terms plain ∙ alike.terms ∙ sym (length-map b.terms plain)

@@ -5,3 +5,4 @@ pub mod Additions
 mod Prunings
 mod PieceFacts
 pub mod Ranges
+mod Reaching

@@ -5,6 +5,7 @@ ghost use Rattle.fvn_cover.specs.inner.Profiled.{IsProfiled, IsMarked};
 ghost use Rattle.fvn_cover_counts.specs.Marks.{AreUnkept};
 
 use crate::keeping::Prepared;
+use crate::reach::may_reach_all;
 use crate::variant::Variant;
 use fvn_cover_counts::{Marks, Profile, Unkept};
 use fvn_flat::Flat;
@@ -63,7 +64,8 @@ impl<'a> Shown<'a> {
         }
     }
 
-    // Whether this one covers the other; most that do not are refused by their marks, others by their profiles.
+    // Whether this one covers the other; most that do not are refused by their marks, others by the sorts of values
+    // that are variables, or by their profiles.
     pub(crate) fn is_covering(
         &self,
         alloc: Global,
@@ -78,6 +80,9 @@ impl<'a> Shown<'a> {
         ensures { IfOk result (λ r. IsTrue r ↔ CoversVariant sig.now self.now other.now) }
     {
         if !self.marks.may_cover(out, &other.marks) {
+            return Ok(false);
+        }
+        if !may_reach_all(sig, self.values, other.values) {
             return Ok(false);
         }
         if !self.profile.may_cover(sig, other.profile) {

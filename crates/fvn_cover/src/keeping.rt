@@ -86,6 +86,13 @@ impl Kept {
         })
     }
 
+    /// The variant.
+    pub fn variant(&self) -> &Variant
+        ensures { result.now ≡ self.now }
+    {
+        &self.variant
+    }
+
     // The variant beside its values, its profile and its marks.
     pub(crate) fn shown(&self) -> Shown<'_>
         ensures { result ≡ self.now }

@@ -8,6 +8,7 @@ mod laws;
 mod marking;
 mod pieces;
 mod pruning;
+mod reach;
 mod values;
 mod variant;
 
