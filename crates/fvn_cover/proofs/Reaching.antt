@@ -1,10 +1,9 @@
 -- A well-sorted substitution takes a variable to none of a sort that is not at or below its own.
-use Rattle.std.proofs.Common.{◌≡◌, ℕ, zero, suc, ◌<◌, List, [], ◌∷◌, ◌++◌, length, get_or, map, sym, ap, subst, arith, Option, Some, None}
-use Rattle.std.specs.List.{AllZip}
+use Rattle.std.proofs.Common.{◌≡◌, ℕ, zero, suc, ◌<◌, List, [], ◌∷◌, length, get_or, sym, ap, subst, arith, Some}
 use Rattle.fvn_base.proofs.Options.{Some-injective}
 use Rattle.fvn_terms.specs.declared.plain.Var.{Var}
 use Rattle.fvn_terms.specs.declared.declarations.Declarations.{Declarations}
-use Rattle.fvn_terms.specs.Term.{Term, var}
+use Rattle.fvn_terms.specs.Term.{var}
 use Rattle.fvn_terms.specs.Signature.{AtOrBelow, IsTerm}
 use Rattle.fvn_terms.specs.Substitution.{Substitution, apply}
 use Rattle.fvn_terms.specs.Equality.{BEqual}
@@ -15,7 +14,7 @@ use Rattle.fvn_forms.specs.Good.{IsGood}
 use Rattle.fvn_forms.proofs.LeastSort.{least_sort_of_settled}
 use Rattle.fvn_flat.specs.Forms.{variable_of}
 use Rattle.fvn_flat.specs.Fits.{Fits, AllFit}
-use Rattle.fvn_match.specs.Matching.{IsMatcher, HasNoMatcher}
+use Rattle.fvn_match.specs.Matching.{HasNoMatcher}
 use Rattle.fvn_cover.specs.inner.Reach.{IsOutOfReach}
 
 -- a form of which the variable is read is this variable
