@@ -26,6 +26,6 @@ returns c = (
   λ h.
       let l = slice_get_within c.args.table.now.nodes h.has.node (Var h.variable) h.has.is in
       let past = c.loop-i-test.false in
-      let all = ap length c.nodes.ensures in
+      let all = ap length c.nodes-i-end.ensures in
       absurd (c.loop-i.invariant h.has.node (omega (arith, l, past, all)) record { variable = h.variable; is = h.has.is; of = h.has.of; none = h.none }),
 )
