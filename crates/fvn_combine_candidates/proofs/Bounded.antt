@@ -31,7 +31,7 @@ use Rattle.fvn_combine_candidates.proofs.Possible.{taken_for}
 
 module _ (d : Declarations) (t : NodeTable) (class : ℕ → ℕ) (r : Reading) (reading : IsReading d t class r) (bases : List (List Solution)) (are : AreBases r.sums bases) (tags : List (Option OpId)) (numbers : List ℕ) (numbered : length numbers ≡ length r.sums) where
   module _ (i : ℕ) (e : Sums) (is : slice_get r.sums i ≡ Some e) (w : Wheel) (over : w.basis ≡ slice_index_or bases i []) where
-    placed_here : IsPlaced r e.operator
+    abbrev placed_here : IsPlaced r e.operator
     placed_here = record { place = i; entry = e; is = is; operator = refl }
 
     op : IsSumOperator d t e.operator

@@ -6,7 +6,7 @@ use Rattle.fvn_combine_leaves.specs.declared.reading.Sums.{Sums}
 use Rattle.fvn_combine_admissible.specs.Listed.{tag_in}
 use Rattle.fvn_acunify_product.specs.Wheels.{wheel_of}
 use Rattle.fvn_combine_candidates.specs.Turning.{IsWheel, AreWheels, HaveBounds}
-use Rattle.fvn_combine_candidates.specs.inner.Walking.{AreWheelsBelow}
+use Rattle.fvn_combine_candidates.specs.inner.Walking.{IsBoundedWheel, AreWheelsBelow}
 use Rattle.fvn_combine_candidates.proofs.Entries.{within_other, read_at, listed_at, read_of_other}
 use Rattle.fvn_combine_candidates.proofs.Systems.{basis_is, basis_at, operator_at, sums_at}
 use Rattle.fvn_combine_candidates.proofs.Walked.{more_wheels, all_wheels, all_bounds, with_bounds}
@@ -57,7 +57,7 @@ loop-i-preserved c =
     let w = wheel_of c.in_ok-within.within in
     let k = c.in_ok-within.ensures in
     let asked = subst (λ b. IsWheel d t class tag e b (wheel_of c.in_ok-choices.choices)) basis c.in_ok-choices.ensures.asked in
-    let here = (with_bounds d t class tag e (slice_index_or bases i []) (wheel_of c.in_ok-choices.choices) w k.constants k.may_be_zero k.basis k.full asked, k.bounds) in
+    let here : IsBoundedWheel d t class tag c.args.sorted e (slice_index_or bases i []) w = (with_bounds d t class tag e (slice_index_or bases i []) (wheel_of c.in_ok-choices.choices) w k.constants k.may_be_zero k.basis k.full asked, k.bounds) in
     subst (AreWheelsBelow d t class tag c.args.sorted sums bases (i + 1)) (sym (ap (map wheel_of) c.in_ok-push.ensures.items ∙ map_push wheel_of c.loop-i.list.items c.in_ok-within.within))
     (more_wheels d t class tag c.args.sorted sums bases i (map wheel_of c.loop-i.list.items) e w l (read_of_other c.as_slice-sums.result.now sums i e c.as_slice-sums.ensures c.index-sums-i.is) c.loop-i.invariant here)
 
