@@ -39,6 +39,8 @@ FAMILIES = [
     ("sums of identity", "zero", {n: sums(2, n) for n in (2, 3, 4)}),
     ("collapses", "zero", {n: f"_+_(X1:S, {over('_+_', [f'g(Y{i}:S)' for i in range(1, n + 1)])}) =? _+_(X2:S, g(Z:S))" for n in (1, 2, 3)}),
     ("bags of elements", "elements", {n: f"{over('_;_', variables('X', n, 'Elt') + ['R:Bag'])} =? {over('_;_', variables('Y', n, 'Elt') + ['T:Bag'])}" for n in (1, 2, 3)}),
+    ("bags split in two", "elements", {n: f"{over('_;_', ['A:Bag', 'B:Bag'])} =? {over('_;_', variables('E', n, 'Elt'))}" for n in (2, 4, 6, 8)}),
+    ("ways of sorts", "parity", {n: f"E:Even =? {over('s', variables('X', n, 'Nat'))}" for n in (3, 5, 7, 9)}),
     ("sorts that split", "evens", {n: f"{over('_+_', ['X1:Even', 'X2:Odd'])} =? {over('_+_', variables('Y', n, 'Nat'))}" for n in (2, 3)}),
     ("free pairs", "plain", {n: f"{over('p', variables('X', n) + ['a'])} =? {over('p', variables('Y', n) + ['a'])}" for n in (25, 50, 99)}),
     ("free terms that double", "plain", {n: doubled(n) for n in (3, 5, 7)}),
