@@ -19,6 +19,7 @@ mod given;
 use self::given::is_given;
 use fvn_base::Seq;
 use fvn_flat::Pairs;
+use fvn_combine_inferring::{Inferred, infer};
 use fvn_combine_leaves::{Reading, first_question, question_on_all, question_on_touched, read};
 use fvn_lindio::Solution;
 use fvn_combine_nodes::{State, Table, Tree, table_of};
@@ -30,14 +31,15 @@ use fvn_acunify_product::Tags;
 use std::alloc::Global;
 use std::process::Abort;
 
-/// Constants f and g, free operators h and i, a commutative operator j, sums k and n, and sums l and m with the identity g.
-const OPERATORS: &str = "A; f : -> A; g : -> A; h : A -> A; i : A A -> A; j : A A -> A [comm]; k : A A -> A [assoc comm]; l : A A -> A [assoc comm id: g]; m : A A -> A [assoc comm id: g]; n : A A -> A [assoc comm]";
+/// Constants f, g and o, free operators h and i, a commutative operator j, sums k and n, and sums l and m with the identity g.
+const OPERATORS: &str = "A; f : -> A; g : -> A; h : A -> A; i : A A -> A; j : A A -> A [comm]; k : A A -> A [assoc comm]; l : A A -> A [assoc comm id: g]; m : A A -> A [assoc comm id: g]; n : A A -> A [assoc comm]; o : -> A";
 
 const PROBLEMS: &str = "@PROBLEMS@";
 
 /// What a state asks for, or how many plans and choices it has.
 enum Looked {
     Question(usize, usize),
+    Passed,
     Refused,
     Frame(u64, u64),
 }
@@ -71,6 +73,12 @@ fn opened(
 
 fn look(alloc: Global, sig: &Signature, table: &Table, state: &State) -> Result<Looked, NoMemory> {
     let reading = read(alloc, sig, table, state)?;
+    match infer(alloc, sig, table, state, &reading)? {
+        Inferred::Impossible => return Ok(Looked::Passed),
+        Inferred::Together(i, j) => return Ok(Looked::Question(i, j)),
+        Inferred::Question(i, j) => return Ok(Looked::Question(i, j)),
+        Inferred::Nothing => {}
+    }
     if let Some((i, j)) = first_question(sig, table, state, &reading) {
         return Ok(Looked::Question(i, j));
     }
@@ -95,6 +103,9 @@ fn counted(alloc: Global, sig: &Signature, problem: &Pairs) -> Result<([u64; 4],
         counts[0] = counts[0].saturating_add(1);
         match look(alloc, sig, &table, state)? {
             Looked::Question(i, j) => tree.ask(alloc, sig, &table, i, j)?,
+            Looked::Passed => {
+                let _ = tree.take_top();
+            }
             Looked::Refused => return Ok((counts, true)),
             Looked::Frame(plans, choices) => {
                 counts[1] = counts[1].saturating_add(1);

@@ -9,3 +9,4 @@ mod OneKind
 mod Opening
 mod Ends
 mod Less
+mod Inferring

@@ -1,7 +1,7 @@
 //! What the top of a decision tree asks for.
 ghost use Rattle.std.specs.Prelude.{IfOk};
 ghost use Rattle.fvn_combine_nodes.specs.Trees.{AreClosed};
-ghost use Rattle.fvn_combine_nodes.specs.States.{class_of};
+ghost use Rattle.fvn_combine_nodes.specs.States.{IsClosed, class_of};
 ghost use Rattle.fvn_combine_leaves.specs.Bases.{AreBases};
 ghost use Rattle.fvn_combine_leaves.specs.Leaves.{IsNearLeaf, IsLeaf};
 ghost use Rattle.fvn_combine_leaves.specs.Readings.{IsReading};
@@ -15,7 +15,8 @@ use fvn_base::Seq;
 use fvn_combine_bounds::sorted_leaves_cover;
 use fvn_combine_candidates::{OpenFault, bases, bases_make_systems, refusals_are_causes};
 use fvn_combine_choices::classes_have_one_kind;
-use fvn_combine_complete::readings_tell;
+use fvn_combine_complete::{readings_tell, tables_have_sums, unifiers_go_with};
+use fvn_combine_inferring::{Inferred, infer};
 use fvn_combine_leaves::{Reading, first_question, question_on_all, question_on_touched, read};
 use fvn_combine_nodes::{State, Tree};
 use fvn_combine_systems::{tables_are_small, tables_hold_arguments};
@@ -29,7 +30,7 @@ pub(crate) enum Looked {
     Over,
     /// The question whether two nodes are in one class.
     Open(usize, usize),
-    /// To be passed over: its classes are not of one kind each.
+    /// To be passed over: it admits no unifier.
     Passed,
     /// To end: the sum system of an operator is refused.
     Refused(OpId, System),
@@ -90,25 +91,53 @@ fn look_at_near_leaf(task: &Task, state: &State, reading: Reading) -> Result<Loo
     }
 }
 
+// What is asked for by a state of which nothing is inferred.
+fn look_further(task: &Task, state: &State, reading: Reading) -> Result<Looked, NoMemory>
+    requires closed { IsClosed task.now.declarations task.now.table state.now }
+    requires reading { IsReading task.now.declarations task.now.table (class_of state.now) reading }
+    ensures { IfOk result (IsLookedAt task.now state.now) }
+{
+    match first_question(task.sig, &task.table, state, &reading) {
+        Some((i, j)) => Ok(Looked::Open(i, j)),
+        None => {
+            let looked = look_at_near_leaf(task, state, reading)?;
+            Ok(looked)
+        }
+    }
+}
+
+// What is asked for by a state: first what all unifiers say of it.
+fn look_at(task: &Task, state: &State) -> Result<Looked, NoMemory>
+    requires { IsClosed task.now.declarations task.now.table state.now }
+    ensures { IfOk result (IsLookedAt task.now state.now) }
+{
+    task.recall();
+    tables_hold_arguments();
+    tables_are_small();
+    tables_have_sums();
+    unifiers_go_with();
+    let reading = read(task.alloc, task.sig, &task.table, state)?;
+    match infer(task.alloc, task.sig, &task.table, state, &reading)? {
+        Inferred::Impossible => Ok(Looked::Passed),
+        Inferred::Together(i, j) => Ok(Looked::Open(i, j)),
+        Inferred::Question(i, j) => Ok(Looked::Open(i, j)),
+        Inferred::Nothing => {
+            let looked = look_further(task, state, reading)?;
+            Ok(looked)
+        }
+    }
+}
+
 // What the last state asks for.
 pub(crate) fn look(task: &Task, tree: &Tree) -> Result<Looked, NoMemory>
     requires { AreClosed task.now.declarations task.now.table tree.now }
     ensures { IfOk result (IsLooked task.now tree.now) }
 {
-    task.recall();
-    tables_hold_arguments();
-    tables_are_small();
     match tree.top() {
         None => Ok(Looked::Over),
         Some(state) => {
-            let reading = read(task.alloc, task.sig, &task.table, state)?;
-            match first_question(task.sig, &task.table, state, &reading) {
-                Some((i, j)) => Ok(Looked::Open(i, j)),
-                None => {
-                    let looked = look_at_near_leaf(task, state, reading)?;
-                    Ok(looked)
-                }
-            }
+            let looked = look_at(task, state)?;
+            Ok(looked)
         }
     }
 }

@@ -1,6 +1,8 @@
 -- What is asked of the top of a tree.
-use Rattle.std.proofs.Common.{◌≡◌, ℕ, ◌+◌, ◌<◌, List, [], ◌∷◌, ◌++◌, length, get_or, refl, ap, ◌∙◌, subst, Option, Some, None, arith, All}
-use Rattle.std.specs.Prelude.{IfSome}
+use Rattle.std.proofs.Common.{◌≡◌, ℕ, ◌+◌, ◌<◌, List, [], ◌∷◌, ◌++◌, true, length, get_or, refl, sym, ap, ◌∙◌, subst, Option, Some, None, arith, All}
+use Rattle.std.specs.Prelude.{IfSome, MatchOption}
+use Rattle.std.specs.Option.{is_some}
+use Rattle.std.proofs.lemmas.Bool.{false≢true}
 use Rattle.std.proofs.lemmas.List.{get_or_append_left, get_or_push, length_push}
 use Rattle.std.proofs.lemmas.List.Elements.{All-head}
 use Rattle.fvn_terms.specs.declared.declarations.Declarations.{Declarations}
@@ -23,6 +25,16 @@ front_of P xs below x is h k d l =
     let n = ap length is ∙ length_push below x in
     let there : get_or xs k d ≡ get_or below k d = ap (λ l. get_or l k d) is ∙ get_or_append_left below (x ∷ []) d k l in
     subst P there (h k d (omega arith))
+
+-- where the last one is taken out, if there is one
+pub front_taken : {A : Type 0} (P : A → Type 0) (before after : List A) (r : Option A) → MatchOption r ((before ≡ []) × (after ≡ [])) (λ s. before ≡ after ++ s ∷ []) → All P before → All P after
+front_taken P before after None h all = subst (All P) (h.0 ∙ sym h.1) all
+front_taken P before after (Some s) h all = front_of P before after s h all
+
+-- what holds where there is one
+pub holds_where_some : {A : Type 0} (P : Type 0) (r : Option A) → IfSome r (λ s. P) → is_some r ≡ true → P
+holds_where_some P None h e = absurd (false≢true e)
+holds_where_some P (Some s) h e = h
 
 module _ (d : Declarations) (t : NodeTable) (s : State) where
   -- what decides which way commutative nodes meet are nodes of the table

@@ -1,4 +1,5 @@
 //! Rows of texts, each with what is shown of it.
+mod counting;
 mod deep;
 mod driving;
 mod given;
@@ -8,6 +9,7 @@ mod openings;
 mod partitions;
 mod parts;
 mod rows;
+mod searches;
 mod solving;
 mod splits;
 mod splitting;

@@ -3,6 +3,7 @@ use super::deep::shown_deep;
 use super::large::shown_large;
 use super::openings::shown_opened;
 use super::partitions::{shown_partitions, shown_ways};
+use super::searches::shown_searched;
 use super::solving::shown_solved;
 use super::splits::shown_splits;
 use super::unifiers::shown_unified;
@@ -32,6 +33,7 @@ pub enum Asked {
     Opened,
     Unified,
     Solved,
+    Searched,
 }
 
 fn shown(
@@ -50,6 +52,7 @@ fn shown(
         Asked::Opened => shown_opened(alloc, sig, text),
         Asked::Unified => shown_unified(alloc, sig, text, want),
         Asked::Solved => shown_solved(alloc, sig, text),
+        Asked::Searched => shown_searched(alloc, sig, text),
     }
 }
 

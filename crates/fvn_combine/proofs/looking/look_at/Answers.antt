@@ -1,0 +1,32 @@
+-- The table holds arguments, is small and has sums; what is inferred is said of each unifier.
+use Rattle.std.proofs.Common.{sym, subst, arith}
+use Rattle.fvn_flat.specs.Solving.{problem_of}
+use Rattle.fvn_combine_nodes.specs.States.{IsClosed}
+use Rattle.fvn_combine.specs.Tasks.{Combining}
+use Rattle.fvn_combine_inferring.specs.Inferred.{IsInferred}
+use Rattle.fvn_combine_inferring.specs.declared.inferring.Inferred.TheVariants.{Impossible}
+use Rattle.fvn_combine.proofs.Inferring.{none_admitted}
+use Rattle.fvn_combine.proofs.looking.look_at.Goals as goal
+
+pub read-requires-clause-closed : goal.read-requires-clause-closed
+read-requires-clause-closed c = subst (λ (k : Combining). IsClosed k.declarations k.table c.args.state.now) (sym c.task.view_is) c.requires
+
+pub read-requires-clause-arguments : goal.read-requires-clause-arguments
+read-requires-clause-arguments c = c.tables_hold_arguments.ensures c.task.inside.sig.now (problem_of c.task.inside.problem.now) c.task.inside.table c.task.invariant.well_made c.task.invariant.table_of
+
+pub read-requires-clause-few : goal.read-requires-clause-few
+read-requires-clause-few c =
+    let n = c.tables_are_small.ensures c.task.inside.sig.now c.task.inside.problem.now.pairs c.task.inside.table c.task.invariant.table_of in
+    let m = c.task.invariant.small in
+    omega (arith, n, m)
+
+pub infer-requires-clause-sums : goal.infer-requires-clause-sums
+infer-requires-clause-sums c =
+    c.tables_have_sums.ensures c.task.inside.sig.now c.task.invariant.good.fits (problem_of c.task.inside.problem.now) c.task.invariant.is_given.kinds c.task.inside.table c.task.invariant.well_made c.task.invariant.table_of
+
+pub returns-in-Impossible : goal.returns-in-Impossible
+returns-in-Impossible c =
+    let k = c.args.task.now in
+    none_admitted k c.recall.ensures c.unifiers_go_with.ensures c.args.state.now c.requires
+    (subst (λ (k : Combining). IsInferred k.declarations k.table c.args.state.now Impossible) c.task.view_is
+    (subst (IsInferred c.task.inside.sig.now c.task.inside.table c.args.state.now) c.in-Impossible.is c.in_ok-infer.ensures))

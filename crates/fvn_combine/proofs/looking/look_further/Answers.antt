@@ -1,0 +1,12 @@
+-- The state is closed in the signature of the task.
+use Rattle.std.proofs.Common.{sym, subst}
+use Rattle.fvn_combine_nodes.specs.States.{IsClosed, class_of}
+use Rattle.fvn_combine_leaves.specs.Readings.{IsReading}
+use Rattle.fvn_combine.specs.Tasks.{Combining}
+use Rattle.fvn_combine.proofs.looking.look_further.Goals as goal
+
+pub first_question-requires : goal.first_question-requires
+first_question-requires c = record {
+  closed = subst (λ (k : Combining). IsClosed k.declarations k.table c.args.state.now) (sym c.task.view_is) c.requires.closed;
+  reading = subst (λ (k : Combining). IsReading k.declarations k.table (class_of c.args.state.now) c.args.reading) (sym c.task.view_is) c.requires.reading;
+}

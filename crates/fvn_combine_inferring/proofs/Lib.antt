@@ -1,0 +1,7 @@
+-- Lemmas on reduced rows, and on what they say of the values that go with a state.
+mod TakenOut
+mod Splitting
+mod Headed
+mod Values
+mod Sides
+mod Told

@@ -1,0 +1,22 @@
+-- A class of one side is among the other.
+use Rattle.std.proofs.Common.{get_or, refl}
+use Rattle.fvn_combine_inferring.proofs.Told.{among_side}
+use Rattle.fvn_combine_inferring.proofs.bags.bagged.Goals as goal
+
+pub is_summand-requires-clause-within : goal.is_summand-requires-clause-within
+is_summand-requires-clause-within c = c.requires.left c.loop-k.k-index 0 c.loop-k-test.true
+
+pub matched-told-requires : goal.matched-told-requires
+matched-told-requires c =
+    let xs = c.args.first.now in
+    let i = c.loop-k.k-index in
+    record {
+      closed = c.requires.closed;
+      sums = c.requires.sums;
+      heads = c.requires.heads;
+      within = c.requires.left i 0 c.loop-k-test.true;
+      list = c.requires.right;
+      one = c.is_summand.ensures c.if-not-is_summand.false;
+      single = c.are_summands.ensures c.if-not-are_summands.false;
+      among = among_side c.args.sig.now c.args.table.now c.args.state.now c.args.f xs c.args.second.now i (get_or xs i 0) c.loop-k-test.true refl c.requires.sides;
+    }

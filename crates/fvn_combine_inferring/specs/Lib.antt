@@ -1,0 +1,4 @@
+-- The words of what is inferred of a state, and of reduced rows.
+pub mod Inferred
+pub mod Rows
+pub mod inner

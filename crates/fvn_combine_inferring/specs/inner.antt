@@ -1,0 +1,4 @@
+-- What mirrors the code.
+pub mod Lists
+pub mod Splits
+pub mod Bounds

@@ -1,0 +1,164 @@
+//! How many summands the value of a class has at least, and at most.
+ghost use Rattle.std.specs.Prelude.{◌≡◌, ℕ, ◌<◌, ◌≤◌, true, length, sum_by, All, IsTrue};
+ghost use Rattle.fvn_forms.specs.Flat.{FlatTerm};
+ghost use Rattle.fvn_combine_choices.specs.Tables.{HasSums};
+ghost use Rattle.fvn_combine_complete.specs.Obeying.{GoWith};
+ghost use Rattle.fvn_combine_leaves.specs.Readings.{AreHeads};
+ghost use Rattle.fvn_combine_nodes.specs.States.{IsClosed, IsNaming, class_of, is_apart};
+ghost use Rattle.fvn_combine_inferring.specs.Rows.{many, HasSummand, IsSummand};
+ghost use Rattle.fvn_combine_inferring.specs.inner.Bounds.{IsOtherHead, IsHeadedApart};
+
+use crate::expressions::unit_of;
+use fvn_combine_nodes::{State, Table, has_no_identity};
+use fvn_signature::Signature;
+use fvn_terms::OpId;
+
+// Whether g is neither f nor its identity.
+fn is_other_head(sig: &Signature, f: OpId, g: OpId) -> bool
+    ensures { IsTrue result → IsOtherHead sig.now f g }
+{
+    if g == f {
+        return false;
+    }
+    match sig.identity(f) {
+        None => true,
+        Some(e) => e != g,
+    }
+}
+
+// Whether an operator without an identity heads the class of node k that is neither f nor its identity.
+pub(crate) fn is_headed_apart(
+    sig: &Signature,
+    state: &State,
+    heads: &[Option<OpId>],
+    f: OpId,
+    k: usize,
+) -> bool
+    requires within { k < length state.now.names }
+    requires heads { class_of state.now k < length heads.now }
+    ensures { IsTrue result → IsHeadedApart sig.now f heads.now (class_of state.now k) }
+{
+    match heads[state.class_of(k)] {
+        None => false,
+        Some(g) => is_other_head(sig, f, g),
+    }
+}
+
+// Whether two nodes are kept apart.
+pub(crate) fn are_apart(state: &State, i: usize, j: usize) -> bool
+    requires naming { IsNaming state.now }
+    requires left { i < length state.now.names }
+    requires right { j < length state.now.names }
+    ensures { IsTrue result → is_apart state.now i j ≡ true }
+{
+    if state.is_same(i, j) {
+        return false;
+    }
+    !state.is_open(i, j)
+}
+
+// Whether the class of node k is kept apart from f's identity.
+fn is_apart_from_unit(sig: &Signature, table: &Table, state: &State, f: OpId, k: usize) -> bool
+    requires closed { IsClosed sig.now table.now state.now }
+    requires sums { HasSums sig.now table.now }
+    requires within { k < length table.now.nodes }
+    ensures { IsTrue result → HasSummand sig.now table.now state.now f k }
+{
+    let _sig = sig;
+    match unit_of(table, f) {
+        None => false,
+        Some(n) => are_apart(state, k, n),
+    }
+}
+
+// Whether the class of node k is headed by another operator: its value is one summand.
+pub(crate) fn is_summand(
+    sig: &Signature,
+    table: &Table,
+    state: &State,
+    heads: &[Option<OpId>],
+    f: OpId,
+    k: usize,
+) -> bool
+    requires closed { IsClosed sig.now table.now state.now }
+    requires sums { HasSums sig.now table.now }
+    requires heads { AreHeads sig.now table.now (class_of state.now) heads.now }
+    requires within { k < length table.now.nodes }
+    ensures { IsTrue result → IsSummand sig.now table.now state.now f k }
+{
+    let _table = table;
+    is_headed_apart(sig, state, heads, f, k)
+}
+
+// Whether the value of the class of node k has a summand for sure.
+fn has_summand(
+    sig: &Signature,
+    table: &Table,
+    state: &State,
+    heads: &[Option<OpId>],
+    f: OpId,
+    k: usize,
+) -> bool
+    requires closed { IsClosed sig.now table.now state.now }
+    requires sums { HasSums sig.now table.now }
+    requires heads { AreHeads sig.now table.now (class_of state.now) heads.now }
+    requires within { k < length table.now.nodes }
+    ensures { IsTrue result → HasSummand sig.now table.now state.now f k }
+{
+    if has_no_identity(sig.axioms(f)) {
+        return true;
+    }
+    if is_summand(sig, table, state, heads, f, k) {
+        return true;
+    }
+    is_apart_from_unit(sig, table, state, f, k)
+}
+
+// Whether the values of all these classes are one summand each.
+pub(crate) fn are_summands(
+    sig: &Signature,
+    table: &Table,
+    state: &State,
+    heads: &[Option<OpId>],
+    f: OpId,
+    list: &[usize],
+) -> bool
+    requires closed { IsClosed sig.now table.now state.now }
+    requires sums { HasSums sig.now table.now }
+    requires heads { AreHeads sig.now table.now (class_of state.now) heads.now }
+    requires within { All (λ k. k < length table.now.nodes) list.now }
+    ensures { IsTrue result → All (IsSummand sig.now table.now state.now f) list.now }
+{
+    for k in list {
+        if !is_summand(sig, table, state, heads, f, *k) {
+            return false;
+        }
+    }
+    true
+}
+
+// How many of these classes have a summand for sure.
+pub(crate) fn count_summands(
+    sig: &Signature,
+    table: &Table,
+    state: &State,
+    heads: &[Option<OpId>],
+    f: OpId,
+    list: &[usize],
+) -> usize
+    requires closed { IsClosed sig.now table.now state.now }
+    requires sums { HasSums sig.now table.now }
+    requires heads { AreHeads sig.now table.now (class_of state.now) heads.now }
+    requires within { All (λ k. k < length table.now.nodes) list.now }
+    ensures { (values : ℕ → FlatTerm) → GoWith sig.now table.now state.now values
+        → result ≤ sum_by (many sig.now state.now f values) list.now }
+{
+    let mut count = 0;
+    for k in list {
+        if !has_summand(sig, table, state, heads, f, *k) {
+            continue;
+        }
+        count += 1;
+    }
+    count
+}

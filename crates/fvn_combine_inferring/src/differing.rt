@@ -1,0 +1,76 @@
+//! Classes whose values differ for sure.
+ghost use Rattle.std.specs.Prelude.{◌<◌, length, All, IsTrue, MatchOption};
+ghost use Rattle.fvn_combine_choices.specs.Tables.{HasSums};
+ghost use Rattle.fvn_combine_leaves.specs.Readings.{AreHeads};
+ghost use Rattle.fvn_combine_nodes.specs.States.{IsClosed, class_of};
+ghost use Rattle.fvn_combine_inferring.specs.Inferred.{HaveTwoValues};
+ghost use Rattle.fvn_combine_inferring.specs.inner.Bounds.{HaveTwoHeads};
+
+use crate::bounds::are_apart;
+use fvn_combine_nodes::{State, Table};
+use fvn_signature::Signature;
+use fvn_terms::OpId;
+
+// Whether different heads are noted of classes k and l.
+fn have_two_heads(heads: &[Option<OpId>], k: usize, l: usize) -> bool
+    requires left { k < length heads.now }
+    requires right { l < length heads.now }
+    ensures { IsTrue result → HaveTwoHeads heads.now k l }
+{
+    match heads[k] {
+        None => false,
+        Some(f) => match heads[l] {
+            None => false,
+            Some(g) => f != g,
+        },
+    }
+}
+
+// Whether the classes of two nodes have different values for sure: they are kept apart, or have two heads.
+pub(crate) fn differ(
+    sig: &Signature,
+    table: &Table,
+    state: &State,
+    heads: &[Option<OpId>],
+    i: usize,
+    j: usize,
+) -> bool
+    requires closed { IsClosed sig.now table.now state.now }
+    requires sums { HasSums sig.now table.now }
+    requires heads { AreHeads sig.now table.now (class_of state.now) heads.now }
+    requires left { i < length table.now.nodes }
+    requires right { j < length table.now.nodes }
+    ensures { IsTrue result → HaveTwoValues sig.now table.now state.now i j }
+{
+    let _sig = sig;
+    let _table = table;
+    if are_apart(state, i, j) {
+        return true;
+    }
+    have_two_heads(heads, state.class_of(i), state.class_of(j))
+}
+
+// A node of the list whose class is not known to differ from that of node k.
+pub(crate) fn candidate(
+    sig: &Signature,
+    table: &Table,
+    state: &State,
+    heads: &[Option<OpId>],
+    k: usize,
+    list: &[usize],
+) -> Option<usize>
+    requires closed { IsClosed sig.now table.now state.now }
+    requires sums { HasSums sig.now table.now }
+    requires heads { AreHeads sig.now table.now (class_of state.now) heads.now }
+    requires within { k < length table.now.nodes }
+    requires list { All (λ l. l < length table.now.nodes) list.now }
+    ensures { MatchOption result (All (HaveTwoValues sig.now table.now state.now k) list.now)
+        (λ l. l < length table.now.nodes) }
+{
+    for l in list {
+        if !differ(sig, table, state, heads, k, *l) {
+            return Some(*l);
+        }
+    }
+    None
+}

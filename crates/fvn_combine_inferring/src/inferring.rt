@@ -1,0 +1,145 @@
+//! What is inferred of a state.
+ghost use Rattle.std.specs.Prelude.{◌≡◌, ◌≢◌, ◌↔◌, ◌⊎◌, ◌<◌, length, IfOk, IsTrue};
+ghost use Rattle.fvn_terms.specs.Signature.{axioms};
+ghost use Rattle.fvn_terms.specs.Equality.{IsAssociative};
+ghost use Rattle.fvn_combine_choices.specs.Tables.{HasSums};
+ghost use Rattle.fvn_combine_leaves.specs.Readings.{AreHeads, IsReading};
+ghost use Rattle.fvn_combine_nodes.specs.States.{IsClosed, class_of};
+ghost use Rattle.fvn_combine_inferring.specs.Inferred.{IsInferred};
+ghost use Rattle.fvn_combine_inferring.specs.inner.Splits.{IsAddition};
+
+use crate::expressions::{Addition, addition_of};
+use crate::rows::row_at;
+use crate::rules::rule;
+use fvn_combine_leaves::Reading;
+use fvn_combine_nodes::{State, Table};
+use fvn_signature::Signature;
+use fvn_terms::{NoMemory, OpId};
+use std::alloc::Global;
+
+/// What all values that go with a state have in common.
+#[derive(Clone, Copy)]
+pub enum Inferred {
+    /// Nothing is said.
+    Nothing,
+    /// No values go with the state.
+    Impossible,
+    /// Two nodes have one value, and are not yet in one class.
+    Together(usize, usize),
+    /// Nothing is said; whether two nodes are in one class is worth asking first.
+    Question(usize, usize),
+}
+
+impl Inferred {
+    // Whether anything is said.
+    pub(crate) fn is_something(self) -> bool
+        ensures { IsTrue result ↔ (self ≢ Inferred.Nothing) }
+    {
+        match self {
+            Inferred::Nothing => false,
+            Inferred::Impossible => true,
+            Inferred::Together(_, _) => true,
+            Inferred::Question(_, _) => true,
+        }
+    }
+
+    // Whether it is said of all values.
+    pub(crate) fn is_fact(self) -> bool
+        ensures { IsTrue result → (self ≢ Inferred.Nothing) }
+    {
+        match self {
+            Inferred::Nothing => false,
+            Inferred::Impossible => true,
+            Inferred::Together(_, _) => true,
+            Inferred::Question(_, _) => false,
+        }
+    }
+
+    // This, where anything is said, else the other.
+    pub(crate) fn or_told(self, other: Inferred) -> Inferred
+        ensures { (result ≡ self) ⊎ (result ≡ other) }
+    {
+        if self.is_something() { self } else { other }
+    }
+}
+
+// What the row of node i says, where it is a sum.
+fn infer_at(
+    alloc: Global,
+    sig: &Signature,
+    table: &Table,
+    state: &State,
+    heads: &[Option<OpId>],
+    addition: &Addition,
+    i: usize,
+) -> Result<Inferred, NoMemory>
+    requires closed { IsClosed sig.now table.now state.now }
+    requires sums { HasSums sig.now table.now }
+    requires heads { AreHeads sig.now table.now (class_of state.now) heads.now }
+    requires addition { IsAddition sig.now table.now state.now addition.now }
+    requires within { i < length table.now.nodes }
+    ensures { IfOk result (IsInferred sig.now table.now state.now) }
+{
+    match row_at(alloc, sig, table, state, addition, i)? {
+        None => Ok(Inferred::Nothing),
+        Some(row) => {
+            let left = row.left.as_slice();
+            let right = row.right.as_slice();
+            Ok(rule(sig, table, state, heads, addition.operator, left, right))
+        }
+    }
+}
+
+// What the sums by f say.
+fn infer_of(
+    alloc: Global,
+    sig: &Signature,
+    table: &Table,
+    state: &State,
+    heads: &[Option<OpId>],
+    f: OpId,
+) -> Result<Inferred, NoMemory>
+    requires associative { IsAssociative (axioms sig.now f) }
+    requires closed { IsClosed sig.now table.now state.now }
+    requires sums { HasSums sig.now table.now }
+    requires heads { AreHeads sig.now table.now (class_of state.now) heads.now }
+    ensures { IfOk result (IsInferred sig.now table.now state.now) }
+{
+    let addition = addition_of(alloc, sig, table, state, heads, f)?;
+    let mut asked = Inferred::Nothing;
+    for i in 0..table.nodes().len() {
+        let told = infer_at(alloc, sig, table, state, heads, &addition, i)?;
+        if told.is_fact() {
+            return Ok(told);
+        }
+        asked = asked.or_told(told);
+    }
+    Ok(asked)
+}
+
+/// Something that holds of all values that go with the state, as its sums say, or a question; nothing may
+/// always be said.
+pub fn infer(
+    alloc: Global,
+    sig: &Signature,
+    table: &Table,
+    state: &State,
+    reading: &Reading,
+) -> Result<Inferred, NoMemory>
+    requires closed { IsClosed sig.now table.now state.now }
+    requires sums { HasSums sig.now table.now }
+    requires reading { IsReading sig.now table.now (class_of state.now) reading.now }
+    ensures { IfOk result (IsInferred sig.now table.now state.now) }
+{
+    table.recall_well_made();
+    let heads = reading.heads.as_slice();
+    let mut asked = Inferred::Nothing;
+    for sums in reading.sums.as_slice() {
+        let told = infer_of(alloc, sig, table, state, heads, sums.operator)?;
+        if told.is_fact() {
+            return Ok(told);
+        }
+        asked = asked.or_told(told);
+    }
+    Ok(asked)
+}

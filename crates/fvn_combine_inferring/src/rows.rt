@@ -1,0 +1,81 @@
+//! Reduced rows.
+ghost use Rattle.std.specs.Prelude.{◌≡◌, ◌<◌, length, All, IfOk, IfSome};
+ghost use Rattle.fvn_combine_choices.specs.Tables.{HasSums};
+ghost use Rattle.fvn_combine_nodes.specs.States.{IsClosed};
+ghost use Rattle.fvn_combine_inferring.specs.Rows.{AreSides};
+ghost use Rattle.fvn_combine_inferring.specs.inner.Splits.{IsAddition, AreWithin, IsReduced};
+
+use crate::cancelling::{cancel, without};
+use crate::expressions::{Addition, expression, split_at};
+use fvn_combine_nodes::{State, Table};
+use fvn_signature::Signature;
+use fvn_terms::NoMemory;
+use std::alloc::Global;
+
+/// Two lists of classes whose values have together the same summands.
+#[derive(Drop)]
+pub struct Row {
+    pub left: Vec<usize>,
+    pub right: Vec<usize>,
+}
+
+// What is left of the equation of class k with the sum of a and b.
+fn reduced(
+    alloc: Global,
+    splits: &[Option<(usize, usize)>],
+    unit: Option<usize>,
+    k: usize,
+    a: usize,
+    b: usize,
+) -> Result<Row, NoMemory>
+    requires splits { AreWithin splits.now }
+    requires whole { k < length splits.now }
+    requires first { a < length splits.now }
+    requires second { b < length splits.now }
+    ensures { IfOk result (IsReduced splits.now unit k a b) }
+{
+    let mut added = expression(alloc, splits, a)?;
+    let second = expression(alloc, splits, b)?;
+    added.extend_from_slice(second.as_slice())?;
+    let whole = expression(alloc, splits, k)?;
+    let rest = cancel(alloc, &mut added, whole.as_slice())?;
+    let left = without(alloc, added.as_slice(), unit)?;
+    let right = without(alloc, rest.as_slice(), unit)?;
+    Ok(Row { left, right })
+}
+
+// The reduced row of node i, where it is a sum.
+pub(crate) fn row_at(
+    alloc: Global,
+    sig: &Signature,
+    table: &Table,
+    state: &State,
+    addition: &Addition,
+    i: usize,
+) -> Result<Option<Row>, NoMemory>
+    requires closed { IsClosed sig.now table.now state.now }
+    requires sums { HasSums sig.now table.now }
+    requires addition { IsAddition sig.now table.now state.now addition.now }
+    requires within { i < length table.now.nodes }
+    ensures sides { IfOk result (λ o. IfSome o (λ r.
+        AreSides sig.now table.now state.now addition.now.operator r.left.items r.right.items)) }
+    ensures left { IfOk result (λ o. IfSome o (λ r. All (λ k. k < length table.now.nodes) r.left.items)) }
+    ensures right { IfOk result (λ o. IfSome o (λ r. All (λ k. k < length table.now.nodes) r.right.items)) }
+{
+    table.recall_well_made();
+    let _sig = sig;
+    match split_at(table, state, addition.operator, i) {
+        None => Ok(None),
+        Some(p) => {
+            let row = reduced(
+                alloc,
+                addition.splits.as_slice(),
+                addition.unit,
+                state.class_of(i),
+                p.0,
+                p.1,
+            )?;
+            Ok(Some(row))
+        }
+    }
+}

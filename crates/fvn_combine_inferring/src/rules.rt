@@ -1,0 +1,263 @@
+//! What a reduced row says of its classes.
+ghost use Rattle.std.specs.Prelude.{◌≡◌, ◌↔◌, ◌<◌, [], length, All, IfSome, IsTrue};
+ghost use Rattle.fvn_combine_choices.specs.Tables.{HasSums};
+ghost use Rattle.fvn_combine_leaves.specs.Readings.{AreHeads};
+ghost use Rattle.fvn_combine_nodes.specs.States.{IsClosed, class_of};
+ghost use Rattle.fvn_combine_inferring.specs.Inferred.{HaveOneValue, IsInferred};
+ghost use Rattle.fvn_combine_inferring.specs.Rows.{AreSides};
+
+use crate::bags::bagged;
+use crate::bounds::{are_summands, count_summands};
+use crate::expressions::unit_of;
+use crate::inferring::Inferred;
+use fvn_combine_nodes::{State, Table, has_no_identity};
+use fvn_signature::Signature;
+use fvn_terms::OpId;
+
+// What is said of two nodes whose classes have one value.
+fn met(sig: &Signature, table: &Table, state: &State, i: usize, j: usize) -> Inferred
+    requires closed { IsClosed sig.now table.now state.now }
+    requires left { i < length table.now.nodes }
+    requires right { j < length table.now.nodes }
+    requires equal { HaveOneValue sig.now table.now state.now i j }
+    ensures { IsInferred sig.now table.now state.now result }
+{
+    let _sig = sig;
+    let _table = table;
+    if state.is_same(i, j) {
+        return Inferred::Nothing;
+    }
+    if state.is_open(i, j) {
+        return Inferred::Together(i, j);
+    }
+    Inferred::Impossible
+}
+
+// What is said of nodes whose classes all have the value of that of node n.
+fn all_met(sig: &Signature, table: &Table, state: &State, list: &[usize], n: usize) -> Inferred
+    requires closed { IsClosed sig.now table.now state.now }
+    requires within { All (λ k. k < length table.now.nodes) list.now }
+    requires right { n < length table.now.nodes }
+    requires equal { All (λ k. HaveOneValue sig.now table.now state.now k n) list.now }
+    ensures { IsInferred sig.now table.now state.now result }
+{
+    for k in list {
+        let told = met(sig, table, state, *k, n);
+        if told.is_something() {
+            return told;
+        }
+    }
+    Inferred::Nothing
+}
+
+// Whether the list has no classes.
+fn has_none(list: &[usize]) -> bool
+    ensures { IsTrue result ↔ (length list.now ≡ 0) }
+{
+    list.len() == 0
+}
+
+// What is said of classes whose values have no summands.
+fn emptied(sig: &Signature, table: &Table, state: &State, f: OpId, list: &[usize]) -> Inferred
+    requires closed { IsClosed sig.now table.now state.now }
+    requires sums { HasSums sig.now table.now }
+    requires within { All (λ k. k < length table.now.nodes) list.now }
+    requires sides { AreSides sig.now table.now state.now f list.now [] }
+    ensures { IsInferred sig.now table.now state.now result }
+{
+    if has_none(list) {
+        return Inferred::Nothing;
+    }
+    if has_no_identity(sig.axioms(f)) {
+        return Inferred::Impossible;
+    }
+    match unit_of(table, f) {
+        None => Inferred::Nothing,
+        Some(n) => all_met(sig, table, state, list, n),
+    }
+}
+
+// Whether all numbers of the list are k.
+fn are_all(list: &[usize], k: usize) -> bool
+    ensures { IsTrue result → All (λ x. x ≡ k) list.now }
+{
+    for x in list {
+        if *x != k {
+            return false;
+        }
+    }
+    true
+}
+
+// The number that all members of the list are, where it has any.
+fn the_one(list: &[usize]) -> Option<usize>
+    ensures some { IfSome result (λ k. 0 < length list.now) }
+    ensures all { IfSome result (λ k. All (λ x. x ≡ k) list.now) }
+{
+    if list.len() == 0 {
+        return None;
+    }
+    if are_all(list, list[0]) {
+        return Some(list[0]);
+    }
+    None
+}
+
+// Whether both lists have as many.
+fn are_as_many(xs: &[usize], ys: &[usize]) -> bool
+    ensures { IsTrue result ↔ (length xs.now ≡ length ys.now) }
+{
+    xs.len() == ys.len()
+}
+
+// What is said where both sides are one class each, equally often.
+fn cancelled(
+    sig: &Signature,
+    table: &Table,
+    state: &State,
+    f: OpId,
+    left: &[usize],
+    right: &[usize],
+) -> Inferred
+    requires closed { IsClosed sig.now table.now state.now }
+    requires left { All (λ k. k < length table.now.nodes) left.now }
+    requires right { All (λ k. k < length table.now.nodes) right.now }
+    requires sides { AreSides sig.now table.now state.now f left.now right.now }
+    ensures { IsInferred sig.now table.now state.now result }
+{
+    let _operator = f;
+    match the_one(left) {
+        None => Inferred::Nothing,
+        Some(k) => match the_one(right) {
+            None => Inferred::Nothing,
+            Some(l) => {
+                if !are_as_many(left, right) {
+                    return Inferred::Nothing;
+                }
+                met(sig, table, state, k, l)
+            }
+        },
+    }
+}
+
+// Whether the number is above that of the list's members.
+fn is_more(count: usize, list: &[usize]) -> bool
+    ensures { IsTrue result ↔ (length list.now < count) }
+{
+    count > list.len()
+}
+
+// What is said where the classes of the second list are one summand each: the first ones have no more.
+fn counted(
+    sig: &Signature,
+    table: &Table,
+    state: &State,
+    heads: &[Option<OpId>],
+    f: OpId,
+    first: &[usize],
+    second: &[usize],
+) -> Inferred
+    requires closed { IsClosed sig.now table.now state.now }
+    requires sums { HasSums sig.now table.now }
+    requires heads { AreHeads sig.now table.now (class_of state.now) heads.now }
+    requires left { All (λ k. k < length table.now.nodes) first.now }
+    requires right { All (λ k. k < length table.now.nodes) second.now }
+    requires sides { AreSides sig.now table.now state.now f first.now second.now }
+    ensures { IsInferred sig.now table.now state.now result }
+{
+    if !are_summands(sig, table, state, heads, f, second) {
+        return Inferred::Nothing;
+    }
+    let count = count_summands(sig, table, state, heads, f, first);
+    if is_more(count, second) {
+        return Inferred::Impossible;
+    }
+    Inferred::Nothing
+}
+
+// What is said where one side is empty.
+fn one_sided(
+    sig: &Signature,
+    table: &Table,
+    state: &State,
+    f: OpId,
+    left: &[usize],
+    right: &[usize],
+) -> Inferred
+    requires closed { IsClosed sig.now table.now state.now }
+    requires sums { HasSums sig.now table.now }
+    requires left { All (λ k. k < length table.now.nodes) left.now }
+    requires right { All (λ k. k < length table.now.nodes) right.now }
+    requires sides { AreSides sig.now table.now state.now f left.now right.now }
+    ensures { IsInferred sig.now table.now state.now result }
+{
+    if has_none(right) {
+        return emptied(sig, table, state, f, left);
+    }
+    if has_none(left) {
+        return emptied(sig, table, state, f, right);
+    }
+    Inferred::Nothing
+}
+
+// What the row says of single summands, which are each one of the other side: a fact before a question.
+fn both_bagged(
+    sig: &Signature,
+    table: &Table,
+    state: &State,
+    heads: &[Option<OpId>],
+    f: OpId,
+    left: &[usize],
+    right: &[usize],
+) -> Inferred
+    requires closed { IsClosed sig.now table.now state.now }
+    requires sums { HasSums sig.now table.now }
+    requires heads { AreHeads sig.now table.now (class_of state.now) heads.now }
+    requires left { All (λ k. k < length table.now.nodes) left.now }
+    requires right { All (λ k. k < length table.now.nodes) right.now }
+    requires sides { AreSides sig.now table.now state.now f left.now right.now }
+    ensures { IsInferred sig.now table.now state.now result }
+{
+    let told = bagged(sig, table, state, heads, f, left, right);
+    if told.is_something() {
+        return told;
+    }
+    bagged(sig, table, state, heads, f, right, left)
+}
+
+// What the row says.
+pub(crate) fn rule(
+    sig: &Signature,
+    table: &Table,
+    state: &State,
+    heads: &[Option<OpId>],
+    f: OpId,
+    left: &[usize],
+    right: &[usize],
+) -> Inferred
+    requires closed { IsClosed sig.now table.now state.now }
+    requires sums { HasSums sig.now table.now }
+    requires heads { AreHeads sig.now table.now (class_of state.now) heads.now }
+    requires left { All (λ k. k < length table.now.nodes) left.now }
+    requires right { All (λ k. k < length table.now.nodes) right.now }
+    requires sides { AreSides sig.now table.now state.now f left.now right.now }
+    ensures { IsInferred sig.now table.now state.now result }
+{
+    let told_left = counted(sig, table, state, heads, f, left, right);
+    if told_left.is_something() {
+        return told_left;
+    }
+    let told_right = counted(sig, table, state, heads, f, right, left);
+    if told_right.is_something() {
+        return told_right;
+    }
+    let told_empty = one_sided(sig, table, state, f, left, right);
+    if told_empty.is_something() {
+        return told_empty;
+    }
+    let told_same = cancelled(sig, table, state, f, left, right);
+    if told_same.is_something() {
+        return told_same;
+    }
+    both_bagged(sig, table, state, heads, f, left, right)
+}

@@ -1,0 +1,126 @@
+//! Counts the states that are looked at, where each look begins with what all unifiers say of a state.
+ghost use Rattle.std.specs.Prelude.{◌<◌, ◌≤◌, length, IfOk, IfSome, OnOk, IsTrue};
+ghost use Rattle.fvn_base.specs.declared.limits.TheConstants.{COLUMNS, TERM_SYMBOLS};
+ghost use Rattle.fvn_flat.specs.Solving.{IsGiven, symbols_of_pairs};
+ghost use Rattle.fvn_combine_choices.specs.Tables.{HasSums};
+ghost use Rattle.fvn_combine_leaves.specs.Readings.{IsReading};
+ghost use Rattle.fvn_combine_nodes.specs.States.{IsClosed, IsOpen, class_of};
+ghost use Rattle.fvn_combine_nodes.specs.Trees.{AreClosed, weight};
+ghost use Rattle.fvn_combine_systems.specs.NodeSystems.{HoldsArguments};
+
+use super::unifying::push_number;
+use fvn_combine_candidates::bases;
+use fvn_combine_complete::tables_have_sums;
+use fvn_combine_inferring::{Inferred, infer};
+use fvn_combine_leaves::{Reading, first_question, question_on_all, question_on_touched, read};
+use fvn_combine_nodes::{State, Table, Tree, table_of};
+use fvn_combine_systems::{tables_are_small, tables_hold_arguments};
+use fvn_flat::Pairs;
+use fvn_signature::Signature;
+use fvn_terms::NoMemory;
+use std::alloc::Global;
+
+/// What a state is asked of which nothing is inferred; none where it is a leaf.
+fn asked_further(
+    alloc: Global,
+    sig: &Signature,
+    table: &Table,
+    state: &State,
+    reading: &Reading,
+) -> Option<(usize, usize)>
+    requires closed { IsClosed sig.now table.now state.now }
+    requires reading { IsReading sig.now table.now (class_of state.now) reading.now }
+    ensures within { IfSome result (λ p. (p.0 < length table.now.nodes) × (p.1 < length table.now.nodes)) }
+    ensures open { IfSome result (λ p. IsOpen state.now p.0 p.1) }
+{
+    match first_question(sig, table, state, reading) {
+        Some(pair) => Some(pair),
+        None => match bases(alloc, sig, table, state, reading) {
+            Err(_) => question_on_all(sig, table, state, reading),
+            Ok(lists) => question_on_touched(sig, table, state, reading, lists.as_slice()),
+        },
+    }
+}
+
+/// What a state is asked; none where it is a leaf, or impossible.
+fn asked(
+    alloc: Global,
+    sig: &Signature,
+    table: &Table,
+    state: &State,
+) -> Result<Option<(usize, usize)>, NoMemory>
+    requires closed { IsClosed sig.now table.now state.now }
+    requires sums { HasSums sig.now table.now }
+    requires arguments { HoldsArguments table.now }
+    requires few { length table.now.subterms ≤ COLUMNS }
+    ensures within { IfOk result (λ o. IfSome o (λ p. (p.0 < length table.now.nodes) × (p.1 < length table.now.nodes))) }
+    ensures open { IfOk result (λ o. IfSome o (λ p. IsOpen state.now p.0 p.1)) }
+{
+    let reading = read(alloc, sig, table, state)?;
+    match infer(alloc, sig, table, state, &reading)? {
+        Inferred::Impossible => Ok(None),
+        Inferred::Together(i, j) => Ok(Some((i, j))),
+        Inferred::Question(i, j) => Ok(Some((i, j))),
+        Inferred::Nothing => Ok(asked_further(alloc, sig, table, state, &reading)),
+    }
+}
+
+/// Asks the top its question, or takes it out; false where the tree is empty.
+fn step(alloc: Global, sig: &Signature, table: &Table, tree: &mut Tree) -> Result<bool, NoMemory>
+    requires closed { AreClosed sig.now table.now tree.old }
+    requires sums { HasSums sig.now table.now }
+    requires arguments { HoldsArguments table.now }
+    requires few { length table.now.subterms ≤ COLUMNS }
+    ensures closed { OnOk result (AreClosed sig.now table.now tree.new) }
+    ensures falls { IfOk result (λ more. IsTrue more → weight tree.new < weight tree.old) }
+{
+    match tree.top() {
+        None => Ok(false),
+        Some(state) => match asked(alloc, sig, table, state)? {
+            Some((i, j)) => {
+                tree.ask(alloc, sig, table, i, j)?;
+                Ok(true)
+            }
+            None => {
+                let more = tree.take_top().is_some();
+                Ok(more)
+            }
+        },
+    }
+}
+
+/// How many states are looked at.
+fn count_states(alloc: Global, sig: &Signature, table: &Table) -> Result<usize, NoMemory>
+    requires sums { HasSums sig.now table.now }
+    requires arguments { HoldsArguments table.now }
+    requires few { length table.now.subterms ≤ COLUMNS }
+{
+    let mut tree = Tree::new(alloc, sig, table)?;
+    let mut states: usize = 0;
+    'questions: loop {
+        if !step(alloc, sig, table, &mut tree)? {
+            return Ok(states);
+        }
+        states = states.saturating_add(1);
+    }
+}
+
+/// Writes how many states of the problem are looked at.
+pub fn push_counted(
+    alloc: Global,
+    sig: &Signature,
+    problem: &Pairs,
+    out: &mut String,
+) -> Result<(), NoMemory>
+    requires given { IsGiven sig.now problem.now 0 }
+    requires small { symbols_of_pairs problem.now.pairs ≤ TERM_SYMBOLS }
+{
+    tables_hold_arguments();
+    tables_have_sums();
+    tables_are_small();
+    sig.recall_good();
+    let table = table_of(alloc, sig, problem)?;
+    table.recall_well_made();
+    let states = count_states(alloc, sig, &table)?;
+    push_number(out, states)
+}
