@@ -1,11 +1,12 @@
 #!/usr/bin/env python3
 """Times `fvn unify` beside Maude's `irredundant unify`, in turn, on scaled problems.
 
-    bench/unify-times.py [--fvn FVN] [--only WORD] [--repeat N] [--seconds N]
+    bench/unify-times.py [--fvn FVN] [--before FVN] [--only WORD] [--repeat N] [--seconds N]
 
-Each problem of bench/unify/problems.py is solved by both, N times in turn. Printed are the number of answers, the median
-seconds of each net of start-up (measured on a problem of two constants), their ratio, the peak memory of each, and the bytes
-that fvn printed. A `!` marks different numbers of answers. Where Maude (`FVN_MAUDE`, or `maude`) is missing, fvn alone is timed.
+Each problem of bench/unify/problems.py is solved by both, N times in turn, and by another fvn where `--before` names one.
+Printed is a table: the number of answers, the bytes that fvn printed and its peak memory, the median milliseconds of each net
+of start-up (measured on a problem of two constants), and the ratio of fvn to Maude. A `!` marks different numbers of answers.
+Where Maude (`FVN_MAUDE`, or `maude`) is missing, fvn alone is timed.
 """
 
 import argparse
@@ -66,9 +67,17 @@ def medians(runs):
     return None if None in runs else (runs[0][0], statistics.median(r[1] for r in runs), max(r[2] for r in runs), runs[0][3:])
 
 
+def told(found, start, seconds):
+    """Answers and milliseconds net of start-up, of the medians of some runs."""
+    if found is None:
+        return "", f"over {seconds * 1000:.0f}"
+    return found[0], f"{max(found[1] - start, 0.00005) * 1000:.1f}"
+
+
 def main():
     parser = argparse.ArgumentParser(description=__doc__, formatter_class=argparse.RawDescriptionHelpFormatter)
     parser.add_argument("--fvn", default=str(HERE.parent / "fvn"))
+    parser.add_argument("--before")
     parser.add_argument("--only", default="")
     parser.add_argument("--repeat", type=int, default=5)
     parser.add_argument("--seconds", type=float, default=60)
@@ -77,37 +86,41 @@ def main():
     there = shutil.which(maude[0]) is not None
     if not there:
         print(f"there is no command {maude[0]}: fvn alone is timed")
+    runs = {"fvn": lambda *what: fvn_run(given.fvn, *what)}
+    if given.before:
+        runs["before"] = lambda *what: fvn_run(given.before, *what)
+    if there:
+        runs["Maude"] = lambda *what: maude_run(maude, *what)
+    print("| family | size | answers | bytes | kB |" + "".join(f" {name} |" for name in runs) + " ratio |")
+    print("|---|---|---|---|---|" + "---|" * len(runs) + "---|")
     start = {}
     for family, name, sizes in FAMILIES:
         if given.only not in family:
             continue
         module = (HERE / "unify" / f"{name}.maude").read_text()
-        constant = {"evens": "0"}.get(name, "a")
+        constant = {"evens": "0", "parity": "0"}.get(name, "a")
         if name not in start:
             same = f"{constant} =? {constant}"
-            start[name] = (
-                statistics.median(fvn_run(given.fvn, module, same, 60)[1] for _ in range(5)),
-                statistics.median(maude_run(maude, module, same, 60)[1] for _ in range(5)) if there else 0,
-            )
+            start[name] = {who: statistics.median(run(module, same, 60)[1] for _ in range(5)) for who, run in runs.items()}
         for size, problem in sizes.items():
-            ours, theirs = [], []
+            found = {who: [] for who in runs}
             for _ in range(given.repeat):
-                ours.append(fvn_run(given.fvn, module, problem, given.seconds))
-                theirs.append(maude_run(maude, module, problem, given.seconds) if there else None)
-                if ours[-1] is None:
-                    break
-            a, b = medians(ours), medians(theirs)
-            if a is None:
-                print(f"{family:24} {size:3}  over {given.seconds:g} s; Maude {'over' if b is None else f'{b[1]:.4f}'}", flush=True)
-                continue
-            net = max(a[1] - start[name][0], 0.00005)
-            line = f"{family:24} {size:3}  answers {a[0]:>6}  fvn {net:.4f} s {a[2]:7} kB {a[3][0]:8} bytes"
-            if b is not None:
-                other = max(b[1] - start[name][1], 0.00005)
-                line += f"  Maude {b[0]:>5} {other:.4f} s {b[2]:7} kB  ratio {net / other:6.2f}{'' if a[0] == b[0] else ' !'}"
-            print(line, flush=True)
-    for name, pair in start.items():
-        print(f"start-up of {name}: fvn {pair[0]:.4f} s, Maude {pair[1]:.4f} s")
+                for who, run in runs.items():
+                    if None not in found[who]:
+                        found[who].append(run(module, problem, given.seconds))
+            found = {who: medians(each) for who, each in found.items()}
+            cells = {who: told(each, start[name][who], given.seconds) for who, each in found.items()}
+            ours, theirs = found["fvn"], found.get("Maude")
+            answers = cells["fvn"][0] or "none"
+            if any(count not in ("", answers) for count, _ in cells.values()):
+                answers += " !"
+            more = f"{ours[3][0]} | {ours[2]}" if ours else " | "
+            ratio = ""
+            if ours and theirs:
+                ratio = f"{max(ours[1] - start[name]['fvn'], 0.00005) / max(theirs[1] - start[name]['Maude'], 0.00005):.2f}"
+            print(f"| {family} | {size} | {answers} | {more} |" + "".join(f" {c[1]} |" for c in cells.values()) + f" {ratio} |", flush=True)
+    for name, each in start.items():
+        print(f"start-up of {name}, ms: " + ", ".join(f"{who} {1000 * seconds:.1f}" for who, seconds in each.items()))
 
 
 if __name__ == "__main__":

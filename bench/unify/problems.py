@@ -28,11 +28,44 @@ def doubled(depth):
     return " /\\ ".join(f"X{i + 1}:S =? p(X{i}:S, X{i}:S)" for i in range(1, depth + 1))
 
 
+def alternations(count):
+    """A sum with an identity below a sum, so many times, against one of constants."""
+    left, right = "X0:S", "a"
+    for i in range(1, count + 1):
+        left, right = f"_+_(_&_({left}, X{i}:S), b)", f"_+_(_&_({right}, b), b)"
+    return f"{left} =? {right}"
+
+
+def pairs_below_sums(count):
+    """So many commutative pairs below a sum, beside a variable."""
+    left = [f"g(c(X{i}:S, a))" for i in range(1, count + 1)] + ["Z:S"]
+    right = ["g(c(a, a))" if i % 2 else "g(c(a, b))" for i in range(1, count + 1)] + ["U:S"]
+    return f"{over('_+_', left)} =? {over('_+_', right)}"
+
+
+def marking(text):
+    """A sum of markings: each word a letter and a number of variables of a sort, as A3:Coin, or one variable."""
+    found = []
+    for word in text.split():
+        name, sort = word.split(":")
+        count = int(name[1:] or 1)
+        found += variables(name[0], count, sort)
+    return over("__", found)
+
+
+def markings(problems):
+    return {text: " =? ".join(marking(side) for side in text.split(" = ")) for text in problems}
+
+
+def against_constants(letters, count):
+    return f"{over('__', letters)} =? {over('__', [f'c{i}' for i in range(1, count + 1)])}"
+
+
 FAMILIES = [
     ("2 against n", "sums", {n: sums(2, n) for n in range(2, 8)}),
     ("3 against n", "sums", {n: sums(3, n) for n in (2, 3)}),
     ("coefficients", "sums", {n: f"{over('_+_', ['X1:S'] * n + ['X2:S'])} =? {over('_+_', ['Y1:S'] * 2 + ['Y2:S'] * 2)}" for n in (2, 3, 4)}),
-    ("commutative chain", "sums", {n: " /\\ ".join(f"c(X{i}:S, Y{i}:S) =? c(a, b)" for i in range(1, n + 1)) for n in (2, 4, 6, 8)}),
+    ("commutative chain", "sums", {n: " /\\ ".join(f"c(X{i}:S, Y{i}:S) =? c(a, b)" for i in range(1, n + 1)) for n in (2, 4, 6, 8, 10)}),
     ("commutative tower", "sums", {n: f"{tower(n, 'X:S')} =? {tower(n, 'b')}" for n in (2, 4, 6, 8)}),
     ("mixed operators", "sums", {n: f"_+_({over('_*_', variables('X', n))}, Z:S) =? _+_({over('_*_', variables('Y', 2))}, g(W:S))" for n in (2, 3, 4)}),
     ("aliens under sums", "sums", {n: f"{over('_+_', [f'g(X{i}:S)' for i in range(1, n + 1)])} =? {over('_+_', [f'g(Y{i}:S)' for i in range(1, n + 1)])}" for n in (2, 3, 4, 5)}),
@@ -42,6 +75,25 @@ FAMILIES = [
     ("bags split in two", "elements", {n: f"{over('_;_', ['A:Bag', 'B:Bag'])} =? {over('_;_', variables('E', n, 'Elt'))}" for n in (2, 4, 6, 8)}),
     ("ways of sorts", "parity", {n: f"E:Even =? {over('s', variables('X', n, 'Nat'))}" for n in (3, 5, 7, 9)}),
     ("sorts that split", "evens", {n: f"{over('_+_', ['X1:Even', 'X2:Odd'])} =? {over('_+_', variables('Y', n, 'Nat'))}" for n in (2, 3)}),
+    ("alternations", "mix", {n: alternations(n) for n in (1, 2, 3, 4)}),
+    ("pairs below sums", "mix", {n: pairs_below_sums(n) for n in (1, 2, 3)}),
+    ("markings", "vending", markings(
+        [
+            "A3:Coin M:Marking = B3:Coin N:Marking",
+            "A4:Coin M:Marking = B3:Coin N:Marking",
+            "A4:Coin M:Marking = B4:Coin N:Marking",
+            "A2:Coin C:Item D:Marking = E2:Coin G:Item H:Marking",
+            "A2:Coin C:Item D:Marking = E3:Marking H:Coin",
+            "A5:Coin = M3:Marking",
+        ]
+    )),
+    ("ring", "ring", {
+        1: "_*_(_+_(_*_(X:S, Y:S), Z:S), W:S) =? _*_(_+_(_*_(Z:S, W:S), X:S), Y:S)",
+        2: "_*_(_+_(X:S, _*_(Y:S, Z:S)), _+_(Y:S, _*_(X:S, W:S))) =? _*_(Z:S, W:S)",
+        3: "_*_(_+_(X:S, Y:S), _*_(_+_(Z:S, W:S), X:S)) =? _*_(_+_(X:S, Z:S), _*_(_+_(Y:S, W:S), Y:S))",
+    }),
+    ("element and bag", "soup", {n: against_constants(["E:Elt", "X:Bag"], n) for n in (4, 8, 12, 13, 16)}),
+    ("two elements and bag", "soup", {n: against_constants(["E:Elt", "F:Elt", "X:Bag"], n) for n in (4, 8)}),
     ("free pairs", "plain", {n: f"{over('p', variables('X', n) + ['a'])} =? {over('p', variables('Y', n) + ['a'])}" for n in (25, 50, 99)}),
     ("free terms that double", "plain", {n: doubled(n) for n in (3, 5, 7)}),
 ]
