@@ -111,7 +111,7 @@ def main():
             found = {who: medians(each) for who, each in found.items()}
             cells = {who: told(each, start[name][who], given.seconds) for who, each in found.items()}
             ours, theirs = found["fvn"], found.get("Maude")
-            answers = cells["fvn"][0] or "none"
+            answers = next((count for count, _ in cells.values() if count), "none")
             if any(count not in ("", answers) for count, _ in cells.values()):
                 answers += " !"
             more = f"{ours[3][0]} | {ours[2]}" if ours else " | "

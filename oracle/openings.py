@@ -8,7 +8,7 @@ sides of its pairs. The program adds how many minimal solutions each sum operato
 number of its node, with the operators that use it; and for each list of tags of the shared classes how many choices
 of minimal solutions are on the wheels, how many of these leave no shared class a sum of a constant alone, and how many
 keep to what sorts ask: at most 1 of a class with a variable whose sort admits no sum, and at least 1 of a class with a
-variable whose sort does not admit the identity, or where there is none. There is
+variable whose sort does not admit the identity, or where there is none. These numbers are written modulo 40. There is
 one sort, so that a sum with an identity is neutral, and its choices take every solution without a constant; with
 `elements` there is one more sort below it, so that none is neutral, and all valid choices are on the wheels. Minimal
 solutions are found by trying all vectors with components up to 4, and choices by trying all sets of solutions.
@@ -137,7 +137,7 @@ def shown(text):
         chosen = dict(zip(shared, tags))
         found = list(itertools.product(*[frame.choices(chosen, f) for f in frame.operators]))
         counts = [len(found), sum(all(c[0] for c in one) for one in found), sum(all(c[1] for c in one) for one in found)]
-        lists.append("".join(f or "." for f in tags) + "".join(TABLES.digit(n) for n in counts))
+        lists.append("".join(f or "." for f in tags) + "".join(TABLES.digit(n % 40) for n in counts))
     return " ".join([text, "=>", *sizes, "|", *classes, "|", *lists])
 
 
