@@ -3,10 +3,10 @@
 
     python3 docs/write.py           writes all that is listed below
     python3 docs/write.py --check   fails where what is written differs from the sources, where a crate cites a definition of
-                                    another's specs/inner/, where an engine stands on a reader of texts, or where README says
-                                    nothing of a field of the report
-    python3 docs/write.py --lint    prints what is missing: comments, first lines, uses, pages of crates, and laws that stand elsewhere;
-                                    and counts the definitions under the report that mirror code
+                                    another's specs/inner/, where a definition under the report cites one that mirrors code,
+                                    where an engine stands on a reader of texts, where README says nothing of a field of the
+                                    report, or where LADDER.md names a clause, a law or a field that there is not
+    python3 docs/write.py --lint    prints what is missing: comments, first lines, uses, pages of crates, and laws that stand elsewhere
 
 | written | from |
 |---|---|
@@ -71,10 +71,11 @@ lists, bytes), knows what is proved of a run; that it holds is the checker's wor
 cite it, and its files in the order in which they are first cited; a crate's types are those of its code that the
 definitions name. Each file opens with a sentence and has its definitions in full.
 
-{inner} of them mirror code, in `specs/inner/`; {leaning} others cite one of these.
+None of them mirrors code: what does stands in `specs/inner/`, and the check of the documents refuses a definition under
+the report that cites it. That the code gives what these say is what the contracts state, crate by crate.
 
-| crate | files | definitions | of these in `specs/inner/` |
-|---|---|---|---|
+| crate | files | definitions |
+|---|---|---|
 {rows}
 This page is written by `docs/write.py` from the sources.
 """
@@ -735,30 +736,28 @@ class Citing:
 
 
 def under_report():
-    """The definitions under the report in the order in which they are cited, with the types of code that they name; and of
-    those that do not mirror code, which cite one that does."""
+    """The definitions under the report in the order in which they are cited, with the types of code that they name; and
+    each that cites one of specs/inner/, with that one."""
     citing = Citing()
     found, types, leaning = [REPORT], [], []
     for key in found:
         cited, named = citing.cited(key)
         found += [k for k in cited if k not in found]
         types += [k for k in named if k not in types]
-        if not key[1].startswith("specs.inner") and any(k[1].startswith("specs.inner") for k in cited):
-            leaning.append(key)
+        leaning += [(key, k) for k in cited if k[1].startswith("specs.inner")]
     return citing, found, types, leaning
 
 
 def promise():
     """The definitions under the report, from the theorem down."""
-    citing, found, types, leaning = under_report()
+    citing, found, types, _ = under_report()
     parts, rows = [], []
     for name in [n for n, _ in reversed(crates())]:
         here = [k for k in found if k[0] == name]
         if not here:
             continue
         modules = list(dict.fromkeys(k[1] for k in here))
-        mirrors = sum(k[1].startswith("specs.inner") for k in here)
-        rows.append([link(name, "../"), str(len(modules)), str(len(here)), str(mirrors or "")])
+        rows.append([link(name, "../"), str(len(modules)), str(len(here))])
         parts.append("## " + link(name, "../") + "\n")
         named = list(dict.fromkeys(k[1].split(".")[-1] for k in types if k[0] == name))
         named = [n for n in named if n not in ("TheVariants", "TheConstants", "TheTypes")]
@@ -768,12 +767,9 @@ def promise():
             room = citing.rooms[(name, module)]
             listed = [d for d in room.definitions if (name, module, d.name) in here]
             parts.append(room_of(name, room, listed, "../"))
-    mirrors = sum(k[1].startswith("specs.inner") for k in found)
     head = PROMISE_HEAD.format(
         total=len(found),
         crates=len(rows),
-        inner=mirrors,
-        leaning=len(leaning),
         rows="".join("| " + " | ".join(row) + " |\n" for row in rows),
     )
     yield "docs/PROMISE.md", head + "\n" + "\n".join(parts)
@@ -914,6 +910,13 @@ def borrowed():
                 yield str(path.relative_to(TOP)) + ": " + found.group(2) + " mirrors the code of " + found.group(1)
 
 
+def mirrors_under_report():
+    """Definitions under the report that cite what mirrors code."""
+    for (name, module, word), (below, room, mirror) in under_report()[3]:
+        path = "crates/" + name + "/" + module.replace(".", "/") + ".antt"
+        yield path + ": " + word + ", under the report, cites " + mirror + " of " + below + " (" + room + "), which mirrors code"
+
+
 def untold_fields():
     """Fields of the report that README does not name."""
     room, report = Citing().table[REPORT]
@@ -921,6 +924,25 @@ def untold_fields():
     for found in re.finditer(r"^\s+pub (\w+) :", "\n".join(report.body), re.M):
         if code(found.group(1)) not in page:
             yield "README.md: nothing is said of " + found.group(1) + ", which the report promises"
+
+
+def unknown_rungs():
+    """What the page of rungs names and there is not."""
+    page = read(TOP / "docs" / "LADDER.md")
+    calls, fields = {}, {}
+    for name, _ in crates():
+        for path, call in Crate(name).calls():
+            calls[name + "::" + path] = {clause.name for clause in call.clauses}
+        for room in rooms(name):
+            for d in room.definitions:
+                fields.setdefault(d.name, set()).update(field for field, _ in d.fields)
+    for found in re.finditer(r"`(fvn\w*::[\w:]+)(?:\.(\w+))?`", page):
+        clauses = calls.get(found.group(1))
+        if clauses is None or found.group(2) and found.group(2) not in clauses:
+            yield "docs/LADDER.md: there is no " + found.group(0)
+    for found in re.finditer(r"`([A-Z]\w*)\.(\w+)`", page):
+        if found.group(2) not in fields.get(found.group(1), ()):
+            yield "docs/LADDER.md: there is no " + found.group(0)
 
 
 READERS = re.compile(r"fvn_(lex|outside|syntax|problems|answer|tool|module\w*|cmd\w*)")
@@ -946,9 +968,6 @@ def main(words):
         for line in missing:
             print(line)
         print(len(missing), "warnings")
-        _, found, _, leaning = under_report()
-        mirrors = sum(k[1].startswith("specs.inner") for k in found)
-        print("under the report", mirrors, "definitions mirror code, which", len(leaning), "others cite")
         return 0
     if words not in ([], ["--check"]):
         print(__doc__)
@@ -967,7 +986,7 @@ def main(words):
         if path not in written:
             print(str(path.relative_to(TOP)) + " is the page of no layer")
             status = 1
-    for find in (borrowed, readers_below, untold_fields) if words else ():
+    for find in (borrowed, mirrors_under_report, readers_below, untold_fields, unknown_rungs) if words else ():
         for line in find():
             print(line)
             status = 1

@@ -12,6 +12,7 @@ ghost use Rattle.fvn_tool.specs.Claims.{IsReport};
 #[cfg(test)]
 mod tests;
 
+use fvn_cover::{Gate, OpenGate};
 use fvn_outside::{Sink, Source, StdSink, StdSource};
 use fvn_tool::{Status, run};
 use std::alloc::Global;
@@ -19,6 +20,7 @@ use std::env::{self, Env};
 use std::io;
 use std::process::ExitCode;
 use std::string::String;
+use std::thread::Threads;
 
 // The words of the command line after the program's name.
 fn words<R: Env + AllocGlobal>(rt: &R) -> io::Result<Vec<String>> {
@@ -30,7 +32,9 @@ fn words<R: Env + AllocGlobal>(rt: &R) -> io::Result<Vec<String>> {
 }
 
 // A run, and the code of its status to exit with.
-fn program<S: Source, K: Sink>(
+fn program<R: Threads + Sync, G: Gate, S: Source, K: Sink>(
+    rt: &R,
+    gate: &G,
     alloc: Global,
     words: &[String],
     source: &mut S,
@@ -46,7 +50,7 @@ fn program<S: Source, K: Sink>(
         × (IsSilent status → out.new ≡ out.old) }
     ensures unread { ReadNothing (map string_bytes words.now) → source.new ≡ source.old }
 {
-    let status = run(alloc, words, source, out);
+    let status = run(rt, gate, alloc, words, source, out);
     ExitCode::from(status.exit_number())
 }
 
@@ -61,5 +65,12 @@ fn main(rt: HostRuntime) -> ExitCode {
     };
     let mut module = StdSource::new(rt.stdin());
     let mut out = StdSink::new(rt.stdout());
-    program(rt.alloc(), words.as_slice(), &mut module, &mut out)
+    program(
+        &rt,
+        &OpenGate,
+        rt.alloc(),
+        words.as_slice(),
+        &mut module,
+        &mut out,
+    )
 }

@@ -1,16 +1,20 @@
 //! The program's answers, from the words and the module to the bytes that are written.
 mod check;
 mod large;
+mod terminates;
 mod unify;
+mod variants;
 mod verify;
 
 use crate::program;
+use fvn_cover::OpenGate;
 use fvn_outside::{MemSink, MemSource};
 use fvn_terms::NoMemory;
 use fvn_tool::{Status, run};
 use std::alloc::Global;
 use std::process::{Abort, ExitCode};
 use std::string::String;
+use std::thread::Threads;
 
 const FREE: &str =
     "fmod FREE is\n  sort S .\n  ops a b : -> S .\n  op p : S S -> S .\n  vars X Y : S .\nendfm\n";
@@ -19,7 +23,7 @@ const FREE: &str =
 const LARGE: &str = "p(V0:S,p(V1:S,p(V2:S,p(V3:S,p(V4:S,p(V5:S,p(V6:S,p(V7:S,V8:S)))))))) =? \
         p(p(V1:S,V1:S),p(p(V2:S,V2:S),p(p(V3:S,V3:S),p(p(V4:S,V4:S),p(p(V5:S,V5:S),p(p(V6:S,V6:S),p(p(V7:S,V7:S),p(p(V8:S,V8:S),p(V9:S,V9:S)))))))))";
 
-const USAGE: &str = "usage: fvn check|unify|variants|vunify|verify|work\n";
+const USAGE: &str = "usage: fvn check|unify|variants|vunify|verify|work|terminates\n";
 
 /// The words, the pieces and the calls that are to fail.
 #[derive(Drop)]
@@ -80,58 +84,72 @@ fn sink_of(alloc: Global, setting: &Setting) -> Result<MemSink, NoMemory> {
 }
 
 /// The status of a run, which writes to the sink.
-fn status_of(alloc: Global, setting: &Setting, out: &mut MemSink) -> Result<Status, NoMemory> {
+fn status_of<R: Threads + Sync>(
+    rt: &R,
+    alloc: Global,
+    setting: &Setting,
+    out: &mut MemSink,
+) -> Result<Status, NoMemory> {
     let words = words_of(alloc, setting)?;
     let mut module = source_of(alloc, setting)?;
-    Ok(run(alloc, words.as_slice(), &mut module, out))
+    Ok(run(rt, &OpenGate, alloc, words.as_slice(), &mut module, out))
 }
 
 /// The exit code of a run, which writes to the sink.
-fn code_of(alloc: Global, setting: &Setting, out: &mut MemSink) -> Result<ExitCode, NoMemory> {
+fn code_of<R: Threads + Sync>(
+    rt: &R,
+    alloc: Global,
+    setting: &Setting,
+    out: &mut MemSink,
+) -> Result<ExitCode, NoMemory> {
     let words = words_of(alloc, setting)?;
     let mut module = source_of(alloc, setting)?;
-    Ok(program(alloc, words.as_slice(), &mut module, out))
+    Ok(program(rt, &OpenGate, alloc, words.as_slice(), &mut module, out))
 }
 
 /// The status of a run, and what was written.
-fn answer(alloc: Global, setting: &Setting) -> Result<(Status, Vec<u8>), NoMemory> {
+fn answer<R: Threads + Sync>(
+    rt: &R,
+    alloc: Global,
+    setting: &Setting,
+) -> Result<(Status, Vec<u8>), NoMemory> {
     let mut out = sink_of(alloc, setting)?;
-    let status = status_of(alloc, setting, &mut out)?;
+    let status = status_of(rt, alloc, setting, &mut out)?;
     let written = Vec::from_slice(alloc, out.written())?;
     Ok((status, written))
 }
 
 /// The status and the text of a run with these words.
-fn assert_answer(
-    rt: &impl Abort,
+fn assert_answer<R: Abort + Threads + Sync>(
+    rt: &R,
     alloc: Global,
     words: &[&str],
     module: &[u8],
     want: Status,
     text: &[u8],
 ) -> Result<(), NoMemory> {
-    let (status, written) = answer(alloc, &plain(words, module))?;
+    let (status, written) = answer(rt, alloc, &plain(words, module))?;
     assert_eq!(rt; status, want);
     assert!(rt; written.as_slice() == text);
     Ok(())
 }
 
 /// The exit code of a run of `unify`.
-fn assert_code(
-    rt: &impl Abort,
+fn assert_code<R: Abort + Threads + Sync>(
+    rt: &R,
     alloc: Global,
     setting: &Setting,
     code: u8,
 ) -> Result<(), NoMemory> {
     let mut out = sink_of(alloc, setting)?;
-    let found = code_of(alloc, setting, &mut out)?;
+    let found = code_of(rt, alloc, setting, &mut out)?;
     assert!(rt; found == ExitCode::from(code), "{code}");
     Ok(())
 }
 
 /// The exit code of a run over a problem and a module.
-fn assert_exit(
-    rt: &impl Abort,
+fn assert_exit<R: Abort + Threads + Sync>(
+    rt: &R,
     alloc: Global,
     problem: &str,
     module: &str,
@@ -146,8 +164,8 @@ fn assert_exit(
 }
 
 /// The exit code of a run of which a read or a write fails.
-fn assert_failed(
-    rt: &impl Abort,
+fn assert_failed<R: Abort + Threads + Sync>(
+    rt: &R,
     alloc: Global,
     failing_read: u64,
     failing_write: u64,
@@ -178,6 +196,9 @@ unify|a|b
 unify|-x
 solve|X =? X
 check|X =? X
+terminates
+terminates|f : 1|a : 1
+terminates|-x
 -check
 checks";
 
@@ -190,7 +211,11 @@ fn split_words<'a>(alloc: Global, line: &'a str) -> Result<Vec<&'a str>, NoMemor
     Ok(words)
 }
 
-fn assert_usage(rt: &impl Abort, alloc: Global, words: &[&str]) -> Result<(), NoMemory> {
+fn assert_usage<R: Abort + Threads + Sync>(
+    rt: &R,
+    alloc: Global,
+    words: &[&str],
+) -> Result<(), NoMemory> {
     assert_answer(
         rt,
         alloc,
@@ -217,11 +242,11 @@ const READ: [&str; 2] = ["unify", "p(X,b) =? p(a,Y)"];
 const WRITTEN: &[u8] = b"{X:S --> a, Y:S --> b}\ncomplete 1\n";
 
 /// Of reads of 16 bytes the one with this number fails: 86 bytes are six reads, and a seventh finds the end.
-fn assert_read(rt: &impl Abort, alloc: Global, k: u64) -> Result<(), NoMemory> {
+fn assert_read<R: Abort + Threads + Sync>(rt: &R, alloc: Global, k: u64) -> Result<(), NoMemory> {
     let mut setting = plain(&READ, FREE.as_bytes());
     setting.read_piece = 16;
     setting.failing_read = k;
-    let (status, text) = answer(alloc, &setting)?;
+    let (status, text) = answer(rt, alloc, &setting)?;
     let want = if k <= 7 {
         Status::ReadFault
     } else {
@@ -241,14 +266,14 @@ fn each_read_that_fails_ends_the_run_with_nothing_written(rt: HostRuntime) -> Re
 }
 
 /// Of the text so many bytes are written, and the status says whether these are all.
-fn assert_front(
-    rt: &impl Abort,
+fn assert_front<R: Abort + Threads + Sync>(
+    rt: &R,
     alloc: Global,
     setting: &Setting,
     text: &[u8],
     count: usize,
 ) -> Result<(), NoMemory> {
-    let (status, written) = answer(alloc, setting)?;
+    let (status, written) = answer(rt, alloc, setting)?;
     let want = if count < text.len() {
         Status::WriteFault
     } else {
@@ -261,8 +286,8 @@ fn assert_front(
 }
 
 /// Of writes of so many bytes the one with this number fails.
-fn assert_write(
-    rt: &impl Abort,
+fn assert_write<R: Abort + Threads + Sync>(
+    rt: &R,
     alloc: Global,
     words: &[&str],
     module: &[u8],

@@ -1,6 +1,7 @@
 -- A line is read in one way.
 use Rattle.std.proofs.Common.{◌≡◌, List, [], ◌∷◌, ◌++◌, Result, Ok, refl, sym, ap, ◌∙◌, subst, map}
 use Rattle.std.specs.Prelude.{Contains}
+use Rattle.fvn_lex.proofs.RowPieces.{pieces-once}
 use Rattle.fvn_terms.specs.declared.plain.Var.{Var}
 use Rattle.fvn_terms.specs.declared.plain.Plain.{Plain}
 use Rattle.fvn_terms.specs.declared.declarations.Declarations.{Declarations}
@@ -11,14 +12,13 @@ use Rattle.fvn_flat.specs.Drawn.{renamed}
 use Rattle.fvn_syntax.specs.declared.names.Names.{Names}
 use Rattle.fvn_syntax.specs.declared.fault.TermFault.{TermFault}
 use Rattle.fvn_syntax.specs.Pieces.{Text, comma, left_brace, right_brace}
-use Rattle.fvn_syntax.specs.Raw.{RawTerm, EndsBefore}
+use Rattle.fvn_syntax.specs.Raw.{RawTerm, EndsBefore, spell}
 use Rattle.fvn_syntax.specs.Resolve.{Resolved, resolve}
 use Rattle.fvn_syntax.proofs.SpelledOnce.{once, ends-before}
 use Rattle.fvn_problems.specs.Spelling.{RawPair, goes_to, spell_pairs, spell_bindings}
 use Rattle.fvn_problems.specs.Bindings.{AreBindingsOf}
 use Rattle.fvn_problems.specs.Laws.{BindingsAreSpelledOnce}
 use Rattle.fvn_answer.specs.Denoting.{as_new, reading, asked, Bind}
-use Rattle.fvn_answer.proofs.Lists.{some-once}
 use Rattle.fvn_answer.specs.Laws.{LinesDenoteOneSubstitution, LinesDenoteOneVariant}
 
 abbrev given : Resolved → Result Resolved TermFault
@@ -75,7 +75,7 @@ module _ (d : Declarations) (names : Names) (texts : List Text) (vars : List Var
 
 pub one-substitution : BindingsAreSpelledOnce → LinesDenoteOneSubstitution
 one-substitution law d names texts vars line s r a b =
-    let raws : a.raw ≡ b.raw = law a.raw b.raw a.written b.written (some-once (sym a.spelled ∙ b.spelled)) in
+    let raws : a.raw ≡ b.raw = law a.raw b.raw a.written b.written (pieces-once line (spell_bindings a.raw) (spell_bindings b.raw) a.spelled b.spelled) in
     (binds-once d names texts vars texts a.raw s r a.after b.after a.bind
     (subst (λ raw. Bind d names texts vars texts raw r b.after) (sym raws) b.bind)).alike
 
@@ -87,7 +87,7 @@ ends bs t = ends-before left_brace (spell_pairs goes_to comma bs ++ (right_brace
 
 pub one-variant : BindingsAreSpelledOnce → LinesDenoteOneVariant
 one-variant law d names texts vars line t u s r a b =
-    let spelled = some-once (sym a.spelled ∙ b.spelled) in
+    let spelled = pieces-once line (spell a.raw_term ++ spell_bindings a.raw) (spell b.raw_term ++ spell_bindings b.raw) a.spelled b.spelled in
     let parts = once a.raw_term b.raw_term (spell_bindings a.raw) (spell_bindings b.raw) a.term_written b.term_written (ends a.raw a.raw_term) (ends b.raw b.raw_term) spelled in
     let raws : a.raw ≡ b.raw = law a.raw b.raw a.written b.written parts.1 in
     let same : a.resolved ≡ b.resolved = ok-once (sym a.stands ∙ ap (resolve (reading d names texts vars) texts) parts.0 ∙ b.stands) in

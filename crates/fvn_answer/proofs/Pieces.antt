@@ -2,7 +2,9 @@
 use Rattle.std.proofs.Common.{◌≡◌, ℕ, zero, suc, inl, inr, List, [], ◌∷◌, ◌++◌, Some, refl, sym, ap, ◌∙◌, subst, map, arith}
 use Rattle.std.specs.Prelude.{IsTrue}
 use Rattle.std.specs.List.{All, AllByRecursion}
-use Rattle.fvn_lex.specs.Cut.{Piece, pieces_of}
+use Rattle.fvn_lex.specs.Cut.{Piece}
+use Rattle.fvn_lex.specs.Parts.{HasPieces}
+use Rattle.fvn_lex.proofs.RowPieces.{has-pieces}
 use Rattle.fvn_lex.specs.Join.{IsPiece, Laid, pieces, join}
 use Rattle.fvn_lex.specs.Bytes.{is_special, is_printed, goes_on, begins_comment}
 use Rattle.fvn_lex.proofs.JoinLemmas.{form-piece, join-read, pieces-append}
@@ -74,8 +76,8 @@ all-tokens [] h i d l = absurd (omega (arith, l))
 all-tokens (p ∷ ps) h zero d l = h.0
 all-tokens (p ∷ ps) h (suc i) d l = all-tokens ps h.1 i d (omega (arith, l))
 
-pub joined-read : (laid : List Laid) (ps : List Piece) → pieces laid ≡ ps → Tokens ps → pieces_of (join laid) ≡ Some ps
-joined-read laid ps e h = join-read laid (subst (All IsPiece) (sym e) (all-tokens ps h)) ∙ ap Some e
+pub joined-read : (laid : List Laid) (ps : List Piece) → pieces laid ≡ ps → Tokens ps → HasPieces (join laid) ps
+joined-read laid ps e h = has-pieces (join laid) ps (join-read laid (subst (All IsPiece) (sym e) (all-tokens ps h)) ∙ ap Some e)
 
 -- both sides are rows of tokens
 abbrev pub PairTokens : RawPair → Type 0

@@ -5,7 +5,7 @@ use Rattle.std.specs.List.{AllByRecursion}
 use Rattle.std.proofs.lemmas.List.{append-nil}
 use Rattle.std.proofs.lemmas.List.Elements.{Contains-append_left}
 use Rattle.fvn_base.proofs.Membership.{contains_here, contains_later, contains_cases, contains_none}
-use Rattle.fvn_lex.specs.Cut.{pieces_of}
+use Rattle.fvn_lex.specs.Parts.{HasPieces}
 use Rattle.fvn_terms.specs.declared.plain.Var.{Var}
 use Rattle.fvn_terms.specs.declared.plain.SortId.{SortId}
 use Rattle.fvn_terms.specs.declared.declarations.Declarations.{Declarations}
@@ -152,7 +152,8 @@ module _ (d : Declarations) (names : Names) (readable : AreReadable d names) (fi
           denotes = record {
             raw = raws;
             written = all-written vars (λ x h. h);
-            spelled = ap pieces_of is ∙ joined-read (laid d names texts order (values (values_of s vars))) (spell_bindings raws) (pieces-bindings raws) (bindings-tokens raws (all-tokens vars (λ x h. h)));
+            spelled = subst (λ x. HasPieces x (spell_bindings raws)) (sym is)
+                (joined-read (laid d names texts order (values (values_of s vars))) (spell_bindings raws) (pieces-bindings raws) (bindings-tokens raws (all-tokens vars (λ x h. h))));
             after = b.after;
             bind = binds texts;
           };
@@ -186,9 +187,10 @@ module _ (d : Declarations) (names : Names) (readable : AreReadable d names) (fi
               raw = raws;
               term_written = written-written d names readable tops order few t;
               written = all-written vars (λ x h. h);
-              spelled = ap pieces_of is ∙ joined-read (laid d names texts order (variant t (values_of s vars))) (spell (written d names order t) ++ spell_bindings raws)
+              spelled = subst (λ x. HasPieces x (spell (written d names order t) ++ spell_bindings raws)) (sym is)
+                  (joined-read (laid d names texts order (variant t (values_of s vars))) (spell (written d names order t) ++ spell_bindings raws)
                   (pieces-variant (written d names order t) raws)
-                  (tokens-append (spell (written d names order t)) (spell_bindings raws) (written-tokens d names readable tops order few t (fits-printable d t fitting)) (bindings-tokens raws (all-tokens vars (λ x h. h))));
+                  (tokens-append (spell (written d names order t)) (spell_bindings raws) (written-tokens d names readable tops order few t (fits-printable d t fitting)) (bindings-tokens raws (all-tokens vars (λ x h. h)))));
               resolved = r.resolved;
               stands = r.stands;
               after = b.after;

@@ -1,7 +1,7 @@
 -- What lines denote, read as binding texts in the names of a module without its variables.
-use Rattle.std.specs.Prelude.{◌≡◌, ◌⊎◌, true, List, [], ◌++◌, map, Contains, slice_index_or, Ok, Some}
+use Rattle.std.specs.Prelude.{◌≡◌, ◌⊎◌, true, List, [], ◌++◌, map, Contains, slice_index_or, Ok}
 use Rattle.std.specs.List.{AllByRecursion}
-use Rattle.fvn_lex.specs.Cut.{pieces_of}
+use Rattle.fvn_lex.specs.Parts.{HasPieces}
 use Rattle.fvn_terms.specs.declared.plain.Var.{Var}
 use Rattle.fvn_terms.specs.declared.plain.Plain.{Plain}
 use Rattle.fvn_terms.specs.declared.declarations.Declarations.{Declarations}
@@ -56,7 +56,7 @@ module _ (d : Declarations) (names : Names) (texts : List Text) (vars : List Var
   pub record Denotes (line : Text) (s : Substitution) : Type 0 where
     pub raw : List RawPair
     pub written : AllByRecursion IsWrittenBinding raw
-    pub spelled : pieces_of line ≡ Some (spell_bindings raw)
+    pub spelled : HasPieces line (spell_bindings raw)
     pub after : List Text
     pub bind : Bind texts raw s after
 
@@ -66,7 +66,7 @@ module _ (d : Declarations) (names : Names) (texts : List Text) (vars : List Var
     pub raw : List RawPair
     pub term_written : IsWritten raw_term
     pub written : AllByRecursion IsWrittenBinding raw
-    pub spelled : pieces_of line ≡ Some (spell raw_term ++ spell_bindings raw)
+    pub spelled : HasPieces line (spell raw_term ++ spell_bindings raw)
     pub resolved : Resolved
     pub stands : resolve reading texts raw_term ≡ Ok resolved
     pub after : List Text

@@ -49,7 +49,7 @@ back r s [] y = var y
 back r s (x ∷ xs) y = back_one (s x) (same_var (r x) y) (back r s xs y)
 
 module _ (r : Renaming) (s : Substitution) (vars : List Var) (apart : IsOneToOne (Contains vars) r) where
-  back_renamed : (xs : List Var) → ((x : Var) → Contains xs x → Contains vars x) → (x : Var) → Contains xs x → back r s xs (r x) ≡ s x
+  pub back_renamed : (xs : List Var) → ((x : Var) → Contains xs x → Contains vars x) → (x : Var) → Contains xs x → back r s xs (r x) ≡ s x
   back_renamed [] within x h = absurd (contains_none x h)
   back_renamed (z ∷ xs) within x h = go (same_var (r z) (r x)) refl (contains_cases z xs x h) (λ i. back_renamed xs (λ y m. within y (contains_later z xs y m)) x i) where
     go : (b : Bool) → same_var (r z) (r x) ≡ b → (z ≡ x) ⊎ Contains xs x → (Contains xs x → back r s xs (r x) ≡ s x) → back_one (s z) b (back r s xs (r x)) ≡ s x
@@ -76,7 +76,7 @@ module _ (r : Renaming) (s : Substitution) (vars : List Var) (apart : IsOneToOne
           subst (HasSort d (s x)) same (sorted.1 x)
       go false e later = later
 
-    back_sorted : IsWellSorted d (back r s vars)
+    pub back_sorted : IsWellSorted d (back r s vars)
     back_sorted = (back_of_kind vars (λ x m. m), back_of_sort vars (λ x m. m))
 
 module _ (g : Setting) (start : List FlatTerm) (explorable : IsExplorable g start) (known : IsKnown g.declarations g.equations) (drawn : Problem → Substitution → Type 0) (kept : List Deep) (run : IsLevelRun g drawn start kept) where

@@ -1,2 +1,3 @@
--- Lemmas of this crate.
+-- Lemmas of this crate: how the steps of a command make its reply is for callers.
 mod Refusals
+pub mod Replying

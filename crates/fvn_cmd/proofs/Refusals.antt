@@ -14,7 +14,7 @@ use Rattle.fvn_cmd_texts.specs.ProblemRefusals.{problem_text}
 use Rattle.fvn_cmd.specs.declared.status.Status.{Status}
 use Rattle.fvn_cmd.specs.declared.status.Status.TheVariants.{ModuleRefused, ProblemRefused}
 use Rattle.fvn_cmd.specs.Texts.{line, Is}
-use Rattle.fvn_cmd.specs.Asking.{Word, problem_word, bindings_word, Stands, IsFaultOf, AllStand, IsFirstFault}
+use Rattle.fvn_cmd.specs.Asking.{Word, problem_word, bindings_word, weights_word, term_word, Stands, IsFaultOf, AllStand, IsFirstFault}
 use Rattle.fvn_cmd.specs.Refusing.{IsRefusalLine, IsProblemRefusalLine, IsFirstRefusal, IsFirstWordRefusal, IsRefusal}
 use Rattle.fvn_cmd.specs.Laws.{ReadersAreLawful, RefusalsAreLawful}
 
@@ -61,6 +61,16 @@ module _ (laws : ReadersAreLawful) where
           | inl e ↦ room e
           | inr none ↦ none s.1 (subst (λ p. IsBindings m.signature m.names p text s.1) same s.2.1)
         ]
+    word_falls (weights_word text) fault room h s =
+        elim (laws.no_weights m.signature m.names text fault h) [
+          | inl e ↦ room e
+          | inr none ↦ none s.0 s.1
+        ]
+    word_falls (term_word text) fault room h s =
+        elim (laws.no_term m.signature m.names text fault h) [
+          | inl e ↦ room e
+          | inr none ↦ none s.0 s.1
+        ]
 
     -- but for want of memory, a word has one first fault
     word_one : (w : Word) (f g : ProblemFault) → IsFaultOf m w f → IsFaultOf m w g → AreOneFault f g
@@ -68,6 +78,8 @@ module _ (laws : ReadersAreLawful) where
     word_one (bindings_word problem text) f g h k =
         let same : k.0 ≡ h.0 = laws.problems m.signature m.names problem k.0 h.0 k.1.0 h.1.0 in
         laws.binding_faults m.signature m.names h.0 text f g h.1.1 (subst (λ p. RefusesBindings m.signature m.names p text g) same k.1.1)
+    word_one (weights_word text) f g h k = laws.weight_faults m.signature m.names text f g h k
+    word_one (term_word text) f g h k = laws.term_faults m.signature m.names text f g h k
 
     words_fall : (words : List Word) (fault : ProblemFault) → (fault ≡ NoMemory → ⊥) → IsFirstFault m words fault → AllStand m words → ⊥
     words_fall [] fault room h s = h

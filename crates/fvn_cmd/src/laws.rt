@@ -7,7 +7,11 @@ use fvn_module_loading::{
 };
 use fvn_problems::{
     binding_faults_are_determined, bindings_are_determined, problem_faults_are_determined,
-    problems_are_determined, refused_bindings_bind_nothing, refused_problems_ask_nothing,
+    problems_are_determined, queries_are_determined, query_faults_are_determined,
+    refused_bindings_bind_nothing, refused_problems_ask_nothing, refused_queries_ask_nothing,
+};
+use fvn_weights_reading::{
+    refused_texts_weigh_nothing, weight_faults_are_determined, weights_are_determined,
 };
 
 /// A text says one thing at most, has one first fault at most but for want of memory, and not both.
@@ -24,6 +28,12 @@ pub fn readers_are_lawful()
     bindings_are_determined();
     refused_bindings_bind_nothing();
     binding_faults_are_determined();
+    weights_are_determined();
+    refused_texts_weigh_nothing();
+    weight_faults_are_determined();
+    queries_are_determined();
+    refused_queries_ask_nothing();
+    query_faults_are_determined();
 }
 
 /// For the words of all commands: bytes and words are refused with one status and one text at most, and only where the

@@ -1,4 +1,7 @@
--- What is promised of answers to `check`, `verify` and `unify`: the words of verdicts and of ends are for callers.
+-- What is promised of answers to `check`, `verify`, `unify` and `terminates`: the words of verdicts, of ends and of
+-- weighings are for callers.
 mod Checks
 pub mod Verified
 pub mod Unified
+pub mod Weighed
+mod Explored

@@ -1,21 +1,30 @@
--- Laws of the answers to `check`, `verify` and `unify`.
+-- Laws of the answers to all commands.
 use Rattle.std.specs.Prelude.{◌≡◌, ℕ, List, Option}
 use Rattle.fvn_module.specs.Contents.{Contents}
 use Rattle.fvn_module_loading.specs.Losses.{IsLossOf}
 use Rattle.fvn_problems.specs.declared.problem.Problem.{Problem}
 use Rattle.fvn_problems.specs.declared.bindings.Bindings.{Bindings}
+use Rattle.fvn_problems.specs.declared.query.Query.{Query}
 use Rattle.fvn_answer.specs.declared.end.End.TheVariants.{Complete}
 use Rattle.fvn_verify.specs.declared.verdict.Verdict.{Verdict}
+use Rattle.fvn_weights.specs.declared.weights.Weights.{Weights}
 use Rattle.fvn_cmd.specs.declared.status.Status.{Status}
 use Rattle.fvn_cmd.specs.declared.status.Status.TheVariants.{Solved}
 use Rattle.fvn_cmd.specs.Texts.{Is}
 use Rattle.fvn_cmd_check.specs.Checks.{told_lines, TellsSorts}
 use Rattle.fvn_cmd_verify.specs.Verdicts.{IsVerdictOn, TellsVerdict}
+use Rattle.fvn_cmd_terminates.specs.Weighings.{TellsWeighing}
 use Rattle.fvn_cmd_unify.specs.Ends.{StaysWithinBounds}
 use Rattle.fvn_cmd_unify.specs.Solutions.{IsWhole}
 use Rattle.fvn_cmd_unify.specs.Replies.{IsAnswer}
 use Rattle.fvn_cmd_laws.specs.Unified.{IsNothingExact, HasFewUnifiers}
 use Rattle.fvn_cmd_laws.specs.Verified.{AreOneIfConfluent, IsDecided, AllStayWithin, IsVerdictExact}
+use Rattle.fvn_cmd_exploring.specs.declared.reach.Reach.{Reach}
+use Rattle.fvn_cmd_variants.specs.Replies as of_terms
+use Rattle.fvn_cmd_vunify.specs.Replies as modulo
+use Rattle.fvn_cmd_vunify.specs.Solutions as modulo_found
+use Rattle.fvn_cmd_laws.specs.Weighed.{IsWeighingExact}
+use Rattle.fvn_cmd_laws.specs.Explored.{IsVariantsExact, IsTheoryExact}
 
 -- Of the sorts of a module one thing is told.
 abbrev pub SortsAreToldOnce : Type 0
@@ -46,3 +55,19 @@ pub record AnswersAreExact : Type 0 where
       HasFewUnifiers m p → IsWhole a.found
   pub one_count : (m : Contents) (p : Problem) (s u : Status) (t v : List ℕ) (a : IsAnswer m p s t) (b : IsAnswer m p u v)
       (n k : ℕ) → a.found.end ≡ Complete n → b.found.end ≡ Complete k → n ≡ k
+
+-- What is promised of weighings: what is told is exact, and of weights one thing is told.
+pub record WeighingsAreExact : Type 0 where
+  pub exact : (m : Contents) (w : Weights) (s : Status) (t : List ℕ) → TellsWeighing m w s t → IsWeighingExact m w s
+  pub one : (m : Contents) (w : Weights) (s : Status) (t : List ℕ) (u : Status) (v : List ℕ) →
+      TellsWeighing m w s t → TellsWeighing m w u v → Is s t u v
+
+-- What is promised of answers over an exploration: what their status tells is exact; and where no bound is met, the search
+-- for unifiers in the theory came to its end.
+pub record ExploredAnswersAreExact : Type 0 where
+  pub variants : (m : Contents) (q : Query) (reach : Reach) (s : Status) (t : List ℕ) (a : of_terms.IsAnswer m q reach s t) →
+      IsVariantsExact s a.found
+  pub unifiers : (m : Contents) (p : Problem) (reach : Reach) (s : Status) (t : List ℕ) (a : modulo.IsAnswer m p reach s t) →
+      IsTheoryExact m p s a.found
+  pub within : (m : Contents) (p : Problem) (reach : Reach) (found : modulo_found.Found) →
+      modulo_found.IsSolution m p reach found → modulo_found.StaysWithinBounds m p reach found → modulo_found.IsSolvedWhole found

@@ -1,4 +1,6 @@
--- The laws of replies, and words for what answers to `unify` and verdicts of `verify` promise.
+-- The laws of replies, and words for what answers to `unify`, verdicts of `verify` and weighings promise.
 pub mod Unified
 pub mod Verified
+pub mod Weighed
+pub mod Explored
 pub mod Laws

@@ -1,5 +1,11 @@
 //! Laws of answers, each the contract of a function that does nothing.
-ghost use Rattle.fvn_cmd_laws.specs.Laws.{AnswersAreExact, SortsAreToldOnce, VerdictsAreExact};
+ghost use Rattle.fvn_cmd_laws.specs.Laws.{
+  AnswersAreExact,
+  ExploredAnswersAreExact,
+  SortsAreToldOnce,
+  VerdictsAreExact,
+  WeighingsAreExact,
+};
 
 use fvn_cmd::readers_are_lawful;
 use fvn_verify::verdicts_agree;
@@ -23,4 +29,14 @@ pub fn verdicts_are_exact()
 /// answers to a problem have equally many lines.
 pub fn answers_are_exact()
     ensures { AnswersAreExact }
+{}
+
+/// What is told of weights is exact, and one thing.
+pub fn weighings_are_exact()
+    ensures { WeighingsAreExact }
+{}
+
+/// What the status of answers over an exploration tells is exact.
+pub fn explored_answers_are_exact()
+    ensures { ExploredAnswersAreExact }
 {}

@@ -1,6 +1,9 @@
-//! What is promised of `check`, `verify` and `unify` follows from their answers.
+//! What is promised of all commands follows from their answers.
 #![tactic(auto)]
 
 mod laws;
 
-pub use laws::{answers_are_exact, sorts_are_told_once, verdicts_are_exact};
+pub use laws::{
+    answers_are_exact, explored_answers_are_exact, sorts_are_told_once, verdicts_are_exact,
+    weighings_are_exact,
+};

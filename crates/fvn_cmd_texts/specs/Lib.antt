@@ -3,3 +3,4 @@ pub mod Refusals
 pub mod ProblemRefusals
 pub mod Summaries
 pub mod Verdicts
+pub mod Weighings

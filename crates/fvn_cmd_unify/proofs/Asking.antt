@@ -43,7 +43,7 @@ listed-sides (p ∷ pairs) x c = elim (Contains-append_cases (variables (term p.
 ]
 
 module _ (d : Declarations) (p : Problem) (vars : HasVariables d p) where
-  listed : (x : Var) → Contains p.vars x → Contains (variables_of (pairs_of p.pairs)) x
+  pub listed : (x : Var) → Contains p.vars x → Contains (variables_of (pairs_of p.pairs)) x
   listed x c = sides-listed p.pairs x ((vars.exact x).0 c)
 
   pub asked : (x : Var) → Contains (variables_of (pairs_of p.pairs)) x → Contains p.vars x

@@ -1,5 +1,5 @@
 -- Values of which none is an instance of another have as many lines, and none of these twice.
-use Rattle.std.proofs.Common.{◌≡◌, ◌≢◌, List, [], ◌∷◌, map, length, get_or, sym, ◌∙◌, subst, inl, inr, arith}
+use Rattle.std.proofs.Common.{◌≡◌, ◌≢◌, List, [], ◌∷◌, ◌++◌, map, length, get_or, sym, ◌∙◌, subst, inl, inr, arith}
 use Rattle.std.specs.List.{AllZip, AllPairs, Contains}
 use Rattle.std.proofs.lemmas.Slice.Zip.{AllZip-long}
 use Rattle.fvn_base.specs.Order.{IsBefore}
@@ -30,6 +30,13 @@ beside R (x ∷ xs) (z ∷ zs) h y c = elim (contains_cases z zs y c) [
   | inr i ↦ let b = beside R xs zs h.1 y i in (b.0, (contains_later x xs b.0 b.1.0, b.1.1))
 ]
 
+-- a pair behind both lists
+pub zip-push : {A B : Type 0} (R : A → B → Type 0) (xs : List A) (ys : List B) (x : A) (y : B) → AllZip R xs ys → R x y → AllZip R (xs ++ x ∷ []) (ys ++ y ∷ [])
+zip-push R [] [] x y h r = (r, tt)
+zip-push R [] (z ∷ zs) x y h r = absurd h
+zip-push R (w ∷ ws) [] x y h r = absurd h
+zip-push R (w ∷ ws) (z ∷ zs) x y h r = (h.0, zip-push R ws zs x y h.1 r)
+
 -- lists without repetition that have the same elements are as long
 ordered-distinct : (lines : List Text) → AllPairs IsBefore lines → AllPairs ◌≢◌ lines
 ordered-distinct lines h i j d l m e = before_irrefl (get_or lines i d) (subst (IsBefore (get_or lines i d)) (sym e) (h i j d l m))
@@ -40,35 +47,40 @@ in-order-length given shown o distinct =
     let many = length-le_within given shown distinct (λ x c. (o.exact x).1 c) in
     omega (arith, few, many)
 
-module _ (m : Contents) (p : Problem) where
-  abbrev Apart : Substitution → Substitution → Type 0
-  Apart s c = (IsInstanceOf m p s c → ⊥) × (IsInstanceOf m p c s → ⊥)
+-- where values with one line are below one another, values of which none is below another have different lines
+module _ {A : Type 0} (IsLine : A → Text → Type 0) (Below : A → A → Type 0) (same : (a b : A) (line : Text) → IsLine a line → IsLine b line → Below a b) where
+  abbrev Apart : A → A → Type 0
+  Apart a b = (Below a b → ⊥) × (Below b a → ⊥)
 
+  lines-distinct : (values : List A) (lines : List Text) → AllZip IsLine values lines → IsApart Below values → AllPairs ◌≢◌ lines
+  lines-distinct [] [] h a = λ i j d l w. absurd (omega (arith, w))
+  lines-distinct [] (l ∷ ls) h a = absurd h
+  lines-distinct (s ∷ ss) [] h a = absurd h
+  lines-distinct (s ∷ ss) (l ∷ ls) h a =
+      AllPairs-cons l ls (lines-distinct ss ls h.1 (AllPairs-tail Apart s ss a))
+      (λ y c e.
+      let b = beside IsLine ss ls h.1 y c in
+      (AllPairs-first Apart s ss b.0 a b.1.0).0 (same s b.0 l h.0 (subst (IsLine b.0) (sym e) b.1.1)))
+
+  pub as-many : (values : List A) (lines shown : List Text) → AllZip IsLine values lines → IsApart Below values → AreInByteOrder lines shown → length shown ≡ length values
+  as-many values lines shown z a order = in-order-length lines shown order (lines-distinct values lines z a) ∙ AllZip-long IsLine values lines z
+
+module _ (m : Contents) (p : Problem) where
   values-lines : (unifiers : List Bindings) (lines : List Text) → AreLinesOfBindings m p unifiers lines → AllZip (IsLineOf m p) (map substitution unifiers) lines
   values-lines [] [] h = tt
   values-lines [] (l ∷ ls) h = absurd h
   values-lines (s ∷ ss) [] h = absurd h
   values-lines (s ∷ ss) (l ∷ ls) h = (h.0, values-lines ss ls h.1)
 
-  module _ (law : EqualLinesAreInstances) where
-    lines-distinct : (values : List Substitution) (lines : List Text) → AllZip (IsLineOf m p) values lines → IsApart (IsInstanceOf m p) values → AllPairs ◌≢◌ lines
-    lines-distinct [] [] h a = λ i j d l w. absurd (omega (arith, w))
-    lines-distinct [] (l ∷ ls) h a = absurd h
-    lines-distinct (s ∷ ss) [] h a = absurd h
-    lines-distinct (s ∷ ss) (l ∷ ls) h a =
-        AllPairs-cons l ls (lines-distinct ss ls h.1 (AllPairs-tail Apart s ss a))
-        (λ y c e.
-        let b = beside (IsLineOf m p) ss ls h.1 y c in
-        let same : IsLineOf m p b.0 l = subst (IsLineOf m p b.0) (sym e) b.1.1 in
-        (AllPairs-first Apart s ss b.0 a b.1.0).0 (law m.signature m.names p.names.texts p.vars l s b.0 h.0.reads same.reads))
-
-    pub shown-lines : (unifiers : List Bindings) (lines : List Text) → AreLinesOfBindings m p unifiers lines → IsApart (IsInstanceOf m p) (map substitution unifiers) → (end : End) (text : Text) →
-        IsAnswerText m.signature m.names lines end text → Shows m p (record { values = map substitution unifiers; end = end }) text
-    shown-lines unifiers lines h a end text answer =
-        let z = values-lines unifiers lines h in
-        record {
-          lines = lines;
-          lines_of = z;
-          answer = answer;
-          count = in-order-length lines answer.lines answer.in_order (lines-distinct (map substitution unifiers) lines z a) ∙ AllZip-long (IsLineOf m p) (map substitution unifiers) lines z;
-        }
+  pub shown-lines : EqualLinesAreInstances → (unifiers : List Bindings) (lines : List Text) → AreLinesOfBindings m p unifiers lines → IsApart (IsInstanceOf m p) (map substitution unifiers) → (end : End) (text : Text) →
+      IsAnswerText m.signature m.names lines end text → Shows m p (record { values = map substitution unifiers; end = end }) text
+  shown-lines law unifiers lines h a end text answer =
+      let z = values-lines unifiers lines h in
+      record {
+        lines = lines;
+        lines_of = z;
+        answer = answer;
+        count =
+            as-many (IsLineOf m p) (IsInstanceOf m p) (λ s c line i j. law m.signature m.names p.names.texts p.vars line s c i.reads j.reads)
+            (map substitution unifiers) lines answer.lines z a answer.in_order;
+      }

@@ -1,9 +1,9 @@
--- The lemmas of the crate.
-mod Flattening
-mod Asking
+-- The lemmas of the crate; the public ones are for callers.
+pub mod Flattening
+pub mod Asking
 mod Listing
-mod Solving
-mod Counting
+pub mod Solving
+pub mod Counting
 mod Replied
 mod Denoted
 mod Shown

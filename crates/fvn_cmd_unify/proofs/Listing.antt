@@ -14,12 +14,7 @@ use Rattle.fvn_answer.specs.Lines.{HasNoLineFeed, IsTextOf, values as text_of_va
 use Rattle.fvn_answer.specs.Writing.{bytes_of as lines_in}
 use Rattle.fvn_cmd_unify.specs.Solutions.{IsLineOf}
 use Rattle.fvn_cmd_unify.specs.inner.Told.{AreLinesOfBindings}
-
-zip-push : {A B : Type 0} (R : A → B → Type 0) (xs : List A) (ys : List B) (x : A) (y : B) → AllZip R xs ys → R x y → AllZip R (xs ++ x ∷ []) (ys ++ y ∷ [])
-zip-push R [] [] x y h r = (r, tt)
-zip-push R [] (z ∷ zs) x y h r = absurd h
-zip-push R (w ∷ ws) [] x y h r = absurd h
-zip-push R (w ∷ ws) (z ∷ zs) x y h r = (h.0, zip-push R ws zs x y h.1 r)
+use Rattle.fvn_cmd_unify.proofs.Counting.{zip-push}
 
 module _ (m : Contents) (p : Problem) where
   pub line-of : (b : Bindings) (vars : List Var) → vars ≡ p.vars → (line : Text) → Reads m.signature m.names p.names.texts vars line (substitution b) →

@@ -67,7 +67,7 @@ module _ (m : Contents) (p : Problem) (d : Declarations) (signature_is : d ≡ m
   }
 
 -- an associative operator is declared
-associative-declared : (d : Declarations) (f : OpId) → IsAssociative (axioms d f) → f.0 < length d.ops
+pub associative-declared : (d : Declarations) (f : OpId) → IsAssociative (axioms d f) → f.0 < length d.ops
 associative-declared d f a = elim (cases_lt f.0 (length d.ops)) [
   | inl low ↦ low
   | inr high ↦ absurd (subst (λ (o : OpDecl). IsAssociative o.axioms) (get_or_past d.ops f.0 unknown high) a)

@@ -20,8 +20,8 @@ pub(crate) fn end_told(end: &SolveEnd, count: usize) -> End
     }
 }
 
-// The status that goes with an end.
-pub(crate) fn status_of_end(end: &End) -> Status
+/// The status that goes with an end.
+pub fn status_of_end(end: &End) -> Status
     ensures { result ≡ status_of_end end.now }
 {
     match end {

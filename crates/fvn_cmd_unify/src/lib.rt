@@ -7,5 +7,8 @@ mod lines;
 mod pairs;
 mod replying;
 
+pub use ends::status_of_end;
 pub use laws::{lines_denote_unifiers, shown_lines_keep_the_promise};
+pub use lines::lines_of;
+pub use pairs::flattened;
 pub use replying::unify_reply;

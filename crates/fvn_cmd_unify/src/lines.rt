@@ -12,8 +12,8 @@ use fvn_problems::Problem;
 use fvn_terms::NoMemory;
 use std::alloc::Global;
 
-// A line for each of the substitutions.
-pub(crate) fn lines_of(
+/// A line for each of the substitutions.
+pub fn lines_of(
     alloc: Global,
     declared: &Module,
     problem: &Problem,

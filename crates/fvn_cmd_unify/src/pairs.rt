@@ -10,8 +10,8 @@ use fvn_signature::Signature;
 use fvn_terms::{NoMemory, Plain};
 use std::alloc::Global;
 
-// The flat forms of the sides of each pair.
-pub(crate) fn flattened(
+/// The flat forms of the sides of each pair.
+pub fn flattened(
     alloc: Global,
     signature: &Signature,
     pairs: &[(Plain, Plain)],

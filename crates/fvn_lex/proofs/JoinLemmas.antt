@@ -10,7 +10,7 @@ use Rattle.fvn_lex.specs.declared.token.Token.{Token}
 use Rattle.fvn_lex.specs.Bytes.{is_blank, is_special, is_printed, goes_on}
 use Rattle.fvn_lex.specs.Spans.{Lexed}
 use Rattle.fvn_lex.specs.Cut.{Piece, piece_at, pieces_in, pieces_of, lex}
-use Rattle.fvn_lex.specs.Parts.{goes_through, stops, is_quoted_after, class_of, IsWordPiece, IsSpecialPiece, IsItem, Single, Longest, Part, White, Remark, Item, row_bytes, AreParts, row_tokens, row_pieces, IsCutInto}
+use Rattle.fvn_lex.specs.Parts.{goes_through, stops, is_quoted_after, class_of, IsWordPiece, IsSpecialPiece, IsItem, Single, Longest, Part, White, Remark, Item, row_bytes, AreParts, row_tokens, row_pieces, IsCutInto, HasPieces}
 use Rattle.fvn_lex.specs.Join.{IsPiece, would_merge, needs_space, Laid, pieces, space, join_after, join}
 use Rattle.fvn_lex.proofs.ByteLemmas.{goes_on-plain, goes_on-printed, goes_on-not_special, special-printed}
 use Rattle.fvn_lex.proofs.Reading.{pieces_of-ok}
@@ -26,14 +26,8 @@ row-pieces bytes parts row fit =
     pieces_of-ok bytes (row_tokens 0 parts) (lex-row bytes (row_tokens 0 parts) cut)
     ∙ ap Some (cut-slices bytes (row_tokens 0 parts) cut)
 
-pub record IsRow (bytes : List ℕ) (ps : List Piece) : Type 0 where
-  pub parts : List Part
-  pub row : bytes ≡ row_bytes parts
-  pub fit : AreParts parts []
-  pub pieces : row_pieces parts ≡ ps
-
 cut-row : (bytes : List ℕ) (list : List Token) (ps : List Piece) → IsCutInto bytes list →
-    map (piece_at bytes) list ≡ ps → IsRow bytes ps
+    map (piece_at bytes) list ≡ ps → HasPieces bytes ps
 cut-row bytes list ps cut e = record {
   parts = cut.parts;
   row = cut.row;
@@ -41,10 +35,10 @@ cut-row bytes list ps cut e = record {
   pieces = sym (cut-slices bytes list cut) ∙ e;
 }
 
-pub pieces-row : (bytes : List ℕ) (ps : List Piece) → pieces_of bytes ≡ Some ps → IsRow bytes ps
+pub pieces-row : (bytes : List ℕ) (ps : List Piece) → pieces_of bytes ≡ Some ps → HasPieces bytes ps
 unfolding pieces_of
 pieces-row bytes ps e = go (lex bytes) refl e where
-  go : (r : Lexed) → lex bytes ≡ r → pieces_in bytes r ≡ Some ps → IsRow bytes ps
+  go : (r : Lexed) → lex bytes ≡ r → pieces_in bytes r ≡ Some ps → HasPieces bytes ps
   go (Ok list) is e = cut-row bytes list ps (cut-lex bytes list is) (let k = e in cc)
   go (Err fault) is e = cc
 
@@ -79,9 +73,8 @@ piece-form p is =
     let all : All (λ p. IsWordPiece p ⊎ IsSpecialPiece p) (p ∷ []) = rw row.pieces at forms in
     all 0 p (omega arith)
 
-pub pieces-all : (bytes : List ℕ) (ps : List Piece) → pieces_of bytes ≡ Some ps → All IsPiece ps
-pieces-all bytes ps e =
-    let row = pieces-row bytes ps e in
+pub pieces-all : (bytes : List ℕ) (ps : List Piece) → HasPieces bytes ps → All IsPiece ps
+pieces-all bytes ps row =
     let forms = row-forms row.parts [] row.fit in
     let all : All (λ p. IsWordPiece p ⊎ IsSpecialPiece p) ps = rw row.pieces at forms in
     λ k d h. form-piece _ (all k d h)

@@ -3,6 +3,7 @@ mod ByteLemmas
 mod CutLemmas
 pub mod JoinLemmas
 mod Reading
+pub mod RowPieces
 mod RowReading
 mod Rows
 mod SpaceLemmas

@@ -5,7 +5,7 @@ use Rattle.fvn_lex.specs.declared.token.Token.{Token}
 use Rattle.fvn_lex.specs.declared.token.LexFault.{LexFault}
 use Rattle.fvn_lex.specs.Bytes.{is_blank}
 use Rattle.fvn_lex.specs.Cut.{lex, Piece, piece_at, pieces_of}
-use Rattle.fvn_lex.specs.Parts.{IsCutInto, IsFirstFault, row_pieces, IsWordPiece, IsSpecialPiece}
+use Rattle.fvn_lex.specs.Parts.{IsCutInto, HasPieces, IsFirstFault, row_pieces, IsWordPiece, IsSpecialPiece}
 use Rattle.fvn_lex.specs.Join.{IsPiece, needs_space, Laid, pieces, join}
 
 -- A text has these tokens exactly where it is a row of parts with them.
@@ -21,6 +21,10 @@ abbrev pub TextsAreSlices : Type 0
 TextsAreSlices = (bytes : List ℕ) (list : List Token) (cut : IsCutInto bytes list) →
     map (piece_at bytes) list ≡ row_pieces cut.parts
 
+-- A text has these pieces exactly where it is a row of parts with them.
+abbrev pub PiecesAreTheCut : Type 0
+PiecesAreTheCut = (bytes : List ℕ) (ps : List Piece) → (pieces_of bytes ≡ Some ps) ↔ HasPieces bytes ps
+
 -- A byte of white space at the end of a text changes nothing.
 abbrev pub TrailingWhiteSpace : Type 0
 TrailingWhiteSpace = (bytes : List ℕ) (b : ℕ) → IsTrue (is_blank b) → lex (bytes ++ b ∷ []) ≡ lex bytes
@@ -31,7 +35,7 @@ PiecesByForm = (p : Piece) → IsPiece p ↔ (IsWordPiece p ⊎ IsSpecialPiece p
 
 -- Each piece of a text is a token by itself.
 abbrev pub PiecesStandAlone : Type 0
-PiecesStandAlone = (bytes : List ℕ) (ps : List Piece) → pieces_of bytes ≡ Some ps → All IsPiece ps
+PiecesStandAlone = (bytes : List ℕ) (ps : List Piece) → HasPieces bytes ps → All IsPiece ps
 
 -- Joined pieces are cut into these pieces again.
 abbrev pub JoinedPiecesAreRead : Type 0

@@ -120,6 +120,13 @@ pub record IsCutInto (bytes : List ℕ) (list : List Token) : Type 0 where
   pub fit : AreParts parts []
   pub tokens : list ≡ row_tokens 0 parts
 
+-- The text is a row of parts, and these are the pieces of the row's tokens.
+pub record HasPieces (bytes : List ℕ) (ps : List Piece) : Type 0 where
+  pub parts : List Part
+  pub row : bytes ≡ row_bytes parts
+  pub fit : AreParts parts []
+  pub pieces : row_pieces parts ≡ ps
+
 -- the first byte is neither white space nor printed
 abbrev pub begins_bad : List ℕ → Bool
 begins_bad [] = false

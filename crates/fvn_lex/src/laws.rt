@@ -1,5 +1,5 @@
 //! What is proved of all texts, each law carried by a function that does nothing.
-ghost use Rattle.fvn_lex.specs.Laws.{TokensAreTheCut, FaultIsTheFirst, TextsAreSlices, TrailingWhiteSpace, PiecesByForm, PiecesStandAlone, JoinedPiecesAreRead, SpacesAreNeeded};
+ghost use Rattle.fvn_lex.specs.Laws.{TokensAreTheCut, FaultIsTheFirst, TextsAreSlices, PiecesAreTheCut, TrailingWhiteSpace, PiecesByForm, PiecesStandAlone, JoinedPiecesAreRead, SpacesAreNeeded};
 
 /// A text has these tokens exactly where it is a row of white space, comments and tokens, each as long as it
 /// can be, with these tokens among them.
@@ -15,6 +15,12 @@ pub fn fault_is_the_first()
 /// The text of each token is its slice of the bytes.
 pub fn texts_are_slices()
     ensures { TextsAreSlices }
+{}
+
+/// A text has these pieces exactly where it is a row of white space, comments and tokens, each as long as it can be,
+/// with these pieces among them.
+pub fn pieces_are_the_cut()
+    ensures { PiecesAreTheCut }
 {}
 
 /// A byte of white space at the end of a text changes nothing, so a line and the line with its line feed have

@@ -1,6 +1,6 @@
 -- Lemmas of lifting; the public ones are for callers.
-mod Chosen
-mod Renamed
+pub mod Chosen
+pub mod Renamed
 mod Joining
 mod Meeting
 mod Parts

@@ -6,7 +6,6 @@ mod Determined
 mod Excluded
 mod Told
 mod Texts
-mod Stops
 mod OneForm
 mod OneFault
 mod OneText

@@ -1,22 +1,20 @@
 -- Tokens are one written module at most, and have one first fault at most.
-use Rattle.std.proofs.Common.{◌≡◌, ◌↔◌, ◌⊎◌, ℕ, ◌+◌, true, false, List, [], ◌∷◌, ◌++◌, length, inl, inr, refl, sym, ap, ◌∙◌, subst, append_assoc}
+use Rattle.std.proofs.Common.{◌≡◌, ℕ, ◌+◌, true, false, List, [], ◌∷◌, ◌++◌, length, inl, inr, refl, sym, ap, ◌∙◌, subst, append_assoc}
 use Rattle.std.specs.Prelude.{codes}
 use Rattle.std.specs.List.{AllByRecursion}
 use Rattle.std.proofs.lemmas.List.{append-nil, append_cancel_right}
 use Rattle.fvn_lex.specs.Cut.{Piece}
 use Rattle.fvn_syntax.specs.Pieces.{Text, word, dot}
-use Rattle.fvn_module.proofs.Stops.{is_stop}
+use Rattle.fvn_module_syntax.specs.Words.{is_stop}
 use Rattle.fvn_module_syntax.specs.declared.statement.Feature.{Feature}
 use Rattle.fvn_module_syntax.specs.declared.statement.Statement.{Statement}
-use Rattle.fvn_module_statements.specs.declared.outcome.Reading.{Reading}
-use Rattle.fvn_module_statements.specs.declared.outcome.Reading.TheVariants.{Read, LeftOut, NoForm}
 use Rattle.fvn_module_syntax.specs.declared.form.Form.{Form}
 use Rattle.fvn_module_statements.specs.declared.form.FormFault.{FormFault}
 use Rattle.fvn_module_statements.specs.declared.form.FormFault.TheVariants as fault
 use Rattle.fvn_module_syntax.specs.Spelling.{each, spell_statement}
-use Rattle.fvn_module_syntax.specs.Written.{NotEmpty, IsWritten}
-use Rattle.fvn_module_statements.specs.Laws.{StatementsAreExact}
-use Rattle.fvn_module_statements.specs.Forms.{dotted, end, spell_frame, IsFrame, IsStatement, IsFormOf, IsFront, LeadsTo, IsRefused, IsFirstFault}
+use Rattle.fvn_module_statements.specs.Laws.{StatementsAreDetermined}
+use Rattle.fvn_module_statements.specs.LeftOut.{IsLeftOut}
+use Rattle.fvn_module_statements.specs.Forms.{dotted, end, spell_frame, IsFrame, IsStatement, IsFormOf, IsFront, HasNoStatement, HasLeftOut, LeadsTo, IsRefused, IsFirstFault}
 
 -- Dots.
 
@@ -58,7 +56,7 @@ frame-once ps n m b c h k =
 
 -- Statements with their dots.
 
-module _ {read : List Piece → Reading Statement} (exact : (ps : List Piece) (st : Statement) → (read ps ≡ Read st) ↔ ((ps ≡ spell_statement st) × IsWritten st)) where
+module _ (law : StatementsAreDetermined) where
   -- these tokens do not begin with a statement and its dot
   abbrev Stuck : List Piece → Type 0
   Stuck left = (st : Statement) (rest : List Piece) → IsStatement st → left ≡ dotted st ++ rest → ⊥
@@ -66,30 +64,17 @@ module _ {read : List Piece → Reading Statement} (exact : (ps : List Piece) (s
   opened : (st : Statement) (rest : List Piece) → dotted st ++ rest ≡ spell_statement st ++ (dot ∷ rest)
   opened st rest = append_assoc (spell_statement st) (dot ∷ []) rest
 
-  abbrev NoStatement : List Piece → Type 0
-  NoStatement left = (NotEmpty left × Undotted left) ⊎ ((front : List Piece) × (IsFront left front × (read front ≡ NoForm)))
+  front-is : (left front : List Piece) → IsFront left front → (st : Statement) (rest : List Piece) → IsStatement st → left ≡ dotted st ++ rest → front ≡ spell_statement st
+  front-is left front h st rest s e =
+      (front-once front (spell_statement st) h.rest rest h.undotted s.undotted (sym h.split ∙ e ∙ opened st rest)).0
 
-  abbrev LeftOutIn : Feature → List Piece → Type 0
-  LeftOutIn f left = (front : List Piece) × (IsFront left front × (read front ≡ LeftOut f))
-
-  reads : (left front : List Piece) → IsFront left front → (st : Statement) (rest : List Piece) → IsStatement st → left ≡ dotted st ++ rest → read front ≡ Read st
-  reads left front h st rest s e =
-      let k = front-once front (spell_statement st) h.rest rest h.undotted s.undotted (sym h.split ∙ e ∙ opened st rest) in
-      (exact front st).1 (k.0, s.written)
-
-  stuck-none : (left : List Piece) → NoStatement left → Stuck left
+  stuck-none : (left : List Piece) → HasNoStatement left → Stuck left
   stuck-none left (inl h) st rest s e =
       has-dot (spell_statement st) rest (subst Undotted (e ∙ opened st rest) h.1)
-  stuck-none left (inr h) st rest s e =
-      let k = reads left h.0 h.1.0 st rest s e in
-      let g = h.1.1 in
-      cc
+  stuck-none left (inr h) st rest s e = h.1.1.no_statement st s.written (front-is left h.0 h.1.0 st rest s e)
 
-  stuck-left_out : (f : Feature) (left : List Piece) → LeftOutIn f left → Stuck left
-  stuck-left_out f left h st rest s e =
-      let k = reads left h.0 h.1.0 st rest s e in
-      let g = h.1.1 in
-      cc
+  stuck-left_out : (f : Feature) (left : List Piece) → HasLeftOut f left → Stuck left
+  stuck-left_out f left h st rest s e = law.apart f st s.written (subst (IsLeftOut f) (front-is left h.0 h.1.0 st rest s e) h.1.1)
 
   stuck-end : Stuck []
   stuck-end st rest s e = go (spell_statement st) (e ∙ opened st rest) where
@@ -109,9 +94,7 @@ module _ {read : List Piece → Reading Statement} (exact : (ps : List Piece) (s
       let x : spell_statement u ++ (dot ∷ (each dotted b ++ l)) ≡ spell_statement v ++ (dot ∷ (each dotted c ++ k)) =
       sym (opened u (each dotted b ++ l)) ∙ sym (all-but-first u b l) ∙ e ∙ all-but-first v c k ∙ opened v (each dotted c ++ k) in
       let y = front-once (spell_statement u) (spell_statement v) (each dotted b ++ l) (each dotted c ++ k) g.0.undotted h.0.undotted x in
-      let p = (exact (spell_statement u) u).1 (refl, g.0.written) in
-      let q = (exact (spell_statement u) v).1 (y.0, h.0.written) in
-      let same : u ≡ v = cc in
+      let same : u ≡ v = law.one_statement u v g.0.written h.0.written y.0 in
       let z = befores-once b c l k g.1 h.1 s t y.1 in
       (ap (λ w. w ∷ b) same ∙ ap (λ ws. v ∷ ws) z.0, z.1)
 
@@ -128,12 +111,6 @@ module _ {read : List Piece → Reading Statement} (exact : (ps : List Piece) (s
       ap (λ n. record { name = n; statements = f.statements }) e.0 ∙ ap (λ sts. record { name = g.name; statements = sts }) y.0
 
   -- Faults.
-
-  abbrev First : List Piece → FormFault → Type 0
-  First ps fault.Header = (name : Text) (body : List Piece) → IsFrame ps name body → ⊥
-  First ps (fault.Statement n) = IsRefused ps n NoStatement
-  First ps (fault.LeftOut n f) = IsRefused ps n (LeftOutIn f)
-  First ps fault.NoMemory = ⊥
 
   leads-once : (b c : List Piece) (n m : ℕ) (l k : List Piece) → b ≡ c → LeadsTo b n l → LeadsTo c m k → Stuck l → Stuck k → (n ≡ m) × (l ≡ k)
   leads-once b c n m l k e g h s t =
@@ -153,28 +130,23 @@ module _ {read : List Piece → Reading Statement} (exact : (ps : List Piece) (s
     front-same : (left f g : List Piece) → IsFront left f → IsFront left g → f ≡ g
     front-same left f g h k = (front-once f g h.rest k.rest h.undotted k.undotted (sym h.split ∙ k.split)).0
 
-    none-or-left_out : (f : Feature) (left : List Piece) → NoStatement left → LeftOutIn f left → ⊥
+    none-or-left_out : (f : Feature) (left : List Piece) → HasNoStatement left → HasLeftOut f left → ⊥
     none-or-left_out f left (inl h) k = has-dot k.0 k.1.0.rest (subst Undotted k.1.0.split h.1)
     none-or-left_out f left (inr h) k =
         let e = front-same left h.0 k.0 h.1.0 k.1.0 in
-        let a : read h.0 ≡ NoForm = h.1.1 in
-        let b : read k.0 ≡ LeftOut f = k.1.1 in
-        let c : read h.0 ≡ LeftOut f = ap read e ∙ b in
-        cc
+        h.1.1.none_left_out f (subst (IsLeftOut f) (sym e) k.1.1)
 
-    left_out-once : (f g : Feature) (left : List Piece) → LeftOutIn f left → LeftOutIn g left → f ≡ g
+    left_out-once : (f g : Feature) (left : List Piece) → HasLeftOut f left → HasLeftOut g left → f ≡ g
     left_out-once f g left h k =
         let e = front-same left h.0 k.0 h.1.0 k.1.0 in
-        let a : read h.0 ≡ LeftOut f = h.1.1 in
-        let c : read h.0 ≡ LeftOut g = ap read e ∙ k.1.1 in
-        cc
+        law.one_form f g k.0 (subst (IsLeftOut f) e h.1.1) k.1.1
 
-    statement-left_out : (n m : ℕ) (f : Feature) → At n NoStatement → At m (LeftOutIn f) → ⊥
+    statement-left_out : (n m : ℕ) (f : Feature) → At n HasNoStatement → At m (HasLeftOut f) → ⊥
     statement-left_out n m f g h =
         let x = same-place n m stuck-none (stuck-left_out f) g h in
-        none-or-left_out f h.left (subst NoStatement x.1 g.wrong) h.wrong
+        none-or-left_out f h.left (subst HasNoStatement x.1 g.wrong) h.wrong
 
-    form-fault-once : (f g : FormFault) → First ps f → First ps g → f ≡ g
+    form-fault-once : (f g : FormFault) → IsFirstFault ps f → IsFirstFault ps g → f ≡ g
     form-fault-once fault.Header fault.Header h k = refl
     form-fault-once fault.Header (fault.Statement m) h k = absurd (h k.name k.body k.frame)
     form-fault-once fault.Header (fault.LeftOut m g) h k = absurd (h k.name k.body k.frame)
@@ -185,7 +157,7 @@ module _ {read : List Piece → Reading Statement} (exact : (ps : List Piece) (s
     form-fault-once (fault.LeftOut n f) (fault.Statement m) h k = absurd (statement-left_out m n f k h)
     form-fault-once (fault.LeftOut n f) (fault.LeftOut m g) h k =
         let x = same-place n m (stuck-left_out f) (stuck-left_out g) h k in
-        ap (λ i. fault.LeftOut i f) x.0 ∙ ap (λ i. fault.LeftOut m i) (left_out-once f g k.left (subst (LeftOutIn f) x.1 h.wrong) k.wrong)
+        ap (λ i. fault.LeftOut i f) x.0 ∙ ap (λ i. fault.LeftOut m i) (left_out-once f g k.left (subst (HasLeftOut f) x.1 h.wrong) k.wrong)
     form-fault-once fault.NoMemory g h k = absurd h
     form-fault-once f fault.NoMemory h k = absurd k
 
@@ -200,28 +172,22 @@ module _ {read : List Piece → Reading Statement} (exact : (ps : List Piece) (s
     no-front [] h = let e = h.split in cc
     no-front (p ∷ f) h = let e = h.split in cc
 
-    form-no-fault : (f : Form) → IsFormOf ps f → (g : FormFault) → First ps g → ⊥
+    form-no-fault : (f : Form) → IsFormOf ps f → (g : FormFault) → IsFirstFault ps g → ⊥
     form-no-fault f h fault.Header k = k f.name (each dotted f.statements) h.frame
     form-no-fault f h (fault.Statement n) k = not-refused n stuck-none none f h k where
-      none : NoStatement [] → ⊥
+      none : HasNoStatement [] → ⊥
       none (inl x) = x.0
       none (inr x) = no-front x.0 x.1.0
     form-no-fault f h (fault.LeftOut n g) k = not-refused n (stuck-left_out g) (λ x. no-front x.0 x.1.0) f h k
     form-no-fault f h fault.NoMemory k = k
 
--- The same in the words for callers.
+-- The same for callers.
 
-first-is : (exact : StatementsAreExact) (ps : List Piece) (f : FormFault) → IsFirstFault ps f → First exact ps f
-first-is exact ps fault.Header h = h
-first-is exact ps (fault.Statement n) h = h
-first-is exact ps (fault.LeftOut n f) h = h
-first-is exact ps fault.NoMemory h = h
+pub one-form : StatementsAreDetermined → (ps : List Piece) (f g : Form) → IsFormOf ps f → IsFormOf ps g → f ≡ g
+one-form law ps f g h k = form-once law ps f g h k
 
-pub one-form : StatementsAreExact → (ps : List Piece) (f g : Form) → IsFormOf ps f → IsFormOf ps g → f ≡ g
-one-form exact ps f g h k = form-once exact ps f g h k
+pub one-form-fault : StatementsAreDetermined → (ps : List Piece) (f g : FormFault) → IsFirstFault ps f → IsFirstFault ps g → f ≡ g
+one-form-fault law ps f g h k = form-fault-once law ps f g h k
 
-pub one-form-fault : StatementsAreExact → (ps : List Piece) (f g : FormFault) → IsFirstFault ps f → IsFirstFault ps g → f ≡ g
-one-form-fault exact ps f g h k = form-fault-once exact ps f g (first-is exact ps f h) (first-is exact ps g k)
-
-pub form-or-fault : StatementsAreExact → (ps : List Piece) (f : Form) → IsFormOf ps f → (g : FormFault) → IsFirstFault ps g → ⊥
-form-or-fault exact ps f h g k = form-no-fault exact ps f h g (first-is exact ps g k)
+pub form-or-fault : StatementsAreDetermined → (ps : List Piece) (f : Form) → IsFormOf ps f → (g : FormFault) → IsFirstFault ps g → ⊥
+form-or-fault law ps f h g k = form-no-fault law ps f h g k

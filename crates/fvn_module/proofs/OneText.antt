@@ -1,9 +1,11 @@
 -- A text is one module at most, or has one first fault at most.
-use Rattle.std.proofs.Common.{◌≡◌, ◌⊎◌, ℕ, ◌≤◌, List, length, Some, Err, inl, inr, refl, sym, ap, ◌∙◌, subst, arith}
+use Rattle.std.proofs.Common.{◌≡◌, ◌⊎◌, ℕ, ◌≤◌, List, length, Some, inl, inr, refl, sym, ap, ◌∙◌, subst, arith}
 use Rattle.std.specs.Prelude.{slice_get}
 use Rattle.std.proofs.lemmas.Option.{slice_get_within}
 use Rattle.fvn_lex.specs.declared.token.LexFault.{LexFault}
-use Rattle.fvn_lex.specs.Cut.{Piece, lex, pieces_of}
+use Rattle.fvn_lex.specs.Cut.{Piece}
+use Rattle.fvn_lex.specs.Parts.{HasPieces, IsFirstFault as IsFirstLexFault}
+use Rattle.fvn_lex.proofs.RowPieces.{pieces-once, no-pieces, first-once}
 use Rattle.fvn_base.specs.declared.limits.TheConstants.{EQUATIONS}
 use Rattle.fvn_terms.specs.declared.plain.SortId.{SortId}
 use Rattle.fvn_sorts.specs.declared.conditions.fault.SigFault.{SigFault}
@@ -14,7 +16,7 @@ use Rattle.fvn_module_syntax.specs.declared.form.Form.{Form}
 use Rattle.fvn_module_statements.specs.declared.form.FormFault.{FormFault}
 use Rattle.fvn_module_statements.specs.declared.form.FormFault.TheVariants as form
 use Rattle.fvn_module_statements.specs.Forms.{IsFormOf, IsFirstFault as IsFirstFormFault}
-use Rattle.fvn_module_statements.specs.Laws.{StatementsAreExact}
+use Rattle.fvn_module_statements.specs.Laws.{StatementsAreDetermined}
 use Rattle.fvn_module_names.specs.declared.fault.NameFault.{NameFault}
 use Rattle.fvn_module_names.specs.declared.fault.NameFault.TheVariants as name
 use Rattle.fvn_module_declarations.specs.Module.{names_alone, collected_in}
@@ -30,16 +32,15 @@ use Rattle.fvn_module.proofs.Determined.{declared-once}
 use Rattle.fvn_module.proofs.Excluded.{no-name-fault, no-first-fault}
 use Rattle.fvn_module.proofs.OneForm.{one-form, one-form-fault, form-or-fault}
 use Rattle.fvn_module.proofs.OneFault.{name-fault-once, signature-fault-once, first-fault-once}
-use Rattle.fvn_module.proofs.Texts.{no-pieces}
 
-module _ (exact : StatementsAreExact) (bytes : Text) where
-  row-once : (row other : List Piece) → pieces_of bytes ≡ Some row → pieces_of bytes ≡ Some other → row ≡ other
-  row-once row other a b = cc
+module _ (law : StatementsAreDetermined) (bytes : Text) where
+  row-once : (row other : List Piece) → HasPieces bytes row → HasPieces bytes other → row ≡ other
+  row-once row other a b = pieces-once bytes row other a b
 
   written-once : (f g : Form) → IsWrittenAs bytes f → IsWrittenAs bytes g → f ≡ g
   written-once f g h k =
       let e = row-once h.row k.row h.cut k.cut in
-      one-form exact k.row f g (subst (λ r. IsFormOf r f) e h.form) k.form
+      one-form law k.row f g (subst (λ r. IsFormOf r f) e h.form) k.form
 
   pub module-once : (m k : Contents) → IsModule bytes m → IsModule bytes k → m ≡ k
   module-once m k a b =
@@ -64,7 +65,7 @@ module _ (exact : StatementsAreExact) (bytes : Text) where
   -- the step at which a fault is found
   data Step (f : ModuleFault) : Type 0 where
     no_memory : f ≡ NoMemory → Step f
-    at_bytes : (x : LexFault) → lex bytes ≡ Err x → f ≡ Lex x → Step f
+    at_bytes : (x : LexFault) → IsFirstLexFault bytes x → f ≡ Lex x → Step f
     at_form : (x : FormFault) → HasFormFault bytes x → f ≡ of-form x → Step f
     at_name : (x : NameFault) → HasNameFault bytes x → f ≡ of-name x → Step f
     at_signature : (x : SigFault) (names : Names) (tops : List SortId) → HasSignatureFault bytes x names tops → f ≡ Signature x names tops → Step f
@@ -93,7 +94,7 @@ module _ (exact : StatementsAreExact) (bytes : Text) where
   form-at : (x : FormFault) → HasFormFault bytes x → (f : Form) → IsWrittenAs bytes f → ⊥
   form-at x h f w =
       let e = row-once w.row h.row w.cut h.cut in
-      form-or-fault exact h.row f (subst (λ r. IsFormOf r f) e w.form) x h.first
+      form-or-fault law h.row f (subst (λ r. IsFormOf r f) e w.form) x h.first
 
   name-at : (x : NameFault) → HasNameFault bytes x → (f : Form) → IsWrittenAs bytes f → HasNames f.statements → ⊥
   name-at x h f w n =
@@ -116,13 +117,13 @@ module _ (exact : StatementsAreExact) (bytes : Text) where
   abbrev Told : ModuleFault → ModuleFault → Type 0
   Told f g = (f ≡ NoMemory) ⊎ ((g ≡ NoMemory) ⊎ (f ≡ g))
 
-  bytes-once : (x y : LexFault) → lex bytes ≡ Err x → lex bytes ≡ Err y → Lex x ≡ Lex y
-  bytes-once x y h k = let e : x ≡ y = cc in ap Lex e
+  bytes-once : (x y : LexFault) → IsFirstLexFault bytes x → IsFirstLexFault bytes y → Lex x ≡ Lex y
+  bytes-once x y h k = ap Lex (first-once bytes x y h k)
 
   form-once : (x y : FormFault) → HasFormFault bytes x → HasFormFault bytes y → x ≡ y
   form-once x y h k =
       let e = row-once h.row k.row h.cut k.cut in
-      one-form-fault exact k.row x y (subst (λ r. IsFirstFormFault r x) e h.first) k.first
+      one-form-fault law k.row x y (subst (λ r. IsFirstFormFault r x) e h.first) k.first
 
   name-once : (x y : NameFault) → HasNameFault bytes x → HasNameFault bytes y → x ≡ y
   name-once x y h k =

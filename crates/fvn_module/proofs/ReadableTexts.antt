@@ -16,7 +16,7 @@ use Rattle.fvn_module_syntax.specs.Spelling.{each, spell_word, words, colon, spe
 use Rattle.fvn_module_syntax.specs.Words.{names_touch}
 use Rattle.fvn_module_syntax.specs.Written.{IsSortName, IsName, IsWritten}
 use Rattle.fvn_module_statements.specs.Forms.{dotted, end, spell_frame, IsStatement, IsFormOf}
-use Rattle.fvn_module.proofs.Stops.{is_stop}
+use Rattle.fvn_module_syntax.specs.Words.{is_stop}
 use Rattle.fvn_module_names.specs.Names.{joined, name_text, sorts_in, operators_in, sorts_of, operators_of}
 use Rattle.fvn_module.specs.Readable.{IsWord, IsSortText}
 use Rattle.fvn_module.proofs.ReadableLists.{all-contains, with_names-all}

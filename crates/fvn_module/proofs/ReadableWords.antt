@@ -18,7 +18,7 @@ use Rattle.fvn_lex.proofs.JoinLemmas.{form-piece, piece-form}
 use Rattle.fvn_syntax.specs.Pieces.{Text, word, is_word_class, is_word}
 use Rattle.fvn_module_syntax.specs.Words.{begins_with_underscore, ends_with_underscore, are_apart, touch_after, touch}
 use Rattle.fvn_module_syntax.specs.Written.{NotEmpty}
-use Rattle.fvn_module.proofs.Stops.{is_stop}
+use Rattle.fvn_module_syntax.specs.Words.{is_stop}
 use Rattle.fvn_module_names.specs.Names.{quoted, joined}
 
 -- Bytes.

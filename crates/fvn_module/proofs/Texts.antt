@@ -1,9 +1,11 @@
 -- From statements to texts.
-use Rattle.std.proofs.Common.{◌≡◌, ◌⊎◌, ◌<◌, ◌≤◌, List, length, Some, None, Result, Err, inl, inr, refl, sym, ap, ◌∙◌, subst, arith}
+use Rattle.std.proofs.Common.{◌≡◌, ◌⊎◌, ◌<◌, ◌≤◌, List, length, Result, inl, inr, refl, sym, ap, ◌∙◌, subst, arith}
 use Rattle.std.specs.Prelude.{IfOk}
 use Rattle.fvn_lex.specs.declared.token.LexFault.{LexFault}
 use Rattle.fvn_lex.specs.declared.token.LexFault.TheVariants as lexed
-use Rattle.fvn_lex.specs.Cut.{Piece, lex, pieces_in, pieces_of}
+use Rattle.fvn_lex.specs.Cut.{Piece}
+use Rattle.fvn_lex.specs.Parts.{HasPieces, IsFirstFault}
+use Rattle.fvn_lex.proofs.RowPieces.{pieces-once, no-pieces}
 use Rattle.fvn_base.specs.declared.limits.TheConstants.{SORTS, OPERATORS}
 use Rattle.fvn_signature.specs.declared.collected.Collected.{Collected}
 use Rattle.fvn_signature.specs.Tops.{tops}
@@ -25,9 +27,9 @@ use Rattle.fvn_theory.specs.declared.equation.Equation.{Equation}
 use Rattle.fvn_module.specs.Equations.{equations_in, AreEquationsOf}
 use Rattle.fvn_module.specs.Readable.{IsReadable}
 use Rattle.fvn_module.specs.Contents.{Contents, scope_of}
-use Rattle.fvn_module.specs.ModuleText.{scope_in, Declares, IsOnlyModule}
+use Rattle.fvn_module.specs.ModuleText.{scope_in, Declares, IsOnlyModule, HasNoModule}
 use Rattle.fvn_module.specs.Refusals.{tops_told}
-use Rattle.fvn_module.specs.inner.Steps.{fault_of_cut, IsWritable, AreRead, IsSigned, IsSigningRefused, AreRefused, IsFormFault, IsModuleAlone, IsTextFault}
+use Rattle.fvn_module.specs.inner.Steps.{fault_of_cut, IsWritable, AreRead, IsSigned, IsSigningRefused, AreRefused, IsFormFault, IsRowFault, IsModuleAlone, IsTextFault}
 use Rattle.fvn_module.proofs.Results.{on_ok}
 use Rattle.fvn_module.proofs.Determined.{declared-once}
 use Rattle.fvn_module.proofs.Excluded.{not-signing, not-equations}
@@ -86,16 +88,9 @@ signed-readable f w s g completed es r =
     subst (λ n. IsReadable (record { signature = s.signature; names = n; equations = es })) (sym g.names)
     (subst (λ d. IsReadable (record { signature = d; names = names_in f; equations = es })) (sym g.signature) x)
 
-pub no-pieces : (bytes : Text) (fault : LexFault) (row : List Piece) → lex bytes ≡ Err fault → pieces_of bytes ≡ Some row → ⊥
-unfolding pieces_of
-no-pieces bytes fault row h c =
-    let e : pieces_in bytes (lex bytes) ≡ None = ap (pieces_in bytes) h in
-    let g : pieces_in bytes (lex bytes) ≡ Some row = c in
-    cc
-
 module _ (bytes : Text) where
-  same-row : (row other : List Piece) → pieces_of bytes ≡ Some row → pieces_of bytes ≡ Some other → other ≡ row
-  same-row row other a b = cc
+  same-row : (row other : List Piece) → HasPieces bytes row → HasPieces bytes other → other ≡ row
+  same-row row other a b = pieces-once bytes other row b a
 
   only-module : (m : Contents) → IsModuleAlone bytes m → IsOnlyModule bytes m
   only-module m a other b =
@@ -107,15 +102,22 @@ module _ (bytes : Text) where
   pub alone-only : (r : Result Contents ModuleFault) → IfOk r (IsModuleAlone bytes) → IfOk r (IsOnlyModule bytes)
   alone-only r h = on_ok (IsModuleAlone bytes) (IsOnlyModule bytes) r only-module h
 
-  lex-fault : (fault : LexFault) → lex bytes ≡ Err fault → IsTextFault bytes (Lex fault)
+  lex-fault : (fault : LexFault) → IsFirstFault bytes fault → IsTextFault bytes (Lex fault)
   lex-fault fault h = record {
     refuses = h;
     none = inr (λ m d. no-pieces bytes fault d.written.row h d.written.cut);
   }
 
-  pub cut-fault : (fault : LexFault) → (fault ≡ lexed.NoMemory) ⊎ (lex bytes ≡ Err fault) → IsTextFault bytes (fault_of_cut fault)
+  pub cut-fault : (fault : LexFault) → (fault ≡ lexed.NoMemory) ⊎ IsFirstFault bytes fault → IsTextFault bytes (fault_of_cut fault)
   cut-fault (lexed.BadByte n) (inl e) = cc
   cut-fault (lexed.BadByte n) (inr h) = lex-fault (lexed.BadByte n) h
   cut-fault (lexed.BlockComment n) (inl e) = cc
   cut-fault (lexed.BlockComment n) (inr h) = lex-fault (lexed.BlockComment n) h
   cut-fault lexed.NoMemory h = record { refuses = tt; none = inl refl }
+
+  pub row-told : (row : List Piece) → HasPieces bytes row → (fault : ModuleFault) → IsRowFault row fault → IsTextFault bytes fault
+  row-told row cut fault h = record { refuses = h.refuses bytes cut; none = go h.none } where
+    go : (fault ≡ NoMemory) ⊎ ((f : Form) → IsFormOf row f → (m : Contents) → Declares f m → ⊥) → HasNoModule bytes fault
+    go (inl e) = inl e
+    go (inr k) =
+        inr (λ m d. k d.form (subst (λ r. IsFormOf r d.form) (pieces-once bytes d.written.row row d.written.cut cut) d.written.form) m d.declares)

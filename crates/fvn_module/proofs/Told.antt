@@ -1,6 +1,7 @@
 -- What is refused is told by the first fault of the text.
-use Rattle.std.proofs.Common.{◌≡◌, ℕ, List, Some, inl, inr, sym, ap, ◌∙◌, subst}
-use Rattle.fvn_lex.specs.Cut.{Piece, pieces_of}
+use Rattle.std.proofs.Common.{◌≡◌, ℕ, List, inl, inr, sym, ap, ◌∙◌, subst}
+use Rattle.fvn_lex.specs.Cut.{Piece}
+use Rattle.fvn_lex.specs.Parts.{HasPieces}
 use Rattle.fvn_syntax.specs.declared.fault.TermFault.{TermFault}
 use Rattle.fvn_syntax.specs.declared.fault.TermFault.TheVariants as term_fault
 use Rattle.fvn_syntax.specs.Pieces.{Text}
@@ -15,7 +16,7 @@ use Rattle.fvn_module.specs.Refusals.{HasEquationFault, HasTooManyEquations, Ref
 use Rattle.fvn_module.specs.inner.Steps.{IsFormRefused, IsSigned, IsSigningRefused, AreRefused, no_memory, too_many, at_equation}
 
 module _ (bytes : Text) where
-  pub told-form : (row : List Piece) → pieces_of bytes ≡ Some row → (fault : ModuleFault) → IsFormRefused row fault → Refuses bytes fault
+  pub told-form : (row : List Piece) → HasPieces bytes row → (fault : ModuleFault) → IsFormRefused row fault → Refuses bytes fault
   told-form row cut (Lex fault) h = absurd h
   told-form row cut Header h = record { row = row; cut = cut; first = h }
   told-form row cut (AtStatement n) h = record { row = row; cut = cut; first = h }

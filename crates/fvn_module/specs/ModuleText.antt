@@ -1,6 +1,7 @@
 -- Which texts are modules, and what these declare.
-use Rattle.std.specs.Prelude.{◌≡◌, ◌≤◌, ◌⊎◌, List, length, Some}
-use Rattle.fvn_lex.specs.Cut.{Piece, pieces_of}
+use Rattle.std.specs.Prelude.{◌≡◌, ◌≤◌, ◌⊎◌, List, length}
+use Rattle.fvn_lex.specs.Cut.{Piece}
+use Rattle.fvn_lex.specs.Parts.{HasPieces}
 use Rattle.fvn_base.specs.declared.limits.TheConstants.{EQUATIONS}
 use Rattle.fvn_signature.specs.Collected.{completed}
 use Rattle.fvn_sorts.specs.Faults.{HasNoFault}
@@ -18,7 +19,7 @@ use Rattle.fvn_module.specs.Equations.{equations_in, AreEquationsOf}
 -- the bytes are written as this module
 pub record IsWrittenAs (bytes : Text) (f : Form) : Type 0 where
   pub row : List Piece
-  pub cut : pieces_of bytes ≡ Some row
+  pub cut : HasPieces bytes row
   pub form : IsFormOf row f
 
 -- what the names of a written module are read in

@@ -1,6 +1,7 @@
 -- The first fault of a text that is no module.
-use Rattle.std.specs.Prelude.{ℕ, ◌≡◌, ◌≤◌, ◌⊎◌, List, [], length, slice_get, Some, Err}
-use Rattle.fvn_lex.specs.Cut.{Piece, lex, pieces_of}
+use Rattle.std.specs.Prelude.{ℕ, ◌≡◌, ◌≤◌, ◌⊎◌, List, [], length, slice_get, Some}
+use Rattle.fvn_lex.specs.Cut.{Piece}
+use Rattle.fvn_lex.specs.Parts.{HasPieces, IsFirstFault as IsFirstLexFault}
 use Rattle.fvn_base.specs.declared.limits.TheConstants.{EQUATIONS}
 use Rattle.fvn_terms.specs.declared.plain.SortId.{SortId}
 use Rattle.fvn_signature.specs.declared.collected.Collected.{Collected}
@@ -35,7 +36,7 @@ module _ (bytes : Text) where
   -- the bytes have tokens, and this is the first fault of their frame and their statements
   pub record HasFormFault (fault : FormFault) : Type 0 where
     pub row : List Piece
-    pub cut : pieces_of bytes ≡ Some row
+    pub cut : HasPieces bytes row
     pub first : IsFirstFormFault row fault
 
   -- each statement has a form, and this is the first fault among their names
@@ -81,7 +82,7 @@ module _ (bytes : Text) where
   -- The first fault of the bytes. Want of memory says nothing of them; what becomes of a left side, and the number
   -- of bytes, are not asked here.
   abbrev pub Refuses : ModuleFault → Type 0
-  Refuses (Lex fault) = lex bytes ≡ Err fault
+  Refuses (Lex fault) = IsFirstLexFault bytes fault
   Refuses Header = HasFormFault form.Header
   Refuses (Statement n) = HasFormFault (form.Statement n)
   Refuses (UnknownName n) = HasNameFault (name.UnknownName n) ⊎ HasEquationFault (UnknownName n)

@@ -1,6 +1,6 @@
 //! Reading a module.
-ghost use Rattle.std.specs.Prelude.{◌≡◌, ◌⊎◌, All, Some, IfOk, IfErr};
-ghost use Rattle.fvn_lex.specs.Cut.{pieces_of};
+ghost use Rattle.std.specs.Prelude.{◌≡◌, ◌⊎◌, All, IfOk, IfErr};
+ghost use Rattle.fvn_lex.specs.Parts.{HasPieces};
 ghost use Rattle.fvn_lex.specs.Join.{IsPiece};
 ghost use Rattle.fvn_module_statements.specs.Forms.{IsFormOf, HasNoForm};
 ghost use Rattle.fvn_module.specs.declared.fault.ModuleFault.TheVariants.{NoMemory as OutOfMemory};
@@ -42,7 +42,7 @@ fn cut_fault(fault: LexFault) -> ModuleFault
 
 // The pieces of a text.
 fn cut_text<'a>(alloc: Global, bytes: &'a [u8]) -> Result<Vec<Piece<'a>>, ModuleFault>
-    ensures ok { IfOk result (λ list. pieces_of bytes.now ≡ Some list.items) }
+    ensures ok { IfOk result (λ list. HasPieces bytes.now list.items) }
     ensures err { IfErr result (IsTextFault bytes.now) }
 {
     match cut(alloc, bytes) {

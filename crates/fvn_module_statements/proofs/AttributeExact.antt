@@ -1,5 +1,5 @@
 -- The reader of attributes finds exactly the spelled attributes.
-use Rattle.std.proofs.Common.{◌≡◌, ◌≤◌, Bool, true, false, ◌||◌, ◌&&◌, List, [], ◌∷◌, ◌++◌, length, Option, Some, None, refl, sym, ap, ◌∙◌, subst, append_assoc, arith}
+use Rattle.std.proofs.Common.{◌≡◌, ◌≤◌, Bool, true, false, ◌&&◌, List, [], ◌∷◌, ◌++◌, length, Option, Some, None, refl, sym, ap, ◌∙◌, subst, append_assoc, arith}
 use Rattle.std.specs.Prelude.{codes}
 use Rattle.std.specs.List.{AllByRecursion}
 use Rattle.std.specs.Str.{bytes_eq}
@@ -14,7 +14,8 @@ use Rattle.fvn_module_syntax.specs.Spelling.{each, spell_word, words, in_parens,
 use Rattle.fvn_module_syntax.specs.Written.{NotEmpty, IsAttribute, AreAttributes}
 use Rattle.fvn_module_statements.specs.inner.Gather.{gather}
 use Rattle.fvn_module_statements.specs.inner.Attributes.{word_of, words_before, words_in_parens, identity_of, made, attribute_named, attribute_of, is_close, is_some, attributes_before, attributes_of}
-use Rattle.fvn_module_syntax.specs.LeftOut.{left_out_in}
+use Rattle.fvn_module_syntax.specs.LeftOut.{is_next, left_out_in}
+use Rattle.fvn_module_statements.specs.LeftOut.{GoesOn, IsAttributeBefore}
 use Rattle.fvn_module_statements.proofs.GatherExact.{gather-sound, gather-spelled}
 use Rattle.fvn_module_statements.proofs.SortExact.{Any, all_any}
 
@@ -82,19 +83,18 @@ words_in_parens-complete ws rest h = rw (append_assoc (words ws) (right_paren �
 
 -- one attribute
 identity_of-sound : (ps : List Piece) (r : Attribute × List Piece) → identity_of ps ≡ Some r →
-    (word (codes "id:") ∷ ps ≡ spell_attribute r.0 ++ r.1) × IsAttribute r.0
+    (word (codes "id:") ∷ ps ≡ spell_attribute r.0 ++ r.1) × IsAttributeBefore r.1 r.0
 identity_of-sound [] r h = cc
 identity_of-sound (p ∷ []) r h = cc
-identity_of-sound (p ∷ q ∷ ps) r h = go (is_word p && (is_word q || is_special (codes "]") q)) refl where
-  go : (b : Bool) → is_word p && (is_word q || is_special (codes "]") q) ≡ b →
-      (word (codes "id:") ∷ p ∷ q ∷ ps ≡ spell_attribute r.0 ++ r.1) × IsAttribute r.0
+identity_of-sound (p ∷ q ∷ ps) r h = go (is_word p && is_next q) refl where
+  go : (b : Bool) → is_word p && is_next q ≡ b → (word (codes "id:") ∷ p ∷ q ∷ ps ≡ spell_attribute r.0 ++ r.1) × IsAttributeBefore r.1 r.0
   go false e = let g = rw e at h in cc
   go true e =
       let g : Some (Identity p.text, q ∷ ps) ≡ Some r = rw e at h in
       let i : (Identity p.text, q ∷ ps) ≡ r = cc in
-      let P : Attribute × List Piece → Type 0 = λ x. (word (codes "id:") ∷ p ∷ q ∷ ps ≡ spell_attribute x.0 ++ x.1) × IsAttribute x.0 in
-      subst P i
-      (ap (λ x. word (codes "id:") ∷ x ∷ q ∷ ps) (word-is p (and-left (is_word p) (is_word q || is_special (codes "]") q) e)), tt)
+      let P : Attribute × List Piece → Type 0 =
+      λ x. (word (codes "id:") ∷ p ∷ q ∷ ps ≡ spell_attribute x.0 ++ x.1) × IsAttributeBefore x.1 x.0 in
+      subst P i (ap (λ x. word (codes "id:") ∷ x ∷ q ∷ ps) (word-is p (and-left (is_word p) (is_next q) e)), and-right (is_word p) (is_next q) e)
 
 record Made {A : Type 0} (make : A → Attribute) (o : Option (A × List Piece)) (r : Attribute × List Piece) : Type 0 where
   pub from : A × List Piece
@@ -106,7 +106,7 @@ made-is make None r h = cc
 made-is make (Some x) r h = record { from = x; read = refl; same = cc }
 
 attribute_named-sound : (w : Text) (ps : List Piece) (r : Attribute × List Piece) → attribute_named w ps ≡ Some r →
-    (word w ∷ ps ≡ spell_attribute r.0 ++ r.1) × IsAttribute r.0
+    (word w ∷ ps ≡ spell_attribute r.0 ++ r.1) × IsAttributeBefore r.1 r.0
 attribute_named-sound w ps r h =
     by_text w (codes "assoc") (λ a. plain (codes "assoc") a Assoc refl tt (rw a at h))
     (λ a. by_text w (codes "comm") (λ b. plain (codes "comm") b Comm refl tt (rw (a, b) at h))
@@ -118,59 +118,77 @@ attribute_named-sound w ps r h =
     (λ g. by_text w (codes "format") (λ i. named (codes "format") i (formatted (made-is Format (words_in_parens ps) r (rw (a, b, c, d, e, f, g, i) at h))))
     (λ i. let k = rw (a, b, c, d, e, f, g, i) at h in cc))))))))
   where
-    named : (t : Text) → bytes_eq w t ≡ true → (word t ∷ ps ≡ spell_attribute r.0 ++ r.1) × IsAttribute r.0 →
-        (word w ∷ ps ≡ spell_attribute r.0 ++ r.1) × IsAttribute r.0
+    named : (t : Text) → bytes_eq w t ≡ true → (word t ∷ ps ≡ spell_attribute r.0 ++ r.1) × IsAttributeBefore r.1 r.0 →
+        (word w ∷ ps ≡ spell_attribute r.0 ++ r.1) × IsAttributeBefore r.1 r.0
     named t e k = (ap (λ v. word v ∷ ps) (bytes_eq-is w t e) ∙ k.0, k.1)
 
-    plain : (t : Text) → bytes_eq w t ≡ true → (x : Attribute) → spell_attribute x ≡ word t ∷ [] → IsAttribute x → Some (x, ps) ≡ Some r →
-        (word w ∷ ps ≡ spell_attribute r.0 ++ r.1) × IsAttribute r.0
+    plain : (t : Text) → bytes_eq w t ≡ true → (x : Attribute) → spell_attribute x ≡ word t ∷ [] → IsAttributeBefore ps x → Some (x, ps) ≡ Some r →
+        (word w ∷ ps ≡ spell_attribute r.0 ++ r.1) × IsAttributeBefore r.1 r.0
     plain t e x spelled fits k =
         let i : (x, ps) ≡ r = cc in
-        let P : Attribute × List Piece → Type 0 = λ y. (word t ∷ ps ≡ spell_attribute y.0 ++ y.1) × IsAttribute y.0 in
+        let P : Attribute × List Piece → Type 0 = λ y. (word t ∷ ps ≡ spell_attribute y.0 ++ y.1) × IsAttributeBefore y.1 y.0 in
         named t e (subst P i (ap (λ qs. qs ++ ps) (sym spelled), fits))
 
-    precedence : Made Precedence (word_of ps) r → (word (codes "prec") ∷ ps ≡ spell_attribute r.0 ++ r.1) × IsAttribute r.0
+    precedence : Made Precedence (word_of ps) r → (word (codes "prec") ∷ ps ≡ spell_attribute r.0 ++ r.1) × IsAttributeBefore r.1 r.0
     precedence m =
-        let P : Attribute × List Piece → Type 0 = λ y. (word (codes "prec") ∷ ps ≡ spell_attribute y.0 ++ y.1) × IsAttribute y.0 in
+        let P : Attribute × List Piece → Type 0 = λ y. (word (codes "prec") ∷ ps ≡ spell_attribute y.0 ++ y.1) × IsAttributeBefore y.1 y.0 in
         subst P m.same (ap (λ qs. word (codes "prec") ∷ qs) ((word_of-sound ps m.from m.read).0), tt)
 
-    gathered : Made Gather (words_in_parens ps) r → (word (codes "gather") ∷ ps ≡ spell_attribute r.0 ++ r.1) × IsAttribute r.0
+    gathered : Made Gather (words_in_parens ps) r → (word (codes "gather") ∷ ps ≡ spell_attribute r.0 ++ r.1) × IsAttributeBefore r.1 r.0
     gathered m =
-        let P : Attribute × List Piece → Type 0 = λ y. (word (codes "gather") ∷ ps ≡ spell_attribute y.0 ++ y.1) × IsAttribute y.0 in
+        let P : Attribute × List Piece → Type 0 = λ y. (word (codes "gather") ∷ ps ≡ spell_attribute y.0 ++ y.1) × IsAttributeBefore y.1 y.0 in
         let s = words_in_parens-sound ps m.from m.read in
         subst P m.same (ap (λ qs. word (codes "gather") ∷ qs) s.0, s.1)
 
-    formatted : Made Format (words_in_parens ps) r → (word (codes "format") ∷ ps ≡ spell_attribute r.0 ++ r.1) × IsAttribute r.0
+    formatted : Made Format (words_in_parens ps) r → (word (codes "format") ∷ ps ≡ spell_attribute r.0 ++ r.1) × IsAttributeBefore r.1 r.0
     formatted m =
-        let P : Attribute × List Piece → Type 0 = λ y. (word (codes "format") ∷ ps ≡ spell_attribute y.0 ++ y.1) × IsAttribute y.0 in
+        let P : Attribute × List Piece → Type 0 = λ y. (word (codes "format") ∷ ps ≡ spell_attribute y.0 ++ y.1) × IsAttributeBefore y.1 y.0 in
         let s = words_in_parens-sound ps m.from m.read in
         subst P m.same (ap (λ qs. word (codes "format") ∷ qs) s.0, s.1)
 
-attribute-sound : (ps : List Piece) (r : Attribute × List Piece) → attribute_of ps ≡ Some r → (ps ≡ spell_attribute r.0 ++ r.1) × IsAttribute r.0
-attribute-sound [] r h = cc
-attribute-sound (p ∷ ps) r h = go (is_word p) refl where
-  go : (b : Bool) → is_word p ≡ b → (p ∷ ps ≡ spell_attribute r.0 ++ r.1) × IsAttribute r.0
+pub attribute-before : (ps : List Piece) (r : Attribute × List Piece) → attribute_of ps ≡ Some r → (ps ≡ spell_attribute r.0 ++ r.1) × IsAttributeBefore r.1 r.0
+attribute-before [] r h = cc
+attribute-before (p ∷ ps) r h = go (is_word p) refl where
+  go : (b : Bool) → is_word p ≡ b → (p ∷ ps ≡ spell_attribute r.0 ++ r.1) × IsAttributeBefore r.1 r.0
   go false e = let g = rw e at h in cc
   go true e =
       let k = attribute_named-sound p.text ps r (rw e at h) in
       (ap (λ x. x ∷ ps) (word-is p e) ∙ k.0, k.1)
 
--- behind an attribute stands another one, or a bracket that closes
-abbrev pub AttributeEnds : List Piece → Type 0
-AttributeEnds [] = ⊥
-AttributeEnds (q ∷ qs) = is_word q || is_special (codes "]") q ≡ true
+before-is : (a : Attribute) (rest : List Piece) → IsAttributeBefore rest a → IsAttribute a
+before-is Assoc rest h = tt
+before-is Comm rest h = tt
+before-is Constructor rest h = tt
+before-is Ditto rest h = tt
+before-is (Identity e) rest h = tt
+before-is (Precedence n) rest h = tt
+before-is (Gather ws) rest h = h
+before-is (Format ws) rest h = h
 
-pub attribute-complete : (a : Attribute) (qs : List Piece) → IsAttribute a → AttributeEnds qs →
-    (attribute_of (spell_attribute a ++ qs) ≡ Some (a, qs)) × AttributeEnds (spell_attribute a ++ qs)
+pub attribute-sound : (ps : List Piece) (r : Attribute × List Piece) → attribute_of ps ≡ Some r → (ps ≡ spell_attribute r.0 ++ r.1) × IsAttribute r.0
+attribute-sound ps r h = let k = attribute-before ps r h in (k.0, before-is r.0 r.1 k.1)
+
+pub attribute-reads : (a : Attribute) (qs : List Piece) → IsAttributeBefore qs a → attribute_of (spell_attribute a ++ qs) ≡ Some (a, qs)
+attribute-reads Assoc qs h = refl
+attribute-reads Comm qs h = refl
+attribute-reads Constructor qs h = refl
+attribute-reads Ditto qs h = refl
+attribute-reads (Identity w) [] h = absurd h
+attribute-reads (Identity w) (q ∷ qs) h = rw h refl
+attribute-reads (Precedence w) qs h = refl
+attribute-reads (Gather ws) qs h = rw (words_in_parens-complete ws qs h) refl
+attribute-reads (Format ws) qs h = rw (words_in_parens-complete ws qs h) refl
+
+pub attribute-complete : (a : Attribute) (qs : List Piece) → IsAttribute a → GoesOn qs →
+    (attribute_of (spell_attribute a ++ qs) ≡ Some (a, qs)) × GoesOn (spell_attribute a ++ qs)
 attribute-complete Assoc qs h e = (refl, refl)
 attribute-complete Comm qs h e = (refl, refl)
 attribute-complete Constructor qs h e = (refl, refl)
 attribute-complete Ditto qs h e = (refl, refl)
-attribute-complete (Identity w) [] h e = absurd e
-attribute-complete (Identity w) (q ∷ qs) h e = (rw e refl, refl)
+attribute-complete (Identity w) qs h e = (attribute-reads (Identity w) qs e, refl)
 attribute-complete (Precedence w) qs h e = (refl, refl)
-attribute-complete (Gather ws) qs h e = (rw (words_in_parens-complete ws qs h) refl, refl)
-attribute-complete (Format ws) qs h e = (rw (words_in_parens-complete ws qs h) refl, refl)
+attribute-complete (Gather ws) qs h e = (attribute-reads (Gather ws) qs h, refl)
+attribute-complete (Format ws) qs h e = (attribute-reads (Format ws) qs h, refl)
 
 pub attribute_some : (a : Attribute) → 1 ≤ length (spell_attribute a)
 attribute_some Assoc = omega arith
@@ -227,5 +245,5 @@ attributes-sound (p ∷ ps) xs h = go (is_special (codes "[") p) refl where
 pub attributes-complete : (xs : List Attribute) → AreAttributes xs → attributes_of (bracketed spell_attribute xs) ≡ Read xs
 attributes-complete [] h = refl
 attributes-complete (x ∷ xs) h =
-    let g = gather-spelled attribute_of spell_attribute IsAttribute AttributeEnds attribute-complete (right_bracket ∷ []) refl refl attribute_some (x ∷ xs) h.0 in
+    let g = gather-spelled attribute_of spell_attribute IsAttribute GoesOn attribute-complete (right_bracket ∷ []) refl refl attribute_some (x ∷ xs) h.0 in
     rw (g, h.1) refl

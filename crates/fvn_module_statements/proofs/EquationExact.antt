@@ -22,7 +22,7 @@ use Rattle.fvn_module_syntax.specs.Spelling.{each, spell_mark, bracketed, equals
 use Rattle.fvn_module_syntax.specs.Written.{NotEmpty, IsSide, IsWritten}
 use Rattle.fvn_module_statements.specs.inner.Gather.{map_reading, gather}
 use Rattle.fvn_module_statements.specs.inner.Attributes.{word_of, is_some, is_close}
-use Rattle.fvn_module_statements.specs.inner.Equations.{before, term_of, labelled, mark_named, mark_of, is_variant, left_out_at_mark, left_out_or_none, marks_before, marks_of, label_behind, label_of, behind_equals, equation_of}
+use Rattle.fvn_module_statements.specs.inner.Equations.{before, term_of, labelled, mark_named, mark_of, is_variant, left_out_at_mark, left_out_or_none, marks_before, marks_of, label_behind, label_of, behind_equals, equation_of, unless_unnamed}
 use Rattle.fvn_module_statements.proofs.GatherExact.{gather-sound, gather-spelled}
 use Rattle.fvn_module_statements.proofs.SortExact.{Any, all_any}
 use Rattle.fvn_module_statements.proofs.AttributeExact.{by_text, word_of-sound, close-is, some-is, bracketed-is}
@@ -125,7 +125,7 @@ marks_before-sound xs ps ys h = go (is_some xs && is_close ps) (list_any is_vari
       let g : Read xs ≡ Read ys = rw (e, f) at h in
       (cc, close-is ps (and-right (is_some xs) (is_close ps) e), some-is xs (and-left (is_some xs) (is_close ps) e), f)
 
-marks-sound : (ps : List Piece) (xs : List Mark) → marks_of ps ≡ Read xs → (ps ≡ bracketed spell_mark xs) × Contains xs Variant
+pub marks-sound : (ps : List Piece) (xs : List Mark) → marks_of ps ≡ Read xs → (ps ≡ bracketed spell_mark xs) × Contains xs Variant
 marks-sound [] xs h = cc
 marks-sound (p ∷ ps) xs h = go (is_special (codes "[") p) refl where
   go : (b : Bool) → is_special (codes "[") p ≡ b → (p ∷ ps ≡ bracketed spell_mark xs) × Contains xs Variant
@@ -281,3 +281,15 @@ pub equation-complete : (label : Option Text) (left right : List Piece) (marks :
 equation-complete label left right marks h =
     sides-read label left right (bracketed spell_mark marks) h.0 h.1
     ∙ ap (map_reading (statement.Equation label left right)) (marks-complete marks h.2)
+
+-- what is read behind `eq` is an equation of its form
+pub asked-read : (ps : List Piece) (o : Reading Statement) (st : Statement) → unless_unnamed ps o ≡ Read st → o ≡ Read st
+asked-read ps (Read x) st h = h
+asked-read ps (LeftOut f) st h = cc
+asked-read ps NoForm st h = go (list_any (is_name (codes "variant")) ps) refl where
+  none : Reading Statement
+  none = NoForm
+
+  go : (b : Bool) → list_any (is_name (codes "variant")) ps ≡ b → none ≡ Read st
+  go true e = let g = rw e at h in cc
+  go false e = let g = rw e at h in cc

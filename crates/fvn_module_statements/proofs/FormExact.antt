@@ -17,14 +17,16 @@ use Rattle.fvn_module_syntax.specs.declared.form.Form.{Form}
 use Rattle.fvn_module_statements.specs.declared.form.FormFault.{FormFault}
 use Rattle.fvn_module_statements.specs.declared.form.FormFault.TheVariants as fault
 use Rattle.fvn_module_syntax.specs.Spelling.{each, spell_statement}
-use Rattle.fvn_module_statements.specs.Forms.{dotted, end, HasNo, IsFrame, IsStatement, IsFormOf, HasNoStatement, HasLeftOut, IsFirstFault, HasNoForm}
+use Rattle.fvn_module_syntax.specs.Words.{HasNo, is_stop}
+use Rattle.fvn_module_statements.specs.Forms.{dotted, end, IsFrame, IsStatement, IsFormOf, HasNoStatement, HasLeftOut, IsFirstFault, HasNoForm}
 use Rattle.fvn_module_statements.specs.inner.Attributes.{word_of}
 use Rattle.fvn_module_statements.specs.inner.Names.{is_empty}
 use Rattle.fvn_module_statements.specs.inner.Statements.{statement_of}
-use Rattle.fvn_module_statements.specs.inner.Forms.{behind, before_end, frame_of, is_stop, split_dot, end_at, on_reading, on_dot, statements_from, body_of, form_with, form_in, form_of}
+use Rattle.fvn_module_statements.specs.inner.Forms.{behind, before_end, frame_of, split_dot, end_at, on_reading, on_dot, statements_from, body_of, form_with, form_in, form_of}
 use Rattle.fvn_module_statements.proofs.NamesExact.{empty-is}
 use Rattle.fvn_module_statements.proofs.AttributeExact.{word_of-sound}
 use Rattle.fvn_module_statements.proofs.StatementExact.{statement-sound, statement-complete}
+use Rattle.fvn_module_statements.proofs.LeftOutExact.{left_out-sound, formless}
 
 -- Dots.
 
@@ -136,10 +138,10 @@ body-outcome (f ∷ fs) n sts ps few = go (split_dot ps) refl (λ m more rest. b
       (statements_from fs (n + 1) (sts ++ (st ∷ [])) r.1) (later (n + 1) (sts ++ (st ∷ [])) r.1 (omega arith))
   read r e (LeftOut x) g later =
       let s = split_dot-sound ps r.0 r.1 e in
-      ([], (ps, (refl, tt, (omega arith, (r.0, (record { rest = r.1; split = s.0; undotted = s.1 }, g))))))
+      ([], (ps, (refl, tt, (omega arith, (r.0, (record { rest = r.1; split = s.0; undotted = s.1 }, left_out-sound r.0 x g))))))
   read r e NoForm g later =
       let s = split_dot-sound ps r.0 r.1 e in
-      ([], (ps, (refl, tt, (omega arith, inr (r.0, (record { rest = r.1; split = s.0; undotted = s.1 }, g))))))
+      ([], (ps, (refl, tt, (omega arith, inr (r.0, (record { rest = r.1; split = s.0; undotted = s.1 }, formless r.0 g))))))
 
   go : (o : Option (List Piece × List Piece)) → split_dot ps ≡ o →
       ((m : ℕ) (more : List Statement) (rest : List Piece) → length rest ≤ length fs → Outcome m more rest (statements_from fs m more rest)) →

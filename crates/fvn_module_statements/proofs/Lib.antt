@@ -9,8 +9,10 @@ mod OperatorNamesExact
 pub mod Sides
 mod EquationExact
 mod StatementExact
+mod AttributeLeftOut
+mod NameLeftOut
+mod EquationLeftOut
+mod LeftOutExact
 mod Results
 mod FormExact
 mod BodyReading
-mod LeftOutLaws
-mod EquationLeftOut

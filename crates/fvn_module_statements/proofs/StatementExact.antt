@@ -23,6 +23,7 @@ use Rattle.fvn_module_syntax.specs.Written.{NotEmpty, IsRank, AreAttributes, IsN
 use Rattle.fvn_module_statements.specs.inner.Gather.{gather}
 use Rattle.fvn_module_statements.specs.inner.Sorts.{rank_of}
 use Rattle.fvn_module_statements.specs.inner.Attributes.{is_some, attributes_of}
+use Rattle.fvn_module_statements.specs.inner.Equations.{equation_of, unless_unnamed}
 use Rattle.fvn_module_statements.specs.inner.Names.{is_empty, sort_names_of, groups_of, variables_of, split_colon, name_of}
 use Rattle.fvn_module_syntax.specs.Words.{touch, names_touch}
 use Rattle.fvn_module_statements.specs.inner.Statements.{with_rank, operator_of, operators_behind, operators_of, keyword_of, statement_behind, statement_of}
@@ -30,13 +31,13 @@ use Rattle.fvn_module_syntax.specs.LeftOut.{feature_of}
 use Rattle.fvn_module_statements.proofs.GatherExact.{gather-sound, gather-spelled}
 use Rattle.fvn_module_statements.proofs.SortExact.{Any, rank-sound, rank-complete}
 use Rattle.fvn_module_statements.proofs.AttributeExact.{by_text, some-is, attributes-sound, attributes-complete}
-use Rattle.fvn_module_statements.proofs.EquationExact.{equation-sound, equation-complete}
+use Rattle.fvn_module_statements.proofs.EquationExact.{equation-sound, equation-complete, asked-read}
 use Rattle.fvn_module_statements.proofs.NamesExact.{is_some-of, sort_names-sound, sort_names-complete, groups-sound, groups-complete}
 use Rattle.fvn_module_statements.proofs.OperatorNamesExact.{variables-sound, variables-complete, split_colon-sound, split_colon-complete, name-sound, name-complete, name_some}
 use Rattle.fvn_syntax.proofs.PieceLemmas.{bytes_eq-is}
 
 -- the word that begins a statement
-abbrev keyword_word : Keyword → Text
+abbrev pub keyword_word : Keyword → Text
 keyword_word (Sorts plural) = sort_word plural
 keyword_word (Subsorts plural) = subsort_word plural
 keyword_word Operator = codes "op"
@@ -44,7 +45,7 @@ keyword_word Operators = codes "ops"
 keyword_word (Variables plural) = variable_word plural
 keyword_word Equation = codes "eq"
 
-keyword-sound : (w : Text) (k : Keyword) → keyword_of w ≡ Some k → w ≡ keyword_word k
+pub keyword-sound : (w : Text) (k : Keyword) → keyword_of w ≡ Some k → w ≡ keyword_word k
 keyword-sound w k h =
     by_text w (codes "sort") (λ a. found (codes "sort") a (Sorts false) refl (rw a at h))
     (λ a. by_text w (codes "sorts") (λ b. found (codes "sorts") b (Sorts true) refl (rw (a, b) at h))
@@ -89,7 +90,7 @@ pub not_empty : (ps : List Piece) → NotEmpty ps → is_empty ps ≡ false
 not_empty [] h = absurd h
 not_empty (p ∷ ps) h = refl
 
-empty-not : (ps : List Piece) → is_empty ps ≡ false → NotEmpty ps
+pub empty-not : (ps : List Piece) → is_empty ps ≡ false → NotEmpty ps
 empty-not [] h = cc
 empty-not (p ∷ ps) h = tt
 
@@ -141,14 +142,14 @@ operator-sound ps st h = go (split_colon ps) refl where
     none false f = let k = rw (e, f) at h in cc
   go (Some r) e = named r e (is_empty r.0) (touch r.0) refl refl
 
-all-true : {A : Type 0} (p : A → Bool) (xs : List A) → list_all p xs ≡ true → AllByRecursion (λ x. p x ≡ true) xs
+pub all-true : {A : Type 0} (p : A → Bool) (xs : List A) → list_all p xs ≡ true → AllByRecursion (λ x. p x ≡ true) xs
 all-true p [] h = tt
 all-true p (x ∷ xs) h = go (p x) refl (all-true p xs) where
   go : (b : Bool) → p x ≡ b → (list_all p xs ≡ true → AllByRecursion (λ x. p x ≡ true) xs) → AllByRecursion (λ x. p x ≡ true) (x ∷ xs)
   go false e later = let g = rw e at h in cc
   go true e later = (e, later (rw e at h))
 
-true-all : {A : Type 0} (p : A → Bool) (xs : List A) → AllByRecursion (λ x. p x ≡ true) xs → list_all p xs ≡ true
+pub true-all : {A : Type 0} (p : A → Bool) (xs : List A) → AllByRecursion (λ x. p x ≡ true) xs → list_all p xs ≡ true
 true-all p [] h = refl
 true-all p (x ∷ xs) h = rw h.0 (true-all p xs h.1)
 
@@ -201,7 +202,7 @@ behind-sound (Subsorts plural) ps st h = go (groups_of ps) refl where
       subst Q i (ap (λ x. word (subsort_word plural) ∷ x) s.0, (s.1, s.2))
 behind-sound Operator ps st h = operator-sound ps st h
 behind-sound Operators ps st h = operators-sound ps st h
-behind-sound Equation ps st h = equation-sound ps st h
+behind-sound Equation ps st h = equation-sound ps st (asked-read ps (equation_of ps) st h)
 behind-sound (Variables plural) ps st h = go (variables_of ps) refl where
   go : (o : Option (List Text × RawSort)) → variables_of ps ≡ o → (word (variable_word plural) ∷ ps ≡ spell_statement st) × IsWritten st
   go None e = let g = rw e at h in cc
@@ -239,5 +240,5 @@ statement-complete (statement.Operators names rank attributes) h =
 statement-complete (statement.Variables plural names sort) h =
     behind-keyword (Variables plural) (words names ++ (colon ∷ spell_sort sort)) ∙ rw (variables-complete names sort h) refl
 statement-complete (statement.Equation label left right marks) h =
-    behind-keyword Equation (spell_label label ++ (left ++ (equals ∷ right ++ bracketed spell_mark marks)))
-    ∙ equation-complete label left right marks h
+    let ps = spell_label label ++ (left ++ (equals ∷ right ++ bracketed spell_mark marks)) in
+    behind-keyword Equation ps ∙ ap (unless_unnamed ps) (equation-complete label left right marks h)

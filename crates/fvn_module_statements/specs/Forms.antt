@@ -1,18 +1,17 @@
 -- A module as it is written, and the first fault of tokens that are none.
-use Rattle.std.specs.Prelude.{ℕ, ◌≡◌, ◌+◌, ◌⊎◌, Bool, false, List, [], ◌∷◌, ◌++◌, length, codes}
+use Rattle.std.specs.Prelude.{ℕ, ◌≡◌, ◌+◌, ◌⊎◌, List, [], ◌∷◌, ◌++◌, length, codes}
 use Rattle.std.specs.List.{AllByRecursion}
 use Rattle.fvn_lex.specs.Cut.{Piece}
 use Rattle.fvn_syntax.specs.Pieces.{Text, word, dot, is_name}
 use Rattle.fvn_module_syntax.specs.declared.statement.Feature.{Feature}
 use Rattle.fvn_module_syntax.specs.declared.statement.Statement.{Statement}
-use Rattle.fvn_module_statements.specs.declared.outcome.Reading.TheVariants.{LeftOut, NoForm}
 use Rattle.fvn_module_syntax.specs.declared.form.Form.{Form}
 use Rattle.fvn_module_statements.specs.declared.form.FormFault.{FormFault}
 use Rattle.fvn_module_statements.specs.declared.form.FormFault.TheVariants as fault
 use Rattle.fvn_module_syntax.specs.Spelling.{each, spell_statement}
 use Rattle.fvn_module_syntax.specs.Written.{NotEmpty, IsWritten}
-use Rattle.fvn_module_statements.specs.inner.Statements.{statement_of}
-use Rattle.fvn_module_statements.specs.inner.Forms.{is_stop}
+use Rattle.fvn_module_syntax.specs.Words.{HasNo, is_stop}
+use Rattle.fvn_module_statements.specs.LeftOut.{IsLeftOut}
 
 -- a statement with its dot
 abbrev pub dotted : Statement → List Piece
@@ -25,10 +24,6 @@ end = word (codes "endfm")
 -- fmod NAME is BODY endfm
 abbrev pub spell_frame : Text → List Piece → List Piece
 spell_frame name body = word (codes "fmod") ∷ word name ∷ word (codes "is") ∷ body ++ (end ∷ [])
-
--- no piece passes the test
-abbrev pub HasNo : (Piece → Bool) → List Piece → Type 0
-HasNo test ps = AllByRecursion (λ p. test p ≡ false) ps
 
 -- The pieces are a module of this name with this body, and `endfm` does not stand earlier.
 pub record IsFrame (ps : List Piece) (name : Text) (body : List Piece) : Type 0 where
@@ -51,14 +46,18 @@ pub record IsFront (ps front : List Piece) : Type 0 where
   pub split : ps ≡ front ++ (dot ∷ rest)
   pub undotted : HasNo is_stop front
 
--- no dot follows, or the pieces before the first one are no statement, and no left-out form stands in them
+-- the pieces are no statement that can be written, and no left-out form stands in them
+pub record IsFormless (ps : List Piece) : Type 0 where
+  pub no_statement : (st : Statement) → IsWritten st → ps ≡ spell_statement st → ⊥
+  pub none_left_out : (f : Feature) → IsLeftOut f ps → ⊥
+
+-- no dot follows, or the pieces before the first one are of no form
 abbrev pub HasNoStatement : List Piece → Type 0
-HasNoStatement ps =
-    (NotEmpty ps × HasNo is_stop ps) ⊎ ((front : List Piece) × (IsFront ps front × (statement_of front ≡ NoForm)))
+HasNoStatement ps = (NotEmpty ps × HasNo is_stop ps) ⊎ ((front : List Piece) × (IsFront ps front × IsFormless front))
 
 -- a left-out form stands in the pieces before the first dot
 abbrev pub HasLeftOut : Feature → List Piece → Type 0
-HasLeftOut f ps = (front : List Piece) × (IsFront ps front × (statement_of front ≡ LeftOut f))
+HasLeftOut f ps = (front : List Piece) × (IsFront ps front × IsLeftOut f front)
 
 -- Statements lead up to the one with this number, where these pieces are left.
 pub record LeadsTo (body : List Piece) (n : ℕ) (left : List Piece) : Type 0 where

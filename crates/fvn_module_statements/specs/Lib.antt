@@ -1,4 +1,5 @@
 -- What contracts of statements speak of.
+pub mod LeftOut
 pub mod Forms
 pub mod Laws
 pub mod inner

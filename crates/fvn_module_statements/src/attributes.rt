@@ -1,9 +1,8 @@
 //! Reading attributes of operators.
 ghost use Rattle.std.specs.Prelude.{◌≡◌, ◌||◌, IfOk, codes};
 ghost use Rattle.std.specs.List.{list_any};
-ghost use Rattle.fvn_syntax.specs.Pieces.{is_word, is_special};
 ghost use Rattle.fvn_module_statements.specs.inner.Attributes.{word_of as the_word, made, words_before, words_in_parens, identity_of, attribute_named, attribute_of, is_close, attributes_of};
-ghost use Rattle.fvn_module_syntax.specs.LeftOut.{is_assoc, is_comm, is_ditto, stands, left_out, first_left_out, begins_identity, left_out_at_word, left_out_at, left_out_in};
+ghost use Rattle.fvn_module_syntax.specs.LeftOut.{begins_own, begins_further, is_next, is_assoc, is_comm, is_ditto, stands, left_out, first_left_out, begins_identity, left_out_at_word, left_out_at, left_out_in};
 
 use crate::outcome::Reading;
 use crate::reader::{Reader, read_all};
@@ -79,14 +78,51 @@ fn words_in_parens<'a>(
     Ok(words_before(words, rest.pieces()))
 }
 
-// Whether an attribute or the end may begin with a token.
-fn is_behind_identity(piece: &Piece<'_>) -> bool
-    ensures { result ≡ (is_word piece.now || is_special (codes "]") piece.now) }
+// Whether an attribute of an operator begins with a word.
+fn begins_own(word: &[u8]) -> bool
+    ensures { result ≡ begins_own word.now }
 {
-    piece.is_word() || piece.is_special(b"]")
+    is_text(word, b"assoc")
+        || is_text(word, b"comm")
+        || is_text(word, b"ctor")
+        || is_text(word, b"ditto")
+        || is_text(word, b"id:")
+        || is_text(word, b"prec")
+        || is_text(word, b"gather")
+        || is_text(word, b"format")
 }
 
-// A word, and behind it an attribute or the end.
+// Whether a further attribute of Maude, which is left out, begins with a word.
+fn begins_further(word: &[u8]) -> bool
+    ensures { result ≡ begins_further word.now }
+{
+    is_text(word, b"left")
+        || is_text(word, b"right")
+        || is_text(word, b"memo")
+        || is_text(word, b"frozen")
+        || is_text(word, b"iter")
+        || is_text(word, b"idem")
+        || is_text(word, b"strat")
+        || is_text(word, b"strategy")
+        || is_text(word, b"poly")
+        || is_text(word, b"special")
+        || is_text(word, b"metadata")
+}
+
+fn begins_attribute(word: &[u8]) -> bool
+    ensures { result ≡ (begins_own word.now || begins_further word.now) }
+{
+    begins_own(word) || begins_further(word)
+}
+
+// Whether the next attribute or the end begins with a token.
+fn is_next(piece: &Piece<'_>) -> bool
+    ensures { result ≡ is_next piece.now }
+{
+    (piece.is_word() && begins_attribute(piece.text())) || piece.is_special(b"]")
+}
+
+// A word, and behind it the next attribute or the end.
 fn read_identity<'a>(row: &'a [Piece<'a>]) -> Option<(Attribute<'a>, Row<'a>)>
     ensures { result ≡ identity_of row.now }
 {
@@ -96,7 +132,7 @@ fn read_identity<'a>(row: &'a [Piece<'a>]) -> Option<(Attribute<'a>, Row<'a>)>
     let Some((next, _)) = rest.split_first() else {
         return None;
     };
-    if word.is_word() && is_behind_identity(next) {
+    if word.is_word() && is_next(next) {
         Some((Attribute::Identity(Text::new(word.text())), Row::new(rest)))
     } else {
         None

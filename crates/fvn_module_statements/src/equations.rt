@@ -1,6 +1,7 @@
 //! Reading equations.
-ghost use Rattle.std.specs.Prelude.{◌≡◌, IfOk};
+ghost use Rattle.std.specs.Prelude.{◌≡◌, IfOk, codes};
 ghost use Rattle.std.specs.List.{list_any};
+ghost use Rattle.fvn_syntax.specs.Pieces.{is_name};
 ghost use Rattle.fvn_module_statements.specs.inner.Equations.{
   term_of,
   mark_named,
@@ -12,6 +13,7 @@ ghost use Rattle.fvn_module_statements.specs.inner.Equations.{
   behind_equals,
   right_of,
   equation_of,
+  asked_equation,
 };
 
 use crate::attributes::{is_close, read_word};
@@ -193,11 +195,8 @@ fn read_right<'a>(
     }
 }
 
-/// What follows `eq`.
-pub fn read_equation<'a>(
-    alloc: Global,
-    row: &'a [Piece<'a>],
-) -> Result<Reading<Statement<'a>>, NoMemory>
+// What follows `eq`, from left to right.
+fn read_whole<'a>(alloc: Global, row: &'a [Piece<'a>]) -> Result<Reading<Statement<'a>>, NoMemory>
     ensures { IfOk result (λ r. r ≡ equation_of row.now) }
 {
     let Some((label, rest)) = read_label(row) else {
@@ -210,4 +209,30 @@ pub fn read_equation<'a>(
         return Ok(Reading::NoForm);
     };
     read_right(alloc, label, left, rest.pieces())
+}
+
+// Whether `variant` is named.
+fn names_variant(row: &[Piece<'_>]) -> bool
+    ensures { result ≡ list_any (is_name (codes "variant")) row.now }
+{
+    row.iter().any(|piece| piece.is_name(b"variant"))
+}
+
+/// What follows `eq`: where it has no form, the equation is left out as long as `variant` is not named.
+pub fn read_equation<'a>(
+    alloc: Global,
+    row: &'a [Piece<'a>],
+) -> Result<Reading<Statement<'a>>, NoMemory>
+    ensures { IfOk result (λ r. r ≡ asked_equation row.now) }
+{
+    match read_whole(alloc, row)? {
+        Reading::Read(statement) => Ok(Reading::Read(statement)),
+        Reading::LeftOut(feature) => Ok(Reading::LeftOut(feature)),
+        Reading::NoForm => {
+            if names_variant(row) {
+                return Ok(Reading::NoForm);
+            }
+            Ok(Reading::LeftOut(Feature::Equation))
+        }
+    }
 }

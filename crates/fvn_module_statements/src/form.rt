@@ -3,7 +3,8 @@ ghost use Rattle.std.specs.Prelude.{◌≡◌, ◌⊎◌, Ok, Err, IfOk, IfErr};
 ghost use Rattle.fvn_module_statements.specs.declared.form.FormFault.TheVariants.{NoMemory as OutOfMemory};
 ghost use Rattle.fvn_module_syntax.specs.declared.form.Form.{Form};
 ghost use Rattle.fvn_module_statements.specs.Forms.{IsFormOf, HasNoForm, IsFirstFault};
-ghost use Rattle.fvn_module_statements.specs.inner.Forms.{behind, before_end, frame_of, is_stop, split_dot, body_of, form_of};
+ghost use Rattle.fvn_module_statements.specs.inner.Forms.{behind, before_end, frame_of, split_dot, body_of, form_of};
+ghost use Rattle.fvn_module_syntax.specs.Words.{is_stop};
 
 use crate::attributes::read_word;
 use crate::outcome::Reading;

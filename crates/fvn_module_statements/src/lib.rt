@@ -13,8 +13,5 @@ mod sorts;
 mod words;
 
 pub use form::{FormFault, read_form};
-pub use laws::{
-    attributes_are_left_out, equations_are_left_out, first_words_are_left_out, names_are_left_out,
-    statements_are_exact,
-};
+pub use laws::statements_are_determined;
 pub use outcome::Reading;

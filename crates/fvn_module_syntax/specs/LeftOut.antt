@@ -21,6 +21,23 @@ feature_of w =
 
 -- Attributes.
 
+-- a word that begins an attribute of an operator
+abbrev pub begins_own : Text → Bool
+begins_own w =
+    bytes_eq w (codes "assoc") || bytes_eq w (codes "comm") || bytes_eq w (codes "ctor") || bytes_eq w (codes "ditto")
+    || bytes_eq w (codes "id:") || bytes_eq w (codes "prec") || bytes_eq w (codes "gather") || bytes_eq w (codes "format")
+
+-- a word that begins one of Maude's further attributes, which are left out
+abbrev pub begins_further : Text → Bool
+begins_further w =
+    bytes_eq w (codes "left") || bytes_eq w (codes "right") || bytes_eq w (codes "memo") || bytes_eq w (codes "frozen")
+    || bytes_eq w (codes "iter") || bytes_eq w (codes "idem") || bytes_eq w (codes "strat") || bytes_eq w (codes "strategy")
+    || bytes_eq w (codes "poly") || bytes_eq w (codes "special") || bytes_eq w (codes "metadata")
+
+-- what stands behind the name of an identity: a word that begins the next attribute, or the bracket that closes
+abbrev pub is_next : Piece → Bool
+is_next p = (is_word p && (begins_own p.text || begins_further p.text)) || is_special (codes "]") p
+
 -- the attribute `assoc`
 abbrev pub is_assoc : Attribute → Bool
 is_assoc Assoc = true

@@ -1,10 +1,19 @@
 -- Tests of single words and rows of tokens that forms of statements speak of.
-use Rattle.std.specs.Prelude.{ℕ, ◌&&◌, ◌==◌, ◌+◌, ◌-◌, not, Bool, true, false, if◌then◌else◌, List, [], ◌∷◌, length, slice_index_or, codes}
-use Rattle.std.specs.List.{list_any}
+use Rattle.std.specs.Prelude.{ℕ, ◌≡◌, ◌&&◌, ◌==◌, ◌+◌, ◌-◌, not, Bool, true, false, if◌then◌else◌, List, [], ◌∷◌, length, slice_index_or, codes}
+use Rattle.std.specs.List.{list_any, AllByRecursion}
+use Rattle.std.specs.Str.{bytes_eq}
 use Rattle.fvn_lex.specs.Cut.{Piece}
-use Rattle.fvn_syntax.specs.Pieces.{Text, is_word, is_special}
+use Rattle.fvn_syntax.specs.Pieces.{Text, is_word, is_special, is_dot}
 use Rattle.fvn_module_syntax.specs.declared.statement.OperatorName.{OperatorName}
 use Rattle.fvn_module_syntax.specs.declared.statement.OperatorName.TheVariants.{Single, Round}
+
+-- the dot that ends a statement
+abbrev pub is_stop : Piece → Bool
+is_stop p = is_dot p && bytes_eq p.text (codes ".")
+
+-- no piece passes the test
+abbrev pub HasNo : (Piece → Bool) → List Piece → Type 0
+HasNo test ps = AllByRecursion (λ p. test p ≡ false) ps
 
 -- the byte of a colon
 abbrev pub is_colon : ℕ → Bool

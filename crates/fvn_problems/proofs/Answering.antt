@@ -1,8 +1,9 @@
 -- The first fault of a text, and that a refused text is none.
-use Rattle.std.proofs.Common.{◌≡◌, inl, inr, Some, None, Result, Ok, Err, refl, sym, ap, ◌∙◌}
+use Rattle.std.proofs.Common.{◌≡◌, inl, inr, Result, Ok, Err, refl, sym, ap, ◌∙◌}
 use Rattle.std.specs.Prelude.{IfOk, IfErr}
 use Rattle.fvn_lex.specs.declared.token.LexFault.{LexFault}
-use Rattle.fvn_lex.specs.Cut.{lex, pieces_of, pieces_in}
+use Rattle.fvn_lex.specs.Parts.{IsFirstFault as IsFirstLexFault}
+use Rattle.fvn_lex.proofs.RowPieces.{no-pieces}
 use Rattle.fvn_syntax.specs.declared.fault.TermFault.{TermFault}
 use Rattle.fvn_syntax.specs.declared.fault.TermFault.TheVariants as term
 use Rattle.fvn_syntax.specs.Pieces.{Text}
@@ -18,9 +19,8 @@ pub on-err : {A F : Type 0} (P Q : F → Type 0) → ((e : F) → P e → Q e) �
 on-err P Q f (Ok a) h = tt
 on-err P Q f (Err e) h = f e h
 
-pub no-tokens : (bytes : Text) (fault : LexFault) → lex bytes ≡ Err fault → HasTokens bytes → ⊥
-unfolding pieces_of
-no-tokens bytes fault h t = (let e : None ≡ Some t.0 = ap (pieces_in bytes) (sym h) ∙ t.1 in cc)
+pub no-tokens : (bytes : Text) (fault : LexFault) → IsFirstLexFault bytes fault → HasTokens bytes → ⊥
+no-tokens bytes fault h t = no-pieces bytes fault t.0 h t.1
 
 -- the fault of a term is none of bytes or form
 abbrev pub IsOfText : ProblemFault → Type 0

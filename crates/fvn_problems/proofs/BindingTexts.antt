@@ -2,7 +2,9 @@
 use Rattle.std.proofs.Common.{◌≡◌, ◌≢◌, ℕ, zero, suc, ◌<◌, ◌⊎◌, inl, inr, Bool, true, false, List, [], ◌∷◌, length, get_or, Some, Result, refl, sym, ap, ◌∙◌, subst, arith}
 use Rattle.std.specs.Prelude.{IfOk, IfErr, All, AllPairs, Contains, slice_get, if◌then◌else◌}
 use Rattle.std.specs.List.{AllByRecursion}
-use Rattle.fvn_lex.specs.Cut.{Piece, pieces_of}
+use Rattle.fvn_lex.specs.Cut.{Piece}
+use Rattle.fvn_lex.specs.Parts.{HasPieces}
+use Rattle.fvn_lex.proofs.RowPieces.{pieces-once}
 use Rattle.fvn_terms.specs.declared.plain.Var.{Var}
 use Rattle.fvn_terms.specs.declared.plain.Plain.{Plain}
 use Rattle.fvn_terms.specs.declared.declarations.Declarations.{Declarations}
@@ -24,7 +26,7 @@ use Rattle.fvn_problems.specs.declared.split.Halves.{Halves}
 use Rattle.fvn_problems.specs.Bindings.{BindsOnce, AreOneVariable, IsVariableOf, IsBindingFault, no_variable, in_term, other_kind, other_sort, AreBindingsOf, IsBindingsFault, AreBindings, IsFault, in_bindings, too_large, IsText, IsBindings, IsOnlyBindings, RefusesBindings, HasNoBindings, AreOfProblem, AreDistinct, AreNotFresh}
 use Rattle.fvn_problems.specs.Scopes.{unguarded, AreNamesOf}
 use Rattle.fvn_problems.specs.Spelling.{RawPair, spell_bindings, IsBindingText}
-use Rattle.fvn_problems.specs.inner.Split.{AreTerms, IsBindingSplit}
+use Rattle.fvn_problems.specs.inner.Split.{AreTerms, IsBindingRow, IsBindingSplit}
 use Rattle.fvn_problems.specs.inner.Bound.{AreBound, TellsOnce, Binds, BindsNothing}
 use Rattle.fvn_problems.proofs.Answering.{on-ok, on-err, first-written, refuted, IsOfText, fault_of-text}
 use Rattle.fvn_problems.proofs.Binding.{bindings-same, bindings-faultless}
@@ -147,7 +149,7 @@ module _ (d : Declarations) (names : Names) (p : Problem) (fit : AreNamesOf d na
 module _ (d : Declarations) (names : Names) (p : Problem) (bytes : Text) where
   pub text-once : (q r : List RawPair) → IsText d names p bytes q → IsText d names p bytes r → q ≡ r
   text-once q r a b =
-      let e : spell_bindings q ≡ spell_bindings r = (let f : Some (spell_bindings q) ≡ Some (spell_bindings r) = sym (a.0).spelled ∙ (b.0).spelled in cc) in
+      let e = pieces-once bytes (spell_bindings q) (spell_bindings r) (a.0).spelled (b.0).spelled in
       bindings-once q r (a.0).written (b.0).written e
 
   module _ (distinct : AllPairs (λ x y. x ≢ y) p.names.texts) where
@@ -182,10 +184,15 @@ module _ (d : Declarations) (names : Names) (p : Problem) (bytes : Text) where
       let h = bound-fit d names p fit law p.names.texts a.raw b.subst.pairs a.bound.names a.bound.pairs in
       (λ x s. (value-fits d names p fit law b.subst.pairs h x).0 s, λ x. (value-fits d names p fit law b.subst.pairs h x).1)
 
-  module _ (row : List Piece) (cut : pieces_of bytes ≡ Some row) where
+  module _ (row : List Piece) (cut : HasPieces bytes row) where
+    -- a row that is none makes the text none
+    pub bindings-formless : ((raw : List RawPair) → IsBindingRow row raw → ⊥) → RefusesBindings d names p bytes NoText
+    bindings-formless none =
+        ((row, cut), λ raw t. none raw (record { written = (t.0).written; spelled = pieces-once bytes row (spell_bindings raw) cut (t.0).spelled }))
+
     module _ (list : List Halves) (split : IsBindingSplit row list) where
       in-text : IsBindingText bytes split.raw
-      in-text = record { written = split.is.written; spelled = cut ∙ ap Some split.is.spelled }
+      in-text = record { written = split.is.written; spelled = subst (HasPieces bytes) split.is.spelled cut }
 
       in-list : AreBound list split.raw
       in-list = record { written = split.is.written; are = split.halves }
@@ -197,7 +204,7 @@ module _ (d : Declarations) (names : Names) (p : Problem) (bytes : Text) where
       bindings-twice tells = (
         (row, cut),
         λ raw t.
-            let e : raw ≡ split.raw = bindings-once raw split.raw (t.0).written split.is.written (let f : Some (spell_bindings raw) ≡ Some (spell_bindings split.raw) = sym (t.0).spelled ∙ in-text.spelled in cc) in
+            let e : raw ≡ split.raw = bindings-once raw split.raw (t.0).written split.is.written (pieces-once bytes (spell_bindings raw) (spell_bindings split.raw) (t.0).spelled in-text.spelled) in
             let h : false ≡ true = (tells split.raw in-list).1 (subst (BindsOnce (unguarded d names)) e t.1) in
             cc,
       )

@@ -1,4 +1,4 @@
--- The names of the variables of a problem differ from one another, so that what a text binds in it is determined.
+-- The names of the variables of a problem, and of a term, differ from one another, so that what a text binds in it is determined.
 use Rattle.std.proofs.Common.{◌≡◌, ◌≢◌, ℕ, Bool, true, false, List, [], ◌∷◌, Option, Some, None, Result, Ok, Err, refl, sym, ◌∙◌, subst, arith}
 use Rattle.std.specs.Prelude.{◌&&◌, if◌then◌else◌, IfOk, AllPairs}
 use Rattle.std.proofs.lemmas.List.{get_or_default}
@@ -21,7 +21,7 @@ use Rattle.fvn_syntax.specs.Resolve.{Resolved, AllResolved, bind, or_fault, appl
 use Rattle.fvn_syntax.specs.Scope.{Scope}
 use Rattle.fvn_syntax.specs.Texts.{place, unless_at}
 use Rattle.fvn_problems.specs.Problems.{IsProblem, IsPairOf, ArePairsOf}
-use Rattle.fvn_problems.specs.Laws.{ProblemNamesDiffer, BindingsAreDetermined, RefusedBindingsBindNothing}
+use Rattle.fvn_problems.specs.Laws.{ProblemNamesDiffer, QueryNamesDiffer, BindingsAreDetermined, RefusedBindingsBindNothing}
 use Rattle.fvn_problems.specs.Scopes.{guarded}
 use Rattle.fvn_problems.specs.Spelling.{RawPair, pairs_in}
 use Rattle.fvn_problems.proofs.BindingTexts.{bindings-only, bindings-none}
@@ -100,6 +100,11 @@ module _ (d : Declarations) (names : Names) (text : Text) (p : Problem) (asked :
 
 pub names-differ : ProblemNamesDiffer
 names-differ d names bytes p is = distinct d names bytes p is
+
+pub query-names-differ : QueryNamesDiffer
+query-names-differ d names bytes q h =
+    let c = guarded d names in
+    subst AreDistinct (sym h.asked.names) (after-ok Kept (resolve c [] h.raw.term) h.asked.resolved h.asked.stands (kept c h.raw.term [] none-are-distinct))
 
 pub bindings-determined : BindingsAreDetermined
 bindings-determined d names text p asked bytes b e h k = bindings-only d names p bytes (distinct d names text p asked) e k b h

@@ -1,8 +1,8 @@
 -- A text has one first fault at most.
-use Rattle.std.proofs.Common.{◌≡◌, [], inl, inr, List, Result, Err, refl, sym, ap, ◌∙◌, subst}
-use Rattle.fvn_lex.specs.declared.token.Token.{Token}
+use Rattle.std.proofs.Common.{◌≡◌, [], inl, inr, List, refl, sym, ap, ◌∙◌, subst}
 use Rattle.fvn_lex.specs.declared.token.LexFault.{LexFault}
-use Rattle.fvn_lex.specs.Cut.{lex}
+use Rattle.fvn_lex.specs.Parts.{IsFirstFault as IsFirstLexFault}
+use Rattle.fvn_lex.proofs.RowPieces.{first-once}
 use Rattle.fvn_syntax.specs.Pieces.{Text}
 use Rattle.fvn_syntax.specs.Scope.{Scope}
 use Rattle.fvn_problems.specs.declared.fault.ProblemFault.{ProblemFault}
@@ -22,14 +22,11 @@ use Rattle.fvn_problems.proofs.QueryTexts.{text-once as query-once}
 use Rattle.fvn_problems.proofs.ProblemTexts.{text-once as problem-once}
 use Rattle.fvn_problems.proofs.BindingTexts.{text-once as bindings-once}
 
-abbrev refused : LexFault → Result (List Token) LexFault
-refused fault = Err fault
-
 -- the first faults of bytes, where a text that is written has one at most
 module _ {Raw : Type 0} (IsText : Raw → Type 0) (IsFault : Raw → ProblemFault → Type 0) (bytes : Text) where
   -- what a first fault is told of: the bytes, the form, what is written, or nothing
   data Told (fault : ProblemFault) : Type 0 where
-    by_bytes : (first : LexFault) → lex bytes ≡ Err first → fault ≡ Lex first → Told fault
+    by_bytes : (first : LexFault) → IsFirstLexFault bytes first → fault ≡ Lex first → Told fault
     by_form : HasTokens bytes → ((raw : Raw) → IsText raw → ⊥) → fault ≡ NoText → Told fault
     by_text : (raw : Raw) → IsText raw → IsFault raw fault → Told fault
     by_memory : fault ≡ NoMemory → Told fault
@@ -51,8 +48,7 @@ module _ {Raw : Type 0} (IsText : Raw → Type 0) (IsFault : Raw → ProblemFaul
     same f g (by_memory e) b = inl e
     same f g (by_bytes first h e) (by_memory k) = inr (inl k)
     same f g (by_bytes first h e) (by_bytes second k i) =
-        let one : first ≡ second = (let j : refused first ≡ refused second = sym h ∙ k in cc) in
-        inr (inr (e ∙ ap Lex one ∙ sym i))
+        inr (inr (e ∙ ap Lex (first-once bytes first second h k) ∙ sym i))
     same f g (by_bytes first h e) (by_form t n i) = absurd (no-tokens bytes first h t)
     same f g (by_bytes first h e) (by_text raw t b) = absurd (no-tokens bytes first h (tokens raw t))
     same f g (by_form t n e) (by_memory k) = inr (inl k)

@@ -1,10 +1,12 @@
 -- What a problem asks is determined.
-use Rattle.std.proofs.Common.{◌≡◌, zero, suc, ◌<◌, ◌≤◌, ◌⊎◌, inl, inr, List, [], ◌∷◌, Some, Result, refl, sym, ap, ◌∙◌, subst, arith}
+use Rattle.std.proofs.Common.{◌≡◌, zero, suc, ◌<◌, ◌≤◌, ◌⊎◌, inl, inr, List, [], ◌∷◌, Result, refl, sym, ap, ◌∙◌, subst, arith}
 use Rattle.std.specs.Prelude.{IfErr, All, map}
 use Rattle.std.specs.List.{AllByRecursion}
 use Rattle.std.proofs.lemmas.List.{append-nil}
 use Rattle.fvn_base.specs.declared.limits.TheConstants.{TEXT_SYMBOLS}
-use Rattle.fvn_lex.specs.Cut.{Piece, pieces_of}
+use Rattle.fvn_lex.specs.Cut.{Piece}
+use Rattle.fvn_lex.specs.Parts.{HasPieces}
+use Rattle.fvn_lex.proofs.RowPieces.{pieces-once}
 use Rattle.fvn_terms.specs.declared.plain.Var.{Var}
 use Rattle.fvn_terms.specs.declared.plain.Plain.{Plain}
 use Rattle.fvn_terms.specs.declared.declarations.Declarations.{Declarations}
@@ -20,7 +22,7 @@ use Rattle.fvn_syntax.specs.Raw.{RawTerm, spell, IsWritten, IsTermBefore}
 use Rattle.fvn_syntax.specs.Scope.{Scope}
 use Rattle.fvn_syntax.proofs.SpelledOnce.{ends-nil}
 use Rattle.fvn_problems.specs.declared.fault.ProblemFault.{ProblemFault}
-use Rattle.fvn_problems.specs.declared.fault.ProblemFault.TheVariants.{TooLarge, NoMemory}
+use Rattle.fvn_problems.specs.declared.fault.ProblemFault.TheVariants.{Text as NoText, TooLarge, NoMemory}
 use Rattle.fvn_problems.specs.declared.problem.Problem.{Problem}
 use Rattle.fvn_problems.specs.declared.split.Halves.{Halves}
 use Rattle.fvn_problems.specs.Faults.{fault_of}
@@ -28,7 +30,7 @@ use Rattle.fvn_problems.specs.Problems.{symbols_of, AreOfOneKind, IsPairOf, AreP
 use Rattle.fvn_problems.specs.Scopes.{guarded, AreNamesOf}
 use Rattle.fvn_problems.specs.Spelling.{RawPair, RawProblem, pairs_in, spell_problem, IsWrittenPair, IsProblemText}
 use Rattle.fvn_problems.specs.Variables.{with_sides, OccursInSides}
-use Rattle.fvn_problems.specs.inner.Split.{halves_of, AreTerms, IsProblemSplit}
+use Rattle.fvn_problems.specs.inner.Split.{halves_of, AreTerms, IsProblemRow, IsProblemSplit}
 use Rattle.fvn_problems.specs.inner.Steps.{MemoryOr, AreOf, ReadsPairs, RefusesPairs, Asks, AsksNothing}
 use Rattle.fvn_problems.proofs.Answering.{on-err, first-written, refuted, IsOfText, fault_of-text}
 use Rattle.fvn_problems.proofs.Named.{Grown, grown-ok, grown-both, grown-same, sort-known}
@@ -128,7 +130,7 @@ side-sorted d x (p ∷ ps) a (inr o) = side-sorted d x ps a.1 o
 module _ (d : Declarations) (names : Names) (bytes : Text) where
   pub text-once : (q r : RawProblem) → IsProblemText bytes q → IsProblemText bytes r → q ≡ r
   text-once q r a b =
-      let e : spell_problem q ≡ spell_problem r = (let f : Some (spell_problem q) ≡ Some (spell_problem r) = sym a.spelled ∙ b.spelled in cc) in
+      let e = pieces-once bytes (spell_problem q) (spell_problem r) a.spelled b.spelled in
       problems-once q r a.written b.written e
 
   pub problem-only : (p : Problem) → IsProblem d names bytes p → IsOnlyProblem d names bytes p
@@ -162,10 +164,15 @@ module _ (d : Declarations) (names : Names) (bytes : Text) where
         named = λ x o. record { not_fresh = (g.old x o).0; number = (g.old x o).1; sort = side-sorted d x p.pairs kinded o };
       }
 
-  module _ (row : List Piece) (cut : pieces_of bytes ≡ Some row) where
+  module _ (row : List Piece) (cut : HasPieces bytes row) where
+    -- a row that is none makes the text none
+    pub problem-formless : ((raw : RawProblem) → IsProblemRow row raw → ⊥) → RefusesProblem d names bytes NoText
+    problem-formless none =
+        ((row, cut), λ raw t. none raw (record { written = t.written; spelled = pieces-once bytes row (spell_problem raw) cut t.spelled }))
+
     module _ (list : List Halves) (split : IsProblemSplit row list) where
       in-text : IsProblemText bytes split.raw
-      in-text = record { written = split.is.written; spelled = cut ∙ ap Some split.is.spelled }
+      in-text = record { written = split.is.written; spelled = subst (HasPieces bytes) split.is.spelled cut }
 
       in-list : AreOf list (pairs_in split.raw)
       in-list = record { written = split.is.written; are = split.halves }

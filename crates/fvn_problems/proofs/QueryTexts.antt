@@ -1,8 +1,10 @@
 -- What a term text asks is determined.
-use Rattle.std.proofs.Common.{◌≡◌, ◌<◌, ◌⊎◌, inl, inr, List, [], length, Some, Result, Ok, refl, sym, ap, ◌∙◌, subst, arith}
+use Rattle.std.proofs.Common.{◌≡◌, ◌<◌, ◌⊎◌, inl, inr, List, [], length, Result, Ok, refl, sym, ap, ◌∙◌, subst, arith}
 use Rattle.std.specs.Prelude.{IfErr}
 use Rattle.fvn_base.specs.declared.limits.TheConstants.{TEXT_SYMBOLS}
-use Rattle.fvn_lex.specs.Cut.{Piece, pieces_of}
+use Rattle.fvn_lex.specs.Cut.{Piece}
+use Rattle.fvn_lex.specs.Parts.{HasPieces}
+use Rattle.fvn_lex.proofs.RowPieces.{pieces-once}
 use Rattle.fvn_terms.specs.declared.plain.Var.{Var}
 use Rattle.fvn_terms.specs.declared.plain.Plain.{Plain}
 use Rattle.fvn_terms.specs.declared.declarations.Declarations.{Declarations}
@@ -21,14 +23,14 @@ use Rattle.fvn_syntax.specs.Pieces.{Text}
 use Rattle.fvn_syntax.specs.Resolve.{resolve}
 use Rattle.fvn_syntax.specs.Scope.{Scope}
 use Rattle.fvn_problems.specs.declared.fault.ProblemFault.{ProblemFault}
-use Rattle.fvn_problems.specs.declared.fault.ProblemFault.TheVariants.{TooLarge, NoMemory}
+use Rattle.fvn_problems.specs.declared.fault.ProblemFault.TheVariants.{Text as NoText, TooLarge, NoMemory}
 use Rattle.fvn_problems.specs.declared.query.Query.{Query}
 use Rattle.fvn_problems.specs.Faults.{fault_of}
 use Rattle.fvn_problems.specs.Queries.{IsQueryOf, IsQueryFault, in_term, too_large, IsQuery, IsOnlyQuery, RefusesQuery, HasNoQuery, HasVariables}
 use Rattle.fvn_problems.specs.Scopes.{guarded, AreNamesOf}
 use Rattle.fvn_problems.specs.Spelling.{RawQuery, spell_query, IsQueryText}
 use Rattle.fvn_problems.specs.Variables.{with_variables}
-use Rattle.fvn_problems.specs.inner.Split.{IsQuerySplit}
+use Rattle.fvn_problems.specs.inner.Split.{IsQueryRow, IsQuerySplit}
 use Rattle.fvn_problems.specs.inner.Steps.{IsTermOf, AsksNoTerm}
 use Rattle.fvn_problems.proofs.Answering.{on-err, first-written, refuted, IsOfText, fault_of-text}
 use Rattle.fvn_problems.proofs.Named.{grown-ok, sort-known}
@@ -64,7 +66,7 @@ module _ (c : Scope) (raw : RawQuery) where
 module _ (d : Declarations) (names : Names) (bytes : Text) where
   pub text-once : (q r : RawQuery) → IsQueryText bytes q → IsQueryText bytes r → q ≡ r
   text-once q r a b =
-      let e : spell_query q ≡ spell_query r = (let f : Some (spell_query q) ≡ Some (spell_query r) = sym a.spelled ∙ b.spelled in cc) in
+      let e = pieces-once bytes (spell_query q) (spell_query r) a.spelled b.spelled in
       queries-once q r a.written b.written e
 
   pub query-only : (q : Query) → IsQuery d names bytes q → IsOnlyQuery d names bytes q
@@ -102,10 +104,15 @@ module _ (d : Declarations) (names : Names) (bytes : Text) where
             record { not_fresh = old.0; number = subst (λ ts. x.name < length ts) (sym a.asked.names) old.1; sort = sort-known d x (term q.term) is.0 is.1 o };
       }
 
-  module _ (row : List Piece) (cut : pieces_of bytes ≡ Some row) where
+  module _ (row : List Piece) (cut : HasPieces bytes row) where
+    -- a row that is none makes the text none
+    pub query-formless : ((raw : RawQuery) → IsQueryRow row raw → ⊥) → RefusesQuery d names bytes NoText
+    query-formless none =
+        ((row, cut), λ raw t. none raw (record { written = t.written; spelled = pieces-once bytes row (spell_query raw) cut t.spelled }))
+
     module _ (front : List Piece) (split : IsQuerySplit row front) where
       in-text : IsQueryText bytes split.raw
-      in-text = record { written = split.is.written; spelled = cut ∙ ap Some split.is.spelled }
+      in-text = record { written = split.is.written; spelled = subst (HasPieces bytes) split.is.spelled cut }
 
       in-row : IsTermOf front split.raw
       in-row = record { written = split.is.written; is = split.front_is }

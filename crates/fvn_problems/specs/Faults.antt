@@ -1,6 +1,7 @@
 -- The first fault of a text.
-use Rattle.std.specs.Prelude.{◌≡◌, ◌⊎◌, List, Err, Some}
-use Rattle.fvn_lex.specs.Cut.{Piece, lex, pieces_of}
+use Rattle.std.specs.Prelude.{◌≡◌, ◌⊎◌, List}
+use Rattle.fvn_lex.specs.Cut.{Piece}
+use Rattle.fvn_lex.specs.Parts.{HasPieces, IsFirstFault as IsFirstLexFault}
 use Rattle.fvn_syntax.specs.declared.fault.TermFault.{TermFault}
 use Rattle.fvn_syntax.specs.declared.fault.TermFault.TheVariants as term
 use Rattle.fvn_syntax.specs.Pieces.{Text}
@@ -17,14 +18,14 @@ fault_of term.NoMemory = NoMemory
 
 -- the bytes have tokens
 abbrev pub HasTokens : Text → Type 0
-HasTokens bytes = (ps : List Piece) × (pieces_of bytes ≡ Some ps)
+HasTokens bytes = (ps : List Piece) × HasPieces bytes ps
 
 module _ {Raw : Type 0} (IsText : Raw → Type 0) (IsFault : Raw → ProblemFault → Type 0) where
   -- The first fault of bytes, where IsText says what they are written as, and IsFault the first fault of what
   -- is written: they have no tokens, or they have and are no such text, or what is written has this fault. Want
   -- of memory says nothing of them.
   abbrev pub IsFirstFault : Text → ProblemFault → Type 0
-  IsFirstFault bytes (Lex fault) = lex bytes ≡ Err fault
+  IsFirstFault bytes (Lex fault) = IsFirstLexFault bytes fault
   IsFirstFault bytes NoText = HasTokens bytes × ((raw : Raw) → IsText raw → ⊥)
   IsFirstFault bytes UnknownName = (raw : Raw) × IsText raw × IsFault raw UnknownName
   IsFirstFault bytes Arity = (raw : Raw) × IsText raw × IsFault raw Arity

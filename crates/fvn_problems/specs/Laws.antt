@@ -79,6 +79,12 @@ ProblemNamesDiffer =
     (d : Declarations) (names : Names) (bytes : Text) (p : Problem) →
     IsProblem d names bytes p → AllPairs (λ x y. x ≢ y) p.names.texts
 
+-- No two variables of a term text have one name.
+abbrev pub QueryNamesDiffer : Type 0
+QueryNamesDiffer =
+    (d : Declarations) (names : Names) (bytes : Text) (q : Query) →
+    IsQuery d names bytes q → AllPairs (λ x y. x ≢ y) q.names.texts
+
 -- The term of a term text is well-kinded, and the variables are those in it, each once.
 abbrev pub QueriesAreKinded : Type 0
 QueriesAreKinded =

@@ -1,7 +1,8 @@
 -- How problems, term texts and binding texts are spelled.
-use Rattle.std.specs.Prelude.{◌≡◌, Bool, if◌then◌else◌, List, [], ◌∷◌, ◌++◌, Some, codes}
+use Rattle.std.specs.Prelude.{Bool, if◌then◌else◌, List, [], ◌∷◌, ◌++◌, codes}
 use Rattle.std.specs.List.{AllByRecursion}
-use Rattle.fvn_lex.specs.Cut.{Piece, pieces_of}
+use Rattle.fvn_lex.specs.Cut.{Piece}
+use Rattle.fvn_lex.specs.Parts.{HasPieces}
 use Rattle.fvn_syntax.specs.Pieces.{Text, word, comma, dot, left_brace, right_brace}
 use Rattle.fvn_syntax.specs.Raw.{RawTerm, name, call, round, kind_variable, spell, IsWritten}
 
@@ -86,14 +87,14 @@ IsWrittenBinding b = IsAlone b.left × IsWrittenPair b
 -- the bytes are this term
 pub record IsQueryText (bytes : Text) (q : RawQuery) : Type 0 where
   pub written : IsWritten q.term
-  pub spelled : pieces_of bytes ≡ Some (spell_query q)
+  pub spelled : HasPieces bytes (spell_query q)
 
 -- the bytes are this problem
 pub record IsProblemText (bytes : Text) (p : RawProblem) : Type 0 where
   pub written : AllByRecursion IsWrittenPair (pairs_in p)
-  pub spelled : pieces_of bytes ≡ Some (spell_problem p)
+  pub spelled : HasPieces bytes (spell_problem p)
 
 -- the bytes are these bindings
 pub record IsBindingText (bytes : Text) (bs : List RawPair) : Type 0 where
   pub written : AllByRecursion IsWrittenBinding bs
-  pub spelled : pieces_of bytes ≡ Some (spell_bindings bs)
+  pub spelled : HasPieces bytes (spell_bindings bs)

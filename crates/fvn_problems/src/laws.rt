@@ -8,6 +8,7 @@ ghost use Rattle.fvn_problems.specs.Laws.{
   ProblemFaultsAreDetermined,
   BindingFaultsAreDetermined,
   QueryNamesAreWords,
+  QueryNamesDiffer,
   ProblemNamesAreWords,
   ProblemNamesDiffer,
   QueriesAreKinded,
@@ -77,6 +78,11 @@ pub fn problem_names_are_words()
 /// No two variables of a problem have one name.
 pub fn problem_names_differ()
     ensures { ProblemNamesDiffer }
+{}
+
+/// No two variables of a term text have one name.
+pub fn query_names_differ()
+    ensures { QueryNamesDiffer }
 {}
 
 /// The term of a term text is well-kinded, and the variables are those in it, each once.

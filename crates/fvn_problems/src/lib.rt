@@ -19,8 +19,8 @@ pub use laws::{
     problem_faults_are_determined, problem_names_are_words, problem_names_differ,
     problems_are_determined, problems_are_kinded, problems_are_spelled_once,
     queries_are_determined, queries_are_kinded, queries_are_spelled_once,
-    query_faults_are_determined, query_names_are_words, refused_bindings_bind_nothing,
-    refused_problems_ask_nothing, refused_queries_ask_nothing,
+    query_faults_are_determined, query_names_are_words, query_names_differ,
+    refused_bindings_bind_nothing, refused_problems_ask_nothing, refused_queries_ask_nothing,
 };
 pub use problem::{Problem, read_problem};
 pub use query::{Query, read_term};

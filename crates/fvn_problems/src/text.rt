@@ -1,6 +1,6 @@
 //! The tokens of a text, and single ones among them.
-ghost use Rattle.std.specs.Prelude.{◌≡◌, ◌↔◌, ◌∷◌, Some, IsTrue, IfOk, IfErr, IfSome, IfNone};
-ghost use Rattle.fvn_lex.specs.Cut.{pieces_of};
+ghost use Rattle.std.specs.Prelude.{◌≡◌, ◌↔◌, ◌∷◌, IsTrue, IfOk, IfErr, IfSome, IfNone};
+ghost use Rattle.fvn_lex.specs.Parts.{HasPieces};
 ghost use Rattle.fvn_problems.specs.inner.Split.{is_full_stop, is_end, BeginsNotWith};
 ghost use Rattle.fvn_problems.specs.inner.Steps.{IsLexFault};
 
@@ -11,7 +11,7 @@ use std::alloc::Global;
 
 /// The tokens of a text.
 pub fn cut_text<'a>(alloc: Global, bytes: &'a [u8]) -> Result<Vec<Piece<'a>>, ProblemFault>
-    ensures ok { IfOk result (λ list. pieces_of bytes.now ≡ Some list.items) }
+    ensures ok { IfOk result (λ list. HasPieces bytes.now list.items) }
     ensures err { IfErr result (IsLexFault bytes.now) }
 {
     match cut(alloc, bytes) {

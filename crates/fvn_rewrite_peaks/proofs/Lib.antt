@@ -4,5 +4,6 @@ mod Joins
 mod Runs
 mod Changing
 mod Overlaps
+mod Themselves
 mod OverlapSteps
 mod Newman

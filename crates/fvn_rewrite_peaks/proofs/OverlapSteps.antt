@@ -1,19 +1,16 @@
 -- Both steps of an overlap are steps from one term, so that they join where the equations are confluent.
-use Rattle.std.proofs.Common.{◌≡◌, subst}
+use Rattle.std.proofs.Common.{subst}
 use Rattle.fvn_terms.specs.declared.plain.Var.{Var}
 use Rattle.fvn_terms.specs.declared.declarations.Declarations.{Declarations}
-use Rattle.fvn_terms.specs.Term.{Term, Terms, app, more}
-use Rattle.fvn_terms.specs.Substitution.{Substitution, apply, apply_all, Occurs}
-use Rattle.fvn_terms.specs.Signature.{IsTerm}
+use Rattle.fvn_terms.specs.Term.{Term, Terms}
+use Rattle.fvn_terms.specs.Substitution.{Substitution, apply, apply_all}
 use Rattle.fvn_terms.specs.Places.{AtOnePlace, AmongOnePlace, here, inside, first, later, stop}
 use Rattle.fvn_terms.specs.Equality.{BEqual}
-use Rattle.fvn_terms.specs.Sorts.{IsWellSorted}
 use Rattle.fvn_terms.specs.Theory.{Equations}
-use Rattle.fvn_terms.specs.Rewriting.{Rewrites, AreJoinable, IsConfluent}
+use Rattle.fvn_terms.specs.Rewriting.{Rewrites, IsConfluent}
 use Rattle.fvn_terms.specs.Laws.{RewritingLaws}
 use Rattle.fvn_terms.proofs.Equal.{HasKind-apply, BEqual-sym, BEqual-trans}
 use Rattle.fvn_forms.specs.Flat.{FlatTerm, fvar, plain}
-use Rattle.fvn_flat.specs.Rules.{IsRuleOf}
 use Rattle.fvn_rewrite_laws.specs.Agreement.{AgreeOn}
 use Rattle.fvn_rewrite_laws.specs.Laws.{AgreementLaws, RuleLaws}
 use Rattle.fvn_rewrite_coherence.specs.InstanceSteps.{StepsAtPart}

@@ -1,52 +1,39 @@
 -- Two steps from one term: at places apart, within the value of a variable, or at an overlap of rules.
-use Rattle.std.proofs.Common.{◌≡◌, ◌⊎◌, inl, inr, ℕ, ◌+◌, refl, sym, ap, ◌∙◌, subst}
+use Rattle.std.proofs.Common.{◌≡◌, ◌⊎◌, inl, inr, ℕ, ◌+◌, refl, sym, ◌∙◌, subst}
 use Rattle.fvn_terms.specs.declared.plain.Var.{Var}
 use Rattle.fvn_terms.specs.declared.plain.SortId.{SortId}
 use Rattle.fvn_terms.specs.declared.declarations.Declarations.{Declarations}
-use Rattle.fvn_terms.specs.Term.{Term, var}
+use Rattle.fvn_terms.specs.Term.{Term}
 use Rattle.fvn_terms.specs.Substitution.{Substitution, apply, Occurs}
 use Rattle.fvn_terms.specs.Signature.{kind, IsSort, HasKind, IsTerm}
-use Rattle.fvn_terms.specs.Places.{AtOnePlace, stop}
-use Rattle.fvn_terms.specs.Equality.{two, BEqual}
+use Rattle.fvn_terms.specs.Places.{stop}
+use Rattle.fvn_terms.specs.Equality.{BEqual}
 use Rattle.fvn_terms.specs.Sorts.{HasSort, IsWellSorted}
 use Rattle.fvn_terms.specs.Theory.{Equations}
-use Rattle.fvn_terms.specs.Rewriting.{Rewrites, TermSequence, AreJoinable, BringsNoVariable}
+use Rattle.fvn_terms.specs.Rewriting.{Rewrites, TermSequence, AreJoinable}
 use Rattle.fvn_terms.specs.Laws.{RewritingLaws}
+use Rattle.fvn_terms.proofs.Equal.{BEqual-sym, BEqual-trans}
 use Rattle.fvn_forms.specs.Flat.{FlatTerm, fvar, plain}
-use Rattle.fvn_forms.specs.Canon.{canon}
-use Rattle.fvn_forms.specs.Settled.{Settled}
-use Rattle.fvn_forms.proofs.Eval.{canon_settled}
 use Rattle.fvn_flat.specs.Fits.{Fits}
 use Rattle.fvn_flat.specs.FlatPlaces.{IsReplaced}
-use Rattle.fvn_flat.specs.Rules.{IsRuleFrom, IsRuleOf}
 use Rattle.fvn_rewrite_laws.specs.Agreement.{AgreeOn}
-use Rattle.fvn_rewrite_laws.specs.Admissible.{AreAdmissible}
-use Rattle.fvn_rewrite_laws.specs.Laws.{SequenceLaws, AgreementLaws, KindedLaws, RuleLaws}
-use Rattle.fvn_rewrite_coherence.specs.PlacedSteps.{IsRedex, StepsAtPlace}
+use Rattle.fvn_rewrite_laws.specs.Laws.{SequenceLaws, AgreementLaws, KindedLaws}
+use Rattle.fvn_rewrite_coherence.specs.PlacedSteps.{IsRedex}
 use Rattle.fvn_rewrite_coherence.specs.InstanceSteps.{StepsAtPart, StepsInValue}
 use Rattle.fvn_rewrite_coherence.specs.Laws.{CoherenceLaws, InstanceLaws}
-use Rattle.fvn_rewrite_peaks.specs.Peaks.{AreTwoPlaces, apart, within_first, within_second, StepsJoin, OverlapsJoin}
+use Rattle.fvn_rewrite_peaks.specs.Peaks.{AreTwoPlaces, apart, within_first, within_second, StepsJoin, JoinsAtParts, IsInstanceOfForms, StandForRule, StandInsJoin}
 use Rattle.fvn_rewrite_peaks.proofs.TwoPlaces.{two_places}
 use Rattle.fvn_rewrite_peaks.proofs.Joins.{plain_replaced, joins_modulo, joins_back, joins_replaced}
 use Rattle.fvn_rewrite_peaks.proofs.Runs.{instance_runs}
 use Rattle.fvn_rewrite_peaks.proofs.Changing.{new_of, new_is_new, with_value, value_there, value_elsewhere, one_instance, value_sorted, value_agrees, value_leads}
 
-module _ (d : Declarations) (equations : Equations) (admissible : AreAdmissible d equations) (laws : RewritingLaws d equations) (sequences : SequenceLaws d equations)
-    (kinded : KindedLaws d equations) (rules : RuleLaws d equations) where
-  left_settled : (equation : Term × Term) (l r : FlatTerm) → IsRuleFrom d equation l r → Settled d l
-  left_settled equation l r (inl i) = subst (Settled d) (sym i.left) (canon_settled d (apply i.by equation.0))
-  left_settled equation l r (inr e) = subst (Settled d) (sym e.left) (canon_settled d (two e.operator (plain e.inner_left) (var e.beside)))
-
-  left_fits : (l r : FlatTerm) → IsRuleOf d equations l r → Fits d l
-  left_fits l r rule = record { flat = left_settled rule.0 l r rule.2; kinded = (let k = rules.kinds l r rule in (k.kind, k.left)) }
-
-  brings_none : BringsNoVariable equations
-  brings_none left right i x o = (admissible (left, right) i).kinded.brings_none x o
-
+module _ (d : Declarations) (equations : Equations) (laws : RewritingLaws d equations) (sequences : SequenceLaws d equations) (kinded : KindedLaws d equations) where
   module _ (agreement : AgreementLaws d equations)
       (keep : (n : ℕ) (t u : Term) → IsTerm d t → TermSequence d equations n t u → (q : SortId) → HasSort d t q → HasSort d u q) where
     -- the value of a variable y steps to v at one of the places of y; then at all of them, and the rule follows
-    module _ (l r : FlatTerm) (rule : IsRuleOf d equations l r) (s : Substitution) (sorted : IsWellSorted d s) (u : Term) (step : StepsInValue d equations s l u) where
+    module _ (l r : FlatTerm) (brings : (x : Var) → Occurs x (plain r) → Occurs x (plain l))
+        (fires : (c : Substitution) → IsWellSorted d c → Rewrites d equations (apply c (plain l)) (apply c (plain r)))
+        (s : Substitution) (sorted : IsWellSorted d s) (u : Term) (step : StepsInValue d equations s l u) where
       abbrev y : Var
       y = step.variable
 
@@ -86,7 +73,7 @@ module _ (d : Declarations) (equations : Equations) (admissible : AreAdmissible 
       agrees = value_agrees d s z v (plain l) (new_is_new (plain l) y.sort)
 
       agrees_right : AgreeOn d (plain r) by s
-      agrees_right x o = agrees x (rules.variables brings_none l r rule x o)
+      agrees_right x o = agrees x (brings x o)
 
       at_new : by z ≡ v
       at_new = value_there s z v
@@ -110,7 +97,7 @@ module _ (d : Declarations) (equations : Equations) (admissible : AreAdmissible 
       same_instance = one_instance IsOneThere c (λ t w e. e) (plain_replaced IsOneThere (fvar y) (fvar z) same_values (step.place.replaces (fvar z)))
 
       rule_step : Rewrites d equations (apply c (plain whole)) (apply c (plain r))
-      rule_step = subst (λ x. Rewrites d equations x (apply c (plain r))) same_instance (rules.steps l r rule c c_sorted)
+      rule_step = subst (λ x. Rewrites d equations x (apply c (plain r))) same_instance (fires c c_sorted)
 
       pub value_joins : AreJoinable d equations (apply s (plain r)) u
       value_joins =
@@ -130,22 +117,29 @@ module _ (d : Declarations) (equations : Equations) (admissible : AreAdmissible 
           }
 
     module _ (coherence : CoherenceLaws d equations) (instances : (t : FlatTerm) → Fits d t → (s : Substitution) → IsWellSorted d s → InstanceLaws d equations t s)
-        (overlaps : OverlapsJoin d equations) where
+        (joins : StandInsJoin d equations) where
       -- a step at a place of a redex, and the step of the redex
-      inner : (a g : FlatTerm) → IsRedex d equations a (plain g) → (b h k : FlatTerm) → IsRedex d equations b (plain h) → IsReplaced b h a k → AreJoinable d equations (plain g) (plain k)
-      inner a g redex b h k other p = go ((instances redex.left (left_fits redex.left redex.right redex.rule) redex.by redex.well_sorted).placed (plain k) at_left) where
+      module _ (a g : FlatTerm) (redex : IsRedex d equations a (plain g)) (b h k : FlatTerm) (other : IsRedex d equations b (plain h)) (p : IsReplaced b h a k) where
+        stands : (left : FlatTerm) × (right : FlatTerm) × StandForRule d equations left right redex.left redex.right × JoinsAtParts d equations left right
+        stands = joins redex.left redex.right redex.rule
+
+        stood : IsInstanceOfForms d equations stands.0 stands.1 redex.left redex.right redex.by
+        stood = stands.2.instances redex.by redex.well_sorted
+
         at_form : Rewrites d equations (plain a) (plain k)
         at_form = coherence.steps a (plain k) (record { at = b; given = h; redex = other; replaced = k; replaces = p; makes = stop })
 
-        at_left : Rewrites d equations (apply redex.by (plain redex.left)) (plain k)
-        at_left = laws.modulo (plain a) (apply redex.by (plain redex.left)) (plain k) (plain k) redex.matches at_form stop
+        at_left : Rewrites d equations (apply stood.by (plain stands.0)) (plain k)
+        at_left = laws.modulo (plain a) (apply stood.by (plain stands.0)) (plain k) (plain k) (BEqual-trans d redex.matches (BEqual-sym d stood.left_is)) at_form stop
 
-        from : AreJoinable d equations (apply redex.by (plain redex.right)) (plain k) → AreJoinable d equations (plain g) (plain k)
-        from = joins_modulo d equations sequences (apply redex.by (plain redex.right)) (plain k) (plain g) (plain k) redex.gives stop
+        from : AreJoinable d equations (apply stood.by (plain stands.1)) (plain k) → AreJoinable d equations (plain g) (plain k)
+        from = joins_modulo d equations sequences (apply stood.by (plain stands.1)) (plain k) (plain g) (plain k) (BEqual-trans d stood.right_is redex.gives) stop
 
-        go : StepsAtPart d equations redex.by redex.left (plain k) ⊎ StepsInValue d equations redex.by redex.left (plain k) → AreJoinable d equations (plain g) (plain k)
-        go (inl part) = from (overlaps redex.left redex.right redex.rule redex.by redex.well_sorted (plain k) part)
-        go (inr value) = from (value_joins redex.left redex.right redex.rule redex.by redex.well_sorted (plain k) value)
+        inner : AreJoinable d equations (plain g) (plain k)
+        inner = go ((instances stands.0 stands.2.fits stood.by stood.well_sorted).placed (plain k) at_left) where
+          go : StepsAtPart d equations stood.by stands.0 (plain k) ⊎ StepsInValue d equations stood.by stands.0 (plain k) → AreJoinable d equations (plain g) (plain k)
+          go (inl part) = from (stands.3 stood.by stood.well_sorted (plain k) part)
+          go (inr value) = from (value_joins stands.0 stands.1 stands.2.brings_none stands.2.steps stood.by stood.well_sorted (plain k) value)
 
       places_join : (a g b h t w : FlatTerm) → IsRedex d equations a (plain g) → IsRedex d equations b (plain h) → AreTwoPlaces a g b h t w → AreJoinable d equations (plain t) (plain w)
       places_join a g b h t w first second (apart {w = x} p q) = record {

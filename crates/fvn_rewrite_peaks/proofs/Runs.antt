@@ -1,6 +1,5 @@
 -- Where values have sequences, instances have them.
 use Rattle.std.proofs.Common.{ℕ, ◌+◌}
-use Rattle.fvn_terms.specs.declared.plain.Var.{Var}
 use Rattle.fvn_terms.specs.declared.declarations.Declarations.{Declarations}
 use Rattle.fvn_terms.specs.Term.{Term, Terms, var, app, none, more}
 use Rattle.fvn_terms.specs.Substitution.{Substitution, apply, apply_all}

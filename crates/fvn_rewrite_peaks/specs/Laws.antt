@@ -16,7 +16,7 @@ use Rattle.fvn_flat.specs.FlatPlaces.{IsReplaced}
 use Rattle.fvn_rewrite_laws.specs.Kinds.{HaveOneKind}
 use Rattle.fvn_rewrite_laws.specs.Losses.{AreSortDecreasing}
 use Rattle.fvn_rewrite_laws.specs.Admissible.{AreAdmissible}
-use Rattle.fvn_rewrite_peaks.specs.Peaks.{AreTwoPlaces, StepsJoin, OverlapsJoin}
+use Rattle.fvn_rewrite_peaks.specs.Peaks.{AreTwoPlaces, StepsJoin, OverlapsJoin, StandInsJoin}
 
 -- two places of one form are apart, or one stands within the other
 abbrev pub PlacesAreApartOrNested : Type 0
@@ -44,6 +44,12 @@ abbrev pub OverlapsDecideSteps : Type 0
 OverlapsDecideSteps =
     (d : Declarations) → IsGood d → IsCompleted d → (equations : Equations) → AreAdmissible d equations →
     AreSortDecreasing d equations → OverlapsJoin d equations → StepsJoin d equations
+
+-- the same where they join of forms that stand for the rules
+abbrev pub StandInsDecideSteps : Type 0
+StandInsDecideSteps =
+    (d : Declarations) → IsGood d → IsCompleted d → (equations : Equations) → AreAdmissible d equations →
+    AreSortDecreasing d equations → StandInsJoin d equations → StepsJoin d equations
 
 -- overlaps join where equations with sides of one kind are confluent
 abbrev pub ConfluentEquationsJoinOverlaps : Type 0

@@ -4,6 +4,7 @@ ghost use Rattle.fvn_rewrite_peaks.specs.Laws.{
   JoinsAreKeptInside,
   ValuesCarryInstances,
   OverlapsDecideSteps,
+  StandInsDecideSteps,
   ConfluentEquationsJoinOverlaps,
   TerminationAndJoinsGiveConfluence,
 };
@@ -37,6 +38,14 @@ pub fn values_carry_instances()
 /// Where the overlaps of rules join, two steps from one term join.
 pub fn overlaps_decide_steps()
     ensures { OverlapsDecideSteps }
+{
+    rules_are_lawful();
+    stand_ins_decide_steps();
+}
+
+/// Where the overlaps of forms join that stand for the rules, two steps from one term join.
+pub fn stand_ins_decide_steps()
+    ensures { StandInsDecideSteps }
 {
     rewriting_is_lawful();
     sequences_are_lawful();

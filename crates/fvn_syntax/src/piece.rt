@@ -1,7 +1,8 @@
 //! Tokens with their texts, which are parts of the text that was cut.
-ghost use Rattle.std.specs.Prelude.{◌≡◌, ◌⊎◌, Some, Err, IfOk, IfErr};
+ghost use Rattle.std.specs.Prelude.{◌≡◌, ◌⊎◌, Some, IfOk, IfErr};
 ghost use Rattle.fvn_lex.specs.declared.token.LexFault.TheVariants.{NoMemory as OutOfMemory};
-ghost use Rattle.fvn_lex.specs.Cut.{lex, pieces_of};
+ghost use Rattle.fvn_lex.specs.Cut.{pieces_of};
+ghost use Rattle.fvn_lex.specs.Parts.{HasPieces, IsFirstFault};
 ghost use Rattle.fvn_syntax.specs.Pieces.{is_word, is_name, is_special, is_dot};
 
 use fvn_lex::{Class, LexFault, tokens};
@@ -135,10 +136,10 @@ impl<'a> Row<'a> {
     }
 }
 
-/// The pieces of a text, or the fault for which it has none.
-pub fn cut<'a>(alloc: Global, bytes: &'a [u8]) -> Result<Vec<Piece<'a>>, LexFault>
+// The pieces of a text, as they are computed, or its fault.
+fn cut_pieces<'a>(alloc: Global, bytes: &'a [u8]) -> Result<Vec<Piece<'a>>, LexFault>
     ensures ok { IfOk result (λ list. pieces_of bytes.now ≡ Some list.items) }
-    ensures err { IfErr result (λ fault. (fault ≡ OutOfMemory) ⊎ (lex bytes.now ≡ Err fault)) }
+    ensures err { IfErr result (λ fault. (fault ≡ OutOfMemory) ⊎ IsFirstFault bytes.now fault) }
 {
     let list = tokens(alloc, bytes)?;
     let mut pieces = Vec::new(alloc);
@@ -147,4 +148,12 @@ pub fn cut<'a>(alloc: Global, bytes: &'a [u8]) -> Result<Vec<Piece<'a>>, LexFaul
         pieces.push(Piece::new(token.class, text))?;
     }
     Ok(pieces)
+}
+
+/// The pieces of a text, or the first fault for which it has none.
+pub fn cut<'a>(alloc: Global, bytes: &'a [u8]) -> Result<Vec<Piece<'a>>, LexFault>
+    ensures ok { IfOk result (λ list. HasPieces bytes.now list.items) }
+    ensures err { IfErr result (λ fault. (fault ≡ OutOfMemory) ⊎ IsFirstFault bytes.now fault) }
+{
+    cut_pieces(alloc, bytes)
 }

@@ -97,6 +97,7 @@ sort A . subsort A < < A . => 3 2
 sort A . op f A -> A . => 8 2 name
 sort A . op : -> A . => 3 2
 sort A . var X Y A . => 3 2
+sort A . op a : -> A . eq a a . => 8 3 equation
 sort A . op a : -> A . eq a a [variant] . => 3 3
 sort A . op a : -> A . eq a = [variant] . => 3 3
 sort A . mb a : A . => 8 2 membership
@@ -109,6 +110,8 @@ sort A . op f g : A -> A . => 8 2 name
 sort A . op f : A A -> A [assoc] . => 8 2 assoc
 sort A . op e : -> A . op f : A A -> A [comm id: e] . => 8 3 identity
 sort A . op e : -> A . op f : A A -> A [assoc comm left id: e] . => 8 3 identity
+sort A . op f : A A -> A [assoc comm id: s 0] . => 8 2 identity
+sort A . op f : A A -> A [assoc comm id: s memo] . => 8 2 attribute
 sort A . op f : A A -> A [comm memo] . => 8 2 attribute
 sort A . op a : -> A . eq a = a [variant owise] . => 8 3 attribute";
 

@@ -1,4 +1,4 @@
-//! Tests of `fvn_weights` through its public call: modules and weights, and what is answered.
+//! Tests of `fvn_weights` and `fvn_weights_reading` through their public calls: modules and weights, and what is answered.
 #![tactic(auto)]
 
 #[cfg(test)]

@@ -8,15 +8,18 @@ use Rattle.fvn_cmd.specs.declared.status.Status.{Status}
 use Rattle.fvn_cmd.specs.declared.status.Status.TheVariants.{Usage, ReadFault, WriteFault}
 use Rattle.fvn_cmd.specs.Statuses.{IsSilent, IsSpoken, IsAnswering, IsRefusing}
 use Rattle.fvn_cmd.specs.Texts.{Is}
+use Rattle.fvn_cmd_variants.specs.Solutions as of_terms
+use Rattle.fvn_cmd_vunify.specs.Solutions as modulo
 use Rattle.fvn_cmd_laws.proofs.Verified.{verdict_answering}
 use Rattle.fvn_cmd_laws.proofs.Unified.{end_answering}
+use Rattle.fvn_cmd_laws.proofs.Weighed.{weighing_answering}
 use Rattle.fvn_tool.specs.Words.{Command, IsCommand, AreNoCommand, ReadNothing}
 use Rattle.fvn_tool.specs.Runs.{Outside, Run, Leaves, HasFailed}
-use Rattle.fvn_tool.specs.Asked.{Question, summary, unifiers, verdict, Asked, IsAsked, AsksNothing, IsRefused}
+use Rattle.fvn_tool.specs.Asked.{Question, summary, unifiers, verdict, termination, term_variants, theory_unifiers, Asked, IsAsked, AsksNothing, IsRefused}
 use Rattle.fvn_tool.specs.Answered.{AnswerTo, status_of, Answers, IsAnswered, IsReply}
 use Rattle.fvn_tool.specs.Outcomes.{usage_line, IsOutcome, no_command, too_long, replied}
 use Rattle.fvn_tool.specs.Claims.{RefusesWords, Asks, AnswersCommand, IsReport}
-use Rattle.fvn_cmd_laws.specs.Laws.{VerdictsAreExact, AnswersAreExact}
+use Rattle.fvn_cmd_laws.specs.Laws.{VerdictsAreExact, AnswersAreExact, ExploredAnswersAreExact}
 use Rattle.fvn_tool.specs.Laws.{QuestionsAreDetermined}
 use Rattle.fvn_tool.specs.inner.Steps.{IsGivenOutcome}
 use Rattle.fvn_tool.proofs.Grammar.{one_command}
@@ -51,6 +54,9 @@ status_answering : (q : Question) (a : AnswerTo q) → IsAnswering (status_of q 
 status_answering summary loss = tt
 status_answering (unifiers p) found = end_answering found.end
 status_answering (verdict p b steps) v = verdict_answering v
+status_answering (termination w) found = weighing_answering found
+status_answering (term_variants t reach) found = end_answering (of_terms.end_of reach found)
+status_answering (theory_unifiers p reach) found = end_answering (modulo.end_of reach found)
 
 answer_answering : (a : Asked) (s : Status) (t : List ℕ) → Answers a s t → IsAnswering s
 answer_answering a s t h = subst IsAnswering (sym h.status_is) (status_answering a.question h.answer)
@@ -127,12 +133,12 @@ module _ (run : Run) (h : Leaves (IsOutcome run.words run.source) run.status run
     }
 
 -- the outcome that the steps give, what stays the same and the causes of faults are all that there is to prove of a run
-pub report : VerdictsAreExact → AnswersAreExact → QuestionsAreDetermined → (run : Run) → Leaves (IsGivenOutcome run.words run.source) run.status run.sink → (run.status ≡ ReadFault → HasFailed run.source) → (run.status ≡ WriteFault → HasFailed run.sink) →
+pub report : VerdictsAreExact → AnswersAreExact → ExploredAnswersAreExact → QuestionsAreDetermined → (run : Run) → Leaves (IsGivenOutcome run.words run.source) run.status run.sink → (run.status ≡ ReadFault → HasFailed run.source) → (run.status ≡ WriteFault → HasFailed run.sink) →
     (AreNoCommand run.words → (run.status ≡ Usage) ⊎ (run.status ≡ WriteFault)) →
     (ReadNothing run.words → run.source.after ≡ run.source.before) → (IsSilent run.status → run.sink.after ≡ run.sink.before) →
     (run.source.faults_before < run.source.faults_after → run.status ≡ ReadFault) → IsReport run
-report verdicts exact questions run given read write always unread unwritten failed =
-    let h = Leaves-weaker (IsGivenOutcome run.words run.source) (IsOutcome run.words run.source) (given_outcome verdicts exact run.words run.source) run.status run.sink given in
+report verdicts exact explored questions run given read write always unread unwritten failed =
+    let h = Leaves-weaker (IsGivenOutcome run.words run.source) (IsOutcome run.words run.source) (given_outcome verdicts exact explored run.words run.source) run.status run.sink given in
     record {
       outcome = h;
       unread = unread;

@@ -3,14 +3,20 @@ use Rattle.std.proofs.Common.{◌⊎◌, ℕ, List, sym, ◌∙◌, subst, inl, 
 use Rattle.fvn_module.specs.Contents.{Contents}
 use Rattle.fvn_problems.specs.declared.problem.Problem.{Problem}
 use Rattle.fvn_problems.specs.declared.bindings.Bindings.{Bindings}
+use Rattle.fvn_weights.specs.declared.weights.Weights.{Weights}
 use Rattle.fvn_cmd.specs.declared.status.Status.{Status}
 use Rattle.fvn_cmd.specs.Texts.{Is}
 use Rattle.fvn_cmd_check.specs.Checks.{TellsSorts}
+use Rattle.fvn_cmd_terminates.specs.Weighings.{TellsWeighing}
 use Rattle.fvn_cmd_verify.specs.Verdicts.{TellsVerdict}
 use Rattle.fvn_cmd_unify.specs.Replies.{IsAnswer}
-use Rattle.fvn_cmd_laws.specs.Laws.{SortsAreToldOnce, VerdictsAreExact, AnswersAreExact}
+use Rattle.fvn_cmd_laws.specs.Laws.{SortsAreToldOnce, VerdictsAreExact, WeighingsAreExact, AnswersAreExact, ExploredAnswersAreExact}
+use Rattle.fvn_problems.specs.declared.query.Query.{Query}
+use Rattle.fvn_cmd_exploring.specs.declared.reach.Reach.{Reach}
+use Rattle.fvn_cmd_variants.specs.Replies as of_terms
+use Rattle.fvn_cmd_vunify.specs.Replies as modulo
 use Rattle.fvn_tool.specs.Words.{Command, IsCommand}
-use Rattle.fvn_tool.specs.Asked.{Question, summary, unifiers, verdict, Asked}
+use Rattle.fvn_tool.specs.Asked.{Question, summary, unifiers, verdict, termination, term_variants, theory_unifiers, Asked}
 use Rattle.fvn_tool.specs.Answered.{Answers, IsReply}
 use Rattle.fvn_tool.specs.Outcomes.{no_command, too_long, replied}
 use Rattle.fvn_tool.specs.Laws.{QuestionsAreDetermined, SaysExactly, AnswersSayExactly, AgreeOn, AgreeAsAnswers, OutcomesAreDetermined}
@@ -27,17 +33,29 @@ module _ (m : Contents) (s : Status) (t : List ℕ) where
   tells_verdict : (p : Problem) (b : Bindings) (steps : ℕ) → Answers (of m (verdict p b steps)) s t → TellsVerdict m steps p b s t
   tells_verdict p b steps h = (h.answer, (h.right, record { status_is = h.status_is; text_tells = h.shown }))
 
+  tells_weighing : (w : Weights) → Answers (of m (termination w)) s t → TellsWeighing m w s t
+  tells_weighing w h = record { found = h.answer; right = h.right; status_is = h.status_is; shown = h.shown }
+
+  variants_answer : (q : Query) (reach : Reach) → Answers (of m (term_variants q reach)) s t → of_terms.IsAnswer m q reach s t
+  variants_answer q reach h = record { found = h.answer; solution = h.right; shown = h.shown; status_is = h.status_is }
+
+  theory_answer : (p : Problem) (reach : Reach) → Answers (of m (theory_unifiers p reach)) s t → modulo.IsAnswer m p reach s t
+  theory_answer p reach h = record { found = h.answer; solution = h.right; shown = h.shown; status_is = h.status_is }
+
   is_answer : (p : Problem) → Answers (of m (unifiers p)) s t → IsAnswer m p s t
   is_answer p h = record { found = h.answer; solution = h.right; shown = h.shown; status_is = h.status_is }
 
-module _ (sorts : SortsAreToldOnce) (verdicts : VerdictsAreExact) where
-  says : AnswersAreExact → (m : Contents) (q : Question) (s : Status) (t : List ℕ) → Answers (of m q) s t → SaysExactly m q s t
-  says answers m summary s t h = sorts m s t (tells_sorts m s t h)
-  says answers m (unifiers p) s t h = let a = is_answer m s t p h in (a, (answers.nothing m p s t a, answers.few m p s t a))
-  says answers m (verdict p b steps) s t h = verdicts.exact m p b steps s t (tells_verdict m s t p b steps h)
+module _ (sorts : SortsAreToldOnce) (verdicts : VerdictsAreExact) (weighings : WeighingsAreExact) where
+  says : AnswersAreExact → ExploredAnswersAreExact → (m : Contents) (q : Question) (s : Status) (t : List ℕ) → Answers (of m q) s t → SaysExactly m q s t
+  says answers explored m summary s t h = sorts m s t (tells_sorts m s t h)
+  says answers explored m (unifiers p) s t h = let a = is_answer m s t p h in (a, (answers.nothing m p s t a, answers.few m p s t a))
+  says answers explored m (verdict p b steps) s t h = verdicts.exact m p b steps s t (tells_verdict m s t p b steps h)
+  says answers explored m (termination w) s t h = weighings.exact m w s t (tells_weighing m s t w h)
+  says answers explored m (term_variants q reach) s t h = let a = variants_answer m s t q reach h in (a, explored.variants m q reach s t a)
+  says answers explored m (theory_unifiers p reach) s t h = let a = theory_answer m s t p reach h in (a, explored.unifiers m p reach s t a)
 
-  pub say_exactly : AnswersAreExact → AnswersSayExactly
-  say_exactly answers a s t h = says answers a.contents a.question s t h
+  pub say_exactly : AnswersAreExact → ExploredAnswersAreExact → AnswersSayExactly
+  say_exactly answers explored a s t h = says answers explored a.contents a.question s t h
 
   agree : (m : Contents) (q : Question) (s : Status) (t : List ℕ) (u : Status) (v : List ℕ) → Answers (of m q) s t → Answers (of m q) u v → AgreeOn m q s t u v
   agree m summary s t u v h k =
@@ -45,6 +63,9 @@ module _ (sorts : SortsAreToldOnce) (verdicts : VerdictsAreExact) where
   agree m (unifiers p) s t u v h k = tt
   agree m (verdict p b steps) s t u v h k =
       verdicts.one m p b steps steps s t u v (tells_verdict m s t p b steps h) (tells_verdict m u v p b steps k)
+  agree m (term_variants q reach) s t u v h k = tt
+  agree m (theory_unifiers p reach) s t u v h k = tt
+  agree m (termination w) s t u v h k = weighings.one m w s t u v (tells_weighing m s t w h) (tells_weighing m u v w k)
 
   module _ (questions : QuestionsAreDetermined) where
     replies : (words : List (List ℕ)) (bytes : List ℕ) (c : Command) → IsCommand words c → (s : Status) (t : List ℕ) → IsReply bytes c s t → (u : Status) (v : List ℕ) → IsReply bytes c u v →

@@ -6,9 +6,9 @@ use Rattle.std.specs.Cmp.Lexicographic.{pointwise, bytes_decides}
 use Rattle.std.proofs.lemmas.Bool.{and_parts, and_from, not-true, not_from_false, leb-true, le-leb}
 use Rattle.fvn_base.proofs.Options.{Some-injective}
 use Rattle.fvn_tool.specs.declared.limits.TheConstants.{VERIFY_STEPS, MOST_STEPS}
-use Rattle.fvn_tool.specs.Words.{Command, check, unify, verify, is_option, IsOperand, IsDigit, spelled_behind, IsNumberOfSteps, AreStepOptions, IsCommand, AreNoCommand, ReadsModule, ReadNothing}
+use Rattle.fvn_tool.specs.Words.{Command, check, unify, verify, terminates, variants, vunify, usual_reach, is_option, IsOperand, IsDigit, spelled_behind, IsNumberOfSteps, AreStepOptions, IsCommand, AreNoCommand, ReadsModule, ReadNothing}
 use Rattle.fvn_tool.specs.Laws.{WordsAreOneCommand}
-use Rattle.fvn_tool.specs.inner.Reading.{read_on, allowed, steps_of, is_verify, command_of}
+use Rattle.fvn_tool.specs.inner.Reading.{read_on, allowed, steps_of, is_verify, with_far_word, with_word, command_of}
 use Rattle.fvn_tool.proofs.Digits.{digit}
 
 -- what is read behind a test, where it is read
@@ -86,16 +86,38 @@ verify_is problem bindings p b =
     (and_from (pointwise nat_eq (codes "verify") (codes "verify")) (not (is_option problem)) (named (codes "verify")) (not_from_false (is_option problem) p))
     (not_from_false (is_option bindings) b)
 
+-- behind a name, one word
+module _ (name word : List ℕ) (operand : IsOperand word) (c : Command) where
+  read_vunify : (b : Bool) → pointwise nat_eq name (codes "vunify") ≡ b → (if b then Some (vunify word usual_reach) else None) ≡ Some c → IsCommand (name ∷ word ∷ []) c
+  read_vunify true is e =
+      subst (IsCommand (name ∷ word ∷ [])) (Some-injective e) (operand, (refl, ap (λ n. n ∷ word ∷ []) (name_is name (codes "vunify") is)))
+  read_vunify false is e = cc
+
+  read_variants : (b : Bool) → pointwise nat_eq name (codes "variants") ≡ b →
+      (if b then Some (variants word usual_reach) else (if pointwise nat_eq name (codes "vunify") then Some (vunify word usual_reach) else None)) ≡ Some c → IsCommand (name ∷ word ∷ []) c
+  read_variants true is e =
+      subst (IsCommand (name ∷ word ∷ [])) (Some-injective e) (operand, (refl, ap (λ n. n ∷ word ∷ []) (name_is name (codes "variants") is)))
+  read_variants false is e = read_vunify (pointwise nat_eq name (codes "vunify")) refl e
+
+  read_terminates : (b : Bool) → pointwise nat_eq name (codes "terminates") ≡ b → (if b then Some (terminates word) else with_far_word name word) ≡ Some c → IsCommand (name ∷ word ∷ []) c
+  read_terminates true is e =
+      subst (IsCommand (name ∷ word ∷ [])) (Some-injective e) (operand, ap (λ n. n ∷ word ∷ []) (name_is name (codes "terminates") is))
+  read_terminates false is e = read_variants (pointwise nat_eq name (codes "variants")) refl e
+
+  read_unify : (b : Bool) → pointwise nat_eq name (codes "unify") ≡ b →
+      (if b then Some (unify word) else (if pointwise nat_eq name (codes "terminates") then Some (terminates word) else with_far_word name word)) ≡ Some c → IsCommand (name ∷ word ∷ []) c
+  read_unify true is e =
+      subst (IsCommand (name ∷ word ∷ [])) (Some-injective e) (operand, ap (λ n. n ∷ word ∷ []) (name_is name (codes "unify") is))
+  read_unify false is e = read_terminates (pointwise nat_eq name (codes "terminates")) refl e
+
 pub command_read : (words : List (List ℕ)) (c : Command) → command_of words ≡ Some c → IsCommand words c
 command_read [] c e = cc
 command_read (name ∷ []) c e =
     let h = passed (pointwise nat_eq name (codes "check")) (Some check) c e in
     subst (IsCommand (name ∷ [])) (Some-injective h.1) (ap (λ n. n ∷ []) (name_is name (codes "check") h.0))
-command_read (name ∷ problem ∷ []) c e =
-    let h = passed (pointwise nat_eq name (codes "unify") && not (is_option problem)) (Some (unify problem)) c e in
-    let a = and_parts (pointwise nat_eq name (codes "unify")) (not (is_option problem)) h.0 in
-    subst (IsCommand (name ∷ problem ∷ [])) (Some-injective h.1)
-    (not-true (is_option problem) a.1, ap (λ n. n ∷ problem ∷ []) (name_is name (codes "unify") a.0))
+command_read (name ∷ word ∷ []) c e =
+    let h = passed (not (is_option word)) (with_word name word) c e in
+    read_unify name word (not-true (is_option word) h.0) c (pointwise nat_eq name (codes "unify")) refl h.1
 command_read (name ∷ problem ∷ bindings ∷ []) c e =
     let h = passed (is_verify name problem bindings) (Some (verify problem bindings VERIFY_STEPS)) c e in
     let v = verify_parts name problem bindings h.0 in
@@ -128,9 +150,15 @@ behind problem bindings steps options v (inr a) =
 pub command_given : (words : List (List ℕ)) (c : Command) → IsCommand words c → command_of words ≡ Some c
 command_given words check h = ap command_of h ∙ ap (λ t. if t then Some check else None) (named (codes "check"))
 command_given words (unify problem) h =
-    ap command_of h.1
-    ∙ ap (λ t. if t then Some (unify problem) else None)
-    (and_from (pointwise nat_eq (codes "unify") (codes "unify")) (not (is_option problem)) (named (codes "unify")) (not_from_false (is_option problem) h.0))
+    ap command_of h.1 ∙ ap (λ t. if t then with_word (codes "unify") problem else None) (not_from_false (is_option problem) h.0)
+command_given words (terminates weights) h =
+    ap command_of h.1 ∙ ap (λ t. if t then with_word (codes "terminates") weights else None) (not_from_false (is_option weights) h.0)
+command_given words (variants term reach) h =
+    ap command_of h.1.1 ∙ ap (λ t. if t then with_word (codes "variants") term else None) (not_from_false (is_option term) h.0)
+    ∙ ap (λ r. Some (variants term r)) (sym h.1.0)
+command_given words (vunify problem reach) h =
+    ap command_of h.1.1 ∙ ap (λ t. if t then with_word (codes "vunify") problem else None) (not_from_false (is_option problem) h.0)
+    ∙ ap (λ r. Some (vunify problem r)) (sym h.1.0)
 command_given words (verify problem bindings steps) h =
     ap command_of h.2.1.1 ∙ behind problem bindings steps h.2.0 (verify_is problem bindings h.0 h.1) h.2.1.0
 
@@ -144,6 +172,9 @@ reads : (c : Command) → ReadsModule c
 reads check = tt
 reads (unify problem) = tt
 reads (verify problem bindings steps) = tt
+reads (terminates weights) = tt
+reads (variants term reach) = tt
+reads (vunify problem reach) = tt
 
 pub none_given : (words : List (List ℕ)) → ReadNothing words → command_of words ≡ None
 none_given words h = go (command_of words) refl where

@@ -8,9 +8,12 @@ use Rattle.fvn_cmd.specs.declared.status.Status.TheVariants.{Solved, Nothing, Us
 use Rattle.fvn_cmd.specs.Statuses.{IsSilent, IsSpoken, IsAnswering, IsRefusing}
 use Rattle.fvn_cmd.specs.Asking.{Word}
 use Rattle.fvn_cmd.specs.Refusing.{IsRefusal}
+use Rattle.fvn_cmd_variants.specs.Solutions as of_terms
+use Rattle.fvn_cmd_vunify.specs.Solutions as modulo
 use Rattle.fvn_cmd_laws.proofs.Verified.{verdict_answering}
 use Rattle.fvn_cmd_laws.proofs.Unified.{end_answering}
-use Rattle.fvn_tool.specs.Words.{Command, check, unify, verify}
+use Rattle.fvn_cmd_laws.proofs.Weighed.{weighing_answering}
+use Rattle.fvn_tool.specs.Words.{Command, check, unify, verify, terminates, variants, vunify}
 use Rattle.fvn_tool.specs.Runs.{Outside, Leaves}
 use Rattle.fvn_tool.specs.Asked.{too_long_line, IsRefused}
 use Rattle.fvn_tool.specs.Outcomes.{usage_line}
@@ -80,6 +83,15 @@ reply_spoken (unify word) bytes status text (inr a) =
 reply_spoken (verify problem bindings steps) bytes status text (inl r) = refusing_spoken status (refusal_refusing r)
 reply_spoken (verify problem bindings steps) bytes status text (inr a) =
     answering_spoken status (subst IsAnswering (sym a.3.1.1.1.status_is) (verdict_answering a.3.1.0))
+reply_spoken (terminates word) bytes status text (inl r) = refusing_spoken status (refusal_refusing r)
+reply_spoken (terminates word) bytes status text (inr a) =
+    answering_spoken status (subst IsAnswering (sym a.2.1.status_is) (weighing_answering a.2.1.found))
+reply_spoken (variants word reach) bytes status text (inl r) = refusing_spoken status (refusal_refusing r)
+reply_spoken (variants word reach) bytes status text (inr a) =
+    answering_spoken status (subst IsAnswering (sym a.2.1.status_is) (end_answering (of_terms.end_of reach a.2.1.found)))
+reply_spoken (vunify word reach) bytes status text (inl r) = refusing_spoken status (refusal_refusing r)
+reply_spoken (vunify word reach) bytes status text (inr a) =
+    answering_spoken status (subst IsAnswering (sym a.2.1.status_is) (end_answering (modulo.end_of reach a.2.1.found)))
 
 pub outcome_spoken : {words : List (List ℕ)} {source : Outside} {status : Status} {text : List ℕ} → IsGivenOutcome words source status text → IsSpoken status
 outcome_spoken (is_usage h is) = tt

@@ -9,8 +9,8 @@ use Rattle.fvn_cmd.specs.Asking.{AllStand}
 use Rattle.fvn_cmd.specs.Refusing.{IsRefusal, IsFirstRefusal, IsFirstWordRefusal}
 use Rattle.fvn_cmd.specs.Laws.{ReadersAreLawful, RefusalsAreLawful}
 use Rattle.fvn_module_loading.specs.Loading.{IsLoaded, AreNotLoaded}
-use Rattle.fvn_tool.specs.Words.{Command, check, unify, verify}
-use Rattle.fvn_tool.specs.Asked.{Question, unifiers, verdict, Asked, words_of, IsQuestion, IsShort, IsAsked, IsRefused}
+use Rattle.fvn_tool.specs.Words.{Command, check, unify, verify, terminates, variants, vunify}
+use Rattle.fvn_tool.specs.Asked.{Question, unifiers, verdict, termination, term_variants, theory_unifiers, Asked, words_of, IsQuestion, IsShort, IsAsked, IsRefused}
 use Rattle.fvn_tool.specs.Laws.{QuestionsAreDetermined, RefusalsAreRight}
 
 -- the words of what is asked are what they should be
@@ -18,6 +18,9 @@ stand : (m : Contents) (c : Command) (q : Question) → IsQuestion m c q → All
 stand m check q h = tt
 stand m (unify problem) q h = ((h.0, h.1.0), tt)
 stand m (verify problem bindings steps) q h = ((h.0, h.2.0), ((h.0, h.1, (h.2.0, h.2.1)), tt))
+stand m (terminates weights) q h = ((h.0, h.1.0), tt)
+stand m (variants term reach) q h = ((h.0, h.1.0), tt)
+stand m (vunify problem reach) q h = ((h.0, h.1.0), tt)
 
 module _ (laws : ReadersAreLawful) where
   question_one : (m : Contents) (c : Command) (q r : Question) → IsQuestion m c q → IsQuestion m c r → q ≡ r
@@ -28,6 +31,12 @@ module _ (laws : ReadersAreLawful) where
       let same : h.0 ≡ k.0 = laws.problems m.signature m.names problem h.0 k.0 h.2.0 k.2.0 in
       let bound : h.1 ≡ k.1 = laws.bindings m.signature m.names problem k.0 k.2.0 bindings h.1 k.1 (subst (λ p. IsBindings m.signature m.names p bindings h.1) same h.2.1) k.2.1 in
       h.2.2 ∙ ap (λ p. verdict p h.1 steps) same ∙ ap (λ b. verdict k.0 b steps) bound ∙ sym k.2.2
+  question_one m (terminates weights) q r h k =
+      h.1.1 ∙ ap termination (laws.weights m.signature m.names weights k.0 k.1.0 h.0 h.1.0) ∙ sym k.1.1
+  question_one m (variants term reach) q r h k =
+      h.1.1 ∙ ap (λ t. term_variants t reach) (laws.terms m.signature m.names term h.0 k.0 h.1.0 k.1.0) ∙ sym k.1.1
+  question_one m (vunify problem reach) q r h k =
+      h.1.1 ∙ ap (λ p. theory_unifiers p reach) (laws.problems m.signature m.names problem h.0 k.0 h.1.0 k.1.0) ∙ sym k.1.1
 
   one_question : (bytes : List ℕ) (c : Command) (a b : Asked) → IsAsked bytes c a → IsAsked bytes c b → a ≡ b
   one_question bytes c a b h k =

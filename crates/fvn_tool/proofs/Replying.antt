@@ -1,16 +1,16 @@
 -- The replies of the commands' crates are replies to commands, and the outcome that the steps give is the outcome.
 use Rattle.std.proofs.Common.{ℕ, List, refl, inl, inr}
 use Rattle.fvn_cmd.specs.declared.status.Status.{Status}
-use Rattle.fvn_cmd_laws.specs.Laws.{VerdictsAreExact, AnswersAreExact}
-use Rattle.fvn_tool.specs.Words.{Command, check, unify, verify}
+use Rattle.fvn_cmd_laws.specs.Laws.{VerdictsAreExact, AnswersAreExact, ExploredAnswersAreExact}
+use Rattle.fvn_tool.specs.Words.{Command, check, unify, verify, terminates, variants, vunify}
 use Rattle.fvn_tool.specs.Runs.{Outside}
-use Rattle.fvn_tool.specs.Asked.{summary, unifiers, verdict, IsShort}
+use Rattle.fvn_tool.specs.Asked.{summary, unifiers, verdict, termination, term_variants, theory_unifiers, IsShort}
 use Rattle.fvn_tool.specs.Answered.{IsReply}
 use Rattle.fvn_tool.specs.Outcomes.{IsOutcome, no_command, too_long, replied}
 use Rattle.fvn_tool.specs.inner.Steps.{IsCommandReply, IsGivenOutcome, is_usage, is_long, is_replied}
 use Rattle.fvn_tool.proofs.Grammar.{command_read, no_command_read}
 
-module _ (verdicts : VerdictsAreExact) (answers : AnswersAreExact) where
+module _ (verdicts : VerdictsAreExact) (answers : AnswersAreExact) (explored : ExploredAnswersAreExact) where
   reply : (c : Command) (bytes : List ℕ) → IsShort bytes → (s : Status) (t : List ℕ) → IsCommandReply c bytes s t → IsReply bytes c s t
   reply check bytes short s t (inl r) = inl (inr (short, r))
   reply check bytes short s t (inr a) =
@@ -47,6 +47,45 @@ module _ (verdicts : VerdictsAreExact) (answers : AnswersAreExact) where
             status_is = told.status_is;
             shown = told.text_tells;
             whole = verdicts.decided a.0 a.1 a.2 steps a.3.1.0 a.3.1.1.0;
+          },
+        ),
+      )
+  reply (terminates word) bytes short s t (inl r) = inl (inr (short, r))
+  reply (terminates word) bytes short s t (inr a) =
+      inr (
+        record { contents = a.0; question = termination a.1 },
+        (
+          record { short = short; loaded = a.2.0.module_text; question_is = (a.1, (a.2.0.weights_text, refl)) },
+          record { answer = a.2.1.found; right = a.2.1.right; status_is = a.2.1.status_is; shown = a.2.1.shown; whole = tt },
+        ),
+      )
+  reply (variants word reach) bytes short s t (inl r) = inl (inr (short, r))
+  reply (variants word reach) bytes short s t (inr a) =
+      inr (
+        record { contents = a.0; question = term_variants a.1 reach },
+        (
+          record { short = short; loaded = a.2.0.module_text; question_is = (a.1, (a.2.0.term_text, refl)) },
+          record {
+            answer = a.2.1.found;
+            right = a.2.1.solution;
+            status_is = a.2.1.status_is;
+            shown = a.2.1.shown;
+            whole = λ stays. stays a.2.1.found.explored.end a.2.1.solution.explored.cause;
+          },
+        ),
+      )
+  reply (vunify word reach) bytes short s t (inl r) = inl (inr (short, r))
+  reply (vunify word reach) bytes short s t (inr a) =
+      inr (
+        record { contents = a.0; question = theory_unifiers a.1 reach },
+        (
+          record { short = short; loaded = a.2.0.module_text; question_is = (a.1, (a.2.0.problem_text, refl)) },
+          record {
+            answer = a.2.1.found;
+            right = a.2.1.solution;
+            status_is = a.2.1.status_is;
+            shown = a.2.1.shown;
+            whole = explored.within a.0 a.1 reach a.2.1.found a.2.1.solution;
           },
         ),
       )

@@ -5,23 +5,34 @@ use Rattle.fvn_module.specs.Contents.{Contents}
 use Rattle.fvn_module_loading.specs.Loading.{IsLoaded}
 use Rattle.fvn_problems.specs.declared.problem.Problem.{Problem}
 use Rattle.fvn_problems.specs.declared.bindings.Bindings.{Bindings}
+use Rattle.fvn_problems.specs.declared.query.Query.{Query}
+use Rattle.fvn_problems.specs.Queries.{IsQuery}
 use Rattle.fvn_problems.specs.Problems.{IsProblem}
 use Rattle.fvn_problems.specs.Bindings.{IsBindings}
+use Rattle.fvn_weights.specs.declared.weights.Weights.{Weights}
+use Rattle.fvn_weights_reading.specs.Reading.{IsWeights}
 use Rattle.fvn_cmd.specs.declared.status.Status.{Status}
 use Rattle.fvn_cmd.specs.declared.status.Status.TheVariants.{ModuleRefused}
 use Rattle.fvn_cmd.specs.Texts.{line, Is}
 use Rattle.fvn_cmd.specs.Asking.{Word}
 use Rattle.fvn_cmd.specs.Refusing.{IsRefusal}
+use Rattle.fvn_cmd_terminates.specs.Replies.{terminates_words}
 use Rattle.fvn_cmd_verify.specs.Replies.{verify_words}
 use Rattle.fvn_cmd_unify.specs.Replies.{unify_words}
-use Rattle.fvn_tool.specs.Words.{Command, check, unify, verify}
+use Rattle.fvn_cmd_exploring.specs.declared.reach.Reach.{Reach}
+use Rattle.fvn_cmd_variants.specs.Replies.{variants_words}
+use Rattle.fvn_tool.specs.Words.{Command, check, unify, verify, terminates, variants, vunify}
 
--- a question about a module: how much it declares, the unifiers of a problem, or whether bindings solve one, with a limit
--- on the steps from each side
+-- a question about a module: how much it declares, the unifiers of a problem, whether bindings solve one, with a limit on
+-- the steps from each side, whether weights show that its equations terminate, or, searched so far, the variants of a term
+-- and the unifiers of a problem in the theory
 pub data Question : Type 0 where
   summary : Question
   unifiers : (p : Problem) → Question
   verdict : (p : Problem) (b : Bindings) (steps : ℕ) → Question
+  termination : (w : Weights) → Question
+  term_variants : (t : Query) (reach : Reach) → Question
+  theory_unifiers : (p : Problem) (reach : Reach) → Question
 
 -- what is asked: a module, and a question about it
 pub record Asked : Type 0 where
@@ -33,6 +44,9 @@ abbrev pub words_of : Command → List Word
 words_of check = []
 words_of (unify problem) = unify_words problem
 words_of (verify problem bindings steps) = verify_words problem bindings
+words_of (terminates weights) = terminates_words weights
+words_of (variants term reach) = variants_words term
+words_of (vunify problem reach) = unify_words problem
 
 -- in the module, the command asks this question
 abbrev pub IsQuestion : Contents → Command → Question → Type 0
@@ -41,6 +55,10 @@ IsQuestion m (unify problem) q = (p : Problem) × (IsProblem m.signature m.names
 IsQuestion m (verify problem bindings steps) q =
     (p : Problem) × (b : Bindings)
     × (IsProblem m.signature m.names problem p × IsBindings m.signature m.names p bindings b × (q ≡ verdict p b steps))
+IsQuestion m (terminates weights) q = (w : Weights) × (IsWeights m.signature m.names weights w × (q ≡ termination w))
+IsQuestion m (variants term reach) q = (t : Query) × (IsQuery m.signature m.names term t × (q ≡ term_variants t reach))
+IsQuestion m (vunify problem reach) q =
+    (p : Problem) × (IsProblem m.signature m.names problem p × (q ≡ theory_unifiers p reach))
 
 -- a text of a module that is not too long
 abbrev pub IsShort : List ℕ → Type 0

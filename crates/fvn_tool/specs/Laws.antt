@@ -13,8 +13,12 @@ use Rattle.fvn_cmd_unify.specs.Replies.{IsAnswer}
 use Rattle.fvn_cmd_laws.specs.Unified.{IsNothingExact, HasFewUnifiers}
 use Rattle.fvn_cmd_unify.specs.Solutions.{IsWhole}
 use Rattle.fvn_cmd_laws.specs.Verified.{AreOneIfConfluent, IsVerdictExact}
+use Rattle.fvn_cmd_laws.specs.Weighed.{IsWeighingExact}
+use Rattle.fvn_cmd_laws.specs.Explored.{IsVariantsExact, IsTheoryExact}
+use Rattle.fvn_cmd_variants.specs.Replies as of_terms
+use Rattle.fvn_cmd_vunify.specs.Replies as modulo
 use Rattle.fvn_tool.specs.Words.{Command, IsCommand}
-use Rattle.fvn_tool.specs.Asked.{Question, summary, unifiers, verdict, Asked, words_of, IsShort, IsAsked, IsRefused}
+use Rattle.fvn_tool.specs.Asked.{Question, summary, unifiers, verdict, termination, term_variants, theory_unifiers, Asked, words_of, IsShort, IsAsked, IsRefused}
 use Rattle.fvn_tool.specs.Answered.{Answers}
 use Rattle.fvn_tool.specs.Runs.{Outside}
 use Rattle.fvn_tool.specs.Outcomes.{IsOutcome}
@@ -52,25 +56,35 @@ RefusalsAreRight =
     IsRefusedRightly bytes command s t
 
 -- What an answer says of a question: of sorts, the lines that are right; of unifiers, that there are none exactly at
--- Nothing, and all where no bound is met; of bindings, whether they solve the problem.
+-- Nothing, and all where no bound is met; of bindings, whether they solve the problem; of weights, whether they show that
+-- the equations terminate; of variants and of unifiers in a theory, what the
+-- status tells of the end of the search.
 abbrev pub SaysExactly : Contents → Question → Status → List ℕ → Type 0
 SaysExactly m summary s t = (loss : Option ℕ) → IsLossOf m loss → Is Solved (told_lines m loss) s t
 SaysExactly m (unifiers p) s t =
     (a : IsAnswer m p s t) × (IsNothingExact m p s a.found × (HasFewUnifiers m p → IsWhole a.found))
 SaysExactly m (verdict p b steps) s t = IsVerdictExact m p b steps s t
+SaysExactly m (termination w) s t = IsWeighingExact m w s
+SaysExactly m (term_variants q reach) s t =
+    (a : of_terms.IsAnswer m q reach s t) × IsVariantsExact s a.found
+SaysExactly m (theory_unifiers p reach) s t =
+    (a : modulo.IsAnswer m p reach s t) × IsTheoryExact m p s a.found
 
 -- Answers say what is so.
 abbrev pub AnswersSayExactly : Type 0
 AnswersSayExactly =
     (a : Asked) (s : Status) (t : List ℕ) → Answers a s t → SaysExactly a.contents a.question s t
 
--- Two answers to a question agree: of sorts they are one; of unifiers each may give any complete set that may be drawn and
--- of which none is an instance of another, or meet any bound; verdicts are one where the equations are confluent and
--- neither ended at a bound, since a side may have a short way to a normal form and a long sequence besides.
+-- Two answers to a question agree: of sorts and of weights they are one; of unifiers and of variants each may give any set
+-- that is right, or meet any bound; verdicts are one where the equations are confluent and neither ended at a bound, since
+-- a side may have a short way to a normal form and a long sequence besides.
 abbrev pub AgreeOn : Contents → Question → Status → List ℕ → Status → List ℕ → Type 0
 AgreeOn m summary s t u v = Is s t u v
 AgreeOn m (unifiers p) s t u v = Unit {0}
 AgreeOn m (verdict p b steps) s t u v = AreOneIfConfluent m s t u v
+AgreeOn m (termination w) s t u v = Is s t u v
+AgreeOn m (term_variants q reach) s t u v = Unit {0}
+AgreeOn m (theory_unifiers p reach) s t u v = Unit {0}
 
 -- both answer what these words ask of these bytes, and agree
 pub record AgreeAsAnswers (words : List (List ℕ)) (bytes : List ℕ) (s : Status) (t : List ℕ) (u : Status) (v : List ℕ) : Type 0 where

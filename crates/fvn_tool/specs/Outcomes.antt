@@ -13,7 +13,7 @@ use Rattle.fvn_tool.specs.Runs.{Outside}
 
 -- the line for words that are no command
 abbrev pub usage_line : List ℕ
-usage_line = line (codes "usage: fvn check|unify|variants|vunify|verify|work")
+usage_line = line (codes "usage: fvn check|unify|variants|vunify|verify|work|terminates")
 
 -- The status and the text that these words ask for, with what the source gave: the line for words that are no command; the
 -- line of a module of which one byte too many was taken; or the reply to a command over all bytes that the source had.

@@ -6,13 +6,18 @@ ghost use Rattle.fvn_tool.specs.inner.Reading.{meant};
 ghost use Rattle.fvn_tool.specs.inner.Steps.{IsCommandReply};
 ghost use Rattle.fvn_cmd.specs.Texts.{bytes_of};
 
-use crate::words::Command;
+use crate::words::{Command, usual_reach};
 use fvn_cmd::{Answer, Status};
 use fvn_cmd_check::check_reply;
+use fvn_cmd_terminates::terminates_reply;
 use fvn_cmd_unify::unify_reply;
+use fvn_cmd_variants::variants_reply;
 use fvn_cmd_verify::verify_reply;
+use fvn_cmd_vunify::vunify_reply;
+use fvn_cover::Gate;
 use fvn_terms::NoMemory;
 use std::alloc::Global;
+use std::thread::Threads;
 
 /// The usage line, for words that are no command.
 pub(crate) fn usage() -> Answer
@@ -21,7 +26,7 @@ pub(crate) fn usage() -> Answer
 {
     Answer::fixed(
         Status::Usage,
-        b"usage: fvn check|unify|variants|vunify|verify|work\n",
+        b"usage: fvn check|unify|variants|vunify|verify|work|terminates\n",
     )
 }
 
@@ -34,7 +39,13 @@ pub(crate) fn too_long() -> Answer
 }
 
 /// What is replied to a command over the text of a module.
-pub(crate) fn reply(alloc: Global, bytes: &[u8], command: Command<'_>) -> Result<Answer, NoMemory>
+pub(crate) fn reply<R: Threads + Sync, G: Gate>(
+    rt: &R,
+    gate: &G,
+    alloc: Global,
+    bytes: &[u8],
+    command: Command<'_>,
+) -> Result<Answer, NoMemory>
     ensures { IfOk result (λ a.
         IsCommandReply (meant command.entry) bytes.now a.status (bytes_of a.text)) }
 {
@@ -44,5 +55,10 @@ pub(crate) fn reply(alloc: Global, bytes: &[u8], command: Command<'_>) -> Result
         Command::Verify(problem, bindings, steps) => {
             verify_reply(alloc, bytes, problem, bindings, steps)
         }
+        Command::Terminates(word) => terminates_reply(alloc, bytes, word),
+        Command::Variants(word) => {
+            variants_reply(rt, gate, alloc, bytes, word, usual_reach(), 1)
+        }
+        Command::Vunify(word) => { vunify_reply(rt, gate, alloc, bytes, word, usual_reach(), 1) }
     }
 }

@@ -10,7 +10,10 @@ ghost use Rattle.fvn_tool.specs.Laws.{
 ghost use Rattle.fvn_tool.specs.Limits.{AreStepLimits};
 
 use fvn_cmd::{readers_are_lawful, refusals_are_lawful};
-use fvn_cmd_laws::{answers_are_exact, sorts_are_told_once, verdicts_are_exact};
+use fvn_cmd_laws::{
+    answers_are_exact, explored_answers_are_exact, sorts_are_told_once, verdicts_are_exact,
+    weighings_are_exact,
+};
 
 /// Words are one command at most.
 pub fn words_are_one_command()
@@ -33,14 +36,16 @@ pub fn refusals_are_right()
     refusals_are_lawful();
 }
 
-/// What is told of sorts is right, there are no unifiers exactly at Nothing, and bindings solve a problem or do not, as is
-/// told.
+/// What is told of sorts is right, there are no unifiers exactly at Nothing, bindings solve a problem or do not, and
+/// weights show that the equations terminate or do not, as is told.
 pub fn answers_say_exactly()
     ensures { AnswersSayExactly }
 {
     sorts_are_told_once();
     verdicts_are_exact();
     answers_are_exact();
+    weighings_are_exact();
+    explored_answers_are_exact();
 }
 
 /// Words and the bytes of a source have at most one outcome, but for answers to one question, which agree.
@@ -57,6 +62,7 @@ pub fn outcomes_are_determined()
 {
     sorts_are_told_once();
     verdicts_are_exact();
+    weighings_are_exact();
     questions_are_determined();
 }
 

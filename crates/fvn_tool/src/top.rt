@@ -13,14 +13,22 @@ use crate::laws::questions_are_determined;
 use crate::{answer, words};
 use fvn_base::limits::MODULE_BYTES;
 use fvn_cmd::{Answer, Status};
-use fvn_cmd_laws::{answers_are_exact, verdicts_are_exact};
+use fvn_cmd_laws::{answers_are_exact, explored_answers_are_exact, verdicts_are_exact};
+use fvn_cover::Gate;
 use fvn_outside::{ReadAll, Sink, Source, WriteFailed, read_all, write_all};
 use fvn_terms::NoMemory;
 use std::alloc::Global;
 use std::string::String;
+use std::thread::Threads;
 
 // Reads the module where the words are a command, and answers; a status alone where nothing is to be written.
-fn respond<S: Source>(alloc: Global, words: &[String], source: &mut S) -> Result<Answer, Status>
+fn respond<R: Threads + Sync, G: Gate, S: Source>(
+    rt: &R,
+    gate: &G,
+    alloc: Global,
+    words: &[String],
+    source: &mut S,
+) -> Result<Answer, Status>
     ensures unread { command_of (map string_bytes words.now) ≡ None → source.new ≡ source.old }
     ensures usage { command_of (map string_bytes words.now) ≡ None → IsOk result }
     ensures outcome { IfOk result (λ a. IsGivenOutcome (map string_bytes words.now)
@@ -40,7 +48,7 @@ fn respond<S: Source>(alloc: Global, words: &[String], source: &mut S) -> Result
         Err(ReadAll::Fault) => Err(Status::ReadFault),
         Err(ReadAll::NoMemory) => Err(Status::NoMemory),
         Err(ReadAll::TooLong) => Ok(answer::too_long()),
-        Ok(bytes) => match answer::reply(alloc, &bytes, command) {
+        Ok(bytes) => match answer::reply(rt, gate, alloc, &bytes, command) {
             Err(NoMemory) => Err(Status::NoMemory),
             Ok(answer) => Ok(answer),
         },
@@ -48,7 +56,9 @@ fn respond<S: Source>(alloc: Global, words: &[String], source: &mut S) -> Result
 }
 
 // Answers, and writes the answer's text.
-fn conclude<S: Source, K: Sink>(
+fn conclude<R: Threads + Sync, G: Gate, S: Source, K: Sink>(
+    rt: &R,
+    gate: &G,
     alloc: Global,
     words: &[String],
     source: &mut S,
@@ -71,7 +81,7 @@ fn conclude<S: Source, K: Sink>(
         Rose (K.faults out.old) (K.faults out.new) }
     ensures no_write_fault { NeverFails K.faults → result ≢ Status.WriteFault }
 {
-    match respond(alloc, words, source) {
+    match respond(rt, gate, alloc, words, source) {
         Err(status) => status,
         Ok(answer) => match write_all(out, answer.text.as_slice()) {
             Ok(()) => answer.status,
@@ -82,8 +92,11 @@ fn conclude<S: Source, K: Sink>(
 
 /// Does all that the program does: reads the words and the module, carries out the command, and writes one text.
 ///
-/// Nothing is written before the whole text is there.
-pub fn run<S: Source, K: Sink>(
+/// Nothing is written before the whole text is there. Each piece of work that may run beside others goes through the
+/// gate first.
+pub fn run<R: Threads + Sync, G: Gate, S: Source, K: Sink>(
+    rt: &R,
+    gate: &G,
     alloc: Global,
     words: &[String],
     source: &mut S,
@@ -106,6 +119,7 @@ pub fn run<S: Source, K: Sink>(
 {
     verdicts_are_exact();
     answers_are_exact();
+    explored_answers_are_exact();
     questions_are_determined();
-    conclude(alloc, words, source, out)
+    conclude(rt, gate, alloc, words, source, out)
 }

@@ -1,9 +1,10 @@
 //! Reading the words of the command line.
 ghost use Rattle.std.specs.Prelude.{◌≡◌, map, string_bytes, MatchOption, Some, None, ◌∷◌, []};
-ghost use Rattle.fvn_tool.specs.Words.{is_option};
-ghost use Rattle.fvn_tool.specs.inner.Reading.{command_of, is_verify, read_on, allowed, steps_of, meant};
+ghost use Rattle.fvn_tool.specs.Words.{is_option, usual_reach};
+ghost use Rattle.fvn_tool.specs.inner.Reading.{command_of, is_verify, read_on, allowed, steps_of, with_far_word, meant};
 
-use crate::limits::{MOST_STEPS, VERIFY_STEPS};
+use crate::limits::{LEVELS, MOST_STEPS, VARIANTS, VERIFY_STEPS};
+use fvn_cmd_exploring::Reach;
 use std::string::String;
 
 /// What the words ask.
@@ -15,6 +16,12 @@ pub(crate) enum Command<'a> {
     Unify(&'a [u8]),
     /// To tell whether bindings solve a problem, with a limit on the steps from each side.
     Verify(&'a [u8], &'a [u8], u64),
+    /// To tell whether weights show that the equations terminate.
+    Terminates(&'a [u8]),
+    /// To find the variants of a term, searched so far.
+    Variants(&'a [u8]),
+    /// To find the unifiers of a problem in the theory of the module, searched so far.
+    Vunify(&'a [u8]),
 }
 
 // Whether the word would be an option: it begins with a dash and is longer.
@@ -77,6 +84,50 @@ fn read_steps(word: &[u8]) -> Option<u64>
     } else {
         None
     }
+}
+
+/// How far variants are searched for, where the words do not tell.
+pub(crate) fn usual_reach() -> Reach
+    ensures { result ≡ usual_reach }
+{
+    Reach {
+        levels: LEVELS,
+        variants: VARIANTS,
+        steps: VERIFY_STEPS,
+    }
+}
+
+// The command that two words are, which searches for variants.
+fn read_far_word<'a>(name: &[u8], word: &'a [u8]) -> Option<Command<'a>>
+    ensures { MatchOption result
+        (with_far_word name.now word.now ≡ None)
+        (λ command. with_far_word name.now word.now ≡ Some (meant command)) }
+{
+    if name == b"variants".as_slice() {
+        return Some(Command::Variants(word));
+    }
+    if name == b"vunify".as_slice() {
+        return Some(Command::Vunify(word));
+    }
+    None
+}
+
+// The command that two words are.
+fn read_word<'a>(name: &[u8], word: &'a [u8]) -> Option<Command<'a>>
+    ensures { MatchOption result
+        (command_of (name.now ∷ word.now ∷ []) ≡ None)
+        (λ command. command_of (name.now ∷ word.now ∷ []) ≡ Some (meant command)) }
+{
+    if is_option_word(word) {
+        return None;
+    }
+    if name == b"unify".as_slice() {
+        return Some(Command::Unify(word));
+    }
+    if name == b"terminates".as_slice() {
+        return Some(Command::Terminates(word));
+    }
+    read_far_word(name, word)
 }
 
 // The command that three words are.
@@ -142,12 +193,8 @@ pub(crate) fn read_command(words: &[String]) -> Option<Command<'_>>
             words[4].as_bytes(),
         );
     }
-    if words.len() != 2 {
-        return None;
-    }
-    let problem = words[1].as_bytes();
-    if words[0].as_bytes() == b"unify".as_slice() && !is_option_word(problem) {
-        Some(Command::Unify(problem))
+    if words.len() == 2 {
+        read_word(words[0].as_bytes(), words[1].as_bytes())
     } else {
         None
     }

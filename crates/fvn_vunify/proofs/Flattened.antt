@@ -1,5 +1,5 @@
 -- Flattened pairs have the unifiers in the theory of the plain pairs.
-use Rattle.std.proofs.Common.{List, [], ◌∷◌}
+use Rattle.std.proofs.Common.{[], ◌∷◌}
 use Rattle.std.specs.Prelude.{◌↔◌, All, Contains}
 use Rattle.std.proofs.lemmas.List.Elements.{All-nil, All-cons, All-head, All-tail}
 use Rattle.fvn_terms.specs.declared.plain.Var.{Var}
@@ -8,8 +8,8 @@ use Rattle.fvn_terms.specs.Term.{Term}
 use Rattle.fvn_terms.specs.Substitution.{Substitution, apply}
 use Rattle.fvn_terms.specs.Equality.{BEqual}
 use Rattle.fvn_terms.specs.Sorts.{IsWellSorted}
-use Rattle.fvn_terms.specs.Unifiers.{Problem, IsInstance}
-use Rattle.fvn_terms.specs.Theory.{TEqual, IsTheoryInstance}
+use Rattle.fvn_terms.specs.Unifiers.{Problem}
+use Rattle.fvn_terms.specs.Theory.{TEqual}
 use Rattle.fvn_terms.specs.Laws.{TheoryLaws}
 use Rattle.fvn_terms.proofs.Equal.{BEqual-sym, BEqual-apply}
 use Rattle.fvn_forms.specs.FitsKinds.{FitsKinds}

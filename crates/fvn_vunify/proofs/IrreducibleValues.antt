@@ -1,6 +1,6 @@
 -- Unifiers in a theory, and those with irreducible values.
 use Rattle.std.proofs.Common.{List, [], ◌∷◌, ◌++◌, ◌⊎◌, get_or, refl, sym, subst, inl, inr}
-use Rattle.std.specs.List.{All, Contains}
+use Rattle.std.specs.List.{Contains}
 use Rattle.std.proofs.lemmas.List.Elements.{All-head, All-tail, Contains-append_cases}
 use Rattle.fvn_base.proofs.Membership.{contains_none}
 use Rattle.fvn_terms.specs.declared.plain.Var.{Var}
@@ -14,7 +14,6 @@ use Rattle.fvn_terms.specs.Sorts.{IsWellSorted}
 use Rattle.fvn_terms.specs.Unifiers.{Problem}
 use Rattle.fvn_terms.specs.Theory.{TEqual, IsTheoryInstance}
 use Rattle.fvn_terms.specs.Rewriting.{IsTerminating}
-use Rattle.fvn_terms.specs.Variants.{IsWithin}
 use Rattle.fvn_terms.specs.Laws.{RewritingLaws, TheoryLaws, InstancesChain}
 use Rattle.fvn_terms.proofs.Substitutions.{apply-var}
 use Rattle.fvn_flat.specs.Problems.{variables, variables_of, IsProblem}
@@ -23,7 +22,7 @@ use Rattle.fvn_rewrite_laws.specs.Losses.{AreSortDecreasing}
 use Rattle.fvn_rewrite_laws.proofs.Choosing.{occurring_sort}
 use Rattle.fvn_rewrite_normal_forms.specs.Laws.{NormalFormLaws}
 use Rattle.fvn_exploring.specs.Setting.{Setting}
-use Rattle.fvn_vunify.specs.Solutions.{IsKeptUnifier, IsIrreducibleUnifier, IsInstanceOfSome, IsTheoryInstanceOfSome}
+use Rattle.fvn_vunify.specs.Solutions.{IsKeptUnifier, IsInstanceOfSome, IsTheoryInstanceOfSome}
 use Rattle.fvn_vunify.specs.Laws.{IsIrreducibleFor, TheoryUnifierLaws}
 
 module _ (d : Declarations) where

@@ -1,5 +1,5 @@
 -- Why a search for unifiers in a theory stops at the pairs of a variant.
-use Rattle.std.specs.Prelude.{◌≡◌, ◌≢◌, List, Contains}
+use Rattle.std.specs.Prelude.{◌≡◌, ◌≢◌, Contains}
 use Rattle.fvn_terms.specs.declared.plain.Var.{Var}
 use Rattle.fvn_terms.specs.Term.{var}
 use Rattle.fvn_terms.specs.Substitution.{Substitution, apply}

@@ -4,3 +4,4 @@ pub mod Solutions
 pub mod Causes
 pub mod Solved
 pub mod Laws
+pub mod inner

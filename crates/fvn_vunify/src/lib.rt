@@ -1,11 +1,21 @@
-//! Unifiers in the theory of equations: what a search for them promises, and their laws.
+//! Unifiers in the theory of equations, from an exploration of the variants of a problem's sides.
 #![tactic(auto)]
 
+mod attempts;
+mod ends;
 mod laws;
+mod names;
+mod pairs;
+mod sides;
 mod solved;
+mod solving;
+mod testing;
+mod unify;
 
 pub use laws::{
     complete_irreducible_unifiers_are_shortest, flattened_pairs_have_one_theory_answer,
     theory_unifiers_have_irreducible_values,
 };
+pub use sides::sides_of;
 pub use solved::SolvedModulo;
+pub use unify::variant_unify;

@@ -6,6 +6,7 @@ use fvn_tool::Status;
 use std::alloc::Global;
 use std::process::Abort;
 use std::string::String;
+use std::thread::Threads;
 
 /// Whole texts, and what is printed of them.
 const TEXTS: &str = "\
@@ -87,7 +88,12 @@ sorts A B . subsort A < B . op a : -> A . op b : -> B . eq b = a [variant] . eq 
 sorts A B . subsort A < B . ops c e : -> A . op b : -> B . op h : B B -> B [assoc comm id: e] . eq h(X:B,b) = b [variant] . eq h(X:B,c) = b [variant] . ==> module M sorts 2 kinds 1 operators 4 equations 2 | cause sorts 2";
 
 // What is printed of a text, and the status that goes with it.
-fn told(rt: &impl Abort, alloc: Global, text: &str, want: &str) -> Result<(), NoMemory> {
+fn told<R: Abort + Threads + Sync>(
+    rt: &R,
+    alloc: Global,
+    text: &str,
+    want: &str,
+) -> Result<(), NoMemory> {
     let status = if want.split_once(" sorts ").is_some() {
         Status::Solved
     } else {
@@ -105,7 +111,7 @@ fn told(rt: &impl Abort, alloc: Global, text: &str, want: &str) -> Result<(), No
 }
 
 // A row of a text and what is printed of it.
-fn row_told(rt: &impl Abort, alloc: Global, row: &str) -> Result<(), NoMemory> {
+fn row_told<R: Abort + Threads + Sync>(rt: &R, alloc: Global, row: &str) -> Result<(), NoMemory> {
     let (text, want) = row.split_once(" ==> ").unwrap_or((row, "no row"));
     told(rt, alloc, text, want)
 }
@@ -119,7 +125,7 @@ fn module_texts_are_told_or_refused(rt: HostRuntime) -> Result<(), NoMemory> {
 }
 
 // A row of statements and what is printed of their module.
-fn body_told(rt: &impl Abort, alloc: Global, row: &str) -> Result<(), NoMemory> {
+fn body_told<R: Abort + Threads + Sync>(rt: &R, alloc: Global, row: &str) -> Result<(), NoMemory> {
     let (body, want) = row.split_once(" ==> ").unwrap_or((row, "no row"));
     let text = format!(in alloc; "fmod M is {body} endfm")?;
     told(rt, alloc, text.as_str(), want)
@@ -145,7 +151,12 @@ fn push_repeated(text: &mut String, count: u32, statement: &str) -> Result<(), N
 const SMALL: &str = "fmod M is sort A . op a : -> A . op s : A -> A . ";
 
 // With so many equations: 256 are few enough, and the 257th stands in statement 3 + 257.
-fn equations_told(rt: &impl Abort, alloc: Global, count: u32, want: &str) -> Result<(), NoMemory> {
+fn equations_told<R: Abort + Threads + Sync>(
+    rt: &R,
+    alloc: Global,
+    count: u32,
+    want: &str,
+) -> Result<(), NoMemory> {
     let mut text = String::from_str(alloc, SMALL)?;
     push_repeated(&mut text, count, "eq s(a) = a [variant] . ")?;
     text.push_str("endfm")?;
@@ -153,7 +164,12 @@ fn equations_told(rt: &impl Abort, alloc: Global, count: u32, want: &str) -> Res
 }
 
 // With so many operators on the left side of an equation: with its constant it has one symbol more.
-fn deep_told(rt: &impl Abort, alloc: Global, count: u32, want: &str) -> Result<(), NoMemory> {
+fn deep_told<R: Abort + Threads + Sync>(
+    rt: &R,
+    alloc: Global,
+    count: u32,
+    want: &str,
+) -> Result<(), NoMemory> {
     let mut text = String::from_str(alloc, SMALL)?;
     text.push_str("eq ")?;
     push_repeated(&mut text, count, "s(")?;
@@ -164,7 +180,12 @@ fn deep_told(rt: &impl Abort, alloc: Global, count: u32, want: &str) -> Result<(
 }
 
 // With so many sorts.
-fn sorts_told(rt: &impl Abort, alloc: Global, count: u32, want: &str) -> Result<(), NoMemory> {
+fn sorts_told<R: Abort + Threads + Sync>(
+    rt: &R,
+    alloc: Global,
+    count: u32,
+    want: &str,
+) -> Result<(), NoMemory> {
     let mut sorts = String::from_str(alloc, "fmod M is sorts")?;
     for n in 0..count {
         sorts = format!(in alloc; "{sorts} S{n}")?;
@@ -193,7 +214,12 @@ fn limits_of_a_module_have_their_lines(rt: HostRuntime) -> Result<(), NoMemory> 
 }
 
 // So many spaces.
-fn spaces_told(rt: &impl Abort, alloc: Global, count: u32, want: &str) -> Result<(), NoMemory> {
+fn spaces_told<R: Abort + Threads + Sync>(
+    rt: &R,
+    alloc: Global,
+    count: u32,
+    want: &str,
+) -> Result<(), NoMemory> {
     let mut spaces = String::from_str(alloc, "")?;
     push_repeated(&mut spaces, count, " ")?;
     told(rt, alloc, spaces.as_str(), want)
@@ -206,8 +232,8 @@ fn texts_of_1048577_bytes_are_too_long(rt: HostRuntime) -> Result<(), NoMemory> 
 }
 
 // A module with an equation whose left side has so many variables of sort B, among other operators.
-fn instances_told(
-    rt: &impl Abort,
+fn instances_told<R: Abort + Threads + Sync>(
+    rt: &R,
     alloc: Global,
     others: &str,
     count: u32,

@@ -6,6 +6,7 @@ use fvn_tool::Status;
 use std::alloc::Global;
 use std::process::Abort;
 use std::string::String;
+use std::thread::Threads;
 
 /// A problem whose most general unifier has a term of 511 symbols.
 const SMALL: &str = "p(V0:S,p(V1:S,p(V2:S,p(V3:S,p(V4:S,p(V5:S,p(V6:S,V7:S))))))) =? \
@@ -49,14 +50,14 @@ fn chain(alloc: Global, last: &str) -> Result<String, NoMemory> {
 }
 
 /// The status alone.
-fn assert_status(
-    rt: &impl Abort,
+fn assert_status<R: Abort + Threads + Sync>(
+    rt: &R,
     alloc: Global,
     module: &str,
     problem: &str,
     want: Status,
 ) -> Result<(), NoMemory> {
-    let (status, _text) = answer(alloc, &plain(&["unify", problem], module.as_bytes()))?;
+    let (status, _text) = answer(rt, alloc, &plain(&["unify", problem], module.as_bytes()))?;
     assert_eq!(rt; status, want);
     Ok(())
 }
@@ -202,7 +203,7 @@ fn is_full(text: &[u8]) -> bool {
 fn of_over_4096_unifiers_4096_are_told(rt: HostRuntime) -> Result<(), NoMemory> {
     let mut setting = plain(&MANY, SUMS.as_bytes());
     setting.room = 1_000_000;
-    let (status, text) = answer(rt.alloc(), &setting)?;
+    let (status, text) = answer(&rt, rt.alloc(), &setting)?;
     assert_eq!(rt; status, Status::Ended);
     assert!(rt; is_full(text.as_slice()));
     Ok(())

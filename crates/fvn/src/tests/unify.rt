@@ -5,6 +5,7 @@ use fvn_tool::Status;
 use std::alloc::Global;
 use std::process::Abort;
 use std::string::String;
+use std::thread::Threads;
 
 // Modules, and problems over each with the lines that are printed of them, worked out by hand or by Maude.
 
@@ -167,8 +168,8 @@ const NOPRE: &str =
 const OVER_NOPRE: &str = "\
 X =? X ==> module 9.6 f A";
 
-// The status that goes with the last of these lines.
-fn status_of(said: &str) -> Status {
+/// The status that goes with the last of these lines.
+pub fn status_of(said: &str) -> Status {
     let last = match said.rsplit_once(" | ") {
         Some((_lines, last)) => last,
         None => said,
@@ -199,8 +200,8 @@ pub fn text_of(alloc: Global, said: &str) -> Result<String, NoMemory> {
 }
 
 /// What is printed of a problem in a module.
-pub fn tell(
-    rt: &impl Abort,
+pub fn tell<R: Abort + Threads + Sync>(
+    rt: &R,
     alloc: Global,
     module: &[u8],
     problem: &str,
@@ -212,13 +213,23 @@ pub fn tell(
 }
 
 // A row of a problem and what is printed of it.
-fn unified(rt: &impl Abort, alloc: Global, module: &str, row: &str) -> Result<(), NoMemory> {
+fn unified<R: Abort + Threads + Sync>(
+    rt: &R,
+    alloc: Global,
+    module: &str,
+    row: &str,
+) -> Result<(), NoMemory> {
     let (problem, said) = row.split_once(" ==> ").unwrap_or((row, "no row"));
     tell(rt, alloc, module.as_bytes(), problem, said)
 }
 
 // All rows over this module.
-fn all_unified(rt: &impl Abort, alloc: Global, module: &str, rows: &str) -> Result<(), NoMemory> {
+fn all_unified<R: Abort + Threads + Sync>(
+    rt: &R,
+    alloc: Global,
+    module: &str,
+    rows: &str,
+) -> Result<(), NoMemory> {
     for row in rows.lines() {
         unified(rt, alloc, module, row)?;
     }

@@ -5,6 +5,7 @@ use fvn_tool::Status;
 use std::alloc::Global;
 use std::process::Abort;
 use std::string::String;
+use std::thread::Threads;
 
 // Modules, and over each the words behind `verify`, a problem, bindings and perhaps a number of steps, and what is said of
 // them.
@@ -157,8 +158,8 @@ fn words_of<'a>(alloc: Global, row: &'a str) -> Result<Vec<&'a str>, NoMemory> {
 }
 
 // What is said of the words of a row in a module.
-fn tell(
-    rt: &impl Abort,
+fn tell<R: Abort + Threads + Sync>(
+    rt: &R,
     alloc: Global,
     module: &str,
     row: &str,
@@ -177,13 +178,23 @@ fn tell(
 }
 
 // A row of words and what is said of them in this module.
-fn verified(rt: &impl Abort, alloc: Global, module: &str, row: &str) -> Result<(), NoMemory> {
+fn verified<R: Abort + Threads + Sync>(
+    rt: &R,
+    alloc: Global,
+    module: &str,
+    row: &str,
+) -> Result<(), NoMemory> {
     let (words, said) = row.split_once(" ==> ").unwrap_or((row, "no row"));
     tell(rt, alloc, module, words, said)
 }
 
 // All rows over this module.
-fn all_verified(rt: &impl Abort, alloc: Global, module: &str, rows: &str) -> Result<(), NoMemory> {
+fn all_verified<R: Abort + Threads + Sync>(
+    rt: &R,
+    alloc: Global,
+    module: &str,
+    rows: &str,
+) -> Result<(), NoMemory> {
     for row in rows.lines() {
         verified(rt, alloc, module, row)?;
     }
@@ -234,7 +245,7 @@ a =? a
 a =? a | -x";
 
 // The words are no command.
-fn refused(rt: &impl Abort, alloc: Global, row: &str) -> Result<(), NoMemory> {
+fn refused<R: Abort + Threads + Sync>(rt: &R, alloc: Global, row: &str) -> Result<(), NoMemory> {
     let words = words_of(alloc, row)?;
     assert_answer(
         rt,
@@ -270,7 +281,12 @@ fn chain(alloc: Global, count: u32) -> Result<String, NoMemory> {
 }
 
 // With terms of 124 symbols for its variable the tower has 999 symbols, and with terms of 125 it has 1,007.
-fn tower_told(rt: &impl Abort, alloc: Global, count: u32, said: &str) -> Result<(), NoMemory> {
+fn tower_told<R: Abort + Threads + Sync>(
+    rt: &R,
+    alloc: Global,
+    count: u32,
+    said: &str,
+) -> Result<(), NoMemory> {
     let term = chain(alloc, count)?;
     let words = format!(in alloc; "X =? {TOWER} | {{X:A --> {term}}}")?;
     tell(rt, alloc, LARGE, words.as_str(), said)

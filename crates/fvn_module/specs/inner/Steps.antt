@@ -2,7 +2,8 @@
 use Rattle.std.specs.Prelude.{ℕ, ◌≡◌, ◌≤◌, ◌⊎◌, List, length, slice_get, All, Some}
 use Rattle.fvn_lex.specs.declared.token.LexFault.{LexFault}
 use Rattle.fvn_lex.specs.declared.token.LexFault.TheVariants as lexed
-use Rattle.fvn_lex.specs.Cut.{Piece, pieces_of}
+use Rattle.fvn_lex.specs.Cut.{Piece}
+use Rattle.fvn_lex.specs.Parts.{HasPieces}
 use Rattle.fvn_lex.specs.Join.{IsPiece}
 use Rattle.fvn_base.specs.declared.limits.TheConstants.{EQUATIONS}
 use Rattle.fvn_forms.specs.Good.{IsGood}
@@ -153,13 +154,13 @@ pub record IsModuleOf (row : List Piece) (m : Contents) : Type 0 where
 
 -- the first fault of every text with these tokens, which are then no module that declares anything
 pub record IsRowFault (row : List Piece) (fault : ModuleFault) : Type 0 where
-  pub refuses : (bytes : Text) → pieces_of bytes ≡ Some row → Refuses bytes fault
+  pub refuses : (bytes : Text) → HasPieces bytes row → Refuses bytes fault
   pub none : (fault ≡ NoMemory) ⊎ ((f : Form) → IsFormOf row f → (m : Contents) → Declares f m → ⊥)
 
 -- the bytes have tokens, which are one written module that declares this
 pub record IsModuleAlone (bytes : Text) (m : Contents) : Type 0 where
   pub row : List Piece
-  pub cut : pieces_of bytes ≡ Some row
+  pub cut : HasPieces bytes row
   pub module_of : IsModuleOf row m
 
 -- the first fault of the bytes, which are then no module

@@ -1,5 +1,5 @@
 -- How the reader goes over attributes of operators.
-use Rattle.std.specs.Prelude.{◌||◌, ◌&&◌, Bool, true, false, if◌then◌else◌, List, [], ◌∷◌, Option, Some, None, codes}
+use Rattle.std.specs.Prelude.{◌&&◌, Bool, true, false, if◌then◌else◌, List, [], ◌∷◌, Option, Some, None, codes}
 use Rattle.std.specs.Str.{bytes_eq}
 use Rattle.fvn_lex.specs.Cut.{Piece}
 use Rattle.fvn_syntax.specs.Pieces.{Text, is_word, is_special}
@@ -8,7 +8,7 @@ use Rattle.fvn_module_syntax.specs.declared.statement.Attribute.TheVariants.{Ass
 use Rattle.fvn_module_syntax.specs.declared.statement.Feature.{Feature}
 use Rattle.fvn_module_statements.specs.declared.outcome.Reading.{Reading}
 use Rattle.fvn_module_statements.specs.declared.outcome.Reading.TheVariants.{Read, LeftOut, NoForm}
-use Rattle.fvn_module_syntax.specs.LeftOut.{left_out_in}
+use Rattle.fvn_module_syntax.specs.LeftOut.{is_next, left_out_in}
 use Rattle.fvn_module_statements.specs.inner.Gather.{gather}
 
 -- WORD
@@ -33,7 +33,7 @@ abbrev pub identity_of : List Piece → Option (Attribute × List Piece)
 identity_of [] = None
 identity_of (p ∷ []) = None
 identity_of (p ∷ q ∷ ps) =
-    if is_word p && (is_word q || is_special (codes "]") q) then Some (Identity p.text, q ∷ ps) else None
+    if is_word p && is_next q then Some (Identity p.text, q ∷ ps) else None
 
 -- the attribute of what was read
 abbrev pub made : {A : Type 0} → (A → Attribute) → Option (A × List Piece) → Option (Attribute × List Piece)

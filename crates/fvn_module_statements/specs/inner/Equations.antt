@@ -113,6 +113,16 @@ abbrev pub labelled_equation : Option (Option Text × List Piece) → Reading St
 labelled_equation None = NoForm
 labelled_equation (Some r) = left_of r.0 (term_of r.1)
 
--- what follows `eq`
+-- what follows `eq`, as it is read from left to right
 abbrev pub equation_of : List Piece → Reading Statement
 equation_of ps = labelled_equation (label_of ps)
+
+-- where there is no form, an equation is left out as long as `variant` is not named
+abbrev pub unless_unnamed : List Piece → Reading Statement → Reading Statement
+unless_unnamed ps (Read st) = Read st
+unless_unnamed ps (LeftOut f) = LeftOut f
+unless_unnamed ps NoForm = if list_any (is_name (codes "variant")) ps then NoForm else LeftOut feature.Equation
+
+-- what follows `eq`, or the form that is left out
+abbrev pub asked_equation : List Piece → Reading Statement
+asked_equation ps = unless_unnamed ps (equation_of ps)

@@ -1,14 +1,15 @@
 -- How the reader goes over a module.
-use Rattle.std.specs.Prelude.{ℕ, ◌+◌, ◌&&◌, Bool, if◌then◌else◌, List, [], ◌∷◌, ◌++◌, Option, Some, None, Result, Ok, Err, codes}
+use Rattle.std.specs.Prelude.{ℕ, ◌+◌, if◌then◌else◌, List, [], ◌∷◌, ◌++◌, Option, Some, None, Result, Ok, Err, codes}
 use Rattle.std.specs.Str.{bytes_eq}
 use Rattle.fvn_lex.specs.Cut.{Piece}
-use Rattle.fvn_syntax.specs.Pieces.{Text, is_name, is_dot}
+use Rattle.fvn_syntax.specs.Pieces.{Text, is_name}
 use Rattle.fvn_module_syntax.specs.declared.statement.Statement.{Statement}
 use Rattle.fvn_module_statements.specs.declared.outcome.Reading.{Reading}
 use Rattle.fvn_module_statements.specs.declared.outcome.Reading.TheVariants.{Read, LeftOut, NoForm}
 use Rattle.fvn_module_syntax.specs.declared.form.Form.{Form}
 use Rattle.fvn_module_statements.specs.declared.form.FormFault.{FormFault}
 use Rattle.fvn_module_statements.specs.declared.form.FormFault.TheVariants as fault
+use Rattle.fvn_module_syntax.specs.Words.{is_stop}
 use Rattle.fvn_module_statements.specs.inner.Gather.{bind}
 use Rattle.fvn_module_statements.specs.inner.Attributes.{word_of}
 use Rattle.fvn_module_statements.specs.inner.Names.{is_empty}
@@ -38,10 +39,6 @@ frame_of ps =
     bind (word_of a) (λ n.
     bind (behind (codes "is") n.1) (λ b.
     named_frame n.0 (before_end b))))
-
--- the dot
-abbrev pub is_stop : Piece → Bool
-is_stop p = is_dot p && bytes_eq p.text (codes ".")
 
 -- what stands before and behind the first dot
 abbrev pub split_dot : List Piece → Option (List Piece × List Piece)

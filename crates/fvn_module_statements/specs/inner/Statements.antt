@@ -21,7 +21,7 @@ use Rattle.fvn_module_syntax.specs.LeftOut.{feature_of}
 use Rattle.fvn_module_statements.specs.inner.Gather.{map_reading, gather}
 use Rattle.fvn_module_statements.specs.inner.Sorts.{rank_of}
 use Rattle.fvn_module_statements.specs.inner.Attributes.{is_some, attributes_of}
-use Rattle.fvn_module_statements.specs.inner.Equations.{equation_of}
+use Rattle.fvn_module_statements.specs.inner.Equations.{asked_equation}
 use Rattle.fvn_module_statements.specs.inner.Names.{is_empty, sort_names_of, groups_of, variables_of, split_colon, name_of}
 
 -- sorts and attributes of an operator
@@ -100,7 +100,7 @@ statement_behind ps (Some (Subsorts plural)) = groups_read plural (groups_of ps)
 statement_behind ps (Some Operator) = operator_of ps
 statement_behind ps (Some Operators) = operators_of ps
 statement_behind ps (Some (Variables plural)) = variables_read plural (variables_of ps)
-statement_behind ps (Some Equation) = equation_of ps
+statement_behind ps (Some Equation) = asked_equation ps
 
 -- a left-out form, or else the statement
 abbrev pub unless_left_out : Option Feature → Reading Statement → Reading Statement

@@ -1,8 +1,9 @@
 -- What the steps of the readers answer.
-use Rattle.std.specs.Prelude.{◌≡◌, ◌+◌, ◌≤◌, ◌⊎◌, List, [], map, Err}
+use Rattle.std.specs.Prelude.{◌≡◌, ◌+◌, ◌≤◌, ◌⊎◌, List, [], map}
 use Rattle.std.specs.List.{AllByRecursion}
 use Rattle.fvn_base.specs.declared.limits.TheConstants.{TEXT_SYMBOLS}
-use Rattle.fvn_lex.specs.Cut.{Piece, lex}
+use Rattle.fvn_lex.specs.Cut.{Piece}
+use Rattle.fvn_lex.specs.Parts.{IsFirstFault}
 use Rattle.fvn_terms.specs.declared.plain.Plain.{Plain}
 use Rattle.fvn_terms.specs.Term.{nodes}
 use Rattle.fvn_terms.specs.Plain.{term}
@@ -25,7 +26,7 @@ use Rattle.fvn_problems.specs.inner.Split.{halves_of}
 
 -- the fault of a text without tokens
 abbrev pub IsLexFault : Text → ProblemFault → Type 0
-IsLexFault bytes (Lex fault) = lex bytes ≡ Err fault
+IsLexFault bytes (Lex fault) = IsFirstFault bytes fault
 IsLexFault bytes NoText = ⊥
 IsLexFault bytes UnknownName = ⊥
 IsLexFault bytes Arity = ⊥

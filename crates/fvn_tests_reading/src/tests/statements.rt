@@ -114,6 +114,14 @@ op f : A A -> A [assoc comm right id: e] . => left out 1 Identity
 op f : A A -> A [assoc comm id: ] . => left out 1 Identity
 op f : A A -> A [assoc comm id: e (] . => left out 1 Identity
 op f : A A -> A [assoc comm id: (e)] . => left out 1 Identity
+op f : A A -> A [assoc comm id: s 0] . => left out 1 Identity
+op f : A A -> A [assoc comm id: s e ctor] . => left out 1 Identity
+op f : A A -> A [assoc comm id: s memo] . => left out 1 Attribute
+op f : A A -> A [assoc comm id: s left] . => left out 1 Attribute
+op f : A A -> A [assoc comm id: s prec 3] . => read, op 1 2 -> A 4
+op f : A A -> A [assoc comm id: prec prec 3] . => read, op 1 2 -> A 4
+op f : A A -> A [assoc comm prec 3 id: s 0] . => left out 1 Identity
+ops f g : A A -> A [comm assoc id: s 0 memo] . => left out 1 Identity
 op f : A A -> A [left] . => left out 1 Attribute
 op f : A A -> A [memo] . => left out 1 Attribute
 op f : A A -> A [iter ctor] . => left out 1 Attribute
@@ -174,24 +182,31 @@ eq a = b [owise (] . => left out 1 Attribute
 eq a = b [assoc] c . => left out 1 Attribute
 eq a = b [variant ( owise] . => statement 1
 eq a = b [variant label] . => statement 1
-eq a = b [label] . => statement 1
+eq a = b [label] . => left out 1 Equation
 eq a = b [label (x) variant] . => statement 1
-eq a = b [] . => statement 1
-eq a = b [ . => statement 1
+eq a = b [] . => left out 1 Equation
+eq a = b [ . => left out 1 Equation
 eq a = b [variant . => statement 1
 eq a = b variant . => statement 1
 eq a = b [variant] c . => statement 1
-eq a = b c . => statement 1
+eq a = b c . => left out 1 Equation
 eq a = b [variant] [label x] . => statement 1
 eq a = b = c [variant] . => statement 1
 eq a = b if c = d [variant] . => statement 1
-eq a b . => statement 1
+eq a b . => left out 1 Equation
+eq a b [owise] . => left out 1 Equation
+eq a = [owise] . => left out 1 Equation
+eq (a = b . => left out 1 Equation
+eq [l m] : a = b . => left out 1 Equation
+eq a = f(b c) [label x] . => left out 1 Equation
+eq variant b . => statement 1
+eq [variant] a = b . => statement 1
 eq a b [variant] . => statement 1
 eq a => b [variant] . => statement 1
 eq a=b [variant] . => statement 1
-eq . => statement 1
-eq a . => statement 1
-eq a = . => statement 1
+eq . => left out 1 Equation
+eq a . => left out 1 Equation
+eq a = . => left out 1 Equation
 eq a = [variant] . => statement 1
 eq = b [variant] . => statement 1
 eq [l] a = b [variant] . => statement 1

@@ -6,9 +6,12 @@ use Rattle.fvn_outside.specs.Source.{Takes, TakesCount}
 use Rattle.fvn_cmd.specs.declared.status.Status.{Status}
 use Rattle.fvn_cmd.specs.declared.status.Status.TheVariants.{Usage, ModuleRefused}
 use Rattle.fvn_cmd_check.specs.Checks.{IsCheckReply}
+use Rattle.fvn_cmd_terminates.specs.Replies.{IsTerminatesReply}
 use Rattle.fvn_cmd_verify.specs.Replies.{IsVerifyReply}
 use Rattle.fvn_cmd_unify.specs.Replies.{IsUnifyReply}
-use Rattle.fvn_tool.specs.Words.{Command, check, unify, verify}
+use Rattle.fvn_cmd_variants.specs.Replies.{IsVariantsReply}
+use Rattle.fvn_cmd_vunify.specs.Replies.{IsVunifyReply}
+use Rattle.fvn_tool.specs.Words.{Command, check, unify, verify, terminates, variants, vunify}
 use Rattle.fvn_tool.specs.Asked.{too_long_line}
 use Rattle.fvn_tool.specs.Runs.{Outside}
 use Rattle.fvn_tool.specs.Outcomes.{usage_line}
@@ -19,6 +22,9 @@ abbrev pub IsCommandReply : Command → List ℕ → Status → List ℕ → Typ
 IsCommandReply check bytes status text = IsCheckReply bytes status text
 IsCommandReply (unify word) bytes status text = IsUnifyReply bytes word status text
 IsCommandReply (verify problem bindings steps) bytes status text = IsVerifyReply bytes problem bindings steps status text
+IsCommandReply (terminates word) bytes status text = IsTerminatesReply bytes word status text
+IsCommandReply (variants word reach) bytes status text = IsVariantsReply bytes word reach status text
+IsCommandReply (vunify word reach) bytes status text = IsVunifyReply bytes word reach status text
 
 -- what the words as they are read, and the source, lead to
 pub data IsGivenOutcome (words : List (List ℕ)) (source : Outside) : Status → List ℕ → Type 0 where

@@ -13,4 +13,10 @@ returns c = record {
   bindings = c.bindings_are_determined.ensures;
   no_bindings = c.refused_bindings_bind_nothing.ensures;
   binding_faults = c.binding_faults_are_determined.ensures;
+  weights = c.weights_are_determined.ensures;
+  no_weights = c.refused_texts_weigh_nothing.ensures;
+  weight_faults = c.weight_faults_are_determined.ensures;
+  terms = c.queries_are_determined.ensures;
+  no_term = c.refused_queries_ask_nothing.ensures;
+  term_faults = c.query_faults_are_determined.ensures;
 }

@@ -3,4 +3,4 @@ use Rattle.fvn_module.proofs.OneText.{refused-apart}
 use Rattle.fvn_module.proofs.laws.refused_texts_declare_nothing.Goals as goal
 
 pub returns : goal.returns
-returns c = λ bytes f m h a. refused-apart c.statements_are_exact.ensures bytes f m h a
+returns c = λ bytes f m h a. refused-apart c.statements_are_determined.ensures bytes f m h a

@@ -1,18 +1,18 @@
 -- What is bound is bound by the text, and a fault is the first of the text.
-use Rattle.std.proofs.Common.{◌≡◌, true, false, Some, sym, ap, subst, ◌∙◌}
+use Rattle.std.proofs.Common.{◌≡◌, true, false, sym, subst}
 use Rattle.std.specs.Prelude.{All, IfOk, IfErr}
-use Rattle.fvn_lex.specs.Cut.{pieces_of}
+use Rattle.fvn_lex.specs.Parts.{HasPieces}
 use Rattle.fvn_problems.specs.Scopes.{unguarded}
 use Rattle.fvn_problems.specs.inner.Split.{AreTerms, IsBindingSplit}
 use Rattle.fvn_problems.specs.inner.Bound.{TellsOnce, Binds, BindsNothing}
-use Rattle.fvn_problems.proofs.BindingTexts.{bindings-terms, bindings-twice, bindings-ok, bindings-err}
+use Rattle.fvn_problems.proofs.BindingTexts.{bindings-formless, bindings-terms, bindings-twice, bindings-ok, bindings-err}
 use Rattle.fvn_problems.proofs.bindings.bindings_of.Goals as goal
 use Rattle.fvn_problems.proofs.bindings.bindings_of.Goals.{After-as_slice-in-Some}
 
 -- what is known where the text has its form
 module _ (c : After-as_slice-in-Some) where
-  cut : pieces_of c.args.bytes.now ≡ Some c.as_slice.result.now
-  cut = c.in_ok-row.ensures.ok ∙ ap Some (sym c.as_slice.ensures.value)
+  cut : HasPieces c.args.bytes.now c.as_slice.result.now
+  cut = subst (HasPieces c.args.bytes.now) (sym c.as_slice.ensures.value) c.in_ok-row.ensures.ok
 
   split : IsBindingSplit c.as_slice.result.now c.in-Some.list
   split = rw c.in-Some.is at c.in_ok-split_bindings.ensures.some
@@ -51,3 +51,8 @@ returns-clause-err c =
     bindings-err c.args.signature.now c.args.names.now c.args.problem.now c.args.bytes.now c.as_slice.result.now (cut w) c.in-Some.list (split w)
     (subst (λ l. TellsOnce u l true) c.as_slice-in-Some.ensures tells)
     c.bind.result (subst (λ l. IfErr c.bind.result (BindsNothing u c.args.problem.now l)) c.as_slice-in-Some-2.ensures c.bind.ensures.err)
+
+pub returns-in-None-clause-err : goal.returns-in-None-clause-err
+returns-in-None-clause-err c =
+    let cut = subst (HasPieces c.args.bytes.now) (sym c.as_slice.ensures.value) c.in_ok-row.ensures.ok in
+    bindings-formless c.args.signature.now c.args.names.now c.args.problem.now c.args.bytes.now c.as_slice.result.now cut (rw c.in-None.is at c.in_ok-split_bindings.ensures.none)

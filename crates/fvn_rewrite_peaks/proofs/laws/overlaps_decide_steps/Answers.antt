@@ -1,12 +1,10 @@
--- The law, by its lemmas.
+-- The law, by that of stand-ins.
 use Rattle.fvn_rewrite_laws.specs.Kinds.{HaveOneKind}
-use Rattle.fvn_rewrite_peaks.proofs.Overlaps.{steps_join}
+use Rattle.fvn_rewrite_peaks.proofs.Themselves.{stand_for_themselves}
 use Rattle.fvn_rewrite_peaks.proofs.laws.overlaps_decide_steps.Goals as goal
 
 pub returns : goal.returns
 returns c = λ d good completed equations admissible decreasing overlaps.
     let kinds : HaveOneKind d equations = λ equation i. (admissible equation i).kinded.kinds in
-    steps_join d equations admissible (c.rewriting_is_lawful.ensures d equations) (c.sequences_are_lawful.ensures d equations)
-    (c.kinded_theories_are_lawful.ensures d good.fits equations kinds) (c.rules_are_lawful.ensures d good completed equations kinds)
-    (c.agreement_is_lawful.ensures d equations) (c.sequences_keep_sorts.ensures d good completed equations admissible decreasing)
-    (c.rules_are_coherent.ensures d good completed equations admissible) (c.instances_step_at_parts.ensures d good completed equations admissible) overlaps
+    c.stand_ins_decide_steps.ensures d good completed equations admissible decreasing
+    (stand_for_themselves d equations admissible (c.rules_are_lawful.ensures d good completed equations kinds) overlaps)

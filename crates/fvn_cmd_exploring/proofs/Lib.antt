@@ -1,0 +1,3 @@
+-- Lemmas on what is explored in a module, for callers.
+pub mod Settings
+pub mod Ending

@@ -1,0 +1,3 @@
+-- The words of explorations in a module.
+pub mod Searches
+pub mod Ends

@@ -1,0 +1,4 @@
+-- The words of the reply to `terminates`.
+pub mod Weighings
+pub mod Replies
+pub mod inner

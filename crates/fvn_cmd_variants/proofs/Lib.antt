@@ -1,0 +1,4 @@
+-- The lemmas of the crate.
+mod Headline
+mod Listed
+mod Replied

@@ -1,0 +1,159 @@
+//! The reply to `variants`.
+ghost use Rattle.std.specs.Prelude.{IfOk};
+ghost use Rattle.fvn_terms.specs.Plain.{term};
+ghost use Rattle.fvn_terms.specs.Signature.{IsTerm};
+ghost use Rattle.fvn_module_loading.specs.Loading.{HasHarmlessSides};
+ghost use Rattle.fvn_cmd.specs.Texts.{bytes_of};
+ghost use Rattle.fvn_cmd_exploring.specs.Searches.{AreSomeWorkers, IsSearchable, KeepsSome};
+ghost use Rattle.fvn_cmd_variants.specs.Replies.{IsAnswer, IsVariantsReply};
+ghost use Rattle.fvn_cmd_variants.specs.inner.Steps.{IsStartOf, IsTermIn, RepliesIn};
+
+use crate::lines::lines_of;
+use crate::searching::searched;
+use fvn_answer::{answer_text, equal_lines_cover};
+use fvn_cmd::{Answer, Text, refuse_module, refuse_problem};
+use fvn_cmd_exploring::{Reach, Search, end_told, loss_after};
+use fvn_cmd_unify::status_of_end;
+use fvn_cohere::harmless_equations_are_admissible;
+use fvn_cover::Gate;
+use fvn_flat::{Flat, flatten};
+use fvn_module::Module;
+use fvn_module_engines::extend;
+use fvn_module_loading::load;
+use fvn_problems::{Query, query_names_are_words, query_names_differ, read_term};
+use fvn_signature::Signature;
+use fvn_terms::{NoMemory, Plain, rewriting_is_lawful};
+use std::alloc::Global;
+use std::thread::Threads;
+
+// The flat form of a term, as a list.
+fn start_of(alloc: Global, signature: &Signature, t: &Plain) -> Result<Vec<Flat>, NoMemory>
+    requires { IsTerm signature.now (term t.now) }
+    ensures { IfOk result (λ start. IsStartOf signature.now (term t.now) start.items) }
+{
+    let form = flatten(alloc, signature, t)?;
+    let mut start = Vec::new(alloc);
+    start.push(form)?;
+    Ok(start)
+}
+
+// The answer to a term.
+fn answer<R: Threads + Sync, G: Gate>(
+    rt: &R,
+    gate: &G,
+    search: &Search<'_>,
+    query: &Query,
+) -> Result<Answer, NoMemory>
+    requires search { IsSearchable
+        search.now.declared.now search.now.rules.now search.now.reach search.now.workers }
+    requires query { IsTermIn search.now.declared.now query.now }
+    ensures { IfOk result (λ a. IsAnswer
+        search.now.declared.now query.now search.now.reach a.status (bytes_of a.text)) }
+{
+    equal_lines_cover();
+    rewriting_is_lawful();
+    let declared = search.declared;
+    let signature = declared.signature();
+    signature.recall_good();
+    signature.recall_completed();
+    let start = start_of(search.alloc, signature, &query.term)?;
+    let x = searched(rt, gate, search, start.as_slice())?;
+    let loss = loss_after(search.alloc, declared, &x.end)?;
+    let variants = x.variants.as_slice();
+    let lines = lines_of(search.alloc, declared, query, variants)?;
+    let end = end_told(search.alloc, search.reach, &x.end, loss, variants.len())?;
+    let text = answer_text(search.alloc, declared, lines, &end)?;
+    Ok(Answer {
+        status: status_of_end(&end),
+        text: Text::Made(text),
+    })
+}
+
+// The answer to a term in a module with its rules.
+fn answer_in<R: Threads + Sync, G: Gate>(
+    rt: &R,
+    gate: &G,
+    alloc: Global,
+    declared: &Module,
+    query: &Query,
+    reach: Reach,
+    workers: u32,
+) -> Result<Answer, NoMemory>
+    requires harmless { HasHarmlessSides declared.now }
+    requires query { IsTermIn declared.now query.now }
+    requires reach { KeepsSome reach }
+    requires workers { AreSomeWorkers workers }
+    ensures { IfOk result (λ a. IsAnswer declared.now query.now reach a.status (bytes_of a.text)) }
+{
+    declared.recall_readable();
+    harmless_equations_are_admissible();
+    let rules = extend(alloc, declared)?;
+    let search = Search {
+        alloc,
+        declared,
+        rules: &rules,
+        reach,
+        workers,
+    };
+    let a = answer(rt, gate, &search, query)?;
+    Ok(a)
+}
+
+// What is replied to the word of a term, where the module is loaded.
+fn reply_in<R: Threads + Sync, G: Gate>(
+    rt: &R,
+    gate: &G,
+    alloc: Global,
+    declared: &Module,
+    word: &[u8],
+    reach: Reach,
+    workers: u32,
+) -> Result<Answer, NoMemory>
+    requires harmless { HasHarmlessSides declared.now }
+    requires reach { KeepsSome reach }
+    requires workers { AreSomeWorkers workers }
+    ensures { IfOk result (λ a.
+        RepliesIn declared.now word.now reach a.status (bytes_of a.text)) }
+{
+    declared.recall_readable();
+    query_names_are_words();
+    query_names_differ();
+    match read_term(alloc, declared.signature(), declared.names(), word) {
+        Err(fault) => {
+            let reply = refuse_problem(alloc, fault)?;
+            Ok(reply)
+        }
+        Ok(query) => {
+            let reply = answer_in(rt, gate, alloc, declared, &query, reach, workers)?;
+            Ok(reply)
+        }
+    }
+}
+
+/// What is replied to the text of a module and the word of a term: its variants, found so far by so many workers, or
+/// what is refused.
+pub fn variants_reply<R: Threads + Sync, G: Gate>(
+    rt: &R,
+    gate: &G,
+    alloc: Global,
+    bytes: &[u8],
+    word: &[u8],
+    reach: Reach,
+    workers: u32,
+) -> Result<Answer, NoMemory>
+    requires reach { KeepsSome reach }
+    requires workers { AreSomeWorkers workers }
+    ensures { IfOk result (λ a.
+        IsVariantsReply bytes.now word.now reach a.status (bytes_of a.text)) }
+{
+    match load(alloc, bytes) {
+        Ok(declared) => {
+            let reply = reply_in(rt, gate, alloc, &declared, word, reach, workers)?;
+            Ok(reply)
+        }
+        Err(fault) => {
+            let reply = refuse_module(alloc, &fault)?;
+            Ok(reply)
+        }
+    }
+}

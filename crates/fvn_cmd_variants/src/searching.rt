@@ -1,0 +1,73 @@
+//! The search for variants of forms in a module.
+ghost use Rattle.std.specs.Prelude.{IfOk};
+ghost use Rattle.fvn_fold.specs.Starts.{IsStartable};
+ghost use Rattle.fvn_cmd_exploring.specs.Searches.{IsExploredBy, IsModuleSolver, IsSearchable, IsSearched};
+
+use fvn_axunify::{AxiomUnify, SolveLimits};
+use fvn_base::limits::{TERM_SYMBOLS, UNIFIERS};
+use fvn_closure::explorations_are_lawful;
+use fvn_cmd_exploring::Search;
+use fvn_cover::Gate;
+use fvn_exploring::Explored;
+use fvn_flat::{AxiomSolver, Flat};
+use fvn_fold::explore;
+use fvn_narrow::Narrower;
+use fvn_terms::NoMemory;
+use fvn_theory::Bounds;
+use std::thread::Threads;
+
+// What is found of the variants of forms by any solver modulo the axioms.
+fn searched_by<R: Threads + Sync, G: Gate, A: AxiomSolver>(
+    rt: &R,
+    gate: &G,
+    search: &Search<'_>,
+    solver: &A,
+    start: &[Flat],
+) -> Result<Explored, NoMemory>
+    requires search { IsSearchable
+        search.now.declared.now search.now.rules.now search.now.reach search.now.workers }
+    requires start { IsStartable search.now.declared.now.signature start.now }
+    requires solver { IsModuleSolver search.now.declared.now
+        (A.signature solver.now) (A.most_unifiers solver.now) (A.most_symbols solver.now) }
+    ensures { IfOk result (IsExploredBy search.now.declared.now search.now.reach
+        (A.drawn solver.now) start.now) }
+{
+    let signature = search.declared.signature();
+    let bounds = Bounds {
+        steps: search.reach.steps,
+        size: TERM_SYMBOLS,
+    };
+    let narrower = Narrower::new(search.alloc, signature, search.rules, solver, bounds);
+    explorations_are_lawful(&narrower);
+    let x = explore(
+        rt,
+        search.alloc,
+        signature,
+        &narrower,
+        start,
+        search.limits(),
+        gate,
+    )?;
+    Ok(x)
+}
+
+// What is found of the variants of forms, and what is known of it.
+pub(crate) fn searched<R: Threads + Sync, G: Gate>(
+    rt: &R,
+    gate: &G,
+    search: &Search<'_>,
+    start: &[Flat],
+) -> Result<Explored, NoMemory>
+    requires search { IsSearchable
+        search.now.declared.now search.now.rules.now search.now.reach search.now.workers }
+    requires start { IsStartable search.now.declared.now.signature start.now }
+    ensures { IfOk result (IsSearched search.now.declared.now search.now.reach start.now) }
+{
+    let kept = SolveLimits {
+        unifiers: UNIFIERS,
+        size: TERM_SYMBOLS,
+    };
+    let solver = AxiomUnify::new(search.declared.signature(), kept);
+    let x = searched_by(rt, gate, search, &solver, start)?;
+    Ok(x)
+}

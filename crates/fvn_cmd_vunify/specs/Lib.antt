@@ -1,0 +1,5 @@
+-- The words of the reply to `vunify`.
+pub mod Asked
+pub mod Solutions
+pub mod Replies
+pub mod inner

@@ -1,0 +1,73 @@
+//! The search for unifiers in the theory of a module.
+ghost use Rattle.std.specs.Prelude.{IfOk};
+ghost use Rattle.fvn_cmd_exploring.specs.Searches.{IsModuleSolver, IsSearchable};
+ghost use Rattle.fvn_cmd_vunify.specs.inner.Steps.{AreSides, IsSolvedBy, IsSolvedIn};
+
+use fvn_axunify::{AxiomUnify, SolveLimits};
+use fvn_base::limits::{TERM_SYMBOLS, UNIFIERS};
+use fvn_cmd_exploring::Search;
+use fvn_cover::Gate;
+use fvn_flat::{AxiomSolver, Pairs};
+use fvn_fold::explore;
+use fvn_narrow::Narrower;
+use fvn_terms::NoMemory;
+use fvn_theory::Bounds;
+use fvn_vunify::{SolvedModulo, sides_of, variant_unify};
+use std::thread::Threads;
+
+// What is found of the unifiers of pairs by any solver modulo the axioms.
+fn solved_by<R: Threads + Sync, G: Gate, A: AxiomSolver>(
+    rt: &R,
+    gate: &G,
+    search: &Search<'_>,
+    solver: &A,
+    given: Pairs,
+) -> Result<SolvedModulo, NoMemory>
+    requires search { IsSearchable
+        search.now.declared.now search.now.rules.now search.now.reach search.now.workers }
+    requires given { AreSides search.now.declared.now.signature given.pairs }
+    requires solver { IsModuleSolver search.now.declared.now
+        (A.signature solver.now) (A.most_unifiers solver.now) (A.most_symbols solver.now) }
+    ensures { IfOk result (IsSolvedBy search.now.declared.now search.now.reach
+        (A.drawn solver.now) given.pairs) }
+{
+    let signature = search.declared.signature();
+    let bounds = Bounds {
+        steps: search.reach.steps,
+        size: TERM_SYMBOLS,
+    };
+    let narrower = Narrower::new(search.alloc, signature, search.rules, solver, bounds);
+    let sides = sides_of(search.alloc, given)?;
+    let x = explore(
+        rt,
+        search.alloc,
+        signature,
+        &narrower,
+        sides.as_slice(),
+        search.limits(),
+        gate,
+    )?;
+    let r = variant_unify(search.alloc, signature, &narrower, solver, x)?;
+    Ok(r)
+}
+
+// What is found of the unifiers of pairs in the theory of the module.
+pub(crate) fn solved<R: Threads + Sync, G: Gate>(
+    rt: &R,
+    gate: &G,
+    search: &Search<'_>,
+    given: Pairs,
+) -> Result<SolvedModulo, NoMemory>
+    requires search { IsSearchable
+        search.now.declared.now search.now.rules.now search.now.reach search.now.workers }
+    requires given { AreSides search.now.declared.now.signature given.pairs }
+    ensures { IfOk result (IsSolvedIn search.now.declared.now search.now.reach given.pairs) }
+{
+    let kept = SolveLimits {
+        unifiers: UNIFIERS,
+        size: TERM_SYMBOLS,
+    };
+    let solver = AxiomUnify::new(search.declared.signature(), kept);
+    let r = solved_by(rt, gate, search, &solver, given)?;
+    Ok(r)
+}

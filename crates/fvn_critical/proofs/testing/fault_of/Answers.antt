@@ -1,0 +1,45 @@
+-- The rule with new variables.
+use Rattle.std.proofs.Common.{refl, sym, ◌∙◌, subst}
+use Rattle.std.specs.Prelude.{Contains}
+use Rattle.fvn_terms.specs.declared.declarations.Declarations.{Declarations}
+use Rattle.fvn_flat.specs.Fits.{Fits}
+use Rattle.fvn_places.specs.Paths.{paths}
+use Rattle.fvn_rewrite_rules.specs.declared.rule.Rule.{Rule}
+use Rattle.fvn_rewrite.specs.Usable.{equations_by}
+use Rattle.fvn_critical_pairs.specs.Overlaps.{IsRenewed}
+use Rattle.fvn_critical_pairs.proofs.GivenRules.{left_fits, right_fits}
+use Rattle.fvn_critical.specs.inner.Testing.{Each, JoinAt, IsJoinedBy}
+use Rattle.fvn_critical.proofs.Forms.{used_by}
+use Rattle.fvn_critical.proofs.Covering.{weaker}
+use Rattle.fvn_critical.proofs.testing.fault_of.Goals as goal
+
+pub renewed-requires : goal.renewed-requires
+renewed-requires g c =
+    let r = c.args.tester.now.rewriter in
+    let good = c.recall.ensures.good in
+    let completed = c.recall.ensures.completed in
+    let usable = c.recall.ensures.usable in
+    let rules = c.rules_are_lawful.ensures r.signature good completed (equations_by r) (λ e i. (usable.admissible e i).kinded.kinds) in
+    let used = used_by r good completed usable in record {
+      left = subst (λ (d : Declarations). Fits d c.args.rule.now.left) (sym c.signature.ensures) (left_fits r.signature r.rules used rules c.args.rule.now c.requires.rule);
+      right = subst (λ (d : Declarations). Fits d c.args.rule.now.right) (sym c.signature.ensures) (right_fits r.signature r.rules used rules c.args.rule.now c.requires.rule);
+    }
+
+pub fault_along-requires-clause-outer : goal.fault_along-requires-clause-outer
+fault_along-requires-clause-outer g c lives order =
+    let new = c.in_ok-new.new in (c.args.rule.now, c.requires.rule, subst (λ (d : Declarations). IsRenewed d new.next c.args.rule.now new.rule) c.signature.ensures c.in_ok-new.ensures)
+
+pub fault_along-requires-clause-list : goal.fault_along-requires-clause-list
+fault_along-requires-clause-list g c lives order = c.as_slice.ensures.value ∙ c.in_ok-list.ensures
+
+pub returns : goal.returns
+returns g c =
+    let r = c.args.tester.now.rewriter in
+    let new = c.in_ok-new.new in
+    weaker r (g.A.AxiomSolver.drawn c.args.tester.now.solver.now) (g.A.AxiomSolver.most_unifiers c.args.tester.now.solver.now) (Each (JoinAt r new.rule) c.as_slice.result.now) (IsJoinedBy r c.args.rule.now)
+    (λ h. record {
+      next = new.next;
+      new = new.rule;
+      renewed = subst (λ (d : Declarations). IsRenewed d new.next c.args.rule.now new.rule) c.signature.ensures c.in_ok-new.ensures;
+      joins = λ o same k. subst (Each (JoinAt r new.rule)) (c.as_slice.ensures.value ∙ c.in_ok-list.ensures) h o.path (subst (λ (z : Rule). Contains (paths z.left) o.path) same k.listed) o same refl k;
+    }) c.in_ok-fault.fault c.in_ok-fault.ensures

@@ -1,0 +1,16 @@
+-- The lemmas of the crate.
+mod Expansions
+mod Gathers
+mod Nexts
+mod Growing
+mod Closed
+mod Ends
+mod Outcomes
+mod Turning
+mod Firsts
+mod Takings
+mod Pairs
+mod Chunks
+mod Begins
+mod Rounds
+mod Copies

@@ -1,0 +1,196 @@
+//! The next level of a level: its members are expanded, and their children folded into those that are kept.
+ghost use Rattle.std.specs.Prelude.{◌≡◌, ◌≤◌, true, ◌↔◌, IsTrue, IfOk, All, Contains, [], Bool, List};
+ghost use Rattle.fvn_cover.specs.declared.marking.TheConstants.{WORKERS};
+ghost use Rattle.fvn_cover.specs.Covering.{CoversVariant, AreAlike, IsFlatVariant};
+ghost use Rattle.fvn_terms.specs.CompleteSets.{IsApart};
+ghost use Rattle.fvn_cover.specs.Marks.{AreComparable, AreMarks};
+ghost use Rattle.fvn_exploring.specs.declared.ends.ExpandEnd.TheVariants.{Whole};
+ghost use Rattle.fvn_fold.specs.Levels.{AreExpansions};
+ghost use Rattle.fvn_fold.specs.inner.Gathering.{IsTask, AreReady, IsGatheredFrom, IsMarkedOrAdded, AreTaken, AreNext, IsMoreOfLevel, IsNextLevel};
+
+use crate::expanding::expand_level;
+use fvn_cover::{Gate, Kept, Variant, covering_of_variants_is_a_preorder, marks, with_member};
+use fvn_exploring::{ExpandEnd, Expander, Expansion, Limits};
+use fvn_signature::Signature;
+use fvn_terms::NoMemory;
+use std::alloc::Global;
+use std::thread::Threads;
+
+/// What an exploration goes on with: memory, the signature, the expander and the limits.
+#[derive(Drop)]
+pub(crate) struct Task<'a, E: Expander> {
+    pub alloc: Global,
+    pub sig: &'a Signature,
+    pub expander: &'a E,
+    pub limits: Limits,
+}
+
+// Members that are expanded at once, for each worker.
+const CHUNK: u32 = 64;
+
+// Children that were found, and the first end that is not Whole, if there is one.
+#[derive(Drop)]
+struct Gathered {
+    candidates: Vec<Variant>,
+    end: ExpandEnd,
+}
+
+/// The next level, and the first end of a member that is not Whole, if there is one.
+#[derive(Drop)]
+pub(crate) struct Level {
+    pub next: Vec<Kept>,
+    pub end: ExpandEnd,
+}
+
+/// Whether the end is Whole.
+pub(crate) fn is_whole(end: &ExpandEnd) -> bool
+    ensures { IsTrue result ↔ (end.now ≡ Whole) }
+{
+    match end {
+        ExpandEnd::Whole => true,
+        ExpandEnd::Steps(_, _) => false,
+        ExpandEnd::Size(_) => false,
+        ExpandEnd::Basis(_, _) => false,
+        ExpandEnd::Unifiers(_, _) => false,
+    }
+}
+
+// The children of all expansions, up to the first whose end is not Whole.
+fn gather(alloc: Global, expansions: Vec<Expansion>) -> Result<Gathered, NoMemory>
+    ensures { IfOk result (λ r. IsGatheredFrom expansions.items r.candidates.items r.end) }
+{
+    let mut candidates = Vec::new(alloc);
+    for expansion in expansions {
+        let (children, end) = expansion.into_parts();
+        let mut more = children.into_vec();
+        candidates.append(&mut more)?;
+        if !is_whole(&end) {
+            return Ok(Gathered { candidates, end });
+        }
+    }
+    Ok(Gathered {
+        candidates,
+        end: ExpandEnd::Whole,
+    })
+}
+
+// The list with the candidate, unless it is marked or a member covers it, without those that it then covers.
+fn with_candidate(
+    alloc: Global,
+    sig: &Signature,
+    before: Vec<Kept>,
+    candidate: Variant,
+    mark: bool,
+) -> Result<Vec<Kept>, NoMemory>
+    requires flat { IsFlatVariant sig.now candidate × All (IsFlatVariant sig.now) before.items }
+    requires alike { All (λ k. AreAlike k candidate) before.items }
+    ensures { IfOk result (λ after. IsMarkedOrAdded sig.now mark before.items candidate after.items) }
+{
+    if mark {
+        return Ok(before);
+    }
+    let k = Kept::new(alloc, sig, candidate)?;
+    let after = with_member(alloc, sig, before, k)?;
+    Ok(after)
+}
+
+// The list with the candidates that are not marked, each if no member covers it, without those that it then covers.
+fn taken(
+    alloc: Global,
+    sig: &Signature,
+    kept: &[Kept],
+    before: Vec<Kept>,
+    candidates: Vec<Variant>,
+    marks: &[bool],
+) -> Result<Vec<Kept>, NoMemory>
+    requires comparable { AreComparable sig.now kept.now candidates.items }
+    requires marks { AreMarks sig.now kept.now candidates.items marks.now }
+    requires flat { All (IsFlatVariant sig.now) before.items }
+    requires apart { IsApart (CoversVariant sig.now) before.items }
+    requires alike { All (λ a. All (AreAlike a) before.items) candidates.items }
+    requires candidates { All (λ a. All (AreAlike a) candidates.items) candidates.items }
+    ensures { IfOk result (λ after. AreTaken sig.now kept.now before.items candidates.items after.items) }
+{
+    covering_of_variants_is_a_preorder();
+    let mut after = before;
+    let mut i = 0;
+    for candidate in candidates {
+        let mark = marks[i];
+        after = with_candidate(alloc, sig, after, candidate, mark)?;
+        i += 1;
+    }
+    Ok(after)
+}
+
+// Some members of a level: what the next level is with what their children add, and their first end that is not Whole.
+fn chunk_level<R: Threads + Sync, G: Gate, E: Expander>(
+    rt: &R,
+    task: &Task<'_, E>,
+    gate: &G,
+    kept: &[Kept],
+    members: &[Variant],
+    before: Vec<Kept>,
+) -> Result<Level, NoMemory>
+    requires task { IsTask (E.setting task.now.expander.now) task.now.sig.now task.now.limits }
+    requires ready { AreReady (E.setting task.now.expander.now) kept.now }
+    requires members { All (Contains kept.now) members.now }
+    requires before { AreNext (E.setting task.now.expander.now) (E.drawn task.now.expander.now) kept.now kept.now
+        before.items }
+    ensures { IfOk result (λ l. IsMoreOfLevel (E.setting task.now.expander.now) (E.drawn task.now.expander.now) kept.now
+        members.now before.items l.next.items l.end) }
+{
+    let workers = task.limits.workers;
+    let expansions = expand_level(rt, task.alloc, task.expander, members, workers, gate)?;
+    let found = gather(task.alloc, expansions)?;
+    let Gathered { candidates, end } = found;
+    let covered = marks(
+        rt,
+        task.alloc,
+        task.sig,
+        kept,
+        candidates.as_slice(),
+        workers,
+        gate,
+    )?;
+    let next = taken(
+        task.alloc,
+        task.sig,
+        kept,
+        before,
+        candidates,
+        covered.as_slice(),
+    )?;
+    Ok(Level { next, end })
+}
+
+/// The next level of a level, and the first end of a member that is not Whole, if there is one.
+pub(crate) fn next_level<R: Threads + Sync, G: Gate, E: Expander>(
+    rt: &R,
+    task: &Task<'_, E>,
+    gate: &G,
+    kept: &[Kept],
+    members: &[Variant],
+) -> Result<Level, NoMemory>
+    requires task { IsTask (E.setting task.now.expander.now) task.now.sig.now task.now.limits }
+    requires ready { AreReady (E.setting task.now.expander.now) kept.now }
+    requires members { All (Contains kept.now) members.now }
+    ensures { IfOk result (λ l. IsNextLevel (E.setting task.now.expander.now) (E.drawn task.now.expander.now) kept.now
+        members.now l.next.items l.end) }
+{
+    let size = (CHUNK as usize) * (task.limits.workers as usize);
+    let mut next = Vec::new(task.alloc);
+    let mut begin = 0;
+    while begin < members.len() {
+        let after = members.len().min(begin + size);
+        let level = chunk_level(rt, task, gate, kept, &members[begin..after], next)?;
+        if !is_whole(&level.end) {
+            return Ok(level);
+        }
+        next = level.next;
+        begin = after;
+    }
+    Ok(Level {
+        next,
+        end: ExpandEnd::Whole,
+    })
+}

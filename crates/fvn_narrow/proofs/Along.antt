@@ -1,0 +1,128 @@
+-- The turns along one path, in one member, and in all of them.
+use Rattle.std.proofs.Common.{◌≡◌, ◌≤◌, ◌<◌, ◌+◌, ℕ, zero, suc, List, [], ◌∷◌, map, length, get_or, None, Some, refl, sym, ap, ◌∙◌, subst, arith}
+use Rattle.std.specs.Prelude.{Contains, slice_get}
+use Rattle.std.proofs.lemmas.Option.{slice_get_within, slice_get_read}
+use Rattle.std.proofs.lemmas.List.Elements.{Contains-append_left, Contains-append_right}
+use Rattle.fvn_base.proofs.Membership.{contains_here, contains_later, contains_map}
+use Rattle.fvn_terms.specs.declared.plain.OpId.{OpId}
+use Rattle.fvn_terms.specs.Substitution.{Substitution}
+use Rattle.fvn_terms.specs.Unifiers.{Problem}
+use Rattle.fvn_forms.specs.Flat.{FlatTerm, FlatTerms, fvar, fapp, fnone, fmore, funpack}
+use Rattle.fvn_flat.specs.Forms.{head_of}
+use Rattle.fvn_flat.specs.Successors.{OccursIn}
+use Rattle.fvn_rewrite_rules.specs.declared.rule.Rule.{Rule}
+use Rattle.fvn_rewrite_rules.specs.Given.{headed}
+use Rattle.fvn_rewrite.specs.Usable.{Rewriting, equations_by}
+use Rattle.fvn_cover.specs.declared.variant.Variant.{Variant}
+use Rattle.fvn_exploring.specs.Children.{narrowed}
+use Rattle.fvn_exploring.specs.declared.ends.ExpandEnd.TheVariants.{Whole}
+use Rattle.fvn_exploring.specs.declared.ends.Expansion.{Expansion}
+use Rattle.fvn_places.specs.Paths.{LeadsTo, LeadsNowhere, paths, paths_from}
+use Rattle.fvn_narrow_children.specs.Starts.{IsStartOf}
+use Rattle.fvn_narrow_children.specs.Values.{AreIrreducible}
+use Rattle.fvn_places.proofs.PathFacts.{leads_once}
+use Rattle.fvn_narrow.specs.inner.Turns.{Turn, IsReady, IsTurnAt, AreFound, IsAtPart, IsThrough, IsAlong, IsInMember, IsAmongFirst, IsAny}
+use Rattle.fvn_narrow.proofs.Joined.{AreSoFar, nothing_found}
+
+one_form : (a b : FlatTerm) → Some a ≡ Some b → a ≡ b
+one_form a b e = cc
+
+none_is_some : (f : OpId) → None ≡ Some f → ⊥
+none_is_some f e = cc
+
+one_operator : (f g : OpId) → Some f ≡ Some g → f ≡ g
+one_operator f g e = cc
+
+-- a path that leads to a form with a head is listed
+listed_from : (k : ℕ) (ts : FlatTerms) (i : ℕ) (u : FlatTerm) → slice_get (funpack ts) i ≡ Some u → (path : List ℕ) → Contains (paths u) path → Contains (paths_from k ts) ((k + i) ∷ path)
+listed_from k fnone i u e path c = cc
+listed_from k (fmore t ts) zero u e path c =
+    let same : u ≡ t = sym (one_form t u e) in
+    let at : k ≡ k + 0 = omega arith in
+    Contains-append_left (map (λ p. k ∷ p) (paths t)) (paths_from (k + 1) ts) ((k + 0) ∷ path)
+    (subst (λ n. Contains (map (λ p. k ∷ p) (paths t)) (n ∷ path)) at (contains_map (λ p. k ∷ p) (paths t) path (subst (λ w. Contains (paths w) path) same c)))
+listed_from k (fmore t ts) (suc i) u e path c =
+    let at : k + 1 + i ≡ k + suc i = omega arith in
+    Contains-append_right (map (λ p. k ∷ p) (paths t)) (paths_from (k + 1) ts) ((k + suc i) ∷ path)
+    (subst (λ n. Contains (paths_from (k + 1) ts) (n ∷ path)) at (listed_from (k + 1) ts i u e path c))
+
+listed_here : (t : FlatTerm) (f : OpId) → head_of t ≡ Some f → Contains (paths t) []
+listed_here (fvar x) f e = cc
+listed_here (fapp g joined ts) f e = contains_here [] (paths_from 0 ts)
+
+pub leads_listed : (path : List ℕ) (t at : FlatTerm) (f : OpId) → LeadsTo path t at → head_of at ≡ Some f → Contains (paths t) path
+leads_listed [] t at f h e = listed_here t f (ap head_of h ∙ e)
+leads_listed (i ∷ path) (fvar x) at f h e = let q = h.1 in cc
+leads_listed (i ∷ path) (fapp g joined ts) at f h e =
+    let at_i : 0 + i ≡ i = omega arith in
+    contains_later [] (paths_from 0 ts) (i ∷ path)
+    (subst (λ n. Contains (paths_from 0 ts) (n ∷ path)) at_i (listed_from 0 ts i h.0 h.1 path (leads_listed path h.0 at f h.2 e)))
+
+module _ (r : Rewriting) (unifiers : ℕ) (drawn : Problem → Substitution → Type 0) (v : Variant) where
+  module _ (member : ℕ) (term : FlatTerm) (is : slice_get v.terms member ≡ Some term) where
+    same_term : (turn : Turn) → turn.member ≡ member → (there : FlatTerm) → (t : IsTurnAt r v there turn) → t.term ≡ term
+    same_term turn m there t = one_form t.term term (sym t.is ∙ ap (slice_get v.terms) m ∙ is)
+
+    -- along one path
+    module _ (path : List ℕ) where
+      at_end : (turn : Turn) → IsAlong member path turn → (there : FlatTerm) → IsTurnAt r v there turn → LeadsTo path term there
+      at_end turn a there t = subst (λ w. LeadsTo path w there) (same_term turn a.0 there t) (subst (λ p. LeadsTo p t.term there) a.1 t.leads)
+
+      pub nowhere : LeadsNowhere path term → (e : Expansion) → e.children ≡ [] → e.end ≡ Whole → AreFound r unifiers drawn v (IsAlong member path) e
+      nowhere none e children whole =
+          nothing_found r unifiers drawn v (IsAlong member path) e children whole (λ turn a there t. absurd (none there (at_end turn a there t)))
+
+      module _ (at : FlatTerm) (leads : LeadsTo path term at) where
+        head_there : (turn : Turn) → IsAlong member path turn → (there : FlatTerm) → (t : IsTurnAt r v there turn) → head_of at ≡ Some t.operator
+        head_there turn a there t = ap head_of (leads_once path term at there leads (at_end turn a there t)) ∙ t.heads
+
+        -- a variable has no turn
+        pub headless : head_of at ≡ None → (e : Expansion) → e.children ≡ [] → e.end ≡ Whole → AreFound r unifiers drawn v (IsAlong member path) e
+        headless none e children whole =
+            nothing_found r unifiers drawn v (IsAlong member path) e children whole (λ turn a there t. absurd (none_is_some t.operator (sym none ∙ head_there turn a there t)))
+
+        -- those by all needed rules
+        pub along : (f : OpId) → head_of at ≡ Some f → (rules : List Rule) → rules ≡ headed r.rules f → (e : Expansion) → AreFound r unifiers drawn v (IsAtPart member path rules) e → AreFound r unifiers drawn v (IsAlong member path) e
+        along f heads rules needed e found = record {
+          children = found.children;
+          whole = λ whole turn a there t.
+              let same : t.operator ≡ f = one_operator t.operator f (sym (head_there turn a there t) ∙ heads) in
+              found.whole whole turn (a.0, a.1, subst (λ l. Contains l turn.rule) (ap (headed r.rules) same ∙ sym needed) t.needed) there t;
+          cause = found.cause;
+        }
+
+    -- in one member
+    pub in_the_member : (list : List (List ℕ)) → list ≡ paths term → (children : List Variant) → AreSoFar r unifiers drawn v (IsThrough member list) children →
+        AreFound r unifiers drawn v (IsInMember member) record { children = children; end = Whole }
+    in_the_member list all children so_far = record {
+      children = so_far.children_are;
+      whole = λ whole turn m there t.
+          let listed : Contains (paths t.term) turn.path = leads_listed turn.path t.term there t.operator t.leads t.heads in
+          so_far.lift turn (m, subst (λ l. Contains l turn.path) (ap paths (same_term turn m there t) ∙ sym all) listed) there t;
+      cause = tt;
+    }
+
+  -- in all members
+  pub in_all : (count : ℕ) → length v.terms ≤ count → (children : List Variant) → AreSoFar r unifiers drawn v (IsAmongFirst count) children →
+      AreFound r unifiers drawn v IsAny record { children = children; end = Whole }
+  in_all count long children so_far = record {
+    children = so_far.children_are;
+    whole = λ whole turn m there t. let low = slice_get_within v.terms turn.member t.term t.is in so_far.lift turn (omega arith) there t;
+    cause = tt;
+  }
+
+-- a start with irreducible values is ready
+pub ready_start : (r : Rewriting) (next : ℕ) (v start : Variant) → IsStartOf r.signature next v start → AreIrreducible r.signature (equations_by r) start.vars start.subst → IsReady r start next
+ready_start r next v start o irreducible = record {
+  flat = o.flat;
+  others = λ x n. o.others x (λ c. n (subst (λ vars. Contains vars x) (sym o.vars) c));
+  holds = o.holds;
+  numbers = λ y i. o.numbers y (subst (λ vars. OccursIn r.signature vars (narrowed start) y) o.vars i);
+  positive = o.positive;
+  small = o.small;
+  irreducible = irreducible;
+}
+
+-- what is read of a list
+pub read_at : (terms l : List FlatTerm) (i : ℕ) (t : FlatTerm) → l ≡ terms → i < length terms → t ≡ get_or l i t → slice_get terms i ≡ Some t
+read_at terms l i t e within is = slice_get_read terms (length terms) i t refl within (is ∙ ap (λ m. get_or m i t) e)

@@ -1,0 +1,113 @@
+-- What is met in a turn fits, and part and left side have one kind.
+use Rattle.std.proofs.Common.{◌≡◌, ◌≤◌, ℕ, true, false, List, [], ◌∷◌, Some, sym, ◌∙◌, subst, inl, inr, arith}
+use Rattle.std.specs.Prelude.{Contains, slice_get}
+use Rattle.std.proofs.lemmas.Option.{slice_get_within, get_or_from_slice_get}
+use Rattle.std.proofs.lemmas.List.Elements.{All-contains, All-from_recursion}
+use Rattle.fvn_base.proofs.Membership.{contains_map}
+use Rattle.fvn_terms.specs.declared.plain.OpId.{OpId}
+use Rattle.fvn_terms.specs.declared.plain.SortId.{SortId}
+use Rattle.fvn_terms.specs.declared.declarations.Rank.{Rank}
+use Rattle.fvn_terms.specs.declared.declarations.Declarations.{Declarations}
+use Rattle.fvn_terms.specs.Term.{Term, var}
+use Rattle.fvn_terms.specs.Signature.{kind, declared, HasKind}
+use Rattle.fvn_terms.specs.Substitution.{apply}
+use Rattle.fvn_terms.specs.Equality.{two}
+use Rattle.fvn_forms.specs.Flat.{FlatTerm, fvar, fapp, fnone, fmore, plain}
+use Rattle.fvn_forms.specs.Settled.{Settled}
+use Rattle.fvn_forms.specs.FitsKinds.{FitsKinds}
+use Rattle.fvn_forms.specs.Good.{IsGood}
+use Rattle.fvn_forms.proofs.Eval.{canon_settled}
+use Rattle.fvn_flat.specs.Fits.{Fits, AllFit}
+use Rattle.fvn_flat.specs.Forms.{head_of, args_of}
+use Rattle.fvn_flat.specs.Rules.{IsRuleFrom, IsRuleOf}
+use Rattle.fvn_flat.proofs.Fitting.{args_fit}
+use Rattle.fvn_cover.specs.declared.variant.Variant.{Variant}
+use Rattle.fvn_rewrite_laws.specs.Laws.{RuleLaws}
+use Rattle.fvn_theory.specs.Equations.{sides_of}
+use Rattle.fvn_rewrite.specs.Usable.{Rewriting, AreUsable, equations_by}
+use Rattle.fvn_rewrite_rules.specs.declared.rule.Rule.{Rule}
+use Rattle.fvn_rewrite_rules.specs.Given.{headed, HasOldVariables, IsNumberedRule}
+use Rattle.fvn_places.specs.Paths.{LeadsTo}
+use Rattle.fvn_places.specs.Putting.{KeepsKindsOf}
+use Rattle.fvn_narrow.specs.inner.Turns.{Turn, IsTurnAt}
+use Rattle.fvn_narrow.proofs.Turning.{IsFitTurn}
+
+item_in : {A : Type 0} (l : List A) (i : ℕ) (a : A) → slice_get l i ≡ Some a → Contains l a
+item_in l i a e = (i, slice_get_within l i a e, get_or_from_slice_get l i a a e)
+
+fits_in : {d : Declarations} (l : List FlatTerm) (t : FlatTerm) → AllFit d l → Contains l t → Fits d t
+fits_in {d} l t h c = All-contains (Fits d) l t (All-from_recursion (Fits d) l h) c
+
+module _ (d : Declarations) (fits : FitsKinds d) where
+  -- what stands at the end of a path fits
+  pub path_fits : (path : List ℕ) (t at : FlatTerm) → Fits d t → LeadsTo path t at → Fits d at
+  path_fits [] t at h e = subst (Fits d) e h
+  path_fits (i ∷ path) t at h l = path_fits path l.0 at (fits_in (args_of t) l.0 (args_fit t d fits h) (item_in (args_of t) i l.0 l.1)) l.2
+
+  -- a form has the kind that its head gives
+  record HasRank (f : OpId) (k : SortId) : Type 0 where
+    rank : Rank
+    listed : Contains (declared d f).ranks rank
+    result : kind d rank.result ≡ k
+
+  rank_of_head : (f : OpId) (t : FlatTerm) → Settled d t → head_of t ≡ Some f → (k : SortId) → HasKind d (plain t) k → HasRank f k
+  rank_of_head f (fvar x) s e k h = cc
+  rank_of_head f (fapp g true fnone) s e k h = let n : 2 ≤ 0 = s.0.two_or_more in absurd (omega arith)
+  rank_of_head f (fapp g true (fmore t fnone)) s e k h = let n : 2 ≤ 1 = s.0.two_or_more in absurd (omega arith)
+  rank_of_head f (fapp g true (fmore t (fmore w ws))) s e k h = let q : g ≡ f = cc in subst (λ o. HasRank o k) q record { rank = h.rank; listed = h.listed; result = h.result }
+  rank_of_head f (fapp g false ts) s e k h = let q : g ≡ f = cc in subst (λ o. HasRank o k) q record { rank = h.rank; listed = h.listed; result = h.result }
+
+  -- so two forms with one head have one kind
+  pub one_kind : (f : OpId) (t u : FlatTerm) → Settled d t → Settled d u → head_of t ≡ Some f → head_of u ≡ Some f → (k q : SortId) → HasKind d (plain t) k → HasKind d (plain u) q → k ≡ q
+  one_kind f t u st su et eu k q h j =
+      let a = rank_of_head f t st et k h in
+      let b = rank_of_head f u su eu q j in
+      sym a.result ∙ (fits.agree f a.rank b.rank a.listed b.listed).1 ∙ b.result
+
+rule_settled : (d : Declarations) (equation : Term × Term) (l r : FlatTerm) → IsRuleFrom d equation l r → Settled d l × Settled d r
+rule_settled d equation l r (inl i) = (subst (Settled d) (sym i.left) (canon_settled d (apply i.by equation.0)), subst (Settled d) (sym i.right) (canon_settled d (apply i.by equation.1)))
+rule_settled d equation l r (inr e) = (
+  subst (Settled d) (sym e.left) (canon_settled d (two e.operator (plain e.inner_left) (var e.beside))),
+  subst (Settled d) (sym e.right) (canon_settled d (two e.operator (plain e.inner_right) (var e.beside))),
+)
+
+module _ (r : Rewriting) (good : IsGood r.signature) (usable : AreUsable r.signature r.rules) (rules : RuleLaws r.signature (equations_by r)) where
+  abbrev d : Declarations
+  d = r.signature
+
+  numbered : (f : OpId) (rule : Rule) → Contains (headed r.rules f) rule → IsNumberedRule d r.rules.equations rule
+  numbered f rule listed = All-contains (IsNumberedRule d r.rules.equations) r.rules.rules rule usable.rules.sound (usable.rules.given f rule listed).0
+
+  is_rule : (f : OpId) (rule : Rule) → Contains (headed r.rules f) rule → IsRuleOf d (equations_by r) rule.left rule.right
+  is_rule f rule listed =
+      let n = numbered f rule listed in
+      (sides_of n.equation, contains_map sides_of r.rules.equations n.equation (item_in r.rules.equations n.before n.equation n.is), n.made)
+
+  module _ (v : Variant) (terms : AllFit r.signature v.terms) (at : FlatTerm) (turn : Turn) (t : IsTurnAt r v at turn) where
+    pub fit_turn : IsFitTurn r v at turn
+    fit_turn =
+        let n = numbered t.operator turn.rule t.needed in
+        let s = rule_settled d (sides_of n.equation) turn.rule.left turn.rule.right n.made in
+        let rule = is_rule t.operator turn.rule t.needed in
+        let k = rules.kinds turn.rule.left turn.rule.right rule in record {
+          turn_is = t;
+          rule = rule;
+          old = All-contains HasOldVariables r.rules.rules turn.rule usable.rules.old (usable.rules.given t.operator turn.rule t.needed).0;
+          at_fits = path_fits d good.fits turn.path t.term at (fits_in v.terms t.term terms (item_in v.terms turn.member t.term t.is)) t.leads;
+          left_fits = record { flat = s.0; kinded = (k.kind, k.left) };
+          right_fits = record { flat = s.1; kinded = (k.kind, k.right) };
+        }
+
+    left_head : head_of turn.rule.left ≡ Some t.operator
+    left_head = (usable.rules.given t.operator turn.rule t.needed).1
+
+    -- part, left side and right side have one kind
+    pub same_kind : (k : SortId) → HasKind d (plain at) k → HasKind d (plain turn.rule.left) k × HasKind d (plain turn.rule.right) k
+    same_kind k h =
+        let f = fit_turn in
+        let sides = rules.kinds turn.rule.left turn.rule.right f.rule in
+        let e : sides.kind ≡ k = one_kind d good.fits t.operator turn.rule.left at f.left_fits.flat f.at_fits.flat left_head t.heads sides.kind k sides.left h in
+        (subst (HasKind d (plain turn.rule.left)) e sides.left, subst (HasKind d (plain turn.rule.right)) e sides.right)
+
+    pub right_keeps : KeepsKindsOf d at turn.rule.right
+    right_keeps k h = (same_kind k h).1

@@ -1,0 +1,3 @@
+-- What the contract of narrowing speaks of.
+pub mod Settings
+pub mod inner

@@ -1,0 +1,4 @@
+-- What private contracts speak of.
+pub mod Ends
+pub mod Joining
+pub mod Turns

@@ -1,0 +1,49 @@
+-- Values under a substitution, and which of them are reducible.
+use Rattle.std.proofs.Common.{◌≡◌, ◌<◌, ◌-◌, ◌^◌, ℕ, Bool, List, None, Some, refl, sym, ap, ◌∙◌, subst, arith}
+use Rattle.std.specs.Prelude.{Contains, Option, is_some, min, IfSome}
+use Rattle.fvn_terms.specs.declared.plain.Var.{Var}
+use Rattle.fvn_terms.specs.declared.declarations.Declarations.{Declarations}
+use Rattle.fvn_terms.specs.Theory.{Equations}
+use Rattle.fvn_terms.specs.Signature.{kind, IsSort}
+use Rattle.fvn_terms.specs.Rewriting.{IsIrreducible}
+use Rattle.fvn_forms.specs.Flat.{FlatTerm, plain, symbols}
+use Rattle.fvn_flat.specs.Bindings.{Bindings, bound, form_or, value, composed, BindingsFit, IsRestriction}
+use Rattle.fvn_flat.specs.Solving.{substitution}
+use Rattle.fvn_flat.proofs.Composing.{value-composed, restriction_fits}
+use Rattle.fvn_cover.specs.declared.variant.Variant.{Variant}
+use Rattle.fvn_rewrite_coherence.specs.Laws.{CoherenceLaws}
+use Rattle.fvn_rewrite_laws.specs.Normalised.{StepsTo, IsNormalForm}
+use Rattle.fvn_narrow_children.specs.Values.{AreValuesUnder, IsLargeValue, ReducibleAs}
+
+pub values_of_restriction : (d : Declarations) (v : Variant) (s all r : Bindings) → all ≡ composed d v.subst s → BindingsFit d all → IsRestriction v.vars all r → AreValuesUnder d v s r
+values_of_restriction d v s all r is fits own = record {
+  values = λ x c. ap (form_or x) (own.kept x c) ∙ ap (λ b. value b x) is ∙ value-composed d v.subst s x;
+  others = own.others;
+  fits = restriction_fits d v.vars all r own fits;
+}
+
+-- a bound form with too many symbols
+pub large_value_is : (vars : List Var) (s : Bindings) (size counted : ℕ) (x : Var) (t u : FlatTerm) → Contains vars x → bound s x ≡ Some t → u ≡ t → counted ≡ min (symbols t) (2 ^ 64 - 1) → size < counted → IsLargeValue vars s size u
+large_value_is vars s size counted x t u listed is copy count large = record {
+  variable = x;
+  listed = listed;
+  is = copy ∙ sym (ap (form_or x) is);
+  large = subst (λ w. size < symbols w) (sym copy) (omega arith);
+}
+
+module _ (d : Declarations) (equations : Equations) where
+  -- whether a step was found tells whether the form is reducible
+  pub reducible_as : (t : FlatTerm) (o : Option FlatTerm) → IfSome o (StepsTo d equations t) → (o ≡ None → IsNormalForm d equations t) → ReducibleAs d equations (plain t) (is_some o)
+  reducible_as t None some none = none refl
+  reducible_as t (Some u) some none = (plain u, some)
+
+  pub bound_reducible_as : (s : Bindings) (x : Var) (t : FlatTerm) (b : Bool) → bound s x ≡ Some t → ReducibleAs d equations (plain t) b → ReducibleAs d equations (substitution s x) b
+  bound_reducible_as s x t b is h = subst (λ o. ReducibleAs d equations (plain (form_or x o)) b) (sym is) h
+
+  -- a variable that is not bound stays, and is irreducible
+  pub unbound_irreducible : CoherenceLaws d equations → (s : Bindings) (x : Var) → IsSort d x.sort → bound s x ≡ None → IsIrreducible d equations (substitution s x)
+  unbound_irreducible laws s x sort is = subst (λ o. IsIrreducible d equations (plain (form_or x o))) (sym is) (laws.variables x (kind d x.sort, (sort, refl)))
+
+  -- a value that is as before
+  pub still_irreducible : (old new : Bindings) (x : Var) → value old x ≡ value new x → IsIrreducible d equations (substitution old x) → IsIrreducible d equations (substitution new x)
+  still_irreducible old new x e h = subst (λ t. IsIrreducible d equations (plain t)) e h

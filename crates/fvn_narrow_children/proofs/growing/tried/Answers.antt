@@ -1,0 +1,49 @@
+-- First the values are tested, and only then the terms brought to normal form.
+use Rattle.std.proofs.Common.{true, sym, subst}
+use Rattle.std.specs.Prelude.{All}
+use Rattle.fvn_terms.specs.declared.plain.Var.{Var}
+use Rattle.fvn_terms.specs.declared.declarations.Declarations.{Declarations}
+use Rattle.fvn_terms.specs.Signature.{IsSort}
+use Rattle.fvn_flat.specs.Bindings.{BindingsFit}
+use Rattle.fvn_rewrite.specs.Usable.{equations_by}
+use Rattle.fvn_narrow_children.specs.Values.{AreValuesUnder, IsLargeValue, AreIrreducible, AreReducibleAs}
+use Rattle.fvn_narrow_children.proofs.TriedFacts.{lost_is, large_stops}
+use Rattle.fvn_narrow_children.proofs.growing.tried.Goals as goal
+
+pub values_under-requires : goal.values_under-requires
+values_under-requires c = record {
+  values = subst (λ (d : Declarations). BindingsFit d c.args.v.now.subst) (sym c.signature.ensures) c.requires.variant.values;
+  subst = subst (λ (d : Declarations). BindingsFit d c.args.s.now) (sym c.signature.ensures) c.requires.unifier;
+}
+
+pub some_reducible-requires : goal.some_reducible-requires
+some_reducible-requires c =
+    let r = c.args.rewriter.now in record {
+      sorts = subst (All (λ (x : Var). IsSort r.signature x.sort)) (sym c.as_slice-vars.ensures) c.requires.variant.vars;
+      values = subst (λ (d : Declarations). BindingsFit d c.in_ok-subst.subst) c.signature.ensures c.in_ok-subst.ensures.fits;
+      old = subst (λ vars. AreIrreducible r.signature (equations_by r) vars c.args.v.now.subst) (sym c.as_slice-vars.ensures) c.requires.irreducible;
+    }
+
+pub with_terms-requires : goal.with_terms-requires
+with_terms-requires c =
+    let r = c.args.rewriter.now in record {
+      unifier = c.requires.unifier;
+      members = c.requires.members;
+      values = subst (λ (d : Declarations). AreValuesUnder d c.args.v.now c.args.s.now c.in_ok-subst.subst) c.signature.ensures c.in_ok-subst.ensures;
+      irreducible =
+          subst (λ vars. AreIrreducible r.signature (equations_by r) vars c.in_ok-subst.subst) c.as_slice-vars.ensures (rw c.if-lost.false at c.in_ok-lost.ensures);
+    }
+
+pub returns-then-lost : goal.returns-then-lost
+returns-then-lost c =
+    let r = c.args.rewriter.now in
+    lost_is r c.args.v.now c.args.members.now c.args.s.now c.in_ok-subst.subst
+    (subst (λ (d : Declarations). AreValuesUnder d c.args.v.now c.args.s.now c.in_ok-subst.subst) c.signature.ensures c.in_ok-subst.ensures)
+    (subst (λ vars. AreReducibleAs r.signature (equations_by r) vars c.in_ok-subst.subst true) c.as_slice-vars.ensures (rw c.if-lost.true at c.in_ok-lost.ensures))
+
+pub returns-in-Some : goal.returns-in-Some
+returns-in-Some c =
+    let r = c.args.rewriter.now in
+    large_stops r c.args.v.now c.args.members.now c.args.s.now c.in_ok-subst.subst c.requires.variant c.args.size c.requires.size c.in-Some.t
+    (subst (λ (d : Declarations). AreValuesUnder d c.args.v.now c.args.s.now c.in_ok-subst.subst) c.signature.ensures c.in_ok-subst.ensures)
+    (subst (λ vars. IsLargeValue vars c.in_ok-subst.subst c.args.size c.in-Some.t) c.as_slice-vars.ensures (rw c.in-Some.is at c.in_ok-large.ensures))

@@ -1,0 +1,4 @@
+-- What private contracts speak of.
+pub mod Renaming
+pub mod Resting
+pub mod Outcomes

@@ -1,0 +1,142 @@
+//! What becomes of a variant's terms and values under a substitution, and whether a value is reducible.
+ghost use Rattle.std.specs.Prelude.{◌≡◌, map, All, IsTrue, IfOk, IfSome};
+ghost use Rattle.fvn_terms.specs.Signature.{IsSort};
+ghost use Rattle.fvn_forms.specs.Flat.{plain};
+ghost use Rattle.fvn_forms.specs.Canon.{inst};
+ghost use Rattle.fvn_flat.specs.Bindings.{value, BindingsFit};
+ghost use Rattle.fvn_flat.specs.Fits.{Fits, AllFit};
+ghost use Rattle.fvn_flat.specs.Solving.{substitution};
+ghost use Rattle.fvn_rewrite.specs.Usable.{equations_by};
+ghost use Rattle.fvn_narrow_children.specs.Values.{AreValuesUnder, IsLargeValue, ReducibleAs, AreIrreducible, AreReducibleAs};
+
+use fvn_cover::Variant;
+use fvn_flat::{Flat, Subst};
+use fvn_rewrite::Rewriter;
+use fvn_rewrite_coherence::rules_are_coherent;
+use fvn_signature::Signature;
+use fvn_terms::{NoMemory, Var};
+use std::alloc::Global;
+
+// The instances of the forms.
+pub(crate) fn instances(
+    alloc: Global,
+    sig: &Signature,
+    s: &Subst,
+    ts: &[Flat],
+) -> Result<Vec<Flat>, NoMemory>
+    requires subst { BindingsFit sig.now s.now }
+    requires terms { AllFit sig.now ts.now }
+    ensures { IfOk result (λ us. us.items ≡ map (inst sig.now (value s.now)) ts.now) }
+{
+    let mut us = Vec::new(alloc);
+    for t in ts {
+        let u = s.apply(alloc, sig, t)?;
+        us.push(u)?;
+    }
+    Ok(us)
+}
+
+// The values of the variant's variables under the substitution.
+pub(crate) fn values_under(
+    alloc: Global,
+    sig: &Signature,
+    v: &Variant,
+    s: &Subst,
+) -> Result<Subst, NoMemory>
+    requires values { BindingsFit sig.now v.now.subst }
+    requires subst { BindingsFit sig.now s.now }
+    ensures { IfOk result (AreValuesUnder sig.now v.now s.now) }
+{
+    let all = v.subst.compose(alloc, sig, s)?;
+    let own = all.restrict(alloc, v.vars.as_slice())?;
+    Ok(own)
+}
+
+// A value with too many symbols.
+pub(crate) fn large_value(
+    alloc: Global,
+    vars: &[Var],
+    s: &Subst,
+    size: u64,
+) -> Result<Option<Flat>, NoMemory>
+    ensures { IfOk result (λ o. IfSome o (IsLargeValue vars.now s.now size)) }
+{
+    for x in vars {
+        match s.get(*x) {
+            Some(t) => {
+                if t.size() > size {
+                    let copy = t.copy(alloc)?;
+                    return Ok(Some(copy));
+                }
+            }
+            None => {}
+        }
+    }
+    Ok(None)
+}
+
+// Whether a step leads on from the form.
+fn steps_on(rewriter: &Rewriter<'_>, t: &Flat) -> Result<bool, NoMemory>
+    requires { Fits rewriter.now.signature t.now }
+    ensures { IfOk result
+        (ReducibleAs rewriter.now.signature (equations_by rewriter.now) (plain t.now)) }
+{
+    let found = rewriter.step(t)?;
+    Ok(found.is_some())
+}
+
+// Whether the value of the variable is reducible.
+fn is_reducible(rewriter: &Rewriter<'_>, s: &Subst, x: Var) -> Result<bool, NoMemory>
+    requires sort { IsSort rewriter.now.signature x.sort }
+    requires values { BindingsFit rewriter.now.signature s.now }
+    ensures { IfOk result
+        (ReducibleAs rewriter.now.signature (equations_by rewriter.now) (substitution s.now x)) }
+{
+    rewriter.recall();
+    rules_are_coherent();
+    match s.get(x) {
+        Some(t) => {
+            let is = steps_on(rewriter, t)?;
+            Ok(is)
+        }
+        None => Ok(false),
+    }
+}
+
+// Whether the variable has, with a form of its own, the value that it had.
+fn is_as_before(old: &Subst, new: &Subst, x: Var) -> bool
+    ensures { IsTrue result → value old.now x ≡ value new.now x }
+{
+    let Some(t) = old.get(x) else {
+        return false;
+    };
+    let Some(u) = new.get(x) else {
+        return false;
+    };
+    t.same(u)
+}
+
+/// Whether some new value is reducible, where the old ones are not. Those that are as before are not looked at.
+pub fn some_reducible(
+    rewriter: &Rewriter<'_>,
+    vars: &[Var],
+    old: &Subst,
+    new: &Subst,
+) -> Result<bool, NoMemory>
+    requires sorts { All (λ x. IsSort rewriter.now.signature x.sort) vars.now }
+    requires values { BindingsFit rewriter.now.signature new.now }
+    requires old { AreIrreducible rewriter.now.signature (equations_by rewriter.now) vars.now old.now }
+    ensures { IfOk result
+        (AreReducibleAs rewriter.now.signature (equations_by rewriter.now) vars.now new.now) }
+{
+    for x in vars {
+        if is_as_before(old, new, *x) {
+            continue;
+        }
+        let found = is_reducible(rewriter, new, *x)?;
+        if found {
+            return Ok(true);
+        }
+    }
+    Ok(false)
+}

@@ -1,0 +1,6 @@
+-- Lemmas on paths and clashes; the public ones are for callers.
+mod Measures
+pub mod PathFacts
+pub mod ClashFacts
+pub mod Replacing
+mod Arguments

@@ -1,0 +1,4 @@
+//! Tests of the test of confluence.
+
+mod telling;
+mod testing;

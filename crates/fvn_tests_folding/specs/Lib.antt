@@ -1,0 +1,2 @@
+-- What contracts of the tests speak of.
+pub mod Nothing

@@ -1,0 +1,11 @@
+-- The variant of no terms.
+use Rattle.std.specs.Prelude.{◌≡◌, []}
+use Rattle.fvn_terms.specs.declared.declarations.Declarations.{Declarations}
+use Rattle.fvn_flat.specs.Bindings.{BindingsFit}
+use Rattle.fvn_cover.specs.declared.variant.Variant.{Variant}
+
+-- it has neither terms nor variables, and its values fit
+pub record IsOfNothing (v : Variant) : Type 0 where
+  pub terms : v.terms ≡ []
+  pub vars : v.vars ≡ []
+  pub values : (d : Declarations) → BindingsFit d v.subst

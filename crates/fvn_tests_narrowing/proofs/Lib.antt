@@ -1,0 +1,2 @@
+-- Terms as variants that may be expanded.
+mod Starting

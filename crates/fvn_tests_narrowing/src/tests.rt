@@ -1,0 +1,5 @@
+//! Tests of narrowing.
+
+mod expanding;
+mod handing;
+mod texts;

@@ -1,0 +1,5 @@
+//! Tests of the reply to `vunify`, through the public call of its crate alone.
+#![tactic(auto)]
+
+#[cfg(test)]
+mod tests;

@@ -1,0 +1,5 @@
+-- What mirrors the code.
+pub mod Ends
+pub mod Names
+pub mod Tests
+pub mod Attempts

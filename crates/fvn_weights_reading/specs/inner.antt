@@ -1,0 +1,3 @@
+-- What the steps of the reader answer.
+pub mod Split
+pub mod Steps
