@@ -2,3 +2,4 @@
 mod explored;
 mod meetings;
 mod rows;
+mod theories;

@@ -43,7 +43,11 @@ LOSES 9 99 99 f(X) =? Y => 5 {X:A --> #1:A, Y:B --> g(#1:A)} | cause sorts 1
 FREE 9 99 99 g(X,b) =? g(a,Y) => 0 {X:S --> a, Y:S --> b} | complete 1
 FREE 9 99 99 f(X,a) =? f(Y,b) => 0 {X:S --> b, Y:S --> a} | {X:S --> f(#1:S,b), Y:S --> f(#1:S,a)} | complete 2
 FREE 9 99 99 f(X,Y,Z,W,A) =? f(B,C,D,E,F) => 5 bound basis f
+FREE 9 99 99 A =? g(B,B) /\\ B =? g(C,C) /\\ C =? g(D,D) /\\ D =? g(E,E) /\\ E =? g(F,F) /\\ F =? g(X,X) /\\ X =? g(Y,Y) /\\ Y =? g(Z,Z) /\\ Z =? g(W,W) => 5 bound size 1000
 FREE 9 99 99 X =? => 4 problem 2";
+
+// The same with a row for an answer of very many lines, of which the last is there.
+const LONG: &str = "FREE 9 99 99 f(X,Y) =? f(A,B,C,D,E,F,Z,W) => 5 bound unifiers 4096";
 
 // The number of a status.
 fn number_of(status: Status) -> &'static str {
@@ -96,8 +100,13 @@ fn lines_of(alloc: Global, lines: &str) -> Result<String, NoMemory> {
     Ok(text)
 }
 
-// The reply to the problem of a row has its number and its lines.
-fn assert_row<R: Threads + Abort + Sync>(rt: &R, alloc: Global, row: &str) -> Result<(), NoMemory> {
+// The reply to the problem of a row has its number and ends with its lines; no more is there if it is whole.
+fn assert_row<R: Threads + Abort + Sync>(
+    rt: &R,
+    alloc: Global,
+    row: &str,
+    whole: bool,
+) -> Result<(), NoMemory> {
     let (asked, said) = cut(row, " => ");
     let (number, lines) = cut(said, " ");
     let (name, after_name) = cut(asked, " ");
@@ -117,14 +126,26 @@ fn assert_row<R: Threads + Abort + Sync>(rt: &R, alloc: Global, row: &str) -> Re
         1,
     )?;
     assert_eq!(rt; number_of(reply.status), number, "{problem}");
-    assert!(rt; reply.text.as_slice() == text.as_bytes(), "{problem}");
+    assert!(rt;
+        reply.text.as_slice().ends_with(text.as_bytes()),
+        "{problem}"
+    );
+    assert!(rt;
+        !whole || reply.text.as_slice().len() == text.len(),
+        "{problem}"
+    );
     Ok(())
 }
 
 #[test]
 fn problems_are_replied_to(rt: HostRuntime) -> Result<(), NoMemory> {
     for row in REPLIES.lines() {
-        assert_row(&rt, rt.alloc(), row)?;
+        assert_row(&rt, rt.alloc(), row, true)?;
     }
     Ok(())
+}
+
+#[test]
+fn the_limit_of_unifiers_is_told(rt: HostRuntime) -> Result<(), NoMemory> {
+    assert_row(&rt, rt.alloc(), LONG, false)
 }

@@ -5,7 +5,7 @@ use Rattle.fvn_base.proofs.Options.{Some-injective}
 use Rattle.fvn_base.specs.declared.limits.TheConstants.{MODULE_BYTES}
 use Rattle.fvn_outside.specs.Source.{Takes, TakesCount}
 use Rattle.fvn_cmd.specs.declared.status.Status.{Status}
-use Rattle.fvn_cmd.specs.declared.status.Status.TheVariants.{Usage, ReadFault, WriteFault}
+use Rattle.fvn_cmd.specs.declared.status.Status.TheVariants.{Usage, ReadFault, WriteFault, NoMemory}
 use Rattle.fvn_cmd.specs.Statuses.{IsSilent, IsSpoken, IsAnswering, IsRefusing}
 use Rattle.fvn_cmd.specs.Texts.{Is}
 use Rattle.fvn_cmd_variants.specs.Solutions as of_terms
@@ -93,7 +93,7 @@ usage_only words source s t e (replied command bytes h n a r) = absurd (reply_no
 -- A run
 
 module _ (run : Run) (h : Leaves (IsOutcome run.words run.source) run.status run.sink) where
-  refuses_words : (AreNoCommand run.words → (run.status ≡ Usage) ⊎ (run.status ≡ WriteFault)) → RefusesWords run
+  refuses_words : (AreNoCommand run.words → (run.status ≡ Usage) ⊎ ((run.status ≡ WriteFault) ⊎ (run.status ≡ NoMemory))) → RefusesWords run
   refuses_words always = record {
     only = λ e. let g = Leaves-goes (IsOutcome run.words run.source) run.status run.sink (subst IsSpoken (sym e) tt) h in usage_only run.words run.source run.status g.0 e g.1;
     always = always;
@@ -134,7 +134,7 @@ module _ (run : Run) (h : Leaves (IsOutcome run.words run.source) run.status run
 
 -- the outcome that the steps give, what stays the same and the causes of faults are all that there is to prove of a run
 pub report : VerdictsAreExact → AnswersAreExact → ExploredAnswersAreExact → QuestionsAreDetermined → (run : Run) → Leaves (IsGivenOutcome run.words run.source) run.status run.sink → (run.status ≡ ReadFault → HasFailed run.source) → (run.status ≡ WriteFault → HasFailed run.sink) →
-    (AreNoCommand run.words → (run.status ≡ Usage) ⊎ (run.status ≡ WriteFault)) →
+    (AreNoCommand run.words → (run.status ≡ Usage) ⊎ ((run.status ≡ WriteFault) ⊎ (run.status ≡ NoMemory))) →
     (ReadNothing run.words → run.source.after ≡ run.source.before) → (IsSilent run.status → run.sink.after ≡ run.sink.before) →
     (run.source.faults_before < run.source.faults_after → run.status ≡ ReadFault) → IsReport run
 report verdicts exact explored questions run given read write always unread unwritten failed =

@@ -1,5 +1,4 @@
 -- Lemmas of this crate; none is for other crates.
-mod Digits
 mod Grammar
 mod Outcomes
 mod Questions

@@ -1,5 +1,5 @@
 -- How an outcome comes about.
-use Rattle.std.proofs.Common.{◌≡◌, ◌+◌, ◌⊎◌, ℕ, List, Some, None, refl, sym, subst, inl, inr}
+use Rattle.std.proofs.Common.{◌≡◌, ◌+◌, ◌⊎◌, ℕ, List, refl, sym, subst, inl, inr}
 use Rattle.fvn_base.specs.declared.limits.TheConstants.{MODULE_BYTES}
 use Rattle.fvn_outside.specs.Source.{TakesCount}
 use Rattle.fvn_outside.specs.Sink.{Appends}
@@ -13,18 +13,17 @@ use Rattle.fvn_cmd_vunify.specs.Solutions as modulo
 use Rattle.fvn_cmd_laws.proofs.Verified.{verdict_answering}
 use Rattle.fvn_cmd_laws.proofs.Unified.{end_answering}
 use Rattle.fvn_cmd_laws.proofs.Weighed.{weighing_answering}
-use Rattle.fvn_tool.specs.Words.{Command, check, unify, verify, terminates, variants, vunify}
+use Rattle.fvn_tool.specs.Words.{Command, check, unify, verify, terminates, variants, vunify, IsCommand, AreNoCommand}
 use Rattle.fvn_tool.specs.Runs.{Outside, Leaves}
 use Rattle.fvn_tool.specs.Asked.{too_long_line, IsRefused}
 use Rattle.fvn_tool.specs.Outcomes.{usage_line}
-use Rattle.fvn_tool.specs.inner.Reading.{command_of}
 use Rattle.fvn_tool.specs.inner.Steps.{IsCommandReply, IsGivenOutcome, is_usage, is_long, is_replied}
 
 module _ (words : List (List ℕ)) (source : Outside) (status : Status) (text : List ℕ) where
-  pub usage_outcome : status ≡ Usage → command_of words ≡ None → text ≡ usage_line → IsGivenOutcome words source status text
+  pub usage_outcome : status ≡ Usage → AreNoCommand words → text ≡ usage_line → IsGivenOutcome words source status text
   usage_outcome e none is = subst (λ s. IsGivenOutcome words source s text) (sym e) (is_usage none is)
 
-  pub too_long_outcome : (command : Command) → status ≡ ModuleRefused → command_of words ≡ Some command → TakesCount source.before source.after (MODULE_BYTES + 1) → text ≡ too_long_line → IsGivenOutcome words source status text
+  pub too_long_outcome : (command : Command) → status ≡ ModuleRefused → IsCommand words command → TakesCount source.before source.after (MODULE_BYTES + 1) → text ≡ too_long_line → IsGivenOutcome words source status text
   too_long_outcome command e is_command taken is = subst (λ s. IsGivenOutcome words source s text) (sym e) (is_long command is_command taken is)
 
 -- Statuses.

@@ -8,7 +8,6 @@ use Rattle.fvn_tool.specs.Asked.{summary, unifiers, verdict, termination, term_v
 use Rattle.fvn_tool.specs.Answered.{IsReply}
 use Rattle.fvn_tool.specs.Outcomes.{IsOutcome, no_command, too_long, replied}
 use Rattle.fvn_tool.specs.inner.Steps.{IsCommandReply, IsGivenOutcome, is_usage, is_long, is_replied}
-use Rattle.fvn_tool.proofs.Grammar.{command_read, no_command_read}
 
 module _ (verdicts : VerdictsAreExact) (answers : AnswersAreExact) (explored : ExploredAnswersAreExact) where
   reply : (c : Command) (bytes : List ℕ) → IsShort bytes → (s : Status) (t : List ℕ) → IsCommandReply c bytes s t → IsReply bytes c s t
@@ -91,6 +90,6 @@ module _ (verdicts : VerdictsAreExact) (answers : AnswersAreExact) (explored : E
       )
 
   pub given_outcome : (words : List (List ℕ)) (source : Outside) (s : Status) (t : List ℕ) → IsGivenOutcome words source s t → IsOutcome words source s t
-  given_outcome words source s t (is_usage none is) = no_command (no_command_read words none) is
-  given_outcome words source s t (is_long c e n is) = too_long c (command_read words c e) n is
-  given_outcome words source s t (is_replied c bytes e n d f r) = replied c bytes (command_read words c e) n d (reply c bytes f s t r)
+  given_outcome words source s t (is_usage none is) = no_command none is
+  given_outcome words source s t (is_long c e n is) = too_long c e n is
+  given_outcome words source s t (is_replied c bytes e n d f r) = replied c bytes e n d (reply c bytes f s t r)

@@ -2,11 +2,11 @@
 ghost use Rattle.std.specs.Prelude.{◌≡◌, IfOk};
 ghost use Rattle.fvn_tool.specs.Asked.{too_long_line};
 ghost use Rattle.fvn_tool.specs.Outcomes.{usage_line};
-ghost use Rattle.fvn_tool.specs.inner.Reading.{meant};
+ghost use Rattle.fvn_tool.specs.inner.Reading.{meant, IsFit};
 ghost use Rattle.fvn_tool.specs.inner.Steps.{IsCommandReply};
 ghost use Rattle.fvn_cmd.specs.Texts.{bytes_of};
 
-use crate::words::{Command, usual_reach};
+use crate::words::Command;
 use fvn_cmd::{Answer, Status};
 use fvn_cmd_check::check_reply;
 use fvn_cmd_terminates::terminates_reply;
@@ -46,6 +46,7 @@ pub(crate) fn reply<R: Threads + Sync, G: Gate>(
     bytes: &[u8],
     command: Command<'_>,
 ) -> Result<Answer, NoMemory>
+    requires { IsFit command }
     ensures { IfOk result (λ a.
         IsCommandReply (meant command.entry) bytes.now a.status (bytes_of a.text)) }
 {
@@ -56,9 +57,11 @@ pub(crate) fn reply<R: Threads + Sync, G: Gate>(
             verify_reply(alloc, bytes, problem, bindings, steps)
         }
         Command::Terminates(word) => terminates_reply(alloc, bytes, word),
-        Command::Variants(word) => {
-            variants_reply(rt, gate, alloc, bytes, word, usual_reach(), 1)
+        Command::Variants(word, reach, workers) => {
+            variants_reply(rt, gate, alloc, bytes, word, reach, workers)
         }
-        Command::Vunify(word) => { vunify_reply(rt, gate, alloc, bytes, word, usual_reach(), 1) }
+        Command::Vunify(word, reach, workers) => {
+            vunify_reply(rt, gate, alloc, bytes, word, reach, workers)
+        }
     }
 }

@@ -3,7 +3,6 @@
 
 mod answer;
 mod laws;
-mod limits;
 mod top;
 mod words;
 

@@ -1,12 +1,11 @@
 //! The top call.
-ghost use Rattle.std.specs.Prelude.{◌≡◌, ◌<◌, ◌⊎◌, map, string_bytes, None, ◌≢◌, IfOk, IfErr, IsOk, IsErrOf};
+ghost use Rattle.std.specs.Prelude.{◌≡◌, ◌<◌, ◌⊎◌, map, string_bytes, ◌≢◌, IfOk, IfErr, IsErrOf};
 ghost use Rattle.fvn_outside.specs.Faults.{Rose, NeverFails};
-ghost use Rattle.fvn_tool.specs.Words.{ReadNothing};
+ghost use Rattle.fvn_tool.specs.Words.{AreNoCommand, ReadNothing};
 ghost use Rattle.fvn_cmd.specs.Texts.{bytes_of};
 ghost use Rattle.fvn_cmd.specs.Statuses.{IsSilent};
 ghost use Rattle.fvn_tool.specs.Runs.{seen, Leaves};
 ghost use Rattle.fvn_tool.specs.Claims.{IsReport};
-ghost use Rattle.fvn_tool.specs.inner.Reading.{command_of};
 ghost use Rattle.fvn_tool.specs.inner.Steps.{IsGivenOutcome};
 
 use crate::laws::questions_are_determined;
@@ -29,8 +28,8 @@ fn respond<R: Threads + Sync, G: Gate, S: Source>(
     words: &[String],
     source: &mut S,
 ) -> Result<Answer, Status>
-    ensures unread { command_of (map string_bytes words.now) ≡ None → source.new ≡ source.old }
-    ensures usage { command_of (map string_bytes words.now) ≡ None → IsOk result }
+    ensures unread { AreNoCommand (map string_bytes words.now) → source.new ≡ source.old }
+    ensures usage { AreNoCommand (map string_bytes words.now) → IfErr result (λ s. s ≡ Status.NoMemory) }
     ensures outcome { IfOk result (λ a. IsGivenOutcome (map string_bytes words.now)
         (seen S.left S.faults source.old source.new) a.status (bytes_of a.text)) }
 
@@ -41,7 +40,11 @@ fn respond<R: Threads + Sync, G: Gate, S: Source>(
     ensures failed_read { S.faults source.old < S.faults source.new →
         IsErrOf result Status.ReadFault }
 {
-    let Some(command) = words::read_command(words) else {
+    let heard = match words::read_command(alloc, words) {
+        Err(NoMemory) => return Err(Status::NoMemory),
+        Ok(heard) => heard,
+    };
+    let Some(command) = heard else {
         return Ok(answer::usage());
     };
     match read_all(alloc, source, MODULE_BYTES) {
@@ -64,14 +67,15 @@ fn conclude<R: Threads + Sync, G: Gate, S: Source, K: Sink>(
     source: &mut S,
     out: &mut K,
 ) -> Status
-    ensures unread { command_of (map string_bytes words.now) ≡ None → source.new ≡ source.old }
+    ensures unread { AreNoCommand (map string_bytes words.now) → source.new ≡ source.old }
     ensures unwritten { IsSilent result → out.new ≡ out.old }
     ensures outcome { Leaves
         (IsGivenOutcome (map string_bytes words.now)
         (seen S.left S.faults source.old source.new))
         result (seen K.written K.faults out.old out.new) }
-    ensures usage { command_of (map string_bytes words.now) ≡ None →
-        (result ≡ Status.Usage) ⊎ (result ≡ Status.WriteFault) }
+    ensures usage { AreNoCommand (map string_bytes words.now) →
+        (result ≡ Status.Usage)
+        ⊎ ((result ≡ Status.WriteFault) ⊎ (result ≡ Status.NoMemory)) }
 
     ensures read_fault { result ≡ Status.ReadFault →
         Rose (S.faults source.old) (S.faults source.new) }

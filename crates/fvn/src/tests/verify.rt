@@ -77,7 +77,9 @@ const LOOP: &str =
 const OVER_LOOP: &str = "\
 f(a) =? a | {} | --steps | 5 ==> bound steps 5 f(a)
 X =? a /\\ f(a) =? a | {} | --steps | 5 ==> bound steps 5 f(a)
-X =? a /\\ X =? X | {} | --steps | 5 ==> no 1";
+X =? a /\\ X =? X | {} | --steps | 5 ==> no 1
+f(a) =? a | --steps=5 | {} ==> bound steps 5 f(a)
+--steps | 5 | f(a) =? a | -- | {} ==> bound steps 5 f(a)";
 
 const PLUS: &str =
     "fmod PLUS is sort Nat . op 0 : -> Nat . op s : Nat -> Nat . op + : Nat Nat -> Nat . vars X Y : Nat . eq +(0,Y) = Y [variant] . eq +(s(X),Y) = s(+(X,Y)) [variant] . endfm";
@@ -237,9 +239,11 @@ a =? a | {} | --steps
 a =? a | {} | --step | 5
 a =? a | {} | 5
 a =? a | {} | --steps | 5 | 5
+a =? a | {} | --steps | 5 | --steps=5
+a =? a | {} | --levels | 5
+a =? a | {} | --steps=
+a =? a | -- | {} | --steps=5
 a =? a | --steps | 5
-a =? a | --steps | 5 | {}
---steps | 5 | a =? a | {}
 a =? a
 -x | {}
 a =? a | -x";

@@ -14,7 +14,7 @@ use std::alloc::Global;
 use std::thread::Threads;
 
 /// The name of an end.
-fn end_name(end: &ExploreEnd) -> &'static str {
+pub fn end_name(end: &ExploreEnd) -> &'static str {
     match end {
         ExploreEnd::Complete => "complete",
         ExploreEnd::Levels(_) => "levels",

@@ -1,5 +1,5 @@
 -- What the steps of a run give.
-use Rattle.std.specs.Prelude.{◌≡◌, ◌≤◌, ◌+◌, ℕ, List, length, Some, None}
+use Rattle.std.specs.Prelude.{◌≡◌, ◌≤◌, ◌+◌, ℕ, List, length}
 use Rattle.std.specs.Io.KnownBytes.{IsAtEnd}
 use Rattle.fvn_base.specs.declared.limits.TheConstants.{MODULE_BYTES}
 use Rattle.fvn_outside.specs.Source.{Takes, TakesCount}
@@ -11,11 +11,10 @@ use Rattle.fvn_cmd_verify.specs.Replies.{IsVerifyReply}
 use Rattle.fvn_cmd_unify.specs.Replies.{IsUnifyReply}
 use Rattle.fvn_cmd_variants.specs.Replies.{IsVariantsReply}
 use Rattle.fvn_cmd_vunify.specs.Replies.{IsVunifyReply}
-use Rattle.fvn_tool.specs.Words.{Command, check, unify, verify, terminates, variants, vunify}
+use Rattle.fvn_tool.specs.Words.{Command, check, unify, verify, terminates, variants, vunify, IsCommand, AreNoCommand}
 use Rattle.fvn_tool.specs.Asked.{too_long_line}
 use Rattle.fvn_tool.specs.Runs.{Outside}
 use Rattle.fvn_tool.specs.Outcomes.{usage_line}
-use Rattle.fvn_tool.specs.inner.Reading.{command_of}
 
 -- this status with this text is the reply of the command's crate over the bytes of a module
 abbrev pub IsCommandReply : Command → List ℕ → Status → List ℕ → Type 0
@@ -28,10 +27,10 @@ IsCommandReply (vunify word reach) bytes status text = IsVunifyReply bytes word 
 
 -- what the words as they are read, and the source, lead to
 pub data IsGivenOutcome (words : List (List ℕ)) (source : Outside) : Status → List ℕ → Type 0 where
-  is_usage : {text : List ℕ} → command_of words ≡ None → text ≡ usage_line → IsGivenOutcome words source Usage text
-  is_long : {text : List ℕ} (command : Command) → command_of words ≡ Some command →
+  is_usage : {text : List ℕ} → AreNoCommand words → text ≡ usage_line → IsGivenOutcome words source Usage text
+  is_long : {text : List ℕ} (command : Command) → IsCommand words command →
       TakesCount source.before source.after (MODULE_BYTES + 1) → text ≡ too_long_line →
       IsGivenOutcome words source ModuleRefused text
   is_replied : {status : Status} {text : List ℕ} (command : Command) (bytes : List ℕ) →
-      command_of words ≡ Some command → Takes source.before source.after bytes → IsAtEnd source.after →
+      IsCommand words command → Takes source.before source.after bytes → IsAtEnd source.after →
       length bytes ≤ MODULE_BYTES → IsCommandReply command bytes status text → IsGivenOutcome words source status text

@@ -1,0 +1,2 @@
+-- The reader of words, as a function.
+pub mod Reading
