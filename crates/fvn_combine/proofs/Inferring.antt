@@ -15,7 +15,7 @@ use Rattle.fvn_combine.specs.declared.looking.Looked.TheVariants.{Over, Open, To
 
 pub none_admitted : (k : Combining) → IsCombining k → UnifiersGoWith → (s : State) → IsClosed k.declarations k.table s → HasNoValues k.declarations k.table s → (u : Substitution) → IsAdmittedBy k s u → ⊥
 none_admitted k is law s closed none u h =
-    none (value_at k.declarations u k.table.nodes) (law k.declarations is.good.fits (problem_of k.given) is.is_given.kinds k.table is.well_made is.table_of u h.0 s closed h.1)
+    none (value_at k.declarations u k.table.nodes) (law k.declarations is.good.fits (problem_of k.given) is.is_given.kinds k.table is.well_made is.table_of u h.0.unifies s closed h.1)
 
 -- nodes that have one value under all are in one class of its partition
 pub together_admitted : (k : Combining) → IsCombining k → UnifiersGoWith → (s : State) → IsClosed k.declarations k.table s → (i j : ℕ) → i < length k.table.nodes → j < length k.table.nodes → HaveOneValue k.declarations k.table s i j
