@@ -71,11 +71,9 @@ module _ (k : Combining) where
   abbrev pub IsAdmittedBy : State → Substitution → Type 0
   IsAdmittedBy s u = IsWanted k u × Admits s (kernel k.declarations u k.table.nodes)
 
-<<<<<<< HEAD
-  -- a question is open in the state; two nodes of which it is open are in one class, or in two, under each unifier that it admits and that is asked for; it admits none of these; a sum system of the problem under a partition is refused; or it is a leaf, which is opened
-=======
-  -- a question is open in the state; it admits no unifier; none is open, and a sum system of the problem under its partition is refused; or it is a leaf, which is opened
->>>>>>> 46745ce6ee7d2686bf59a821eca1fe36f76112ab
+  -- A question is open in the state; two nodes of which it is open are in one class, or in two, under each unifier that it
+  -- admits and that is asked for; it admits none of these; none is open, and a sum system of the problem under its
+  -- partition is refused; or it is a leaf, which is opened.
   abbrev pub IsLookedAt : State → Looked → Type 0
   IsLookedAt s Over = ⊥
   IsLookedAt s (Open i j) = (i < length k.table.nodes) × (j < length k.table.nodes) × IsOpen s i j
