@@ -82,8 +82,8 @@ module _ (k : Combining) (is : IsCombining k) (partitions : UnifiersPartition) w
   -- what holds of the classes of each unifier is taken on
   pub after_taking_on : (before after : List State) (Holds : (ℕ → ℕ) → Type 0) → IsTakenOn k.declarations k.table Holds before after → (below : List State) (last : State) → before ≡ below ++ last ∷ []
       → ((u : Substitution) → IsAdmittedBy k last u → Holds (kernel k.declarations u k.table.nodes))
-      → (u : Substitution) → IsKindUnifier k.declarations (problem_of k.given) u → IsAdmitted k before u ↔ (IsAdmitted k after u ⊎ IsCoveredAt k None u)
-  after_taking_on before after Holds m below last is_last holds u unifies = (
+      → (u : Substitution) → IsWanted k u → IsAdmitted k before u ↔ (IsAdmitted k after u ⊎ IsCoveredAt k None u)
+  after_taking_on before after Holds m below last is_last holds u wanted = (
     λ h. inl (subst (λ l. IsAdmitted k l u) (sym m.is) (forth (admitted_cases k u m.below (m.top ∷ []) (subst (λ l. IsAdmitted k l u) m.was h)))),
     λ h. elim h [
       | inl n ↦ subst (λ l. IsAdmitted k l u) (sym m.was) (back (admitted_cases k u m.below m.left (subst (λ l. IsAdmitted k l u) m.is n)))
@@ -97,9 +97,9 @@ module _ (k : Combining) (is : IsCombining k) (partitions : UnifiersPartition) w
       forth : IsAdmitted k m.below u ⊎ IsAdmitted k (m.top ∷ []) u → IsAdmitted k (m.below ++ m.left) u
       forth (inl b) = admitted_left k u m.below m.left b
       forth (inr t) =
-          let p = (partitions k.declarations is.good.fits (problem_of k.given) is.is_given.kinds k.table is.well_made is.table_of u unifies).partition in
+          let p = (partitions k.declarations is.good.fits (problem_of k.given) is.is_given.kinds k.table is.well_made is.table_of u wanted.unifies).partition in
           let a = admitted_one k u m.top t in
-          let fact = holds u (unifies, subst (λ x. Admits x (kernel k.declarations u k.table.nodes)) top_is a) in
+          let fact = holds u (wanted, subst (λ x. Admits x (kernel k.declarations u k.table.nodes)) top_is a) in
           admitted_right k u m.below m.left (m.all (kernel k.declarations u k.table.nodes) p a fact)
 
       back : IsAdmitted k m.below u ⊎ IsAdmitted k m.left u → IsAdmitted k (m.below ++ m.top ∷ []) u
