@@ -12,7 +12,7 @@ use std::alloc::Global;
 //
 // A term is written with each operator after its arguments, sums nested to the right. First comes how many
 // minimal solutions each sum operator has; then each shared class, as the number of its node, with the
-// operators that use it; then for each list of tags how many choices there are, how many of these leave no
+// operators that use it and may head its value; then for each list of tags how many choices there are, how many of these leave no
 // alias, and how many keep to what sorts ask, each modulo 40. `oracle/openings.py` prints these lines from the problems, by the definitions alone.
 const OPENED: &str = "A0 A1 k = A2 A3 k => 4 | | 777
 A0 A1 l = A2 A3 l => 4 | | 111
