@@ -1,5 +1,5 @@
 -- What the states of a tree admit when a question is asked, and when the last state is taken out.
-use Rattle.std.proofs.Common.{◌≡◌, ◌<◌, List, [], ◌∷◌, ◌++◌, length, refl, sym, ap, ◌∙◌, subst, inl, inr, arith, Contains, Option, Some, None}
+use Rattle.std.proofs.Common.{◌≡◌, ℕ, ◌<◌, List, [], ◌∷◌, ◌++◌, length, refl, sym, ap, ◌∙◌, subst, inl, inr, arith, Contains, Option, Some, None}
 use Rattle.std.specs.Prelude.{◌⊎◌, ◌↔◌, MatchOption, IfSome}
 use Rattle.std.proofs.lemmas.List.{length_push, get_or_append_left}
 use Rattle.std.proofs.lemmas.List.Elements.{All-contains, Contains-push, Contains-append_cases, Contains-append_left, Contains-append_right}
@@ -8,7 +8,7 @@ use Rattle.fvn_terms.specs.Substitution.{Substitution}
 use Rattle.fvn_flat.specs.Solving.{problem_of}
 use Rattle.fvn_combine_nodes.specs.Laws.{UnifiersPartition}
 use Rattle.fvn_combine_nodes.specs.States.{Admits, IsClosed}
-use Rattle.fvn_combine_nodes.specs.Trees.{AreClosed, IsAsked, weight}
+use Rattle.fvn_combine_nodes.specs.Trees.{AreClosed, IsAsked, IsTakenOn, weight}
 use Rattle.fvn_combine_nodes.specs.Unifiers.{kernel}
 use Rattle.fvn_combine_nodes.specs.declared.state.State.{State}
 use Rattle.fvn_combine.specs.Tasks.{Combining, IsCombining, IsWanted}
@@ -78,6 +78,33 @@ module _ (k : Combining) (is : IsCombining k) (partitions : UnifiersPartition) w
       back : IsAdmitted k a.below u ⊎ IsAdmitted k a.answers u → IsAdmitted k (a.below ++ a.top ∷ []) u
       back (inl b) = admitted_left k u a.below (a.top ∷ []) b
       back (inr w) = admitted_last k u a.below a.top (a.kept (kernel k.declarations u k.table.nodes) w)
+
+  -- what holds of the classes of each unifier is taken on
+  pub after_taking_on : (before after : List State) (Holds : (ℕ → ℕ) → Type 0) → IsTakenOn k.declarations k.table Holds before after → (below : List State) (last : State) → before ≡ below ++ last ∷ []
+      → ((u : Substitution) → IsAdmittedBy k last u → Holds (kernel k.declarations u k.table.nodes))
+      → (u : Substitution) → IsWanted k u → IsAdmitted k before u ↔ (IsAdmitted k after u ⊎ IsCoveredAt k None u)
+  after_taking_on before after Holds m below last is_last holds u wanted = (
+    λ h. inl (subst (λ l. IsAdmitted k l u) (sym m.is) (forth (admitted_cases k u m.below (m.top ∷ []) (subst (λ l. IsAdmitted k l u) m.was h)))),
+    λ h. elim h [
+      | inl n ↦ subst (λ l. IsAdmitted k l u) (sym m.was) (back (admitted_cases k u m.below m.left (subst (λ l. IsAdmitted k l u) m.is n)))
+      | inr n ↦ absurd n
+    ],
+  )
+    where
+      top_is : m.top ≡ last
+      top_is = (last_injective m.below below m.top last (sym m.was ∙ is_last)).1
+
+      forth : IsAdmitted k m.below u ⊎ IsAdmitted k (m.top ∷ []) u → IsAdmitted k (m.below ++ m.left) u
+      forth (inl b) = admitted_left k u m.below m.left b
+      forth (inr t) =
+          let p = (partitions k.declarations is.good.fits (problem_of k.given) is.is_given.kinds k.table is.well_made is.table_of u wanted.unifies).partition in
+          let a = admitted_one k u m.top t in
+          let fact = holds u (wanted, subst (λ x. Admits x (kernel k.declarations u k.table.nodes)) top_is a) in
+          admitted_right k u m.below m.left (m.all (kernel k.declarations u k.table.nodes) p a fact)
+
+      back : IsAdmitted k m.below u ⊎ IsAdmitted k m.left u → IsAdmitted k (m.below ++ m.top ∷ []) u
+      back (inl b) = admitted_left k u m.below (m.top ∷ []) b
+      back (inr w) = admitted_last k u m.below m.top (m.kept (kernel k.declarations u k.table.nodes) w)
 
 -- states before the last are closed
 pub closed_before : (k : Combining) (before after : List State) (s : State) → before ≡ after ++ s ∷ [] → AreClosed k.declarations k.table before → AreClosed k.declarations k.table after
