@@ -92,11 +92,15 @@ fn counted_within(
 {
     let mut odometer = wheels(alloc, sig, table, state, reading, lists, tags, true)?;
     let mut found: usize = 0;
-    while let Some(_numbers) = odometer.current() {
-        found = found.saturating_add(1);
-        odometer.advance();
+    'lists: loop {
+        match odometer.current() {
+            None => return Ok(found),
+            Some(_numbers) => {
+                found = found.saturating_add(1);
+                odometer.advance();
+            }
+        }
     }
-    Ok(found)
 }
 
 /// How many lists of numbers are valid, how many of these leave no alias, and how many keep to what sorts ask.
