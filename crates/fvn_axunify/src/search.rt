@@ -71,7 +71,7 @@ pub(crate) fn search(task: &Task) -> Result<Found, NoMemory>
         IsSearched task.now.sig.now task.now.problem.now task.now.vars.now task.now.first
         task.now.limits.size f.kept.items f.end) }
 {
-    let mut combiner = Combiner::new(
+    let mut combiner = Combiner::for_sorts(
         task.alloc,
         task.sig,
         task.problem,

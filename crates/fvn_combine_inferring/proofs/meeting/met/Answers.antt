@@ -1,7 +1,7 @@
 -- What is neither one class nor open is kept apart.
 use Rattle.std.proofs.Common.{sym, ◌∙◌, arith}
 use Rattle.fvn_combine_inferring.proofs.Told.{kept_apart, met_apart}
-use Rattle.fvn_combine_inferring.proofs.rules.met.Goals as goal
+use Rattle.fvn_combine_inferring.proofs.meeting.met.Goals as goal
 
 pub is_same-requires : goal.is_same-requires
 is_same-requires c =
