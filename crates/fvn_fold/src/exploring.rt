@@ -201,6 +201,8 @@ pub fn explore<R: Threads + Sync, G: Gate, E: Expander>(
 ) -> Result<Explored, NoMemory>
     requires setting { IsSettingIn (E.setting expander.now) sig.now }
     requires start { IsStartable sig.now start.now }
+
+    // The fixed terms are over the start's variables, and irreducible as they are given.
     requires fixed { AreFixedFor (E.setting expander.now) start.now }
     requires variants { 1 ≤ limits.variants }
     requires workers { (1 ≤ limits.workers) × (limits.workers ≤ WORKERS) }

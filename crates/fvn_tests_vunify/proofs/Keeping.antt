@@ -1,5 +1,5 @@
 -- What holds of expansions without fixed terms holds of those with some, where they have no child.
-use Rattle.std.proofs.Common.{◌≡◌, ℕ, List, [], sym, subst}
+use Rattle.std.proofs.Common.{◌≡◌, ℕ, List, [], ◌∷◌, length, refl, sym, subst, arith}
 use Rattle.std.specs.Prelude.{All, Contains}
 use Rattle.std.proofs.lemmas.List.Elements.{All-nil}
 use Rattle.fvn_base.proofs.Membership.{contains_none}
@@ -17,6 +17,10 @@ use Rattle.fvn_exploring.specs.Setting.{Setting}
 use Rattle.fvn_exploring.specs.Children.{IsChild}
 use Rattle.fvn_exploring.specs.Expansions.{IsExpandable, IsWhole, IsExpandCause}
 use Rattle.fvn_tests_vunify.specs.Settings.{fixing}
+
+pub nothing_in : {A : Type 0} (xs : List A) → length xs ≡ 0 → xs ≡ []
+nothing_in [] e = refl
+nothing_in (x ∷ xs) e = absurd (omega (arith, e))
 
 module _ (terms : List Term) (g : Setting) (none : g.fixed ≡ []) (v : Variant) where
   -- what may be expanded with fixed terms may be so without

@@ -1,6 +1,8 @@
 -- Settings with terms that are to stay irreducible.
 use Rattle.std.specs.Prelude.{List}
+use Rattle.fvn_terms.specs.declared.declarations.Declarations.{Declarations}
 use Rattle.fvn_terms.specs.Term.{Term}
+use Rattle.fvn_forms.specs.Flat.{FlatTerm}
 use Rattle.fvn_exploring.specs.Setting.{Setting}
 
 -- the setting with these fixed terms
@@ -12,3 +14,8 @@ fixing terms g = record {
   bounds = g.bounds;
   unifiers = g.unifiers;
 }
+
+-- terms, and the declarations in which they fit
+pub record ListedTerms : Type 0 where
+  pub declarations : Declarations
+  pub terms : List FlatTerm

@@ -1,10 +1,10 @@
 //! An expander that keeps terms fixed.
-ghost use Rattle.std.specs.Prelude.{◌≡◌, [], map, IsTrue};
+ghost use Rattle.std.specs.Prelude.{◌≡◌, [], length, map, IsTrue};
 ghost use Rattle.fvn_forms.specs.Flat.{plain};
-ghost use Rattle.fvn_flat.specs.Fits.{AllFit};
 ghost use Rattle.fvn_exploring.specs.declared.ends.ExpandEnd.TheVariants.{Whole};
 ghost use Rattle.fvn_tests_vunify.specs.Settings.{fixing};
 
+use crate::listed::Listed;
 use fvn_cover::Variant;
 use fvn_exploring::{ExpandEnd, Expander, Expansion};
 use fvn_flat::{Flat, Normal};
@@ -15,20 +15,19 @@ use std::alloc::Global;
 #[derive(Drop)]
 pub struct Fixing<'a, E: Expander> {
     inner: &'a E,
-    terms: &'a [Flat],
-    ghost none_fixed: { (E.setting inner.now).fixed ≡ [] },
-    ghost fit: { AllFit (E.setting inner.now).declarations terms.now },
+    listed: Listed<'a>,
+    ghost one_signature: { listed.declarations ≡ (E.setting inner.now).declarations },
+    ghost none_fixed: { length (E.setting inner.now).fixed ≡ 0 },
 }
 
 impl<'a, E: Expander> Fixing<'a, E> {
     /// Stands before this expander, and keeps these terms fixed.
-    pub fn new(inner: &'a E, terms: &'a [Flat]) -> Fixing<'a, E>
-        requires none_fixed { (E.setting inner.now).fixed ≡ [] }
-        requires fit { AllFit (E.setting inner.now).declarations terms.now }
+    pub fn new(inner: &'a E, listed: Listed<'a>) -> Fixing<'a, E>
+        requires one_signature { listed.declarations ≡ (E.setting inner.now).declarations }
+        requires none_fixed { length (E.setting inner.now).fixed ≡ 0 }
         ensures inner { result.inner.now ≡ inner.now }
-        ensures terms { result.terms.now ≡ terms.now }
     {
-        Fixing { inner, terms }
+        Fixing { inner, listed }
     }
 }
 
@@ -47,12 +46,12 @@ fn has_none(e: &Expansion) -> bool
 }
 
 impl<E: Expander> Expander for Fixing<'_, E> {
-    ghost setting = { λ e. fixing (map plain e.terms.now) (E.setting e.inner.now) };
+    ghost setting = { λ e. fixing (map plain e.listed.terms) (E.setting e.inner.now) };
 
     ghost drawn = { λ e. E.drawn e.inner.now };
 
     fn fixed(&self) -> &[Flat] {
-        self.terms
+        self.listed.terms()
     }
 
     // Children under which a fixed term is reducible are not told apart.

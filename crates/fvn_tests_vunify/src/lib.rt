@@ -2,7 +2,9 @@
 #![tactic(auto)]
 
 mod fixing;
+mod listed;
 #[cfg(test)]
 mod tests;
 
 pub use fixing::Fixing;
+pub use listed::Listed;

@@ -11,6 +11,7 @@ ghost use Rattle.fvn_vunify.specs.Solved.{IsSolverFor, DrawsWithin};
 ghost use Rattle.fvn_tests_vunify.specs.Asked.{ArePairsIn, IsOver, IsFixable, MayBeExplored};
 
 use crate::fixing::Fixing;
+use crate::listed::Listed;
 use fvn_axunify::{AxiomUnify, SolveLimits};
 use fvn_cohere::{first_left_fault, harmless_equations_are_admissible};
 use fvn_cover::OpenGate;
@@ -280,7 +281,8 @@ fn found_fixing<R: Threads + Sync, A: AxiomSolver>(
 {
     let Asked { given, fixed } = asked;
     let narrower = Narrower::new(alloc, sig, rules, solver, bounds);
-    let fixing = Fixing::new(&narrower, fixed);
+    let listed = Listed::new(sig, fixed);
+    let fixing = Fixing::new(&narrower, listed);
     found_by(rt, alloc, sig, &fixing, solver, given)
 }
 

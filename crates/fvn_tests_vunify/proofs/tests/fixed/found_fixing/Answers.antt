@@ -4,5 +4,6 @@ use Rattle.fvn_flat.specs.Fits.{AllFit}
 use Rattle.fvn_rewrite.specs.Usable.{Rewriting}
 use Rattle.fvn_tests_vunify.proofs.tests.fixed.found_fixing.Goals as goal
 
-pub new-fixing-requires-clause-fit : goal.new-fixing-requires-clause-fit
-new-fixing-requires-clause-fit g c = subst (λ (r : Rewriting). AllFit r.signature c.args.asked.fixed.now) (sym c.new-narrower.ensures.rewrites) c.requires.fixed
+pub new-fixing-requires-clause-one_signature : goal.new-fixing-requires-clause-one_signature
+new-fixing-requires-clause-one_signature g c =
+    ap (λ l. l.declarations) c.new-listed.ensures ∙ sym (ap (λ (r : Rewriting). r.signature) c.new-narrower.ensures.rewrites)
