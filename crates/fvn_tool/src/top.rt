@@ -9,10 +9,12 @@ ghost use Rattle.fvn_tool.specs.Claims.{IsReport};
 ghost use Rattle.fvn_tool.specs.inner.Steps.{IsGivenOutcome};
 
 use crate::laws::questions_are_determined;
+use crate::words::Heard;
 use crate::{answer, words};
 use fvn_base::limits::MODULE_BYTES;
 use fvn_cmd::{Answer, Status};
 use fvn_cmd_laws::{answers_are_exact, explored_answers_are_exact, verdicts_are_exact};
+use fvn_cmd_work::work_reply;
 use fvn_cover::Gate;
 use fvn_outside::{ReadAll, Sink, Source, WriteFailed, read_all, write_all};
 use fvn_terms::NoMemory;
@@ -20,7 +22,7 @@ use std::alloc::Global;
 use std::string::String;
 use std::thread::Threads;
 
-// Reads the module where the words are a command, and answers; a status alone where nothing is to be written.
+// Reads the module where the words are a command over one, and answers; a status alone where nothing is to be written.
 fn respond<R: Threads + Sync, G: Gate, S: Source>(
     rt: &R,
     gate: &G,
@@ -28,7 +30,7 @@ fn respond<R: Threads + Sync, G: Gate, S: Source>(
     words: &[String],
     source: &mut S,
 ) -> Result<Answer, Status>
-    ensures unread { AreNoCommand (map string_bytes words.now) → source.new ≡ source.old }
+    ensures unread { ReadNothing (map string_bytes words.now) → source.new ≡ source.old }
     ensures usage { AreNoCommand (map string_bytes words.now) → IfErr result (λ s. s ≡ Status.NoMemory) }
     ensures outcome { IfOk result (λ a. IsGivenOutcome (map string_bytes words.now)
         (seen S.left S.faults source.old source.new) a.status (bytes_of a.text)) }
@@ -44,16 +46,20 @@ fn respond<R: Threads + Sync, G: Gate, S: Source>(
         Err(NoMemory) => return Err(Status::NoMemory),
         Ok(heard) => heard,
     };
-    let Some(command) = heard else {
-        return Ok(answer::usage());
-    };
-    match read_all(alloc, source, MODULE_BYTES) {
-        Err(ReadAll::Fault) => Err(Status::ReadFault),
-        Err(ReadAll::NoMemory) => Err(Status::NoMemory),
-        Err(ReadAll::TooLong) => Ok(answer::too_long()),
-        Ok(bytes) => match answer::reply(rt, gate, alloc, &bytes, command) {
+    match heard {
+        Heard::NoCommand => Ok(answer::usage()),
+        Heard::Work(number) => match work_reply(alloc, number) {
             Err(NoMemory) => Err(Status::NoMemory),
             Ok(answer) => Ok(answer),
+        },
+        Heard::OverModule(command) => match read_all(alloc, source, MODULE_BYTES) {
+            Err(ReadAll::Fault) => Err(Status::ReadFault),
+            Err(ReadAll::NoMemory) => Err(Status::NoMemory),
+            Err(ReadAll::TooLong) => Ok(answer::too_long()),
+            Ok(bytes) => match answer::reply(rt, gate, alloc, &bytes, command) {
+                Err(NoMemory) => Err(Status::NoMemory),
+                Ok(answer) => Ok(answer),
+            },
         },
     }
 }
@@ -67,7 +73,7 @@ fn conclude<R: Threads + Sync, G: Gate, S: Source, K: Sink>(
     source: &mut S,
     out: &mut K,
 ) -> Status
-    ensures unread { AreNoCommand (map string_bytes words.now) → source.new ≡ source.old }
+    ensures unread { ReadNothing (map string_bytes words.now) → source.new ≡ source.old }
     ensures unwritten { IsSilent result → out.new ≡ out.old }
     ensures outcome { Leaves
         (IsGivenOutcome (map string_bytes words.now)
