@@ -102,7 +102,7 @@ usage_only words source s t e (replied command bytes h n r) = absurd (reply_not_
 -- A run
 
 module _ (run : Run) (h : Leaves (IsOutcome run.words run.source) run.status run.sink) where
-  refuses_words : (AreNoCommand run.words → (run.status ≡ Usage) ⊎ ((run.status ≡ WriteFault) ⊎ (run.status ≡ NoMemory))) → RefusesWords run
+  refuses_words : (AreNoCommand run.words → (run.status ≡ Usage) ⊎ (run.status ≡ WriteFault)) → RefusesWords run
   refuses_words always = record {
     only = λ e. let g = Leaves-goes (IsOutcome run.words run.source) run.status run.sink (subst IsSpoken (sym e) tt) h in usage_only run.words run.source run.status g.0 e g.1;
     always = always;
@@ -147,7 +147,7 @@ module _ (run : Run) (h : Leaves (IsOutcome run.words run.source) run.status run
 
 -- the outcome that the steps give, what stays the same and the causes of faults are all that there is to prove of a run
 pub report : VerdictsAreExact → AnswersAreExact → ExploredAnswersAreExact → QuestionsAreDetermined → (run : Run) → Leaves (IsGivenOutcome run.words run.source) run.status run.sink → (run.status ≡ ReadFault → HasFailed run.source) → (run.status ≡ WriteFault → HasFailed run.sink) →
-    (AreNoCommand run.words → (run.status ≡ Usage) ⊎ ((run.status ≡ WriteFault) ⊎ (run.status ≡ NoMemory))) →
+    (AreNoCommand run.words → (run.status ≡ Usage) ⊎ (run.status ≡ WriteFault)) →
     (ReadNothing run.words → run.source.after ≡ run.source.before) → (IsSilent run.status → run.sink.after ≡ run.sink.before) →
     (run.source.faults_before < run.source.faults_after → run.status ≡ ReadFault) → IsReport run
 report verdicts exact explored questions run given read write always unread unwritten failed =

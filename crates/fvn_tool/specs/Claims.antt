@@ -9,10 +9,10 @@ use Rattle.fvn_tool.specs.Asked.{Asked, IsAsked, AsksNothing, IsRefused}
 use Rattle.fvn_tool.specs.Answered.{Answers}
 use Rattle.fvn_tool.specs.Outcomes.{usage_line, IsOutcome}
 
--- the words are refused exactly where they are no command; then nothing else can come but a failed write or want of memory
+-- the words are refused exactly where they are no command; then nothing else can come but a failed write
 pub record RefusesWords (run : Run) : Type 0 where
   pub only : run.status ≡ Usage → AreNoCommand run.words
-  pub always : AreNoCommand run.words → (run.status ≡ Usage) ⊎ ((run.status ≡ WriteFault) ⊎ (run.status ≡ NoMemory))
+  pub always : AreNoCommand run.words → (run.status ≡ Usage) ⊎ (run.status ≡ WriteFault)
   pub text : AreNoCommand run.words → Leaves (Is Usage usage_line) run.status run.sink
 
 -- the words are this command, and where it reads, the source told these bytes

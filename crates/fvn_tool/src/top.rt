@@ -1,5 +1,5 @@
 //! The top call.
-ghost use Rattle.std.specs.Prelude.{◌≡◌, ◌<◌, ◌⊎◌, map, string_bytes, ◌≢◌, IfOk, IfErr, IsErrOf};
+ghost use Rattle.std.specs.Prelude.{◌≡◌, ◌<◌, ◌⊎◌, map, string_bytes, ◌≢◌, IfOk, IfErr, IsOk, IsErrOf};
 ghost use Rattle.fvn_outside.specs.Faults.{Rose, NeverFails};
 ghost use Rattle.fvn_tool.specs.Words.{AreNoCommand, ReadNothing};
 ghost use Rattle.fvn_cmd.specs.Texts.{bytes_of};
@@ -31,7 +31,7 @@ fn respond<R: Threads + Sync, G: Gate, S: Source>(
     source: &mut S,
 ) -> Result<Answer, Status>
     ensures unread { ReadNothing (map string_bytes words.now) → source.new ≡ source.old }
-    ensures usage { AreNoCommand (map string_bytes words.now) → IfErr result (λ s. s ≡ Status.NoMemory) }
+    ensures usage { AreNoCommand (map string_bytes words.now) → IsOk result }
     ensures outcome { IfOk result (λ a. IsGivenOutcome (map string_bytes words.now)
         (seen S.left S.faults source.old source.new) a.status (bytes_of a.text)) }
 
@@ -42,11 +42,7 @@ fn respond<R: Threads + Sync, G: Gate, S: Source>(
     ensures failed_read { S.faults source.old < S.faults source.new →
         IsErrOf result Status.ReadFault }
 {
-    let heard = match words::read_command(alloc, words) {
-        Err(NoMemory) => return Err(Status::NoMemory),
-        Ok(heard) => heard,
-    };
-    match heard {
+    match words::hear(words) {
         Heard::NoCommand => Ok(answer::usage()),
         Heard::Work(number) => match work_reply(alloc, number) {
             Err(NoMemory) => Err(Status::NoMemory),
@@ -80,8 +76,7 @@ fn conclude<R: Threads + Sync, G: Gate, S: Source, K: Sink>(
         (seen S.left S.faults source.old source.new))
         result (seen K.written K.faults out.old out.new) }
     ensures usage { AreNoCommand (map string_bytes words.now) →
-        (result ≡ Status.Usage)
-        ⊎ ((result ≡ Status.WriteFault) ⊎ (result ≡ Status.NoMemory)) }
+        (result ≡ Status.Usage) ⊎ (result ≡ Status.WriteFault) }
 
     ensures read_fault { result ≡ Status.ReadFault →
         Rose (S.faults source.old) (S.faults source.new) }

@@ -1,14 +1,12 @@
 //! Reading the words of the command line.
-ghost use Rattle.std.specs.Prelude.{◌≡◌, ℕ, List, map, string_bytes, IfOk};
+ghost use Rattle.std.specs.Prelude.{◌≡◌, ℕ, List, map, string_bytes};
 ghost use Rattle.fvn_cmd_words.specs.Words as grammar;
 ghost use Rattle.fvn_cmd_words.specs.Told as told;
 ghost use Rattle.fvn_tool.specs.Words.{as_told};
 ghost use Rattle.fvn_tool.specs.inner.Reading.{IsHeard};
 
 use fvn_cmd_exploring::Reach;
-use fvn_cmd_words::{Command as Asked, Reach as Told};
-use fvn_terms::NoMemory;
-use std::alloc::Global;
+use fvn_cmd_words::{Command as Asked, Reach as Told, read_command};
 use std::string::String;
 
 /// What the words ask of a module that is read.
@@ -73,12 +71,12 @@ fn heard(asked: Asked<'_>) -> Heard<'_>
 }
 
 /// What the words ask; no command exactly where they are none.
-pub(crate) fn read_command(alloc: Global, words: &[String]) -> Result<Heard<'_>, NoMemory>
-    ensures { IfOk result (IsHeard (map string_bytes words.now)) }
+pub(crate) fn hear(words: &[String]) -> Heard<'_>
+    ensures { IsHeard (map string_bytes words.now) result }
 {
-    let read = fvn_cmd_words::read_command(alloc, words)?;
+    let read = read_command(words);
     match read {
-        None => Ok(Heard::NoCommand),
-        Some(asked) => Ok(heard(asked)),
+        None => Heard::NoCommand,
+        Some(asked) => heard(asked),
     }
 }
