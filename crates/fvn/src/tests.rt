@@ -5,6 +5,7 @@ mod terminates;
 mod unify;
 mod variants;
 mod verify;
+mod work;
 
 use crate::program;
 use fvn_cover::OpenGate;
@@ -199,6 +200,8 @@ check|X =? X
 terminates
 terminates|f : 1|a : 1
 terminates|-x
+work
+work|7
 -check
 checks";
 
