@@ -14,10 +14,9 @@ use Rattle.fvn_cmd.specs.Texts.{Is}
 use Rattle.fvn_cmd_check.specs.Checks.{told_lines, TellsSorts}
 use Rattle.fvn_cmd_verify.specs.Verdicts.{IsVerdictOn, TellsVerdict}
 use Rattle.fvn_cmd_terminates.specs.Weighings.{TellsWeighing}
-use Rattle.fvn_cmd_unify.specs.Ends.{StaysWithinBounds}
-use Rattle.fvn_cmd_unify.specs.Solutions.{IsWhole}
-use Rattle.fvn_cmd_unify.specs.Replies.{IsAnswer}
-use Rattle.fvn_cmd_laws.specs.Unified.{IsNothingExact, HasFewUnifiers}
+use Rattle.fvn_cmd_unify.specs.Ends.{status_of_end, StaysWithinBounds}
+use Rattle.fvn_cmd_unify.specs.Solutions.{Found, IsWhole, IsSolution}
+use Rattle.fvn_cmd_laws.specs.Unified.{IsNothingExact, HasFewUnifiers, IsCountOfUnifiers}
 use Rattle.fvn_cmd_laws.specs.Verified.{AreOneIfConfluent, IsDecided, AllStayWithin, IsVerdictExact}
 use Rattle.fvn_cmd_exploring.specs.declared.reach.Reach.{Reach}
 use Rattle.fvn_vunify.specs.Sides.{sides_in_turn}
@@ -50,18 +49,19 @@ pub record VerdictsAreExact : Type 0 where
   pub decided : (m : Contents) (p : Problem) (b : Bindings) (steps : ℕ) (v : Verdict) →
       IsVerdictOn m steps p b v → AllStayWithin m p b steps → IsDecided v
 
--- What is promised of the answers to a problem: `complete 0` comes exactly at Nothing, where nothing unifies; where no
--- bound is met, all unifiers were found; and two complete answers have equally many lines. Which unifiers an answer gives
--- is open: of two complete sets each is as good as the other.
+-- What is promised of what is found for a problem: `complete 0` comes exactly at Nothing, where nothing unifies; where no
+-- bound is met, all unifiers were found; a complete answer has as many unifiers as each complete set of which none is an
+-- instance of another, and so two complete answers have equally many. Which unifiers an answer gives is open: of two
+-- complete sets each is as good as the other.
 pub record AnswersAreExact : Type 0 where
-  pub nothing : (m : Contents) (p : Problem) (s : Status) (t : List ℕ) (a : IsAnswer m p s t) →
-      IsNothingExact m p s a.found
-  pub whole : (m : Contents) (p : Problem) (s : Status) (t : List ℕ) (a : IsAnswer m p s t) →
-      StaysWithinBounds m p → IsWhole a.found
-  pub few : (m : Contents) (p : Problem) (s : Status) (t : List ℕ) (a : IsAnswer m p s t) →
-      HasFewUnifiers m p → IsWhole a.found
-  pub one_count : (m : Contents) (p : Problem) (s u : Status) (t v : List ℕ) (a : IsAnswer m p s t) (b : IsAnswer m p u v)
-      (n k : ℕ) → a.found.end ≡ Complete n → b.found.end ≡ Complete k → n ≡ k
+  pub nothing : (m : Contents) (p : Problem) (found : Found) → IsSolution m p found → (s : Status) →
+      s ≡ status_of_end found.end → IsNothingExact m p s found
+  pub whole : (m : Contents) (p : Problem) (found : Found) → IsSolution m p found → StaysWithinBounds m p → IsWhole found
+  pub few : (m : Contents) (p : Problem) (found : Found) → IsSolution m p found → HasFewUnifiers m p → IsWhole found
+  pub count : (m : Contents) (p : Problem) (found : Found) → IsSolution m p found → (n : ℕ) → found.end ≡ Complete n →
+      IsCountOfUnifiers m p n
+  pub one_count : (m : Contents) (p : Problem) (found other : Found) → IsSolution m p found → IsSolution m p other →
+      (n k : ℕ) → found.end ≡ Complete n → other.end ≡ Complete k → n ≡ k
 
 -- What is promised of weighings: what is told is exact, and of weights one thing is told.
 pub record WeighingsAreExact : Type 0 where

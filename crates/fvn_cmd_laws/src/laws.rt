@@ -26,8 +26,8 @@ pub fn verdicts_are_exact()
     verdicts_agree();
 }
 
-/// `complete 0` comes exactly where nothing unifies, all unifiers are found where no bound is met, and two complete
-/// answers to a problem have equally many lines.
+/// `complete 0` comes exactly where nothing unifies, all unifiers are found where no bound is met, and a complete answer to
+/// a problem has as many as every complete set of which none is an instance of another.
 pub fn answers_are_exact()
     ensures { AnswersAreExact }
 {}
