@@ -1,7 +1,9 @@
 -- A step of some summands of a sum is a step of the sum.
-use Rattle.std.proofs.Common.{◌≡◌, ◌≤◌, ◌+◌, ◌∙◌, true, List, [], ◌∷◌, length, refl, ap, sym, subst, arith}
+use Rattle.std.proofs.Common.{◌≡◌, ◌≤◌, ◌+◌, ◌∙◌, true, false, List, [], ◌∷◌, length, refl, ap, sym, subst, arith}
 use Rattle.std.specs.List.{AllByRecursion, Contains}
 use Rattle.std.proofs.lemmas.List.{append-nil}
+use Rattle.std.proofs.lemmas.Cmp.{upto}
+use Rattle.std.specs.Ordering.{is_gt}
 use Rattle.fvn_terms.specs.declared.plain.OpId.{OpId}
 use Rattle.fvn_terms.specs.declared.plain.SortId.{SortId}
 use Rattle.fvn_terms.specs.declared.declarations.Rank.{Rank}
@@ -17,10 +19,12 @@ use Rattle.fvn_terms.specs.Rewriting.{Rewrites}
 use Rattle.fvn_terms.specs.Laws.{RewritingLaws}
 use Rattle.fvn_terms.proofs.Equal.{BEqual-apply}
 use Rattle.fvn_forms.specs.Flat.{FlatTerm, FlatTerms, fapp, fnone, fmore, fpack, funpack, nest, fvar, plain, plain_all}
-use Rattle.fvn_forms.specs.InOrder.{count}
+use Rattle.fvn_forms.specs.Order.{flat_cmp}
+use Rattle.fvn_forms.specs.InOrder.{InOrder, count}
 use Rattle.fvn_forms.specs.Canon.{parts, all_parts, sum, build, canon}
 use Rattle.fvn_forms.specs.Settled.{IsPiece, IsJoined, Settled, SettledAll}
 use Rattle.fvn_forms.specs.Good.{IsGood}
+use Rattle.fvn_forms.proofs.Order.{flat_cmp_total}
 use Rattle.fvn_forms.proofs.InOrder.{count_append, count_sort}
 use Rattle.fvn_forms.proofs.Sums.{fpack-funpack, SettledAll-fpack, SettledAll-funpack, parts_sum, sum_same_counts, sum_in_order, sum_parts, all_parts-pieces}
 use Rattle.fvn_forms.proofs.Build.{sum_settled, build_settled, build_sum, count_parts_build}
@@ -53,6 +57,23 @@ divided_counts : (q : FlatTerm) {all taken others : List FlatTerm} → IsDivided
 divided_counts q divided = refl
 divided_counts q (taking p) = let e = divided_counts q p in omega arith
 divided_counts q (leaving p) = let e = divided_counts q p in omega arith
+
+-- what is taken from a list in order is in order
+first_below : (t : FlatTerm) {all others : List FlatTerm} {u : FlatTerm} {taken : List FlatTerm} → InOrder (t ∷ all) → IsDivided all (u ∷ taken) others → is_gt (flat_cmp t u) ≡ false
+first_below t h (taking p) = h.0
+first_below t {u} h (leaving {t = x} p) = upto flat_cmp_total t x u h.0 (first_below x h.1 p)
+
+rest_in_order : (t : FlatTerm) (all : List FlatTerm) → InOrder (t ∷ all) → InOrder all
+rest_in_order t [] h = tt
+rest_in_order t (u ∷ all) h = h.1
+
+pub divided_order : {all taken others : List FlatTerm} → IsDivided all taken others → InOrder all → InOrder taken
+divided_order divided h = tt
+divided_order (taking {t} {all} {taken} {others} p) h = go taken p (divided_order p (rest_in_order t all h)) where
+  go : (l : List FlatTerm) → IsDivided all l others → InOrder l → InOrder (t ∷ l)
+  go [] p o = tt
+  go (u ∷ l) p o = (first_below t h p, o)
+divided_order (leaving {t} {all} p) h = divided_order p (rest_in_order t all h)
 
 nothing_left : {all taken others : List FlatTerm} → IsDivided all taken others → others ≡ [] → all ≡ taken
 nothing_left divided e = refl
@@ -114,15 +135,27 @@ module _ (d : Declarations) (good : IsGood d) (f : OpId) (others : List FlatTerm
   pub part_kind : HasKind d (plain at) k
   part_kind = subst (λ t. HasKind d (plain t) k) (sym p.part_is) (sum_kind p.taken p.several kinds.0)
 
+  settled_again : (ts : FlatTerms) → AllByRecursion (Settled d) (funpack ts) → SettledAll d ts
+  settled_again ts h = subst (SettledAll d) (fpack-funpack ts) (SettledAll-fpack d (funpack ts) h)
+
+  -- and settled
+  pub part_settled : Settled d at
+  part_settled = subst (Settled d) (sym p.part_is) (
+    record {
+      associative = assoc;
+      pieces = pieces.0;
+      two_or_more = p.several;
+      in_order = divided_order p.divided_into settled.0.in_order;
+    },
+    settled_again p.taken each_settled.0,
+  )
+
   sum_canon : (ts : FlatTerms) → 2 ≤ length (funpack ts) → SettledAll d ts → AllByRecursion (IsPiece d f) (funpack ts) → canon d (plain (fapp f true ts)) ≡ sum d f (funpack ts)
   sum_canon fnone several s i = absurd (omega (arith, several))
   sum_canon (fmore t ts) several s i =
       eval_nest d fvar (fvar_settled d) f assoc (plain t) (plain_all ts)
       ∙ ap (λ l. sum d f (all_parts d f l)) (canon_plain_all d (fmore t ts) s)
       ∙ ap (sum d f) (all_parts-pieces d f (t ∷ funpack ts) i)
-
-  settled_again : (ts : FlatTerms) → AllByRecursion (Settled d) (funpack ts) → SettledAll d ts
-  settled_again ts h = subst (SettledAll d) (fpack-funpack ts) (SettledAll-fpack d (funpack ts) h)
 
   part_canon : canon d (plain at) ≡ sum d f (funpack p.taken)
   part_canon = ap (λ t. canon d (plain t)) p.part_is ∙ sum_canon p.taken p.several (settled_again p.taken each_settled.0) pieces.0

@@ -100,6 +100,6 @@ WholeExpansionsLift =
     (first : ℕ) (v : Variant) → IsExpandable g first v →
     (from : Narrowed) → IsRenamed g.declarations v.vars (narrowed v) from → (children : List Variant) →
     ((at : FlatTerm) (rule : Rule) → IsTurn lists from.terms at rule →
-      LiftsAt g v.vars from at rule.left children
-      ⊎ (IsMetInPairs g.declarations lists rule × PairsLiftAt g lists v.vars from at children)) →
+    LiftsAt g v.vars from at rule.left children
+    ⊎ (IsMetInPairs g.declarations lists rule × PairsLiftAt g lists v.vars from at children)) →
     LiftsInto g v (Contains children)

@@ -10,6 +10,7 @@ use Rattle.fvn_terms.specs.Equality.{IsAssociative, identity}
 use Rattle.fvn_terms.specs.Theory.{Equations}
 use Rattle.fvn_terms.specs.Rewriting.{IsReducible}
 use Rattle.fvn_forms.specs.Flat.{FlatTerm, fvar, funpack, plain}
+use Rattle.fvn_flat.specs.Fits.{Fits}
 use Rattle.fvn_flat.specs.Forms.{head_of, args_of}
 use Rattle.fvn_flat.specs.FlatPlaces.{IsDivided, IsPartOfSum}
 use Rattle.fvn_cover.specs.declared.variant.Variant.{Variant}
@@ -72,6 +73,7 @@ module _ (d : Declarations) where
   pub record IsReducibleInPart (equations : Equations) (f : OpId) (t : FlatTerm) (s : Substitution) : Type 0 where
     pub part : FlatTerm
     pub is_part : Contains (args_of t) part ⊎ IsPairOf f t part
+    pub fits : Fits d part
     pub reducible : IsReducible d equations (apply s (plain part))
 
 -- each instance of two summands of the form that meets a needed rule lifts into a child
