@@ -7,7 +7,7 @@ use Rattle.std.proofs.lemmas.List.Elements.{All-contains}
 use Rattle.fvn_base.proofs.Membership.{contains_map}
 use Rattle.fvn_terms.specs.declared.plain.OpId.{OpId}
 use Rattle.fvn_terms.specs.declared.declarations.Declarations.{Declarations}
-use Rattle.fvn_terms.specs.Term.{Term, var}
+use Rattle.fvn_terms.specs.Term.{Term, var, none}
 use Rattle.fvn_terms.specs.Signature.{axioms, HaveKinds}
 use Rattle.fvn_terms.specs.Substitution.{Substitution, apply}
 use Rattle.fvn_terms.specs.Equality.{two, IsAssociative}
@@ -47,7 +47,7 @@ has_some d kinds f assoc (fapp g true (fmore t ts)) fits e = record { argument =
 has_some d kinds f assoc (fapp g false fnone) fits e =
     let q : g ≡ f = cc in
     let h = fits.kinded.1 in
-    absurd (subst (HaveKinds d _) (kinds.associative g h.rank (subst (λ o. IsAssociative (axioms d o)) (sym q) assoc) h.listed) h.args)
+    absurd (subst (HaveKinds d none) (kinds.associative g h.rank (subst (λ o. IsAssociative (axioms d o)) (sym q) assoc) h.listed) h.args)
 has_some d kinds f assoc (fapp g false (fmore t ts)) fits e = record { argument = t; rest = funpack ts; is = refl }
 
 one_operator : (f g : OpId) → Some f ≡ Some g → f ≡ g

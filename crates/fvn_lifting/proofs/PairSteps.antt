@@ -51,7 +51,7 @@ both_where a b l m h k =
     (omega (arith, x, p), omega (arith, y, q))
 
 -- what is listed fits
-one_fits : (d : Declarations) (l : List FlatTerm) (t : FlatTerm) → AllFit d l → Contains l t → Fits d t
+pub one_fits : (d : Declarations) (l : List FlatTerm) (t : FlatTerm) → AllFit d l → Contains l t → Fits d t
 one_fits d l t h c = All-contains (Fits d) l t (All-from_recursion (Fits d) l h) c
 
 -- a joined sum of these two, as a part of a joined sum

@@ -55,17 +55,17 @@ module _ (g : Setting) (good : IsGood g.declarations) (lists : RuleLists) (vars 
 
     -- the values of the variables of an argument are irreducible
     irreducible_in : (t : FlatTerm) → Contains (args_of m.at) t → (x : Var) → Occurs x (plain t) → IsIrreducible d equations (c x)
-    irreducible_in t listed x o = irreducible x (m.turn.listed.0, m.turn.term, m.turn.listed.1, m.turn.listed.2, occurs_at_place x (through t m.turn.at_place (argument_place t m.at t listed here)) o)
+    irreducible_in t listed x o = irreducible x (m.turn.listed.0, m.turn.term, m.turn.listed.1, m.turn.listed.2, occurs_at_place x (through t m.at (argument_place t m.at t listed here) m.turn.at_place) o)
 
     -- what meets a rule in an argument meets it in the terms
-    within : (t : FlatTerm) → Contains (args_of m.at) t → (n : MeetsRule d lists (t ∷ []) c) → MeetsRule d lists from.terms c
+    abbrev within : (t : FlatTerm) → Contains (args_of m.at) t → (n : MeetsRule d lists (t ∷ []) c) → MeetsRule d lists from.terms c
     within t listed n = record {
       at = n.at;
       rule = n.rule;
       turn = record {
         term = m.turn.term;
         listed = m.turn.listed;
-        at_place = through n.at m.turn.at_place (argument_place n.at m.at t listed (subst (IsAtPlace n.at) (sym (only_one t n.turn.term n.turn.listed)) n.turn.at_place));
+        at_place = through n.at m.at (argument_place n.at m.at t listed (subst (IsAtPlace n.at) (sym (only_one t n.turn.term n.turn.listed)) n.turn.at_place)) m.turn.at_place;
         operator = n.turn.operator;
         heads = n.turn.heads;
         needed = n.turn.needed;

@@ -46,14 +46,15 @@ module _ (u : FlatTerm) where
     weight_among (later r) = let h = weight_among r in omega (arith, h)
 
   -- what stands at a place of what stands at a place
-  mutual
-    pub through : {at t w : FlatTerm} → IsReplaced at at t w → IsAtPlace u at → IsAtPlace u t
-    through here p = p
-    through (inside r) p = inside (through_among r p)
+  module _ (at : FlatTerm) (p : IsAtPlace u at) where
+    mutual
+      pub through : {t w : FlatTerm} → IsReplaced at at t w → IsAtPlace u t
+      through here = p
+      through (inside r) = inside (through_among r)
 
-    through_among : {at : FlatTerm} {ts us : FlatTerms} → IsReplacedAmong at at ts us → IsAtPlace u at → IsReplacedAmong u u ts ts
-    through_among (first r) p = first (through r p)
-    through_among (later r) p = later (through_among r p)
+      through_among : {ts us : FlatTerms} → IsReplacedAmong at at ts us → IsReplacedAmong u u ts ts
+      through_among (first r) = first (through r)
+      through_among (later r) = later (through_among r)
 
   among_listed : (ts : FlatTerms) (t : FlatTerm) → Contains (funpack ts) t → IsAtPlace u t → IsReplacedAmong u u ts ts
   among_listed fnone t c p = absurd (contains_none t c)
