@@ -2,7 +2,7 @@
 mod Turning
 mod Members
 mod Posed
-mod Once
+mod Beside
 mod Fit
 mod Steps
 mod Occurring

@@ -1,5 +1,5 @@
 //! Steps at one form: as a whole, or two summands at a time.
-ghost use Rattle.std.specs.Prelude.{◌≡◌, ◌<◌, ◌×◌, None, length, IsTrue, IfOk};
+ghost use Rattle.std.specs.Prelude.{◌≡◌, ◌<◌, None, length, IsTrue, IfOk};
 ghost use Rattle.fvn_terms.specs.Signature.{axioms};
 ghost use Rattle.fvn_terms.specs.Equality.{IsAssociative};
 ghost use Rattle.fvn_flat.specs.Forms.{args_of};

@@ -1,5 +1,5 @@
 //! Rules that are met in pairs, so that two summands of a sum are enough.
-ghost use Rattle.std.specs.Prelude.{◌≡◌, ◌×◌, IsTrue, Contains, Some};
+ghost use Rattle.std.specs.Prelude.{◌≡◌, IsTrue, Contains, Some};
 ghost use Rattle.fvn_terms.specs.Signature.{axioms};
 ghost use Rattle.fvn_terms.specs.Equality.{IsAssociative};
 ghost use Rattle.fvn_flat.specs.FlatPlaces.{IsDivided};

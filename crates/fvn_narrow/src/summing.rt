@@ -1,5 +1,5 @@
 //! Two summands of a sum at a time.
-ghost use Rattle.std.specs.Prelude.{◌≡◌, ◌<◌, ◌×◌, length, IfOk};
+ghost use Rattle.std.specs.Prelude.{◌≡◌, ◌<◌, length, IfOk};
 ghost use Rattle.fvn_flat.specs.Forms.{args_of};
 ghost use Rattle.fvn_rewrite_rules.specs.Given.{headed};
 ghost use Rattle.fvn_narrow.specs.inner.Turns.{IsReady, IsSumAt, IsPairAt, IsTryAt, IsTryFrom, IsTryBefore};
