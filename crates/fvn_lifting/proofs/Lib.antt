@@ -6,8 +6,8 @@ mod Meeting
 pub mod Parts
 mod Summands
 mod Singles
-mod PairForms
-mod PairSteps
+pub mod PairForms
+pub mod PairSteps
 mod PairRules
 pub mod Within
 mod PairTurns

@@ -10,7 +10,8 @@ use Rattle.fvn_terms.specs.declared.declarations.Rank.{Rank}
 use Rattle.fvn_terms.specs.declared.declarations.Declarations.{Declarations}
 use Rattle.fvn_terms.specs.Term.{Term, var}
 use Rattle.fvn_terms.specs.Signature.{kind, declared, HasKind}
-use Rattle.fvn_terms.specs.Substitution.{apply}
+use Rattle.fvn_terms.specs.declared.plain.Var.{Var}
+use Rattle.fvn_terms.specs.Substitution.{apply, Occurs}
 use Rattle.fvn_terms.specs.Equality.{two}
 use Rattle.fvn_forms.specs.Flat.{FlatTerm, fvar, fapp, fnone, fmore, plain}
 use Rattle.fvn_forms.specs.Settled.{Settled}
@@ -91,6 +92,9 @@ module _ (r : Rewriting) (good : IsGood r.signature) (usable : AreUsable r.signa
     at_fits : Fits d at
     at_fits = part_fits d good t.whole at whole_fits turn.beside t.part
 
+    pub at_within : (x : Var) → Occurs x (plain at) → Occurs x (plain t.whole)
+    at_within x o = occurs_in_whole d good t.whole at whole_fits turn.beside t.part x o
+
     left_head : head_of turn.rule.left ≡ Some t.operator
     left_head = (usable.rules.given t.operator turn.rule t.needed).1
 
@@ -132,7 +136,7 @@ module _ (r : Rewriting) (good : IsGood r.signature) (usable : AreUsable r.signa
           right_fits = right_fit;
           given_fits = given_fits d good t.whole at whole_fits turn.rule.right right_fit right_keeps turn.beside t.part;
           given_occurs = given_occurs d good t.whole at whole_fits turn.rule.right right_fit right_keeps turn.beside t.part;
-          within = occurs_in_whole d good t.whole at whole_fits turn.beside t.part;
+          within = at_within;
         }
 
     -- what is put in place of the form keeps its kind

@@ -13,3 +13,6 @@ mod Joined
 mod Along
 mod Backwards
 mod Expanded
+mod Divided
+mod Two
+mod Whole

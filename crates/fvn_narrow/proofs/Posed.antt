@@ -32,7 +32,7 @@ use Rattle.fvn_places.proofs.PathFacts.{stands_at}
 use Rattle.fvn_narrow.specs.Settings.{narrowing_setting}
 use Rattle.fvn_narrow.specs.inner.Turns.{Turn, put_in, IsReady, CanStandBeside, IsTurnAt, CanReplace, try_of, TryLifts, AreFound}
 use Rattle.fvn_narrow.proofs.Turning.{IsFitTurn}
-use Rattle.fvn_narrow.proofs.Fit.{fit_turn, same_kind, put_keeps, right_stands}
+use Rattle.fvn_narrow.proofs.Fit.{fit_turn, same_kind, put_keeps, right_stands, at_within}
 use Rattle.fvn_narrow.proofs.Children.{item_listed}
 use Rattle.fvn_narrow.proofs.Occurring.{occurs_at}
 use Rattle.fvn_narrow.proofs.Joined.{nothing_found}
@@ -78,7 +78,7 @@ module _ (r : Rewriting) (good : IsGood r.signature) (usable : AreUsable r.signa
   number_below : (x : Var) → x.fresh ≡ true → Occurs x (plain at) ⊎ Occurs x (plain left) → x.name < next
   number_below x fresh (inl o) =
       let i = item_listed v.terms turn.member t.term t.is in
-      (ready.numbers x (inl (i.0, t.term, i.1, i.2, occurs_at x t.whole t.whole (stands_at turn.path t.term t.whole t.leads) (fit_here.within x o)))).high
+      (ready.numbers x (inl (i.0, t.term, i.1, i.2, occurs_at x t.whole t.whole (stands_at turn.path t.term t.whole t.leads) (at_within r good usable rules v ready.flat.terms at turn t x o)))).high
   number_below x fresh (inr o) = go (fit_here.old x (inl o))
     where
       go : (x.fresh ≡ false) ⊎ (x.name ≡ 0) → x.name < next

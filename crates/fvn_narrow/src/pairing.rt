@@ -1,5 +1,5 @@
 //! Rules that are met in pairs, so that two summands of a sum are enough.
-ghost use Rattle.std.specs.Prelude.{◌≡◌, IsTrue, Contains, Some};
+ghost use Rattle.std.specs.Prelude.{◌≡◌, ◌≤◌, ◌∷◌, [], IsTrue, IfSome, Contains, Some, slice_get};
 ghost use Rattle.fvn_terms.specs.Signature.{axioms};
 ghost use Rattle.fvn_terms.specs.Equality.{IsAssociative};
 ghost use Rattle.fvn_flat.specs.FlatPlaces.{IsDivided};
@@ -80,20 +80,32 @@ fn is_met_by_two(sig: &Signature, f: OpId, t: &Flat) -> bool
     meets_one(sig, f, &ts[1], &ts[0])
 }
 
-// Whether the forms stand among the others, in their order.
-fn are_among(some: &[Flat], all: &[Flat]) -> bool
-    ensures { IsTrue result → AreAmong some.now all.now }
+// The first place, from this one on, where the form stands.
+fn place_of(ts: &[Flat], from: usize, t: &Flat) -> Option<usize>
+    ensures { IfSome result (λ k. (from ≤ k) × (slice_get ts.now k ≡ Some t.now)) }
 {
-    let Some((t, ts)) = some.split_first() else {
-        return true;
-    };
-    let Some((u, us)) = all.split_first() else {
+    for k in from..ts.len() {
+        if ts[k].same(t) {
+            return Some(k);
+        }
+    }
+    None
+}
+
+// Whether the two forms stand among the others, in their order.
+fn are_among(ts: &[Flat], t: &Flat, u: &Flat) -> bool
+    ensures { IsTrue result → AreAmong (t.now ∷ u.now ∷ []) ts.now }
+{
+    let Some(i) = place_of(ts, 0, t) else {
         return false;
     };
-    if t.same(u) {
-        return are_among(ts, us);
+    if i >= ts.len() {
+        return false;
     }
-    are_among(some, us)
+    match place_of(ts, i + 1, u) {
+        Some(_) => true,
+        None => false,
+    }
 }
 
 // Whether the summands of one rule's left side are among those of the other's, and are met by two.
@@ -104,7 +116,11 @@ fn is_inner(sig: &Signature, f: OpId, inner: &Rule, rule: &Rule) -> bool
     if !is_met_by_two(sig, f, &inner.left) {
         return false;
     }
-    are_among(inner.left.args(), rule.left.args())
+    let ts = inner.left.args();
+    if ts.len() != 2 {
+        return false;
+    }
+    are_among(rule.left.args(), &ts[0], &ts[1])
 }
 
 // Whether the rule, which is needed under f, is met in pairs.
