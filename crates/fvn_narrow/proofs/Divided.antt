@@ -1,6 +1,7 @@
 -- Lists of which two members are taken, by their places.
 use Rattle.std.proofs.Common.{◌≡◌, ◌<◌, ◌≤◌, ◌+◌, ◌-◌, ℕ, zero, suc, List, [], ◌∷◌, ◌++◌, take, drop, length, Some, refl, sym, ap, ◌∙◌, subst, arith}
 use Rattle.std.specs.Prelude.{slice_get}
+use Rattle.std.proofs.lemmas.List.{append_assoc, take_rest}
 use Rattle.fvn_forms.specs.Flat.{FlatTerm}
 use Rattle.fvn_flat.specs.FlatPlaces.{IsDivided, divided, taking, leaving}
 
@@ -21,13 +22,13 @@ two_at (w ∷ ts) (suc i) n t u e g = leaving (two_at ts i n t u e g)
 -- a place behind another one, in what is left behind that
 behind : (ts : List FlatTerm) (i j : ℕ) → i < j → (n : ℕ) × ((j ≡ suc (i + n)) × (slice_get (drop (suc i) ts) n ≡ slice_get ts j))
 behind [] zero zero l = absurd (omega (arith, l))
-behind [] zero (suc j) l = (j, omega arith, refl)
+behind [] zero (suc j) l = (j, (omega arith, refl))
 behind [] (suc i) zero l = absurd (omega (arith, l))
-behind [] (suc i) (suc j) l = let r = behind [] i j (omega (arith, l)) in let e = r.1.0 in (r.0, omega (arith, e), refl)
+behind [] (suc i) (suc j) l = let r = behind [] i j (omega (arith, l)) in let e = r.1.0 in (r.0, (omega (arith, e), refl))
 behind (w ∷ ts) zero zero l = absurd (omega (arith, l))
-behind (w ∷ ts) zero (suc j) l = (j, omega arith, refl)
+behind (w ∷ ts) zero (suc j) l = (j, (omega arith, refl))
 behind (w ∷ ts) (suc i) zero l = absurd (omega (arith, l))
-behind (w ∷ ts) (suc i) (suc j) l = let r = behind ts i j (omega (arith, l)) in let e = r.1.0 in (r.0, omega (arith, e), r.1.1)
+behind (w ∷ ts) (suc i) (suc j) l = let r = behind ts i j (omega (arith, l)) in let e = r.1.0 in (r.0, (omega (arith, e), r.1.1))
 
 drop_twice : (ts : List FlatTerm) (i n : ℕ) → drop (suc n) (drop (suc i) ts) ≡ drop (suc (suc (i + n))) ts
 drop_twice [] zero n = refl
@@ -49,6 +50,17 @@ divided_at ts i j l t u e g =
     (subst (λ k. IsDivided ts (t ∷ u ∷ []) (take i ts ++ (take r.0 (drop (suc i) ts) ++ drop k ts))) last
     (subst (λ m. IsDivided ts (t ∷ u ∷ []) (take i ts ++ (take r.0 (drop (suc i) ts) ++ m))) (drop_twice ts i r.0)
     (two_at ts i r.0 t u e (r.1.1 ∙ g)))))
+
+-- what was copied behind one another is what is left without the two
+pub others_are : (ts : List FlatTerm) (i j : ℕ) (new first second all : List FlatTerm) → new ≡ [] → first ≡ new ++ take i ts → second ≡ first ++ take (j - (i + 1)) (drop (i + 1) ts) → all ≡ second ++ take (length ts - (j + 1)) (drop (j + 1) ts) →
+    all ≡ take i ts ++ (take (j - (i + 1)) (drop (i + 1) ts) ++ drop (j + 1) ts)
+others_are ts i j new first second all e1 e2 e3 e4 =
+    let middle = take (j - (i + 1)) (drop (i + 1) ts) in
+    let last = take (length ts - (j + 1)) (drop (j + 1) ts) in
+    e4
+    ∙ ap (λ l. l ++ last) (e3 ∙ ap (λ l. l ++ middle) (e2 ∙ ap (λ l. l ++ take i ts) e1))
+    ∙ append_assoc (take i ts) middle last
+    ∙ ap (λ m. take i ts ++ (middle ++ m)) (take_rest ts (j + 1))
 
 -- where the members that are taken stand
 record StandsAt (ts : List FlatTerm) (u : FlatTerm) : Type 0 where

@@ -160,7 +160,7 @@ path_more member paths i path within is turn c = elim (last_or_earlier paths i p
   | inr e ↦ inr (c.0, sym e)
 ]
 
-less_or_equal : (m n : ℕ) → m < n + 1 → (m < n) ⊎ (m ≡ n)
+pub less_or_equal : (m n : ℕ) → m < n + 1 → (m < n) ⊎ (m ≡ n)
 less_or_equal zero zero h = inr refl
 less_or_equal zero (suc n) h = inl (omega arith)
 less_or_equal (suc m) zero h = absurd (omega arith)

@@ -1,5 +1,5 @@
 -- Two summands of a sum, as a part of it.
-use Rattle.std.proofs.Common.{◌≡◌, ◌<◌, ◌≤◌, ◌+◌, ◌-◌, ℕ, true, false, List, [], ◌∷◌, ◌++◌, take, drop, length, None, Some, refl, sym, ap, ◌∙◌, subst, inl, inr, arith}
+use Rattle.std.proofs.Common.{◌≡◌, ◌⊎◌, ◌<◌, ◌≤◌, ◌+◌, ◌-◌, ℕ, true, false, List, [], ◌∷◌, ◌++◌, take, drop, length, None, Some, refl, sym, ap, ◌∙◌, subst, inl, inr, arith}
 use Rattle.std.specs.Prelude.{All, Contains, Bool, IsTrue, slice_get}
 use Rattle.std.proofs.lemmas.Option.{slice_get_within}
 use Rattle.std.proofs.lemmas.List.Elements.{All-weaker, All-contains_itself}
@@ -25,6 +25,9 @@ use Rattle.fvn_lifting.proofs.PairForms.{joined_form, divided_length}
 use Rattle.fvn_lifting.proofs.PairSteps.{pair_part}
 use Rattle.fvn_narrow.specs.inner.Pairing.{IsSum, AreOthers}
 use Rattle.fvn_narrow.specs.inner.Turns.{Try, turn_of, IsTurnAt, IsSumAt, IsPairAt, IsTryAt, IsTryOf, IsTryFrom, IsTryBefore, TryLifts, TryLiftsUnless, ForEach}
+use Rattle.fvn_narrow.proofs.Children.{item_listed, fits_at}
+use Rattle.fvn_narrow.proofs.Fit.{path_fits}
+use Rattle.fvn_narrow.proofs.Joined.{less_or_equal}
 use Rattle.fvn_narrow.proofs.Divided.{divided_at, StandAt, places_of_two}
 
 -- a sum is the joined one of its arguments
@@ -42,10 +45,10 @@ module _ (d : Declarations) (good : IsGood d) (f : OpId) (whole : FlatTerm) (s :
   all_others = take i (args_of whole) ++ (take (j - (i + 1)) (drop (i + 1) (args_of whole)) ++ drop (j + 1) (args_of whole))
 
   -- with any others that are left
-  pub part_with : (others : List FlatTerm) → IsDivided (args_of whole) (t ∷ u ∷ []) others → IsPartOfSum f others whole pair
+  abbrev pub part_with : (others : List FlatTerm) → IsDivided (args_of whole) (t ∷ u ∷ []) others → IsPartOfSum f others whole pair
   part_with others p = pair_part f (args_of whole) t u others whole (sum_is d f whole s i t first) p
 
-  part : IsPartOfSum f all_others whole pair
+  abbrev part : IsPartOfSum f all_others whole pair
   part = part_with all_others (divided_at (args_of whole) i j before t u first second)
 
   settled : Settled d pair
@@ -80,12 +83,9 @@ one_pair f ts i j a b p q =
 
 module _ (r : Rewriting) (unifiers : ℕ) (v : Variant) where
   -- the turns at a pair
-  pub pair_turns : IsGood r.signature → (member : ℕ) (path : List ℕ) (f : OpId) (whole : FlatTerm) → IsSumAt r v member path f whole → Fits r.signature whole → (i j : ℕ) → i < j → (at : FlatTerm) → IsPairAt f (args_of whole) i j at →
+  pub pair_turns : IsGood r.signature → (member : ℕ) (path : List ℕ) (f : OpId) (whole : FlatTerm) → IsSumAt r v member path f whole → IsSum r.signature f whole → (i j : ℕ) → i < j → (at : FlatTerm) → IsPairAt f (args_of whole) i j at →
       (others : List FlatTerm) → AreOthers (args_of whole) i j others → All (λ (rule : Rule). IsTurnAt r v at (turn_of member path (Some (f, others)) rule)) (headed r.rules f)
-  pair_turns good member path f whole s fits i j before at p others are = All-weaker (Contains (headed r.rules f)) (λ (rule : Rule). IsTurnAt r v at (turn_of member path (Some (f, others)) rule)) turn (headed r.rules f) (All-contains_itself (headed r.rules f)) where
-    sum : IsSum r.signature f whole
-    sum = record { fits = fits; heads = s.form.heads; associative = s.associative }
-
+  pair_turns good member path f whole s sum i j before at p others are = All-weaker (Contains (headed r.rules f)) (λ (rule : Rule). IsTurnAt r v at (turn_of member path (Some (f, others)) rule)) turn (headed r.rules f) (All-contains_itself (headed r.rules f)) where
     divided : IsDivided (args_of whole) (p.first ∷ p.second ∷ []) others
     divided = are p.first p.second p.at_first p.at_second
 
@@ -116,12 +116,6 @@ module _ (r : Rewriting) (unifiers : ℕ) (v : Variant) where
   pub pairs_lift : (f : OpId) (whole : FlatTerm) (children : List Variant) → ForEach (TryLifts r unifiers v) (IsTryBefore f (args_of whole) (headed r.rules f) (length (args_of whole))) children →
       (pair : FlatTerm) → IsPairOf f whole pair → (rule : Rule) → Contains (headed r.rules f) rule → TryLifts r unifiers v record { at = pair; rule = rule } children
   pairs_lift f whole children h pair p rule listed = go (funpack p.part.taken) refl where
-    go : (l : List FlatTerm) → funpack p.part.taken ≡ l → TryLifts r unifiers v record { at = pair; rule = rule } children
-    go [] e = let n = p.are_two in let m : 0 ≡ 2 = ap length (sym e) ∙ n in absurd (omega (arith, m))
-    go (t ∷ []) e = let n = p.are_two in let m : 1 ≡ 2 = ap length (sym e) ∙ n in absurd (omega (arith, m))
-    go (t ∷ u ∷ w ∷ l) e = let n = p.are_two in let m : length (t ∷ u ∷ w ∷ l) ≡ 2 = ap length (sym e) ∙ n in absurd (omega (arith, m))
-    go (t ∷ u ∷ []) e = at_two t u e
-
     at_two : (t u : FlatTerm) → funpack p.part.taken ≡ t ∷ u ∷ [] → TryLifts r unifiers v record { at = pair; rule = rule } children
     at_two t u e =
         let all : funpack p.part.all ≡ args_of whole = sym (ap args_of p.part.is_sum) in
@@ -150,3 +144,35 @@ module _ (r : Rewriting) (unifiers : ℕ) (v : Variant) where
             ),
           ),
         )
+
+    go : (l : List FlatTerm) → funpack p.part.taken ≡ l → TryLifts r unifiers v record { at = pair; rule = rule } children
+    go [] e = let n = p.are_two in let m : 0 ≡ 2 = ap length (sym e) ∙ n in absurd (omega (arith, m))
+    go (t ∷ []) e = let n = p.are_two in let m : 1 ≡ 2 = ap length (sym e) ∙ n in absurd (omega (arith, m))
+    go (t ∷ u ∷ w ∷ l) e = let n = p.are_two in let m : length (t ∷ u ∷ w ∷ l) ≡ 2 = ap length (sym e) ∙ n in absurd (omega (arith, m))
+    go (t ∷ u ∷ []) e = at_two t u e
+
+-- copies of two forms, one behind the other
+pub two_items : (l first second : List FlatTerm) (a b t u : FlatTerm) → l ≡ [] → first ≡ l ++ a ∷ [] → second ≡ first ++ b ∷ [] → a ≡ t → b ≡ u → second ≡ t ∷ u ∷ []
+two_items l first second a b t u e1 e2 e3 ea eb = e3 ∙ ap (λ m. m ++ b ∷ []) (e2 ∙ ap (λ m. m ++ a ∷ []) e1) ∙ ap (λ w. w ∷ b ∷ []) ea ∙ ap (λ w. t ∷ w ∷ []) eb
+
+-- what stands at the end of the path is a sum
+pub sum_of : (r : Rewriting) → IsGood r.signature → (v : Variant) → AllFit r.signature v.terms → (member : ℕ) (path : List ℕ) (f : OpId) (whole : FlatTerm) → IsSumAt r v member path f whole → IsSum r.signature f whole
+sum_of r good v terms member path f whole s = record {
+  fits = path_fits r.signature good.fits path s.form.term whole (fits_at v.terms s.form.term terms (item_listed v.terms member s.form.term s.form.is)) s.form.leads;
+  heads = s.form.heads;
+  associative = s.associative;
+}
+
+-- one pair more
+pub pair_more : (f : OpId) (ts : List FlatTerm) (rules : List Rule) (i j : ℕ) (try : Try) → IsTryFrom f ts rules (i, j + 1) try → IsTryFrom f ts rules (i, j) try ⊎ IsTryAt f ts rules (i, j) try
+pair_more f ts rules i j try c = elim (less_or_equal c.0 j c.2.0) [
+  | inl k ↦ inl (c.0, c.1, (k, c.2.1))
+  | inr e ↦ inr (subst (λ m. IsTryAt f ts rules (i, m) try) e c.2.1)
+]
+
+-- one first summand more
+pub first_more : (f : OpId) (ts : List FlatTerm) (rules : List Rule) (i : ℕ) (try : Try) → IsTryBefore f ts rules (i + 1) try → IsTryBefore f ts rules i try ⊎ IsTryFrom f ts rules (i, length ts) try
+first_more f ts rules i try c = elim (less_or_equal c.0 i c.1) [
+  | inl k ↦ inl (c.0, k, c.2)
+  | inr e ↦ inr (subst (λ m. IsTryFrom f ts rules (m, length ts) try) e c.2)
+]

@@ -32,6 +32,7 @@ fn pair_of(
     requires places { (i < j) × (j < length (args_of sum.now)) }
     ensures { IfOk result (IsPairAt f (args_of sum.now) i j) }
 {
+    sig.recall_good();
     let ts = sum.args();
     let mut two = Vec::new(alloc);
     two.push(ts[i].copy(alloc)?)?;
