@@ -31,7 +31,7 @@ use Rattle.fvn_narrow.proofs.Joined.{less_or_equal}
 use Rattle.fvn_narrow.proofs.Divided.{divided_at, StandAt, places_of_two}
 
 -- a sum is the joined one of its arguments
-sum_is : (d : Declarations) (f : OpId) (t : FlatTerm) → IsSum d f t → (i : ℕ) (u : FlatTerm) → slice_get (args_of t) i ≡ Some u → t ≡ fapp f true (fpack (args_of t))
+pub sum_is : (d : Declarations) (f : OpId) (t : FlatTerm) → IsSum d f t → (i : ℕ) (u : FlatTerm) → slice_get (args_of t) i ≡ Some u → t ≡ fapp f true (fpack (args_of t))
 sum_is d f t s i u e = go (args_of t) refl where
   go : (l : List FlatTerm) → args_of t ≡ l → t ≡ fapp f true (fpack (args_of t))
   go [] q = let n : slice_get [] i ≡ Some u = subst (λ m. slice_get m i ≡ Some u) q e in cc
