@@ -1,6 +1,5 @@
 -- Sums and the summands of their instances, and the pairs that they are divided into.
-use Rattle.std.proofs.Common.{◌≡◌, ◌+◌, ◌≤◌, ℕ, Bool, true, false, List, [], ◌∷◌, ◌++◌, map, length, Some, refl, sym, ap, ◌∙◌, subst, arith}
-use Rattle.std.specs.List.{AllByRecursion}
+use Rattle.std.proofs.Common.{◌≡◌, ◌+◌, ◌≤◌, Bool, true, false, List, [], ◌∷◌, map, length, Some, refl, sym, ap, ◌∙◌, subst, arith}
 use Rattle.fvn_terms.specs.declared.plain.Var.{Var}
 use Rattle.fvn_terms.specs.declared.plain.OpId.{OpId}
 use Rattle.fvn_terms.specs.declared.declarations.Axioms.{Axioms}
@@ -14,7 +13,6 @@ use Rattle.fvn_forms.specs.Order.{same_flat}
 use Rattle.fvn_forms.specs.InOrder.{one_if, count, SameCounts}
 use Rattle.fvn_forms.specs.Canon.{parts, all_parts, canon, inst}
 use Rattle.fvn_forms.specs.Settled.{FitsUnjoined, Settled}
-use Rattle.fvn_forms.specs.Good.{IsGood}
 use Rattle.fvn_forms.proofs.Order.{same_flat_is, same_flat_itself}
 use Rattle.fvn_forms.proofs.Sums.{funpack-fpack, fpack-funpack, same_op_itself}
 use Rattle.fvn_forms.proofs.Eval.{canon_settled, eval_apply}

@@ -1,5 +1,5 @@
 -- A needed rule that is met by two is a rule of the equations, so that the law of sums speaks of it.
-use Rattle.std.proofs.Common.{◌≡◌, ◌≤◌, ℕ, true, false, List, [], ◌∷◌, Some, refl, sym, ap, ◌∙◌, subst, inl, inr, arith}
+use Rattle.std.proofs.Common.{◌≡◌, ◌≤◌, ℕ, true, false, List, ◌∷◌, Some, refl, sym, ◌∙◌, subst, inl, inr, arith}
 use Rattle.std.specs.Prelude.{slice_get}
 use Rattle.std.specs.List.{Contains}
 use Rattle.std.proofs.lemmas.Option.{slice_get_within, get_or_from_slice_get}
@@ -11,7 +11,6 @@ use Rattle.fvn_terms.specs.Term.{Term, var, none}
 use Rattle.fvn_terms.specs.Signature.{axioms, HaveKinds}
 use Rattle.fvn_terms.specs.Substitution.{Substitution, apply}
 use Rattle.fvn_terms.specs.Equality.{two, IsAssociative}
-use Rattle.fvn_terms.specs.Sorts.{IsWellSorted}
 use Rattle.fvn_terms.specs.Theory.{Equations}
 use Rattle.fvn_terms.specs.Laws.{RewritingLaws}
 use Rattle.fvn_forms.specs.Flat.{FlatTerm, fvar, fapp, fnone, fmore, funpack, plain}

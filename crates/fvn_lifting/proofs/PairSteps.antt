@@ -1,30 +1,29 @@
 -- Where an instance of a sum meets a rule that is met in pairs, that of one summand or of two is reducible.
-use Rattle.std.proofs.Common.{◌≡◌, ◌⊎◌, ◌+◌, ◌≤◌, ℕ, true, None, List, [], ◌∷◌, ◌++◌, length, Some, refl, sym, ap, ◌∙◌, subst, inl, inr, arith}
-use Rattle.std.specs.List.{AllByRecursion, Contains}
+use Rattle.std.proofs.Common.{◌≡◌, ◌⊎◌, ◌≤◌, true, List, [], ◌∷◌, ◌++◌, Some, refl, sym, ap, ◌∙◌, subst, inl, inr, arith}
+use Rattle.std.specs.List.{Contains}
 use Rattle.std.proofs.lemmas.List.{append-nil}
 use Rattle.std.proofs.lemmas.List.Elements.{All-contains, All-from_recursion}
-use Rattle.fvn_terms.specs.declared.plain.Var.{Var}
 use Rattle.fvn_terms.specs.declared.plain.OpId.{OpId}
 use Rattle.fvn_terms.specs.declared.plain.SortId.{SortId}
 use Rattle.fvn_terms.specs.declared.declarations.Declarations.{Declarations}
-use Rattle.fvn_terms.specs.Term.{Term, var}
+use Rattle.fvn_terms.specs.Term.{var}
 use Rattle.fvn_terms.specs.Substitution.{Substitution, apply}
 use Rattle.fvn_terms.specs.Signature.{axioms, HasKind, same}
 use Rattle.fvn_terms.specs.Places.{stop}
-use Rattle.fvn_terms.specs.Equality.{IsAssociative, identity, BEqual}
+use Rattle.fvn_terms.specs.Equality.{IsAssociative, BEqual}
 use Rattle.fvn_terms.specs.Sorts.{IsWellSorted}
 use Rattle.fvn_terms.specs.Theory.{Equations}
 use Rattle.fvn_terms.specs.Rewriting.{Rewrites, IsReducible}
 use Rattle.fvn_terms.specs.Laws.{RewritingLaws}
 use Rattle.fvn_terms.proofs.Substitutions.{apply-var}
 use Rattle.fvn_terms.proofs.Equal.{HasKind-apply, BEqual-sym}
-use Rattle.fvn_forms.specs.Flat.{FlatTerm, FlatTerms, fvar, fapp, fnone, fmore, fpack, funpack, plain}
+use Rattle.fvn_forms.specs.Flat.{FlatTerm, fapp, fpack, plain}
 use Rattle.fvn_forms.specs.InOrder.{sort, count}
-use Rattle.fvn_forms.specs.Canon.{parts, all_parts, sum, build, canon}
-use Rattle.fvn_forms.specs.Settled.{IsPiece, IsJoined, Settled, SettledAll}
+use Rattle.fvn_forms.specs.Canon.{parts, build, canon}
+use Rattle.fvn_forms.specs.Settled.{Settled}
 use Rattle.fvn_forms.specs.Good.{IsGood}
-use Rattle.fvn_forms.proofs.InOrder.{count_append, count_sort, InOrder-sort}
-use Rattle.fvn_forms.proofs.Sums.{funpack-fpack, SettledAll-fpack, sum_same_counts, sum-sort, sum_in_order, sum_parts}
+use Rattle.fvn_forms.proofs.InOrder.{count_sort, InOrder-sort}
+use Rattle.fvn_forms.proofs.Sums.{funpack-fpack, sum_same_counts, sum-sort, sum_in_order, sum_parts}
 use Rattle.fvn_forms.proofs.Eval.{canon_settled, canon_respects}
 use Rattle.fvn_forms.proofs.KindsKept.{kind_unique}
 use Rattle.fvn_forms.proofs.ToCanon.{to_canon, canon_of_kind}
@@ -36,7 +35,7 @@ use Rattle.fvn_lifting.specs.Pairs.{IsMetByTwo, IsReducibleInPart}
 use Rattle.fvn_lifting.proofs.Parts.{divided_order, part_kind, part_settled, whole_steps}
 use Rattle.fvn_lifting.proofs.Summands.{gathered, gathered_counts, HasBoth, each_in_one, HasBothInOne, HasBothInTwo, some_have}
 use Rattle.fvn_lifting.proofs.Singles.{summands, AreLowered, are_lowered}
-use Rattle.fvn_lifting.proofs.PairForms.{divided_length, gathered_self, not_in_one, are_both, joined_form, parts_args, instance_counts}
+use Rattle.fvn_lifting.proofs.PairForms.{divided_length, gathered_self, not_in_one, are_both, joined_form, instance_counts}
 
 variables_sorted : (d : Declarations) → IsWellSorted d var
 variables_sorted d = (λ x i. (i, refl), λ x. record { form = var x; equal = stop; gets = record { sort = x.sort; gets = refl; below = same } })

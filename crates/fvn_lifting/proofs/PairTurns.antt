@@ -1,5 +1,5 @@
 -- Where at each turn instances lift, or the rule is met in pairs and at pairs they lift, what meets a rule lifts.
-use Rattle.std.proofs.Common.{◌≡◌, ◌⊎◌, ◌+◌, ◌<◌, ◌≤◌, ℕ, zero, suc, true, List, [], ◌∷◌, Some, refl, sym, ap, ◌∙◌, subst, inl, inr, arith}
+use Rattle.std.proofs.Common.{◌≡◌, ◌⊎◌, ◌≤◌, ℕ, zero, suc, true, List, [], ◌∷◌, Some, refl, sym, ap, ◌∙◌, subst, inl, inr, arith}
 use Rattle.std.specs.List.{Any, Contains}
 use Rattle.fvn_base.proofs.Membership.{contains_none, contains_cases}
 use Rattle.fvn_terms.specs.declared.plain.Var.{Var}
@@ -9,7 +9,7 @@ use Rattle.fvn_terms.specs.Term.{Term}
 use Rattle.fvn_terms.specs.Substitution.{Substitution, apply, Occurs}
 use Rattle.fvn_terms.specs.Theory.{Equations}
 use Rattle.fvn_terms.specs.Rewriting.{Rewrites, IsIrreducible}
-use Rattle.fvn_forms.specs.Flat.{FlatTerm, fapp, funpack, plain}
+use Rattle.fvn_forms.specs.Flat.{FlatTerm, plain}
 use Rattle.fvn_forms.specs.Good.{IsGood}
 use Rattle.fvn_flat.specs.Fits.{Fits, AllFit}
 use Rattle.fvn_flat.specs.Forms.{head_of, args_of}

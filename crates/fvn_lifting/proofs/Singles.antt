@@ -33,7 +33,7 @@ use Rattle.fvn_flat.specs.Fits.{Fits}
 use Rattle.fvn_rewrite_laws.proofs.Agreement.{equal_by_agreement}
 use Rattle.fvn_rewrite_laws.proofs.Choosing.{occurring_sort}
 use Rattle.fvn_places.proofs.ClashFacts.{instance_head}
-use Rattle.fvn_lifting.specs.Pairs.{IsOneSummand, MayBeAnySummand, MeetsOne}
+use Rattle.fvn_lifting.specs.Pairs.{IsOneSummand, MeetsOne}
 use Rattle.fvn_lifting.proofs.Chosen.{chosen, chosen_if, chosen_unless, occurs_or_not, StandsFor, stands_at, sorted_each, chosen_stands}
 
 -- the substitution with this value for z

@@ -1,5 +1,5 @@
 -- What stands at a place of a form that stands at a place.
-use Rattle.std.proofs.Common.{◌≡◌, ◌⊎◌, ◌+◌, ◌<◌, ◌≤◌, ℕ, true, false, List, [], ◌∷◌, refl, sym, subst, inl, inr, arith}
+use Rattle.std.proofs.Common.{◌≡◌, ◌⊎◌, ◌+◌, ◌<◌, ◌≤◌, ℕ, List, ◌∷◌, refl, sym, subst, inl, inr, arith}
 use Rattle.std.specs.List.{Contains}
 use Rattle.fvn_base.proofs.Membership.{contains_here, contains_later, contains_none, contains_cases}
 use Rattle.fvn_terms.specs.declared.plain.Var.{Var}

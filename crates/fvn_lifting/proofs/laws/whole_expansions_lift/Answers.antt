@@ -1,9 +1,5 @@
 -- The law, by its lemmas.
 use Rattle.std.proofs.Common.{[], ◌∷◌, inl}
-use Rattle.fvn_base.proofs.Membership.{contains_none, contains_cases}
-use Rattle.fvn_terms.specs.Substitution.{Occurs}
-use Rattle.fvn_terms.specs.Rewriting.{IsIrreducible}
-use Rattle.fvn_forms.specs.Flat.{FlatTerm, plain}
 use Rattle.fvn_exploring.specs.Children.{narrowed}
 use Rattle.fvn_lifting.proofs.Renaming.{renamed_fit}
 use Rattle.fvn_lifting.proofs.Lifting.{irreducible_there, keeps_there, lifts_into_some}
