@@ -1,7 +1,6 @@
 -- A part of a form, and what stands beside it.
-use Rattle.std.proofs.Common.{◌≡◌, ◌⊎◌, ◌≤◌, List, [], ◌∷◌, length, None, Some, sym, subst, inl, inr}
+use Rattle.std.proofs.Common.{◌⊎◌, None, Some, sym, subst, inl}
 use Rattle.fvn_terms.specs.declared.plain.Var.{Var}
-use Rattle.fvn_terms.specs.declared.plain.SortId.{SortId}
 use Rattle.fvn_terms.specs.declared.declarations.Declarations.{Declarations}
 use Rattle.fvn_terms.specs.Signature.{HasKind}
 use Rattle.fvn_terms.specs.Substitution.{Occurs}

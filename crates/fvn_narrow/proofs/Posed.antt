@@ -23,13 +23,10 @@ use Rattle.fvn_flat.proofs.VariableLists.{variables_occur}
 use Rattle.fvn_cover.specs.declared.variant.Variant.{Variant}
 use Rattle.fvn_rewrite_laws.specs.Laws.{RuleLaws}
 use Rattle.fvn_rewrite.specs.Usable.{Rewriting, AreUsable, equations_by}
-use Rattle.fvn_exploring.specs.Children.{narrowed}
 use Rattle.fvn_exploring.specs.declared.ends.Expansion.{Expansion}
 use Rattle.fvn_exploring.specs.declared.ends.ExpandEnd.TheVariants.{Whole}
-use Rattle.fvn_lifting.specs.Lifted.{LiftsAt}
 use Rattle.fvn_places.specs.Clashes.{NeverMeet}
 use Rattle.fvn_places.proofs.PathFacts.{stands_at}
-use Rattle.fvn_narrow.specs.Settings.{narrowing_setting}
 use Rattle.fvn_narrow.specs.inner.Turns.{Turn, put_in, IsReady, CanStandBeside, IsTurnAt, CanReplace, try_of, TryLifts, AreFound}
 use Rattle.fvn_narrow.proofs.Turning.{IsFitTurn}
 use Rattle.fvn_narrow.proofs.Fit.{fit_turn, same_kind, put_keeps, right_stands, at_within}

@@ -1,18 +1,17 @@
 -- Two summands of a sum, as a part of it.
-use Rattle.std.proofs.Common.{◌≡◌, ◌⊎◌, ◌<◌, ◌≤◌, ◌+◌, ◌-◌, ℕ, true, false, List, [], ◌∷◌, ◌++◌, take, drop, length, None, Some, refl, sym, ap, ◌∙◌, subst, inl, inr, arith}
-use Rattle.std.specs.Prelude.{All, Contains, Bool, IsTrue, slice_get}
+use Rattle.std.proofs.Common.{◌≡◌, ◌⊎◌, ◌<◌, ◌≤◌, ◌+◌, ◌-◌, ℕ, true, false, List, [], ◌∷◌, ◌++◌, take, drop, length, Some, refl, sym, ap, ◌∙◌, subst, inl, inr, arith}
+use Rattle.std.specs.Prelude.{All, Contains, slice_get}
 use Rattle.std.proofs.lemmas.Option.{slice_get_within}
 use Rattle.std.proofs.lemmas.List.Elements.{All-weaker, All-contains_itself}
 use Rattle.fvn_terms.specs.declared.plain.OpId.{OpId}
 use Rattle.fvn_terms.specs.declared.declarations.Declarations.{Declarations}
-use Rattle.fvn_terms.specs.Equality.{IsAssociative}
 use Rattle.fvn_forms.specs.Flat.{FlatTerm, fapp, fpack, funpack}
 use Rattle.fvn_forms.specs.Canon.{sum, build}
 use Rattle.fvn_forms.specs.Settled.{Settled}
 use Rattle.fvn_forms.specs.Good.{IsGood}
 use Rattle.fvn_forms.proofs.Sums.{fpack-funpack, all_parts-pieces, sum_in_order}
 use Rattle.fvn_forms.proofs.Build.{build_sum}
-use Rattle.fvn_flat.specs.Fits.{Fits, AllFit, Takes}
+use Rattle.fvn_flat.specs.Fits.{AllFit, Takes}
 use Rattle.fvn_flat.specs.FlatPlaces.{IsDivided, IsPartOfSum}
 use Rattle.fvn_flat.specs.Forms.{head_of, args_of}
 use Rattle.fvn_cover.specs.declared.variant.Variant.{Variant}
@@ -28,7 +27,7 @@ use Rattle.fvn_narrow.specs.inner.Turns.{Try, turn_of, IsTurnAt, IsSumAt, IsPair
 use Rattle.fvn_narrow.proofs.Children.{item_listed, fits_at}
 use Rattle.fvn_narrow.proofs.Fit.{path_fits}
 use Rattle.fvn_narrow.proofs.Joined.{less_or_equal}
-use Rattle.fvn_narrow.proofs.Divided.{divided_at, StandAt, places_of_two}
+use Rattle.fvn_narrow.proofs.Divided.{divided_at, places_of_two}
 
 -- a sum is the joined one of its arguments
 pub sum_is : (d : Declarations) (f : OpId) (t : FlatTerm) → IsSum d f t → (i : ℕ) (u : FlatTerm) → slice_get (args_of t) i ≡ Some u → t ≡ fapp f true (fpack (args_of t))

@@ -1,10 +1,8 @@
 -- By parts, or by all rules at the whole.
-use Rattle.std.proofs.Common.{◌≡◌, ◌+◌, false, true, None, refl, sym, ap, ◌∙◌, subst, inl, inr}
-use Rattle.std.specs.Prelude.{All, Contains, List}
-use Rattle.fvn_terms.specs.declared.declarations.Declarations.{Declarations}
-use Rattle.fvn_terms.specs.Signature.{axioms}
+use Rattle.std.proofs.Common.{◌≡◌, false, sym, subst}
+use Rattle.std.specs.Prelude.{All}
 use Rattle.fvn_rewrite_rules.specs.declared.rule.Rule.{Rule}
-use Rattle.fvn_rewrite_rules.specs.Given.{RuleLists, headed}
+use Rattle.fvn_rewrite_rules.specs.Given.{headed}
 use Rattle.fvn_narrow.specs.inner.Turns.{turn_of, IsTurnAt, IsTryOf, ForEach, TryLiftsUnless, TryLiftsByParts}
 use Rattle.fvn_narrow.proofs.Joined.{found_so}
 use Rattle.fvn_narrow.proofs.Whole.{rules_are, whole_turns, unless_parts}

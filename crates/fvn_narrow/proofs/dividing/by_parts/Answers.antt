@@ -1,11 +1,11 @@
 -- All pairs, and then the whole.
-use Rattle.std.proofs.Common.{◌≡◌, ◌++◌, [], true, sym, subst, refl}
-use Rattle.std.specs.Prelude.{All, List, length}
+use Rattle.std.proofs.Common.{◌≡◌, ◌++◌, true, sym, subst}
+use Rattle.std.specs.Prelude.{All, length}
 use Rattle.fvn_flat.specs.Forms.{args_of}
 use Rattle.fvn_rewrite_rules.specs.declared.rule.Rule.{Rule}
 use Rattle.fvn_rewrite_rules.specs.Given.{headed}
 use Rattle.fvn_narrow.specs.inner.Turns.{turn_of, IsTurnAt, IsTryOf, IsTryBefore, ForEach, TryLifts, TryLiftsUnless, TryLiftsByParts, AreFound}
-use Rattle.fvn_narrow.proofs.Joined.{AreSoFar, none_so_far, joined, both_found, stopped, not_whole}
+use Rattle.fvn_narrow.proofs.Joined.{AreSoFar, joined, both_found, stopped, not_whole}
 use Rattle.fvn_narrow.proofs.Whole.{rules_are, whole_turns, both_parts, nothing_before}
 use Rattle.fvn_narrow.proofs.dividing.by_parts.Goals as goal
 

@@ -1,5 +1,5 @@
 -- Both stand in the list, one behind the other.
-use Rattle.std.proofs.Common.{◌+◌, arith}
+use Rattle.std.proofs.Common.{arith}
 use Rattle.fvn_narrow.proofs.Divided.{divided_at}
 use Rattle.fvn_narrow.proofs.pairing.are_among.Goals as goal
 

@@ -1,5 +1,5 @@
 -- All needed rules, at the sum of two summands.
-use Rattle.std.proofs.Common.{◌≡◌, false, Some, sym, ap, ◌∙◌, subst}
+use Rattle.std.proofs.Common.{◌≡◌, false, Some, sym, subst}
 use Rattle.std.specs.Prelude.{All}
 use Rattle.fvn_terms.specs.declared.declarations.Declarations.{Declarations}
 use Rattle.fvn_flat.specs.Forms.{args_of}

@@ -1,5 +1,5 @@
 -- The operator takes two summands, and makes their pair.
-use Rattle.std.proofs.Common.{◌≡◌, ◌∷◌, [], sym, ap, ◌∙◌, subst, arith}
+use Rattle.std.proofs.Common.{sym, ap, ◌∙◌, subst, arith}
 use Rattle.fvn_forms.specs.Canon.{build}
 use Rattle.fvn_flat.specs.Fits.{AllFit, Takes}
 use Rattle.fvn_flat.specs.Forms.{args_of}

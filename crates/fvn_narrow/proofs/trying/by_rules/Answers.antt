@@ -1,5 +1,5 @@
 -- One rule more.
-use Rattle.std.proofs.Common.{◌≡◌, ◌+◌, ◌∷◌, [], take, sym, subst}
+use Rattle.std.proofs.Common.{◌≡◌, ◌+◌, [], take, sym, subst}
 use Rattle.std.specs.Prelude.{Contains}
 use Rattle.std.proofs.lemmas.List.{take_all}
 use Rattle.std.proofs.lemmas.List.Elements.{All-contains, Contains-get_or}
