@@ -1,6 +1,6 @@
 -- The children of both.
 use Rattle.std.proofs.Common.{◌++◌, ap, ◌∙◌}
-use Rattle.fvn_narrow.proofs.expanding.with_more.Goals as goal
+use Rattle.fvn_narrow.proofs.trying.with_more.Goals as goal
 
 pub returns : goal.returns
 returns c = record {
