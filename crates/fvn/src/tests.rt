@@ -1,6 +1,7 @@
 //! The program's answers, from the words and the module to the bytes that are written.
 mod check;
 mod large;
+mod meeting;
 mod terminates;
 mod unify;
 mod variants;

@@ -35,8 +35,8 @@ pub(crate) enum Heard<'a> {
     OverModule(Command<'a>),
 }
 
-// What was heard.
-fn heard(asked: Asked<'_>) -> Heard<'_>
+// What a command of the words means.
+fn meaning(asked: Asked<'_>) -> Heard<'_>
     requires { told.IsWithin asked }
     ensures { (words : List (List ℕ)) → grammar.IsCommand words (told.meant asked.entry) → IsHeard words result }
 {
@@ -64,6 +64,6 @@ pub(crate) fn hear(words: &[String]) -> Heard<'_>
     let read = read_command(words);
     match read {
         None => Heard::NoCommand,
-        Some(asked) => heard(asked),
+        Some(asked) => meaning(asked),
     }
 }

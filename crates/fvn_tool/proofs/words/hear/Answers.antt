@@ -8,8 +8,8 @@ use Rattle.fvn_tool.proofs.words.hear.Goals as goal
 abbrev spoken : List (String Global) → List (List ℕ)
 spoken words = map (string_bytes {Z = Global}) words
 
-pub heard-requires : goal.heard-requires
-heard-requires c = let r : IsRead (spoken c.args.words.now) (Some c.in-Some.asked) = subst (IsRead (spoken c.args.words.now)) c.in-Some.is c.read_command-read.ensures in r.1
+pub meaning-requires : goal.meaning-requires
+meaning-requires c = let r : IsRead (spoken c.args.words.now) (Some c.in-Some.asked) = subst (IsRead (spoken c.args.words.now)) c.in-Some.is c.read_command-read.ensures in r.1
 
 pub returns-in-None : goal.returns-in-None
 returns-in-None c = none_is_none (spoken c.args.words.now) (subst (IsRead (spoken c.args.words.now)) c.in-None.is c.read_command-read.ensures)
@@ -17,4 +17,4 @@ returns-in-None c = none_is_none (spoken c.args.words.now) (subst (IsRead (spoke
 pub returns-in-Some : goal.returns-in-Some
 returns-in-Some c =
     let r : IsRead (spoken c.args.words.now) (Some c.in-Some.asked) = subst (IsRead (spoken c.args.words.now)) c.in-Some.is c.read_command-read.ensures in
-    c.heard.ensures (spoken c.args.words.now) r.0
+    c.meaning.ensures (spoken c.args.words.now) r.0

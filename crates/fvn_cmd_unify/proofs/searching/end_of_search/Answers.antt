@@ -1,6 +1,6 @@
 -- The end is that of what the solver found.
 use Rattle.fvn_cmd_unify.proofs.Replied.{end-of_search, told-fits_end}
-use Rattle.fvn_cmd_unify.proofs.counting.end_of_search.Goals as goal
+use Rattle.fvn_cmd_unify.proofs.searching.end_of_search.Goals as goal
 
 pub returns-clause-found : goal.returns-clause-found
 returns-clause-found c =
