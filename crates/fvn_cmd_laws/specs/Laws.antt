@@ -1,5 +1,5 @@
 -- Laws of the answers to all commands.
-use Rattle.std.specs.Prelude.{◌≡◌, ℕ, List, Option}
+use Rattle.std.specs.Prelude.{◌≡◌, ℕ, List, [], ◌∷◌, Option}
 use Rattle.fvn_module.specs.Contents.{Contents}
 use Rattle.fvn_module_loading.specs.Losses.{IsLossOf}
 use Rattle.fvn_problems.specs.declared.problem.Problem.{Problem}
@@ -19,11 +19,18 @@ use Rattle.fvn_cmd_unify.specs.Solutions.{Found, IsWhole, IsSolution}
 use Rattle.fvn_cmd_laws.specs.Unified.{IsNothingExact, HasFewUnifiers, IsCountOfUnifiers}
 use Rattle.fvn_cmd_laws.specs.Verified.{AreOneIfConfluent, IsDecided, AllStayWithin, IsVerdictExact}
 use Rattle.fvn_cmd_words.specs.declared.reach.Reach.{Reach}
+use Rattle.fvn_vunify.specs.Sides.{sides_in_turn}
 use Rattle.fvn_cmd_variants.specs.Replies as of_terms
+use Rattle.fvn_cmd_variants.specs.Asked as of_terms_asked
+use Rattle.fvn_cmd_variants.specs.Asked.{flattened}
+use Rattle.fvn_cmd_variants.specs.Solutions as of_terms_found
 use Rattle.fvn_cmd_vunify.specs.Replies as modulo
+use Rattle.fvn_cmd_vunify.specs.Asked as modulo_asked
+use Rattle.fvn_cmd_vunify.specs.Asked.{flattened_pairs}
 use Rattle.fvn_cmd_vunify.specs.Solutions as modulo_found
 use Rattle.fvn_cmd_laws.specs.Weighed.{IsWeighingExact}
 use Rattle.fvn_cmd_laws.specs.Explored.{IsVariantsExact, IsTheoryExact}
+use Rattle.fvn_cmd_laws.specs.Reaching.{IsAmple}
 
 -- Of the sorts of a module one thing is told.
 abbrev pub SortsAreToldOnce : Type 0
@@ -71,3 +78,12 @@ pub record ExploredAnswersAreExact : Type 0 where
       IsTheoryExact m p s a.found
   pub within : (m : Contents) (p : Problem) (reach : Reach) (found : modulo_found.Found) →
       modulo_found.IsSolution m p reach found → modulo_found.StaysWithinBounds m p reach found → modulo_found.IsSolvedWhole found
+
+-- Limits that are large enough are not told: where finitely many variants within as many steps as levels are asked for
+-- cover all, and the equations are confluent, or where no run of levels is deeper, no answer ends at `bound levels`; and
+-- where no run is longer than is asked, none ends at `bound variants`.
+pub record AmpleLimitsAreNotTold : Type 0 where
+  pub variants : (m : Contents) (q : Query) (reach : Reach) (found : of_terms_found.Found) → of_terms_found.IsSolution m q reach found →
+      IsAmple m reach (flattened m q ∷ []) (of_terms_asked.HasFewLevels m q reach.levels) (of_terms_found.end_of reach found)
+  pub unifiers : (m : Contents) (p : Problem) (reach : Reach) (found : modulo_found.Found) → modulo_found.IsSolution m p reach found →
+      IsAmple m reach (sides_in_turn (flattened_pairs m p)) (modulo_asked.HasFewLevels m p reach.levels) (modulo_found.end_of reach found)

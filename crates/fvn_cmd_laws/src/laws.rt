@@ -1,5 +1,6 @@
 //! Laws of answers, each the contract of a function that does nothing.
 ghost use Rattle.fvn_cmd_laws.specs.Laws.{
+  AmpleLimitsAreNotTold,
   AnswersAreExact,
   ExploredAnswersAreExact,
   SortsAreToldOnce,
@@ -39,4 +40,9 @@ pub fn weighings_are_exact()
 /// What the status of answers over an exploration tells is exact.
 pub fn explored_answers_are_exact()
     ensures { ExploredAnswersAreExact }
+{}
+
+/// No answer ends at a limit of levels or of variants that is large enough.
+pub fn ample_limits_are_not_told()
+    ensures { AmpleLimitsAreNotTold }
 {}
