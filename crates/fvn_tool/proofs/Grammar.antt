@@ -1,8 +1,9 @@
 -- Words are one command at most.
 use Rattle.std.proofs.Common.{◌≡◌, ℕ, List, refl, sym, ap, ◌∙◌}
+use Rattle.std.specs.Prelude.{unwrap_or}
 use Rattle.fvn_cmd_words.specs.Words as grammar
 use Rattle.fvn_cmd_words.proofs.Naming as naming
-use Rattle.fvn_tool.specs.Words.{Command, check, unify, verify, terminates, variants, vunify, work, IsCommand, AreNoCommand, ReadsModule}
+use Rattle.fvn_tool.specs.Words.{Command, check, unify, verify, terminates, variants, vunify, work, IsCommand, AreNoCommand, ReadsModule, text_for}
 use Rattle.fvn_tool.specs.declared.words.Command.{Command as Given}
 use Rattle.fvn_tool.specs.declared.words.Command.TheVariants.{Check, Unify, Verify, Terminates, Variants, Vunify}
 use Rattle.fvn_tool.specs.inner.Reading.{meant}
@@ -49,3 +50,7 @@ reads (Verify problem bindings steps) = refl
 reads (Terminates weights) = refl
 reads (Variants term reach workers) = refl
 reads (Vunify problem reach workers) = refl
+
+-- and is about what it reads
+pub read_text : (g : Given) (bytes : List ℕ) → text_for (meant g) bytes ≡ bytes
+read_text g bytes = ap (λ own. unwrap_or own bytes) (reads g)
