@@ -54,6 +54,7 @@ module _ (m : Contents) (reach : Reach) where
     workers_free : IsExploration (setting_of m reach) drawn start (limits_of m reach workers) x → IsExploration (setting_of m reach) drawn start (limits_of m reach 1) x
     workers_free e = record {
       lawful = e.lawful;
+      fixed = e.fixed;
       run = e.run;
       few = e.few;
       shallow = e.shallow;
