@@ -17,7 +17,7 @@ use Rattle.fvn_exploring.specs.declared.ends.ExploreEnd.TheVariants.{Levels, Var
 use Rattle.fvn_exploring.specs.Setting.{Setting}
 use Rattle.fvn_exploring.specs.LevelRuns.{IsStart, HasParent, AreFolded, IsLevelRun}
 use Rattle.fvn_exploring.specs.Explorations.{IsBelowLevel, IsOneMore, IsExploreCause}
-use Rattle.fvn_cmd_exploring.specs.declared.reach.Reach.{Reach}
+use Rattle.fvn_cmd_words.specs.declared.reach.Reach.{Reach}
 use Rattle.fvn_cmd_exploring.specs.Searches.{setting_of, limits_of, AreExplored}
 use Rattle.fvn_cmd_exploring.specs.Bounds.{RunsAreShallow, RunsAreShort}
 

@@ -19,7 +19,7 @@ use Rattle.fvn_exploring.specs.Setting.{Setting}
 use Rattle.fvn_exploring.specs.Explorations.{IsExploreCause, IsExploration}
 use Rattle.fvn_closure.specs.Laws.{ExplorationsAreLawful}
 use Rattle.fvn_narrow.specs.Settings.{narrowing_setting}
-use Rattle.fvn_cmd_exploring.specs.declared.reach.Reach.{Reach}
+use Rattle.fvn_cmd_words.specs.declared.reach.Reach.{Reach}
 use Rattle.fvn_cmd_exploring.specs.Searches.{setting_of, limits_of, IsExploredBy, IsSearched}
 
 module _ (m : Contents) (reach : Reach) where

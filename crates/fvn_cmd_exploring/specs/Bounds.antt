@@ -5,7 +5,7 @@ use Rattle.fvn_flat.specs.Drawn.{IsDrawn}
 use Rattle.fvn_module.specs.Contents.{Contents}
 use Rattle.fvn_exploring.specs.declared.ends.Deep.{Deep}
 use Rattle.fvn_exploring.specs.LevelRuns.{IsLevelRun}
-use Rattle.fvn_cmd_exploring.specs.declared.reach.Reach.{Reach}
+use Rattle.fvn_cmd_words.specs.declared.reach.Reach.{Reach}
 use Rattle.fvn_cmd_exploring.specs.Searches.{setting_of}
 
 module _ (m : Contents) (reach : Reach) (start : List FlatTerm) where

@@ -5,7 +5,7 @@ use Rattle.fvn_problems.specs.declared.query.Query.{Query}
 use Rattle.fvn_module.specs.Contents.{Contents}
 use Rattle.fvn_exploring.specs.declared.ends.ExploreEnd.TheVariants.{Levels, Variants}
 use Rattle.fvn_vunify.specs.Sides.{sides_in_turn}
-use Rattle.fvn_cmd_exploring.specs.declared.reach.Reach.{Reach}
+use Rattle.fvn_cmd_words.specs.declared.reach.Reach.{Reach}
 use Rattle.fvn_cmd_exploring.proofs.Ending.{levels_told, variants_told}
 use Rattle.fvn_cmd_exploring.proofs.Runs.{not_at_levels, not_at_variants}
 use Rattle.fvn_cmd_variants.specs.Asked as of_terms_asked

@@ -18,7 +18,7 @@ use Rattle.fvn_cmd_unify.specs.Ends.{status_of_end, StaysWithinBounds}
 use Rattle.fvn_cmd_unify.specs.Solutions.{Found, IsWhole, IsSolution}
 use Rattle.fvn_cmd_laws.specs.Unified.{IsNothingExact, HasFewUnifiers, IsCountOfUnifiers}
 use Rattle.fvn_cmd_laws.specs.Verified.{AreOneIfConfluent, IsDecided, AllStayWithin, IsVerdictExact}
-use Rattle.fvn_cmd_exploring.specs.declared.reach.Reach.{Reach}
+use Rattle.fvn_cmd_words.specs.declared.reach.Reach.{Reach}
 use Rattle.fvn_vunify.specs.Sides.{sides_in_turn}
 use Rattle.fvn_cmd_variants.specs.Replies as of_terms
 use Rattle.fvn_cmd_variants.specs.Asked as of_terms_asked

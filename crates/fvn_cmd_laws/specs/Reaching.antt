@@ -6,7 +6,7 @@ use Rattle.fvn_module.specs.Contents.{Contents}
 use Rattle.fvn_theory.specs.Equations.{equations_of}
 use Rattle.fvn_answer.specs.declared.end.End.{End}
 use Rattle.fvn_answer.specs.declared.end.End.TheVariants.{Levels, Variants}
-use Rattle.fvn_cmd_exploring.specs.declared.reach.Reach.{Reach}
+use Rattle.fvn_cmd_words.specs.declared.reach.Reach.{Reach}
 use Rattle.fvn_cmd_exploring.specs.Bounds.{RunsAreShallow, RunsAreShort}
 
 -- What keeps an answer from an end at a limit, where these forms are explored, and `IsFinite` says that finitely many

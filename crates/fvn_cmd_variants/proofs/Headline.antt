@@ -39,7 +39,7 @@ use Rattle.fvn_closure.specs.Closing.{IsExplorable, Reached, reached_of, IsReach
 use Rattle.fvn_closure.specs.Laws.{ExplorationLaws}
 use Rattle.fvn_closure.proofs.Carrying.{covers_on, same_variables}
 use Rattle.fvn_cmd.specs.Headline.{IsHeadline}
-use Rattle.fvn_cmd_exploring.specs.declared.reach.Reach.{Reach}
+use Rattle.fvn_cmd_words.specs.declared.reach.Reach.{Reach}
 use Rattle.fvn_cmd_exploring.specs.Searches.{AreTrusted, setting_of, limits_of, AreExplored, IsSearched}
 use Rattle.fvn_cmd_variants.specs.Asked.{flattened, IsVariantOfTerm, IsCoveredBy, IsWithinSteps, HasFewLevels, variants_of}
 use Rattle.fvn_cmd_variants.specs.Solutions.{Found, values, IsWhole}

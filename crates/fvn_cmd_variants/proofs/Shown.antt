@@ -20,7 +20,7 @@ use Rattle.fvn_closure.specs.Closing.{Reached}
 use Rattle.fvn_answer.specs.Laws.{EqualLinesCover, LinesDenoteOneVariant}
 use Rattle.fvn_cmd_unify.proofs.Asking.{module-names}
 use Rattle.fvn_cmd_unify.proofs.Shown.{HasTwins, headline_of_lines, shown_by_line}
-use Rattle.fvn_cmd_exploring.specs.declared.reach.Reach.{Reach}
+use Rattle.fvn_cmd_words.specs.declared.reach.Reach.{Reach}
 use Rattle.fvn_cmd_exploring.specs.Searches.{setting_of, limits_of}
 use Rattle.fvn_cmd_exploring.proofs.Ending.{levels_told}
 use Rattle.fvn_cmd_variants.specs.Asked.{flattened, IsVariantOfTerm, IsCoveredBy, IsWithinSteps, variants_of}

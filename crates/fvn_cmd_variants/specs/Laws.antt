@@ -9,7 +9,7 @@ use Rattle.fvn_exploring.specs.Explorations.{IsDeeper}
 use Rattle.fvn_closure.specs.Closing.{Reached}
 use Rattle.fvn_answer.specs.declared.end.End.TheVariants.{Levels}
 use Rattle.fvn_cmd.specs.Headline.{IsHeadlineOfLines}
-use Rattle.fvn_cmd_exploring.specs.declared.reach.Reach.{Reach}
+use Rattle.fvn_cmd_words.specs.declared.reach.Reach.{Reach}
 use Rattle.fvn_cmd_variants.specs.Asked.{IsVariantOfTerm, IsCoveredBy, IsWithinSteps, DenotesReached, variants_of}
 use Rattle.fvn_cmd_variants.specs.Solutions.{Found, IsWhole, end_of, IsSolution, Shows}
 use Rattle.fvn_cmd_variants.specs.Replies.{HasVariantsAsked}

@@ -22,7 +22,7 @@ use Rattle.fvn_answer.specs.Denoting.{ReadsVariant}
 use Rattle.fvn_answer.specs.Answers.{IsAnswerText}
 use Rattle.fvn_answer.specs.declared.end.End.{End}
 use Rattle.fvn_cmd.specs.Headline.{IsHeadline}
-use Rattle.fvn_cmd_exploring.specs.declared.reach.Reach.{Reach}
+use Rattle.fvn_cmd_words.specs.declared.reach.Reach.{Reach}
 use Rattle.fvn_cmd_exploring.specs.Searches.{setting_of, limits_of, AreExplored}
 use Rattle.fvn_cmd_variants.specs.Asked.{flattened, HasFewLevels, variants_of}
 use Rattle.fvn_cmd_exploring.specs.Ends.{end_told}

@@ -41,7 +41,7 @@ use Rattle.fvn_cmd.specs.Headline.{IsHeadline}
 use Rattle.fvn_cmd_unify.specs.Asked.{pairs_of, IsInstanceOf}
 use Rattle.fvn_cmd_unify.proofs.Asking.{listed, asked, instance-on_pairs}
 use Rattle.fvn_cmd_unify.proofs.Flattening.{pairs_of-problem}
-use Rattle.fvn_cmd_exploring.specs.declared.reach.Reach.{Reach}
+use Rattle.fvn_cmd_words.specs.declared.reach.Reach.{Reach}
 use Rattle.fvn_cmd_exploring.specs.Searches.{AreTrusted, setting_of, limits_of, AreExplored}
 use Rattle.fvn_cmd_vunify.specs.Asked.{sides_of, flattened_pairs, UnifiesInTheory, IsIrreducibleUnifier, IsTheoryInstanceOf, IsVariantOfSides, HasFewLevels, theory_unifiers_of}
 use Rattle.fvn_cmd_vunify.specs.Solutions.{Found, values, IsWhole}

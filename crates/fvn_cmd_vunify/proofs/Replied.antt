@@ -46,7 +46,7 @@ use Rattle.fvn_cmd_unify.specs.Solutions.{IsLineOf}
 use Rattle.fvn_cmd_unify.proofs.Asking.{problem-asked, problem-room}
 use Rattle.fvn_cmd_unify.proofs.Counting.{as-many}
 use Rattle.fvn_cmd_unify.proofs.Flattening.{pairs_of-problem}
-use Rattle.fvn_cmd_exploring.specs.declared.reach.Reach.{Reach}
+use Rattle.fvn_cmd_words.specs.declared.reach.Reach.{Reach}
 use Rattle.fvn_cmd_exploring.specs.Searches.{setting_of}
 use Rattle.fvn_cmd_exploring.specs.Ends.{end_told}
 use Rattle.fvn_cmd_vunify.specs.Asked.{flattened_pairs}

@@ -27,7 +27,7 @@ use Rattle.fvn_cmd_unify.specs.Asked.{pairs_of, IsInstanceOf}
 use Rattle.fvn_cmd_unify.specs.Solutions.{IsLineOf}
 use Rattle.fvn_cmd_unify.proofs.Asking.{module-names, instance-on_vars}
 use Rattle.fvn_cmd_unify.proofs.Shown.{HasTwins, headline_of_lines, shown_by_line}
-use Rattle.fvn_cmd_exploring.specs.declared.reach.Reach.{Reach}
+use Rattle.fvn_cmd_words.specs.declared.reach.Reach.{Reach}
 use Rattle.fvn_cmd_exploring.specs.Searches.{AreTrusted, setting_of, limits_of}
 use Rattle.fvn_cmd_exploring.proofs.Ending.{levels_told}
 use Rattle.fvn_cmd_vunify.specs.Asked.{sides_of, flattened_pairs, UnifiesInTheory, IsIrreducibleUnifier, IsTheoryInstanceOf, IsWithinSteps, theory_unifiers_of}

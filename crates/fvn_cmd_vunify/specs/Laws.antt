@@ -14,7 +14,7 @@ use Rattle.fvn_answer.specs.declared.end.End.TheVariants.{Levels}
 use Rattle.fvn_cmd.specs.Headline.{IsHeadlineOfLines}
 use Rattle.fvn_cmd_unify.specs.Asked.{IsInstanceOf, DenotesOnVariables}
 use Rattle.fvn_cmd_unify.specs.Replies.{IsToBeUnified}
-use Rattle.fvn_cmd_exploring.specs.declared.reach.Reach.{Reach}
+use Rattle.fvn_cmd_words.specs.declared.reach.Reach.{Reach}
 use Rattle.fvn_cmd_exploring.specs.Searches.{setting_of, AreTrusted}
 use Rattle.fvn_cmd_vunify.specs.Asked.{UnifiesInTheory, IsIrreducibleUnifier, IsTheoryInstanceOf, IsWithinSteps, theory_unifiers_of}
 use Rattle.fvn_cmd_vunify.specs.Solutions.{Found, IsSolvedWhole, IsWhole, end_of, IsSolution, Shows}

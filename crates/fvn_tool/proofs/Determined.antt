@@ -14,7 +14,7 @@ use Rattle.fvn_cmd_work.specs.Replies.{IsCount}
 use Rattle.fvn_cmd_work.proofs.Agreeing.{counts_agree}
 use Rattle.fvn_cmd_laws.specs.Laws.{SortsAreToldOnce, VerdictsAreExact, WeighingsAreExact, AnswersAreExact, ExploredAnswersAreExact}
 use Rattle.fvn_problems.specs.declared.query.Query.{Query}
-use Rattle.fvn_cmd_exploring.specs.declared.reach.Reach.{Reach}
+use Rattle.fvn_cmd_words.specs.declared.reach.Reach.{Reach}
 use Rattle.fvn_cmd_variants.specs.Replies as of_terms
 use Rattle.fvn_cmd_vunify.specs.Replies as modulo
 use Rattle.fvn_tool.specs.Words.{Command, IsCommand, text_for}

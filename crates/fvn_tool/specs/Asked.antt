@@ -19,7 +19,7 @@ use Rattle.fvn_cmd.specs.Refusing.{IsRefusal}
 use Rattle.fvn_cmd_terminates.specs.Replies.{terminates_words}
 use Rattle.fvn_cmd_verify.specs.Replies.{verify_words}
 use Rattle.fvn_cmd_unify.specs.Replies.{unify_words}
-use Rattle.fvn_cmd_exploring.specs.declared.reach.Reach.{Reach}
+use Rattle.fvn_cmd_words.specs.declared.reach.Reach.{Reach}
 use Rattle.fvn_cmd_variants.specs.Replies.{variants_words}
 use Rattle.fvn_cmd_work.specs.Made.{work_problem}
 use Rattle.fvn_cmd_work.specs.Replies.{work_words}

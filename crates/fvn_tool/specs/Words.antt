@@ -1,7 +1,6 @@
 -- The words of the command line: which of them are which command.
 use Rattle.std.specs.Prelude.{◌≡◌, ℕ, List, Option, Some, None, unwrap_or}
-use Rattle.fvn_cmd_exploring.specs.declared.reach.Reach.{Reach}
-use Rattle.fvn_cmd_words.specs.declared.reach.Reach.{Reach as Told}
+use Rattle.fvn_cmd_words.specs.declared.reach.Reach.{Reach}
 use Rattle.fvn_cmd_words.specs.Words as grammar
 use Rattle.fvn_cmd_work.specs.Made.{work_module}
 
@@ -15,18 +14,14 @@ pub data Command : Type 0 where
   vunify : (problem : List ℕ) (reach : Reach) → Command
   work : (number : ℕ) → Command
 
--- how far variants are searched for, as the words tell it
-abbrev pub as_told : Reach → Told
-as_told reach = record { levels = reach.levels; variants = reach.variants; steps = reach.steps }
-
 -- the words are this command, whatever number of workers they tell
 abbrev pub IsCommand : List (List ℕ) → Command → Type 0
 IsCommand words check = grammar.IsCommand words grammar.check
 IsCommand words (unify problem) = grammar.IsCommand words (grammar.unify problem)
 IsCommand words (verify problem bindings steps) = grammar.IsCommand words (grammar.verify problem bindings steps)
 IsCommand words (terminates weights) = grammar.IsCommand words (grammar.terminates weights)
-IsCommand words (variants term reach) = (workers : ℕ) × grammar.IsCommand words (grammar.variants term (as_told reach) workers)
-IsCommand words (vunify problem reach) = (workers : ℕ) × grammar.IsCommand words (grammar.vunify problem (as_told reach) workers)
+IsCommand words (variants term reach) = (workers : ℕ) × grammar.IsCommand words (grammar.variants term reach workers)
+IsCommand words (vunify problem reach) = (workers : ℕ) × grammar.IsCommand words (grammar.vunify problem reach workers)
 IsCommand words (work number) = grammar.IsCommand words (grammar.work number)
 
 -- the words are no command

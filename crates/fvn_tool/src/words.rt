@@ -1,12 +1,10 @@
 //! Reading the words of the command line.
-ghost use Rattle.std.specs.Prelude.{◌≡◌, ℕ, List, map, string_bytes};
+ghost use Rattle.std.specs.Prelude.{ℕ, List, map, string_bytes};
 ghost use Rattle.fvn_cmd_words.specs.Words as grammar;
 ghost use Rattle.fvn_cmd_words.specs.Told as told;
-ghost use Rattle.fvn_tool.specs.Words.{as_told};
 ghost use Rattle.fvn_tool.specs.inner.Reading.{IsHeard};
 
-use fvn_cmd_exploring::Reach;
-use fvn_cmd_words::{Command as Asked, Reach as Told, read_command};
+use fvn_cmd_words::{Command as Asked, Reach, read_command};
 use std::string::String;
 
 /// What the words ask of a module that is read.
@@ -37,17 +35,6 @@ pub(crate) enum Heard<'a> {
     OverModule(Command<'a>),
 }
 
-// How far variants are searched for.
-fn reach(told: Told) -> Reach
-    ensures { as_told result ≡ told }
-{
-    Reach {
-        levels: told.levels,
-        variants: told.variants,
-        steps: told.steps,
-    }
-}
-
 // What a command of the words means.
 fn meaning(asked: Asked<'_>) -> Heard<'_>
     requires { told.IsWithin asked }
@@ -60,11 +47,11 @@ fn meaning(asked: Asked<'_>) -> Heard<'_>
             Heard::OverModule(Command::Verify(problem, bindings, steps))
         }
         Asked::Terminates(weights) => Heard::OverModule(Command::Terminates(weights)),
-        Asked::Variants(term, far, workers) => {
-            Heard::OverModule(Command::Variants(term, reach(far), workers as u32))
+        Asked::Variants(term, reach, workers) => {
+            Heard::OverModule(Command::Variants(term, reach, workers as u32))
         }
-        Asked::Vunify(problem, far, workers) => {
-            Heard::OverModule(Command::Vunify(problem, reach(far), workers as u32))
+        Asked::Vunify(problem, reach, workers) => {
+            Heard::OverModule(Command::Vunify(problem, reach, workers as u32))
         }
         Asked::Work(number) => Heard::Work(number),
     }

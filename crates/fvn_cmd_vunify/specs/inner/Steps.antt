@@ -19,7 +19,7 @@ use Rattle.fvn_vunify.specs.Sides.{sides_in_turn}
 use Rattle.fvn_vunify.specs.Solved.{IsSolvedModulo}
 use Rattle.fvn_answer.specs.Asked.{AreAsked}
 use Rattle.fvn_cmd.specs.declared.status.Status.{Status}
-use Rattle.fvn_cmd_exploring.specs.declared.reach.Reach.{Reach}
+use Rattle.fvn_cmd_words.specs.declared.reach.Reach.{Reach}
 use Rattle.fvn_cmd_exploring.specs.Searches.{setting_of, limits_of}
 use Rattle.fvn_cmd_vunify.specs.Replies.{IsVunifyReply}
 
