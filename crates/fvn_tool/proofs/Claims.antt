@@ -6,7 +6,7 @@ use Rattle.fvn_base.proofs.Options.{Some-injective}
 use Rattle.fvn_base.specs.declared.limits.TheConstants.{MODULE_BYTES}
 use Rattle.fvn_outside.specs.Source.{Takes, TakesCount}
 use Rattle.fvn_cmd.specs.declared.status.Status.{Status}
-use Rattle.fvn_cmd.specs.declared.status.Status.TheVariants.{Usage, ReadFault, WriteFault, NoMemory}
+use Rattle.fvn_cmd.specs.declared.status.Status.TheVariants.{Usage, ReadFault, WriteFault}
 use Rattle.fvn_cmd.specs.Statuses.{IsSilent, IsSpoken, IsAnswering, IsRefusing}
 use Rattle.fvn_cmd.specs.Texts.{Is}
 use Rattle.fvn_cmd_variants.specs.Solutions as of_terms

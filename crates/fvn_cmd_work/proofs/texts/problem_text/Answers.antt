@@ -1,5 +1,5 @@
 -- The problem of each number.
-use Rattle.std.proofs.Common.{◌≡◌, ℕ, refl, sym, ap, arith}
+use Rattle.std.proofs.Common.{◌≡◌, sym, ap, arith}
 use Rattle.fvn_cmd_work.specs.Made.{work_problem}
 use Rattle.fvn_cmd_work.proofs.texts.problem_text.Goals as goal
 

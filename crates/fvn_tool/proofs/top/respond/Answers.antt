@@ -3,7 +3,7 @@ use Rattle.std.proofs.Common.{rules, String, Global, ℕ, List, [], map, sym, su
 use Rattle.std.specs.Prelude.{string_bytes}
 use Rattle.fvn_cmd_work.proofs.Made.{module-short}
 use Rattle.fvn_tool.specs.Words.{work}
-use Rattle.fvn_tool.specs.declared.words.Heard.TheVariants.{NoCommand, Work, OverModule}
+use Rattle.fvn_tool.specs.declared.words.Heard.TheVariants.{Work, OverModule}
 use Rattle.fvn_tool.specs.Asked.{IsShort}
 use Rattle.fvn_tool.specs.inner.Reading.{meant, IsHeard}
 use Rattle.fvn_tool.specs.inner.Steps.{is_replied}
