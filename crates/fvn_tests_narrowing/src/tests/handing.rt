@@ -28,7 +28,7 @@ impl<E: Expander> Expander for Handing<'_, E> {
     ghost drawn = { λ h. E.drawn h.to.now };
 
     fn fixed(&self) -> &[Flat] {
-        self.inner.fixed()
+        self.to.fixed()
     }
 
     fn expand(&self, alloc: Global, v: &Variant, first_fresh: u32) -> Result<Expansion, NoMemory> {
