@@ -63,7 +63,7 @@ fn opened(
     while let Some(numbers) = tags.current() {
         plans = plans.saturating_add(1);
         let named = tags_of(alloc, table.nodes().len(), classes.as_slice(), numbers)?;
-        let mut odometer = wheels(alloc, sig, table, state, reading, lists, named.as_slice())?;
+        let mut odometer = wheels(alloc, sig, table, state, reading, lists, named.as_slice(), true)?;
         while let Some(_) = odometer.current() {
             choices = choices.saturating_add(1);
             odometer.advance();

@@ -2,8 +2,8 @@
 ghost use Rattle.std.specs.Prelude.{◌≤◌, ◌<◌, IfOk};
 ghost use Rattle.fvn_base.specs.declared.limits.TheConstants.{TERM_SYMBOLS};
 ghost use Rattle.fvn_terms.specs.Substitution.{Substitution};
+ghost use Rattle.fvn_terms.specs.Unifiers.{IsUnifier};
 ghost use Rattle.fvn_flat.specs.Solving.{problem_of, symbols_of_pairs};
-ghost use Rattle.fvn_flat.specs.SolvedLists.{IsKindUnifier};
 ghost use Rattle.fvn_combine.specs.Advancing.{IsOf, IsToCome};
 ghost use Rattle.fvn_axunify.specs.inner.Asked.{IsAsked};
 ghost use Rattle.fvn_axunify.specs.inner.Found.{IsFound};
@@ -29,7 +29,7 @@ fn run_through(task: &Task, mut combiner: Combiner) -> Result<Found, NoMemory>
     requires some { 1 ≤ task.now.limits.unifiers }
     requires of { IsOf task.now.sig.now task.now.problem.now task.now.first task.now.limits.size combiner }
     requires all { (u : Substitution) →
-        IsKindUnifier task.now.sig.now (problem_of task.now.problem.now) u → IsToCome combiner u }
+        IsUnifier task.now.sig.now (problem_of task.now.problem.now) u → IsToCome combiner u }
     ensures { IfOk result (λ f.
         IsFound task.now.sig.now task.now.problem.now task.now.vars.now task.now.first
         task.now.limits.unifiers task.now.limits.size f.kept.items f.end) }
@@ -62,7 +62,7 @@ pub(crate) fn search(task: &Task) -> Result<Found, NoMemory>
         IsFound task.now.sig.now task.now.problem.now task.now.vars.now task.now.first
         task.now.limits.unifiers task.now.limits.size f.kept.items f.end) }
 {
-    let combiner = Combiner::new(
+    let combiner = Combiner::for_sorts(
         task.alloc,
         task.sig,
         task.problem,

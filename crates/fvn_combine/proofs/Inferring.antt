@@ -15,14 +15,14 @@ use Rattle.fvn_combine.specs.declared.looking.Looked.TheVariants.{Over, Open, To
 
 pub none_admitted : (k : Combining) → IsCombining k → UnifiersGoWith → (s : State) → IsClosed k.declarations k.table s → HasNoValues k.declarations k.table s → (u : Substitution) → IsAdmittedBy k s u → ⊥
 none_admitted k is law s closed none u h =
-    none (value_at k.declarations u k.table.nodes) (law k.declarations is.good.fits (problem_of k.given) is.is_given.kinds k.table is.well_made is.table_of u h.0 s closed h.1)
+    none (value_at k.declarations u k.table.nodes) (law k.declarations is.good.fits (problem_of k.given) is.is_given.kinds k.table is.well_made is.table_of u h.0.unifies s closed h.1)
 
 -- nodes that have one value under all are in one class of its partition
 pub together_admitted : (k : Combining) → IsCombining k → UnifiersGoWith → (s : State) → IsClosed k.declarations k.table s → (i j : ℕ) → i < length k.table.nodes → j < length k.table.nodes → HaveOneValue k.declarations k.table s i j
     → (u : Substitution) → IsAdmittedBy k s u → kernel k.declarations u k.table.nodes i ≡ kernel k.declarations u k.table.nodes j
 together_admitted k is law s closed i j l m one u h =
     let w = closed.whole in
-    let e = one (value_at k.declarations u k.table.nodes) (law k.declarations is.good.fits (problem_of k.given) is.is_given.kinds k.table is.well_made is.table_of u h.0 s closed h.1) in
+    let e = one (value_at k.declarations u k.table.nodes) (law k.declarations is.good.fits (problem_of k.given) is.is_given.kinds k.table is.well_made is.table_of u h.0.unifies s closed h.1) in
     h.1.together i (omega (arith, l, w)) ∙ same_class k.declarations u k.table.nodes (class_of s i) (class_of s j) e ∙ sym (h.1.together j (omega (arith, m, w)))
 
 -- nodes that have two values under all are in two classes
@@ -30,7 +30,7 @@ pub apart_admitted : (k : Combining) → IsCombining k → UnifiersGoWith → (s
     → (u : Substitution) → IsAdmittedBy k s u → kernel k.declarations u k.table.nodes i ≢ kernel k.declarations u k.table.nodes j
 apart_admitted k is law s closed i j l m two u h e =
     let w = closed.whole in
-    two (value_at k.declarations u k.table.nodes) (law k.declarations is.good.fits (problem_of k.given) is.is_given.kinds k.table is.well_made is.table_of u h.0 s closed h.1)
+    two (value_at k.declarations u k.table.nodes) (law k.declarations is.good.fits (problem_of k.given) is.is_given.kinds k.table is.well_made is.table_of u h.0.unifies s closed h.1)
     (same_value k.declarations u k.table.nodes (class_of s i) (class_of s j) (sym (h.1.together i (omega (arith, l, w))) ∙ e ∙ h.1.together j (omega (arith, m, w))))
 
 -- what is asked for by the last state is asked for by the tree

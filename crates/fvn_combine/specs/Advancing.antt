@@ -5,11 +5,10 @@ use Rattle.fvn_terms.specs.Substitution.{Substitution}
 use Rattle.fvn_flat.specs.Bindings.{Bindings, value}
 use Rattle.fvn_flat.specs.Problems.{variables_of}
 use Rattle.fvn_flat.specs.Solving.{problem_of, IsBasisCause, IsTooLarge}
-use Rattle.fvn_flat.specs.SolvedLists.{IsKindUnifier}
 use Rattle.fvn_flat.specs.declared.solver.Pairs.{Pairs}
 use Rattle.fvn_combine_choices.specs.Covering.{CoversOnKinds}
 use Rattle.fvn_combine_drawing.specs.OnKinds.{IsGivenOnKinds}
-use Rattle.fvn_combine.specs.Tasks.{Combining}
+use Rattle.fvn_combine.specs.Tasks.{Combining, IsWanted}
 use Rattle.fvn_combine.specs.Endings.{told_of}
 use Rattle.fvn_combine.specs.Search.{Search, Pending, IsEnd}
 use Rattle.fvn_combine.specs.declared.ending.Ended.{Ended}
@@ -25,9 +24,9 @@ pub record IsOf (d : Declarations) (given : Pairs) (first size : ℕ) (m : Searc
   pub limit : m.combining.size ≡ size
   pub running : m.ended ≡ None
 
--- u is a unifier on kinds that is still to come
+-- u is a unifier that is asked for, and still to come
 abbrev pub IsToCome : Search → Substitution → Type 0
-IsToCome m u = IsKindUnifier m.combining.declarations (problem_of m.combining.given) u × Pending m u
+IsToCome m u = IsWanted m.combining u × Pending m u
 
 -- g covers u, with its least sorts
 abbrev pub IsCovered : Combining → Bindings → Substitution → Type 0
@@ -39,7 +38,7 @@ module _ (before after : Search) where
     pub ended : after.ended ≡ Some e
     pub kept : (u : Substitution) → IsToCome before u ↔ IsToCome after u
 
-  -- the same unifiers on kinds are to come
+  -- the same unifiers are to come
   abbrev pub IsToComeAsBefore : Type 0
   IsToComeAsBefore = (u : Substitution) → IsToCome before u ↔ IsToCome after u
 
@@ -49,7 +48,7 @@ module _ (before after : Search) where
     pub covers : (u : Substitution) → IsToCome before u → IsCovered before.combining g u ⊎ IsToCome after u
     pub running : after.ended ≡ None
 
-  -- no unifier on kinds was to come, and none is
+  -- no unifier was to come, and none is
   pub record IsOver : Type 0 where
     pub none : (u : Substitution) → IsToCome before u → ⊥
     pub none_after : (u : Substitution) → IsToCome after u → ⊥

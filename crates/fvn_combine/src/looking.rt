@@ -13,9 +13,10 @@ use crate::kinds::are_of_one_kind;
 use crate::opened::{Opened, open};
 use crate::task::Task;
 use fvn_base::Seq;
+use fvn_combine_bounds::sorted_leaves_cover;
 use fvn_combine_candidates::{OpenFault, bases, bases_make_systems, refusals_are_causes};
 use fvn_combine_choices::classes_have_one_kind;
-use fvn_combine_complete::{leaves_cover, readings_tell, tables_have_sums, unifiers_go_with};
+use fvn_combine_complete::{readings_tell, tables_have_sums, unifiers_go_with};
 use fvn_combine_inferring::{Inferred, differ, heads_of_values, infer};
 use fvn_combine_leaves::{Reading, first_question, question_on_all, question_on_touched, read};
 use fvn_combine_nodes::{State, Tree};
@@ -57,7 +58,7 @@ fn look_at_leaf(
 {
     task.recall();
     bases_make_systems();
-    leaves_cover();
+    sorted_leaves_cover();
     readings_tell();
     let leaf = open(task, state, reading, bases)?;
     Ok(Looked::Leaf(leaf))

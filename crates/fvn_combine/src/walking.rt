@@ -16,7 +16,8 @@ use crate::opened::{Leaf, Opened, Turning};
 use crate::task::Task;
 use fvn_base::Seq;
 use fvn_combine_candidates::{
-    SharedClass, listed_choices_are_possible, sum_operators_are_few, tags_of, wheels,
+    SharedClass, listed_choices_are_possible, sorted_choices_are_within, sum_operators_are_few,
+    tags_of, wheels,
 };
 use fvn_combine_drawing::{Drawn, draw};
 use fvn_combine_leaves::Reading;
@@ -118,6 +119,7 @@ fn turn(task: &Task, state: &State, opened: &mut Opened) -> Result<bool, NoMemor
 {
     task.recall();
     listed_choices_are_possible();
+    sorted_choices_are_within();
     sum_operators_are_few();
     let options = match opened.tags.current() {
         None => return Ok(false),
@@ -137,6 +139,7 @@ fn turn(task: &Task, state: &State, opened: &mut Opened) -> Result<bool, NoMemor
         &opened.reading,
         opened.bases.as_slice(),
         tags.as_slice(),
+        task.sorted,
     )?;
     opened.tags.advance();
     opened.turning = Some(Turning {

@@ -1,5 +1,5 @@
 -- Classes whose values, by the sorts of their variables, have few summands, or some.
-use Rattle.std.specs.Prelude.{◌≡◌, ℕ, ◌<◌, ◌≤◌, slice_get, Some, Contains}
+use Rattle.std.specs.Prelude.{◌≡◌, ℕ, ◌<◌, ◌≤◌, List, slice_get, Some, Contains}
 use Rattle.fvn_terms.specs.declared.plain.Var.{Var as Variable}
 use Rattle.fvn_terms.specs.declared.plain.OpId.{OpId}
 use Rattle.fvn_terms.specs.declared.declarations.Declarations.{Declarations}
@@ -46,6 +46,10 @@ pub record KeepsBounds (d : Declarations) (t : NodeTable) (class : ℕ → ℕ) 
   pub some : (f : OpId) → IsSumOperator d t f → (k : ℕ) → Uses d t class f k → IsNeverIdentity d t class f k
       → 0 < member_count y c f k
 
+-- u gives these variables terms of their sorts
+abbrev pub KeepsSorts : Declarations → List Variable → Substitution → Type 0
+KeepsSorts d vars u = (x : Variable) → Contains vars x → HasSort d (u x) x.sort
+
 -- a unifier on kinds that gives the problem's variables terms of their sorts, and a closed state that admits its
 -- partition
 pub record IsSortedAt (d : Declarations) (problem : Problem) (t : NodeTable) (s : State)
@@ -56,5 +60,5 @@ pub record IsSortedAt (d : Declarations) (problem : Problem) (t : NodeTable) (s 
   pub table : IsTableOf d problem t
   pub closed : IsClosed d t s
   pub unifies : IsKindUnifier d problem u
-  pub sorted : (x : Variable) → Contains (variables_of problem) x → HasSort d (u x) x.sort
+  pub sorted : KeepsSorts d (variables_of problem) u
   pub admits : Admits s (kernel d u t.nodes)

@@ -1,6 +1,6 @@
 -- What loops over sum operators and nodes gather.
-use Rattle.std.proofs.Common.{◌≡◌, ◌≢◌, ◌⊎◌, ℕ, ◌+◌, ◌<◌, ◌≤◌, List, [], ◌∷◌, ◌++◌, length, map, get_or, slice_index, slice_index_or, sym, ap, ◌∙◌, subst, inl, inr, arith, All, Contains, Option, Some}
-use Rattle.std.specs.Prelude.{AllPairs, slice_get}
+use Rattle.std.proofs.Common.{◌≡◌, ◌≢◌, ◌⊎◌, ℕ, ◌+◌, ◌<◌, ◌≤◌, Bool, true, List, [], ◌∷◌, ◌++◌, length, map, get_or, slice_index, slice_index_or, sym, ap, ◌∙◌, subst, inl, inr, arith, All, Contains, Option, Some}
+use Rattle.std.specs.Prelude.{◌↔◌, AllPairs, slice_get}
 use Rattle.std.proofs.lemmas.Bool.{cases_lt, cases_order}
 use Rattle.std.proofs.lemmas.List.{get_or_default, length_push, get_or_append_left, get_or_push, map_push}
 use Rattle.std.proofs.lemmas.List.Elements.{All-push, All-weaker, Contains-append_left, Contains-push, Contains-push_cases, Contains-get_or}
@@ -18,6 +18,8 @@ use Rattle.fvn_combine_leaves.specs.Leaves.{Uses, IsShared}
 use Rattle.fvn_combine_leaves.specs.Readings.{IsReading}
 use Rattle.fvn_combine_leaves.specs.declared.reading.Sums.{Sums}
 use Rattle.fvn_combine_leaves.specs.declared.reading.Reading.{Reading}
+use Rattle.fvn_combine_choices.specs.Binding.{AreAsked}
+use Rattle.fvn_combine_complete.specs.Neutral.{IsNeutral}
 use Rattle.fvn_combine_admissible.specs.Aliases.{HasNoAlias}
 use Rattle.fvn_combine_leaves.proofs.ReadOfState.{column_within}
 use Rattle.fvn_combine_admissible.proofs.Listing.{operators_differ}
@@ -25,8 +27,8 @@ use Rattle.fvn_acunify_product.specs.Wheels.{Wheel}
 use Rattle.fvn_combine_candidates.specs.declared.sharing.SharedClass.{SharedClass}
 use Rattle.fvn_combine_leaves.specs.Bases.{IsBasis, AreBases}
 use Rattle.fvn_combine_candidates.specs.Sharing.{classes_of, IsSharedClass, AreSharedClasses}
-use Rattle.fvn_combine_candidates.specs.Turning.{IsWheel, AreWheels}
-use Rattle.fvn_combine_candidates.specs.inner.Walking.{AreBasesBelow, AreWheelsBelow, IsUserBelow, AreUsersBelow, AreSharedBelow}
+use Rattle.fvn_combine_candidates.specs.Turning.{IsWheel, AreWheels, HaveBounds}
+use Rattle.fvn_combine_candidates.specs.inner.Walking.{AreBasesBelow, IsBoundedWheel, AreWheelsBelow, IsUserBelow, AreUsersBelow, AreSharedBelow}
 use Rattle.fvn_combine_candidates.proofs.Entries.{read_at, one_entry}
 use Rattle.fvn_combine_candidates.proofs.Systems.{user_placed}
 
@@ -52,9 +54,10 @@ all_bases sums n bases l m h = record {
 }
 
 module _ (d : Declarations) (t : NodeTable) (class : ℕ → ℕ) where
-  module _ (tag : ℕ → Option OpId) (sums : List Sums) (bases : List (List Solution)) where
+  module _ (tag : ℕ → Option OpId) (sorted : Bool) (sums : List Sums) (bases : List (List Solution)) where
     -- one more wheel
-    pub more_wheels : (n : ℕ) (wheels : List Wheel) (e : Sums) (w : Wheel) → n < length sums → e ≡ get_or sums n e → AreWheelsBelow d t class tag sums bases n wheels → IsWheel d t class tag e (slice_index_or bases n []) w → AreWheelsBelow d t class tag sums bases (n + 1) (wheels ++ w ∷ [])
+    pub more_wheels : (n : ℕ) (wheels : List Wheel) (e : Sums) (w : Wheel) → n < length sums → e ≡ get_or sums n e → AreWheelsBelow d t class tag sorted sums bases n wheels
+        → IsBoundedWheel d t class tag sorted e (slice_index_or bases n []) w → AreWheelsBelow d t class tag sorted sums bases (n + 1) (wheels ++ w ∷ [])
     more_wheels n wheels e w l at h here = record {
       as_many = length_push wheels w ∙ ap (λ k. k + 1) h.as_many;
       each = λ i x v m is got. elim (cases_lt i n) [
@@ -67,15 +70,27 @@ module _ (d : Declarations) (t : NodeTable) (class : ℕ → ℕ) where
             let same : i ≡ n = omega (arith, m, above) in
             let one : e ≡ x = one_entry sums n e x (read_at sums n e l at) (subst (λ k. slice_get sums k ≡ Some x) same is) in
             let last : w ≡ v = sym (get_or_push wheels w v i (h.as_many ∙ sym same)) ∙ get_or_from_slice_get (wheels ++ w ∷ []) i v v got in
-            subst (λ k. IsWheel d t class tag x (slice_index_or bases k []) v) (sym same) (subst (IsWheel d t class tag x (slice_index_or bases n [])) last (subst (λ z. IsWheel d t class tag z (slice_index_or bases n []) w) one here))
+            subst (λ k. IsBoundedWheel d t class tag sorted x (slice_index_or bases k []) v) (sym same) (subst (IsBoundedWheel d t class tag sorted x (slice_index_or bases n [])) last (subst (λ z. IsBoundedWheel d t class tag sorted z (slice_index_or bases n []) w) one here))
       ];
     }
 
-    pub all_wheels : (n : ℕ) (wheels : List Wheel) → length sums ≤ n → n ≤ length sums → AreWheelsBelow d t class tag sums bases n wheels → AreWheels d t class tag sums bases wheels
-    all_wheels n wheels l m h = record {
-      as_many = let k = h.as_many in omega (arith, l, m, k);
-      each = λ i e w is got. h.each i e w (let k = slice_get_within sums i e is in omega (arith, k, l)) is got;
-    }
+    module _ (n : ℕ) (wheels : List Wheel) (l : length sums ≤ n) (m : n ≤ length sums) (h : AreWheelsBelow d t class tag sorted sums bases n wheels) where
+      pub all_wheels : AreWheels d t class tag sums bases wheels
+      all_wheels = record {
+        as_many = let k = h.as_many in omega (arith, l, m, k);
+        each = λ i e w is got. (h.each i e w (let k = slice_get_within sums i e is in omega (arith, k, l)) is got).0;
+      }
+
+      pub all_bounds : HaveBounds d t class sorted sums wheels
+      all_bounds i e w is got = (h.each i e w (let k = slice_get_within sums i e is in omega (arith, k, l)) is got).1
+
+  -- a wheel with other bounds
+  pub with_bounds : (tag : ℕ → Option OpId) (e : Sums) (basis : List Solution) (w v : Wheel) → v.constants ≡ w.constants → v.may_be_zero ≡ w.may_be_zero → v.basis ≡ w.basis → v.full ≡ w.full → IsWheel d t class tag e basis w → IsWheel d t class tag e basis v
+  with_bounds tag e basis w v constants marks over full h = record {
+    over = over ∙ h.over;
+    asked = subst (λ cs. AreAsked d t class tag e.operator e.columns cs v.may_be_zero) (sym constants) (subst (AreAsked d t class tag e.operator e.columns w.constants) (sym marks) h.asked);
+    full = subst (λ b. (b ≡ true) ↔ IsNeutral d e.operator) (sym full) h.full;
+  }
 
   module _ (sums : List Sums) (distinct : AllPairs ◌≢◌ (map (λ s. s.operator) sums)) (k : ℕ) where
     pub no_users : AreUsersBelow d t class sums k 0 []

@@ -2,8 +2,7 @@
 use Rattle.std.specs.Prelude.{◌≡◌, ◌≢◌, ◌⊎◌, ◌↔◌, ℕ, ◌*◌, ◌<◌, ◌≤◌, Bool, true, false, List, [], ◌∷◌, ◌++◌, length, Option, Result, Ok, Err}
 use Rattle.fvn_base.specs.declared.memory.NoMemory.{NoMemory}
 use Rattle.fvn_terms.specs.Substitution.{Substitution}
-use Rattle.fvn_flat.specs.Solving.{problem_of, IsBasisCause, IsTooLarge}
-use Rattle.fvn_flat.specs.SolvedLists.{IsKindUnifier}
+use Rattle.fvn_flat.specs.Solving.{IsBasisCause, IsTooLarge}
 use Rattle.fvn_combine_nodes.specs.States.{Admits, IsOpen}
 use Rattle.fvn_combine_nodes.specs.Trees.{weight}
 use Rattle.fvn_combine_nodes.specs.Unifiers.{kernel}
@@ -12,7 +11,7 @@ use Rattle.fvn_acunify_product.specs.Tags.{tags_left}
 use Rattle.fvn_combine_drawing.specs.OnKinds.{IsGivenOnKinds}
 use Rattle.fvn_combine_drawing.specs.declared.drawing.Drawn.{Drawn}
 use Rattle.fvn_combine_drawing.specs.declared.drawing.Drawn.TheVariants.{Nothing as NoneDrawn, TooLarge, Unifier}
-use Rattle.fvn_combine.specs.Tasks.{Combining}
+use Rattle.fvn_combine.specs.Tasks.{Combining, IsWanted}
 use Rattle.fvn_combine.specs.Advancing.{IsCovered}
 use Rattle.fvn_combine.specs.Leaves.{IsOpened, IsCoveredLater, IsCoveredToCome}
 use Rattle.fvn_combine.specs.Search.{IsEnd, IsAdmitted, IsOpenedAt, IsCoveredAt}
@@ -68,11 +67,11 @@ module _ (k : Combining) (s : State) (before after : Opened) where
       × (leaf_left k after ≤ leaf_left k before)
 
 module _ (k : Combining) where
-  -- the state admits the partition of u, which is a unifier on kinds
+  -- the state admits the partition of u, which is asked for
   abbrev pub IsAdmittedBy : State → Substitution → Type 0
-  IsAdmittedBy s u = IsKindUnifier k.declarations (problem_of k.given) u × Admits s (kernel k.declarations u k.table.nodes)
+  IsAdmittedBy s u = IsWanted k u × Admits s (kernel k.declarations u k.table.nodes)
 
-  -- a question is open in the state; two nodes of which it is open are in one class, or in two, under each unifier that it admits; it admits no unifier; a sum system of the problem under a partition is refused; or it is a leaf, which is opened
+  -- a question is open in the state; two nodes of which it is open are in one class, or in two, under each unifier that is asked for and that it admits; it admits no unifier that is asked for; a sum system of the problem under a partition is refused; or it is a leaf, which is opened
   abbrev pub IsLookedAt : State → Looked → Type 0
   IsLookedAt s Over = ⊥
   IsLookedAt s (Open i j) = (i < length k.table.nodes) × (j < length k.table.nodes) × IsOpen s i j
@@ -106,9 +105,9 @@ module _ (k : Combining) where
   IsLooked states (OnLeaf o) = IsLookedAtLast states (OnLeaf o)
 
 module _ (k : Combining) where
-  -- u, a unifier on kinds, is to come in these states, or at the leaf that is open
+  -- u, which is asked for, is to come in these states, or at the leaf that is open
   abbrev pub IsAhead : List State → Option Leaf → Substitution → Type 0
-  IsAhead states leaf u = IsKindUnifier k.declarations (problem_of k.given) u × (IsAdmitted k states u ⊎ IsCoveredAt k leaf u)
+  IsAhead states leaf u = IsWanted k u × (IsAdmitted k states u ⊎ IsCoveredAt k leaf u)
 
   module _ (states : List State) (leaf : Option Leaf) (states_after : List State) (leaf_after : Option Leaf) where
     -- no state is left; or the tree falls, and what the states admit is to come, and no more; or the search ends here, and all is as it was
@@ -116,7 +115,7 @@ module _ (k : Combining) where
     IsStep NoneLeft = (states ≡ []) × (states_after ≡ states) × (leaf_after ≡ leaf)
     IsStep More =
         (weight states_after < weight states) × IsOpenedAt k leaf_after
-        × ((u : Substitution) → IsKindUnifier k.declarations (problem_of k.given) u → IsAdmitted k states u ↔ (IsAdmitted k states_after u ⊎ IsCoveredAt k leaf_after u))
+        × ((u : Substitution) → IsWanted k u → IsAdmitted k states u ↔ (IsAdmitted k states_after u ⊎ IsCoveredAt k leaf_after u))
         × (left_by k states_after leaf_after ≤ left_by k states leaf)
     IsStep (End e) = IsEnd k e × (states_after ≡ states) × (leaf_after ≡ leaf)
 

@@ -1,5 +1,5 @@
 -- Minimal solutions, faults, wheels, users and shared classes in the making.
-use Rattle.std.specs.Prelude.{◌≡◌, ◌≢◌, ◌↔◌, ℕ, ◌<◌, ◌≤◌, List, [], length, slice_get, slice_index_or, Option, Some, All, AllPairs, Contains}
+use Rattle.std.specs.Prelude.{◌≡◌, ◌≢◌, ◌↔◌, ℕ, ◌<◌, ◌≤◌, Bool, List, [], length, slice_get, slice_index_or, Option, Some, All, AllPairs, Contains}
 use Rattle.fvn_terms.specs.declared.plain.OpId.{OpId}
 use Rattle.fvn_terms.specs.declared.declarations.Declarations.{Declarations}
 use Rattle.fvn_lindio.specs.declared.system.Solution.{Solution}
@@ -13,7 +13,7 @@ use Rattle.fvn_combine_candidates.specs.declared.opening.OpenFault.TheVariants.{
 use Rattle.fvn_combine_candidates.specs.declared.sharing.SharedClass.{SharedClass}
 use Rattle.fvn_combine_leaves.specs.Bases.{IsBasis}
 use Rattle.fvn_combine_candidates.specs.Sharing.{classes_of, IsSharedClass}
-use Rattle.fvn_combine_candidates.specs.Turning.{IsWheel}
+use Rattle.fvn_combine_candidates.specs.Turning.{IsWheel, HasBounds}
 
 -- why there is no basis of a sum operator's system
 abbrev pub IsFaultOf : Sums → OpenFault → Type 0
@@ -25,10 +25,15 @@ pub record AreBasesBelow (sums : List Sums) (n : ℕ) (bases : List (List Soluti
   pub as_many : length bases ≡ n
   pub each : (i : ℕ) (e : Sums) → i < n → slice_get sums i ≡ Some e → IsBasis e.system (slice_index_or bases i [])
 
--- the wheels of the sum operators before this place
-pub record AreWheelsBelow (d : Declarations) (t : NodeTable) (class : ℕ → ℕ) (tag : ℕ → Option OpId) (sums : List Sums) (bases : List (List Solution)) (n : ℕ) (wheels : List Wheel) : Type 0 where
-  pub as_many : length wheels ≡ n
-  pub each : (i : ℕ) (e : Sums) (w : Wheel) → i < n → slice_get sums i ≡ Some e → slice_get wheels i ≡ Some w → IsWheel d t class tag e (slice_index_or bases i []) w
+module _ (d : Declarations) (t : NodeTable) (class : ℕ → ℕ) (tag : ℕ → Option OpId) (sorted : Bool) where
+  -- the wheel of a sum operator, with its bounds
+  abbrev pub IsBoundedWheel : Sums → List Solution → Wheel → Type 0
+  IsBoundedWheel e basis w = IsWheel d t class tag e basis w × HasBounds d t class sorted e w.bounds
+
+  -- the wheels of the sum operators before this place
+  pub record AreWheelsBelow (sums : List Sums) (bases : List (List Solution)) (n : ℕ) (wheels : List Wheel) : Type 0 where
+    pub as_many : length wheels ≡ n
+    pub each : (i : ℕ) (e : Sums) (w : Wheel) → i < n → slice_get sums i ≡ Some e → slice_get wheels i ≡ Some w → IsBoundedWheel e (slice_index_or bases i []) w
 
 module _ (d : Declarations) (t : NodeTable) (class : ℕ → ℕ) where
   -- the operator stands before this place, and uses class k

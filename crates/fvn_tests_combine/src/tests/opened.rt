@@ -76,7 +76,30 @@ fn push_tags(
     Ok(())
 }
 
-/// How many lists of numbers are valid, and how many of these leave no alias.
+/// How many lists of numbers keep to what sorts ask.
+fn counted_within(
+    alloc: Global,
+    sig: &Signature,
+    table: &Table,
+    state: &State,
+    reading: &Reading,
+    lists: &[Seq<Solution>],
+    tags: &[Option<OpId>],
+) -> Result<usize, NoMemory>
+    requires closed { IsClosed sig.now table.now state.now }
+    requires reading { IsReading sig.now table.now (class_of state.now) reading.now }
+    requires bases { AreBases reading.now.sums lists.now }
+{
+    let mut odometer = wheels(alloc, sig, table, state, reading, lists, tags, true)?;
+    let mut found: usize = 0;
+    while let Some(_numbers) = odometer.current() {
+        found = found.saturating_add(1);
+        odometer.advance();
+    }
+    Ok(found)
+}
+
+/// How many lists of numbers are valid, how many of these leave no alias, and how many keep to what sorts ask.
 fn push_choices(
     alloc: Global,
     sig: &Signature,
@@ -91,7 +114,7 @@ fn push_choices(
     requires reading { IsReading sig.now table.now (class_of state.now) reading.now }
     requires bases { AreBases reading.now.sums lists.now }
 {
-    let mut odometer = wheels(alloc, sig, table, state, reading, lists, tags)?;
+    let mut odometer = wheels(alloc, sig, table, state, reading, lists, tags, false)?;
     let mut found: usize = 0;
     let mut left: usize = 0;
     while let Some(numbers) = odometer.current() {
@@ -101,8 +124,10 @@ fn push_choices(
         }
         odometer.advance();
     }
+    let within = counted_within(alloc, sig, table, state, reading, lists, tags)?;
     push_number(out, found)?;
-    push_number(out, left)
+    push_number(out, left)?;
+    push_number(out, within)
 }
 
 /// The tags by these numbers, and the choices under them.

@@ -11,7 +11,7 @@ returns-then-not-are_of_one_kind c = λ u h.
     let k = c.args.task.now in
     let is = c.recall.ensures in
     false≢true (sym c.if-not-are_of_one_kind.true ∙ c.are_of_one_kind.ensures.1
-    (c.classes_have_one_kind.ensures k.declarations is.good.fits (problem_of k.given) is.is_given.kinds k.table is.well_made is.table_of u h.0 c.args.state.now c.requires.near.closed h.1))
+    (c.classes_have_one_kind.ensures k.declarations is.good.fits (problem_of k.given) is.is_given.kinds k.table is.well_made is.table_of u h.0.unifies c.args.state.now c.requires.near.closed h.1))
 
 pub returns-in-Err-Basis : goal.returns-in-Err-Basis
 returns-in-Err-Basis c =

@@ -35,7 +35,7 @@ choices-preserved c =
       turning = still_turning k s r b tags old new c.advance.ensures.taken c.args.shared.now c.advance.ensures.wheels c.choices.invariant.turning;
       fewer = λ u h. c.choices.invariant.fewer u (fewer_under k s r b tags old new c.advance.ensures.taken u h);
       kept = λ u h. elim (passed_or_to_come k s r b tags old new c.advance.ensures.taken c.in-Some.numbers.now c.in-Some.ensures.value u (c.choices.invariant.kept u h)) [
-        | inl e ↦ absurd (none u e)
+        | inl e ↦ absurd (none u e.covering)
         | inr n ↦ n
       ];
       less = let l = c.choices.invariant.less in let f = c.advance.ensures.falls c.in-Some.numbers.now c.in-Some.ensures.value in omega (arith, l, f);
@@ -56,7 +56,7 @@ returns-in-Unifier-clause-drawn c =
     let given = subst (IsDrawnBy k.declarations k.given k.first k.size k.table s (systems_of r b) (choice_of r tags c.in-Some.numbers.now)) c.in-Unifier.is drawn in (
       given.0,
       λ u h. elim (passed_or_to_come k s r b tags c.choices.turning.wheels c.advance-in-Unifier.new.self c.advance-in-Unifier.ensures.taken c.in-Some.numbers.now c.in-Some.ensures.value u (c.choices.invariant.kept u h)) [
-        | inl e ↦ inl (given.1 u e)
+        | inl e ↦ inl (given.1 u e.covering)
         | inr n ↦ inr n
       ],
     )

@@ -1,0 +1,5 @@
+-- A unifier is one on kinds, and keeps the sorts of all variables.
+use Rattle.fvn_axunify.proofs.search.search.Goals as goal
+
+pub run_through-requires-clause-all : goal.run_through-requires-clause-all
+run_through-requires-clause-all c = λ u h. c.in_ok-combiner.ensures.all u (h.0.0, h.1) (λ x _. h.0.1 x)
