@@ -14,7 +14,7 @@ use Rattle.fvn_combine_drawing.specs.declared.drawing.Drawn.TheVariants.{Nothing
 use Rattle.fvn_combine.specs.Tasks.{Combining, IsWanted}
 use Rattle.fvn_combine.specs.Advancing.{IsCovered}
 use Rattle.fvn_combine.specs.Leaves.{IsOpened, IsCoveredLater, IsCoveredToCome}
-use Rattle.fvn_combine.specs.Search.{IsEnd, IsAdmitted, IsOpenedAt, IsCoveredAt}
+use Rattle.fvn_combine.specs.Search.{IsEnd, IsRefusedAt, HasNoQuestion, IsAdmitted, IsOpenedAt, IsCoveredAt}
 use Rattle.fvn_combine.specs.Work.{most_tags, most_numbers, leaf_left, left_by}
 use Rattle.fvn_combine.specs.declared.opened.Opened.{Opened}
 use Rattle.fvn_combine.specs.declared.opened.Leaf.{Leaf}
@@ -71,7 +71,9 @@ module _ (k : Combining) where
   abbrev pub IsAdmittedBy : State → Substitution → Type 0
   IsAdmittedBy s u = IsWanted k u × Admits s (kernel k.declarations u k.table.nodes)
 
-  -- a question is open in the state; two nodes of which it is open are in one class, or in two, under each unifier that is asked for and that it admits; it admits no unifier that is asked for; a sum system of the problem under a partition is refused; or it is a leaf, which is opened
+  -- A question is open in the state; two nodes of which it is open are in one class, or in two, under each unifier that it
+  -- admits and that is asked for; it admits none of these; none is open, and a sum system of the problem under its
+  -- partition is refused; or it is a leaf, which is opened.
   abbrev pub IsLookedAt : State → Looked → Type 0
   IsLookedAt s Over = ⊥
   IsLookedAt s (Open i j) = (i < length k.table.nodes) × (j < length k.table.nodes) × IsOpen s i j
@@ -82,7 +84,7 @@ module _ (k : Combining) where
       (i < length k.table.nodes) × (j < length k.table.nodes) × IsOpen s i j
       × ((u : Substitution) → IsAdmittedBy s u → kernel k.declarations u k.table.nodes i ≢ kernel k.declarations u k.table.nodes j)
   IsLookedAt s Passed = (u : Substitution) → IsAdmittedBy s u → ⊥
-  IsLookedAt s (Refused f system) = IsBasisCause k.declarations k.given f system
+  IsLookedAt s (Refused f system) = IsBasisCause k.declarations k.given f system × IsRefusedAt k s f system
   IsLookedAt s (OnLeaf o) =
       IsOpened k s o × ((u : Substitution) → IsAdmittedBy s u → IsCoveredToCome k s o u)
       × (leaf_left k o ≤ most_tags k * most_numbers k)
@@ -117,7 +119,7 @@ module _ (k : Combining) where
         (weight states_after < weight states) × IsOpenedAt k leaf_after
         × ((u : Substitution) → IsWanted k u → IsAdmitted k states u ↔ (IsAdmitted k states_after u ⊎ IsCoveredAt k leaf_after u))
         × (left_by k states_after leaf_after ≤ left_by k states leaf)
-    IsStep (End e) = IsEnd k e × (states_after ≡ states) × (leaf_after ≡ leaf)
+    IsStep (End e) = IsEnd k e × HasNoQuestion k states e × (states_after ≡ states) × (leaf_after ≡ leaf)
 
     -- all that was to come is so, and no more
     abbrev pub IsAheadAsBefore : Type 0
@@ -126,7 +128,7 @@ module _ (k : Combining) where
     -- nothing was to come; or the search ends here; or a unifier covers what is no longer to come
     abbrev pub IsFound : Found → Type 0
     IsFound Nothing = ((u : Substitution) → IsAhead states leaf u → ⊥) × IsAheadAsBefore
-    IsFound (Ends e) = IsEnd k e × IsAheadAsBefore
+    IsFound (Ends e) = IsEnd k e × HasNoQuestion k states_after e × IsAheadAsBefore
     IsFound (Given g) = IsGivenOnKinds k.declarations k.given k.first k.size g × ((u : Substitution) → IsAhead states leaf u → IsCovered k g u ⊎ IsAhead states_after leaf_after u)
 
     -- so it is, and at want of memory all is to come as before

@@ -1,5 +1,5 @@
 -- What is to come when the last state is asked, passed over or opened.
-use Rattle.std.proofs.Common.{◌≡◌, ◌≢◌, ℕ, subst, zero-le, Some, None}
+use Rattle.std.proofs.Common.{◌≡◌, ◌≢◌, ℕ, refl, subst, zero-le, Some, None}
 use Rattle.fvn_combine.proofs.Less.{left_falls}
 use Rattle.fvn_combine.proofs.Trees.{after_asking, after_taking_on, closed_before, taken_out, taken_falls, after_passing, leaf_opened, after_opening}
 use Rattle.fvn_combine_nodes.specs.Trees.{IsAsked, IsTakenOn}
@@ -62,3 +62,8 @@ returns-in-Some-clause-stepped c =
       after_opening c.args.task.now c.args.tree.now c.take_top.new.self c.in-Leaf.opened l c.in-Some.state c.in-Some.ensures.taken,
       left_falls c.args.task.now c.args.tree.now c.take_top.new.self c.args.leaf.now (Some (record { state = c.in-Some.state; opened = c.in-Leaf.opened })) c.in-Some.ensures.falls l.looked.2,
     )
+
+pub returns-in-Refused-clause-stepped : goal.returns-in-Refused-clause-stepped
+returns-in-Refused-clause-stepped c =
+    let l = subst (IsLooked c.args.task.now c.args.tree.now) c.in-Refused.is c.in_ok-look.ensures in
+    (l.looked.0, record { below = l.below; last = l.last; is = l.is; refused = l.looked.1 }, refl, refl)
