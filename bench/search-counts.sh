@@ -55,7 +55,7 @@ fn opened(
     reading: &Reading,
     lists: &[Seq<Solution>],
 ) -> Result<Looked, NoMemory> {
-    let classes = shared(alloc, sig, table, state, reading)?;
+    let classes = shared(alloc, sig, table, state, reading, true)?;
     let counts = option_counts(alloc, classes.as_slice())?;
     let mut tags = Tags::new(alloc, counts)?;
     let mut plans: u64 = 0;

@@ -5,11 +5,11 @@
 
 Each line of the input is a problem as `oracle/partitions.py` reads it, in which no two nodes are in one class but the
 sides of its pairs. The program adds how many minimal solutions each sum operator has; each shared class, as the
-number of its node, with the operators that use it; and for each list of tags of the shared classes how many choices
-of minimal solutions are on the wheels, how many of these leave no shared class a sum of a constant alone, and how many
-keep to what sorts ask: at most 1 of a class with a variable whose sort admits no sum, and at least 1 of a class with a
-variable whose sort does not admit the identity, or where there is none. These numbers are written modulo 40. There is
-one sort, so that a sum with an identity is neutral, and its choices take every solution without a constant; with
+number of its node, with the operators that use it and may head its value, none where it has a variable whose sort
+admits no sum; and for each list of tags of the shared classes how many choices of minimal solutions are on the wheels,
+how many of these leave no shared class a sum of a constant alone, and how many keep to what sorts ask: at most 1 of a
+class with a variable whose sort admits no sum, and at least 1 of a class with a variable whose sort does not admit the
+identity, or where there is none. These numbers are written modulo 40. There is one sort, so that a sum with an identity is neutral, and its choices take every solution without a constant; with
 `elements` there is one more sort below it, so that none is neutral, and all valid choices are on the wheels. Minimal
 solutions are found by trying all vectors with components up to 4, and choices by trying all sets of solutions.
 """
@@ -84,6 +84,10 @@ class Frame:
     def users(self, k):
         return [f for f in self.operators if self.uses(f, k)]
 
+    def heads_of(self, k):
+        """The operators that use the class and may head its value: none where a variable of it is an element."""
+        return [] if self.has_variable(k, "B") else self.users(k)
+
     def is_shared(self, k):
         return k not in self.heads and len(self.users(k)) > 1
 
@@ -131,9 +135,9 @@ def shown(text):
     frame = Frame(text)
     shared = [k for k in sorted(set(frame.names.values())) if frame.is_shared(k)]
     sizes = [TABLES.digit(len(frame.bases[f])) for f in frame.operators]
-    classes = [TABLES.digit(k) + "".join(frame.users(k)) for k in shared]
+    classes = [TABLES.digit(k) + "".join(frame.heads_of(k)) for k in shared]
     lists = []
-    for tags in itertools.product(*[[*reversed(frame.users(k)), None] for k in shared]):
+    for tags in itertools.product(*[[*reversed(frame.heads_of(k)), None] for k in shared]):
         chosen = dict(zip(shared, tags))
         found = list(itertools.product(*[frame.choices(chosen, f) for f in frame.operators]))
         counts = [len(found), sum(all(c[0] for c in one) for one in found), sum(all(c[1] for c in one) for one in found)]

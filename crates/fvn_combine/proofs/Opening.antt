@@ -46,7 +46,7 @@ module _ (k : Combining) (is : IsCombining k) (s : State) where
     kinds = kinds;
   }
 
-  module _ (r : Reading) (bases : List (List Solution)) (shared : List SharedClass) (tags : Tagging) (ready : IsReady k.declarations k.given k.first k.table s) (reading : IsReading k.declarations k.table (class_of s) r) (are_shared : AreSharedClasses k.declarations k.table (class_of s) shared) where
+  module _ (r : Reading) (bases : List (List Solution)) (shared : List SharedClass) (tags : Tagging) (ready : IsReady k.declarations k.given k.first k.table s) (reading : IsReading k.declarations k.table (class_of s) r) (are_shared : AreSharedClasses k.declarations k.table (class_of s) k.sorted shared) where
     abbrev opened_leaf : Opened
     opened_leaf = record { reading = r; bases = bases; shared = shared; tags = tags; turning = None }
 
@@ -63,13 +63,13 @@ module _ (k : Combining) (is : IsCombining k) (s : State) where
 
     pub all_to_come : CoveringChoicesAreListed → tags.counts ≡ tag_counts shared → ((options : List ℕ) → AllZip IsOption tags.counts options → PendingTags tags options) → (u : Substitution) (c : Choice) → IsSortedCovering k s r bases u c → IsCoveredToCome k s opened_leaf u
     all_to_come law counts pending u c h =
-        let l = law k.declarations (problem_of k.given) k.table is.well_made s ready.closed r reading shared are_shared (systems_of r bases) u c h.covering in
+        let l = law k.declarations (problem_of k.given) k.table is.well_made s ready.closed r reading k.sorted shared are_shared (systems_of r bases) u c h.covering h.bounds in
         inr (record {
           options = l.0;
           pending = pending l.0 (subst (λ n. AllZip IsOption n l.0) (sym counts) l.2);
           numbers = l.1;
           as_many = l.3;
-          covered = λ others are. let listed = l.4 others are in record { covering = listed.0; bounds = λ e. listed.1 (h.bounds e) };
+          covered = λ others are. let listed = l.4 others are in record { covering = listed.0; bounds = listed.1 };
         })
 
   -- each unifier that is asked for and that the state admits is covered by a choice that is to come

@@ -53,7 +53,7 @@ module _ (k : Combining) (is : IsCombining k) (possible : ListedChoicesArePossib
     | inl e ↦
         let covered = h.covered tags (subst (λ n. AreTags o.shared n tags) (Some-injective (sym now ∙ e)) are) in
         let inside = within k.declarations k.table (class_of s) o.reading opened.reading o.bases opened.bases tags wheels.wheels asked k.sorted bounds h.numbers h.as_many covered.bounds in
-        let valid = (possible k.declarations is.good.fits (problem_of k.given) is.is_given.kinds k.table is.well_made is.table_of (class_of s) o.reading opened.reading o.bases opened.bases o.shared opened.shared options tags are wheels.wheels asked h.numbers h.as_many).0 (covered.covering.possible, covered.covering.full, inside) in
+        let valid = (possible k.declarations is.good.fits (problem_of k.given) is.is_given.kinds k.table is.well_made is.table_of (class_of s) o.reading opened.reading o.bases opened.bases k.sorted o.shared opened.shared options tags are wheels.wheels asked h.numbers h.as_many).0 (covered.covering.possible, covered.covering.full, inside) in
         inl (record { numbers = h.numbers; pending = all h.numbers valid.0; covered = covered })
     | inr p ↦ inr (record {
       options = h.options;

@@ -75,6 +75,6 @@ module _ (k : Combining) (s : State) where
     pub leaf : IsLeaf k.declarations k.table s
     pub reading : IsReading k.declarations k.table (class_of s) o.reading
     pub bases : AreBases o.reading.sums o.bases
-    pub shared : AreSharedClasses k.declarations k.table (class_of s) o.shared
+    pub shared : AreSharedClasses k.declarations k.table (class_of s) k.sorted o.shared
     pub counts : o.tags.counts ≡ tag_counts o.shared
     pub turning : (v : Turning) → o.turning ≡ Some v → IsTurning o.reading o.bases o.shared v

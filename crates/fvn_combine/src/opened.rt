@@ -67,7 +67,14 @@ pub(crate) fn open(
     sum_operators_are_few();
     covering_choices_are_listed();
     tables_are_small();
-    let classes = shared(task.alloc, task.sig, &task.table, state, &reading)?;
+    let classes = shared(
+        task.alloc,
+        task.sig,
+        &task.table,
+        state,
+        &reading,
+        task.sorted,
+    )?;
     let counts = option_counts(task.alloc, classes.as_slice())?;
     let tags = Tags::new(task.alloc, counts)?;
     Ok(Opened {

@@ -38,7 +38,7 @@ fn next_of_turning(
     requires ready { IsReady task.now.declarations task.now.given task.now.first task.now.table state.now }
     requires reading { IsReading task.now.declarations task.now.table (class_of state.now) reading.now }
     requires bases { AreBases reading.now.sums bases.now }
-    requires shared { AreSharedClasses task.now.declarations task.now.table (class_of state.now) shared.now }
+    requires shared { AreSharedClasses task.now.declarations task.now.table (class_of state.now) task.now.sorted shared.now }
     requires turning { IsTurning task.now state.now reading.now bases.now shared.now turning.old }
     ensures turning { IsTurning task.now state.now reading.now bases.now shared.now turning.new }
     ensures fewer { (u : Substitution)

@@ -49,8 +49,8 @@ fn is_narrow_node(
     }
 }
 
-// Whether some variable in class k is so.
-fn is_narrow(sig: &Signature, table: &Table, state: &State, f: OpId, k: usize) -> bool
+/// Whether some variable in class k is so: it has a sort that admits no sum by the operator.
+pub fn is_narrow(sig: &Signature, table: &Table, state: &State, f: OpId, k: usize) -> bool
     requires associative { IsAssociative (axioms sig.now f) }
     requires closed { IsClosed sig.now table.now state.now }
     ensures { IsTrue result ↔ IsNarrow sig.now table.now (class_of state.now) f k }
@@ -78,8 +78,8 @@ fn is_other_node(sig: &Signature, table: &Table, state: &State, f: OpId, k: usiz
     }
 }
 
-// Whether some variable in class k is so.
-fn is_never_identity(sig: &Signature, table: &Table, state: &State, f: OpId, k: usize) -> bool
+/// Whether some variable in class k is so: it has a sort that does not admit the identity of the operator.
+pub fn is_never_identity(sig: &Signature, table: &Table, state: &State, f: OpId, k: usize) -> bool
     requires { IsClosed sig.now table.now state.now }
     ensures { IsTrue result ↔ IsNeverIdentity sig.now table.now (class_of state.now) f k }
 {

@@ -46,6 +46,7 @@ pub fn obeyed_choices_keep_bounds()
     taken_solutions_stand_for_summands();
     narrow_classes_have_one_summand();
     other_classes_have_some_summand();
+    narrow_classes_have_no_tag();
 }
 
 /// No operator under which it is narrow is the tag of a class.

@@ -48,11 +48,11 @@ module _ (d : Declarations) (t : NodeTable) (class : ℕ → ℕ) (y : Systems) 
     pub possible_to : IsPossible d t class y this → IsPossible d t class y other
     possible_to h = record { tags = h.tags; acceptable = λ f op. acceptable_to f (same f op) (h.acceptable f op) }
 
-    -- sorts ask nothing of tags
-    pub bounds_to : (of : ℕ → Option OpId) → KeepsBounds d t class y this → KeepsBounds d t class y (record { tag = of; number = n })
-    bounds_to of h = record {
+    pub bounds_to : KeepsBounds d t class y this → KeepsBounds d t class y other
+    bounds_to h = record {
       once = λ f op other_than k used narrow. subst (λ b. b ≤ 1) (same_count f (same f op) k) (h.once f op other_than k used narrow);
       some = λ f op k used never. subst (λ b. 0 < b) (same_count f (same f op) k) (h.some f op k used never);
+      untagged = h.untagged;
     }
 
     needs_from : (k l : ℕ) → Needs d t class y other k l → Needs d t class y this k l

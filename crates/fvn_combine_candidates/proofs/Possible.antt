@@ -1,5 +1,5 @@
 -- Choices by lists that are possible.
-use Rattle.std.proofs.Common.{◌≡◌, ℕ, ◌/◌, ◌%◌, ◌^◌, ◌<◌, ◌≤◌, true, List, [], length, slice_index, slice_index_or, refl, sym, ap, ◌∙◌, subst, arith, Contains, Option, Some}
+use Rattle.std.proofs.Common.{◌≡◌, ℕ, ◌/◌, ◌%◌, ◌^◌, ◌<◌, ◌≤◌, Bool, true, List, [], length, slice_index, slice_index_or, refl, sym, ap, ◌∙◌, subst, arith, Contains, Option, Some}
 use Rattle.std.specs.Prelude.{◌↔◌, slice_get}
 use Rattle.std.specs.List.{AllZip, sum_by}
 use Rattle.std.proofs.lemmas.Option.{slice_get_within}
@@ -149,11 +149,11 @@ module _ (d : Declarations) (t : NodeTable) (class : ℕ → ℕ) (r : Reading) 
       λ i e is. alias_from e.operator (here i e is) (h.0.acceptable e.operator (op_here i e is)).no_alias,
     )
 
-    pub from_wheels : (shared : List SharedClass) → AreSharedClasses d t class shared → (options : List ℕ) → AreTags shared options tags
+    pub from_wheels : (sorted : Bool) (shared : List SharedClass) → AreSharedClasses d t class sorted shared → (options : List ℕ) → AreTags shared options tags
         → AllZip IsChoice wheels numbers × LeaveNoAlias d t class (tag_in tags) r.sums bases numbers → IsPossible d t class (systems_of r bases) (choice_of r tags numbers) × IsFull d t class (systems_of r bases) (choice_of r tags numbers) × AreWithin wheels numbers
-    from_wheels shared are_shared options are_tags h = (
+    from_wheels sorted shared are_shared options are_tags h = (
       record {
-        tags = tags_are_users d t class shared are_shared options tags are_tags;
+        tags = tags_are_users d t class sorted shared are_shared options tags are_tags;
         acceptable = λ f op.
             let p = placed d t class r reading f op in
             let w = wheel_here p.place p.entry p.is in

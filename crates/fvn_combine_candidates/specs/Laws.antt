@@ -58,7 +58,7 @@ abbrev pub ListedChoicesArePossible : Type 0
 ListedChoicesArePossible =
     (d : Declarations) → FitsKinds d → (problem : Problem) → IsProblem d problem → (t : NodeTable) → IsWellMade t → IsTableOf d problem t
     → (class : ℕ → ℕ) (r : Reading) → IsReading d t class r → (bases : List (List Solution)) → AreBases r.sums bases
-    → (shared : List SharedClass) → AreSharedClasses d t class shared → (options : List ℕ) (tags : List (Option OpId)) → AreTags shared options tags
+    → (sorted : Bool) (shared : List SharedClass) → AreSharedClasses d t class sorted shared → (options : List ℕ) (tags : List (Option OpId)) → AreTags shared options tags
     → (wheels : List Wheel) → AreWheels d t class (tag_in tags) r.sums bases wheels → (numbers : List ℕ) → length numbers ≡ length r.sums
     → (IsPossible d t class (systems_of r bases) (choice_of r tags numbers) × IsFull d t class (systems_of r bases) (choice_of r tags numbers) × AreWithin wheels numbers)
     ↔ (AllZip IsChoice wheels numbers × LeaveNoAlias d t class (tag_in tags) r.sums bases numbers)
@@ -72,15 +72,16 @@ SortedChoicesAreWithin =
     → (numbers : List ℕ) → length numbers ≡ length r.sums
     → (sorted ≡ true → KeepsBounds d t class (systems_of r bases) (choice_of r tags numbers)) → AreWithin wheels numbers
 
--- a choice that covers a unifier can be listed: by an option for each shared class, and a number for each sum operator; it keeps to what sorts ask
--- where the choice does
+-- a choice that covers a unifier, and keeps to what sorts ask where they are heeded, can be listed: by an option for each shared class, and a number
+-- for each sum operator; what is listed keeps to it too
 abbrev pub CoveringChoicesAreListed : Type 0
 CoveringChoicesAreListed =
     (d : Declarations) (problem : Problem) (t : NodeTable) → IsWellMade t → (s : State) → IsClosed d t s → (r : Reading) → IsReading d t (class_of s) r
-    → (shared : List SharedClass) → AreSharedClasses d t (class_of s) shared → (y : Systems) (u : Substitution) (c : Choice) → IsCovering d problem t s y u c
+    → (sorted : Bool) (shared : List SharedClass) → AreSharedClasses d t (class_of s) sorted shared
+    → (y : Systems) (u : Substitution) (c : Choice) → IsCovering d problem t s y u c → (sorted ≡ true → KeepsBounds d t (class_of s) y c)
     → (options : List ℕ) × (numbers : List ℕ) × AllZip IsOption (tag_counts shared) options × (length numbers ≡ length r.sums)
     × ((tags : List (Option OpId)) → AreTags shared options tags → IsCovering d problem t s y u (choice_of r tags numbers)
-    × (KeepsBounds d t (class_of s) y c → KeepsBounds d t (class_of s) y (choice_of r tags numbers)))
+    × (sorted ≡ true → KeepsBounds d t (class_of s) y (choice_of r tags numbers)))
 
 -- at a leaf that admits its partition, each unifier on kinds, which keeps the sorts of the problem's variables where sorts are heeded, is covered by a
 -- choice that can be listed: by an option for each shared class, and, under their tags, by numbers that are choices of the wheels and make no class an alias
@@ -88,8 +89,8 @@ abbrev pub ListsCover : Type 0
 ListsCover =
     (d : Declarations) → IsGood d → (problem : Problem) → IsProblem d problem → (t : NodeTable) → IsWellMade t → IsTableOf d problem t
     → (s : State) → IsLeaf d t s → (r : Reading) → IsReading d t (class_of s) r → (bases : List (List Solution)) → AreBases r.sums bases
-    → (shared : List SharedClass) → AreSharedClasses d t (class_of s) shared → (u : Substitution) → IsKindUnifier d problem u → Admits s (kernel d u t.nodes)
-    → (sorted : Bool) → (sorted ≡ true → KeepsSorts d (variables_of problem) u)
+    → (sorted : Bool) (shared : List SharedClass) → AreSharedClasses d t (class_of s) sorted shared → (u : Substitution) → IsKindUnifier d problem u → Admits s (kernel d u t.nodes)
+    → (sorted ≡ true → KeepsSorts d (variables_of problem) u)
     → (options : List ℕ) × (numbers : List ℕ) × AllZip IsOption (tag_counts shared) options
     × ((tags : List (Option OpId)) → AreTags shared options tags → IsCovering d problem t s (systems_of r bases) u (choice_of r tags numbers)
     × ((wheels : List Wheel) → AreWheels d t (class_of s) (tag_in tags) r.sums bases wheels → HaveBounds d t (class_of s) sorted r.sums wheels

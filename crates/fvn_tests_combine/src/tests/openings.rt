@@ -12,8 +12,9 @@ use std::alloc::Global;
 //
 // A term is written with each operator after its arguments, sums nested to the right. First comes how many
 // minimal solutions each sum operator has; then each shared class, as the number of its node, with the
-// operators that use it; then for each list of tags how many choices there are, how many of these leave no
-// alias, and how many keep to what sorts ask, each modulo 40. `oracle/openings.py` prints these lines from the problems, by the definitions alone.
+// operators that use it and may head its value; then for each list of tags how many choices there are, how many
+// of these leave no alias, and how many keep to what sorts ask, each modulo 40. `oracle/openings.py` prints these
+// lines from the problems, by the definitions alone.
 const OPENED: &str = "A0 A1 k = A2 A3 k => 4 | | 777
 A0 A1 l = A2 A3 l => 4 | | 111
 A0 f k = A1 g k => 4 | | 222
@@ -31,7 +32,7 @@ A0 A0 k A0 f l i = A1 => 1 2 | 0kl | l111 k111 .111
 A0 A1 k = A2; A0 A1 l A3 A3 l i = A4 => 2 3 | 0kl 1kl | ll111 lk111 l.111 kl111 kk111 k.111 .l111 .k111 ..111";
 
 // The same, where a variable B is of a sort of elements, and no identity leaves elements alone: all valid choices are
-// on the wheels; of the last row, which the program is slow at, each element has two solutions, of which it takes one,
+// on the wheels, and a class with an element has no tag but none; of the last row, which the program is slow at, each element has two solutions, of which it takes one,
 // both or none, and by its sort one. `oracle/openings.py elements` prints these lines.
 const OPENED_WITH_ELEMENTS: &str = "A0 A1 l = A2 A3 l => 4 | | @@@
 B0 A1 l = B2 A3 l => 4 | | @@4
@@ -39,7 +40,7 @@ B0 f l = B1 A2 l => 4 | | 882
 A0 A1 l = B2 => 2 | | 442
 B0 A1 k = B2 A3 k => 4 | | 773
 A0 A1 l = A2; A0 A3 k = A4 => 2 2 | 0lk | k222 l222 .222
-B0 A1 k B0 A2 l i = A3 => 2 2 | 0kl | l222 k222 .222
+B0 A1 k B0 A2 l i = A3 => 2 2 | 0 | .222
 A0 A1 k = A2; A0 A1 l A3 A3 l i = A4 => 2 3 | 0kl 1kl | ll222 lk222 l.222 kl222 kk222 k.222 .l222 .k222 ..222
 A0 A1 l = B2 B3 l B4 l => 6 | | HH8
 A0 A1 l = B2 B3 l B4 l B5 l B6 l B7 l => < | | @@H";

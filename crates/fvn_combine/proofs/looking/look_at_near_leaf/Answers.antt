@@ -35,7 +35,8 @@ asked-requires c =
     let q = subst (λ (k : Combining). IsQuestion k.declarations k.table c.args.state.now (Some c.in-Some.pair)) c.task.view_is c.in-Some.ensures in
     record { closed = c.requires.near.closed; heads = c.requires.heads; sorted = c.requires.sorted; left = q.0; right = q.1; «open» = q.2 }
 
-pub asked-requires-in-Some-2 : goal.asked-requires-in-Some-2
-asked-requires-in-Some-2 c =
-    let q = subst (λ (k : Combining). IsQuestion k.declarations k.table c.args.state.now (Some c.in-Some.pair)) c.task.view_is c.in-Some.ensures in
+pub asked-requires-in-Some-question_on_touched : goal.asked-requires-in-Some-question_on_touched
+asked-requires-in-Some-question_on_touched c =
+    let pair = c.in-Some-question_on_touched.pair in
+    let q = subst (λ (k : Combining). IsQuestion k.declarations k.table c.args.state.now (Some pair)) c.task.view_is c.in-Some-question_on_touched.ensures in
     record { closed = c.requires.near.closed; heads = c.requires.heads; sorted = c.requires.sorted; left = q.0; right = q.1; «open» = q.2 }

@@ -1,5 +1,5 @@
 -- One more class.
-use Rattle.std.proofs.Common.{ℕ, ◌<◌, List, length, set, sym, ap, ◌∙◌, subst, arith, Some, refl}
+use Rattle.std.proofs.Common.{◌<◌, length, set, sym, ap, ◌∙◌, subst, arith, Some, refl}
 use Rattle.fvn_combine_nodes.specs.States.{class_of}
 use Rattle.fvn_combine_inferring.specs.inner.Bounds.{HasTwoSummands}
 use Rattle.fvn_combine_inferring.proofs.Values.{name_within}

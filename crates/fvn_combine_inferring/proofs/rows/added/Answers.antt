@@ -1,5 +1,5 @@
 -- The classes of the sum have its summands.
-use Rattle.std.proofs.Common.{◌≡◌, ◌<◌, ℕ, List, length, sym, ap, ◌∙◌, subst, arith, Option}
+use Rattle.std.proofs.Common.{length, sym, ap, subst, arith}
 use Rattle.fvn_combine_nodes.specs.States.{class_of}
 use Rattle.fvn_combine_inferring.specs.inner.Splits.{AreWithin, IsSum}
 use Rattle.fvn_combine_inferring.proofs.Values.{split_within, splits_within}
