@@ -1,5 +1,5 @@
 -- What differs under all values is in two classes under each unifier.
-use Rattle.std.proofs.Common.{sym, subst}
+use Rattle.std.proofs.Common.{◌<◌, length, sym, subst}
 use Rattle.fvn_flat.specs.Solving.{problem_of}
 use Rattle.fvn_combine_nodes.specs.States.{IsClosed}
 use Rattle.fvn_combine_inferring.specs.Inferred.{TellHeads, HaveTwoValues}
@@ -12,8 +12,8 @@ differ-requires c = record {
   closed = subst (λ (k : Combining). IsClosed k.declarations k.table c.args.state.now) (sym c.task.view_is) c.requires.closed;
   sums = c.tables_have_sums.ensures c.task.inside.sig.now c.task.invariant.good.fits (problem_of c.task.inside.problem.now) c.task.invariant.is_given.kinds c.task.inside.table c.task.invariant.well_made c.task.invariant.table_of;
   heads = subst (λ (k : Combining). TellHeads k.declarations k.table c.args.state.now c.args.known.now.sorted c.args.known.now.heads.items) (sym c.task.view_is) c.requires.heads;
-  left = c.requires.left;
-  right = c.requires.right;
+  left = subst (λ (k : Combining). c.args.i < length k.table.nodes) (sym c.task.view_is) c.requires.left;
+  right = subst (λ (k : Combining). c.args.j < length k.table.nodes) (sym c.task.view_is) c.requires.right;
 }
 
 pub returns-then-differ : goal.returns-then-differ

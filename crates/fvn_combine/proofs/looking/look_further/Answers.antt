@@ -1,5 +1,5 @@
 -- The state is closed in the signature of the task, and what is asked is open there.
-use Rattle.std.proofs.Common.{sym, subst, Some}
+use Rattle.std.proofs.Common.{ℕ, sym, subst, Some}
 use Rattle.fvn_combine_nodes.specs.States.{IsClosed, class_of}
 use Rattle.fvn_combine_leaves.specs.Leaves.{IsFirstQuestion}
 use Rattle.fvn_combine_leaves.specs.Readings.{IsReading}
@@ -14,6 +14,6 @@ first_question-requires c = record {
 
 pub asked-requires : goal.asked-requires
 asked-requires c =
-    let p = (c.in-Some.i, c.in-Some.j) in
+    let p : ℕ × ℕ = (c.in-Some.i, c.in-Some.j) in
     let q = subst (λ (k : Combining). IsFirstQuestion k.declarations k.table c.args.state.now (Some p)) c.task.view_is c.in-Some.ensures in
     record { closed = c.requires.closed; heads = c.requires.heads; sorted = c.requires.sorted; left = q.0; right = q.1; «open» = q.2 }
