@@ -1,5 +1,5 @@
 -- A search that goes on, and one that ends.
-use Rattle.std.proofs.Common.{◌≡◌, ◌<◌, ◌⊎◌, ℕ, List, [], ◌∷◌, length, ◌∙◌, refl, sym, subst, ap, inl, inr, arith}
+use Rattle.std.proofs.Common.{◌≡◌, ◌<◌, ◌≤◌, ◌⊎◌, ℕ, List, [], ◌∷◌, length, ◌∙◌, refl, sym, subst, ap, inl, inr, arith, All}
 use Rattle.std.proofs.lemmas.List.Elements.{All-nil, All-cons, All-weaker}
 use Rattle.fvn_terms.specs.declared.plain.Var.{Var}
 use Rattle.fvn_terms.specs.declared.declarations.Declarations.{Declarations}
@@ -92,22 +92,22 @@ module _ (d : Declarations) (given : Pairs) (vars : List Var) (first most size :
         here : CoversOnKinds m.combining.declarations (variables_of (problem_of m.combining.given)) (value g) u → CoversOnKinds d (variables_of (problem_of given)) (value g) u
         here c = subst (λ p. CoversOnKinds d (variables_of (problem_of p)) (value g) u) of.problem (subst (λ e. CoversOnKinds e (variables_of (problem_of m.combining.given)) (value g) u) of.declarations c)
 
-    -- what was given before stays kept whole
-    pub run_stays : (start : Search) (kept with_g : List Variant) → IsWithAll d given vars first most kept g with_g → IsRun d given vars start m kept → IsRun d given vars start m with_g
-    run_stays start kept with_g w run = record {
-      gave = run.gave;
-      in_turn = run.in_turn;
-      whole = All-weaker (IsKeptWhole d given vars kept) (IsKeptWhole d given vars with_g) (λ e h u i c. w.grows u (h u i c)) run.gave run.whole;
-    }
+    -- what is kept whole stays so
+    still_whole : (kept with_g : List Variant) → IsWithAll d given vars first most kept g with_g → (gave : List Bindings) → All (IsKeptWhole d given vars kept) gave → All (IsKeptWhole d given vars with_g) gave
+    still_whole kept with_g w = All-weaker (IsKeptWhole d given vars kept) (IsKeptWhole d given vars with_g) (λ e h u i c. w.grows u (h u i c))
 
-    -- and so is what is given now, below the limit
+    -- below the limit what is given now is kept whole too
     pub run_on : (start : Search) (kept with_g : List Variant) → IsWithAll d given vars first most kept g with_g → length with_g < most → IsRun d given vars start m kept → IsRun d given vars start after with_g
     run_on start kept with_g w few run = record {
       gave = g ∷ run.gave;
       in_turn = (m, run.in_turn, next);
-      whole = All-cons (IsKeptWhole d given vars with_g) g run.gave (w.covered few) (run_stays start kept with_g w run).whole;
+      whole = All-cons (IsKeptWhole d given vars with_g) g run.gave (w.covered few) (still_whole kept with_g w run.gave run.whole);
     }
 
     -- at the limit the search ends with what is given now
     pub run_full : (start : Search) (kept with_g : List Variant) → IsWithAll d given vars first most kept g with_g → IsRun d given vars start m kept → IsRunToEnd d given vars start after with_g Unifiers
-    run_full start kept with_g w run = record { last = m; run = run_stays start kept with_g w run; ended = (g, next) }
+    run_full start kept with_g w run = record {
+      last = m;
+      run = record { gave = run.gave; in_turn = run.in_turn; whole = still_whole kept with_g w run.gave run.whole };
+      ended = (g, next);
+    }

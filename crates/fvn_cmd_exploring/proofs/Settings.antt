@@ -19,7 +19,7 @@ use Rattle.fvn_exploring.specs.Setting.{Setting}
 use Rattle.fvn_exploring.specs.Explorations.{IsExploreCause, IsExploration}
 use Rattle.fvn_closure.specs.Laws.{ExplorationsAreLawful}
 use Rattle.fvn_narrow.specs.Settings.{narrowing_setting}
-use Rattle.fvn_cmd_exploring.specs.declared.reach.Reach.{Reach}
+use Rattle.fvn_cmd_words.specs.declared.reach.Reach.{Reach}
 use Rattle.fvn_cmd_exploring.specs.Searches.{setting_of, limits_of, IsExploredBy, IsSearched}
 
 module _ (m : Contents) (reach : Reach) where
@@ -54,6 +54,7 @@ module _ (m : Contents) (reach : Reach) where
     workers_free : IsExploration (setting_of m reach) drawn start (limits_of m reach workers) x → IsExploration (setting_of m reach) drawn start (limits_of m reach 1) x
     workers_free e = record {
       lawful = e.lawful;
+      fixed = e.fixed;
       run = e.run;
       few = e.few;
       shallow = e.shallow;

@@ -17,7 +17,7 @@ use Rattle.fvn_exploring.specs.declared.ends.Explored.{Explored}
 use Rattle.fvn_exploring.specs.Setting.{Setting}
 use Rattle.fvn_exploring.specs.Explorations.{IsExploration}
 use Rattle.fvn_closure.specs.Laws.{ExplorationsAreLawful}
-use Rattle.fvn_cmd_exploring.specs.declared.reach.Reach.{Reach}
+use Rattle.fvn_cmd_words.specs.declared.reach.Reach.{Reach}
 
 -- one variant at least may be kept
 abbrev pub KeepsSome : Reach → Type 0
@@ -57,7 +57,12 @@ pub record AreSomeWorkers (workers : ℕ) : Type 0 where
   pub one : 1 ≤ workers
   pub few : workers ≤ WORKERS
 
--- the rules are those of the module, whose equations are admissible, and the limits can be kept to
+-- the rules are those of the module, whose equations are admissible
+pub record AreRulesOf (m : Contents) (rules : RuleLists) : Type 0 where
+  pub usable : AreUsable m.signature rules
+  pub equations : rules.equations ≡ m.equations
+
+-- the rules are those of the module, and the limits can be kept to
 pub record IsSearchable (m : Contents) (rules : RuleLists) (reach : Reach) (workers : ℕ) : Type 0 where
   pub usable : AreUsable m.signature rules
   pub equations : rules.equations ≡ m.equations

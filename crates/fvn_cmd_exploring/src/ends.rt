@@ -4,9 +4,9 @@ ghost use Rattle.fvn_exploring.specs.declared.ends.ExploreEnd.TheVariants.{Compl
 ghost use Rattle.fvn_module_loading.specs.Losses.{IsLossOf};
 ghost use Rattle.fvn_cmd_exploring.specs.Ends.{end_told};
 
-use crate::reach::Reach;
 use fvn_answer::End;
 use fvn_base::limits::{TERM_SYMBOLS, UNIFIERS};
+use fvn_cmd_words::Reach;
 use fvn_exploring::ExploreEnd;
 use fvn_module::Module;
 use fvn_module_loading::sort_loss;

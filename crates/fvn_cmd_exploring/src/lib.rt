@@ -2,9 +2,9 @@
 #![tactic(auto)]
 
 mod ends;
-mod reach;
+mod loading;
 mod search;
 
 pub use ends::{end_told, loss_after};
-pub use reach::Reach;
+pub use loading::{Loaded, load_with_rules};
 pub use search::Search;

@@ -1,8 +1,8 @@
 //! What is searched in, and how far.
 ghost use Rattle.std.specs.Prelude.{◌≡◌};
 
-use crate::reach::Reach;
 use fvn_base::limits::TERM_SYMBOLS;
+use fvn_cmd_words::Reach;
 use fvn_exploring::Limits;
 use fvn_module::Module;
 use fvn_rewrite_rules::Rules;

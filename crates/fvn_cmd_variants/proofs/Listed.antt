@@ -29,7 +29,7 @@ use Rattle.fvn_answer.specs.Writing.{bytes_of as lines_in}
 use Rattle.fvn_answer.specs.Answers.{IsAnswerText}
 use Rattle.fvn_answer.specs.Laws.{EqualLinesCover}
 use Rattle.fvn_cmd_unify.proofs.Counting.{zip-push, as-many}
-use Rattle.fvn_cmd_exploring.specs.declared.reach.Reach.{Reach}
+use Rattle.fvn_cmd_words.specs.declared.reach.Reach.{Reach}
 use Rattle.fvn_cmd_exploring.specs.Searches.{setting_of, AreExplored}
 use Rattle.fvn_cmd_variants.specs.Asked.{flattened, IsCoveredBy}
 use Rattle.fvn_cmd_variants.specs.Solutions.{Found, values, end_of, IsLineOf, Shows}

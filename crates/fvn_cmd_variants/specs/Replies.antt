@@ -8,7 +8,7 @@ use Rattle.fvn_cmd.specs.declared.status.Status.{Status}
 use Rattle.fvn_cmd.specs.Asking.{Word, term_word}
 use Rattle.fvn_cmd.specs.Refusing.{IsReply}
 use Rattle.fvn_cmd_unify.specs.Ends.{status_of_end}
-use Rattle.fvn_cmd_exploring.specs.declared.reach.Reach.{Reach}
+use Rattle.fvn_cmd_words.specs.declared.reach.Reach.{Reach}
 use Rattle.fvn_cmd_variants.specs.Solutions.{Found, end_of, IsSolution, Shows}
 
 -- this status with this text answers the term in the module

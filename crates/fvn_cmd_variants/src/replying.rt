@@ -2,7 +2,6 @@
 ghost use Rattle.std.specs.Prelude.{IfOk};
 ghost use Rattle.fvn_terms.specs.Plain.{term};
 ghost use Rattle.fvn_terms.specs.Signature.{IsTerm};
-ghost use Rattle.fvn_module_loading.specs.Loading.{HasHarmlessSides};
 ghost use Rattle.fvn_cmd.specs.Texts.{bytes_of};
 ghost use Rattle.fvn_cmd_exploring.specs.Searches.{AreSomeWorkers, IsSearchable, KeepsSome};
 ghost use Rattle.fvn_cmd_variants.specs.Replies.{IsAnswer, IsVariantsReply};
@@ -12,14 +11,11 @@ use crate::lines::lines_of;
 use crate::searching::searched;
 use fvn_answer::{answer_text, equal_lines_cover};
 use fvn_cmd::{Answer, Text, refuse_module, refuse_problem};
-use fvn_cmd_exploring::{Reach, Search, end_told, loss_after};
+use fvn_cmd_exploring::{Search, end_told, load_with_rules, loss_after};
 use fvn_cmd_unify::status_of_end;
-use fvn_cohere::harmless_equations_are_admissible;
+use fvn_cmd_words::Reach;
 use fvn_cover::Gate;
 use fvn_flat::{Flat, flatten};
-use fvn_module::Module;
-use fvn_module_engines::extend;
-use fvn_module_loading::load;
 use fvn_problems::{Query, query_names_are_words, query_names_differ, read_term};
 use fvn_signature::Signature;
 use fvn_terms::{NoMemory, Plain, rewriting_is_lawful};
@@ -69,62 +65,29 @@ fn answer<R: Threads + Sync, G: Gate>(
     })
 }
 
-// The answer to a term in a module with its rules.
-fn answer_in<R: Threads + Sync, G: Gate>(
-    rt: &R,
-    gate: &G,
-    alloc: Global,
-    declared: &Module,
-    query: &Query,
-    reach: Reach,
-    workers: u32,
-) -> Result<Answer, NoMemory>
-    requires harmless { HasHarmlessSides declared.now }
-    requires query { IsTermIn declared.now query.now }
-    requires reach { KeepsSome reach }
-    requires workers { AreSomeWorkers workers }
-    ensures { IfOk result (λ a. IsAnswer declared.now query.now reach a.status (bytes_of a.text)) }
-{
-    declared.recall_readable();
-    harmless_equations_are_admissible();
-    let rules = extend(alloc, declared)?;
-    let search = Search {
-        alloc,
-        declared,
-        rules: &rules,
-        reach,
-        workers,
-    };
-    let a = answer(rt, gate, &search, query)?;
-    Ok(a)
-}
-
 // What is replied to the word of a term, where the module is loaded.
 fn reply_in<R: Threads + Sync, G: Gate>(
     rt: &R,
     gate: &G,
-    alloc: Global,
-    declared: &Module,
+    search: &Search<'_>,
     word: &[u8],
-    reach: Reach,
-    workers: u32,
 ) -> Result<Answer, NoMemory>
-    requires harmless { HasHarmlessSides declared.now }
-    requires reach { KeepsSome reach }
-    requires workers { AreSomeWorkers workers }
-    ensures { IfOk result (λ a.
-        RepliesIn declared.now word.now reach a.status (bytes_of a.text)) }
+    requires search { IsSearchable
+        search.now.declared.now search.now.rules.now search.now.reach search.now.workers }
+    ensures { IfOk result (λ a. RepliesIn
+        search.now.declared.now word.now search.now.reach a.status (bytes_of a.text)) }
 {
+    let declared = search.declared;
     declared.recall_readable();
     query_names_are_words();
     query_names_differ();
-    match read_term(alloc, declared.signature(), declared.names(), word) {
+    match read_term(search.alloc, declared.signature(), declared.names(), word) {
         Err(fault) => {
-            let reply = refuse_problem(alloc, fault)?;
+            let reply = refuse_problem(search.alloc, fault)?;
             Ok(reply)
         }
         Ok(query) => {
-            let reply = answer_in(rt, gate, alloc, declared, &query, reach, workers)?;
+            let reply = answer(rt, gate, search, &query)?;
             Ok(reply)
         }
     }
@@ -146,9 +109,16 @@ pub fn variants_reply<R: Threads + Sync, G: Gate>(
     ensures { IfOk result (λ a.
         IsVariantsReply bytes.now word.now reach a.status (bytes_of a.text)) }
 {
-    match load(alloc, bytes) {
-        Ok(declared) => {
-            let reply = reply_in(rt, gate, alloc, &declared, word, reach, workers)?;
+    match load_with_rules(alloc, bytes) {
+        Ok(loaded) => {
+            let search = Search {
+                alloc,
+                declared: &loaded.declared,
+                rules: &loaded.rules,
+                reach,
+                workers,
+            };
+            let reply = reply_in(rt, gate, &search, word)?;
             Ok(reply)
         }
         Err(fault) => {

@@ -6,7 +6,7 @@ use Rattle.fvn_cmd.specs.declared.status.Status.{Status}
 use Rattle.fvn_cmd.specs.Refusing.{IsReply}
 use Rattle.fvn_cmd_unify.specs.Ends.{status_of_end}
 use Rattle.fvn_cmd_unify.specs.Replies.{unify_words, IsToBeUnified}
-use Rattle.fvn_cmd_exploring.specs.declared.reach.Reach.{Reach}
+use Rattle.fvn_cmd_words.specs.declared.reach.Reach.{Reach}
 use Rattle.fvn_cmd_vunify.specs.Solutions.{Found, end_of, IsSolution, Shows}
 
 -- this status with this text answers the problem in the theory of the module

@@ -1,11 +1,12 @@
 -- Explorations: what a search for variants kept, what it gives, and why it ended.
 -- S. Escobar, R. Sasse and J. Meseguer, Folding variant narrowing and optimal variant termination, 2012.
 use Rattle.std.specs.Prelude.{◌≡◌, ◌≤◌, ◌<◌, ◌⊎◌, ℕ, List, [], ◌∷◌, ◌++◌, length, map, All, Any, Contains}
+use Rattle.fvn_terms.specs.declared.plain.Var.{Var}
 use Rattle.fvn_terms.specs.Term.{Term}
-use Rattle.fvn_terms.specs.Substitution.{Substitution}
+use Rattle.fvn_terms.specs.Substitution.{Substitution, Occurs}
 use Rattle.fvn_terms.specs.Unifiers.{Problem}
 use Rattle.fvn_terms.specs.Rewriting.{IsTerminating, IsConfluent}
-use Rattle.fvn_terms.specs.Variants.{IsVariant, IsWithin, Covers}
+use Rattle.fvn_terms.specs.Variants.{IsVariant, IsWithin, Covers, OccursInSome}
 use Rattle.fvn_forms.specs.Flat.{FlatTerm, plain}
 use Rattle.fvn_flat.specs.Solving.{substitution}
 use Rattle.fvn_flat.specs.declared.solver.Pairs.{Pairs}
@@ -41,6 +42,10 @@ abbrev pub IsPosed : Setting → List Deep → Pairs → Type 0
 IsPosed g kept given = Any (λ m. IsNarrowingProblem g m.variant given) kept
 
 module _ (g : Setting) (start : List FlatTerm) where
+  -- the fixed terms have no variables but those of the start
+  abbrev pub AreOverStart : Type 0
+  AreOverStart = All (λ t. (y : Var) → Occurs y t → OccursInSome y (map plain start)) g.fixed
+
   -- under this substitution the start is brought to these terms, as a variant
   abbrev pub IsVariantOf : List Term → Substitution → Type 0
   IsVariantOf us s = IsVariant g.declarations g.equations g.fixed (map plain start) us s
@@ -92,8 +97,9 @@ module _ (g : Setting) (drawn : Problem → Substitution → Type 0) (start : Li
 
     -- what an exploration promises
     pub record IsExploration : Type 0 where
-      -- what the equations keep
+      -- what the equations keep, and over which variables the fixed terms are
       pub lawful : AreLawfulIn g
+      pub fixed : AreOverStart g start
       -- the kept members, no more and no deeper than is allowed; of them those are given that no other covers
       pub run : IsLevelRun g drawn start x.kept
       pub few : length x.kept ≤ limits.variants

@@ -1,9 +1,10 @@
 //! What every expander of variants promises.
-ghost use Rattle.std.specs.Prelude.{◌≤◌, IfOk};
+ghost use Rattle.std.specs.Prelude.{◌≡◌, ◌≤◌, map, IfOk};
 ghost use Rattle.fvn_terms.specs.Substitution.{Substitution};
 ghost use Rattle.fvn_terms.specs.Unifiers.{Problem};
 ghost use Rattle.fvn_base.specs.declared.limits.TheConstants.{EXPANDED_FRESH};
-ghost use Rattle.fvn_flat.specs.Fits.{Fits};
+ghost use Rattle.fvn_forms.specs.Flat.{plain};
+ghost use Rattle.fvn_flat.specs.Fits.{Fits, AllFit};
 ghost use Rattle.fvn_exploring.specs.Setting.{Setting, AreLawfulIn, IsRested};
 ghost use Rattle.fvn_exploring.specs.Expansions.{IsExpandable, AreChildren, IsWhole, HasExpandCause};
 
@@ -20,6 +21,11 @@ pub trait Expander: Sync {
 
     /// Which substitutions its solver may give for a problem.
     ghost drawn: { Self → Problem → Substitution → Type 0 };
+
+    /// The terms that are to stay irreducible.
+    fn fixed(&self) -> &[Flat]
+        ensures exact { map plain result.now ≡ (setting self.now).fixed }
+        ensures fit { AllFit (setting self.now).declarations result.now };
 
     /// The children of a variant.
     fn expand(&self, alloc: Global, v: &Variant, first_fresh: u32) -> Result<Expansion, NoMemory>

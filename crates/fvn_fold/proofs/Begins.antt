@@ -3,7 +3,7 @@ use Rattle.std.proofs.Common.{◌≡◌, ◌⊎◌, ℕ, ◌+◌, ◌-◌, ◌^�
 use Rattle.std.specs.Prelude.{min, All, Any, Contains}
 use Rattle.std.specs.List.{AllZip}
 use Rattle.std.proofs.lemmas.List.{take_more, length-append}
-use Rattle.std.proofs.lemmas.List.Elements.{All-nil}
+use Rattle.std.proofs.lemmas.List.Elements.{All-nil, All-contains}
 use Rattle.fvn_base.proofs.Membership.{contains_cases, contains_none}
 use Rattle.fvn_terms.specs.declared.plain.Var.{Var}
 use Rattle.fvn_terms.specs.declared.declarations.Declarations.{Declarations}
@@ -30,7 +30,7 @@ use Rattle.fvn_exploring.specs.Setting.{Setting, AreLawfulIn}
 use Rattle.fvn_exploring.specs.Children.{IsMember}
 use Rattle.fvn_exploring.specs.Causes.{IsStepsCause, IsSizeCause}
 use Rattle.fvn_exploring.specs.LevelRuns.{IsStart, IsLevelRun}
-use Rattle.fvn_exploring.specs.Explorations.{variants_of, IsPosed, IsTold, IsFound, IsExploreCause, ReachesPast, IsExploration}
+use Rattle.fvn_exploring.specs.Explorations.{variants_of, AreOverStart, IsPosed, IsTold, IsFound, IsExploreCause, ReachesPast, IsExploration}
 use Rattle.fvn_closure.specs.Closing.{IsExplorable}
 use Rattle.fvn_fold.specs.Starts.{IsStartable, IsSettingIn}
 use Rattle.fvn_fold.specs.inner.Beginning.{variables_of_forms, IsRenamedForm, IsEarlyEnd}
@@ -47,13 +47,13 @@ one_place : (i j : ℕ) → i < j → j < 1 → ⊥
 one_place i j l m = omega (arith, l, m)
 
 -- the signature, the equations and the start go together
-pub explorable_of : (g : Setting) (d : Declarations) (start : List FlatTerm) → IsSettingIn g d → IsGood d → IsCompleted d → AreLawfulIn g → IsStartable d start → IsExplorable g start
-explorable_of g d start within good completed lawful startable = record {
+pub explorable_of : (g : Setting) (d : Declarations) (start : List FlatTerm) → IsSettingIn g d → IsGood d → IsCompleted d → AreLawfulIn g → IsStartable d start → AreOverStart g start → IsExplorable g start
+explorable_of g d start within good completed lawful startable over = record {
   good = subst IsGood (sym within.declarations) good;
   completed = subst IsCompleted (sym within.declarations) completed;
   lawful = lawful;
   fits = subst (λ e. AllFit e start) (sym within.declarations) startable.fit;
-  fixed = subst (All (λ t. (y : Var) → Occurs y t → OccursInSome y (map plain start))) (sym within.none_fixed) (All-nil (λ t. (y : Var) → Occurs y t → OccursInSome y (map plain start)));
+  fixed = over;
 }
 
 -- each form of a list that fits does
@@ -134,9 +134,10 @@ module _ (g : Setting) (drawn : Problem → Substitution → Type 0) (start : Li
     never_past h k (inr w) = no_levels x.end w.0 h w.1
 
     -- an exploration that ends before anything is kept
-    pub early : AreLawfulIn g → x.variants ≡ [] → IsEarlyEnd g drawn start x.end → IsExploration g drawn start limits x
-    early lawful given h = record {
+    pub early : AreLawfulIn g → AreOverStart g start → x.variants ≡ [] → IsEarlyEnd g drawn start x.end → IsExploration g drawn start limits x
+    early lawful over given h = record {
       lawful = lawful;
+      fixed = over;
       run = subst (IsLevelRun g drawn start) (sym none) empty_run;
       few = subst (λ l. length l ≤ limits.variants) (sym none) (omega arith);
       shallow = subst (All (λ (m : Deep). m.depth ≤ limits.levels)) (sym none) (All-nil (λ (m : Deep). m.depth ≤ limits.levels));
@@ -148,8 +149,8 @@ module _ (g : Setting) (drawn : Problem → Substitution → Type 0) (start : Li
     }
 
   -- the run of the start alone
-  pub explored_first : (v : Variant) (r : LevelLists) → r ≡ record { done = []; members = v ∷ []; kept = v ∷ [] } → IsStart g start v → IsExploredTo g drawn start 0 r
-  explored_first v r is h = subst (IsExploredTo g drawn start 0) (sym is) record {
+  pub explored_first : AreOverStart g start → (v : Variant) (r : LevelLists) → r ≡ record { done = []; members = v ∷ []; kept = v ∷ [] } → IsStart g start v → IsExploredTo g drawn start 0 r
+  explored_first over v r is h = subst (IsExploredTo g drawn start 0) (sym is) record {
     run = record {
       first = λ m rest e. subst (λ (n : Deep). (n.depth ≡ 0) × IsStart g start n.variant) (head_is m rest e) (refl, h);
       parents = λ before m after e. inl (none_before before m after e);
@@ -163,6 +164,7 @@ module _ (g : Setting) (drawn : Problem → Substitution → Type 0) (start : Li
     ready = record {
       first = v;
       once = (h.vars).once;
+      fixed = all_members (λ t. (y : Var) → Occurs y t → Contains v.vars y) g.fixed (λ t m y o. ((h.vars).all y).1 (All-contains (λ u. (z : Var) → Occurs z u → OccursInSome z (map plain start)) g.fixed t over m y o));
       alike = all_members (AreAlike v) (v ∷ []) (λ w m. subst (AreAlike v) (only w m) (like_itself v));
       members = all_members (IsMember g) (v ∷ []) (λ w m. subst (IsMember g) (only w m) h.member);
     };

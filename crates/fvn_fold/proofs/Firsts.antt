@@ -3,7 +3,7 @@ use Rattle.std.proofs.Common.{◌≡◌, ◌⊎◌, ℕ, ◌+◌, ◌<◌, ◌�
 use Rattle.std.specs.Prelude.{if◌then◌else◌, All, Any, Contains}
 use Rattle.std.specs.List.{AllZip}
 use Rattle.std.proofs.lemmas.Bool.{or_parts}
-use Rattle.std.proofs.lemmas.List.Elements.{All-nil, Contains-push_cases}
+use Rattle.std.proofs.lemmas.List.Elements.{All-contains, Contains-push_cases}
 use Rattle.fvn_base.specs.declared.limits.TheConstants.{EXPANDED_FRESH}
 use Rattle.fvn_base.proofs.Membership.{contains_here, contains_later, contains_cases, contains_none, contains_map, map_contains}
 use Rattle.fvn_terms.specs.declared.plain.Var.{Var}
@@ -98,7 +98,7 @@ abbrev name_or : Var → FlatTerm → Var
 name_or x (fvar y) = y
 name_or x (fapp f joined ts) = x
 
-module _ (g : Setting) (start : List FlatTerm) (explorable : IsExplorable g start) (known : IsKnown g.declarations g.equations) (none_fixed : g.fixed ≡ [])
+module _ (g : Setting) (start : List FlatTerm) (explorable : IsExplorable g start) (known : IsKnown g.declarations g.equations) (irreducible : All (IsIrreducible g.declarations g.equations) g.fixed)
     (v : Variant) (is_vars : v.vars ≡ variables_of_forms start) (is_subst : v.subst ≡ renaming 0 v.vars) (fit : BindingsFit g.declarations v.subst) (next : ℕ)
     (apart : RenamesApart (Contains v.vars) 0 next (value v.subst)) (few : next ≤ EXPANDED_FRESH) (forms : AllZip (IsRenamedForm g v.subst) start v.terms) where
   abbrev s : Substitution
@@ -217,6 +217,14 @@ module _ (g : Setting) (start : List FlatTerm) (explorable : IsExplorable g star
   terms_fit (t ∷ ts) [] h = absurd h
   terms_fit (t ∷ ts) (u ∷ us) h = ((h.0).fits, terms_fit ts us h.1)
 
+  -- the fixed terms with all variables renamed are irreducible as they were
+  stays : (t : Term) → Contains g.fixed t → IsIrreducible g.declarations g.equations (apply s t)
+  stays t m =
+      let over : (x : Var) → Occurs x t → Contains v.vars x =
+      λ x o. (vars.all x).1 (All-contains (λ u. (y : Var) → Occurs y u → OccursInSome y (map plain start)) g.fixed t explorable.fixed m x o) in
+      known.sequences.taken_back s home home_sorted t (subst (λ w. BEqual g.declarations w t) (sym (home_again t over)) stop)
+      (All-contains (IsIrreducible g.declarations g.equations) g.fixed t irreducible m)
+
   member : IsMember g v
   member = record {
     flat = record { terms = terms_fit start v.terms forms; values = fit; vars = all_members (λ x. IsSort g.declarations x.sort) v.vars sort_known };
@@ -227,7 +235,7 @@ module _ (g : Setting) (start : List FlatTerm) (explorable : IsExplorable g star
         let u = map_contains plain v.terms t m in subst (IsIrreducible g.declarations g.equations) u.1.1 (term_irreducible u.0 u.1.0)));
     values = λ x m. subst (IsIrreducible g.declarations g.equations) (ap plain (sym (renamed x m)))
         (explorable.lawful.variables (by x) (kind g.declarations x.sort, variable_of_kind g.declarations x (by x) (sorts x m) (sort_known x m)));
-    stay = subst (All (λ t. IsIrreducible g.declarations g.equations (apply s t))) (sym none_fixed) (All-nil (λ t. IsIrreducible g.declarations g.equations (apply s t)));
+    stay = all_members (λ t. IsIrreducible g.declarations g.equations (apply s t)) g.fixed stays;
   } where
     number : (y : Var) → Any (λ t. Occurs y (plain t)) v.terms ⊎ OccursInValues v.vars s y → y.name < EXPANDED_FRESH
     number y (inl o) = numbered y (holds y o)

@@ -43,9 +43,9 @@ module _ (g : Setting) (kept : List Variant) (ready : AreReady g kept) where
   pub kept_like : (v : Variant) → Contains kept v → LikeFirst v
   kept_like v m = All-contains LikeFirst kept v ready.alike m
 
-  -- kept variants may be expanded, where no terms are fixed
-  pub kept_expandable : g.fixed ≡ [] → (members : List Variant) → All (Contains kept) members → AreExpandable g members
-  kept_expandable none members listed = all_members (IsExpandable g EXPANDED_FRESH) members (λ v m.
+  -- kept variants may be expanded
+  pub kept_expandable : (members : List Variant) → All (Contains kept) members → AreExpandable g members
+  kept_expandable members listed = all_members (IsExpandable g EXPANDED_FRESH) members (λ v m.
       let i = All-contains (Contains kept) members v listed m in
       let k = kept_member v i in
       record {
@@ -53,7 +53,7 @@ module _ (g : Setting) (kept : List Variant) (ready : AreReady g kept) where
         holds = k.holds;
         once = subst (AllPairs (λ x y. x ≡ y → ⊥)) (kept_like v i).vars ready.once;
         numbers = k.numbers;
-        fixed = subst (All (λ t. (y : Var) → Occurs y t → Contains v.vars y)) (sym none) (All-nil (λ t. (y : Var) → Occurs y t → Contains v.vars y));
+        fixed = subst (λ l. All (λ t. (y : Var) → Occurs y t → Contains l y) g.fixed) (kept_like v i).vars ready.fixed;
       })
 
   module _ (drawn : Problem → Substitution → Type 0) where

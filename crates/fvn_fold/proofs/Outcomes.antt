@@ -68,6 +68,7 @@ module _ (g : Setting) (drawn : Problem → Substitution → Type 0) (start : Li
     pub exploration : IsExploration g drawn start limits x
     exploration = record {
       lawful = explorable.lawful;
+      fixed = explorable.fixed;
       run = h.run;
       few = h.few;
       shallow = all_members (λ (m : Deep). m.depth ≤ limits.levels) x.kept h.shallow;

@@ -122,6 +122,7 @@ module _ (g : Setting) (drawn : Problem → Substitution → Type 0) (start : Li
     ready = record {
       first = ready.first;
       once = ready.once;
+      fixed = ready.fixed;
       alike = all_members (λ v. AreAlike ready.first v) (r.kept ++ next) (λ v m. like v (Contains-append_cases r.kept next v m));
       members = all_members (IsMember g) (r.kept ++ next) (λ v m. member v (Contains-append_cases r.kept next v m));
     };

@@ -1,9 +1,8 @@
 //! The first level: the normal forms of the start with all its variables renamed.
-ghost use Rattle.std.specs.Prelude.{◌≡◌, ◌≤◌, IfOk, All};
-ghost use Rattle.fvn_flat.specs.Variables.{renaming};
+ghost use Rattle.std.specs.Prelude.{◌≡◌, IfOk};
 ghost use Rattle.fvn_flat.specs.Bindings.{BindingsFit};
 ghost use Rattle.fvn_exploring.specs.Setting.{AreLawfulIn};
-ghost use Rattle.fvn_fold.specs.Starts.{IsStartable, IsSettingIn};
+ghost use Rattle.fvn_fold.specs.Starts.{IsStartable, IsSettingIn, AreFixedFor};
 ghost use Rattle.fvn_fold.specs.inner.Beginning.{variables_of_forms, AreRested, IsBegun};
 
 use fvn_base::Seq;
@@ -54,7 +53,8 @@ fn rest_all<E: Expander>(
     requires setting { IsSettingIn (E.setting expander.now) sig.now }
     requires start { IsStartable sig.now start.now }
     requires names { BindingsFit sig.now names.now }
-    ensures rested { IfOk result (AreRested (E.setting expander.now) (E.drawn expander.now) start.now names.now) }
+    ensures rested { IfOk result
+        (AreRested (E.setting expander.now) (E.drawn expander.now) start.now names.now) }
     ensures lawful { IfOk result (λ _. AreLawfulIn (E.setting expander.now)) }
 {
     let mut terms = Vec::new(alloc);
@@ -82,8 +82,10 @@ pub(crate) fn begin<E: Expander>(
 ) -> Result<Begun, NoMemory>
     requires setting { IsSettingIn (E.setting expander.now) sig.now }
     requires start { IsStartable sig.now start.now }
+    requires fixed { AreFixedFor (E.setting expander.now) start.now }
     ensures lawful { IfOk result (λ _. AreLawfulIn (E.setting expander.now)) }
-    ensures begun { IfOk result (IsBegun (E.setting expander.now) (E.drawn expander.now) start.now) }
+    ensures begun { IfOk result
+        (IsBegun (E.setting expander.now) (E.drawn expander.now) start.now) }
 {
     sig.recall_good();
     sig.recall_completed();

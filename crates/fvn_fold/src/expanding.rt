@@ -1,10 +1,9 @@
 //! Expansions of many variants, found by several workers.
-ghost use Rattle.std.specs.Prelude.{◌≡◌, ◌≤◌, ◌<◌, ◌++◌, length, IfOk, All};
+ghost use Rattle.std.specs.Prelude.{◌≤◌, ◌<◌, ◌++◌, length, IfOk};
 ghost use Rattle.std.specs.Thread.{IsSync};
 ghost use Rattle.fvn_base.specs.declared.limits.TheConstants.{EXPANDED_FRESH};
 ghost use Rattle.fvn_cover.specs.declared.marking.TheConstants.{WORKERS};
 ghost use Rattle.fvn_cover.specs.Pieces.{IsRange};
-ghost use Rattle.fvn_exploring.specs.Expansions.{IsExpandable};
 ghost use Rattle.fvn_fold.specs.Levels.{AreExpandable, AreExpansions};
 
 use fvn_base::limits::EXPANDED_FRESH;
@@ -30,7 +29,8 @@ fn expanded<E: Expander>(
     members: &[Variant],
 ) -> Result<Vec<Expansion>, NoMemory>
     requires { AreExpandable (E.setting expander.now) members.now }
-    ensures { IfOk result (λ es. AreExpansions (E.setting expander.now) (E.drawn expander.now) members.now es.items) }
+    ensures { IfOk result (λ es.
+        AreExpansions (E.setting expander.now) (E.drawn expander.now) members.now es.items) }
 {
     let mut es = Vec::new(alloc);
     for v in members {
@@ -52,7 +52,8 @@ fn run<R: Threads + Sync, G: Gate, E: Expander>(
 ) -> Result<Vec<Expansion>, NoMemory>
     requires range { IsRange work.now.count work.now.pieces low high (length members.now) }
     requires members { AreExpandable (E.setting work.now.expander.now) members.now }
-    ensures { IfOk result (λ es. AreExpansions (E.setting work.now.expander.now) (E.drawn work.now.expander.now)
+    ensures { IfOk result (λ es.
+        AreExpansions (E.setting work.now.expander.now) (E.drawn work.now.expander.now)
         members.now es.items) }
 {
     if high - low == 1 {
@@ -84,7 +85,8 @@ fn halves<R: Threads + Sync, G: Gate, E: Expander>(
         × AreExpandable (E.setting work.now.expander.now) front.now }
     requires back { IsRange work.now.count work.now.pieces middle high (length back.now)
         × AreExpandable (E.setting work.now.expander.now) back.now }
-    ensures { IfOk result (λ es. AreExpansions (E.setting work.now.expander.now) (E.drawn work.now.expander.now)
+    ensures { IfOk result (λ es.
+        AreExpansions (E.setting work.now.expander.now) (E.drawn work.now.expander.now)
         (front.now ++ back.now) es.items) }
 {
     let left = move || -> Result<Vec<Expansion>, NoMemory>

@@ -1,10 +1,10 @@
 //! Explorations, level by level.
 ghost use Rattle.std.specs.Prelude.{◌≡◌, ◌≤◌, ◌<◌, ◌+◌, ◌++◌, length, IfOk};
 ghost use Rattle.fvn_cover.specs.declared.marking.TheConstants.{WORKERS};
-ghost use Rattle.fvn_exploring.specs.Explorations.{IsExploration};
+ghost use Rattle.fvn_exploring.specs.Explorations.{AreOverStart, IsExploration};
 ghost use Rattle.fvn_exploring.specs.LevelRuns.{IsStart};
 ghost use Rattle.fvn_exploring.specs.Setting.{AreLawfulIn};
-ghost use Rattle.fvn_fold.specs.Starts.{IsStartable, IsSettingIn};
+ghost use Rattle.fvn_fold.specs.Starts.{IsStartable, IsSettingIn, AreFixedFor};
 ghost use Rattle.fvn_fold.specs.inner.Gathering.{IsTask};
 ghost use Rattle.fvn_fold.specs.inner.Running.{lists_of, AreKept, IsEndedAtLast, IsEndFull, IsOverOrWhole, IsTurned};
 
@@ -98,7 +98,8 @@ fn next_turn(
     requires kept { AreKept sig.now (run.kept.items ++ level.next.items) }
     requires more_levels { depth < limits.levels }
     requires few { length run.kept.items + length level.next.items ≤ limits.variants }
-    ensures { IfOk result (IsTurned sig.now limits (lists_of run) depth level.next.items level.end) }
+    ensures { IfOk result
+        (IsTurned sig.now limits (lists_of run) depth level.next.items level.end) }
 {
     let over = is_over(&level);
     let Level { next, end } = level;
@@ -122,7 +123,8 @@ fn after_level(
     requires kept { AreKept sig.now (run.kept.items ++ level.next.items) }
     requires within { depth ≤ limits.levels }
     requires few { length run.kept.items ≤ limits.variants }
-    ensures { IfOk result (IsTurned sig.now limits (lists_of run) depth level.next.items level.end) }
+    ensures { IfOk result
+        (IsTurned sig.now limits (lists_of run) depth level.next.items level.end) }
 {
     if depth == limits.levels {
         let x = at_last(alloc, sig, limits, run, level)?;
@@ -156,11 +158,13 @@ fn levels<R: Threads + Sync, G: Gate, E: Expander>(
 ) -> Result<Explored, NoMemory>
     requires task { IsTask (E.setting task.now.expander.now) task.now.sig.now task.now.limits }
     requires start { IsStartable task.now.sig.now start.now }
+    requires fixed { AreOverStart (E.setting task.now.expander.now) start.now }
     requires variants { 1 ≤ task.now.limits.variants }
     requires lawful { AreLawfulIn (E.setting task.now.expander.now) }
     requires first { IsStart (E.setting task.now.expander.now) start.now first }
-    ensures { IfOk result (IsExploration (E.setting task.now.expander.now) (E.drawn task.now.expander.now) start.now
-        task.now.limits) }
+    ensures { IfOk result
+        (IsExploration (E.setting task.now.expander.now) (E.drawn task.now.expander.now)
+        start.now task.now.limits) }
 {
     task.sig.recall_good();
     task.sig.recall_completed();
@@ -197,9 +201,13 @@ pub fn explore<R: Threads + Sync, G: Gate, E: Expander>(
 ) -> Result<Explored, NoMemory>
     requires setting { IsSettingIn (E.setting expander.now) sig.now }
     requires start { IsStartable sig.now start.now }
+
+    // The fixed terms are over the start's variables, and irreducible as they are given.
+    requires fixed { AreFixedFor (E.setting expander.now) start.now }
     requires variants { 1 ≤ limits.variants }
     requires workers { (1 ≤ limits.workers) × (limits.workers ≤ WORKERS) }
-    ensures exploration { IfOk result (IsExploration (E.setting expander.now) (E.drawn expander.now) start.now limits) }
+    ensures exploration { IfOk result
+        (IsExploration (E.setting expander.now) (E.drawn expander.now) start.now limits) }
 {
     match begin(alloc, sig, expander, start)? {
         Begun::Start(first) => {

@@ -1,11 +1,9 @@
 //! The next level of a level: its members are expanded, and their children folded into those that are kept.
-ghost use Rattle.std.specs.Prelude.{◌≡◌, ◌≤◌, true, ◌↔◌, IsTrue, IfOk, All, Contains, [], Bool, List};
-ghost use Rattle.fvn_cover.specs.declared.marking.TheConstants.{WORKERS};
+ghost use Rattle.std.specs.Prelude.{◌≡◌, true, ◌↔◌, IsTrue, IfOk, All, Contains};
 ghost use Rattle.fvn_cover.specs.Covering.{CoversVariant, AreAlike, IsFlatVariant};
 ghost use Rattle.fvn_terms.specs.CompleteSets.{IsApart};
 ghost use Rattle.fvn_cover.specs.Marks.{AreComparable, AreMarks};
 ghost use Rattle.fvn_exploring.specs.declared.ends.ExpandEnd.TheVariants.{Whole};
-ghost use Rattle.fvn_fold.specs.Levels.{AreExpansions};
 ghost use Rattle.fvn_fold.specs.inner.Gathering.{IsTask, AreReady, IsGatheredFrom, IsMarkedOrAdded, AreTaken, AreNext, IsMoreOfLevel, IsNextLevel};
 
 use crate::expanding::expand_level;
@@ -84,7 +82,8 @@ fn with_candidate(
 ) -> Result<Vec<Kept>, NoMemory>
     requires flat { IsFlatVariant sig.now candidate × All (IsFlatVariant sig.now) before.items }
     requires alike { All (λ k. AreAlike k candidate) before.items }
-    ensures { IfOk result (λ after. IsMarkedOrAdded sig.now mark before.items candidate after.items) }
+    ensures { IfOk result (λ after.
+        IsMarkedOrAdded sig.now mark before.items candidate after.items) }
 {
     if mark {
         return Ok(before);
@@ -109,7 +108,8 @@ fn taken(
     requires apart { IsApart (CoversVariant sig.now) before.items }
     requires alike { All (λ a. All (AreAlike a) before.items) candidates.items }
     requires candidates { All (λ a. All (AreAlike a) candidates.items) candidates.items }
-    ensures { IfOk result (λ after. AreTaken sig.now kept.now before.items candidates.items after.items) }
+    ensures { IfOk result (λ after.
+        AreTaken sig.now kept.now before.items candidates.items after.items) }
 {
     covering_of_variants_is_a_preorder();
     let mut after = before;
@@ -134,10 +134,11 @@ fn chunk_level<R: Threads + Sync, G: Gate, E: Expander>(
     requires task { IsTask (E.setting task.now.expander.now) task.now.sig.now task.now.limits }
     requires ready { AreReady (E.setting task.now.expander.now) kept.now }
     requires members { All (Contains kept.now) members.now }
-    requires before { AreNext (E.setting task.now.expander.now) (E.drawn task.now.expander.now) kept.now kept.now
-        before.items }
-    ensures { IfOk result (λ l. IsMoreOfLevel (E.setting task.now.expander.now) (E.drawn task.now.expander.now) kept.now
-        members.now before.items l.next.items l.end) }
+    requires before { AreNext (E.setting task.now.expander.now) (E.drawn task.now.expander.now)
+        kept.now kept.now before.items }
+    ensures { IfOk result (λ l.
+        IsMoreOfLevel (E.setting task.now.expander.now) (E.drawn task.now.expander.now)
+        kept.now members.now before.items l.next.items l.end) }
 {
     let workers = task.limits.workers;
     let expansions = expand_level(rt, task.alloc, task.expander, members, workers, gate)?;
@@ -174,8 +175,9 @@ pub(crate) fn next_level<R: Threads + Sync, G: Gate, E: Expander>(
     requires task { IsTask (E.setting task.now.expander.now) task.now.sig.now task.now.limits }
     requires ready { AreReady (E.setting task.now.expander.now) kept.now }
     requires members { All (Contains kept.now) members.now }
-    ensures { IfOk result (λ l. IsNextLevel (E.setting task.now.expander.now) (E.drawn task.now.expander.now) kept.now
-        members.now l.next.items l.end) }
+    ensures { IfOk result (λ l.
+        IsNextLevel (E.setting task.now.expander.now) (E.drawn task.now.expander.now)
+        kept.now members.now l.next.items l.end) }
 {
     let size = (CHUNK as usize) * (task.limits.workers as usize);
     let mut next = Vec::new(task.alloc);

@@ -39,7 +39,8 @@ fn with_depth(
 /// The run of the start alone.
 pub(crate) fn first_run(alloc: Global, sig: &Signature, start: Variant) -> Result<Run, NoMemory>
     requires { IsFlatVariant sig.now start }
-    ensures { IfOk result (λ r. (r.done.items ≡ []) × (r.members.items ≡ start ∷ []) × (r.kept.items ≡ start ∷ [])) }
+    ensures { IfOk result (λ r.
+        (r.done.items ≡ []) × (r.members.items ≡ start ∷ []) × (r.kept.items ≡ start ∷ [])) }
 {
     let other = copy(alloc, &start)?;
     let own = Kept::new(alloc, sig, other)?;

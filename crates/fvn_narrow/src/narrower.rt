@@ -57,6 +57,11 @@ impl<A: AxiomSolver> Expander for Narrower<'_, A> {
 
     ghost drawn = { λ n. A.drawn n.solver.now };
 
+    // No term is asked to stay irreducible.
+    fn fixed(&self) -> &[Flat] {
+        &[]
+    }
+
     // New variables are numbered anew for each variant, so that the number does not matter.
     fn expand(&self, alloc: Global, v: &Variant, first_fresh: u32) -> Result<Expansion, NoMemory> {
         let solver = Asking {

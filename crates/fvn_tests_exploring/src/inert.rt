@@ -36,6 +36,11 @@ impl Expander for Inert<'_> {
     // Any substitution may be drawn.
     ghost drawn = { λ e problem s. Unit {0} };
 
+    // No term is asked to stay irreducible.
+    fn fixed(&self) -> &[Flat] {
+        &[]
+    }
+
     fn expand(
         &self,
         alloc: Global,

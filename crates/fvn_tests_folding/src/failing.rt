@@ -39,6 +39,10 @@ impl<E: Expander> Expander for Failing<'_, E> {
 
     ghost drawn = { λ e. E.drawn e.inner.now };
 
+    fn fixed(&self) -> &[Flat] {
+        self.inner.fixed()
+    }
+
     fn expand(&self, alloc: Global, v: &Variant, first_fresh: u32) -> Result<Expansion, NoMemory> {
         if !has_memory(&self.asked, self.most) {
             return Err(NoMemory);

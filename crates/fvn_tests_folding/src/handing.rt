@@ -27,6 +27,10 @@ impl<E: Expander> Expander for Handing<'_, E> {
 
     ghost drawn = { λ e. E.drawn e.inner.now };
 
+    fn fixed(&self) -> &[Flat] {
+        self.inner.fixed()
+    }
+
     fn expand(&self, alloc: Global, v: &Variant, first_fresh: u32) -> Result<Expansion, NoMemory> {
         let e = self.inner.expand(alloc, v, first_fresh)?;
         Ok(e)

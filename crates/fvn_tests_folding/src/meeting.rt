@@ -55,6 +55,10 @@ impl<E: Expander> Expander for Meeting<'_, E> {
 
     ghost drawn = { λ e. E.drawn e.inner.now };
 
+    fn fixed(&self) -> &[Flat] {
+        self.inner.fixed()
+    }
+
     fn expand(&self, alloc: Global, v: &Variant, first_fresh: u32) -> Result<Expansion, NoMemory> {
         look(&self.come, &self.met);
         let e = self.inner.expand(alloc, v, first_fresh)?;

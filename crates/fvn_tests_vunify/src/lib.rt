@@ -1,5 +1,10 @@
-//! Tests of the reply to `vunify`, through the public call of its crate alone.
+//! Tests of the reply to `vunify`, and an expander that keeps terms fixed.
 #![tactic(auto)]
 
+mod fixing;
+mod listed;
 #[cfg(test)]
 mod tests;
+
+pub use fixing::Fixing;
+pub use listed::Listed;

@@ -3,8 +3,8 @@
 ghost use Rattle.fvn_cmd_exploring.specs.Searches.{KeepsSome};
 
 use fvn_cmd::Status;
-use fvn_cmd_exploring::Reach;
 use fvn_cmd_vunify::vunify_reply;
+use fvn_cmd_words::Reach;
 use fvn_cover::OpenGate;
 use fvn_terms::NoMemory;
 use std::alloc::Global;

@@ -13,7 +13,6 @@ use Rattle.fvn_terms.specs.Rewriting.{TermSequence}
 use Rattle.fvn_terms.specs.Laws.{RewritingIsLawful, TheoryEqualityIsLawful}
 use Rattle.fvn_terms.proofs.Equal.{BEqual-sym, BEqual-trans, HasKind-apply}
 use Rattle.fvn_forms.specs.Flat.{FlatTerm, plain}
-use Rattle.fvn_forms.specs.Canon.{canon}
 use Rattle.fvn_forms.specs.FitsKinds.{FitsKinds}
 use Rattle.fvn_forms.specs.Laws.{EqualityIsThatOfFlatForms}
 use Rattle.fvn_forms.proofs.Eval.{canon_plain}

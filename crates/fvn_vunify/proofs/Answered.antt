@@ -5,10 +5,10 @@ use Rattle.std.proofs.lemmas.List.Elements.{All-map, All-head, All-contains}
 use Rattle.fvn_base.proofs.Membership.{contains_none}
 use Rattle.fvn_terms.specs.declared.plain.Var.{Var}
 use Rattle.fvn_terms.specs.Term.{Term}
-use Rattle.fvn_terms.specs.Substitution.{Substitution, apply}
+use Rattle.fvn_terms.specs.Substitution.{Substitution, apply, Occurs}
 use Rattle.fvn_terms.specs.Unifiers.{Problem}
 use Rattle.fvn_terms.specs.Rewriting.{ListSequence, IsTerminating, IsConfluent}
-use Rattle.fvn_terms.specs.Variants.{Covers}
+use Rattle.fvn_terms.specs.Variants.{OccursInSome, Covers}
 use Rattle.fvn_terms.specs.Laws.{InstancesAreTransitive}
 use Rattle.fvn_forms.specs.Flat.{plain}
 use Rattle.fvn_forms.specs.FitsKinds.{FitsKinds}
@@ -71,7 +71,7 @@ first_of P [] h v m = absurd (contains_none v m)
 first_of P (w ∷ variants) h v m = All-head (λ v. P v.vars) w variants h
 
 module _ (g : Setting) (drawn : Problem → Substitution → Type 0) (fits : FitsKinds g.declarations) (known : AreKnown g.declarations g.equations)
-    (law : CoveringOfUnifiersIsInstance) (chain : InstancesAreTransitive) (none_fixed : g.fixed ≡ []) (x : Explored)
+    (law : CoveringOfUnifiersIsInstance) (chain : InstancesAreTransitive) (x : Explored)
     (found kept : List Variant) (stop : ExpandEnd) (attempts : AreAttempts g drawn (first_variables x.variants) x.variants found stop)
     (pruned : IsPruned g.declarations found kept) (pairs : FlatPairs) (limits : Limits) (explored : IsExploredFor g drawn pairs limits x) where
   abbrev vars : List Var
@@ -92,6 +92,12 @@ module _ (g : Setting) (drawn : Problem → Substitution → Type 0) (fits : Fit
 
   from_problem : (v : Variant) → Contains x.variants v → (y : Var) → Contains problem_vars y → Contains vars y
   from_problem v m y n = ((vars_known v m).all y).1 (variable_of_sides pairs y n)
+
+  -- the fixed terms are over these variables
+  over : (v : Variant) → Contains x.variants v → (t : Term) → Contains g.fixed t → (y : Var) → Occurs y t → Contains vars y
+  over v m t n y o =
+      ((vars_known v m).all y).1
+      (All-contains (λ u. (y : Var) → Occurs y u → OccursInSome y (plain_sides pairs)) g.fixed t explored.exploration.fixed n y o)
 
   to_variant : (v : Variant) → Contains x.variants v → (y : Var) → Contains vars y → Contains v.vars y
   to_variant v m y n = ((found_one v m).vars.all y).1 (((vars_known v m).all y).0 n)
@@ -122,15 +128,15 @@ module _ (g : Setting) (drawn : Problem → Substitution → Type 0) (fits : Fit
 
   sound : All (λ s. IsIrreducibleUnifier g (plain_pairs pairs) (substitution s)) (substitutions kept)
   sound = each (λ s. IsIrreducibleUnifier g (plain_pairs pairs) (substitution s))
-      (λ u m. let o = origin_of u m in candidate_unifies g known none_fixed pairs vars (from_problem o.origin o.listed) o.origin u (found_one o.origin o.listed) o.candidate)
+      (λ u m. let o = origin_of u m in candidate_unifies g known pairs vars (from_problem o.origin o.listed) o.origin u (found_one o.origin o.listed) o.candidate)
 
   fit : All (BindingsFit g.declarations) (substitutions kept)
   fit = each (BindingsFit g.declarations)
-      (λ u m. let o = origin_of u m in candidate_fits g known none_fixed pairs vars (from_problem o.origin o.listed) o.origin u (found_one o.origin o.listed) o.candidate)
+      (λ u m. let o = origin_of u m in candidate_fits g known pairs vars (from_problem o.origin o.listed) o.origin u (found_one o.origin o.listed) o.candidate)
 
   small : All (HasSmallValues g (plain_pairs pairs)) (substitutions kept)
   small = each (HasSmallValues g (plain_pairs pairs))
-      (λ u m. let o = origin_of u m in candidate_small g known none_fixed pairs vars (from_problem o.origin o.listed) o.origin u (found_one o.origin o.listed) o.candidate)
+      (λ u m. let o = origin_of u m in candidate_small g known pairs vars (from_problem o.origin o.listed) o.origin u (found_one o.origin o.listed) o.candidate)
 
   -- a unifier whose sides have bounded sequences is an instance of a given one, where what covers its normal forms is solved wholly
   module _ (confluent : IsConfluent g.declarations g.equations) (s : Substitution) (h : IsIrreducibleUnifier g (plain_pairs pairs) s) (most : ℕ)
@@ -145,7 +151,7 @@ module _ (g : Setting) (drawn : Problem → Substitution → Type 0) (fits : Fit
         kept_above g.declarations law problem_vars found kept pruned bare (chain g.declarations g.equations problem_vars).modulo s
         (
         found_above g fits known explored.exploration.lawful pairs explored.kinds s h (sides_normal g fits known explored.exploration.lawful pairs explored.kinds s h most bound)
-        confluent vars v.0 (to_variant v.0 v.1.0) (to_problem v.0 v.1.0) (from_problem v.0 v.1.0) v.1.1 found (whole v.0 v.1.0)
+        confluent vars v.0 (to_variant v.0 v.1.0) (to_problem v.0 v.1.0) (from_problem v.0 v.1.0) (over v.0 v.1.0) v.1.1 found (whole v.0 v.1.0)
         )
 
   complete_one : end_after x.end stop ≡ Complete → IsTerminating g.declarations g.equations → IsConfluent g.declarations g.equations →

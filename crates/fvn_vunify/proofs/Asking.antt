@@ -3,9 +3,10 @@ use Rattle.std.proofs.Common.{◌≡◌, List, map, length, sym, ap, ◌∙◌, 
 use Rattle.std.specs.Prelude.{All, Any, Contains}
 use Rattle.std.proofs.lemmas.List.Elements.{All-weaker, All-contains, All-contains_itself}
 use Rattle.fvn_terms.specs.declared.plain.Var.{Var}
-use Rattle.fvn_terms.specs.Substitution.{Substitution, apply}
+use Rattle.fvn_terms.specs.Substitution.{Substitution, apply, Occurs}
 use Rattle.fvn_terms.specs.Signature.{IsSort}
 use Rattle.fvn_terms.specs.Unifiers.{Problem}
+use Rattle.fvn_terms.specs.Variants.{OccursInSome}
 use Rattle.fvn_forms.specs.Flat.{plain}
 use Rattle.fvn_flat.specs.Bindings.{Bindings, BindingsFit}
 use Rattle.fvn_flat.specs.Solving.{substitution}
@@ -49,6 +50,7 @@ module _ (g : Setting) (drawn : Problem → Substitution → Type 0) (x : Explor
           holds = f.member.holds;
           kinds = kinds_reached g.declarations g.equations known.kinded (substitution v.subst) f.variant.well_sorted.0 some.pairs v.terms f.variant.steps some.explored.kinds
               ((known.lists.members f.variant.steps (map (apply (substitution v.subst)) (plain_sides some.pairs)) (map plain v.terms)).0 f.variant.sequence);
+          fixed = λ t n y o. (k.all y).1 (All-contains (λ w. (z : Var) → Occurs z w → OccursInSome z (plain_sides some.pairs)) g.fixed t some.explored.exploration.fixed n y o);
           same_vars = λ y. (λ n. (f.vars.all y).1 ((k.all y).0 n), λ n. (k.all y).1 ((f.vars.all y).0 n));
         }
 

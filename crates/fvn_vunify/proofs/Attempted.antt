@@ -4,8 +4,8 @@ use Rattle.std.specs.Prelude.{All, Any, Contains}
 use Rattle.std.proofs.lemmas.List.Elements.{All-contains, All-weaker, All-contains_itself}
 use Rattle.fvn_base.proofs.Membership.{map_contains}
 use Rattle.fvn_terms.specs.declared.plain.Var.{Var}
-use Rattle.fvn_terms.specs.Term.{var}
-use Rattle.fvn_terms.specs.Substitution.{Substitution, apply, followed_by}
+use Rattle.fvn_terms.specs.Term.{Term, var}
+use Rattle.fvn_terms.specs.Substitution.{Substitution, apply, followed_by, Occurs}
 use Rattle.fvn_terms.specs.Signature.{kind, IsSort}
 use Rattle.fvn_terms.specs.Equality.{BEqual}
 use Rattle.fvn_terms.specs.Sorts.{IsWellSorted}
@@ -28,6 +28,7 @@ use Rattle.fvn_flat.specs.declared.solver.SolveEnd.{SolveEnd}
 use Rattle.fvn_flat.specs.declared.solver.SolveEnd.TheVariants.{Complete, Basis as BasisOfSolver, Unifiers as UnifiersOfSolver, Size as SizeOfSolver}
 use Rattle.fvn_flat.specs.declared.solver.SizeCause.TheVariants.{Problem as OfProblem, Binding, Term as OfTerm}
 use Rattle.fvn_rewrite_laws.specs.Normalised.{IsReached}
+use Rattle.fvn_rewrite_laws.proofs.Agreement.{equal_by_agreement}
 use Rattle.fvn_rewrite_laws.specs.Laws.{SequenceLaws}
 use Rattle.fvn_cover.specs.declared.variant.Variant.{Variant}
 use Rattle.fvn_cover.proofs.Leftovers.{any_contains}
@@ -38,8 +39,9 @@ use Rattle.fvn_vunify.specs.Sides.{two_by_two, problem_over}
 use Rattle.fvn_vunify.specs.Causes.{IsPairsProblem, IsDrawnSolution, IsOfSolution, IsPairsCause}
 use Rattle.fvn_vunify.specs.inner.Ends.{end_of_pairs, first_end}
 use Rattle.fvn_vunify.specs.inner.Names.{AreFreshNames}
-use Rattle.fvn_vunify.specs.inner.Tests.{IsUnfinished, GrowsTo}
-use Rattle.fvn_vunify.specs.inner.Attempts.{IsSolvable, IsTestedAs, IsStopBetween, AreTested, IsCandidate, IsAttempt}
+use Rattle.fvn_vunify.specs.declared.testing.Test.TheVariants.{Stopped}
+use Rattle.fvn_vunify.specs.inner.Tests.{IsUnfinished, GrowsTo, IsStopOf, form_under, AllStay, IsTestAmong}
+use Rattle.fvn_vunify.specs.inner.Attempts.{IsSolvable, IsJoined, IsTestedAs, IsStopBetween, AreTested, IsCandidate, IsAttempt}
 use Rattle.fvn_vunify.proofs.NewNames.{name_of, name_is_fresh}
 use Rattle.fvn_vunify.proofs.Posing.{with_names, renamed_before, named_by, is_renamed, posed}
 use Rattle.fvn_vunify.proofs.Joined.{seen, seen_unifies, back, back_unifies, joined_value, after, after_sorted, joined_above}
@@ -91,6 +93,7 @@ module _ (g : Setting) (drawn : Problem → Substitution → Type 0) (good : IsG
         fits = t.fits;
         others = λ x n. ap (λ o. plain (form_or x o)) (t.joined.others x n);
         passed = t.passed;
+        stay = t.stay;
         unifier = seen g good vars v solvable names next fresh (substitution s);
         unifies = seen_unifies g good vars v solvable names next fresh given is (substitution s) unifies_one;
         same = λ x n. value_one t.by x n (t.joined.kept x n);
@@ -128,39 +131,40 @@ module _ (g : Setting) (drawn : Problem → Substitution → Type 0) (good : IsG
             (value_one by x k (kept x k));
       }
 
-      told_one : (end : ExpandEnd) → (b : IsStopBetween g vars first s end) → IsOfSolution g drawn v (value b.by b.variable)
-      told_one end b = record {
-        by = substitution b.by;
-        solution = solution_one b.by b.joined.kept;
-        variable = b.variable;
-        listed = (solvable.same_vars b.variable).0 b.listed;
-        is = sym (canon_plain g.declarations (value b.by b.variable) (b.fits.settled b.variable));
-      }
-
-      fits_one : (end : ExpandEnd) → (b : IsStopBetween g vars first s end) → Fits g.declarations (value b.by b.variable)
-      fits_one end b =
-          let i = sort_of b.variable ((solvable.same_vars b.variable).0 b.listed) in
-          record { flat = b.fits.settled b.variable; kinded = (kind g.declarations (b.variable).sort, b.fits.keeps_kinds b.variable i) }
-
-      -- why a test stopped
-      stop_cause : (end : ExpandEnd) → IsStopBetween g vars first s end → IsPairsCause g drawn v end
-      stop_cause Whole b = absurd b.stop
-      stop_cause (Steps start end) b =
-          let h : IsUnfinished g (value b.by b.variable) start end = b.stop in
-          let at = sym h.is in
+      -- why a test of a form stopped
+      form_cause : (form : FlatTerm) → IsOfSolution g drawn v form → Fits g.declarations form → (end : ExpandEnd) → IsStopOf g form end → IsPairsCause g drawn v end
+      form_cause form told fits Whole h = absurd h
+      form_cause form told fits (Steps start end) h =
+          let k : IsUnfinished g form start end = h in
+          let at = sym k.is in
           record {
-            told = subst (IsOfSolution g drawn v) at (told_one (Steps start end) b);
-            fits = subst (Fits g.declarations) at (fits_one (Steps start end) b);
-            reached = subst (λ t. IsReached g.declarations g.equations g.bounds.steps t end) at h.reached;
-            reducible = h.reducible;
+            told = subst (IsOfSolution g drawn v) at told;
+            fits = subst (Fits g.declarations) at fits;
+            reached = subst (λ t. IsReached g.declarations g.equations g.bounds.steps t end) at k.reached;
+            reducible = k.reducible;
           }
-      stop_cause (Size (OfProblem p)) b = absurd b.stop
-      stop_cause (Size (Binding list)) b = absurd b.stop
-      stop_cause (Size (OfTerm end)) b =
-          let h : GrowsTo g (value b.by b.variable) end = b.stop in
-          record { start = value b.by b.variable; told = told_one (Size (OfTerm end)) b; steps = h.steps; reached = h.reached; large = h.large }
-      stop_cause (Basis f system) b = absurd b.stop
-      stop_cause (Unifiers given list) b = absurd b.stop
+      form_cause form told fits (Size (OfProblem p)) h = absurd h
+      form_cause form told fits (Size (Binding list)) h = absurd h
+      form_cause form told fits (Size (OfTerm end)) h =
+          let k : GrowsTo g form end = h in
+          record { start = form; told = told; steps = k.steps; reached = k.reached; large = k.large }
+      form_cause form told fits (Basis f system) h = absurd h
+      form_cause form told fits (Unifiers given list) h = absurd h
+
+      -- why a test of a value, or of a fixed term, stopped
+      stop_cause : (end : ExpandEnd) → IsStopBetween g vars first s end → IsPairsCause g drawn v end
+      stop_cause end b = of b.stop where
+        of : IsTestAmong g vars b.by (Stopped end) → IsPairsCause g drawn v end
+        of (inl (x, m, h)) =
+            let k = (solvable.same_vars x).0 m in
+            form_cause (value b.by x)
+            (record { by = substitution b.by; solution = solution_one b.by b.joined.kept; is = inl (x, k, sym (canon_plain g.declarations (value b.by x) (b.fits.settled x))) })
+            (record { flat = b.fits.settled x; kinded = (kind g.declarations x.sort, b.fits.keeps_kinds x (sort_of x k)) })
+            end h
+        of (inr (t, m, h)) =
+            form_cause (form_under g b.by t)
+            (record { by = substitution b.by; solution = solution_one b.by b.joined.kept; is = inr (t, m, refl) })
+            h.fits end h.stop
 
     module _ (apart : AreApart g.declarations given solved) (complete : AreComplete g.declarations given solved)
         (cause : HasCause g.declarations given g.unifiers g.bounds.size solved) (found : List Variant) (stop : ExpandEnd) (tested : AreTested g vars first solved.unifiers found stop) where
@@ -196,7 +200,8 @@ module _ (g : Setting) (drawn : Problem → Substitution → Type 0) (good : IsG
 
       -- each unifier of the terms two by two that gives irreducible values is below one that is found
       module _ (all : solved.end ≡ Complete) (none_stopped : stop ≡ Whole) (c : Substitution) (unifies : IsUnifier g.declarations (problem_over v.terms) c)
-          (irreducible : (x : Var) → Contains vars x → IsIrreducible g.declarations g.equations (apply c (substitution v.subst x))) where
+          (irreducible : (x : Var) → Contains vars x → IsIrreducible g.declarations g.equations (apply c (substitution v.subst x)))
+          (stay : (t : Term) → Contains g.fixed t → IsIrreducible g.declarations g.equations (apply c (apply (substitution v.subst) t))) where
         module _ (s : Bindings) (m : Contains solved.unifiers s)
             (i : IsInstance g.declarations (variables_of (problem_of given)) (back g good vars v solvable names next fresh c) (substitution s)) where
           abbrev later : Substitution
@@ -215,9 +220,28 @@ module _ (g : Setting) (drawn : Problem → Substitution → Type 0) (good : IsG
               let t = substitution (composed g.declarations first s) x in
               sequences.instances later is_sorted t (sequences.irreducible (apply c (substitution v.subst x)) (apply later t) (above x n) (irreducible x n))
 
+          -- the fixed terms have instances that stay irreducible
+          above_fixed : (r : Bindings) → IsJoined g vars first s r → (t : Term) → Contains g.fixed t →
+              BEqual g.declarations (apply c (apply (substitution v.subst) t)) (apply later (apply (substitution r) t))
+          above_fixed r joined t m =
+              let value_above : (x : Var) → Occurs x t → BEqual g.declarations (apply c (substitution v.subst x)) (apply later (substitution r x)) =
+              λ x o. let n = solvable.fixed t m x o in
+              subst (λ w. BEqual g.declarations (apply c (substitution v.subst x)) (apply later w)) (ap (λ o. plain (form_or x o)) (sym (joined.kept x n))) (above x n) in
+              subst (λ w. BEqual g.declarations w (apply later (apply (substitution r) t))) (sym (apply-apply (substitution v.subst) c t))
+              (
+              subst (BEqual g.declarations (apply (followed_by (substitution v.subst) c) t)) (sym (apply-apply (substitution r) later t))
+              (equal_by_agreement g.declarations (followed_by (substitution v.subst) c) (followed_by (substitution r) later) t value_above)
+              )
+
+          fixed_stay : (r : Bindings) → IsJoined g vars first s r → AllStay g r g.fixed
+          fixed_stay r joined t m =
+              let w = apply (substitution r) t in
+              sequences.instances later is_sorted w
+              (sequences.irreducible (apply c (apply (substitution v.subst) t)) (apply later w) (above_fixed r joined t m) (stay t m))
+
           below_found : Any (λ u. IsInstance g.declarations vars (followed_by (substitution v.subst) c) (substitution u.subst)) found
           below_found =
-              let w = tested.whole none_stopped s m value_irreducible in (
+              let w = tested.whole none_stopped s m value_irreducible fixed_stay in (
                 w.0,
                 w.1,
                 w.2,
@@ -243,8 +267,8 @@ module _ (g : Setting) (drawn : Problem → Substitution → Type 0) (good : IsG
       pub attempted : IsAttempt g drawn vars v found (first_end (end_of_pairs given solved.unifiers solved.end) stop)
       attempted = record {
         candidates = candidates;
-        whole = λ e c unifies irreducible.
+        whole = λ e c unifies irreducible stay.
             let both = both_whole end stop e in
-            whole_one (whole_is_complete given solved.unifiers solved.end both.0) both.1 c unifies irreducible;
+            whole_one (whole_is_complete given solved.unifiers solved.end both.0) both.1 c unifies irreducible stay;
         cause = why;
       }

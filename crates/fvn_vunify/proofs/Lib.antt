@@ -13,5 +13,6 @@ mod Joined
 mod Tested
 mod Attempted
 mod Passing
+mod Staying
 mod Asking
 mod Flattened

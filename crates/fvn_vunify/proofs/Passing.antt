@@ -14,7 +14,7 @@ use Rattle.fvn_flat.specs.Fits.{Fits}
 use Rattle.fvn_rewrite_laws.specs.Normalised.{counted, IsForm, IsUnfinished as IsUnfinishedFrom, IsTooLarge}
 use Rattle.fvn_exploring.specs.Setting.{Setting}
 use Rattle.fvn_vunify.specs.declared.testing.Test.{Test}
-use Rattle.fvn_vunify.specs.inner.Tests.{IsPassed, IsUnfinished, GrowsTo, IsTestOf, ArePassed, IsTestOfSome}
+use Rattle.fvn_vunify.specs.inner.Tests.{IsPassed, IsUnfinished, GrowsTo, IsTestOf, IsTestOfSome}
 
 module _ (g : Setting) (t form : FlatTerm) where
   pub passes : IsForm g.declarations g.equations t g.bounds form → form ≡ t → IsPassed g t
@@ -34,22 +34,25 @@ module _ (g : Setting) (t form : FlatTerm) where
   pub grows : IsTooLarge g.declarations g.equations t g.bounds form → GrowsTo g t form
   grows h = let l : g.bounds.size < counted form = h.large in record { steps = h.reached.count; reached = h.reached.reached; large = omega (arith, l) }
 
--- The values of variables in turn.
-module _ (g : Setting) (vars : List Var) (s : Bindings) where
-  pub passed_none : ArePassed g [] s
-  passed_none x m = absurd (contains_none x m)
+-- Members of a list in turn.
+module _ {A : Type 0} (P : A → Type 0) (xs : List A) where
+  abbrev AllBefore : ℕ → Type 0
+  AllBefore i = (x : A) → Contains (take i xs) x → P x
 
-  module _ (i : ℕ) (e : Var) (l : i < length vars) where
-    pub passed_more : IsPassed g (value s (get_or vars i e)) → ArePassed g (take i vars) s → ArePassed g (take (i + 1) vars) s
-    passed_more one h x m =
-        elim (Contains-push_cases (take i vars) (get_or vars i e) x (subst (λ xs. Contains xs x) (take_more vars i e l) m)) as (λ _. IsPassed g (value s x)) [
-          | inl o ↦ h x o
-          | inr q ↦ subst (λ (y : Var). IsPassed g (value s y)) q one
-        ]
+  pub each_none : (x : A) → Contains [] x → P x
+  each_none x m = absurd (contains_none x m)
 
-    -- one that does not pass
-    pub some_not_passed : (test : Test) → IsTestOf g (value s (get_or vars i e)) test → IsTestOfSome g vars s test
-    some_not_passed test h = (get_or vars i e, Contains-get_or vars i e l, h)
+  pub each_more : (i : ℕ) (e : A) → i < length xs → P (get_or xs i e) → AllBefore i → AllBefore (i + 1)
+  each_more i e l one h x m =
+      elim (Contains-push_cases (take i xs) (get_or xs i e) x (subst (λ ys. Contains ys x) (take_more xs i e l) m)) as (λ _. P x) [
+        | inl o ↦ h x o
+        | inr q ↦ subst P q one
+      ]
 
-  pub passed_all : (i : ℕ) → length vars ≤ i → ArePassed g (take i vars) s → ArePassed g vars s
-  passed_all i l h = subst (λ xs. ArePassed g xs s) (take_all i vars l) h
+  pub each_all : (i : ℕ) → length xs ≤ i → AllBefore i → (x : A) → Contains xs x → P x
+  each_all i l h = subst (λ ys. (x : A) → Contains ys x → P x) (take_all i xs l) h
+
+-- a value that does not pass
+pub some_not_passed : (g : Setting) (vars : List Var) (s : Bindings) (i : ℕ) (e : Var) → i < length vars →
+    (test : Test) → IsTestOf g (value s (get_or vars i e)) test → IsTestOfSome g vars s test
+some_not_passed g vars s i e l test h = (get_or vars i e, Contains-get_or vars i e l, h)

@@ -1,7 +1,7 @@
 -- What is found is a unifier in the theory, with irreducible values.
-use Rattle.std.proofs.Common.{◌≡◌, Bool, true, false, List, [], map, refl, sym, ap, ◌∙◌, subst}
-use Rattle.std.specs.List.{All, Contains}
-use Rattle.std.proofs.lemmas.List.Elements.{All-nil}
+use Rattle.std.proofs.Common.{◌≡◌, Bool, true, false, List, map, refl, sym, ap, ◌∙◌, subst}
+use Rattle.std.specs.List.{Contains}
+use Rattle.std.proofs.lemmas.List.Elements.{All-weaker, All-contains_itself}
 use Rattle.fvn_terms.specs.declared.plain.Var.{Var}
 use Rattle.fvn_terms.specs.Term.{Term}
 use Rattle.fvn_terms.specs.Substitution.{Substitution, apply}
@@ -28,7 +28,7 @@ use Rattle.fvn_vunify.proofs.Known.{AreKnown}
 use Rattle.fvn_vunify.proofs.IrreducibleValues.{variables_sorted}
 use Rattle.fvn_vunify.proofs.TwoByTwo.{plain_sides, side_has_variable, unifies_in_theory}
 
-module _ (g : Setting) (known : AreKnown g.declarations g.equations) (none_fixed : g.fixed ≡ []) (pairs : FlatPairs) (vars : List Var)
+module _ (g : Setting) (known : AreKnown g.declarations g.equations) (pairs : FlatPairs) (vars : List Var)
     (from_problem : (x : Var) → Contains (variables_of (plain_pairs pairs)) x → Contains vars x)
     (v u : Variant) (found : IsFound g (sides_in_turn pairs) v) (c : IsCandidate g vars v u) where
   abbrev before : Substitution
@@ -60,7 +60,7 @@ module _ (g : Setting) (known : AreKnown g.declarations g.equations) (none_fixed
             (known.rewriting.variants g.fixed (plain_sides pairs) (map plain v.terms) before found.variant) c.unifies.1
             (λ x o. c.same x (from_problem x (side_has_variable pairs x o))),
       );
-      stay = subst (All Stays) (sym none_fixed) (All-nil Stays);
+      stay = All-weaker (Contains g.fixed) Stays c.stay g.fixed (All-contains_itself g.fixed);
     };
     values = λ x m. (c.passed x (from_problem x m)).irreducible;
   }

@@ -9,7 +9,7 @@ use Rattle.fvn_terms.specs.declared.plain.Var.{Var}
 use Rattle.fvn_terms.specs.Substitution.{Substitution}
 use Rattle.fvn_terms.specs.Unifiers.{Problem}
 use Rattle.fvn_terms.specs.Rewriting.{IsIrreducible}
-use Rattle.fvn_forms.specs.Flat.{plain}
+use Rattle.fvn_forms.specs.Flat.{FlatTerm, plain}
 use Rattle.fvn_flat.specs.Bindings.{Bindings, form_or, value, composed, BindingsFit}
 use Rattle.fvn_flat.specs.Solving.{substitution}
 use Rattle.fvn_cover.specs.declared.variant.Variant.{Variant}
@@ -20,7 +20,7 @@ use Rattle.fvn_exploring.specs.Setting.{Setting}
 use Rattle.fvn_vunify.specs.declared.testing.Test.TheVariants.{Reducible, Stopped}
 use Rattle.fvn_vunify.specs.Causes.{IsPairsCause, MeetsBound}
 use Rattle.fvn_vunify.specs.inner.Ends.{first_end}
-use Rattle.fvn_vunify.specs.inner.Tests.{IsStopOf, ArePassed, IsTestOfSome}
+use Rattle.fvn_vunify.specs.inner.Tests.{IsStopOf, ArePassed, form_under, AllStay, IsTestAmong}
 use Rattle.fvn_vunify.specs.inner.Attempts.{candidate_of, IsJoined, IsTestedAs, IsStopBetween, AreTested, IsCandidate, IsAbove, AreWholeFor, IsAttempt, AreAttempts}
 
 -- the first of two ends is the later one where nothing stopped before
@@ -56,7 +56,7 @@ module _ (g : Setting) (vars : List Var) (first : Bindings) where
   pub tested_none : AreTested g vars first [] [] Whole
   tested_none = record {
     passed = λ u m. absurd (contains_none u m);
-    whole = λ e s m h. absurd (contains_none s m);
+    whole = λ e s m h k. absurd (contains_none s m);
     stop = λ n. absurd (n refl);
   }
 
@@ -75,53 +75,62 @@ module _ (g : Setting) (vars : List Var) (first : Bindings) where
     old_stop n = any_more (λ s. IsStopBetween g vars first s end) list s (tested.stop n)
 
     -- one that passed
-    pub tested_passed : ArePassed g vars by → AreTested g vars first (list ++ s ∷ []) (found ++ candidate_of vars by ∷ []) end
+    pub tested_passed : ArePassed g vars by × AllStay g by g.fixed → AreTested g vars first (list ++ s ∷ []) (found ++ candidate_of vars by ∷ []) end
     tested_passed passed = record {
       passed = λ u m. elim (Contains-push_cases found (candidate_of vars by) u m) as (λ _. Any (λ s. IsTestedAs g vars first s u) (list ++ s ∷ [])) [
         | inl o ↦ old_passed u o
         | inr e ↦ Any-push (λ s. IsTestedAs g vars first s u) list s (subst (IsTestedAs g vars first s) e new)
       ];
-      whole = λ e z m h. elim (Contains-push_cases list s z m) as (λ _. Any (IsTestedAs g vars first z) (found ++ candidate_of vars by ∷ [])) [
-        | inl o ↦ any_more (IsTestedAs g vars first z) found (candidate_of vars by) (tested.whole e z o h)
+      whole = λ e z m h k. elim (Contains-push_cases list s z m) as (λ _. Any (IsTestedAs g vars first z) (found ++ candidate_of vars by ∷ [])) [
+        | inl o ↦ any_more (IsTestedAs g vars first z) found (candidate_of vars by) (tested.whole e z o h k)
         | inr q ↦ Any-push (IsTestedAs g vars first z) found (candidate_of vars by) (subst (λ a. IsTestedAs g vars first a (candidate_of vars by)) q new)
       ];
       stop = old_stop;
     }
       where
         new : IsTestedAs g vars first s (candidate_of vars by)
-        new = record { by = by; joined = joined; is = refl; fits = fits; passed = passed }
+        new = record { by = by; joined = joined; is = refl; fits = fits; passed = passed.0; stay = passed.1 }
 
     -- one that is reducible
-    pub tested_reducible : IsTestOfSome g vars by Reducible → AreTested g vars first (list ++ s ∷ []) found end
+    pub tested_reducible : IsTestAmong g vars by Reducible → AreTested g vars first (list ++ s ∷ []) found end
     tested_reducible some = record {
       passed = old_passed;
-      whole = λ e z m h. elim (Contains-push_cases list s z m) as (λ _. Any (IsTestedAs g vars first z) found) [
-        | inl o ↦ tested.whole e z o h
-        | inr q ↦
-            let is : substitution (composed g.declarations first z) some.0 ≡ substitution by some.0 =
-            ap (λ a. substitution (composed g.declarations first a) some.0) (sym q) ∙ ap (λ o. plain (form_or some.0 o)) (sym (joined.kept some.0 some.1)) in
-            absurd (some.2 (subst (IsIrreducible g.declarations g.equations) is (h some.0 some.1)))
+      whole = λ e z m h k. elim (Contains-push_cases list s z m) as (λ _. Any (IsTestedAs g vars first z) found) [
+        | inl o ↦ tested.whole e z o h k
+        | inr q ↦ absurd (not_kept z q h k some)
       ];
       stop = old_stop;
     }
+      where
+        not_kept : (z : Bindings) → s ≡ z → ((x : Var) → Contains vars x → IsIrreducible g.declarations g.equations (substitution (composed g.declarations first z) x)) →
+            ((r : Bindings) → IsJoined g vars first z r → AllStay g r g.fixed) → IsTestAmong g vars by Reducible → ⊥
+        not_kept z q h k (inl (x, m, n)) =
+            let is : substitution (composed g.declarations first z) x ≡ substitution by x =
+            ap (λ a. substitution (composed g.declarations first a) x) (sym q) ∙ ap (λ o. plain (form_or x o)) (sym (joined.kept x m)) in
+            n (subst (IsIrreducible g.declarations g.equations) is (h x m))
+        not_kept z q h k (inr (t, m, n)) = n (k by (subst (λ a. IsJoined g vars first a by) q joined) t m)
 
     -- one whose test stopped
-    pub tested_stopped : (stop : ExpandEnd) → IsTestOfSome g vars by (Stopped stop) → AreTested g vars first (list ++ s ∷ []) found (first_end end stop)
+    pub tested_stopped : (stop : ExpandEnd) → IsTestAmong g vars by (Stopped stop) → AreTested g vars first (list ++ s ∷ []) found (first_end end stop)
     tested_stopped stop some = record {
       passed = old_passed;
-      whole = λ e z m h. absurd (not_whole stop some.2 (both_whole end stop e).1);
+      whole = λ e z m h k. absurd (stopped some (both_whole end stop e).1);
       stop = λ n. which (first_cases end stop);
     }
       where
-        not_whole : (stop : ExpandEnd) → IsStopOf g (value by some.0) stop → stop ≢ Whole
-        not_whole Whole h e = h
-        not_whole (Steps start end) h e = cc
-        not_whole (Size cause) h e = cc
-        not_whole (Basis f system) h e = cc
-        not_whole (Unifiers given list) h e = cc
+        not_whole : (form : FlatTerm) (stop : ExpandEnd) → IsStopOf g form stop → stop ≢ Whole
+        not_whole form Whole h e = h
+        not_whole form (Steps start end) h e = cc
+        not_whole form (Size cause) h e = cc
+        not_whole form (Basis f system) h e = cc
+        not_whole form (Unifiers given list) h e = cc
+
+        stopped : IsTestAmong g vars by (Stopped stop) → stop ≢ Whole
+        stopped (inl (x, m, h)) = not_whole (value by x) stop h
+        stopped (inr (t, m, h)) = not_whole (form_under g by t) stop h.stop
 
         new : IsStopBetween g vars first s stop
-        new = record { by = by; joined = joined; fits = fits; variable = some.0; listed = some.1; stop = some.2 }
+        new = record { by = by; joined = joined; fits = fits; stop = some }
 
         which : ((end ≡ Whole) × (first_end end stop ≡ stop)) ⊎ ((end ≢ Whole) × (first_end end stop ≡ end)) → Any (λ s. IsStopBetween g vars first s (first_end end stop)) (list ++ s ∷ [])
         which (inl p) = subst (λ z. Any (λ s. IsStopBetween g vars first s z) (list ++ s ∷ [])) (sym p.1) (Any-push (λ s. IsStopBetween g vars first s stop) list s new)
@@ -140,10 +149,10 @@ module _ (g : Setting) (drawn : Problem → Substitution → Type 0) (vars : Lis
   module _ (variants found : List Variant) (end : ExpandEnd) (attempts : AreAttempts g drawn vars variants found end)
       (v : Variant) (more : List Variant) (stop : ExpandEnd) (attempt : IsAttempt g drawn vars v more stop) where
     whole_left : (w : Variant) → AreWholeFor g vars w found → AreWholeFor g vars w (found ++ more)
-    whole_left w h c unifies irreducible = any_left (IsAbove g vars w c) found more (h c unifies irreducible)
+    whole_left w h c unifies irreducible stay = any_left (IsAbove g vars w c) found more (h c unifies irreducible stay)
 
     whole_right : (w : Variant) → AreWholeFor g vars w more → AreWholeFor g vars w (found ++ more)
-    whole_right w h c unifies irreducible = any_right (IsAbove g vars w c) found more (h c unifies irreducible)
+    whole_right w h c unifies irreducible stay = any_right (IsAbove g vars w c) found more (h c unifies irreducible stay)
 
     one : AreWholeFor g vars v (found ++ more) ⊎ MeetsBound g drawn v
     one = elim (first_cases stop stop) as (λ _. AreWholeFor g vars v (found ++ more) ⊎ MeetsBound g drawn v) [

@@ -1,7 +1,7 @@
 -- Why a search for unifiers in a theory stops at the pairs of a variant.
-use Rattle.std.specs.Prelude.{◌≡◌, ◌≢◌, Contains}
+use Rattle.std.specs.Prelude.{◌≡◌, ◌≢◌, ◌⊎◌, Contains}
 use Rattle.fvn_terms.specs.declared.plain.Var.{Var}
-use Rattle.fvn_terms.specs.Term.{var}
+use Rattle.fvn_terms.specs.Term.{Term, var}
 use Rattle.fvn_terms.specs.Substitution.{Substitution, apply}
 use Rattle.fvn_terms.specs.Equality.{BEqual}
 use Rattle.fvn_terms.specs.Unifiers.{Problem, IsUnifier}
@@ -40,14 +40,13 @@ pub record IsDrawnSolution (g : Setting) (drawn : Problem → Substitution → T
   pub new : (x : Var) → OccursInValues (variables_of problem) unifier x → OccursIn g.declarations v.vars from x → ⊥
   pub values : (x : Var) → Contains v.vars x → BEqual g.declarations (s x) (apply unifier (from.values x))
 
--- the flat form of what a drawn solution of the variant's pairs makes of one of its variables
+-- the flat form of what a drawn solution of the variant's pairs makes of one of its variables, or of a fixed term
 pub record IsOfSolution (g : Setting) (drawn : Problem → Substitution → Type 0) (v : Variant)
     (t : FlatTerm) : Type 0 where
   pub by : Substitution
   pub solution : IsDrawnSolution g drawn v by
-  pub variable : Var
-  pub listed : Contains v.vars variable
-  pub is : t ≡ canon g.declarations (by variable)
+  pub is : ((x : Var) × Contains v.vars x × (t ≡ canon g.declarations (by x)))
+      ⊎ ((w : Term) × Contains g.fixed w × (t ≡ canon g.declarations (apply by w)))
 
 module _ (g : Setting) (drawn : Problem → Substitution → Type 0) (v : Variant) where
   -- why the pairs of v were not solved to the end

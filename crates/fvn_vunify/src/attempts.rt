@@ -5,7 +5,7 @@ ghost use Rattle.fvn_flat.specs.Bindings.{BindingsFit, composed, IsRestriction};
 ghost use Rattle.fvn_vunify.specs.inner.Attempts.{candidate_of, AreTested};
 
 use crate::ends::first_end;
-use crate::testing::{Test, test_values};
+use crate::testing::{Test, test_kept};
 use fvn_base::Seq;
 use fvn_cover::Variant;
 use fvn_exploring::{ExpandEnd, Expander};
@@ -51,7 +51,7 @@ fn candidate_of(alloc: Global, vars: &[Var], subst: Subst) -> Result<Variant, No
     })
 }
 
-// The substitution followed by each of the unifiers, where that has irreducible values.
+// The substitution followed by each of the unifiers, where that has irreducible values and the fixed terms stay so.
 pub(crate) fn tested<E: Expander>(
     alloc: Global,
     sig: &Signature,
@@ -71,7 +71,7 @@ pub(crate) fn tested<E: Expander>(
     let mut end = ExpandEnd::Whole;
     for s in unifiers {
         let subst = joined(alloc, sig, vars, renamed, s)?;
-        match test_values(alloc, expander, &subst, vars)? {
+        match test_kept(alloc, sig, expander, &subst, vars)? {
             Test::Irreducible => {
                 let u = candidate_of(alloc, vars, subst)?;
                 found.push(u)?;

@@ -1,12 +1,16 @@
 //! Tests of irreducibility.
-ghost use Rattle.std.specs.Prelude.{All, IfOk};
+ghost use Rattle.std.specs.Prelude.{◌≡◌, map, All, IfOk};
 ghost use Rattle.fvn_terms.specs.Signature.{IsSort};
+ghost use Rattle.fvn_forms.specs.Flat.{plain};
 ghost use Rattle.fvn_flat.specs.Bindings.{value, BindingsFit};
-ghost use Rattle.fvn_flat.specs.Fits.{Fits};
+ghost use Rattle.fvn_flat.specs.Fits.{Fits, AllFit};
 ghost use Rattle.fvn_vunify.specs.inner.Tests.{IsTestOf, AreTestsOf};
+ghost use Rattle.fvn_vunify.specs.inner.Tests.{IsTestUnder, AreTestsUnder, AreTestsOfAll};
 
 use fvn_exploring::{ExpandEnd, Expander};
 use fvn_flat::{Flat, Normal, SizeCause, Subst};
+use fvn_rewrite_laws::sequences_are_lawful;
+use fvn_signature::Signature;
 use fvn_terms::{NoMemory, Var, rewriting_is_lawful};
 use std::alloc::Global;
 
@@ -23,7 +27,7 @@ pub(crate) enum Test {
 
 // Whether a term is irreducible: whether it is its own normal form.
 fn test_term<E: Expander>(alloc: Global, expander: &E, t: &Flat) -> Result<Test, NoMemory>
-    requires { Fits (E.setting expander.now).declarations t.now }
+    requires term { Fits (E.setting expander.now).declarations t.now }
     ensures { IfOk result (IsTestOf (E.setting expander.now) t.now) }
 {
     rewriting_is_lawful();
@@ -60,7 +64,7 @@ fn test_value<E: Expander>(alloc: Global, expander: &E, s: &Subst, x: Var) -> Re
 }
 
 // Whether what a substitution makes of these variables is irreducible.
-pub(crate) fn test_values<E: Expander>(
+fn test_values<E: Expander>(
     alloc: Global,
     expander: &E,
     s: &Subst,
@@ -78,4 +82,71 @@ pub(crate) fn test_values<E: Expander>(
         }
     }
     Ok(Test::Irreducible)
+}
+
+// Whether a term is irreducible under a substitution.
+fn test_under<E: Expander>(
+    alloc: Global,
+    sig: &Signature,
+    expander: &E,
+    s: &Subst,
+    t: &Flat,
+) -> Result<Test, NoMemory>
+    requires sig { sig.now ≡ (E.setting expander.now).declarations }
+    requires values { BindingsFit sig.now s.now }
+    requires term { Fits sig.now t.now }
+    ensures { IfOk result (IsTestUnder (E.setting expander.now) s.now (plain t.now)) }
+{
+    sequences_are_lawful();
+    sig.recall_good();
+    let u = s.apply(alloc, sig, t)?;
+    let test = test_term(alloc, expander, &u)?;
+    Ok(test)
+}
+
+// Whether terms are irreducible under a substitution.
+fn test_terms<E: Expander>(
+    alloc: Global,
+    sig: &Signature,
+    expander: &E,
+    s: &Subst,
+    terms: &[Flat],
+) -> Result<Test, NoMemory>
+    requires sig { sig.now ≡ (E.setting expander.now).declarations }
+    requires values { BindingsFit sig.now s.now }
+    requires terms { AllFit sig.now terms.now }
+    ensures { IfOk result (AreTestsUnder (E.setting expander.now) s.now (map plain terms.now)) }
+{
+    for t in terms {
+        match test_under(alloc, sig, expander, s, t)? {
+            Test::Irreducible => {}
+            Test::Reducible => return Ok(Test::Reducible),
+            Test::Stopped(end) => return Ok(Test::Stopped(end)),
+        }
+    }
+    Ok(Test::Irreducible)
+}
+
+// Whether what a substitution makes of these variables is irreducible, and the fixed terms stay so under it.
+pub(crate) fn test_kept<E: Expander>(
+    alloc: Global,
+    sig: &Signature,
+    expander: &E,
+    s: &Subst,
+    vars: &[Var],
+) -> Result<Test, NoMemory>
+    requires sig { sig.now ≡ (E.setting expander.now).declarations }
+    requires values { BindingsFit sig.now s.now }
+    requires sorts { All (λ x. IsSort sig.now x.sort) vars.now }
+    ensures { IfOk result (AreTestsOfAll (E.setting expander.now) vars.now s.now) }
+{
+    match test_values(alloc, expander, s, vars)? {
+        Test::Irreducible => {
+            let fixed = expander.fixed();
+            let test = test_terms(alloc, sig, expander, s, fixed)?;
+            Ok(test)
+        }
+        Test::Reducible => Ok(Test::Reducible),
+        Test::Stopped(end) => Ok(Test::Stopped(end)),
+    }
 }

@@ -1,5 +1,5 @@
 //! The search for unifiers in a theory.
-ghost use Rattle.std.specs.Prelude.{◌≡◌, [], map, All, IfOk};
+ghost use Rattle.std.specs.Prelude.{◌≡◌, map, All, IfOk};
 ghost use Rattle.fvn_vunify.specs.Solved.{IsSolverFor, DrawsWithin, IsOfSomePairs, IsSolvedFor};
 ghost use Rattle.fvn_vunify.specs.inner.Attempts.{first_variables, IsSolvable, AreAttempts};
 
@@ -71,7 +71,7 @@ fn unifiers_of(alloc: Global, list: Vec<Variant>) -> Result<Vec<Subst>, NoMemory
 /// Unifiers in the theory of the expander's equations, from an exploration of the sides of pairs.
 ///
 /// The pairs of each variant are solved modulo the axioms. What this makes of the problem's variables
-/// is kept where it is irreducible, and no instance of another is given.
+/// is kept where it is irreducible and the fixed terms stay so, and no instance of another is given.
 pub fn variant_unify<E: Expander, A: AxiomSolver>(
     alloc: Global,
     sig: &Signature,
@@ -80,7 +80,6 @@ pub fn variant_unify<E: Expander, A: AxiomSolver>(
     explored: Explored,
 ) -> Result<SolvedModulo, NoMemory>
     requires sig { sig.now ≡ (E.setting expander.now).declarations }
-    requires fixed { (E.setting expander.now).fixed ≡ [] }
 
     // The solver has the signature, the limits and the draws of the expander.
     requires solver { IsSolverFor (E.setting expander.now) (A.signature solver.now)

@@ -20,7 +20,7 @@ use Rattle.fvn_cover.specs.declared.variant.Variant.{Variant}
 use Rattle.fvn_closure.specs.Closing.{reached_of}
 use Rattle.fvn_answer.specs.Asked.{AreAsked, HaveSorts}
 use Rattle.fvn_cmd.specs.declared.status.Status.{Status}
-use Rattle.fvn_cmd_exploring.specs.declared.reach.Reach.{Reach}
+use Rattle.fvn_cmd_words.specs.declared.reach.Reach.{Reach}
 use Rattle.fvn_cmd_variants.specs.Solutions.{IsLineOf}
 use Rattle.fvn_cmd_variants.specs.Replies.{IsVariantsReply}
 

@@ -1,7 +1,8 @@
 -- Children of the members of a level, and which of them are kept for the next.
 use Rattle.std.specs.Prelude.{◌≡◌, ◌≢◌, ◌≤◌, ◌⊎◌, Bool, true, false, List, [], ◌∷◌, ◌++◌, All, AllPairs, Any, Contains}
 use Rattle.fvn_terms.specs.declared.declarations.Declarations.{Declarations}
-use Rattle.fvn_terms.specs.Substitution.{Substitution}
+use Rattle.fvn_terms.specs.declared.plain.Var.{Var}
+use Rattle.fvn_terms.specs.Substitution.{Substitution, Occurs}
 use Rattle.fvn_terms.specs.Unifiers.{Problem}
 use Rattle.fvn_terms.specs.CompleteSets.{IsApart}
 use Rattle.fvn_cover.specs.declared.variant.Variant.{Variant}
@@ -29,10 +30,11 @@ pub record IsTask (g : Setting) (d : Declarations) (limits : Limits) : Type 0 wh
   pub some_workers : 1 ≤ limits.workers
   pub few_workers : limits.workers ≤ WORKERS
 
--- what every kept variant keeps, and which first one all are alike
+-- what every kept variant keeps, and which first one all are alike; the fixed terms are over its variables
 pub record AreReady (g : Setting) (kept : List Variant) : Type 0 where
   pub first : Variant
   pub once : AllPairs (λ x y. x ≢ y) first.vars
+  pub fixed : All (λ t. (y : Var) → Occurs y t → Contains first.vars y) g.fixed
   pub alike : All (AreAlike first) kept
   pub members : All (IsMember g) kept
 

@@ -30,7 +30,7 @@ enum Question {
 }
 
 /// An open question, or that all unifiers say no to it.
-fn question(
+fn open_or_apart(
     sig: &Signature,
     table: &Table,
     state: &State,
@@ -90,7 +90,7 @@ fn asked_or_known(
 {
     match asked_further(alloc, sig, table, state, reading) {
         None => None,
-        Some((i, j)) => Some((i, j, question(sig, table, state, known, i, j))),
+        Some((i, j)) => Some((i, j, open_or_apart(sig, table, state, known, i, j))),
     }
 }
 

@@ -14,7 +14,7 @@ const ROWS: &str =
 4096 1000 1000 sort S . ops a b c d e : -> S . ops f g : S -> S . op p : S S -> S [assoc comm] . var X : S . eq f(f(X)) = X [variant] . => confluent
 4096 1000 1000 sort S . ops a b c d e : -> S . ops f g : S -> S . op p : S S -> S [assoc comm] . var X : S . eq f(f(X)) = g(X) [variant] . => apart 1 1 6(5(#)) 5(6(#))
 4096 1000 1000 sort S . ops a b c d e : -> S . ops f g : S -> S . op p : S S -> S [assoc comm] . var X : S . eq p(a,b) = c [variant] . eq p(b,d) = e [variant] . => apart 1 2 7(#,7(2,3)) 7(#,7(0,4))
-4096 1000 1000 sort S . ops a b c d e : -> S . op h : S S -> S [assoc comm id: e] . op f : S S -> S [assoc comm] . var X : S . eq h(X,f(a,b)) = c [variant] . => apart 1 1 2 5(#,2)
+4096 1000 1000 sort S . ops a b c d e : -> S . op h : S S -> S [assoc comm id: e] . op f : S S -> S [assoc comm] . var X : S . eq h(X,f(a,b)) = c [variant] . => apart 1 1 5(#,5(#,2)) 5(#,5(#,2))
 4096 1000 1000 sort S . ops a b c d e : -> S . ops f g : S -> S . op p : S S -> S [assoc comm] . var X : S . eq a = b [variant] . eq a = c [variant] . eq b = c [variant] . => confluent
 4096 1000 1000 sort S . ops a b c d e : -> S . ops f g : S -> S . op p : S S -> S [assoc comm] . var X : S . eq f(a) = b [variant] . eq a = c [variant] . eq f(c) = b [variant] . => confluent
 4096 1000 1000 sort S . ops a b c d e : -> S . ops f g : S -> S . op p : S S -> S [assoc comm] . var X : S . eq f(a) = b [variant] . eq a = c [variant] . => apart 1 2 1 5(2)
@@ -31,10 +31,11 @@ const ROWS: &str =
 4096 1000 1000 sort Nat . op 0 : -> Nat . op s : Nat -> Nat . op + : Nat Nat -> Nat . vars X Y : Nat . eq +(0,Y) = Y [variant] . eq +(s(X),Y) = s(+(X,Y)) [variant] . => confluent
 4096 1000 1000 sort Nat . op 0 : -> Nat . op s : Nat -> Nat . op + : Nat Nat -> Nat . vars X Y Z : Nat . eq +(0,Y) = Y [variant] . eq +(s(X),Y) = s(+(X,Y)) [variant] . eq +(+(X,Y),Z) = +(X,+(Y,Z)) [variant] . => confluent
 4096 1000 1000 sorts Nat NatSet . subsort Nat < NatSet . op 0 : -> Nat . op s : Nat -> Nat . op mt : -> NatSet . op _*_ : NatSet NatSet -> NatSet [assoc comm] . vars X Y Z : [NatSet] . eq _*_(X,X) = mt [variant] . eq _*_(X,mt) = X [variant] . => confluent
-4096 1000 1000 sort S . op mt : -> S . op _*_ : S S -> S [assoc comm id: mt] . op - : S -> S . vars X Y : S . eq _*_(X,-(X)) = mt [variant] . eq _*_(X,-(X),Y) = Y [variant] . eq -(mt) = mt [variant] . eq -(-(X)) = X [variant] . => apart 1 1 1(#,#) 1(#,1(#,2(1(#,1(#,2(1(#,#)))))))
+4096 1000 1000 sort S . op mt : -> S . op _*_ : S S -> S [assoc comm id: mt] . op - : S -> S . vars X Y : S . eq _*_(X,-(X)) = mt [variant] . eq _*_(X,-(X),Y) = Y [variant] . eq -(mt) = mt [variant] . eq -(-(X)) = X [variant] . => apart 2 2 1(#,#) 1(#,1(#,2(1(#,1(#,2(1(#,#)))))))
 4096 1000 1000 sorts A B . subsort A < B . op f : B -> A . op g : B -> B . var X : B . eq f(X) = g(X) [variant] . => sorts 1
 4096 1000 1000 sorts A B . subsort A < B . ops a b : -> A . op f : B -> A . op g : B -> B . var X : B . eq a = b [variant] . eq f(X) = g(X) [variant] . eq a = f(a) [variant] . => sorts 2
-4096 1000 1000 sort S . op a : -> S . op f : S -> S . var X : S . eq f(X) = f(X) [variant] . => steps 1(#) 1(#)
+4096 1000 1000 sort S . op a : -> S . op f : S -> S . var X : S . eq f(X) = f(X) [variant] . => confluent
+4096 1000 1000 sort S . ops a b : -> S . op f : S -> S . var X : S . eq f(X) = f(X) [variant] . eq f(a) = b [variant] . => steps 2(0) 2(0)
 4096 0 1000 sort S . ops a b c d e : -> S . ops f g : S -> S . op p : S S -> S [assoc comm] . var X : S . eq a = b [variant] . eq a = c [variant] . eq b = c [variant] . => steps 1 1
 4096 1000 5 sorts Msg Key . op a : -> Msg . op k : -> Key . ops enc dec : Msg Key -> Msg . vars X M : Msg . vars Y K : Key . eq dec(enc(M,K),K) = M [variant] . => size
 4096 1000 10 sorts Msg Key . op a : -> Msg . op k : -> Key . ops enc dec : Msg Key -> Msg . vars X M : Msg . vars Y K : Key . eq dec(enc(M,K),K) = M [variant] . => confluent

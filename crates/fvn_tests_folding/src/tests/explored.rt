@@ -2,6 +2,7 @@
 ghost use Rattle.std.specs.Prelude.{◌≤◌};
 ghost use Rattle.fvn_cover.specs.declared.marking.TheConstants.{WORKERS};
 ghost use Rattle.fvn_fold.specs.Starts.{IsSettingIn};
+ghost use Rattle.fvn_tests_folding.specs.Nothing.{FixesNothing};
 
 use fvn_cover::{OpenGate, Variant};
 use fvn_exploring::{Expander, ExploreEnd, Explored, Limits};
@@ -64,6 +65,7 @@ pub fn shown_explored<R: Threads + Sync, E: Expander>(
     limits: Limits,
 ) -> Result<String, NoMemory>
     requires setting { IsSettingIn (E.setting expander.now) sig.now }
+    requires fixed { FixesNothing (E.setting expander.now) }
     requires variants { 1 ≤ limits.variants }
     requires workers { (1 ≤ limits.workers) × (limits.workers ≤ WORKERS) }
 {

@@ -1,13 +1,8 @@
 //! Expansions of several members at once.
-ghost use Rattle.std.specs.Prelude.{◌≡◌, ◌≤◌, [], IfOk, All};
-ghost use Rattle.fvn_terms.specs.declared.declarations.Declarations.{Declarations};
-ghost use Rattle.fvn_flat.specs.Bindings.{BindingsFit};
+ghost use Rattle.std.specs.Prelude.{◌≤◌, [], IfOk, All};
 ghost use Rattle.fvn_cover.specs.declared.marking.TheConstants.{WORKERS};
 ghost use Rattle.fvn_cover.specs.declared.variant.Variant.{Variant};
-ghost use Rattle.fvn_exploring.specs.Setting.{Setting};
-ghost use Rattle.fvn_fold.specs.Starts.{IsSettingIn};
-ghost use Rattle.fvn_fold.specs.Levels.{AreExpandable};
-ghost use Rattle.fvn_tests_folding.specs.Nothing.{IsOfNothing};
+ghost use Rattle.fvn_tests_folding.specs.Nothing.{IsOfNothing, FixesNothing};
 
 use super::rows::inert;
 use crate::meeting::Meeting;
@@ -50,12 +45,11 @@ fn members(alloc: Global, count: u32) -> Result<Vec<Variant>, NoMemory>
 fn expansions<R: Threads + Sync, E: Expander>(
     rt: &R,
     alloc: Global,
-    sig: &Signature,
     expander: &E,
     count: u32,
     workers: u32,
 ) -> Result<usize, NoMemory>
-    requires setting { IsSettingIn (E.setting expander.now) sig.now }
+    requires fixed { FixesNothing (E.setting expander.now) }
     requires workers { (1 ≤ workers) × (workers ≤ WORKERS) }
 {
     let list = members(alloc, count)?;
@@ -67,7 +61,7 @@ fn expansions<R: Threads + Sync, E: Expander>(
 fn met<R: Threads + Sync>(rt: &R, alloc: Global, sig: &Signature) -> Result<u32, NoMemory> {
     let plain = inert(sig);
     let meeting = Meeting::new(&plain);
-    let count = expansions(rt, alloc, sig, &meeting, 2, 2)?;
+    let count = expansions(rt, alloc, &meeting, 2, 2)?;
     Ok(if count == 2 { meeting.met() } else { 0 })
 }
 
@@ -78,7 +72,7 @@ fn assert_counts<R: Threads + Abort + Sync>(
 ) -> Result<(), NoMemory> {
     let plain = inert(sig);
     for count in [0, 1, 2, 5, 17, 40] {
-        let found = expansions(rt, alloc, sig, &plain, count, 16)?;
+        let found = expansions(rt, alloc, &plain, count, 16)?;
         assert_eq!(rt; found, count as usize, "of {count}");
     }
     Ok(())

@@ -2,7 +2,7 @@
 ghost use Rattle.std.specs.Prelude.{◌≤◌, ◌≡◌};
 ghost use Rattle.fvn_cover.specs.declared.marking.TheConstants.{WORKERS};
 ghost use Rattle.fvn_fold.specs.Starts.{IsSettingIn};
-ghost use Rattle.fvn_tests_exploring.specs.Settings.{without_equations};
+ghost use Rattle.fvn_tests_folding.specs.Nothing.{FixesNothing};
 
 use super::explored::shown_explored;
 use crate::failing::Failing;
@@ -60,6 +60,7 @@ fn assert_rows<R: Threads + Abort + Sync, E: Expander>(
     workers: u32,
 ) -> Result<(), NoMemory>
     requires setting { IsSettingIn (E.setting expander.now) sig.now }
+    requires fixed { FixesNothing (E.setting expander.now) }
     requires workers { (1 ≤ workers) × (workers ≤ WORKERS) }
 {
     for line in EXPLORED.lines() {

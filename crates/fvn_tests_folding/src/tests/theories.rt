@@ -4,6 +4,7 @@ ghost use Rattle.fvn_cover.specs.declared.marking.TheConstants.{WORKERS};
 ghost use Rattle.fvn_flat.specs.Fits.{Fits};
 ghost use Rattle.fvn_fold.specs.Starts.{IsSettingIn};
 ghost use Rattle.fvn_rewrite.specs.Usable.{AreUsable};
+ghost use Rattle.fvn_tests_folding.specs.Nothing.{FixesNothing};
 ghost use Rattle.fvn_theory.specs.Equations.{IsReadableEquation};
 
 use super::explored::end_name;
@@ -74,7 +75,9 @@ XOR 9 99 99 *(X,X) => 1 complete
 XOR 9 99 99 *(X,Y) => 7 complete
 XOR 9 99 99 *(X,c) => 4 complete
 XOR 9 99 99 *(X,c,d) => 8 complete
-XORN 9 99 99 *(X,Y) => 7 complete";
+XOR 9 99 4096 *(X,Y,Z) => 57 complete
+XORN 9 99 99 *(X,Y) => 7 complete
+XORN 9 99 4096 *(X,Y,c) => 21 complete";
 
 // How far an exploration of a row goes.
 #[derive(Clone, Copy)]
@@ -160,6 +163,7 @@ fn counted_by<R: Threads + Sync, E: Expander>(
     limits: Limits,
 ) -> Result<String, NoMemory>
     requires setting { IsSettingIn (E.setting expander.now) sig.now }
+    requires fixed { FixesNothing (E.setting expander.now) }
     requires term { Fits sig.now term.now }
     requires variants { 1 ≤ limits.variants }
     requires workers { (1 ≤ limits.workers) × (limits.workers ≤ WORKERS) }

@@ -1,9 +1,14 @@
 -- What tests of irreducibility come to.
-use Rattle.std.specs.Prelude.{◌≡◌, ◌≤◌, ◌<◌, ℕ, List, Contains}
+use Rattle.std.specs.Prelude.{◌≡◌, ◌≤◌, ◌<◌, ◌⊎◌, ℕ, List, Contains}
 use Rattle.fvn_terms.specs.declared.plain.Var.{Var}
+use Rattle.fvn_terms.specs.Term.{Term}
+use Rattle.fvn_terms.specs.Substitution.{apply}
 use Rattle.fvn_terms.specs.Rewriting.{IsReducible, IsIrreducible}
 use Rattle.fvn_forms.specs.Flat.{FlatTerm, plain, symbols}
+use Rattle.fvn_forms.specs.Canon.{canon}
 use Rattle.fvn_flat.specs.Bindings.{Bindings, value}
+use Rattle.fvn_flat.specs.Fits.{Fits}
+use Rattle.fvn_flat.specs.Solving.{substitution}
 use Rattle.fvn_flat.specs.declared.solver.SizeCause.{SizeCause}
 use Rattle.fvn_flat.specs.declared.solver.SizeCause.TheVariants.{Problem as OfProblem, Binding, Term as OfTerm}
 use Rattle.fvn_rewrite_laws.specs.Normalised.{counted, IsReached}
@@ -65,3 +70,49 @@ module _ (g : Setting) (vars : List Var) (s : Bindings) where
   AreTestsOf Irreducible = ArePassed
   AreTestsOf Reducible = IsTestOfSome Reducible
   AreTestsOf (Stopped end) = IsTestOfSome (Stopped end)
+
+module _ (g : Setting) (s : Bindings) (t : Term) where
+  -- the term is irreducible under s
+  abbrev pub StaysUnder : Type 0
+  StaysUnder = IsIrreducible g.declarations g.equations (apply (substitution s) t)
+
+  -- the flat form of what s makes of the term
+  abbrev pub form_under : FlatTerm
+  form_under = canon g.declarations (apply (substitution s) t)
+
+  -- a test of that form stopped
+  pub record IsStopUnder (end : ExpandEnd) : Type 0 where
+    pub fits : Fits g.declarations form_under
+    pub stop : IsStopOf g form_under end
+
+  -- what a test of it comes to
+  abbrev pub IsTestUnder : Test → Type 0
+  IsTestUnder Irreducible = StaysUnder
+  IsTestUnder Reducible = StaysUnder → ⊥
+  IsTestUnder (Stopped end) = IsStopUnder end
+
+module _ (g : Setting) (s : Bindings) (terms : List Term) where
+  -- each of the terms is irreducible under s
+  abbrev pub AllStay : Type 0
+  AllStay = (t : Term) → Contains terms t → StaysUnder g s t
+
+  -- what a test of one of the terms comes to
+  abbrev pub IsTestUnderSome : Test → Type 0
+  IsTestUnderSome test = (t : Term) × Contains terms t × IsTestUnder g s t test
+
+  -- what tests of the terms under s come to
+  abbrev pub AreTestsUnder : Test → Type 0
+  AreTestsUnder Irreducible = AllStay
+  AreTestsUnder Reducible = IsTestUnderSome Reducible
+  AreTestsUnder (Stopped end) = IsTestUnderSome (Stopped end)
+
+module _ (g : Setting) (vars : List Var) (s : Bindings) where
+  -- what a test of one of the values comes to, or of one of the fixed terms under s
+  abbrev pub IsTestAmong : Test → Type 0
+  IsTestAmong test = IsTestOfSome g vars s test ⊎ IsTestUnderSome g s g.fixed test
+
+  -- what tests of the values and of the fixed terms under s come to
+  abbrev pub AreTestsOfAll : Test → Type 0
+  AreTestsOfAll Irreducible = ArePassed g vars s × AllStay g s g.fixed
+  AreTestsOfAll Reducible = IsTestAmong Reducible
+  AreTestsOfAll (Stopped end) = IsTestAmong (Stopped end)

@@ -7,18 +7,18 @@ use Rattle.fvn_cmd_variants.proofs.replying.reply_in.Goals as goal
 
 pub read_term-requires : goal.read_term-requires
 read_term-requires g c =
-    subst (λ d. AreNamesOf d c.names.result.now) (sym c.signature.ensures) (subst (AreNamesOf c.args.declared.now.signature) (sym c.names.ensures) (module_names c.args.declared.now c.recall_readable.ensures))
+    subst (λ d. AreNamesOf d c.names.result.now) (sym c.signature.ensures) (subst (AreNamesOf c.args.search.now.declared.now.signature) (sym c.names.ensures) (module_names c.args.search.now.declared.now c.recall_readable.ensures))
 
-pub answer_in-requires-clause-query : goal.answer_in-requires-clause-query
-answer_in-requires-clause-query g c lives order =
-    term_in c.args.declared.now _ _ c.signature.ensures c.names.ensures c.args.reach c.args.word.now c.in-Ok.query c.query_names_are_words.ensures c.query_names_differ.ensures c.in-Ok.ensures.ok c.in-Ok.ensures.kinded
+pub answer-requires-clause-query : goal.answer-requires-clause-query
+answer-requires-clause-query g c lives order =
+    term_in c.args.search.now.declared.now _ _ c.signature.ensures c.names.ensures c.args.search.now.reach c.args.word.now c.in-Ok.query c.query_names_are_words.ensures c.query_names_differ.ensures c.in-Ok.ensures.ok c.in-Ok.ensures.kinded
     c.in-Ok.ensures.vars
 
 pub returns-in_ok-reply-in-Err : goal.returns-in_ok-reply-in-Err
 returns-in_ok-reply-in-Err g c =
-    term_refused c.args.declared.now _ _ c.signature.ensures c.names.ensures c.args.reach c.args.word.now c.in-Err.fault c.in-Err.ensures.err _ _
+    term_refused c.args.search.now.declared.now _ _ c.signature.ensures c.names.ensures c.args.search.now.reach c.args.word.now c.in-Err.fault c.in-Err.ensures.err _ _
     c.in_ok-reply-in-Err.ensures.status c.in_ok-reply-in-Err.ensures.text
 
 pub returns-in_ok-reply-in-Ok : goal.returns-in_ok-reply-in-Ok
 returns-in_ok-reply-in-Ok g c =
-    term_answered c.args.declared.now _ _ c.signature.ensures c.names.ensures c.args.reach c.args.word.now c.in-Ok.query c.in-Ok.ensures.ok _ _ c.in_ok-reply-in-Ok.ensures
+    term_answered c.args.search.now.declared.now _ _ c.signature.ensures c.names.ensures c.args.search.now.reach c.args.word.now c.in-Ok.query c.in-Ok.ensures.ok _ _ c.in_ok-reply-in-Ok.ensures

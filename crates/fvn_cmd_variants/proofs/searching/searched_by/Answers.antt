@@ -1,8 +1,12 @@
 -- What is explored by what narrows with the module's rules.
 use Rattle.std.proofs.Common.{◌≡◌, sym, subst}
+use Rattle.std.proofs.lemmas.List.Elements.{All-nil}
 use Rattle.fvn_base.specs.declared.limits.TheConstants.{UNIFIERS}
 use Rattle.fvn_cmd_exploring.proofs.Settings.{setting_is, limits_are, explored_by, explored_along, lawful_along}
 use Rattle.fvn_cmd_variants.proofs.searching.searched_by.Goals as goal
+
+pub explore-requires-clause-fixed : goal.explore-requires-clause-fixed
+explore-requires-clause-fixed g c κs within = record { over = All-nil _; irreducible = All-nil _ }
 
 pub returns : goal.returns
 returns g c =

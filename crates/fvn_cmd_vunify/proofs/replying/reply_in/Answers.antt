@@ -7,18 +7,18 @@ use Rattle.fvn_cmd_vunify.proofs.replying.reply_in.Goals as goal
 
 pub read_problem-requires : goal.read_problem-requires
 read_problem-requires g c =
-    subst (λ d. AreNamesOf d c.names.result.now) (sym c.signature.ensures) (subst (AreNamesOf c.args.declared.now.signature) (sym c.names.ensures) (module_names c.args.declared.now c.recall_readable.ensures))
+    subst (λ d. AreNamesOf d c.names.result.now) (sym c.signature.ensures) (subst (AreNamesOf c.args.search.now.declared.now.signature) (sym c.names.ensures) (module_names c.args.search.now.declared.now c.recall_readable.ensures))
 
-pub answer_in-requires-clause-problem : goal.answer_in-requires-clause-problem
-answer_in-requires-clause-problem g c κs within =
-    problem_in c.args.declared.now _ _ c.signature.ensures c.names.ensures c.args.reach c.args.word.now c.in-Ok.problem c.problem_names_are_words.ensures c.problem_names_differ.ensures c.in-Ok.ensures.ok
+pub answer-requires-clause-problem : goal.answer-requires-clause-problem
+answer-requires-clause-problem g c κs within =
+    problem_in c.args.search.now.declared.now _ _ c.signature.ensures c.names.ensures c.args.search.now.reach c.args.word.now c.in-Ok.problem c.problem_names_are_words.ensures c.problem_names_differ.ensures c.in-Ok.ensures.ok
     c.in-Ok.ensures.kinded c.in-Ok.ensures.vars
 
 pub returns-in_ok-reply-in-Err : goal.returns-in_ok-reply-in-Err
 returns-in_ok-reply-in-Err g c =
-    problem_refused c.args.declared.now _ _ c.signature.ensures c.names.ensures c.args.reach c.args.word.now c.in-Err.fault c.in-Err.ensures.err _ _
+    problem_refused c.args.search.now.declared.now _ _ c.signature.ensures c.names.ensures c.args.search.now.reach c.args.word.now c.in-Err.fault c.in-Err.ensures.err _ _
     c.in_ok-reply-in-Err.ensures.status c.in_ok-reply-in-Err.ensures.text
 
 pub returns-in_ok-reply-in-Ok : goal.returns-in_ok-reply-in-Ok
 returns-in_ok-reply-in-Ok g c =
-    problem_answered c.args.declared.now _ _ c.signature.ensures c.names.ensures c.args.reach c.args.word.now c.in-Ok.problem c.in-Ok.ensures.ok _ _ c.in_ok-reply-in-Ok.ensures
+    problem_answered c.args.search.now.declared.now _ _ c.signature.ensures c.names.ensures c.args.search.now.reach c.args.word.now c.in-Ok.problem c.in-Ok.ensures.ok _ _ c.in_ok-reply-in-Ok.ensures

@@ -1,6 +1,7 @@
 -- What is explored, and what is solved in it.
-use Rattle.std.proofs.Common.{◌≡◌, ◌≤◌, length, refl, sym, ap, ◌∙◌, subst}
+use Rattle.std.proofs.Common.{◌≡◌, ◌≤◌, length, sym, ap, ◌∙◌, subst}
 use Rattle.std.specs.Prelude.{All}
+use Rattle.std.proofs.lemmas.List.Elements.{All-nil}
 use Rattle.fvn_base.specs.declared.limits.TheConstants.{UNIFIERS}
 use Rattle.fvn_terms.specs.declared.declarations.Declarations.{Declarations}
 use Rattle.fvn_flat.specs.Fits.{Fits, AllFit}
@@ -11,7 +12,7 @@ use Rattle.fvn_cmd_vunify.proofs.Explored.{of_pairs, solved_in, solved_along}
 use Rattle.fvn_cmd_vunify.proofs.solving.solved_by.Goals as goal
 
 pub explore-requires-clause-setting : goal.explore-requires-clause-setting
-explore-requires-clause-setting g c κs within = record { declarations = ap (λ (r : Rewriting). r.signature) c.new-narrower.ensures.rewrites; none_fixed = refl }
+explore-requires-clause-setting g c κs within = record { declarations = ap (λ (r : Rewriting). r.signature) c.new-narrower.ensures.rewrites }
 
 pub explore-requires-clause-start : goal.explore-requires-clause-start
 explore-requires-clause-start g c κs within =
@@ -22,6 +23,9 @@ explore-requires-clause-start g c κs within =
       fit = subst (AllFit d) (sym c.as_slice.ensures.value) (c.in_ok-sides.ensures.fit d fit);
     }
 
+pub explore-requires-clause-fixed : goal.explore-requires-clause-fixed
+explore-requires-clause-fixed g c κs within = record { over = All-nil _; irreducible = All-nil _ }
+
 pub explore-requires-clause-variants : goal.explore-requires-clause-variants
 explore-requires-clause-variants g c κs within = subst (λ n. 1 ≤ n) (sym c.limits.ensures.variants) c.requires.search.keeps
 
@@ -30,9 +34,6 @@ explore-requires-clause-workers g c κs within = subst (λ n. (1 ≤ n) × (n �
 
 pub variant_unify-requires-clause-sig : goal.variant_unify-requires-clause-sig
 variant_unify-requires-clause-sig g c κs within = sym (ap (λ (r : Rewriting). r.signature) c.new-narrower.ensures.rewrites)
-
-pub variant_unify-requires-clause-fixed : goal.variant_unify-requires-clause-fixed
-variant_unify-requires-clause-fixed g c κs within = refl
 
 pub variant_unify-requires-clause-solver : goal.variant_unify-requires-clause-solver
 variant_unify-requires-clause-solver g c κs within = record {
@@ -65,4 +66,4 @@ returns g c =
     (subst (λ z. g.A.AxiomSolver.most_unifiers z ≡ UNIFIERS) (sym same) c.requires.solver.unifiers_are))
     _ c.in_ok-x.x c.args.search.now.workers _ (c.as_slice.ensures.value ∙ c.in_ok-sides.ensures.exact) _
     (limits_are m reach c.args.search.now.workers _ c.limits.ensures.levels c.limits.ensures.variants c.limits.ensures.steps c.limits.ensures.size c.limits.ensures.workers)
-    c.in_ok-x.ensures.exploration c.in_ok-r.r c.in_ok-r.ensures.solved)
+    c.in_ok-x.ensures.exploration c.explorations_are_lawful.ensures c.in_ok-r.r c.in_ok-r.ensures.solved)

@@ -17,7 +17,7 @@ loop-run-init g c =
     let start = c.args.start.now in
     let is = lists_are c.in_ok-run.run' c.args.first c.in_ok-run.ensures in
     let some = c.requires.variants in
-    (explored_first s drawn start c.args.first (lists_of c.in_ok-run.run') is c.requires.first, omega arith, (let l = ap length c.in_ok-run.ensures.2 in omega (arith, l, some)))
+    (explored_first s drawn start c.requires.fixed c.args.first (lists_of c.in_ok-run.run') is c.requires.first, omega arith, (let l = ap length c.in_ok-run.ensures.2 in omega (arith, l, some)))
 
 pub next_level-requires-clause-ready : goal.next_level-requires-clause-ready
 next_level-requires-clause-ready g c κs within = rw c.as_slice.ensures.value (c.loop-run.invariant.0).ready
@@ -46,7 +46,7 @@ returns-in-Done g c =
     let limits = c.args.task.now.limits in
     let r = lists_of c.loop-run.run in
     let level = c.in_ok-level.level in
-    let explorable = explorable_of s d start c.requires.task.setting c.recall_good.ensures c.recall_completed.ensures c.requires.lawful c.requires.start in
+    let explorable = explorable_of s d start c.requires.task.setting c.recall_good.ensures c.recall_completed.ensures c.requires.lawful c.requires.start c.requires.fixed in
     let next = rw (c.as_slice.ensures.value, c.as_slice-in-loop-run.ensures.value) at c.in_ok-level.ensures in
     ended_outcome s drawn start limits c.loop-run.depth r c.loop-run.invariant.0 level.next.items level.end next explorable c.level_runs_are_lawful.ensures c.covering_is_reflexive_and_transitive.ensures c.loop-run.invariant.2 c.loop-run.invariant.1 c.in-Done.x c.coverings_carry_liftings.ensures
     (subst (λ d. IsEnded d limits r c.loop-run.depth level.next.items level.end c.in-Done.x) (sym c.requires.task.setting.declarations) (rw c.in-Done.is at c.in_ok-x.ensures))

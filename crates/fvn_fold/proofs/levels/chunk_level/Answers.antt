@@ -5,7 +5,7 @@ use Rattle.fvn_fold.proofs.Chunks.{chunk_facts}
 use Rattle.fvn_fold.proofs.levels.chunk_level.Goals as goal
 
 pub expand_level-requires-clause-members : goal.expand_level-requires-clause-members
-expand_level-requires-clause-members g c κs within = kept_expandable (g.E.Expander.setting c.args.task.now.expander.now) c.args.kept.now c.requires.ready c.requires.task.setting.none_fixed c.args.members.now c.requires.members
+expand_level-requires-clause-members g c κs within = kept_expandable (g.E.Expander.setting c.args.task.now.expander.now) c.args.kept.now c.requires.ready c.args.members.now c.requires.members
 
 pub marks-requires-clause-comparable : goal.marks-requires-clause-comparable
 marks-requires-clause-comparable g c κs within =

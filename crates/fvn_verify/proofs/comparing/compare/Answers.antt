@@ -20,5 +20,5 @@ compare_right-requires c = record {
 pub returns-in-Steps : goal.returns-in-Steps
 returns-in-Steps c = (c.args.pair.now.0, (inl refl, rw c.in-Steps.is at c.in_ok-left.ensures))
 
-pub returns-in-Size : goal.returns-in-Size
-returns-in-Size c = (c.args.pair.now.0, (inl refl, rw c.in-Size.is at c.in_ok-left.ensures))
+pub returns : goal.returns
+returns c = (c.args.pair.now.0, (inl refl, rw c.in-Size.is at c.in_ok-left.ensures))

@@ -1,13 +1,10 @@
 -- One more unifier.
 use Rattle.std.proofs.Common.{List, Vec, Global, sym, ap, ◌∙◌, subst, [], ◌∷◌, ◌++◌, take}
-use Rattle.std.specs.Prelude.{All}
 use Rattle.std.proofs.lemmas.List.{take_all}
-use Rattle.fvn_terms.specs.declared.plain.Var.{Var}
-use Rattle.fvn_terms.specs.Signature.{IsSort}
 use Rattle.fvn_flat.specs.Bindings.{BindingsFit, IsRestriction, composed}
 use Rattle.fvn_cover.specs.declared.variant.Variant.{Variant}
 use Rattle.fvn_exploring.specs.declared.ends.ExpandEnd.TheVariants.{Whole}
-use Rattle.fvn_vunify.specs.inner.Tests.{AreTestsOf}
+use Rattle.fvn_vunify.specs.inner.Tests.{AreTestsOfAll}
 use Rattle.fvn_vunify.specs.inner.Attempts.{IsJoined, AreTested}
 use Rattle.fvn_vunify.proofs.Tested.{take_next, tested_none, tested_as, tested_passed, tested_reducible, tested_stopped}
 use Rattle.fvn_vunify.proofs.attempts.tested.Goals.{in-Irreducible+in_ok-u-in-Irreducible+in_ok-push-in-Irreducible, in-Reducible, in-Stopped}
@@ -20,12 +17,6 @@ loop-s-init g c =
 
 pub joined-requires-clause-then : goal.joined-requires-clause-then
 joined-requires-clause-then g c = subst (BindingsFit c.args.sig.now) (sym c.s-item.is) (c.requires.unifiers c.loop-s.s-index c.s-item.result c.loop-s-test.true)
-
-pub test_values-requires-clause-values : goal.test_values-requires-clause-values
-test_values-requires-clause-values g c = λ κs w. subst (λ d. BindingsFit d c.in_ok-subst.subst) c.requires.sig c.in_ok-subst.ensures.fits
-
-pub test_values-requires-clause-sorts : goal.test_values-requires-clause-sorts
-test_values-requires-clause-sorts g c = λ κs w. subst (λ d. All (λ (x : Var). IsSort d x.sort) c.args.vars.now) c.requires.sig c.requires.sorts
 
 pub loop-s-preserved : goal.loop-s-preserved
 loop-s-preserved g c =
@@ -44,15 +35,15 @@ loop-s-preserved g c =
           (ap items w.found-is ∙ w.in_ok-push-in-Irreducible.ensures.items ∙ ap (λ u. c.loop-s.found.items ++ u ∷ []) w.in_ok-u-in-Irreducible.ensures)
           w.end-is
           (tested_passed s vars first so_far c.loop-s.found.items c.loop-s.end c.loop-s.invariant c.s-item.result by joined fits
-          (subst (AreTestsOf s vars by) w.in-Irreducible.is c.in_ok-test_values.ensures))
+          (subst (AreTestsOfAll s vars by) w.in-Irreducible.is c.in_ok-test_kept.ensures))
       | in-Reducible w ↦
           tested_as s vars first more (ap items w.found-is) w.end-is
           (tested_reducible s vars first so_far c.loop-s.found.items c.loop-s.end c.loop-s.invariant c.s-item.result by joined fits
-          (subst (AreTestsOf s vars by) w.in-Reducible.is c.in_ok-test_values.ensures))
+          (subst (AreTestsOfAll s vars by) w.in-Reducible.is c.in_ok-test_kept.ensures))
       | in-Stopped w ↦
           tested_as s vars first more (ap items w.found-is) (w.end-is ∙ w.first_end-end.ensures)
           (tested_stopped s vars first so_far c.loop-s.found.items c.loop-s.end c.loop-s.invariant c.s-item.result by joined fits w.in-Stopped.stop
-          (subst (AreTestsOf s vars by) w.in-Stopped.is c.in_ok-test_values.ensures))
+          (subst (AreTestsOfAll s vars by) w.in-Stopped.is c.in_ok-test_kept.ensures))
     ]
 
 pub returns : goal.returns

@@ -11,7 +11,7 @@ returns-then-same g c =
 pub returns-in-Form : goal.returns-in-Form
 returns-in-Form g c =
     let s = g.E.Expander.setting c.args.expander.now in
-    fails s c.args.t.now c.in-Form.form (c.rewriting_is_lawful.ensures s.declarations s.equations) c.requires (rw c.in-Form.is at c.in_ok-form.ensures.normal)
+    fails s c.args.t.now c.in-Form.form (c.rewriting_is_lawful.ensures s.declarations s.equations) c.requires.term (rw c.in-Form.is at c.in_ok-form.ensures.normal)
     (λ e. false≢true (sym c.if-same.false ∙ c.same.ensures.exact.1 e))
 
 pub returns-in-Steps : goal.returns-in-Steps

@@ -1,17 +1,19 @@
 -- One more value.
 use Rattle.fvn_vunify.specs.declared.testing.Test.TheVariants.{Reducible, Stopped}
-use Rattle.fvn_vunify.proofs.Passing.{passed_none, passed_more, passed_all, some_not_passed}
+use Rattle.fvn_flat.specs.Bindings.{value}
+use Rattle.fvn_vunify.specs.inner.Tests.{IsPassed}
+use Rattle.fvn_vunify.proofs.Passing.{each_none, each_more, each_all, some_not_passed}
 use Rattle.fvn_vunify.proofs.testing.test_values.Goals as goal
 
 pub loop-x-init : goal.loop-x-init
-loop-x-init g c = passed_none (g.E.Expander.setting c.args.expander.now) c.args.vars.now c.args.s.now
+loop-x-init g c = each_none (λ x. IsPassed (g.E.Expander.setting c.args.expander.now) (value c.args.s.now x)) c.args.vars.now
 
 pub test_value-requires-clause-sort : goal.test_value-requires-clause-sort
 test_value-requires-clause-sort g c = λ κs w. c.requires.sorts c.loop-x.x-index _ c.loop-x-test.true
 
 pub loop-x-preserved : goal.loop-x-preserved
 loop-x-preserved g c =
-    passed_more (g.E.Expander.setting c.args.expander.now) c.args.vars.now c.args.s.now c.loop-x.x-index _ c.loop-x-test.true
+    each_more (λ x. IsPassed (g.E.Expander.setting c.args.expander.now) (value c.args.s.now x)) c.args.vars.now c.loop-x.x-index _ c.loop-x-test.true
     (rw c.in-Irreducible.is at c.in_ok-test_value.ensures) c.loop-x.invariant
 
 pub returns-in-Reducible : goal.returns-in-Reducible
@@ -25,4 +27,4 @@ returns-in-Stopped g c =
     (Stopped c.in-Stopped.end) (rw c.in-Stopped.is at c.in_ok-test_value.ensures)
 
 pub returns : goal.returns
-returns g c = passed_all (g.E.Expander.setting c.args.expander.now) c.args.vars.now c.args.s.now c.loop-x.x-index c.loop-x-test.false c.loop-x.invariant
+returns g c = each_all (λ x. IsPassed (g.E.Expander.setting c.args.expander.now) (value c.args.s.now x)) c.args.vars.now c.loop-x.x-index c.loop-x-test.false c.loop-x.invariant

@@ -68,5 +68,5 @@ returns g c =
       solved = λ pairs limits ex.
           subst (λ (us : List Bindings). IsSolvedModulo s may pairs limits x (record { unifiers = us; end = c.end_after-end.result })) (sym unifiers_are)
           (subst (λ (e : ExploreEnd). IsSolvedModulo s may pairs limits x (record { unifiers = map (λ (u : Variant). u.subst) kept; end = e })) (sym end_is)
-          (answered s may good.fits known c.covering_of_unifiers_is_instance.ensures c.instances_are_transitive.ensures c.requires.fixed x found kept c.in_ok-attempt.attempt.end attempts pruned pairs limits ex));
+          (answered s may good.fits known c.covering_of_unifiers_is_instance.ensures c.instances_are_transitive.ensures x found kept c.in_ok-attempt.attempt.end attempts pruned pairs limits ex));
     }

@@ -1,5 +1,5 @@
 -- Every unifier that is asked for makes a partition, and the tree has all partitions.
-use Rattle.std.proofs.Common.{◌≡◌, Bool, true, sym, ◌∙◌, subst, inl}
+use Rattle.std.proofs.Common.{sym, ◌∙◌, subst, inl}
 use Rattle.fvn_terms.specs.declared.declarations.Declarations.{Declarations}
 use Rattle.fvn_flat.specs.Problems.{variables_of}
 use Rattle.fvn_flat.specs.Solving.{problem_of}

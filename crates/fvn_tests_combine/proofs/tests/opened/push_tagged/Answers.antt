@@ -1,5 +1,5 @@
 -- The classes are those of nodes.
-use Rattle.std.proofs.Common.{List, ◌<◌, length, sym, subst, All}
+use Rattle.std.proofs.Common.{true, List, ◌<◌, length, sym, subst, All}
 use Rattle.std.proofs.lemmas.List.Elements.{All-weaker}
 use Rattle.fvn_combine_nodes.specs.States.{class_of}
 use Rattle.fvn_combine_nodes.specs.declared.table.Node.{Node}

@@ -7,4 +7,4 @@ use Rattle.fvn_tests_folding.proofs.tests.theories.counted.Goals as goal
 
 pub counted_by-requires-clause-setting : goal.counted_by-requires-clause-setting
 counted_by-requires-clause-setting g c lives order =
-    subst (λ (r : Rewriting). IsSettingIn (narrowing_setting r (g.A.AxiomSolver.most_unifiers c.new-narrower.result.solver.now)) c.args.sig.now) (sym c.new-narrower.ensures.rewrites) record { declarations = refl; none_fixed = refl }
+    subst (λ (r : Rewriting). IsSettingIn (narrowing_setting r (g.A.AxiomSolver.most_unifiers c.new-narrower.result.solver.now)) c.args.sig.now) (sym c.new-narrower.ensures.rewrites) record { declarations = refl }

@@ -1,0 +1,2 @@
+-- Lemmas on fixed terms.
+mod Keeping

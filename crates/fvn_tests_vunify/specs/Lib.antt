@@ -1,0 +1,2 @@
+-- What contracts of these tests speak of.
+pub mod Settings
