@@ -83,5 +83,11 @@ fn few_states_are_looked_at(rt: HostRuntime) -> Result<(), NoMemory> {
 
 #[test]
 fn elements_are_asked_before_solutions(rt: HostRuntime) -> Result<(), NoMemory> {
-    assert_table(&rt, rt.alloc(), Asked::Searched, WITH_ELEMENTS, SEARCHED_WITH_ELEMENTS)
+    assert_table(
+        &rt,
+        rt.alloc(),
+        Asked::Searched,
+        WITH_ELEMENTS,
+        SEARCHED_WITH_ELEMENTS,
+    )
 }
