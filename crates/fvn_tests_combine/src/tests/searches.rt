@@ -42,14 +42,14 @@ const WITH_ELEMENTS: &str =
 // The same of an element and a bag, against one, two, three and thirteen elements, and of two elements and a bag: an
 // element is one summand, so it is asked which it is, and no minimal solution is made before. Where a bag takes its
 // place nothing is inferred.
-const SEARCHED_WITH_ELEMENTS: &str = "A0 B1 t = g => 0
-A0 B1 t = g h t => 1
-A0 B1 t = g h i t t => 2
-A0 B1 t = g h i j k l m n o p q r s t t t t t t t t t t t t => 12
-A0 A1 B2 t t = g h i t t => 5
-A0 A1 t = g => 0
-A0 A1 t = B2 => 0
-B0 B1 t = g h t => 0";
+const SEARCHED_WITH_ELEMENTS: &str = "A0 B1 t = g => 1
+A0 B1 t = g h t => 3
+A0 B1 t = g h i t t => 5
+A0 B1 t = g h i j k l m n o p q r s t t t t t t t t t t t t => 25
+A0 A1 B2 t t = g h i t t => 11
+A0 A1 t = g => 1
+A0 A1 t = B2 => 1
+B0 B1 t = g h t => 1";
 
 /// The number of states of pairs that may be given.
 fn push_searched(
