@@ -13,7 +13,6 @@ use Rattle.fvn_combine_nodes.specs.Table.{NodeTable}
 use Rattle.fvn_combine_nodes.specs.States.{class_of}
 use Rattle.fvn_combine_nodes.specs.declared.state.State.{State}
 use Rattle.fvn_combine_bounds.specs.Narrow.{IsNarrow, IsNeverIdentity}
-use Rattle.fvn_combine_inferring.specs.Sorted.{GoWithSorts}
 use Rattle.fvn_combine_inferring.specs.Rows.{summands, many, HasSummand, HasFewSummands}
 use Rattle.fvn_combine_inferring.specs.inner.Bounds.{AreMarks, IsMarked, IsUnmarked, marked}
 

@@ -1,7 +1,6 @@
 -- The values of a unifier have the summands that the sorts of the problem's variables allow.
-use Rattle.std.proofs.Common.{◌≡◌}
-use Rattle.fvn_combine_nodes.specs.Unifiers.{value_at}
 use Rattle.fvn_combine_complete.specs.Laws.{UnifiersGoWith}
+use Rattle.fvn_combine_bounds.specs.Narrow.{IsSortedAt}
 use Rattle.fvn_combine_bounds.specs.Laws.{NarrowClassesHaveOneSummand, OtherClassesHaveSomeSummand}
 use Rattle.fvn_combine_inferring.specs.Laws.{SortedUnifiersGoWith}
 
@@ -9,7 +8,7 @@ pub sorted_values : UnifiersGoWith → NarrowClassesHaveOneSummand → OtherClas
 sorted_values law narrow other d good problem is_problem t made table s closed u unifies admits sorted keeps = record {
   go = law d good.fits problem is_problem t made table u unifies s closed admits;
   heeded = λ heeded.
-      let at = record {
+      let at : IsSortedAt d problem t s u = record {
         good = good;
         is_problem = is_problem;
         well_made = made;

@@ -7,6 +7,7 @@ use Rattle.fvn_combine_inferring.specs.Inferred.{IsInferred}
 use Rattle.fvn_combine_inferring.specs.declared.inferring.Inferred.{Inferred}
 use Rattle.fvn_combine_inferring.specs.declared.inferring.Inferred.TheVariants.{Impossible, Together}
 use Rattle.fvn_combine.proofs.Inferring.{none_admitted, together_admitted}
+use Rattle.fvn_combine.proofs.looking.look_at.Goals.{In_ok-infer}
 use Rattle.fvn_combine.proofs.looking.look_at.Goals as goal
 
 pub read-requires-clause-closed : goal.read-requires-clause-closed
@@ -30,7 +31,7 @@ infer-requires-clause-sums c =
     c.tables_have_sums.ensures c.task.inside.sig.now c.task.invariant.good.fits (problem_of c.task.inside.problem.now) c.task.invariant.is_given.kinds c.task.inside.table c.task.invariant.well_made c.task.invariant.table_of
 
 -- what is inferred, of the task
-inferred : (c : goal.After-infer) → (r : Inferred) → c.in_ok-infer.result ≡ r → IsInferred c.args.task.now.declarations c.args.task.now.table c.args.state.now c.args.task.now.sorted r
+inferred : (c : In_ok-infer) → (r : Inferred) → c.in_ok-infer.field-0 ≡ r → IsInferred c.args.task.now.declarations c.args.task.now.table c.args.state.now c.args.task.now.sorted r
 inferred c r is =
     subst (λ (k : Combining). IsInferred k.declarations k.table c.args.state.now k.sorted r) c.task.view_is
     (subst (λ b. IsInferred c.task.inside.sig.now c.task.inside.table c.args.state.now b r) c.in_ok-known.ensures.sorted
@@ -38,12 +39,12 @@ inferred c r is =
 
 pub returns-in-Impossible : goal.returns-in-Impossible
 returns-in-Impossible c =
-    none_admitted c.args.task.now c.recall.ensures c.sorted_unifiers_go_with.ensures c.args.state.now c.requires (inferred (goal.at.returns-in-Impossible c).After-infer Impossible c.in-Impossible.is)
+    none_admitted c.args.task.now c.recall.ensures c.sorted_unifiers_go_with.ensures c.args.state.now c.requires (inferred (goal.at.returns-in-Impossible c).In_ok-infer Impossible c.in-Impossible.is)
 
 pub returns-in-Together : goal.returns-in-Together
 returns-in-Together c =
     let i = c.in-Together.i in
     let j = c.in-Together.j in
-    let must = inferred (goal.at.returns-in-Together c).After-infer (Together i j) c.in-Together.is in
+    let must = inferred (goal.at.returns-in-Together c).In_ok-infer (Together i j) c.in-Together.is in
     let open_pair = must.open_pair in
     (open_pair.left, open_pair.right, open_pair.undecided, together_admitted c.args.task.now c.recall.ensures c.sorted_unifiers_go_with.ensures c.args.state.now c.requires i j open_pair.left open_pair.right must.equal)

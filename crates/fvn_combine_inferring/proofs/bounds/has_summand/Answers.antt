@@ -1,5 +1,5 @@
 -- There is no identity, the value is one summand, or sorts have it.
-use Rattle.std.proofs.Common.{List, length, sym, ap, ◌∙◌, subst, arith}
+use Rattle.std.proofs.Common.{List, length, ap, subst, arith}
 use Rattle.std.specs.Prelude.{Bool}
 use Rattle.fvn_flat.specs.Partitions.{HasNoIdentity}
 use Rattle.fvn_combine_nodes.specs.States.{class_of}

@@ -1,5 +1,5 @@
 -- Another operator heads the value.
-use Rattle.std.proofs.Common.{List, length, sym, ap, subst, arith, Option}
+use Rattle.std.proofs.Common.{List, length, ap, subst, arith, Option}
 use Rattle.fvn_terms.specs.declared.plain.OpId.{OpId}
 use Rattle.fvn_combine_nodes.specs.States.{class_of}
 use Rattle.fvn_combine_inferring.specs.inner.Bounds.{IsHeadedApart}

@@ -1,5 +1,5 @@
 -- The variable of the node.
-use Rattle.std.proofs.Common.{false, true, refl, sym, ap, ◌∙◌, Some}
+use Rattle.std.proofs.Common.{refl, sym, ap, ◌∙◌, Some}
 use Rattle.std.proofs.lemmas.Bool.{false≢true, not-true}
 use Rattle.fvn_combine_inferring.proofs.sorts.is_other_node.Goals as goal
 
