@@ -20,7 +20,7 @@ use Rattle.fvn_combine_candidates.specs.Refusals.{IsFirstRefused}
 use Rattle.fvn_combine.specs.Tasks.{Combining}
 use Rattle.fvn_combine.specs.Search.{Search, IsEnd, IsRefusedAt, HasNoQuestion, HasNoChoiceAt, IsAdmitted, IsCoveredAt, PartsNodesOf, AdmitsOrIsParted}
 use Rattle.fvn_combine.specs.Endings.{told_of}
-use Rattle.fvn_combine.specs.Advancing.{IsToCome, IsAdvanced}
+use Rattle.fvn_combine.specs.Advancing.{IsToCome, IsAdvanced, IsFinerAt}
 use Rattle.fvn_combine.specs.declared.opened.Leaf.{Leaf}
 use Rattle.fvn_combine.specs.declared.ending.Ended.{Ended}
 use Rattle.fvn_combine.specs.declared.ending.Ended.TheVariants.{Basis, Size}
@@ -81,6 +81,6 @@ coarser_first k states below last is closed order u h = elim (admitted_cases k u
           apart = p.apart class b.4;
         }
 
-pub end_told : (before after : Search) (e : Ended) → IsEnd before.combining e → HasNoQuestion before.combining after.states e → HasNoChoiceAt before.combining after.leaf e → after.ended ≡ Some e → ((u : Substitution) → IsToCome before u ↔ IsToCome after u) → IsAdvanced before after (Err (told_of e))
-end_told before after (Basis f system) cause none no_choice ended kept = (cause, none, no_choice, record { ended = ended; kept = kept })
-end_told before after (Size list) cause none no_choice ended kept = (cause, record { ended = ended; kept = kept })
+pub end_told : (before after : Search) (e : Ended) → IsEnd before.combining e → HasNoQuestion before.combining after.states e → HasNoChoiceAt before.combining after.leaf e → IsFinerAt before.combining (IsToCome after) e → after.ended ≡ Some e → ((u : Substitution) → IsToCome before u ↔ IsToCome after u) → IsAdvanced before after (Err (told_of e))
+end_told before after (Basis f system) cause none over finer ended kept = (cause, none, over, finer, record { ended = ended; kept = kept })
+end_told before after (Size list) cause none over finer ended kept = (cause, record { ended = ended; kept = kept })

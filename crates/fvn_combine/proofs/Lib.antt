@@ -8,5 +8,6 @@ mod Ahead
 mod OneKind
 mod Opening
 mod Ends
+mod Coarser
 mod Less
 mod Inferring
