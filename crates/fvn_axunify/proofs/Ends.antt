@@ -17,7 +17,7 @@ use Rattle.fvn_flat.specs.declared.solver.SizeCause.TheVariants.{Problem, Bindin
 use Rattle.fvn_combine_choices.specs.Covering.{CoversOnKinds}
 use Rattle.fvn_combine_drawing.specs.OnKinds.{IsGivenOnKinds}
 use Rattle.fvn_combine.specs.Search.{Search}
-use Rattle.fvn_combine.specs.Coarser.{IsFinerToCome, Joins, JoinsSome}
+use Rattle.fvn_combine.specs.Coarser.{IsFinerToCome, Joins, JoinsMore}
 use Rattle.fvn_combine.specs.Advancing.{IsOf, IsToCome, IsGivenNext}
 use Rattle.fvn_cover.specs.declared.variant.Variant.{Variant}
 use Rattle.fvn_axunify.specs.inner.Members.{IsKept, AreKept, IsReached, IsWithAll}
@@ -81,7 +81,7 @@ module _ (d : Declarations) (given : Pairs) (vars : List Var) (first most size :
       finer : IsFinerToCome d given f system (IsToCome after)
       finer = subst (λ g. IsFinerToCome d g f system (IsToCome after)) of.problem (subst (λ e. IsFinerToCome e m.combining.given f system (IsToCome after)) of.declarations last.3)
 
-      held : (u : Substitution) → IsUnifier d (problem_of given) u → Joins d (problem_of given) finer.at.cause.class u → JoinsSome d finer.at.apart u → IsReached d given vars kept u
+      held : (u : Substitution) → IsUnifier d (problem_of given) u → Joins d (problem_of given) finer.at.cause.class u → JoinsMore d given f system finer.at u → IsReached d given vars kept u
       held u h joins some = elim (all u h) [
         | inl r ↦ r
         | inr t ↦ absurd (finer.finer u ((last.4.kept u).0 t) joins some)
