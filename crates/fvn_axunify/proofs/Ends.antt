@@ -51,11 +51,14 @@ ends_so last now (Size (Term t)) h = h
 
 -- what is held is held by more
 module _ (d : Declarations) (given : Pairs) (Few More : Substitution → Type 0) (more : (u : Substitution) → Few u → More u) where
+  pub still_whole : (gave : List Bindings) → All (IsHeldWhole d given Few) gave → All (IsHeldWhole d given More) gave
+  still_whole = All-weaker (IsHeldWhole d given Few) (IsHeldWhole d given More) (λ g w u i c. more u (w u i c))
+
   pub still_run : (start now : Search) → IsRun d given Few start now → IsRun d given More start now
   still_run start now h = record {
     gave = h.gave;
     in_turn = h.in_turn;
-    whole = All-weaker (IsHeldWhole d given Few) (IsHeldWhole d given More) (λ g w u i c. more u (w u i c)) h.gave h.whole;
+    whole = still_whole h.gave h.whole;
   }
 
   pub still_coarser : (f : OpId) (system : System) → HoldsCoarser d given Few f system → HoldsCoarser d given More f system
@@ -130,13 +133,12 @@ module _ (d : Declarations) (given : Pairs) (vars : List Var) (first most size :
     -- below the limit what is given now is held whole too
     pub run_on : (start : Search) (kept with_g : List Variant) → IsWithAll d given vars first most kept g with_g → length with_g < most → IsRun d given (IsReached d given vars kept) start m
         → IsRun d given (IsReached d given vars with_g) start after
-    run_on start kept with_g w few run =
-        let earlier = still_run d given (IsReached d given vars kept) (IsReached d given vars with_g) w.grows start m run in
-        record {
-          gave = g ∷ run.gave;
-          in_turn = (m, run.in_turn, next);
-          whole = All-cons (IsHeldWhole d given (IsReached d given vars with_g)) g run.gave (w.covered few) earlier.whole;
-        }
+    run_on start kept with_g w few run = record {
+      gave = g ∷ run.gave;
+      in_turn = (m, run.in_turn, next);
+      whole = All-cons (IsHeldWhole d given (IsReached d given vars with_g)) g run.gave (w.covered few)
+          (still_whole d given (IsReached d given vars kept) (IsReached d given vars with_g) w.grows run.gave run.whole);
+    }
 
     -- at the limit the search ends with what is given now
     pub run_full : (start : Search) (kept with_g : List Variant) → IsWithAll d given vars first most kept g with_g → IsRun d given (IsReached d given vars kept) start m

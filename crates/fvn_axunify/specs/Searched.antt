@@ -1,5 +1,5 @@
 -- What a search gave until it ended: all of it is held by the answer.
-use Rattle.std.specs.Prelude.{◌≤◌, ℕ, List, Some, None, Ok, Err, All, Any}
+use Rattle.std.specs.Prelude.{◌≤◌, ℕ, List, None, Ok, Err, All, Any}
 use Rattle.fvn_terms.specs.declared.declarations.Declarations.{Declarations}
 use Rattle.fvn_terms.specs.Substitution.{Substitution}
 use Rattle.fvn_terms.specs.Unifiers.{IsUnifier, IsInstance}
