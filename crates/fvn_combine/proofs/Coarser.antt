@@ -1,6 +1,6 @@
 -- A search that ends at a state came to all that joins more before.
 use Rattle.std.proofs.Common.{◌≡◌, ◌≢◌, ℕ, ◌<◌, List, [], ◌∷◌, ◌++◌, length, get_or, map, sym, ap, ◌∙◌, subst, inl, inr, All, Contains, Some, Option}
-use Rattle.std.specs.Prelude.{◌⊎◌, Any}
+use Rattle.std.specs.Prelude.{Any}
 use Rattle.std.proofs.lemmas.Option.{slice_get_within}
 use Rattle.std.proofs.lemmas.List.Elements.{All-map, All-weaker, All-contains, Contains-push}
 use Rattle.fvn_base.proofs.Membership.{map_contains}
@@ -27,8 +27,8 @@ use Rattle.fvn_combine_systems.specs.Laws.{NodeSystemsAreSumSystems}
 use Rattle.fvn_combine_leaves.specs.Leaves.{IsSolid, MayBeConstant, HaveTwoHeads, AreTouched}
 use Rattle.fvn_combine_choices.proofs.Using.{solution_uses}
 use Rattle.fvn_combine.specs.Tasks.{Combining, IsCombining}
-use Rattle.fvn_combine.specs.Search.{Search, IsEnd, IsRefusedAt, IsRefusedAtLast, HasNoQuestion, HasNoChoiceAt, AdmitsOrIsParted}
-use Rattle.fvn_combine.specs.Coarser.{Joins, JoinsSome, IsAlien, JoinsAliens, JoinsMore, IsEndedAt, IsFinerToCome}
+use Rattle.fvn_combine.specs.Search.{IsEnd, IsRefusedAt, HasNoQuestion, HasNoChoiceAt, AdmitsOrIsParted}
+use Rattle.fvn_combine.specs.Coarser.{Joins, IsAlien, JoinsAliens, JoinsMore, IsEndedAt}
 use Rattle.fvn_combine.specs.Advancing.{IsToCome, IsFinerAt}
 use Rattle.fvn_combine.specs.declared.opened.Leaf.{Leaf}
 use Rattle.fvn_combine.specs.declared.ending.Ended.{Ended}

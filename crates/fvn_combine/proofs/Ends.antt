@@ -1,13 +1,13 @@
 -- A search that ends tells its cause, and no question is open where a sum system is refused.
-use Rattle.std.proofs.Common.{◌≡◌, ℕ, List, [], ◌∷◌, ◌++◌, sym, ◌∙◌, ◌<◌, subst, inl, inr, Some, Option, Err, Contains}
-use Rattle.std.specs.Prelude.{◌⊎◌, ◌↔◌}
+use Rattle.std.proofs.Common.{◌≡◌, List, [], ◌∷◌, ◌++◌, sym, ◌∙◌, ◌<◌, subst, inl, inr, Some, Option, Err, Contains}
+use Rattle.std.specs.Prelude.{◌↔◌}
 use Rattle.std.proofs.lemmas.List.Elements.{All-get_or, All-contains, Contains-push, Contains-append_left}
 use Rattle.std.proofs.lemmas.Option.{slice_get_within, get_or_from_slice_get}
 use Rattle.fvn_terms.specs.declared.plain.OpId.{OpId}
 use Rattle.fvn_terms.specs.Substitution.{Substitution}
 use Rattle.fvn_lindio.specs.declared.system.System.{System}
 use Rattle.fvn_base.proofs.Membership.{contains_cases, contains_none}
-use Rattle.fvn_combine_nodes.specs.States.{Admits, IsClosed, class_of}
+use Rattle.fvn_combine_nodes.specs.States.{IsClosed, class_of}
 use Rattle.fvn_combine_nodes.specs.Trees.{AreClosed, IsPartedFrom, AreInOrder}
 use Rattle.fvn_combine_nodes.specs.Unifiers.{kernel}
 use Rattle.fvn_combine_nodes.proofs.Admitting.{admits_itself}
