@@ -9,5 +9,6 @@ mod Ahead
 mod OneKind
 mod Opening
 mod Ends
+mod Coarser
 mod Less
 mod Inferring
