@@ -211,7 +211,7 @@ module _ (s a b : Text) (more less : List Text) (n : a ≡ b → ⊥) (up : AllB
 -- lists of which the first has s more often, and what stands before s as often
 pub among-rises : (s : Text) (l m : List Text) → Ascending l → Ascending m → length l ≡ length m → AllByRecursion (IsApart s) m →
     ((q : Text) → IsBefore q s → count q m ≡ count q l) → count s m < count s l → RisesAmong l m
-among-rises s [] m up down long apart below more = absurd (omega arith)
+among-rises s [] m up down long apart below more = absurd (omega (arith, more))
 among-rises s (a ∷ l) [] up down long apart below more = absurd (omega (arith, long))
 among-rises s (a ∷ l) (b ∷ m) up down long apart below more = go (same a b) refl
     (λ e. among-rises s l m up.1 down.1 (omega (arith, long)) apart.1

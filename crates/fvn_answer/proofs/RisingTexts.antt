@@ -93,10 +93,10 @@ not-same q t n = go (same q t) refl
     go false e = e
 
 module _ (d : Declarations) (names : Names) (x y : Var) (order other : List Var) (r : AreRaised x y order other) where
-  abbrev old : FlatTerm → Text
+  abbrev pub old : FlatTerm → Text
   old = old_text d names x y order other r.exchanged
 
-  abbrev new : FlatTerm → Text
+  abbrev pub new : FlatTerm → Text
   new = new_text d names x y order other r.exchanged
 
   -- x itself
@@ -131,7 +131,7 @@ module _ (d : Declarations) (names : Names) (x y : Var) (order other : List Var)
     ]
   ]
 
-  abbrev AreVariables : List FlatTerm → Type 0
+  abbrev pub AreVariables : List FlatTerm → Type 0
   AreVariables ts = (i : ℕ) (z : FlatTerm) → i < length ts → is_some (variable_of (get_or ts i z)) ≡ true
 
   all-apart : (ts : List FlatTerm) → AreVariables ts → AllByRecursion (IsApart (old (fvar x))) (map new ts)

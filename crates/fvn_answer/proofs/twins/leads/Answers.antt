@@ -4,8 +4,8 @@ use Rattle.fvn_answer.specs.inner.Twins.{LeadsUpTo}
 use Rattle.fvn_answer.proofs.TwinTexts.{leads-further}
 use Rattle.fvn_answer.proofs.twins.leads.Goals as goal
 
-pub loop-i-before : goal.loop-i-before
-loop-i-before c = (λ i x y low high. absurd (omega (arith, low, high)), omega arith)
+pub loop-i-init : goal.loop-i-init
+loop-i-init c = (λ i x y low high. absurd (omega (arith, low, high)), omega arith)
 
 pub loop-i-preserved : goal.loop-i-preserved
 loop-i-preserved c =
