@@ -106,15 +106,15 @@ pairs-rise first acc (p ∷ ps) (q ∷ qs) (inr e) =
 
 pub length_sorted : (l : List Text) → length (sorted_texts l) ≡ length l
 length_sorted [] = refl
-length_sorted (t ∷ l) = put t (sorted_texts l) ∙ ap (λ n. 1 + n) (length_sorted l)
+length_sorted (t ∷ l) = let a = put t (sorted_texts l) in let b = length_sorted l in omega (arith, a, b)
   where
     put : (t : Text) (l : List Text) → length (put_text t l) ≡ 1 + length l
     put t [] = refl
     put t (u ∷ l) = go (is_after t u) (put t l)
       where
         go : (b : Bool) → length (put_text t l) ≡ 1 + length l → length (if b then u ∷ put_text t l else t ∷ u ∷ l) ≡ 1 + length (u ∷ l)
-        go true ih = ap (λ n. 1 + n) ih
-        go false ih = refl
+        go true ih = omega (arith, ih)
+        go false ih = omega arith
 
 count_put : (q t : Text) (l : List Text) → count q (put_text t l) ≡ one_if (same q t) + count q l
 count_put q t [] = refl

@@ -1,5 +1,5 @@
 -- Texts of forms and of what is printed, where the numbers of two variables are exchanged.
-use Rattle.std.proofs.Common.{◌≡◌, ◌≢◌, ◌⊎◌, inl, inr, ℕ, zero, suc, ◌+◌, ◌<◌, ◌≤◌, Bool, true, false, Some, List, [], ◌∷◌, ◌++◌, length, get_or, refl, sym, ap, ◌∙◌, subst, map, arith}
+use Rattle.std.proofs.Common.{◌≡◌, ◌≢◌, ◌⊎◌, inl, inr, ℕ, zero, suc, ◌+◌, ◌<◌, ◌≤◌, Bool, true, false, None, Some, List, [], ◌∷◌, ◌++◌, length, get_or, refl, sym, ap, ◌∙◌, subst, map, arith}
 use Rattle.std.specs.Prelude.{if◌then◌else◌, decimal, codes, Contains}
 use Rattle.std.specs.Option.{is_some}
 use Rattle.std.specs.List.{AllByRecursion}
@@ -17,7 +17,7 @@ use Rattle.fvn_terms.specs.declared.declarations.Declarations.{Declarations}
 use Rattle.fvn_terms.specs.Signature.{axioms}
 use Rattle.fvn_terms.specs.Equality.{is_commutative}
 use Rattle.fvn_forms.specs.Flat.{FlatTerm, fvar, fapp}
-use Rattle.fvn_flat.specs.Bindings.{Bindings, value}
+use Rattle.fvn_flat.specs.Bindings.{Bindings, bound, form_or, value}
 use Rattle.fvn_flat.specs.Forms.{variable_of, head_of, args_of}
 use Rattle.fvn_syntax.specs.declared.names.Names.{Names}
 use Rattle.fvn_syntax.specs.Pieces.{Text}
@@ -156,7 +156,7 @@ module _ (d : Declarations) (names : Names) (x y : Var) (order other : List Var)
     where
       lengths : (f g : FlatTerm → Text) (ts : List FlatTerm) → length (map f ts) ≡ length (map g ts)
       lengths f g [] = refl
-      lengths f g (t ∷ ts) = ap (λ n. 1 + n) (lengths f g ts)
+      lengths f g (t ∷ ts) = let a = lengths f g ts in omega (arith, a)
 
       long : length (sorted_texts (map old ts)) ≡ length (sorted_texts (map new ts))
       long = length_sorted (map old ts) ∙ lengths old new ts ∙ sym (length_sorted (map new ts))
@@ -187,7 +187,11 @@ module _ (d : Declarations) (x y : Var) where
   raises-variable (fvar v) z e is names readable p order other r =
       let vx : v ≡ x = cc in
       subst (λ u. Rises (text_of (written d names order (fvar u))) (text_of (written d names other (fvar u)))) (sym vx) (variable-rises d names x y order other r)
-  raises-variable (fapp f joined ts) z e is = cc
+  raises-variable (fapp f joined ts) z e is names readable p order other r = cc
+
+  -- a variable without a value
+  pub raises-unbound : (s : Bindings) (z : Var) → bound s z ≡ None → z ≡ x → RaisesText d x y (value s z)
+  raises-unbound s z e is = subst (λ o. RaisesText d x y (form_or z o)) (sym e) (raises-variable (fvar z) z refl is)
 
   -- a name over arguments
   raises-over : (f : OpId) (t : FlatTerm) → head_of t ≡ Some f → (names : Names) (readable : AreReadable d names) → IsPrintable d t → (order other : List Var) →

@@ -213,13 +213,13 @@ module _ (d : Declarations) (x y : Var) where
       ∙ values-text d names readable texts order s vars p
 
 -- one more argument that is a variable
-pub variable-more : (args : List FlatTerm) (i : ℕ) (u : FlatTerm) (v : Option Var) (none : Bool) → i < length args → u ≡ get_or args i u → v ≡ variable_of u → none ≡ not (is_some v) → none ≡ false →
+pub variable-more : (args : List FlatTerm) (i : ℕ) (u : FlatTerm) (v : Option Var) (none : Bool) → i < length args → u ≡ get_or args i u → v ≡ variable_of u → is_some v ≡ not none → none ≡ false →
     ((j : ℕ) (z : FlatTerm) → j < i → is_some (variable_of (get_or args j z)) ≡ true) → (j : ℕ) (z : FlatTerm) → j < i + 1 → is_some (variable_of (get_or args j z)) ≡ true
 variable-more args i u v none within is variable e f before j z low = elim (cases_lt j i) [
   | inl l ↦ before j z l
   | inr high ↦
       let at : i ≡ j = omega arith in
-      let here : is_some (variable_of u) ≡ true = subst (λ o. is_some o ≡ true) variable (not-false (is_some v) (sym e ∙ f)) in
+      let here : is_some (variable_of u) ≡ true = subst (λ o. is_some o ≡ true) variable (e ∙ ap not f) in
       subst (λ p. is_some (variable_of (get_or args p z)) ≡ true) at (subst (λ w. is_some (variable_of w) ≡ true) (is ∙ get_or_default args i u z within) here)
 ]
 

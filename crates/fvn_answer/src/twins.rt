@@ -124,6 +124,13 @@ fn stands_more_often(t: &Flat, x: Var, y: Var) -> bool
     times(args, y) < times(args, x)
 }
 
+// Whether the two variables are one.
+fn are_one(z: Var, x: Var) -> bool
+    ensures { result ≡ true → z ≡ x }
+{
+    z == x
+}
+
 // Whether exchanging the numbers of the two variables, of which x has the lesser one, raises the
 // text of the term: the first argument that it does not leave as it is, or where arguments may be
 // exchanged, their texts in byte order.
@@ -131,7 +138,7 @@ fn raises_term(signature: &Signature, x: Var, y: Var, t: &Flat) -> bool
     ensures { result ≡ true → RaisesText signature.now x y t.now }
 {
     match t.as_var() {
-        Some(z) => z == x,
+        Some(z) => are_one(z, x),
         None => {
             if signature.axioms(operator(t)).is_commutative() {
                 return stands_more_often(t, x, y);
@@ -152,7 +159,7 @@ fn raises_value(signature: &Signature, x: Var, y: Var, subst: &Subst, z: Var) ->
 {
     match subst.get(z) {
         Some(t) => raises_term(signature, x, y, t),
-        None => z == x,
+        None => are_one(z, x),
     }
 }
 

@@ -13,7 +13,7 @@ raises_term-requires t c =
 
 pub returns-in-Some : goal.returns-in-Some
 returns-in-Some t c r =
-    raises-variable c.args.signature.now c.args.x c.args.y c.args.t.now c.in-Some.z (sym c.as_var.ensures ∙ c.in-Some.is) r
+    raises-variable c.args.signature.now c.args.x c.args.y c.args.t.now c.in-Some.z (sym c.as_var.ensures ∙ c.in-Some.is) (c.are_one.ensures r)
 
 pub returns-then-is_commutative : goal.returns-then-is_commutative
 returns-then-is_commutative t c r =
