@@ -11,8 +11,8 @@ pub returns-in-Some : goal.returns-in-Some
 returns-in-Some c =
     least-found c.args.signature.now c.args.var_names.now.texts c.args.names.now (shown c.args.printed.now) c.as_slice.result.now _ c.search.new.best c.in-Some.line c.in-Some.is c.in_ok-search.ensures
 
-pub returns-in-None : goal.returns-in-None
-returns-in-None c =
+pub returns : goal.returns
+returns c =
     least-none c.args.signature.now c.args.var_names.now.texts c.args.names.now (shown c.args.printed.now) c.as_slice.result.now _ c.search.new.best
     (subst (IsNumbering (forms_in (shown c.args.printed.now))) (sym c.as_slice.ensures.value) c.in_ok-first.ensures) c.in-None.is c.in_ok-search.ensures
 
@@ -23,10 +23,12 @@ search-requires c =
     let it = forms_in (shown c.args.printed.now) in
     let is : c.as_slice.result.now ≡ first = c.as_slice.ensures.value in
     let long : length c.as_slice.result.now ≡ length order = ap length is ∙ same-length it first order c.in_ok-first.ensures c.requires.numbering in
-    let few = c.requires.few in (
-      c.requires.names,
-      (
-        c.requires.printed,
-        (subst (IsNumbering it) (sym is) c.in_ok-first.ensures, (omega arith, (omega (arith, long, few), tt))),
-      ),
-    )
+    let few = c.requires.few in
+    record {
+      names = c.requires.names;
+      printed = c.requires.printed;
+      numbering = subst (IsNumbering it) (sym is) c.in_ok-first.ensures;
+      within = omega arith;
+      few = omega (arith, long, few);
+      best = tt;
+    }
