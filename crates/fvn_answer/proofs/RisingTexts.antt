@@ -1,6 +1,6 @@
 -- Texts of forms and of what is printed, where the numbers of two variables are exchanged.
-use Rattle.std.proofs.Common.{◌≡◌, ◌≢◌, ◌⊎◌, inl, inr, ℕ, zero, suc, ◌+◌, ◌<◌, ◌≤◌, Bool, true, false, None, Some, List, [], ◌∷◌, ◌++◌, length, get_or, refl, sym, ap, ◌∙◌, subst, map, arith}
-use Rattle.std.specs.Prelude.{if◌then◌else◌, decimal, codes, Contains}
+use Rattle.std.proofs.Common.{◌≡◌, ◌⊎◌, inl, inr, ℕ, zero, suc, ◌+◌, ◌<◌, Bool, true, false, None, Some, List, [], ◌∷◌, ◌++◌, length, get_or, refl, sym, ap, ◌∙◌, subst, map, arith}
+use Rattle.std.specs.Prelude.{decimal, codes, Contains}
 use Rattle.std.specs.Option.{is_some}
 use Rattle.std.specs.List.{AllByRecursion}
 use Rattle.std.proofs.lemmas.Fmt.{decimal_digit}
@@ -24,22 +24,21 @@ use Rattle.fvn_syntax.specs.Pieces.{Text}
 use Rattle.fvn_problems.specs.Variables.{IsNamed}
 use Rattle.fvn_answer.specs.declared.printed.Printed.{Printed}
 use Rattle.fvn_answer.specs.declared.printed.Printed.TheVariants.{Alone, Values, Variant}
-use Rattle.fvn_answer.specs.Numberings.{number, new_name}
+use Rattle.fvn_answer.specs.Numberings.{number}
 use Rattle.fvn_answer.specs.Lines.{values, values_of, asked_name, text}
 use Rattle.fvn_answer.specs.Writing.{text_of, sorted, written}
 use Rattle.fvn_answer.specs.inner.Readable.{AreReadable}
 use Rattle.fvn_answer.specs.inner.Bytes.{beside, with_pairs, over_texts, sorted_texts, arranged_texts, IsPrintable}
-use Rattle.fvn_answer.specs.inner.Fronts.{AtLeast}
 use Rattle.fvn_answer.specs.inner.Shown.{shown, value_texts, HavePrintable, CanPrint}
-use Rattle.fvn_answer.specs.inner.Twins.{AreExchanged, AreRaised, Rises, times, KeepsText, KeepsTexts, RaisesText, RaisesFirst, LowersNone, LowersNoPrinted, GoesFirst}
+use Rattle.fvn_answer.specs.inner.Twins.{AreRaised, Rises, times, KeepsText, RaisesText, RaisesFirst, LowersNone, LowersNoPrinted, GoesFirst}
 use Rattle.fvn_answer.proofs.Fronts.{all-sorted}
 use Rattle.fvn_answer.proofs.NewFronts.{sorted-front}
 use Rattle.fvn_answer.proofs.Numbers.{nobody, stands-numbered}
 use Rattle.fvn_answer.proofs.TextOrder.{same, same_is, same_itself, count}
 use Rattle.fvn_answer.proofs.Printing.{application-text, operator-filled, argument-printable}
 use Rattle.fvn_answer.proofs.ValueTexts.{values-text, whole-text}
-use Rattle.fvn_answer.proofs.TwinTexts.{old_text, new_text, variable-text, Kept, part, Counts, counts, some-at, values-same}
-use Rattle.fvn_answer.proofs.Rising.{rises-append, rises-behind, rises-at_least, rises-not, Stays, stays-at_least, stays-behind, RisesAmong, over-rises, RisesAmongPairs, pairs-rise, length_sorted, count_sorted, sorted_ascending, IsApart, among-rises}
+use Rattle.fvn_answer.proofs.TwinTexts.{old_text, new_text, variable-text, Kept, part, counts, some-at, values-same}
+use Rattle.fvn_answer.proofs.Rising.{rises-append, rises-at_least, rises-not, Stays, stays-at_least, stays-behind, RisesAmong, over-rises, RisesAmongPairs, pairs-rise, length_sorted, count_sorted, sorted_ascending, IsApart, among-rises}
 
 -- Variables.
 

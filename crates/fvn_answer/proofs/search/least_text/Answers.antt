@@ -1,5 +1,5 @@
 -- The best text after the search.
-use Rattle.std.proofs.Common.{sym, subst, ap, ◌∙◌, length, ◌≤◌, ◌≡◌, arith}
+use Rattle.std.proofs.Common.{sym, subst, ap, ◌∙◌, length, ◌≡◌, arith}
 use Rattle.fvn_answer.specs.Numberings.{IsNumbering}
 use Rattle.fvn_answer.specs.Lines.{forms_in}
 use Rattle.fvn_answer.specs.inner.Shown.{shown}

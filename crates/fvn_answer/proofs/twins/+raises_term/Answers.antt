@@ -1,5 +1,5 @@
 -- A variable, a sum of variables, or an operator over arguments of which the first that does not keep its text raises it.
-use Rattle.std.proofs.Common.{◌≡◌, sym, ap, ◌∙◌, subst, arith}
+use Rattle.std.proofs.Common.{sym, ap, ◌∙◌, arith}
 use Rattle.fvn_flat.proofs.Smaller.{argument_is_smaller}
 use Rattle.fvn_terms.specs.Equality.{is_commutative}
 use Rattle.fvn_answer.proofs.TwinTexts.{text-kept}

@@ -1,5 +1,5 @@
 -- One more variable.
-use Rattle.std.proofs.Common.{◌≡◌, true, false, sym, ap, ◌∙◌, arith}
+use Rattle.std.proofs.Common.{arith}
 use Rattle.fvn_answer.proofs.TwinTexts.{variable-more}
 use Rattle.fvn_answer.proofs.twins.are_variables.Goals as goal
 

@@ -1,6 +1,5 @@
 -- One more that it goes before.
-use Rattle.std.proofs.Common.{◌≤◌, ◌≡◌, ◌+◌, length, subst, sym, arith}
-use Rattle.fvn_answer.specs.inner.Twins.{LeadsUpTo}
+use Rattle.std.proofs.Common.{arith}
 use Rattle.fvn_answer.proofs.TwinTexts.{leads-further}
 use Rattle.fvn_answer.proofs.twins.leads.Goals as goal
 

@@ -1,5 +1,5 @@
 -- One more value, or the first that does not keep its text.
-use Rattle.std.proofs.Common.{inl, inr, arith}
+use Rattle.std.proofs.Common.{inl, inr}
 use Rattle.fvn_answer.proofs.TwinTexts.{value-kept, all-kept-texts}
 use Rattle.fvn_answer.proofs.RisingTexts.{first-raised}
 use Rattle.fvn_answer.proofs.twins.lowers_no_value.Goals as goal
