@@ -1,12 +1,13 @@
 -- The class at this place.
-use Rattle.std.proofs.Common.{sym, subst, Contains}
+use Rattle.std.proofs.Common.{◌<◌, length, sym, subst, Contains}
 use Rattle.std.proofs.lemmas.List.Elements.{Contains-get_or}
+use Rattle.fvn_combine_candidates.specs.declared.sharing.SharedClass.{SharedClass}
 use Rattle.fvn_combine.proofs.against.go_against.Goals as goal
 
 pub is_against-requires : goal.is_against-requires
 is_against-requires c = record {
-  heads = c.requires.heads c.loop-entry.entry-index c.entry-item.result c.loop-entry-test.true;
-  tags = c.requires.tags c.loop-entry.entry-index c.entry-item.result c.loop-entry-test.true;
+  heads = subst (λ (e : SharedClass). e.class < length c.args.heads.now) (sym c.entry-item.is) (c.requires.heads c.loop-entry.entry-index _ c.loop-entry-test.true);
+  tags = subst (λ (e : SharedClass). e.class < length c.args.tags.now) (sym c.entry-item.is) (c.requires.tags c.loop-entry.entry-index _ c.loop-entry-test.true);
 }
 
 pub returns-then-is_against : goal.returns-then-is_against

@@ -4,8 +4,8 @@ use Rattle.std.proofs.lemmas.Bool.{false≢true}
 use Rattle.fvn_flat.specs.Partitions.{HasNoIdentity}
 use Rattle.fvn_combine.proofs.against.is_against.Goals as goal
 
-pub returns-in-Some : goal.returns-in-Some
-returns-in-Some c t = record {
+pub returns-else-not-is_user : goal.returns-else-not-is_user
+returns-else-not-is_user c t = record {
   head = c.in-Some.g;
   noted = c.in-Some.is;
   some = λ bare. false≢true (sym c.if-has_no_identity.false ∙ c.has_no_identity.ensures.1 (subst HasNoIdentity (sym c.axioms.ensures) bare));

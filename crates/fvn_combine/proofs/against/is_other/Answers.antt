@@ -1,6 +1,7 @@
 -- The operators are compared by their numbers.
 use Rattle.std.proofs.Common.{◌≡◌, not, Some, None, sym, ap, ◌∙◌}
 use Rattle.std.proofs.lemmas.Bool.{eq-eqb, false≢true}
+use Rattle.fvn_terms.specs.declared.plain.OpId.{OpId}
 use Rattle.fvn_combine.proofs.against.is_other.Goals as goal
 
 pub returns-in-None : goal.returns-in-None
