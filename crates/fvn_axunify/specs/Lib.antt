@@ -2,4 +2,5 @@
 pub mod Solvers
 pub mod Solved
 pub mod Exact
+pub mod Searched
 pub mod inner
