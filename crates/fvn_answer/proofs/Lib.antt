@@ -21,6 +21,8 @@ mod Printable
 mod Printing
 mod ReadBack
 mod ReadLines
+mod Rising
+mod RisingTexts
 mod Searching
 mod Sums
 mod TextOrder
