@@ -18,7 +18,6 @@ use Rattle.fvn_forms.specs.Order.{same_flat}
 use Rattle.fvn_forms.specs.InOrder.{count}
 use Rattle.fvn_forms.specs.Canon.{same_op, parts, canon}
 use Rattle.fvn_forms.specs.Settled.{IsPiece, Settled, SettledAll}
-use Rattle.fvn_forms.specs.Ranks.{result}
 use Rattle.fvn_forms.specs.Good.{IsOfKind, IsGood}
 use Rattle.fvn_forms.specs.LeastSort.{result_of_two, sorts_in, least_sort, KeepsKindsOfVariables}
 use Rattle.fvn_forms.proofs.Order.{same_flat_is}

@@ -1,5 +1,5 @@
 -- Where each rank keeps a sort, so do the sums of the operator.
-use Rattle.std.proofs.Common.{◌≡◌, ◌<◌, ◌≤◌, ◌+◌, ℕ, List, [], ◌∷◌, ◌++◌, take, length, get_or, Some, refl, sym, ◌∙◌, subst, inl, inr, arith}
+use Rattle.std.proofs.Common.{◌≡◌, ◌<◌, ◌≤◌, ◌+◌, ℕ, List, [], ◌∷◌, take, length, get_or, Some, refl, sym, ◌∙◌, subst, inl, inr, arith}
 use Rattle.std.specs.Prelude.{All, slice_get}
 use Rattle.std.specs.List.{AllZip}
 use Rattle.std.proofs.lemmas.List.{take_more}
@@ -11,8 +11,8 @@ use Rattle.fvn_terms.specs.declared.declarations.Rank.{Rank}
 use Rattle.fvn_terms.specs.declared.declarations.Declarations.{Declarations}
 use Rattle.fvn_terms.specs.Signature.{axioms, AtOrBelow}
 use Rattle.fvn_terms.specs.Equality.{IsAssociative}
-use Rattle.fvn_forms.specs.Ranks.{ranks_of, result}
-use Rattle.fvn_forms.specs.Good.{IsGood, IsOfKind}
+use Rattle.fvn_forms.specs.Ranks.{ranks_of}
+use Rattle.fvn_forms.specs.Good.{IsGood}
 use Rattle.fvn_forms.proofs.Results.{result-is, TakesKinds-pair}
 use Rattle.fvn_forms.proofs.SortOrder.{AtOrBelow-trans}
 use Rattle.fvn_lifting.specs.Pairs.{SummandsKeep}

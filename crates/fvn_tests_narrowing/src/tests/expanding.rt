@@ -46,8 +46,9 @@ LOOP sort S . op a : -> S . op f : S -> S . op term : S S S -> S . vars X Y Z : 
 // and the end; behind a bar the children may stand, each with its term, and behind a semicolon its values of the term's
 // variables in the order of their first occurrence. Operators stand as their numbers, and variables as theirs in order of
 // first occurrence. The children are made by hand; those of sums are counted by a model of narrowing two summands at a
-// time. In PARITY the sum of two odd constants is even, and stands for a variable of that sort. Where two places stop, the
-// end of the first is told.
+// time. In XORS, where the variables have a sort and not its kind, `mt` beside two summands is a rule of its own, with two
+// children more for two variables. In PARITY the sum of two odd constants is even, and stands for a variable of that sort.
+// Where two places stop, the end of the first is told.
 const ROWS: &str = "ENC 100 dec(X,Y) => 1 whole | x0 ; f2(x0,x1) x1
 ENC 100 dec(dec(X,Y),Y) => 1 whole | f3(x0,x1) ; f2(x0,x1) x1
 ENC 100 enc(dec(X,Y),Y) => 1 whole | f2(x0,x1) ; f2(x0,x1) x1
@@ -85,8 +86,8 @@ XOR 100 mt => 0 whole
 XOR 100 *(X,Y,Z) => 18 whole
 XOR 100 *(X,Y,c) => 12 whole
 XOR 100 *(X,c,d) => 6 whole
-XORS 100 *(X,Y,Z) => 18 whole
-XORS 100 *(X,Y,c) => 12 whole
+XORS 100 *(X,Y,Z) => 24 whole
+XORS 100 *(X,Y,c) => 14 whole
 PARITY 100 *(a,b,a,b) => 1 whole | f2 ;
 PARITY 100 *(a,a,b) => 0 whole
 ENDS 1 pair(g(k(X,Y)),f(Z)) => 1 unifiers
