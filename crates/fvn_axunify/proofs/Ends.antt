@@ -2,12 +2,14 @@
 use Rattle.std.proofs.Common.{◌≡◌, ◌<◌, ◌≤◌, ◌⊎◌, ℕ, List, [], ◌∷◌, length, ◌∙◌, refl, sym, subst, ap, inl, inr, arith, All}
 use Rattle.std.proofs.lemmas.List.Elements.{All-nil, All-cons, All-weaker}
 use Rattle.fvn_terms.specs.declared.plain.Var.{Var}
+use Rattle.fvn_terms.specs.declared.plain.OpId.{OpId}
 use Rattle.fvn_terms.specs.declared.declarations.Declarations.{Declarations}
 use Rattle.fvn_terms.specs.Substitution.{Substitution}
 use Rattle.fvn_terms.specs.Unifiers.{IsUnifier}
+use Rattle.fvn_lindio.specs.declared.system.System.{System}
 use Rattle.fvn_flat.specs.Bindings.{Bindings, value}
 use Rattle.fvn_flat.specs.Problems.{variables_of}
-use Rattle.fvn_flat.specs.Solving.{problem_of, IsBasisCause, IsTooLarge}
+use Rattle.fvn_flat.specs.Solving.{problem_of, IsTooLarge}
 use Rattle.fvn_flat.specs.declared.solver.Pairs.{Pairs}
 use Rattle.fvn_flat.specs.declared.solver.SolveEnd.{SolveEnd}
 use Rattle.fvn_flat.specs.declared.solver.SolveEnd.TheVariants.{Complete, Basis, Unifiers, Size}
@@ -15,10 +17,12 @@ use Rattle.fvn_flat.specs.declared.solver.SizeCause.TheVariants.{Problem, Bindin
 use Rattle.fvn_combine_choices.specs.Covering.{CoversOnKinds}
 use Rattle.fvn_combine_drawing.specs.OnKinds.{IsGivenOnKinds}
 use Rattle.fvn_combine.specs.Search.{Search}
+use Rattle.fvn_combine.specs.Coarser.{IsFinerToCome, Joins, JoinsMore}
 use Rattle.fvn_combine.specs.Advancing.{IsOf, IsToCome, IsGivenNext}
 use Rattle.fvn_cover.specs.declared.variant.Variant.{Variant}
 use Rattle.fvn_axunify.specs.inner.Members.{IsKept, AreKept, IsReached, IsWithAll}
 use Rattle.fvn_axunify.specs.inner.Nexts.{IsLast}
+use Rattle.fvn_axunify.specs.Coarser.{HoldsCoarser}
 use Rattle.fvn_axunify.specs.Searched.{EndsSo, IsHeldWhole, IsRun, IsRunToEnd, IsSearched}
 use Rattle.fvn_axunify.specs.inner.Found.{IsFound}
 
@@ -57,6 +61,9 @@ module _ (d : Declarations) (given : Pairs) (Few More : Substitution → Type 0)
     whole = still_whole h.gave h.whole;
   }
 
+  pub still_coarser : (f : OpId) (system : System) → HoldsCoarser d given Few f system → HoldsCoarser d given More f system
+  still_coarser f system h = record { at = h.at; held = λ u i joins some. more u (h.held u i joins some) }
+
   pub still_searched : (first size : ℕ) (end : SolveEnd) → IsSearched d given Few first size end → IsSearched d given More first size end
   still_searched first size end h = record {
     start = h.start;
@@ -72,8 +79,16 @@ module _ (d : Declarations) (given : Pairs) (vars : List Var) (first most size :
       ((u : Substitution) → IsUnifier d (problem_of given) u → IsReached d given vars kept u ⊎ IsToCome m u) →
       (end : SolveEnd) → IsLast m after end → IsFound d given vars first most size kept end
   end_found kept are few all Complete last = record { are = are; end_of = (few, λ u h. elim (all u h) [ inl r ↦ r | inr t ↦ absurd (last.none u t) ]) }
-  end_found kept are few all (Basis f system) last =
-      record { are = are; end_of = (few, subst (λ g. IsBasisCause d g f system) of.problem (subst (λ e. IsBasisCause e m.combining.given f system) of.declarations last.0)) }
+  end_found kept are few all (Basis f system) last = record { are = are; end_of = (few, record { at = finer.at; held = held }) }
+    where
+      finer : IsFinerToCome d given f system (IsToCome after)
+      finer = subst (λ g. IsFinerToCome d g f system (IsToCome after)) of.problem (subst (λ e. IsFinerToCome e m.combining.given f system (IsToCome after)) of.declarations last.3)
+
+      held : (u : Substitution) → IsUnifier d (problem_of given) u → Joins d (problem_of given) finer.at.cause.class u → JoinsMore d given f system finer.at u → IsReached d given vars kept u
+      held u h joins some = elim (all u h) [
+        | inl r ↦ r
+        | inr t ↦ absurd (finer.finer u ((last.4.kept u).0 t) joins some)
+      ]
   end_found kept are few all Unifiers last = absurd last
   end_found kept are few all (Size (Problem p)) last = absurd last
   end_found kept are few all (Size (Binding list)) last =

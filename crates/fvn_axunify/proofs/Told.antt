@@ -138,7 +138,7 @@ module _ (d : Declarations) (given : Pairs) (vars : List Var) (first most size :
 
     cause : (end : SolveEnd) → IsEndOf d given vars most size kept end → IsCause d given most size (length (map (λ v. v.subst) kept)) end
     cause Complete h = tt
-    cause (Basis f system) h = h.1
+    cause (Basis f system) h = h.1.at.cause
     cause Unifiers h = length-map kept (λ v. v.subst) ∙ h
     cause (Size (Problem p)) h = absurd h
     cause (Size (Binding list)) h = h.1

@@ -3,4 +3,5 @@ pub mod Solvers
 pub mod Solved
 pub mod Exact
 pub mod Searched
+pub mod Coarser
 pub mod inner

@@ -6,6 +6,7 @@ ghost use Rattle.fvn_flat.specs.Drawn.{IsDrawn};
 ghost use Rattle.fvn_axunify.specs.Solvers.{Solver};
 ghost use Rattle.fvn_axunify.specs.Exact.{IsExact};
 ghost use Rattle.fvn_axunify.specs.Searched.{IsSearched, HoldsItsSearch};
+ghost use Rattle.fvn_axunify.specs.Coarser.{HoldsCoarserOnes};
 ghost use Rattle.fvn_axunify.specs.inner.Found.{IsFound};
 ghost use Rattle.fvn_axunify.specs.inner.Members.{IsReached};
 ghost use Rattle.fvn_axunify.specs.inner.Asked.{IsAsked};
@@ -78,6 +79,7 @@ fn told(task: &Task, found: Found) -> Result<Solved, NoMemory>
         task.now.limits.unifiers task.now.limits.size) }
     ensures searched { IfOk result (HoldsItsSearch task.now.sig.now task.now.problem.now
         task.now.first task.now.limits.size) }
+    ensures coarser { IfOk result (HoldsCoarserOnes task.now.sig.now task.now.problem.now) }
 {
     covering_of_unifiers_is_instance();
     let list = unifiers(task.alloc, found.kept)?;
@@ -119,6 +121,8 @@ impl<'a> AxiomUnify<'a> {
         // limit was reached; and a refused sum system ends it only where no question is open.
         ensures searched { IfOk result (HoldsItsSearch self.now.declarations problem.now first_fresh
             self.now.most_symbols) }
+        // Where a refused sum system ends the search, what joins more than its partition is held.
+        ensures coarser { IfOk result (HoldsCoarserOnes self.now.declarations problem.now) }
     {
         self.sig.recall_good();
         if is_over(problem, self.limits.size) {
@@ -173,6 +177,7 @@ impl AxiomSolver for AxiomUnify<'_> {
         // All that the search gave is answered.
         ensures searched { IfOk result (HoldsItsSearch self.now.declarations problem.now first_fresh
             self.now.most_symbols) }
+        ensures coarser { IfOk result (HoldsCoarserOnes self.now.declarations problem.now) }
     {
         let solved = self.unify(alloc, problem, first_fresh)?;
         Ok(solved)

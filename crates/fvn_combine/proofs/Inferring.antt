@@ -16,7 +16,7 @@ use Rattle.fvn_combine.specs.declared.looking.Looked.TheVariants.{Over, Open, To
 
 module _ (k : Combining) (is : IsCombining k) (law : SortedUnifiersGoWith) (s : State) (closed : IsClosed k.declarations k.table s) where
   -- the values of such a unifier go with the state
-  values_admitted : (u : Substitution) → IsAdmittedBy k s u → GoWithSorts k.declarations k.table s k.sorted (value_at k.declarations u k.table.nodes)
+  pub values_admitted : (u : Substitution) → IsAdmittedBy k s u → GoWithSorts k.declarations k.table s k.sorted (value_at k.declarations u k.table.nodes)
   values_admitted u h = law k.declarations is.good (problem_of k.given) is.is_given.kinds k.table is.well_made is.table_of s closed u h.0.unifies h.1 k.sorted h.0.keeps_sorts
 
   pub none_admitted : HasNoValues k.declarations k.table s k.sorted → (u : Substitution) → IsAdmittedBy k s u → ⊥

@@ -48,19 +48,24 @@ fn look_at_leaf(
     task: &Task,
     state: &State,
     reading: Reading,
+    known: Known,
     bases: Vec<Seq<Solution>>,
 ) -> Result<Looked, NoMemory>
     requires leaf { IsLeaf task.now.declarations task.now.table state.now }
     requires kinds { AreOfOneKind task.now.declarations task.now.table (class_of state.now) }
     requires reading { IsReading task.now.declarations task.now.table (class_of state.now) reading }
+    requires heads { TellHeads task.now.declarations task.now.table state.now known.sorted
+        known.heads.items }
+    requires sorted { known.sorted ≡ task.now.sorted }
     requires bases { AreBases reading.sums bases.items }
     ensures { IfOk result (IsLookedAt task.now state.now) }
 {
     task.recall();
     bases_make_systems();
     sorted_leaves_cover();
+    sorted_unifiers_go_with();
     readings_tell();
-    let leaf = open(task, state, reading, bases)?;
+    let leaf = open(task, state, reading, known, bases)?;
     Ok(Looked::Leaf(leaf))
 }
 
@@ -89,13 +94,13 @@ fn look_at_near_leaf(
     task: &Task,
     state: &State,
     reading: Reading,
-    known: &Known,
+    known: Known,
 ) -> Result<Looked, NoMemory>
     requires near { IsNearLeaf task.now.declarations task.now.table state.now }
     requires reading { IsReading task.now.declarations task.now.table (class_of state.now) reading }
-    requires heads { TellHeads task.now.declarations task.now.table state.now known.now.sorted
-        known.now.heads.items }
-    requires sorted { known.now.sorted ≡ task.now.sorted }
+    requires heads { TellHeads task.now.declarations task.now.table state.now known.sorted
+        known.heads.items }
+    requires sorted { known.sorted ≡ task.now.sorted }
     ensures { IfOk result (IsLookedAt task.now state.now) }
 {
     task.recall();
@@ -108,15 +113,15 @@ fn look_at_near_leaf(
         Err(OpenFault::NoMemory) => Err(NoMemory),
         Err(OpenFault::Basis(f, system)) => {
             match question_on_all(task.sig, &task.table, state, &reading) {
-                Some(pair) => Ok(asked(task, state, known, pair.0, pair.1)),
+                Some(pair) => Ok(asked(task, state, &known, pair.0, pair.1)),
                 None => Ok(Looked::Refused(f, system)),
             }
         }
         Ok(bases) => {
             match question_on_touched(task.sig, &task.table, state, &reading, bases.as_slice()) {
-                Some(pair) => Ok(asked(task, state, known, pair.0, pair.1)),
+                Some(pair) => Ok(asked(task, state, &known, pair.0, pair.1)),
                 None => {
-                    let looked = look_at_leaf(task, state, reading, bases)?;
+                    let looked = look_at_leaf(task, state, reading, known, bases)?;
                     Ok(looked)
                 }
             }
@@ -129,17 +134,17 @@ fn look_further(
     task: &Task,
     state: &State,
     reading: Reading,
-    known: &Known,
+    known: Known,
 ) -> Result<Looked, NoMemory>
     requires closed { IsClosed task.now.declarations task.now.table state.now }
     requires reading { IsReading task.now.declarations task.now.table (class_of state.now) reading }
-    requires heads { TellHeads task.now.declarations task.now.table state.now known.now.sorted
-        known.now.heads.items }
-    requires sorted { known.now.sorted ≡ task.now.sorted }
+    requires heads { TellHeads task.now.declarations task.now.table state.now known.sorted
+        known.heads.items }
+    requires sorted { known.sorted ≡ task.now.sorted }
     ensures { IfOk result (IsLookedAt task.now state.now) }
 {
     match first_question(task.sig, &task.table, state, &reading) {
-        Some((i, j)) => Ok(asked(task, state, known, i, j)),
+        Some((i, j)) => Ok(asked(task, state, &known, i, j)),
         None => {
             let looked = look_at_near_leaf(task, state, reading, known)?;
             Ok(looked)
@@ -171,7 +176,7 @@ fn look_at(task: &Task, state: &State) -> Result<Looked, NoMemory>
         Inferred::Together(i, j) => Ok(Looked::Together(i, j)),
         Inferred::Question(i, j) => Ok(Looked::Open(i, j)),
         Inferred::Nothing => {
-            let looked = look_further(task, state, reading, &known)?;
+            let looked = look_further(task, state, reading, known)?;
             Ok(looked)
         }
     }

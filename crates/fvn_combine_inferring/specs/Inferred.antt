@@ -3,11 +3,14 @@
 use Rattle.std.specs.Prelude.{◌≡◌, ◌≢◌, ℕ, ◌<◌, Bool, List, length, slice_index_or, Option, Some, None}
 use Rattle.fvn_terms.specs.declared.plain.OpId.{OpId}
 use Rattle.fvn_terms.specs.declared.declarations.Declarations.{Declarations}
+use Rattle.fvn_terms.specs.Signature.{axioms}
 use Rattle.fvn_forms.specs.Flat.{FlatTerm}
 use Rattle.fvn_flat.specs.Forms.{head_of}
+use Rattle.fvn_flat.specs.Partitions.{HasNoIdentity}
 use Rattle.fvn_combine_nodes.specs.Table.{NodeTable}
 use Rattle.fvn_combine_nodes.specs.States.{IsOpen, class_of}
 use Rattle.fvn_combine_nodes.specs.declared.state.State.{State}
+use Rattle.fvn_combine_complete.specs.Obeying.{IsSumOf}
 use Rattle.fvn_combine_inferring.specs.Sorted.{GoWithSorts}
 use Rattle.fvn_combine_inferring.specs.declared.inferring.Inferred.{Inferred}
 use Rattle.fvn_combine_inferring.specs.declared.inferring.Inferred.TheVariants.{Nothing, Impossible, Together, Question}
@@ -20,9 +23,10 @@ module _ (d : Declarations) (t : NodeTable) (s : State) where
     pub undecided : IsOpen s i j
 
   module _ (sorted : Bool) where
-    -- the operator that is noted of a class heads its value, whatever values go with the state
+    -- the operator that is noted of a class heads its value, whatever values go with the state; one with an identity makes it a sum
     pub record TellHeads (heads : List (Option OpId)) : Type 0 where
       pub as_many : length heads ≡ length t.nodes
+      pub joined : (k : ℕ) (f : OpId) → k < length t.nodes → slice_index_or heads k None ≡ Some f → (HasNoIdentity (axioms d f) → ⊥) → (values : ℕ → FlatTerm) → GoWithSorts d t s sorted values → IsSumOf f (values k)
       pub headed : (k : ℕ) (f : OpId) → k < length t.nodes → slice_index_or heads k None ≡ Some f → (values : ℕ → FlatTerm) → GoWithSorts d t s sorted values → head_of (values k) ≡ Some f
 
     -- no values go with the state

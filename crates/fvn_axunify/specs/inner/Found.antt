@@ -4,19 +4,20 @@ use Rattle.fvn_terms.specs.declared.plain.Var.{Var}
 use Rattle.fvn_terms.specs.declared.declarations.Declarations.{Declarations}
 use Rattle.fvn_terms.specs.Substitution.{Substitution}
 use Rattle.fvn_terms.specs.Unifiers.{IsUnifier}
-use Rattle.fvn_flat.specs.Solving.{problem_of, IsBasisCause, IsTooLarge}
+use Rattle.fvn_flat.specs.Solving.{problem_of, IsTooLarge}
 use Rattle.fvn_flat.specs.declared.solver.Pairs.{Pairs}
 use Rattle.fvn_flat.specs.declared.solver.SolveEnd.{SolveEnd}
 use Rattle.fvn_flat.specs.declared.solver.SolveEnd.TheVariants.{Complete, Basis, Unifiers, Size}
 use Rattle.fvn_flat.specs.declared.solver.SizeCause.TheVariants.{Problem, Binding, Term}
 use Rattle.fvn_cover.specs.declared.variant.Variant.{Variant}
+use Rattle.fvn_axunify.specs.Coarser.{HoldsCoarser}
 use Rattle.fvn_axunify.specs.inner.Members.{AreKept, IsReached}
 
 module _ (d : Declarations) (given : Pairs) (vars : List Var) where
   -- the end of a search that has found these, none too large from the start
   abbrev pub IsEndOf : (most size : ℕ) → List Variant → SolveEnd → Type 0
   IsEndOf most size kept Complete = (length kept < most) × ((u : Substitution) → IsUnifier d (problem_of given) u → IsReached d given vars kept u)
-  IsEndOf most size kept (Basis f system) = (length kept < most) × IsBasisCause d given f system
+  IsEndOf most size kept (Basis f system) = (length kept < most) × HoldsCoarser d given (IsReached d given vars kept) f system
   IsEndOf most size kept Unifiers = length kept ≡ most
   IsEndOf most size kept (Size (Problem p)) = ⊥
   IsEndOf most size kept (Size (Binding list)) = (length kept < most) × IsTooLarge d given size list.bindings

@@ -3,7 +3,7 @@ use Rattle.std.proofs.Common.{◌<◌, length, set, sym, ap, ◌∙◌, subst, a
 use Rattle.fvn_combine_nodes.specs.States.{class_of}
 use Rattle.fvn_combine_inferring.specs.inner.Bounds.{HasTwoSummands}
 use Rattle.fvn_combine_inferring.proofs.Values.{name_within}
-use Rattle.fvn_combine_inferring.proofs.HeadsTold.{more_heads, large_headed}
+use Rattle.fvn_combine_inferring.proofs.HeadsTold.{more_heads, large_joined}
 use Rattle.fvn_combine_inferring.proofs.heads.note_large.Goals as goal
 use Rattle.fvn_combine_inferring.specs.Inferred.{TellHeads}
 
@@ -27,7 +27,7 @@ loop-i-preserved c =
     record {
       heads =
           subst (TellHeads d t s sorted) (sym (c.note_head.ensures ∙ ap (λ k. set heads k (Some c.args.f)) c.class_of.ensures))
-          (more_heads d t s sorted heads (class_of s i) c.args.f (omega (arith, w, n)) c.loop-i.invariant.heads (large_headed d t s sorted c.args.f i (subst (λ g. HasTwoSummands d t s sorted g i) c.in_ok-addition.ensures.operator (c.in_ok-is_large.ensures c.if-not-branch.false))));
+          (more_heads d t s sorted heads (class_of s i) c.args.f (omega (arith, w, n)) c.loop-i.invariant.heads (large_joined d t s sorted c.args.f i (subst (λ g. HasTwoSummands d t s sorted g i) c.in_ok-addition.ensures.operator (c.in_ok-is_large.ensures c.if-not-branch.false))));
       sorted = c.loop-i.invariant.sorted;
     }
 
