@@ -4,6 +4,7 @@ mod Applying
 mod Arranged
 mod BoundLines
 mod Collecting
+pub mod Declared
 mod Exchanging
 mod Fronts
 mod Joining
