@@ -1,5 +1,5 @@
 -- What is noted of the class is no tag of it.
-use Rattle.std.proofs.Common.{sym, ◌∙◌, subst, None, Contains}
+use Rattle.std.proofs.Common.{sym, ◌∙◌, subst, Contains}
 use Rattle.std.proofs.lemmas.Bool.{false≢true}
 use Rattle.fvn_flat.specs.Partitions.{HasNoIdentity}
 use Rattle.fvn_combine.proofs.against.is_against.Goals as goal
