@@ -1,5 +1,5 @@
 -- What forms show is what the values show.
-use Rattle.std.proofs.Common.{◌≡◌, ◌≤◌, ◌<◌, ◌+◌, ◌↔◌, ℕ, Bool, true, false, List, Option, Some, None, length, get_or, refl, sym, subst, inl, inr, arith, below_more}
+use Rattle.std.proofs.Common.{◌≡◌, ◌≤◌, ◌<◌, ◌+◌, ◌↔◌, ℕ, Bool, true, false, List, Option, Some, None, length, get_or, refl, sym, subst, ap, ◌∙◌, inl, inr, arith, below_more}
 use Rattle.std.specs.Prelude.{IsTrue}
 use Rattle.std.proofs.lemmas.Bool.{cases_lt}
 use Rattle.fvn_terms.specs.declared.plain.Var.{Var}
@@ -26,20 +26,28 @@ not_above a b h = elim (cases_lt a b) as (λ _. b ≤ a) [
   | inr le ↦ le
 ]
 
+-- lists that are the same have the same numbers
+pub found_alike : (n : ℕ) (ps qs : List (Var × ℕ)) (x : Var) → n ≡ found ps x → ps ≡ qs → n ≡ found qs x
+found_alike n ps qs x e same = e ∙ ap (λ l. found l x) same
+
 -- whether the number of some variable is above its bound, place by place
 module _ (bound : Var → ℕ) (ps : List (Var × ℕ)) where
   -- the number that stands there is not above
-  pub own_at_most : (i : ℕ) (d : Var × ℕ) (b : Bool) → (IsTrue b ↔ (bound (get_or ps i d).0 < (get_or ps i d).1)) → b ≡ false → TellsAbove bound ps i false
-  own_at_most i d b test e x p =
+  pub own_at_most : (i : ℕ) (d : Var × ℕ) (b : Bool) (m : ℕ) → m ≡ bound (get_or ps i d).0 → (IsTrue b ↔ (m < (get_or ps i d).1)) → b ≡ false → TellsAbove bound ps i false
+  own_at_most i d b m is test e = λ x p.
       let n : found ps x ≡ (get_or ps i d).1 = placed_number x ps i d p in
-      let le : (get_or ps i d).1 ≤ bound (get_or ps i d).0 = not_above (bound (get_or ps i d).0) (get_or ps i d).1 (λ h. contradicts b (test.1 h) e) in
-      subst (λ y. found ps x ≤ bound y) (placed_variable x ps i d p) (subst (λ k. k ≤ bound (get_or ps i d).0) (sym n) le)
+      let le : (get_or ps i d).1 ≤ m = not_above m (get_or ps i d).1 (λ h. contradicts b (test.1 h) e) in
+      let same : m ≡ bound x = is ∙ ap bound (placed_variable x ps i d p) in
+      omega (arith, n, le, same)
 
   -- the number of the variable is tested
-  pub tells_above : (i : ℕ) (d : Var × ℕ) (b : Bool) → (IsTrue b ↔ (bound (get_or ps i d).0 < found ps (get_or ps i d).0)) → TellsAbove bound ps i b
-  tells_above i d true test = ((get_or ps i d).0, test.0 refl)
-  tells_above i d false test x p =
-      subst (λ y. found ps y ≤ bound y) (placed_variable x ps i d p) (not_above (bound (get_or ps i d).0) (found ps (get_or ps i d).0) (λ h. contradicts false (test.1 h) refl))
+  pub tells_above : (i : ℕ) (d : Var × ℕ) (b : Bool) (m n : ℕ) → m ≡ bound (get_or ps i d).0 → n ≡ found ps (get_or ps i d).0 → (IsTrue b ↔ (m < n)) → TellsAbove bound ps i b
+  tells_above i d true m n e f test = ((get_or ps i d).0, let h : m < n = test.0 refl in omega (arith, e, f, h))
+  tells_above i d false m n e f test = λ x p.
+      let le : n ≤ m = not_above m n (λ h. contradicts false (test.1 h) refl) in
+      let same : m ≡ bound x = e ∙ ap bound (placed_variable x ps i d p) in
+      let number : n ≡ found ps x = f ∙ ap (found ps) (placed_variable x ps i d p) in
+      omega (arith, le, same, number)
 
   -- none so far
   pub none_told : (j : ℕ) → j < 0 → TellsAbove bound ps j false

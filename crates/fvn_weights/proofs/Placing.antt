@@ -1,5 +1,5 @@
 -- Where a variable stands in a list, and its number.
-use Rattle.std.proofs.Common.{◌≡◌, ◌≤◌, ◌<◌, ◌+◌, ◌*◌, ℕ, zero, suc, Bool, true, false, List, [], ◌∷◌, ◌++◌, set, Option, Some, None, length, refl, sym, subst, ap, ◌∙◌, arith}
+use Rattle.std.proofs.Common.{◌≡◌, ◌<◌, ◌+◌, ◌*◌, ℕ, zero, suc, Bool, true, false, List, [], ◌∷◌, ◌++◌, set, Option, Some, None, length, refl, sym, ap, ◌∙◌, arith}
 use mathlib.Core.Bool.{beq}
 use Rattle.fvn_base.proofs.Options.{Some-injective}
 use Rattle.std.specs.Prelude.{◌&&◌, drop, get_or, option_map, if◌then◌else◌}

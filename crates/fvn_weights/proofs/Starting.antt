@@ -1,5 +1,5 @@
 -- The places that are noted of slots.
-use Rattle.std.proofs.Common.{◌≡◌, ◌≤◌, ◌<◌, ◌%◌, ℕ, suc, Bool, true, false, List, [], ◌∷◌, ◌++◌, set, Option, Some, None, length, refl, sym, subst, ap, ◌∙◌, arith}
+use Rattle.std.proofs.Common.{◌≡◌, ◌≤◌, ◌<◌, ◌+◌, ◌%◌, ℕ, Bool, true, false, List, [], ◌∷◌, ◌++◌, set, Option, Some, None, length, refl, sym, subst, ap, ◌∙◌, arith}
 use Rattle.std.specs.Prelude.{get_or, nat_eq, if◌then◌else◌}
 use Rattle.std.proofs.lemmas.Bool.{eqb-true, eq-eqb}
 use Rattle.std.proofs.lemmas.Nat.{mod_below}
@@ -9,7 +9,7 @@ use Rattle.fvn_terms.specs.declared.plain.Var.{Var}
 use Rattle.fvn_terms.specs.Substitution.{same_var}
 use Rattle.fvn_terms.proofs.Variables.{same_var_is}
 use Rattle.fvn_weights.specs.declared.limits.TheConstants.{SLOTS}
-use Rattle.fvn_weights.specs.inner.Numbers.{first_at, place, slot, slot_place, start_or, capped, found, AreStarts, IsRaised}
+use Rattle.fvn_weights.specs.inner.Numbers.{place, slot, slot_place, start_or, capped, found, AreStarts, IsRaised}
 use Rattle.fvn_weights.proofs.FitTests.{contradicts}
 use Rattle.fvn_weights.proofs.Firsts.{first_within, first_passes, first_none, first_set, push_some, push_none, narrow_here, narrow_none}
 use Rattle.fvn_weights.proofs.Placing.{raised_at, raised_new}

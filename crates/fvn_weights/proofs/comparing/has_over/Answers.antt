@@ -1,4 +1,5 @@
 -- One number more.
+use Rattle.std.proofs.Common.{◌∙◌, arith}
 use Rattle.fvn_weights.specs.declared.limits.TheConstants.{MOST}
 use Rattle.fvn_weights.proofs.FormTests.{none_told, one_passed, one_above, none_above}
 use Rattle.fvn_weights.proofs.comparing.has_over.Goals as goal
@@ -13,4 +14,4 @@ pub returns-then-over : goal.returns-then-over
 returns-then-over c = one_above (λ x. MOST) c.args.form.now.factors.items c.loop-i.i c.is_over_at-over.result c.is_over_at-over.ensures c.if-over.true
 
 pub returns : goal.returns
-returns c = none_above (λ x. MOST) c.args.form.now.factors.items c.loop-i.i c.loop-i-test.false c.loop-i.invariant
+returns c = none_above (λ x. MOST) c.args.form.now.factors.items c.loop-i.i (let n = c.len-i-end.ensures ∙ c.args.form.now.factors.ok.0 in omega (arith, n, c.loop-i-test.false)) c.loop-i.invariant

@@ -1,5 +1,5 @@
 -- The slot has variables, or not.
-use Rattle.std.proofs.Common.{sym, ap, ◌∙◌, subst}
+use Rattle.std.proofs.Common.{sym, ap, ◌∙◌}
 use Rattle.fvn_weights.specs.inner.Numbers.{slot_place}
 use Rattle.fvn_weights.proofs.Starting.{placed_nowhere}
 use Rattle.fvn_weights.proofs.slots.place_in.Goals as goal

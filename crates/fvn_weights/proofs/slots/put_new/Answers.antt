@@ -1,12 +1,12 @@
 -- The variable comes behind the others, and its slot is noted.
-use Rattle.std.proofs.Common.{List, ℕ, length, sym, subst, ap, ◌∙◌, arith}
+use Rattle.std.proofs.Common.{List, ℕ, ap, ◌∙◌, arith}
 use Rattle.fvn_terms.specs.declared.plain.Var.{Var}
-use Rattle.fvn_weights.specs.inner.Numbers.{slot, slot_place, start_or, AreStarts, IsRaised}
-use Rattle.fvn_weights.proofs.Starting.{slot_below, raised_last}
+use Rattle.fvn_weights.specs.inner.Numbers.{slot, slot_place, start_or}
+use Rattle.fvn_weights.proofs.Starting.{raised_last}
 use Rattle.fvn_weights.proofs.slots.put_new.Goals as goal
 
-pub first_in-requires-clause-starts : goal.first_in-requires-clause-starts
-first_in-requires-clause-starts c = rw (c.as_slice.ensures.value, c.as_slice-2.ensures.value) c.requires.starts
+pub first_in-first-requires-clause-starts : goal.first_in-first-requires-clause-starts
+first_in-first-requires-clause-starts c = rw (c.as_slice.ensures.value, c.as_slice-2.ensures.value) c.requires.starts
 
 pub note-requires : goal.note-requires
 note-requires c = let small = c.slot_of-s.ensures.small in let n = c.requires.starts.count in omega (arith, small, n)

@@ -1,7 +1,7 @@
 -- The number of a variable that stands there is raised, and another is put behind.
-use Rattle.std.proofs.Common.{◌+◌, List, ℕ, sym, subst, ap, ◌∙◌}
+use Rattle.std.proofs.Common.{List, ℕ, sym, subst, ap, ◌∙◌}
 use Rattle.fvn_terms.specs.declared.plain.Var.{Var}
-use Rattle.fvn_weights.specs.inner.Numbers.{place, AreStarts, IsRaised}
+use Rattle.fvn_weights.specs.inner.Numbers.{place, IsRaised}
 use Rattle.fvn_weights.proofs.Starting.{raised_there}
 use Rattle.fvn_weights.proofs.slots.raise.Goals as goal
 
