@@ -60,7 +60,7 @@ module _ (g : Setting) (drawn : Problem → Substitution → Type 0) (start : Li
     grown_some front = let l = length-append run (map (at_depth (depth + 1)) front) in omega (arith, l, some)
 
     grown_next : (front : List Variant) (w : Variant) → IsLevelRun g drawn start (grown front) → HasPlace w → ((v : Variant) → Contains front v → (CoversVariant g.declarations v w → ⊥) × (CoversVariant g.declarations w v → ⊥)) → IsLevelRun g drawn start (grown (front ++ w ∷ []))
-    grown_next front w h p apart = subst (IsLevelRun g drawn start) (sym (grown_more front w)) (run_push (grown front) (at_depth (depth + 1) w) (grown_some front) h parent (λ a m. folds a (Contains-append_cases run (map (at_depth (depth + 1)) front) a m))) where
+    grown_next front w h p apart = subst (IsLevelRun g drawn start) (sym (grown_more front w)) (run_push g drawn start (grown front) (at_depth (depth + 1) w) (grown_some front) h parent (λ a m. folds a (Contains-append_cases run (map (at_depth (depth + 1)) front) a m))) where
       parent : HasParent g drawn (grown front) (at_depth (depth + 1) w)
       parent = record { parent = p.parent; listed = Contains-append_left run (map (at_depth (depth + 1)) front) p.parent p.listed; above = ap (λ (n : ℕ). n + 1) p.level; child = p.child }
 
