@@ -6,7 +6,7 @@ ghost use Rattle.fvn_fold.specs.inner.Running.{at_depth, lists_of, deep_of, with
 
 use crate::copying::copy;
 use fvn_base::Seq;
-use fvn_cover::{Kept, Variant, prune};
+use fvn_cover::{Kept, Variant, prune_kept};
 use fvn_exploring::{Deep, ExploreEnd, Explored};
 use fvn_signature::Signature;
 use fvn_terms::NoMemory;
@@ -84,17 +84,6 @@ pub(crate) fn with_level(
     })
 }
 
-// The variants alone.
-fn variants(alloc: Global, list: Vec<Kept>) -> Result<Vec<Variant>, NoMemory>
-    ensures { IfOk result (λ vs. vs.items ≡ list.items) }
-{
-    let mut vs = Vec::new(alloc);
-    for k in list {
-        vs.push(k.into_variant())?;
-    }
-    Ok(vs)
-}
-
 /// What was explored, where the members of the run are of this level.
 pub(crate) fn finish(
     alloc: Global,
@@ -114,8 +103,7 @@ pub(crate) fn finish(
         kept,
     } = run;
     let all = with_depth(alloc, done, members, depth)?;
-    let list = variants(alloc, kept)?;
-    let given = prune(alloc, sig, list)?;
+    let given = prune_kept(alloc, sig, kept)?;
     Ok(Explored {
         kept: Seq::from_vec(all),
         variants: Seq::from_vec(given),
