@@ -42,7 +42,7 @@ pub(crate) fn first_run(alloc: Global, sig: &Signature, start: Variant) -> Resul
     ensures { IfOk result (λ r.
         (r.done.items ≡ []) × (r.members.items ≡ start ∷ []) × (r.kept.items ≡ start ∷ [])) }
 {
-    let other = copy(alloc, &start)?;
+    let other = copy(alloc, sig, &start)?;
     let own = Kept::new(alloc, sig, other)?;
     let mut kept = Vec::new(alloc);
     kept.push(own)?;
@@ -58,10 +58,12 @@ pub(crate) fn first_run(alloc: Global, sig: &Signature, start: Variant) -> Resul
 /// The run with one more level.
 pub(crate) fn with_level(
     alloc: Global,
+    sig: &Signature,
     run: Run,
     depth: u32,
     next: Vec<Kept>,
 ) -> Result<Run, NoMemory>
+    requires { AreKept sig.now (run.kept.items ++ next.items) }
     ensures { IfOk result (λ r. lists_of r ≡ with_next (lists_of run) depth next.items) }
 {
     let Run {
@@ -73,7 +75,7 @@ pub(crate) fn with_level(
     let mut all = kept;
     let mut last = Vec::new(alloc);
     for k in next {
-        let member = copy(alloc, k.variant())?;
+        let member = copy(alloc, sig, k.variant())?;
         all.push(k)?;
         last.push(member)?;
     }
