@@ -15,7 +15,7 @@ pub returns : goal.returns
 returns c =
     let m = c.args.search.now.declared.now in
     let lines = c.args.lines.items in
-    let as_many : length c.as_slice.result.now ≡ length (lines_in lines) = ap length c.as_slice.ensures ∙ sym (length-map lines (λ v. v.items)) in
+    let as_many : length c.as_slice-count.result.now ≡ length (lines_in lines) = ap length c.as_slice-count.ensures.value ∙ sym (length-map lines (λ v. v.items)) in
     let told_is : c.in_ok-told.told ≡ end_told c.args.search.now.reach c.args.end.now c.in_ok-loss.loss (length (lines_in lines)) = c.in_ok-told.ensures ∙ ap (λ n. end_told c.args.search.now.reach c.args.end.now c.in_ok-loss.loss n) as_many in
     record {
       loss = c.in_ok-loss.loss;

@@ -17,6 +17,6 @@ count-requires-clause-kinded c = subst (λ d. All (AreOfOneKind d) c.in-Ok.probl
 pub count-requires-clause-vars : goal.count-requires-clause-vars
 count-requires-clause-vars c = subst (λ d. HasVariables d c.in-Ok.problem) c.signature.ensures c.in-Ok.ensures.vars
 
-pub returns-in_ok-reply : goal.returns-in_ok-reply
-returns-in_ok-reply c =
-    problem-counted c.args.declared.now c.requires.loaded _ _ c.signature.ensures c.names.ensures c.args.n c.problem_text.result.now c.problem_text.ensures c.in-Ok.problem c.in-Ok.ensures.ok _ _ c.in_ok-reply.ensures
+pub returns-in_ok-reply-in-Ok : goal.returns-in_ok-reply-in-Ok
+returns-in_ok-reply-in-Ok c =
+    problem-counted c.args.declared.now c.requires.loaded _ _ c.signature.ensures c.names.ensures c.args.n c.problem_text.result.now c.problem_text.ensures c.in-Ok.problem c.in-Ok.ensures.ok _ _ c.in_ok-reply-in-Ok.ensures
