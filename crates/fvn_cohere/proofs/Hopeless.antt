@@ -4,7 +4,7 @@ use Rattle.std.specs.Prelude.{if◌then◌else◌, fold, MatchOption, ◌&&◌}
 use Rattle.std.specs.List.{Contains}
 use Rattle.std.proofs.lemmas.Bool.{true≢false, false≢true, or_parts}
 use Rattle.std.proofs.lemmas.List.Elements.{Contains-append_cases, Contains-get_or}
-use Rattle.fvn_base.proofs.Membership.{contains_here, contains_later, contains_cases, contains_none, map_contains}
+use Rattle.fvn_base.proofs.Membership.{contains_here, contains_later, contains_cases, map_contains}
 use Rattle.fvn_terms.specs.declared.plain.Var.{Var}
 use Rattle.fvn_terms.specs.declared.plain.OpId.{OpId}
 use Rattle.fvn_terms.specs.declared.plain.SortId.{SortId}

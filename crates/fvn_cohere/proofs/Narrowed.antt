@@ -1,11 +1,11 @@
 -- Choices that are left out, and losses that are sought at one sort after another.
-use Rattle.std.proofs.Common.{◌≡◌, ◌⊎◌, ◌<◌, ◌≤◌, ◌+◌, ℕ, zero, suc, length, Bool, true, false, not, List, [], ◌∷◌, ◌++◌, drop, take, Option, Some, None, get_or, refl, sym, ap, ◌∙◌, subst, subst₂, inl, inr, arith}
-use Rattle.std.specs.Prelude.{if◌then◌else◌, ◌&&◌, ◌||◌, filter, MatchOption}
+use Rattle.std.proofs.Common.{◌≡◌, ◌<◌, ◌≤◌, ◌+◌, ℕ, length, Bool, true, false, not, List, [], ◌∷◌, ◌++◌, take, Option, Some, None, get_or, refl, sym, ap, ◌∙◌, subst, subst₂, inl, inr, arith}
+use Rattle.std.specs.Prelude.{if◌then◌else◌, ◌&&◌, ◌||◌, MatchOption}
 use Rattle.std.specs.List.{Contains, AllZip}
 use Rattle.std.proofs.lemmas.Bool.{true≢false, false≢true, cases_lt}
 use Rattle.std.proofs.lemmas.List.{get_or_past, take_more}
 use Rattle.std.proofs.lemmas.List.Elements.{AllZip-push, Contains-push, Contains-push_cases, Contains-append_left}
-use Rattle.fvn_base.proofs.Membership.{contains_here, contains_later, contains_cases, contains_none}
+use Rattle.fvn_base.proofs.Membership.{contains_here, contains_later, contains_cases}
 use Rattle.fvn_terms.specs.declared.plain.Var.{Var}
 use Rattle.fvn_terms.specs.declared.plain.OpId.{OpId}
 use Rattle.fvn_terms.specs.declared.plain.SortId.{SortId}
@@ -13,17 +13,17 @@ use Rattle.fvn_terms.specs.declared.declarations.Declarations.{Declarations}
 use Rattle.fvn_terms.specs.Term.{Term}
 use Rattle.fvn_terms.specs.Plain.{term}
 use Rattle.fvn_terms.specs.Substitution.{same_var, Occurs}
-use Rattle.fvn_terms.specs.Signature.{AtOrBelow, same, to_kind, kind, HasKind}
+use Rattle.fvn_terms.specs.Signature.{AtOrBelow, same, to_kind, kind}
 use Rattle.fvn_forms.specs.SortOrder.{at_or_below, sort_number}
 use Rattle.fvn_forms.specs.Good.{IsGood}
 use Rattle.fvn_forms.proofs.SortOrder.{AtOrBelow-trans}
 use Rattle.fvn_forms.proofs.SortTests.{at_or_below-true, at_or_below-complete}
 use Rattle.fvn_signature.specs.Queries.{IsCompleted}
 use Rattle.fvn_flat.specs.Variables.{listed}
-use Rattle.fvn_flat.proofs.Binding.{same_var_is, same_var_itself}
+use Rattle.fvn_flat.proofs.Binding.{same_var_is}
 use Rattle.fvn_rewrite_laws.specs.declared.shapes.Shape.{Shape}
 use Rattle.fvn_rewrite_laws.specs.Shapes.{shape_in}
-use Rattle.fvn_rewrite_laws.specs.Choices.{variable_shape, sort_choices, IsChoice}
+use Rattle.fvn_rewrite_laws.specs.Choices.{sort_choices, IsChoice}
 use Rattle.fvn_rewrite_laws.specs.Kinds.{IsKindedEquation}
 use Rattle.fvn_rewrite_laws.proofs.Listing.{var_listed, listed_var}
 use Rattle.fvn_rewrite_laws.proofs.Trimming.{shape_agrees}
@@ -33,9 +33,9 @@ use Rattle.fvn_cohere.specs.declared.searching.Search.{Search}
 use Rattle.fvn_cohere.specs.declared.searching.Sought.{Sought}
 use Rattle.fvn_cohere.specs.declared.searching.Sought.TheVariants.{Loss, LossAt, ToVariable, ToIdentity}
 use Rattle.fvn_cohere.specs.inner.Searching.{is_variable_root, is_identity_root, is_lost_at, is_met, with_shape, some_choice, unchosen_of}
-use Rattle.fvn_cohere.specs.inner.Outlooks.{offered, AreOnce, IsAllowed, AreAllowed, Fills, Offers}
+use Rattle.fvn_cohere.specs.inner.Outlooks.{offered, IsAllowed, Fills, Offers}
 use Rattle.fvn_cohere.specs.inner.Posed.{IsPosed, is_sought}
-use Rattle.fvn_cohere.specs.inner.Narrowing.{staying, others_of, KeepsShapes, IsNarrowed, FindsAs, LosesAtNone, Decreases, LosesIn}
+use Rattle.fvn_cohere.specs.inner.Narrowing.{staying, others_of, KeepsShapes, IsNarrowed, FindsAs, LosesAtNone, LosesIn}
 use Rattle.fvn_cohere.proofs.Foreseen.{fitting}
 use Rattle.fvn_cohere.proofs.Hopeless.{stays_allowed, choices_allowed, found, none_passes}
 

@@ -1,7 +1,4 @@
 -- What is above a lower bound that is not below.
-use Rattle.std.proofs.Common.{subst, sym, ap, ◌∙◌}
-use Rattle.fvn_forms.proofs.SortOrder.{AtOrBelow-trans}
-use Rattle.fvn_cohere.specs.inner.Outlooks.{IsLow}
 use Rattle.fvn_cohere.proofs.Hopeless.{out_of_reach}
 use Rattle.fvn_cohere.proofs.outlooks.is_out_of_reach.Goals as goal
 

@@ -1,5 +1,5 @@
 -- A search among fewer shapes.
-use Rattle.std.proofs.Common.{sym, subst, ◌∙◌}
+use Rattle.std.proofs.Common.{sym, subst}
 use Rattle.std.specs.List.{AllZip}
 use Rattle.fvn_cohere.specs.inner.Narrowing.{IsNarrowed}
 use Rattle.fvn_cohere.proofs.Hopeless.{stays_allowed}
