@@ -189,16 +189,17 @@ module _ (s : Search) where
     fewer : Offers s.sig.now ws
     fewer = narrowed_offers s.unchosen.now ws narrow posed.offers
 
+    pub finds_none : ((filled : Var → Shape) → Fills s.sig.now ws staying filled → test filled ≡ false) → FindsAs s false
+    finds_none h = λ filled fills. go filled fills (test filled) refl where
+      go : (filled : Var → Shape) → Fills s.sig.now s.unchosen.now staying filled → (b : Bool) → test filled ≡ b → test filled ≡ false
+      go filled fills false p = p
+      go filled fills true p = h filled record { allowed = fills.allowed; each = λ y. narrowed_each filled fills p s.unchosen.now ws narrow y (fills.each y) }
+
     pub finds : (b : Bool) → b ≡ some_choice test ws staying → FindsAs s b
     finds true e =
         let f = found s.sig.now test ws fewer staying (stays_allowed s.sig.now) (sym e) in
         (f.0, (record { allowed = f.1.0.allowed; each = λ y. wider_each f.0 s.unchosen.now ws narrow y (f.1.0.each y) }, f.1.1))
-    finds false e = λ filled fills. go filled fills (test filled) refl where
-      go : (filled : Var → Shape) → Fills s.sig.now s.unchosen.now staying filled → (b : Bool) → test filled ≡ b → test filled ≡ false
-      go filled fills false p = p
-      go filled fills true p =
-          none_passes s.sig.now test (met_agrees s.sig.now s.identities.now (term s.left.now) (term s.right.now) s.sought) ws fewer.once staying (sym e) filled
-          record { allowed = fills.allowed; each = λ y. narrowed_each filled fills p s.unchosen.now ws narrow y (fills.each y) }
+    finds false e = finds_none (none_passes s.sig.now test (met_agrees s.sig.now s.identities.now (term s.left.now) (term s.right.now) s.sought) ws fewer.once staying (sym e))
 
 -- both parts of a conjunction
 both : (a b : Bool) → (a && b) ≡ true → (a ≡ true) × (b ≡ true)

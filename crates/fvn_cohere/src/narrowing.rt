@@ -102,6 +102,21 @@ impl Search<'_> {
         Ok(some)
     }
 
+    // Whether it is seen that none of the choices is sought.
+    fn excludes_all(&self) -> bool
+        requires posed { IsPosed self.now }
+        ensures { IsTrue result → FindsAs self.now false }
+    {
+        let none = Chosen::Nothing;
+        let whole = PartialChoice {
+            sig: self.sig,
+            identities: self.identities,
+            unchosen: self.unchosen,
+            chosen: &none,
+        };
+        whole.excludes(self.sought, self.left, self.right)
+    }
+
     // Whether one of the choices is sought, where at most so many are not excluded one by one; and how
     // many more might have been.
     fn find_narrowed(&self, alloc: Global, room: usize) -> Result<Option<(bool, usize)>, NoMemory>
@@ -110,10 +125,6 @@ impl Search<'_> {
     {
         let some = self.narrowed(alloc)?;
         let left_over = some.as_slice();
-        let size = instances(left_over);
-        if size > room {
-            return Ok(None);
-        }
         let narrow = Search {
             sig: self.sig,
             identities: self.identities,
@@ -122,6 +133,13 @@ impl Search<'_> {
             right: self.right,
             unchosen: left_over,
         };
+        if narrow.excludes_all() {
+            return Ok(Some((false, room)));
+        }
+        let size = instances(left_over);
+        if size > room {
+            return Ok(None);
+        }
         let found = narrow.find(0, &Chosen::Nothing);
         Ok(Some((found, room - size)))
     }
