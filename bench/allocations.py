@@ -15,12 +15,12 @@ import time
 
 SHIM = r"""
 #define _GNU_SOURCE
-#include <dlfcn.h>
 #include <errno.h>
 #include <stdlib.h>
 #include <stdio.h>
 #include <unistd.h>
 #include <fcntl.h>
+#include <sys/syscall.h>
 static unsigned long made, refused;
 static int later, ready;
 static void begin(void) {
@@ -50,7 +50,7 @@ int posix_memalign(void **p, size_t a, size_t n) {
   *p = __libc_memalign(a, n);
   return *p ? 0 : ENOMEM;
 }
-__attribute__((destructor)) static void told(void) {
+static void told(void) {
   const char *to = getenv("ALLOCATIONS_MADE");
   if (!to) return;
   int f = open(to, O_WRONLY | O_CREAT | O_TRUNC, 0600);
@@ -61,6 +61,10 @@ __attribute__((destructor)) static void told(void) {
   do { text[--k] = '0' + n % 10; n /= 10; } while (n);
   if (write(f, text + k, 31 - k) < 0) return;
   close(f);
+}
+void _exit(int status) {
+  told();
+  for (;;) syscall(SYS_exit_group, status);
 }
 """
 
@@ -81,19 +85,19 @@ ROWS = [
     ("check chain of sorts", ["check"], CHAIN),
     ("check refused", ["check"], "fmod M is sort S . op a : S -> . endfm\n"),
     ("unify free", ["unify", "p(X,b) =? p(a,Y)"], FREE),
-    ("unify ac", ["unify", "X:S + Y:S =? Z:S + g(W:S)"], SUMS),
-    ("unify acu with sorts", ["unify", "X:E ; Y:B =? a ; Z:B"], BAGS),
+    ("unify ac", ["unify", "_+_(X:S,Y:S) =? _+_(Z:S,g(W:S))"], SUMS),
+    ("unify acu with sorts", ["unify", "_;_(X:E,Y:B) =? _;_(a,Z:B)"], BAGS),
     ("unify none", ["unify", "a =? b"], FREE),
     ("variants xor", ["variants", "_*_(X:[NatSet],Y:[NatSet])"], XOR),
     ("variants levels", ["variants", "--levels=2", "+(X:Nat,Y:Nat)"], PLUS),
     ("variants workers", ["variants", "--workers=2", "dec(X,Y)"], ENC),
     ("vunify enc", ["vunify", "dec(X,k) =? a"], ENC),
     ("vunify xor", ["vunify", "_*_(X:[NatSet],Y:[NatSet]) =? mt"], XOR),
-    ("verify", ["verify", "p(X,b) =? p(a,Y)", "X:S --> a, Y:S --> b"], FREE),
-    ("verify steps", ["verify", "+(s(X),Y) =? Z:Nat", "X:Nat --> 0, Y:Nat --> 0, Z:Nat --> s(0)"], PLUS),
-    ("terminates", ["terminates", "+ : 1 1 1", "s : 1 1", "0 : 1"], PLUS),
-    ("terminates confluence", ["terminates", "dec : 1 1 1"], ENC),
-    ("work", ["work", "1"], ""),
+    ("verify", ["verify", "p(X,b) =? p(a,Y)", "{X:S --> a, Y:S --> b}"], FREE),
+    ("verify steps", ["verify", "+(s(X),Y) =? Z:Nat", "{X:Nat --> 0, Y:Nat --> 0, Z:Nat --> s(0)}"], PLUS),
+    ("terminates", ["terminates", "+ : 2 1 1 , s : 1 1"], PLUS),
+    ("terminates confluence", ["terminates", "enc : 1 1 1 , dec : 1 1 1"], ENC),
+    ("work", ["work", "2"], ""),
     ("usage", ["unify"], FREE),
 ]
 
@@ -114,7 +118,7 @@ def main():
         shim, told = folder + "/refusing.so", folder + "/made"
         with open(folder + "/refusing.c", "w") as f:
             f.write(SHIM)
-        subprocess.run(["cc", "-O2", "-fPIC", "-shared", "-o", shim, folder + "/refusing.c", "-ldl"], check=True)
+        subprocess.run(["cc", "-O2", "-fPIC", "-shared", "-o", shim, folder + "/refusing.c"], check=True)
         plain = {**os.environ, "LD_PRELOAD": shim, "ALLOCATIONS_MADE": told}
         refusing = {**os.environ, "LD_PRELOAD": shim, **({"REFUSED_LATER": "1"} if asked.all_after else {})}
         bad = runs = 0
