@@ -1,17 +1,13 @@
 -- What the solver's answer to the flattened pairs says of the problem.
-use Rattle.std.proofs.Common.{◌≡◌, ℕ, ◌<◌, ◌≤◌, List, map, length, refl, sym, ap, ◌∙◌, subst, inl, inr}
+use Rattle.std.proofs.Common.{◌≡◌, ℕ, ◌≤◌, List, map, length, refl, sym, ap, ◌∙◌, subst}
 use Rattle.std.specs.Prelude.{All, Any}
-use Rattle.std.proofs.lemmas.Bool.{cases_lt}
-use Rattle.std.proofs.lemmas.List.{get_or_past, length-map}
+use Rattle.std.proofs.lemmas.List.{length-map}
 use Rattle.std.proofs.lemmas.List.Elements.{All-map, All-weaker}
 use Rattle.fvn_base.specs.declared.limits.TheConstants.{TERM_SYMBOLS, UNIFIERS}
 use Rattle.fvn_base.proofs.Membership.{contains_map}
 use Rattle.fvn_terms.specs.declared.plain.OpId.{OpId}
 use Rattle.fvn_terms.specs.declared.plain.Plain.{Plain}
-use Rattle.fvn_terms.specs.declared.declarations.OpDecl.{OpDecl}
 use Rattle.fvn_terms.specs.declared.declarations.Declarations.{Declarations}
-use Rattle.fvn_terms.specs.Signature.{axioms, unknown}
-use Rattle.fvn_terms.specs.Equality.{IsAssociative}
 use Rattle.fvn_terms.specs.Substitution.{Substitution}
 use Rattle.fvn_terms.specs.Unifiers.{IsUnifier}
 use Rattle.fvn_lindio.specs.declared.system.System.{System}
@@ -40,6 +36,7 @@ use Rattle.fvn_axunify.specs.Coarser.{HoldsCoarserOnes}
 use Rattle.fvn_answer.specs.Answers.{FitsEnd}
 use Rattle.fvn_answer.specs.Asked.{HaveSorts}
 use Rattle.fvn_answer.specs.declared.end.End.TheVariants.{Complete, Basis, Size, Unifiers}
+use Rattle.fvn_answer.proofs.Declared.{associative-declared}
 use Rattle.fvn_cmd.specs.Causes.{HasTooMany}
 use Rattle.fvn_cmd.specs.Headline.{AreAll}
 use Rattle.fvn_cmd_unify.specs.Asked.{pairs_of, Unifies, IsInstanceOf, flattened, AreFlattened, unifiers_of}
@@ -71,13 +68,6 @@ module _ (m : Contents) (p : Problem) (d : Declarations) (signature_is : d ≡ m
     exact = subst (λ x. IsExact given 0 UNIFIERS x r) size_is (subst (λ x. IsExact given 0 x size r) most_is exact);
     coarser = subst (λ x. HoldsCoarserOnes x given r) (same ∙ signature_is) coarser;
   }
-
--- an associative operator is declared
-pub associative-declared : (d : Declarations) (f : OpId) → IsAssociative (axioms d f) → f.0 < length d.ops
-associative-declared d f a = elim (cases_lt f.0 (length d.ops)) [
-  | inl low ↦ low
-  | inr high ↦ absurd (subst (λ (o : OpDecl). IsAssociative o.axioms) (get_or_past d.ops f.0 unknown high) a)
-]
 
 -- where it is told that all are found, they are
 told-complete : (e : SolveEnd) (count n : ℕ) → end_told e count ≡ Complete n → e ≡ AllFound

@@ -2,6 +2,7 @@
 mod Room
 mod Current
 mod Turned
+mod PassedTags
 mod Walk
 mod Trees
 mod Ahead

@@ -9,7 +9,7 @@ mod Singles
 pub mod PairForms
 pub mod PairSteps
 mod PairRules
-pub mod Within
+mod Within
 mod PairTurns
 pub mod Stepping
 mod Renaming

@@ -1,6 +1,6 @@
 -- Where an instance of a sum meets a rule that is met in pairs, that of one summand or of two is reducible.
 use Rattle.std.proofs.Common.{◌≡◌, ◌⊎◌, ◌≤◌, true, List, [], ◌∷◌, ◌++◌, Some, refl, sym, ap, ◌∙◌, subst, inl, inr, arith}
-use Rattle.std.specs.List.{Contains}
+use Rattle.std.specs.List.{AllByRecursion, Contains}
 use Rattle.std.proofs.lemmas.List.{append-nil}
 use Rattle.std.proofs.lemmas.List.Elements.{All-contains, All-from_recursion}
 use Rattle.fvn_terms.specs.declared.plain.OpId.{OpId}
@@ -17,7 +17,7 @@ use Rattle.fvn_terms.specs.Rewriting.{Rewrites, IsReducible}
 use Rattle.fvn_terms.specs.Laws.{RewritingLaws}
 use Rattle.fvn_terms.proofs.Substitutions.{apply-var}
 use Rattle.fvn_terms.proofs.Equal.{HasKind-apply, BEqual-sym}
-use Rattle.fvn_forms.specs.Flat.{FlatTerm, fapp, fpack, plain}
+use Rattle.fvn_forms.specs.Flat.{FlatTerm, fapp, fnone, fmore, fpack, plain}
 use Rattle.fvn_forms.specs.InOrder.{sort, count}
 use Rattle.fvn_forms.specs.Canon.{parts, build, canon}
 use Rattle.fvn_forms.specs.Settled.{Settled}
@@ -26,6 +26,7 @@ use Rattle.fvn_forms.proofs.InOrder.{count_sort, InOrder-sort}
 use Rattle.fvn_forms.proofs.Sums.{funpack-fpack, sum_same_counts, sum-sort, sum_in_order, sum_parts}
 use Rattle.fvn_forms.proofs.Eval.{canon_settled, canon_respects}
 use Rattle.fvn_forms.proofs.KindsKept.{kind_unique}
+use Rattle.fvn_forms.proofs.KindsOfSums.{nest_parts_of_kind}
 use Rattle.fvn_forms.proofs.ToCanon.{to_canon, canon_of_kind}
 use Rattle.fvn_flat.specs.Forms.{head_of, args_of}
 use Rattle.fvn_flat.specs.Fits.{Fits, AllFit}
@@ -78,6 +79,13 @@ module _ (d : Declarations) (good : IsGood d) (equations : Equations) (rewriting
 
   members_fit : AllFit d (first ∷ second ∷ [])
   members_fit = subst (AllFit d) two.are_two (args_fit left d good.fits left_fits)
+
+  -- the left side is the sum of both, which are of its kind
+  left_kinded : HasKind d (plain (fapp f true (fpack (first ∷ second ∷ [])))) left_fits.kinded.0
+  left_kinded = subst (λ w. HasKind d (plain w) left_fits.kinded.0) (joined_form d f assoc left first (second ∷ []) left_fits.flat two.heads two.are_two) left_fits.kinded.1
+
+  members_kinded : AllByRecursion (λ w. HasKind d (plain w) left_fits.kinded.0) (first ∷ second ∷ [])
+  members_kinded = nest_parts_of_kind d good.fits f assoc left_fits.kinded.0 first (fmore second fnone) left_kinded
 
   -- where a form has both summands, it is reducible
   module _ (s : Substitution) (low : AreLowered d good f assoc two.no_identity first second s) (w : FlatTerm) (fits : Fits d w) (has : HasBoth low.a low.b (parts d f w)) where
@@ -212,7 +220,7 @@ module _ (d : Declarations) (good : IsGood d) (equations : Equations) (rewriting
     pub steps_in_part : (outer : FlatTerm) → Settled d outer → head_of outer ≡ Some f → (others : List FlatTerm) → IsDivided (args_of outer) (args_of left) others → (by : Substitution) → IsWellSorted d by → BEqual d (apply c (plain at)) (apply by (plain outer)) → IsReducibleInPart d equations f at c
     steps_in_part outer settled outer_heads others among by by_sorted meets = go (args_of outer) refl where
       low : AreLowered d good f assoc two.no_identity first second by
-      low = are_lowered d good f assoc two.no_identity first second members_fit.0 members_fit.1.0 two.by_first two.by_second by by_sorted
+      low = are_lowered d good f assoc two.no_identity left_kinded.rank left_kinded.listed left_fits.kinded.0 left_kinded.result first second members_fit.0.flat members_fit.1.0.flat members_kinded.0 members_kinded.1.0 two.by_first two.by_second by by_sorted
 
       there : FlatTerm → List FlatTerm
       there = summands d good f assoc two.no_identity by

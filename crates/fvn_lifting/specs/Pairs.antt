@@ -3,13 +3,16 @@
 use Rattle.std.specs.Prelude.{◌≡◌, ◌≢◌, ◌⊎◌, List, [], ◌∷◌, length, Contains, Some, None}
 use Rattle.fvn_terms.specs.declared.plain.Var.{Var}
 use Rattle.fvn_terms.specs.declared.plain.OpId.{OpId}
+use Rattle.fvn_terms.specs.declared.plain.SortId.{SortId}
 use Rattle.fvn_terms.specs.declared.declarations.Declarations.{Declarations}
-use Rattle.fvn_terms.specs.Signature.{kind, axioms}
+use Rattle.fvn_terms.specs.Signature.{axioms, AtOrBelow}
 use Rattle.fvn_terms.specs.Substitution.{Substitution, apply, Occurs}
 use Rattle.fvn_terms.specs.Equality.{IsAssociative, identity}
 use Rattle.fvn_terms.specs.Theory.{Equations}
 use Rattle.fvn_terms.specs.Rewriting.{IsReducible}
 use Rattle.fvn_forms.specs.Flat.{FlatTerm, fvar, funpack, plain}
+use Rattle.fvn_forms.specs.Ranks.{result}
+use Rattle.fvn_forms.specs.Good.{IsOfKind}
 use Rattle.fvn_flat.specs.Fits.{Fits}
 use Rattle.fvn_flat.specs.Forms.{head_of, args_of}
 use Rattle.fvn_flat.specs.FlatPlaces.{IsDivided, IsPartOfSum}
@@ -34,17 +37,23 @@ module _ (d : Declarations) where
     pub is_other : operator ≢ f
     pub no_identity : identity (axioms d operator) ≡ None
 
-  -- The form is a variable whose sort is a kind, and that does not stand within the other form: each summand of its
-  -- value may stand for it.
-  pub record MayBeAnySummand (t other : FlatTerm) : Type 0 where
+  -- each sum of f that has the sort, or one below it, has only summands of the sort
+  abbrev pub SummandsKeep : OpId → SortId → Type 0
+  SummandsKeep f s =
+      (a b : SortId) → IsOfKind d f a → IsOfKind d f b → AtOrBelow d (result d f (a ∷ b ∷ [])) s →
+      AtOrBelow d a s × AtOrBelow d b s
+
+  -- The form is a variable that does not stand within the other form, and the summands of its sort keep this: each
+  -- summand of its value may stand for it.
+  pub record MayBeAnySummand (f : OpId) (t other : FlatTerm) : Type 0 where
     pub variable : Var
     pub is : t ≡ fvar variable
-    pub is_kind : kind d variable.sort ≡ variable.sort
+    pub keep : SummandsKeep f variable.sort
     pub outside : (head_of other ≡ None) ⊎ (Occurs variable (plain other) → ⊥)
 
   -- one summand of the form's instance is enough
   abbrev pub MeetsOne : OpId → FlatTerm → FlatTerm → Type 0
-  MeetsOne f t other = IsOneSummand f t ⊎ MayBeAnySummand t other
+  MeetsOne f t other = IsOneSummand f t ⊎ MayBeAnySummand f t other
 
   -- The form is a sum of two, by f without an identity, and two summands of its instance, one from each, make another
   -- instance.

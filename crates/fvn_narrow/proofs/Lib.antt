@@ -13,6 +13,7 @@ mod Joined
 mod Along
 mod Backwards
 mod Expanded
+mod Keeping
 mod Divided
 mod Two
 mod Whole

@@ -5,13 +5,13 @@ ghost use Rattle.fvn_terms.specs.Equality.{IsAssociative};
 ghost use Rattle.fvn_flat.specs.FlatPlaces.{IsDivided};
 ghost use Rattle.fvn_flat.specs.Forms.{head_of, args_of};
 ghost use Rattle.fvn_rewrite_rules.specs.Given.{headed};
-ghost use Rattle.fvn_lifting.specs.Pairs.{IsOneSummand, MayBeAnySummand, MeetsOne, IsMetByTwo, IsMetInPairs};
-ghost use Rattle.fvn_narrow.specs.inner.Pairing.{AreAmong, HasInner};
+ghost use Rattle.fvn_lifting.specs.Pairs.{IsOneSummand, SummandsKeep, MayBeAnySummand, MeetsOne, IsMetByTwo, IsMetInPairs};
+ghost use Rattle.fvn_narrow.specs.inner.Pairing.{RankKeeps, AreAmong, HasInner};
 
 use fvn_flat::Flat;
 use fvn_rewrite_rules::{Rule, Rules};
 use fvn_signature::Signature;
-use fvn_terms::OpId;
+use fvn_terms::{OpId, Rank, SortId};
 
 // Whether the operator is associative.
 fn is_associative(sig: &Signature, f: OpId) -> bool
@@ -33,14 +33,44 @@ fn is_one_summand(sig: &Signature, f: OpId, t: &Flat) -> bool
     sig.identity(g).is_none()
 }
 
-// Whether the form is a variable of a kind that does not stand within the other one.
-fn may_be_any_summand(sig: &Signature, t: &Flat, other: &Flat) -> bool
-    ensures { IsTrue result → MayBeAnySummand sig.now t.now other.now }
+// Whether each argument of the rank has the sort, where what it gives has.
+fn rank_keeps(sig: &Signature, rank: &Rank, s: SortId) -> bool
+    ensures { IsTrue result → RankKeeps sig.now s rank.now }
+{
+    if !sig.leq(rank.result, s) {
+        return true;
+    }
+    for q in rank.args.as_slice() {
+        if !sig.leq(*q, s) {
+            return false;
+        }
+    }
+    true
+}
+
+// Whether each sum of the operator that has the sort has only summands of the sort.
+fn summands_keep(sig: &Signature, f: OpId, s: SortId) -> bool
+    requires { IsAssociative (axioms sig.now f) }
+    ensures { IsTrue result → SummandsKeep sig.now f s }
+{
+    sig.recall_good();
+    for i in 0..sig.rank_count(f) {
+        if !rank_keeps(sig, sig.rank(f, i), s) {
+            return false;
+        }
+    }
+    true
+}
+
+// Whether the form is a variable that does not stand within the other one, and the summands of its sort keep this.
+fn may_be_any_summand(sig: &Signature, f: OpId, t: &Flat, other: &Flat) -> bool
+    requires { IsAssociative (axioms sig.now f) }
+    ensures { IsTrue result → MayBeAnySummand sig.now f t.now other.now }
 {
     let Some(x) = t.as_var() else {
         return false;
     };
-    if sig.kind(x.sort) != x.sort {
+    if !summands_keep(sig, f, x.sort) {
         return false;
     }
     if other.head().is_none() {
@@ -51,12 +81,13 @@ fn may_be_any_summand(sig: &Signature, t: &Flat, other: &Flat) -> bool
 
 // Whether one summand of the form's instance is enough.
 fn meets_one(sig: &Signature, f: OpId, t: &Flat, other: &Flat) -> bool
+    requires { IsAssociative (axioms sig.now f) }
     ensures { IsTrue result → MeetsOne sig.now f t.now other.now }
 {
     if is_one_summand(sig, f, t) {
         return true;
     }
-    may_be_any_summand(sig, t, other)
+    may_be_any_summand(sig, f, t, other)
 }
 
 // Whether two summands, one from each of the form's, are enough.

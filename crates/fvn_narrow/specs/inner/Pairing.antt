@@ -1,8 +1,10 @@
 -- Forms among others, and rules within others.
-use Rattle.std.specs.Prelude.{◌≡◌, ℕ, List, [], ◌∷◌, Some, slice_get}
+use Rattle.std.specs.Prelude.{◌≡◌, ℕ, List, [], ◌∷◌, All, Some, slice_get}
 use Rattle.fvn_terms.specs.declared.plain.OpId.{OpId}
+use Rattle.fvn_terms.specs.declared.plain.SortId.{SortId}
+use Rattle.fvn_terms.specs.declared.declarations.Rank.{Rank}
 use Rattle.fvn_terms.specs.declared.declarations.Declarations.{Declarations}
-use Rattle.fvn_terms.specs.Signature.{axioms}
+use Rattle.fvn_terms.specs.Signature.{axioms, AtOrBelow}
 use Rattle.fvn_terms.specs.Equality.{IsAssociative}
 use Rattle.fvn_forms.specs.Flat.{FlatTerm}
 use Rattle.fvn_flat.specs.Fits.{Fits}
@@ -10,6 +12,10 @@ use Rattle.fvn_flat.specs.FlatPlaces.{IsDivided}
 use Rattle.fvn_flat.specs.Forms.{head_of, args_of}
 use Rattle.fvn_rewrite_rules.specs.declared.rule.Rule.{Rule}
 use Rattle.fvn_lifting.specs.Pairs.{IsMetByTwo}
+
+-- each argument of the rank has the sort, or one below it, where what it gives has
+abbrev pub RankKeeps : Declarations → SortId → Rank → Type 0
+RankKeeps d s r = AtOrBelow d r.result s → All (λ q. AtOrBelow d q s) r.args
 
 -- some are taken from all, in their order
 abbrev pub AreAmong : List FlatTerm → List FlatTerm → Type 0

@@ -159,6 +159,7 @@ abbrev pub try_of : FlatTerm → Rule → Try
 try_of at rule = record { at = at; rule = rule }
 
 module _ (r : Rewriting) (unifiers : ℕ) (v : Variant) where
+  -- the setting of its children
   abbrev pub setting : Setting
   setting = narrowing_setting r unifiers
 

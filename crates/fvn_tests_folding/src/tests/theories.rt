@@ -75,9 +75,9 @@ XOR 9 99 99 *(X,X) => 1 complete
 XOR 9 99 99 *(X,Y) => 7 complete
 XOR 9 99 99 *(X,c) => 4 complete
 XOR 9 99 99 *(X,c,d) => 8 complete
-XOR 9 99 4096 *(X,Y,Z) => 57 complete
+XOR 9 99 99 *(X,Y,Z) => 57 complete
 XORN 9 99 99 *(X,Y) => 7 complete
-XORN 9 99 4096 *(X,Y,c) => 21 complete";
+XORN 9 99 99 *(X,Y,c) => 21 complete";
 
 // How far an exploration of a row goes.
 #[derive(Clone, Copy)]

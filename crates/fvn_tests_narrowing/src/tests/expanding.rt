@@ -31,6 +31,9 @@ const MODULES: &str =
 ENC sorts Msg Key . op a : -> Msg . op k : -> Key . ops enc dec : Msg Key -> Msg . op term : Msg Key Msg -> Msg . vars X Z : Msg . var Y : Key . eq dec(enc(X,Y),Y) = X [variant] .
 XOR sort S . op mt : -> S . ops c d : -> S . op * : S S -> S [assoc comm] . op term : S S S -> S . vars X Y Z : [S] . eq *(X,X) = mt [variant] . eq *(X,X,Z) = Z [variant] . eq *(X,mt) = X [variant] .
 XORN sort S . op mt : -> S . ops c d : -> S . op * : S S -> S [assoc comm] . op term : S S S -> S . vars X Y Z : [S] . eq *(X,X) = mt [variant] . eq *(X,mt) = X [variant] .
+XORS sort S . op mt : -> S . ops c d : -> S . op * : S S -> S [assoc comm] . op term : S S S -> S . vars X Y Z : S . eq *(X,X) = mt [variant] . eq *(X,X,Z) = Z [variant] . eq *(X,mt) = X [variant] .
+PARITY sorts Odd Even Num . subsorts Odd Even < Num . ops a b : -> Odd . op mt : -> Even . op * : Odd Odd -> Even [assoc comm] . op * : Odd Even -> Odd [assoc comm] . op * : Even Even -> Even [assoc comm] . op * : Num Num -> Num [assoc comm] . op term : Num Num Num -> Num . var X : Even . vars Y Z : Num . eq *(X,X) = mt [variant] .
+ENDS sort S . op a : -> S . ops s f g : S -> S . op k : S S -> S [comm] . op pair : S S -> S . op term : S S S -> S . vars X Y Z : S . eq f(s(X)) = f(s(X)) [variant] . eq g(k(X,a)) = X [variant] .
 MIXED sort S . ops a b d mt : -> S . op g : S -> S . op * : S S -> S [assoc comm] . op term : S S S -> S . vars X Y Z : [S] . eq *(X,X) = mt [variant] . eq *(X,g(X)) = mt [variant] .
 PAIR sort S . op pair : S S -> S . ops fst snd : S -> S . op term : S S S -> S . vars X Y Z : S . eq fst(pair(X,Y)) = X [variant] . eq snd(pair(X,Y)) = Y [variant] .
 STEP sort S . op 0 : -> S . ops s p : S -> S . op term : S S S -> S . vars X Y Z : S . eq s(p(X)) = X [variant] . eq p(s(X)) = X [variant] .
@@ -43,7 +46,9 @@ LOOP sort S . op a : -> S . op f : S -> S . op term : S S S -> S . vars X Y Z : 
 // and the end; behind a bar the children may stand, each with its term, and behind a semicolon its values of the term's
 // variables in the order of their first occurrence. Operators stand as their numbers, and variables as theirs in order of
 // first occurrence. The children are made by hand; those of sums are counted by a model of narrowing two summands at a
-// time.
+// time. In XORS, where the variables have a sort and not its kind, `mt` beside two summands is a rule of its own, with two
+// children more for two variables. In PARITY the sum of two odd constants is even, and stands for a variable of that sort.
+// Where two places stop, the end of the first is told.
 const ROWS: &str = "ENC 100 dec(X,Y) => 1 whole | x0 ; f2(x0,x1) x1
 ENC 100 dec(dec(X,Y),Y) => 1 whole | f3(x0,x1) ; f2(x0,x1) x1
 ENC 100 enc(dec(X,Y),Y) => 1 whole | f2(x0,x1) ; f2(x0,x1) x1
@@ -81,6 +86,12 @@ XOR 100 mt => 0 whole
 XOR 100 *(X,Y,Z) => 18 whole
 XOR 100 *(X,Y,c) => 12 whole
 XOR 100 *(X,c,d) => 6 whole
+XORS 100 *(X,Y,Z) => 24 whole
+XORS 100 *(X,Y,c) => 14 whole
+PARITY 100 *(a,b,a,b) => 1 whole | f2 ;
+PARITY 100 *(a,a,b) => 0 whole
+ENDS 1 pair(g(k(X,Y)),f(Z)) => 1 unifiers
+ENDS 1 pair(f(X),g(k(Y,Z))) => 0 steps
 XORN 100 *(X,Y) => 6 whole
 XORN 100 *(X,Y,Z) => 18 whole
 MIXED 100 *(a,g(a),d) => 2 whole
