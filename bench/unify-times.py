@@ -98,7 +98,7 @@ def main():
         if given.only not in family:
             continue
         module = (HERE / "unify" / f"{name}.maude").read_text()
-        constant = {"evens": "0", "parity": "0"}.get(name, "a")
+        constant = {"evens": "0", "fruit": "apple", "parity": "0", "places": "ready"}.get(name, "a")
         if name not in start:
             same = f"{constant} =? {constant}"
             start[name] = {who: statistics.median(run(module, same, 60)[1] for _ in range(5)) for who, run in runs.items()}
