@@ -125,7 +125,7 @@ module _ (partitions : NodePartitionsArePartitions) (systems : NodeSystemsAreSum
     of_class u a x n = ap (kernel k.declarations u k.table.nodes) (class_is x n) ∙ sym (a.together (place x n).number (named x n))
 
     module _ (f : OpId) (system : System) (refused : IsRefusedAt k s f system) (associative : IsAssociative (axioms k.declarations f)) where
-      cause_at : IsBasisCause k.declarations k.given f system
+      abbrev cause_at : IsBasisCause k.declarations k.given f system
       cause_at = record {
         class = class_at k.table (class_of s);
         partition = (partitions k.declarations k.given.pairs is.is_given.fit k.table is.well_made is.table_of).of_nodes (class_of s) refused.leaf.partition;
@@ -134,7 +134,7 @@ module _ (partitions : NodePartitionsArePartitions) (systems : NodeSystemsAreSum
         refused = refused.refused;
       }
 
-      ended_at : IsEndedAt k.declarations k.given f system
+      abbrev ended_at : IsEndedAt k.declarations k.given f system
       ended_at = record { cause = cause_at; apart = terms_apart; nodes = apart_nodes; different = terms_differ }
 
       -- aliens of two classes, which one minimal solution has both, are apart under a unifier of the state
