@@ -94,9 +94,9 @@ module _ (k : Combining) (is : IsCombining k) (s : State) where
       let systems = make k.declarations k.table (class_of s) o.reading opened.reading o.bases opened.bases in
       let c = cover k.declarations is.good (problem_of k.given) is.is_given.kinds k.table is.well_made is.table_of s opened.leaf told (systems_of o.reading o.bases) systems u h.0.unifies h.1 in
       all u c.0
-          record {
-            covering = c.1;
-            bounds = λ e. c.2 (h.0.keeps_sorts e);
-            values = values_admitted k is go_with s opened.leaf.closed u h;
-            tagged = c.3;
-          }
+      record {
+        covering = c.1;
+        bounds = λ e. c.2 (h.0.keeps_sorts e);
+        values = values_admitted k is go_with s opened.leaf.closed u h;
+        tagged = c.3;
+      }
