@@ -6,3 +6,6 @@ use Rattle.fvn_axunify.proofs.next.step.Goals as goal
 pub returns-in-Ok-None-clause-next : goal.returns-in-Ok-None-clause-next
 returns-in-Ok-None-clause-next c =
     subst (IsAdvanced c.args.combiner.now c.advance.new.self) (c.in-Ok-None.is ∙ ap Ok c.in-Ok-None.field-0-is) (c.advance.ensures.advanced c.requires)
+
+pub returns-in-Err-Basis-clause-next : goal.returns-in-Err-Basis-clause-next
+returns-in-Err-Basis-clause-next c = c.in-Err-Basis.ensures.advanced c.requires
