@@ -1,5 +1,5 @@
 #!/usr/bin/env bash
-# How much an exploration by levels goes through: levels, variants that are kept and given, members that were expanded, children that were found, variants that were profiled, coverings that were asked, and what answered them: marks, sorts of values that are variables, profiles, or matching. One worker. It proves nothing: run at the top of the repository, it works in a copy, to whose code it adds counters. ROWS=FILE takes other rows than those below.
+# How much an exploration by levels goes through: levels, variants that are kept and given, members that were expanded, children that were found, variants that were profiled, coverings that were asked, and what answered them: marks, sorts of values that are variables, profiles, or matching. Unifiers of the solver, variants without terms, are not counted. One worker. It proves nothing: run at the top of the repository, it works in a copy, to whose code it adds counters. ROWS=FILE takes other rows than those below.
 set -e
 here=$(cd "$(dirname "$0")/.." && pwd)
 there=$(mktemp -d)
@@ -89,19 +89,19 @@ change("fvn_signature/src/queries/signature.rt",
        ("use crate::draft::Draft;\n", "use crate::counts::Counts;\nuse crate::draft::Draft;\n"))
 change("fvn_cover/src/covering.rt",
        ("use fvn_signature::Signature;\n", "use fvn_signature::{Signature, note};\n"),
-       ("        if !self.marks.may_cover(", "        note(&sig.counts.asked, 1);\n        if !self.marks.may_cover("),
-       ("        if !may_reach_all(", "        note(&sig.counts.past_marks, 1);\n        if !may_reach_all("),
-       ("        if !self.profile.may_cover(", "        note(&sig.counts.past_sorts, 1);\n        if !self.profile.may_cover("),
-       ("        let found = matches_both(", "        note(&sig.counts.past_profiles, 1);\n        let found = matches_both("),
-       ("        Ok(found.is_some())", "        if found.is_some() {\n            note(&sig.counts.found, 1);\n        }\n        Ok(found.is_some())"))
+       ("        if !self.marks.may_cover(", "        let one = self.variant.terms.as_slice().len().min(1);\n        note(&sig.counts.asked, one);\n        if !self.marks.may_cover("),
+       ("        if !may_reach_all(", "        note(&sig.counts.past_marks, one);\n        if !may_reach_all("),
+       ("        if !self.profile.may_cover(", "        note(&sig.counts.past_sorts, one);\n        if !self.profile.may_cover("),
+       ("        let found = matches_both(", "        note(&sig.counts.past_profiles, one);\n        let found = matches_both("),
+       ("        Ok(found.is_some())", "        if found.is_some() {\n            note(&sig.counts.found, one);\n        }\n        Ok(found.is_some())"))
 change("fvn_cover/src/keeping.rt",
        ("use fvn_signature::Signature;\n", "use fvn_signature::{Signature, note};\n"),
-       ("    let p = Profile::of(", "    note(&sig.counts.profiles, 1);\n    let p = Profile::of("))
+       ("    let p = Profile::of(", "    note(&sig.counts.profiles, v.terms.as_slice().len().min(1));\n    let p = Profile::of("))
 change("fvn_fold/src/levels.rt",
        ("use fvn_signature::Signature;\n", "use fvn_signature::{Signature, note};\n"),
        ("    let Gathered { candidates, end } = found;\n", "    let Gathered { candidates, end } = found;\n    note(&task.sig.counts.children, candidates.len());\n"))
 modules = '''const MODULES: &str =
-    "XOR sort S . op mt : -> S . op * : S S -> S [assoc comm] . op term : S S S S -> S . vars X Y Z W : S . eq *(X,X) = mt [variant] . eq *(X,X,Z) = Z [variant] . eq *(X,mt) = X [variant] .
+    "XOR sort S . op mt : -> S . op * : S S -> S [assoc comm] . op term : S S S S -> S . vars X Y Z W : [S] . eq *(X,X) = mt [variant] . eq *(X,X,Z) = Z [variant] . eq *(X,mt) = X [variant] .
 ENC sorts Msg Key . ops enc dec : Msg Key -> Msg . op tuple : Msg Msg Msg Msg Msg Msg -> Msg . op term : Msg Msg Msg Msg Msg Msg Key Key Key Key Key Key -> Msg . vars A B C D E F X : Msg . vars G H I J K L Y : Key . eq dec(enc(X,Y),Y) = X [variant] .";
 '''
 counts = '''
