@@ -3,7 +3,7 @@
 beside an ordinary input of the same command, and beside Maude where it has the same question.
 
 Over `./fvn` or the program behind --fvn; Maude is the command `maude`, or FVN_MAUDE. With --only WORD the rows whose name has
-the word, with --seconds N each run ends after so many. A row is asked once: figures of a busy machine are processor time alone.
+the word, with --seconds N each run ends after so many. A row is asked once. It needs GNU time.
 """
 import argparse
 import os
@@ -12,7 +12,6 @@ import shlex
 import subprocess
 import sys
 import tempfile
-import time
 
 CHAIN = ["S%02d" % i for i in range(1, 16)]
 
@@ -105,17 +104,14 @@ ROWS = [
 def measured(words, text, seconds):
     def limits():
         resource.setrlimit(resource.RLIMIT_CPU, (seconds, seconds + 1))
-    with tempfile.TemporaryFile() as out, tempfile.TemporaryFile() as given:
-        given.write(text.encode())
-        given.seek(0)
-        began = time.time()
-        child = subprocess.Popen(words, stdin=given, stdout=out, stderr=subprocess.DEVNULL, preexec_fn=limits)
-        _, status, used = os.wait4(child.pid, 0)
-        child.returncode = status
-        out.seek(0)
-        lines = out.read().decode(errors="replace").strip().splitlines()
-    last = lines[-1] if lines else ""
-    return used.ru_utime + used.ru_stime, used.ru_maxrss, "over %d s" % seconds if os.WIFSIGNALED(status) else last
+    with tempfile.NamedTemporaryFile() as told:
+        timed = ["/usr/bin/time", "-o", told.name, "-f", "%U %S %M", *words]
+        done = subprocess.run(timed, input=text.encode(), stdout=subprocess.PIPE, stderr=subprocess.DEVNULL, preexec_fn=limits)
+        with open(told.name) as f:
+            user, system, memory = f.read().split()[-3:]
+    lines = done.stdout.decode(errors="replace").strip().splitlines()
+    took = float(user) + float(system)
+    return took, int(memory), "over %d s" % seconds if took >= seconds else lines[-1] if lines else ""
 
 
 def main():
