@@ -25,8 +25,8 @@ fn words_of<'a>(alloc: Global, row: &'a str) -> Result<Vec<&'a str>, NoMemory> {
     Ok(words)
 }
 
-/// Of reads of 64 bytes the one with this number fails, where this is not the last of all.
-fn read_fails<R: Abort + Threads + Sync>(
+/// What is told where of reads of 64 bytes the one with this number fails, or none does.
+fn read_told<R: Abort + Threads + Sync>(
     rt: &R,
     alloc: Global,
     setting: &Setting,
@@ -45,6 +45,21 @@ fn read_fails<R: Abort + Threads + Sync>(
     Ok(())
 }
 
+/// Of reads of 64 bytes the one with this number fails, or none does.
+fn read_fails<R: Abort + Threads + Sync>(
+    rt: &R,
+    alloc: Global,
+    words: &[&str],
+    module: &[u8],
+    text: &[u8],
+    k: u64,
+) -> Result<(), NoMemory> {
+    let mut setting = plain(words, module);
+    setting.read_piece = 64;
+    setting.failing_read = k;
+    read_told(rt, alloc, &setting, k, text)
+}
+
 /// Each read fails in turn, and then none.
 fn reads_fail<R: Abort + Threads + Sync>(
     rt: &R,
@@ -55,10 +70,7 @@ fn reads_fail<R: Abort + Threads + Sync>(
 ) -> Result<(), NoMemory> {
     let last = (module.len() / 64) as u64;
     for k in 1..=last.saturating_add(3) {
-        let mut setting = plain(words, module);
-        setting.read_piece = 64;
-        setting.failing_read = k;
-        read_fails(rt, alloc, &setting, k, text)?;
+        read_fails(rt, alloc, words, module, text, k)?;
     }
     Ok(())
 }
